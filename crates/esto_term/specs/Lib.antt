@@ -1,0 +1,5 @@
+pub mod formers
+pub mod TextFaults
+pub mod Nesting
+pub mod Order
+pub mod Finite

@@ -1,0 +1,13 @@
+//! Texts, bytes, terms, and the lists that every other crate uses. Contracts see a list as the plain list of
+//! its items, a text and bytes as the list of their bytes, and a term as a tree.
+#![tactic(auto)]
+
+mod list;
+mod term;
+mod text;
+mod values;
+
+pub use list::{List, OutOfMemory, Replicate};
+pub use term::{Term, TermRows, Terms, compare_terms, terms_are_finite, terms_are_ordered};
+pub use text::{Bytes, Text, TextError, TextRow, TextRows};
+pub use values::{Places, Values};

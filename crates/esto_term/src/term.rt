@@ -1,0 +1,135 @@
+//! Terms: constants, plain terms and made terms.
+ghost use Rattle.std.specs.Prelude.{◌≡◌, ◌↔◌, IsTrue, IfOk};
+ghost use Rattle.std.specs.Cmp.{IsTotalOrder};
+ghost use Rattle.std.specs.Cmp.Lexicographic.{slice_cmp};
+ghost use Rattle.esto_term.specs.Nesting.{nesting};
+ghost use Rattle.esto_term.specs.Finite.{AreFinite};
+ghost use Rattle.esto_term.specs.Order.{term_cmp};
+ghost use Rattle.esto_term.specs.declared.term.Term.{Term};
+
+use crate::list::{List, OutOfMemory, Replicate};
+use crate::text::Text;
+use std::alloc::Global;
+use std::cmp::Ordering;
+
+/// A term, which contracts see as a tree.
+#[derive(Debug, Drop)]
+pub enum Term {
+    /// A text constant.
+    Const(Text),
+    /// A variable of a query, rule or view, a frozen variable, or a node of a document.
+    Plain(u64),
+    /// The value that a rule, the first number, made for one of its existential variables, the second, at
+    /// these values of its frontier.
+    Made(u64, u64, Terms),
+}
+
+/// A list of terms.
+pub type Terms = List<Term>;
+
+/// A list of rows of terms.
+pub type TermRows = List<Terms>;
+
+impl Term {
+    /// How deep made terms nest: 0 for a constant, a plain term and a made term without frontier terms, and
+    /// else 1 more than the greatest nesting of the frontier terms; the greatest `u64` stays as it is.
+    pub fn nesting(&self) -> u64
+        ensures { result ≡ nesting self.now }
+    {
+        match self {
+            Term::Const(_) => 0,
+            Term::Plain(_) => 0,
+            Term::Made(_, _, frontier) => {
+                let mut above: u64 = 0;
+                for term in frontier.items() {
+                    above = above.max(term.nesting().saturating_add(1));
+                }
+                above
+            }
+        }
+    }
+
+    /// The order of terms: constants by bytes, then plain terms by number, then made terms by nesting, rule,
+    /// variable and frontier. `Equal` comes at equal terms alone.
+    #[cycle(compare)]
+    #[tactic(auto, using(crate::proofs::CompareLemmas::compare_rules))]
+    pub fn compare(&self, other: &Term) -> Ordering
+        ensures { result ≡ term_cmp self.now other.now }
+    {
+        match self {
+            Term::Const(text) => match other {
+                Term::Const(text_b) => text.bytes().cmp(text_b.bytes()),
+                Term::Plain(_) => Ordering::Less,
+                Term::Made(_, _, _) => Ordering::Less,
+            },
+            Term::Plain(number) => match other {
+                Term::Const(_) => Ordering::Greater,
+                Term::Plain(number_b) => number.cmp(number_b),
+                Term::Made(_, _, _) => Ordering::Less,
+            },
+            Term::Made(rule, variable, frontier) => match other {
+                Term::Const(_) => Ordering::Greater,
+                Term::Plain(_) => Ordering::Greater,
+                Term::Made(rule_b, variable_b, frontier_b) => self
+                    .nesting()
+                    .cmp(&other.nesting())
+                    .then(rule.cmp(rule_b))
+                    .then(variable.cmp(variable_b))
+                    .then(compare_terms(frontier.items(), frontier_b.items())),
+            },
+        }
+    }
+
+    /// Whether both are the same tree.
+    #[tactic(auto, using(crate::proofs::CompareLemmas::equal_iff))]
+    pub fn equal(&self, other: &Term) -> bool
+        ensures { IsTrue result ↔ (self.now ≡ other.now) }
+    {
+        self.compare(other).is_eq()
+    }
+}
+
+/// Compares the terms one by one, and then the lengths.
+#[cycle(compare)]
+pub fn compare_terms(terms: &[Term], others: &[Term]) -> Ordering
+    ensures { result ≡ slice_cmp term_cmp terms.now others.now }
+{
+    for (at, term) in terms.iter().enumerate() {
+        if at >= others.len() {
+            return Ordering::Greater;
+        }
+        let order = term.compare(&others[at]);
+        if order.is_ne() {
+            return order;
+        }
+    }
+    terms.len().cmp(&others.len())
+}
+
+impl Replicate for Term {
+    fn copy(&self, alloc: Global) -> Result<Term, OutOfMemory> {
+        match self {
+            Term::Const(text) => Ok(Term::Const(text.copy(alloc)?)),
+            Term::Plain(number) => Ok(Term::Plain(*number)),
+            Term::Made(rule, variable, frontier) => {
+                let mut copied = List::new(alloc);
+                for term in frontier.items() {
+                    copied.push(term.copy(alloc)?)?;
+                }
+                Ok(Term::Made(*rule, *variable, copied))
+            }
+        }
+    }
+}
+
+/// A law: the order of terms is total, and answers `Equal` at equal terms alone.
+pub fn terms_are_ordered()
+    ensures total { IsTotalOrder term_cmp }
+    ensures exact { (t u : Term) → (term_cmp t u ≡ Ordering.Equal) ↔ (t ≡ u) }
+{}
+
+/// A law: over finitely many texts, numbers, rules and variables, one finite list holds every term whose nesting
+/// is within a bound below the greatest `u64` and whose frontiers have at most so many terms.
+pub fn terms_are_finite()
+    ensures { AreFinite }
+{}
