@@ -1,0 +1,12 @@
+pub mod Facts
+pub mod Maps
+pub mod Queries
+pub mod Rules
+pub mod Containment
+pub mod Views
+pub mod Instances
+pub mod Plans
+pub mod Sets
+pub mod Access
+pub mod Listed
+pub mod WellFormed

@@ -1,0 +1,58 @@
+-- Candidates, and the listed sets of a plan. Source: minimal reformulations of chase and backchase (Deutsch, Popa and Tannen; Ileana, Cautis, Deutsch and Katsis 2014), with minimality asked among executable sets.
+use Rattle.std.specs.Prelude.{◌≡◌, ◌⊎◌, ◌↔◌, ℕ, ◌+◌, ◌≤◌, ◌<◌, Bool, true, cond, List, [], ◌∷◌, length, sum, map, slice_get, slice_index_or, Some, Contains, AllPairs}
+use Rattle.std.specs.declared.cmp.Ordering.TheVariants.{Less}
+use Rattle.esto_term.specs.declared.term.Term.{Term}
+use Rattle.esto_semantics.specs.Maps.{IsFixedBy}
+use Rattle.esto_semantics.specs.Queries.{ConjunctiveQuery, IsAnswer}
+use Rattle.esto_semantics.specs.Rules.{Rule}
+use Rattle.esto_semantics.specs.Containment.{IsEquivalent}
+use Rattle.esto_semantics.specs.Views.{IsFragmentAnswer}
+use Rattle.esto_semantics.specs.Sets.{Has, Within, numbers, set_cmp}
+use Rattle.esto_semantics.specs.Access.{IsExecutable}
+use Rattle.esto_semantics.specs.declared.fact.Fact.{Fact}
+
+-- The atoms of a plan that a set names, in order.
+abbrev pub chosen : List Bool → List (Fact Term) → List (Fact Term)
+chosen [] atoms = []
+chosen (is_in ∷ rest) [] = []
+chosen (is_in ∷ rest) (atom ∷ atoms) = cond is_in (atom ∷ chosen rest atoms) (chosen rest atoms)
+
+-- The candidate of a set has the plan's head over the set's atoms.
+abbrev pub candidate : ConjunctiveQuery → List Bool → ConjunctiveQuery
+candidate plan set = record { head = plan.head; body = chosen set plan.body }
+
+-- The set has a candidate: it is a set of the plan's atoms, with at least one of them.
+pub record HasCandidate (plan : ConjunctiveQuery) (set : List Bool) : Type 0 where
+  pub over : length set ≡ length plan.body
+  pub some : (number : ℕ) × Has set number
+
+-- The set is safe: each term of the plan's head that is no constant occurs in one of its atoms.
+abbrev pub IsSafe : ConjunctiveQuery → List Bool → Type 0
+IsSafe plan set = (term : Term) → Contains plan.head term → IsFixedBy (chosen set plan.body) term
+
+-- The set is a rewriting: it has a candidate, which is equivalent to the query, and it is safe and executable.
+pub record IsRewriting (rules : List Rule) (views : List ConjunctiveQuery) (patterns : List (List Bool)) (query plan : ConjunctiveQuery) (set : List Bool) : Type 0 where
+  pub has_candidate : HasCandidate plan set
+  pub safe : IsSafe plan set
+  pub executable : IsExecutable patterns plan.body set
+  pub equivalent : IsEquivalent rules (IsFragmentAnswer views (candidate plan set)) (IsAnswer query)
+
+-- The set is listed: it is a rewriting, and no proper subset of it is one.
+pub record IsListed (rules : List Rule) (views : List ConjunctiveQuery) (patterns : List (List Bool)) (query plan : ConjunctiveQuery) (set : List Bool) : Type 0 where
+  pub rewriting : IsRewriting rules views patterns query plan set
+  pub minimal : (other : List Bool) → IsRewriting rules views patterns query plan other → Within other set → other ≡ set
+
+-- These are exactly the listed sets, each once, by size and then by their rising lists of numbers.
+pub record AreListed (rules : List Rule) (views : List ConjunctiveQuery) (patterns : List (List Bool)) (query plan : ConjunctiveQuery) (sets : List (List Bool)) : Type 0 where
+  pub exact : (set : List Bool) → Contains sets set ↔ IsListed rules views patterns query plan set
+  pub ordered : AllPairs (λ set other. set_cmp set other ≡ Less) sets
+
+-- The weight of a set is the sum of the weights of its atoms' fragments.
+abbrev pub weight_of : List ℕ → List (Fact Term) → List Bool → ℕ
+weight_of weights atoms set = sum (map (λ atom. slice_index_or weights atom.relation 0) (chosen set atoms))
+
+-- The place is the pick among the weights: the first of least weight.
+pub record IsPick (weights : List ℕ) (place : ℕ) : Type 0 where
+  pub there : place < length weights
+  pub least : (other : ℕ) → other < length weights → slice_index_or weights place 0 ≤ slice_index_or weights other 0
+  pub first : (other : ℕ) → other < place → slice_index_or weights place 0 < slice_index_or weights other 0

@@ -1,0 +1,37 @@
+-- Rules, and what it is for a database to meet them. Source: tuple-generating and equality-generating dependencies (Fagin, Kolaitis, Miller and Popa 2005).
+use Rattle.std.specs.Prelude.{◌≡◌, ℕ, List, Contains}
+use Rattle.esto_term.specs.declared.term.Term.{Term}
+use Rattle.esto_semantics.specs.Facts.{Database}
+use Rattle.esto_semantics.specs.Maps.{AreFlat, IsFixedBy, Keeps, SendsInto, AgreeOn}
+use Rattle.esto_semantics.specs.declared.fact.Fact.{Fact}
+use Rattle.esto_semantics.specs.declared.fact.Value.TheVariants.{Text}
+
+-- A tuple rule has a body and a head of atoms; an equality rule has a body and two sides.
+pub data Rule : Type 0 where
+  tuple : (body head : List (Fact Term)) → Rule
+  equality : (body : List (Fact Term)) → (left right : Term) → Rule
+
+-- A rule's atoms are over constants and variables, and each side of an equality is a constant or in the body.
+abbrev pub IsRule : Rule → Type 0
+IsRule (tuple body head) = AreFlat body × AreFlat head
+IsRule (equality body left right) = AreFlat body × IsFixedBy body left × IsFixedBy body right
+
+-- Each of them is such a rule.
+abbrev pub AreRules : List Rule → Type 0
+AreRules rules = (rule : Rule) → Contains rules rule → IsRule rule
+
+-- Facts that hold meet a tuple rule when every map that sends the body to facts that hold agrees on the body with one that sends the head to facts that hold. They meet an equality rule when every such map sends both sides to one thing.
+abbrev pub MeetsInto : {V : Type 0} → (List ℕ → V) → (V → V → Type 0) → (Fact V → Type 0) → Rule → Type 0
+MeetsInto {V} constant One Holds (tuple body head) =
+    (m : Term → V) → Keeps constant m → SendsInto m body Holds
+    → (more : Term → V) × Keeps constant more × AgreeOn One body m more × SendsInto more head Holds
+MeetsInto {V} constant One Holds (equality body left right) =
+    (m : Term → V) → Keeps constant m → SendsInto m body Holds → One (m left) (m right)
+
+-- The database meets the rule.
+abbrev pub MeetsRule : Rule → Database → Type 0
+MeetsRule rule database = MeetsInto Text ◌≡◌ (Contains database) rule
+
+-- The database meets each of the rules.
+abbrev pub Meets : List Rule → Database → Type 0
+Meets rules database = (rule : Rule) → Contains rules rule → MeetsRule rule database

@@ -1,0 +1,36 @@
+-- Sets of numbers below a count. A set is the list of the answers to "is it in?", one for each number; so two sets of one count are equal exactly where they have the same numbers.
+use Rattle.std.specs.Prelude.{◌≡◌, ◌≢◌, ◌↔◌, ℕ, ◌+◌, Bool, true, false, cond, List, [], ◌∷◌, length, slice_index_or, Contains, AllPairs}
+use Rattle.std.specs.declared.cmp.Ordering.{Ordering}
+use Rattle.std.specs.Ordering.{ordering_then, nat_cmp}
+use Rattle.std.specs.Cmp.Lexicographic.{slice_cmp}
+
+-- The set has the number.
+abbrev pub Has : List Bool → ℕ → Type 0
+Has set number = slice_index_or set number false ≡ true
+
+-- The one set is a subset of the other.
+abbrev pub Within : List Bool → List Bool → Type 0
+Within set other = (number : ℕ) → Has set number → Has other number
+
+-- The numbers of a set, rising, where its first place stands for `from`.
+abbrev pub numbers_from : ℕ → List Bool → List ℕ
+numbers_from from [] = []
+numbers_from from (is_in ∷ rest) = cond is_in (from ∷ numbers_from (from + 1) rest) (numbers_from (from + 1) rest)
+
+-- The numbers of a set, rising.
+abbrev pub numbers : List Bool → List ℕ
+numbers set = numbers_from 0 set
+
+-- The order of the list: by size, then by the rising lists of numbers, compared as lists.
+abbrev pub set_cmp : List Bool → List Bool → Ordering
+set_cmp set other =
+    ordering_then (nat_cmp (length (numbers set)) (length (numbers other))) (slice_cmp nat_cmp (numbers set) (numbers other))
+
+-- The set is one of the family, and no other set of the family is a proper subset of it.
+abbrev pub IsLeast : List (List Bool) → List Bool → Type 0
+IsLeast family set = Contains family set × ((other : List Bool) → Contains family other → Within other set → other ≡ set)
+
+-- These are the minimal sets of the family, each once.
+pub record AreLeast (family least : List (List Bool)) : Type 0 where
+  pub exact : (set : List Bool) → Contains least set ↔ IsLeast family set
+  pub once : AllPairs ◌≢◌ least
