@@ -1,7 +1,8 @@
 -- Binding patterns: which sets of fragment atoms can be executed, and in which orders. Source: access limitations by binding patterns.
-use Rattle.std.specs.Prelude.{◌≡◌, ◌≢◌, ◌⊎◌, ◌↔◌, ℕ, ◌<◌, Bool, true, List, Some, slice_get, Contains, AllPairs}
+use Rattle.std.specs.Prelude.{◌≡◌, ◌≢◌, ◌⊎◌, ◌↔◌, ℕ, ◌<◌, Bool, true, List, Some, length, replicate, slice_get, Contains, AllPairs}
 use Rattle.esto_term.specs.declared.term.Term.{Term}
 use Rattle.esto_semantics.specs.Maps.{IsConstant}
+use Rattle.esto_semantics.specs.Queries.{ConjunctiveQuery}
 use Rattle.esto_semantics.specs.Sets.{Has, Within}
 use Rattle.esto_semantics.specs.declared.fact.Fact.{Fact}
 
@@ -24,8 +25,9 @@ IsAccessible patterns atoms Chosen atom =
 abbrev pub IsEarlier : List ℕ → ℕ → ℕ → Type 0
 IsEarlier order place number = (earlier : ℕ) × (earlier < place) × (slice_get order earlier ≡ Some number)
 
--- The list is an order of the set: it names each atom of the set once and no other, and each is accessible after the earlier ones.
+-- The list is an order of a set of the atoms: it names each atom of the set once and no other, and each is accessible after the earlier ones.
 pub record IsOrder (patterns : List (List Bool)) (atoms : List (Fact Term)) (set : List Bool) (order : List ℕ) : Type 0 where
+  pub over : length set ≡ length atoms
   pub names : (number : ℕ) → Contains order number ↔ Has set number
   pub once : AllPairs ◌≢◌ order
   pub accessible : (place number : ℕ) (atom : Fact Term) → slice_get order place ≡ Some number → slice_get atoms number ≡ Some atom
@@ -47,3 +49,7 @@ pub record IsStatedOrder (patterns : List (List Bool)) (atoms : List (Fact Term)
   pub least : (place number : ℕ) → slice_get order place ≡ Some number
       → (lesser : ℕ) (atom : Fact Term) → lesser < number → Has set lesser → slice_get atoms lesser ≡ Some atom
       → IsAccessible patterns atoms (IsEarlier order place) atom → IsEarlier order place lesser
+
+-- The query over fragments is executable: the set of all atoms of its body is.
+abbrev pub IsExecutableQuery : List (List Bool) → ConjunctiveQuery → Type 0
+IsExecutableQuery patterns query = IsExecutable patterns query.body (replicate (length query.body) true)

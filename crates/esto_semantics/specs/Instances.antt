@@ -19,7 +19,7 @@ IsFollowed rules start end =
     (database : Database) → Meets rules database → (m : Term → Value) → Keeps Text m → Sends m start.body database
     → (after : Term → Value) × Keeps Text after × Sends after end.body database × (map after end.head ≡ map m start.head)
 
--- The end is universal for the start under the rules: the start maps to it, and it is followed into every database that meets the rules.
+-- The end is universal for the start under the rules: the start maps to it, and it is followed into every database that meets the rules. It is a universal instance where it is finished too.
 pub record IsUniversalFor (rules : List Rule) (start end : ConjunctiveQuery) : Type 0 where
   pub maps : MapsTo start end
   pub followed : IsFollowed rules start end

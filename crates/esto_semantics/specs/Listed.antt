@@ -1,14 +1,14 @@
 -- Candidates, and the listed sets of a plan. Source: minimal reformulations of chase and backchase (Deutsch, Popa and Tannen; Ileana, Cautis, Deutsch and Katsis 2014), with minimality asked among executable sets.
-use Rattle.std.specs.Prelude.{◌≡◌, ◌⊎◌, ◌↔◌, ℕ, ◌+◌, ◌≤◌, ◌<◌, Bool, true, cond, List, [], ◌∷◌, length, sum, map, slice_get, slice_index_or, Some, Contains, AllPairs}
+use Rattle.std.specs.Prelude.{◌≡◌, ◌≢◌, ◌⊎◌, ◌↔◌, ℕ, ◌+◌, ◌≤◌, ◌<◌, Bool, true, cond, List, [], ◌∷◌, length, sum, map, slice_get, slice_index_or, Some, Contains, AllPairs}
 use Rattle.std.specs.declared.cmp.Ordering.TheVariants.{Less}
 use Rattle.esto_term.specs.declared.term.Term.{Term}
 use Rattle.esto_semantics.specs.Maps.{IsFixedBy}
-use Rattle.esto_semantics.specs.Queries.{ConjunctiveQuery, IsAnswer}
+use Rattle.esto_semantics.specs.Queries.{ConjunctiveQuery, IsQuery, IsAnswer}
 use Rattle.esto_semantics.specs.Rules.{Rule}
 use Rattle.esto_semantics.specs.Containment.{IsEquivalent}
 use Rattle.esto_semantics.specs.Views.{IsFragmentAnswer}
-use Rattle.esto_semantics.specs.Sets.{Has, Within, numbers, set_cmp}
-use Rattle.esto_semantics.specs.Access.{IsExecutable}
+use Rattle.esto_semantics.specs.Sets.{Has, IsMinimal, set_cmp}
+use Rattle.esto_semantics.specs.Access.{IsExecutable, IsExecutableQuery}
 use Rattle.esto_semantics.specs.declared.fact.Fact.{Fact}
 
 -- The atoms of a plan that a set names, in order.
@@ -37,21 +37,28 @@ pub record IsRewriting (rules : List Rule) (views : List ConjunctiveQuery) (patt
   pub executable : IsExecutable patterns plan.body set
   pub equivalent : IsEquivalent rules (IsFragmentAnswer views (candidate plan set)) (IsAnswer query)
 
--- The set is listed: it is a rewriting, and no proper subset of it is one.
-pub record IsListed (rules : List Rule) (views : List ConjunctiveQuery) (patterns : List (List Bool)) (query plan : ConjunctiveQuery) (set : List Bool) : Type 0 where
-  pub rewriting : IsRewriting rules views patterns query plan set
-  pub minimal : (other : List Bool) → IsRewriting rules views patterns query plan other → Within other set → other ≡ set
+-- The set is listed: it is minimal among the rewritings.
+abbrev pub IsListed : List Rule → List ConjunctiveQuery → List (List Bool) → ConjunctiveQuery → ConjunctiveQuery → List Bool → Type 0
+IsListed rules views patterns query plan set = IsMinimal (IsRewriting rules views patterns query plan) set
 
 -- These are exactly the listed sets, each once, by size and then by their rising lists of numbers.
 pub record AreListed (rules : List Rule) (views : List ConjunctiveQuery) (patterns : List (List Bool)) (query plan : ConjunctiveQuery) (sets : List (List Bool)) : Type 0 where
   pub exact : (set : List Bool) → Contains sets set ↔ IsListed rules views patterns query plan set
   pub ordered : AllPairs (λ set other. set_cmp set other ≡ Less) sets
 
--- The weight of a set is the sum of the weights of its atoms' fragments.
-abbrev pub weight_of : List ℕ → List (Fact Term) → List Bool → ℕ
-weight_of weights atoms set = sum (map (λ atom. slice_index_or weights atom.relation 0) (chosen set atoms))
+-- A query over fragments is an executable rewriting of the query: it is executable, and equivalent to it.
+pub record IsExecutableRewriting (rules : List Rule) (views : List ConjunctiveQuery) (patterns : List (List Bool)) (query other : ConjunctiveQuery) : Type 0 where
+  pub is_query : IsQuery other
+  pub executable : IsExecutableQuery patterns other
+  pub equivalent : IsEquivalent rules (IsFragmentAnswer views other) (IsAnswer query)
 
--- The place is the pick among the weights: the first of least weight.
+-- The weight of atoms over fragments is the sum of the distinct atoms' weights. Each atom has the weight of its fragment.
+abbrev pub IsWeight : List ℕ → List (Fact Term) → ℕ → Type 0
+IsWeight weights atoms weight =
+    (distinct : List (Fact Term)) × AllPairs ◌≢◌ distinct × ((atom : Fact Term) → Contains distinct atom ↔ Contains atoms atom)
+    × (weight ≡ sum (map (λ atom. slice_index_or weights atom.relation 0) distinct))
+
+-- The place is the pick among the weights of the listed sets: the first of least weight.
 pub record IsPick (weights : List ℕ) (place : ℕ) : Type 0 where
   pub there : place < length weights
   pub least : (other : ℕ) → other < length weights → slice_index_or weights place 0 ≤ slice_index_or weights other 0

@@ -1,4 +1,4 @@
--- Maps of terms. A valuation is a map of terms to values that keeps constants, a homomorphism is one to terms.
+-- Maps of terms. A valuation is a map of terms to values that keeps constants; a homomorphism is one to terms that sends facts to facts.
 use Rattle.std.specs.Prelude.{◌≡◌, ◌⊎◌, ℕ, List, Contains}
 use Rattle.esto_term.specs.declared.term.Term.{Term}
 use Rattle.esto_term.specs.declared.term.Term.TheVariants.{Const, Plain}

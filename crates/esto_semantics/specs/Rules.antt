@@ -1,5 +1,5 @@
 -- Rules, and what it is for a database to meet them. Source: tuple-generating and equality-generating dependencies (Fagin, Kolaitis, Miller and Popa 2005).
-use Rattle.std.specs.Prelude.{◌≡◌, ℕ, List, Contains}
+use Rattle.std.specs.Prelude.{◌≡◌, ◌≢◌, ℕ, List, [], Contains}
 use Rattle.esto_term.specs.declared.term.Term.{Term}
 use Rattle.esto_semantics.specs.Facts.{Database}
 use Rattle.esto_semantics.specs.Maps.{AreFlat, IsFixedBy, Keeps, SendsInto, AgreeOn}
@@ -11,10 +11,24 @@ pub data Rule : Type 0 where
   tuple : (body head : List (Fact Term)) → Rule
   equality : (body : List (Fact Term)) → (left right : Term) → Rule
 
--- A rule's atoms are over constants and variables, and each side of an equality is a constant or in the body.
+-- A tuple rule has a body and a head, over constants and variables.
+pub record IsTupleRule (body head : List (Fact Term)) : Type 0 where
+  pub has_body : body ≢ []
+  pub has_head : head ≢ []
+  pub flat_body : AreFlat body
+  pub flat_head : AreFlat head
+
+-- An equality rule has a body, over constants and variables, and each of its sides is a constant or in the body.
+pub record IsEqualityRule (body : List (Fact Term)) (left right : Term) : Type 0 where
+  pub has_body : body ≢ []
+  pub flat_body : AreFlat body
+  pub left_fixed : IsFixedBy body left
+  pub right_fixed : IsFixedBy body right
+
+-- It is such a rule of its kind.
 abbrev pub IsRule : Rule → Type 0
-IsRule (tuple body head) = AreFlat body × AreFlat head
-IsRule (equality body left right) = AreFlat body × IsFixedBy body left × IsFixedBy body right
+IsRule (tuple body head) = IsTupleRule body head
+IsRule (equality body left right) = IsEqualityRule body left right
 
 -- Each of them is such a rule.
 abbrev pub AreRules : List Rule → Type 0

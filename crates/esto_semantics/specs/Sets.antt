@@ -26,11 +26,11 @@ abbrev pub set_cmp : List Bool → List Bool → Ordering
 set_cmp set other =
     ordering_then (nat_cmp (length (numbers set)) (length (numbers other))) (slice_cmp nat_cmp (numbers set) (numbers other))
 
--- The set is one of the family, and no other set of the family is a proper subset of it.
-abbrev pub IsLeast : List (List Bool) → List Bool → Type 0
-IsLeast family set = Contains family set × ((other : List Bool) → Contains family other → Within other set → other ≡ set)
+-- The set is minimal among those that P holds of, which are sets of one count: no proper subset of it is one of them.
+abbrev pub IsMinimal : (List Bool → Type 0) → List Bool → Type 0
+IsMinimal P set = P set × ((other : List Bool) → P other → Within other set → other ≡ set)
 
 -- These are the minimal sets of the family, each once.
-pub record AreLeast (family least : List (List Bool)) : Type 0 where
-  pub exact : (set : List Bool) → Contains least set ↔ IsLeast family set
-  pub once : AllPairs ◌≢◌ least
+pub record AreMinimal (family minimal : List (List Bool)) : Type 0 where
+  pub exact : (set : List Bool) → Contains minimal set ↔ IsMinimal (Contains family) set
+  pub once : AllPairs ◌≢◌ minimal
