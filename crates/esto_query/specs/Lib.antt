@@ -1,0 +1,5 @@
+pub mod Valuations
+pub mod Schemas
+pub mod Soundness
+pub mod Making
+pub mod Matches

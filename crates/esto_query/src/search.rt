@@ -1,0 +1,48 @@
+//! The search for the least match.
+use crate::trail::{Binding, bind_atom};
+use crate::valuation::Valuation;
+use esto_semantics::Atom;
+use esto_term::{OutOfMemory, Places};
+
+/// The least place of the first atom in a list of places that is at or after the given one.
+fn least_first(from: &[usize]) -> usize {
+    match from {
+        [] => 0,
+        [first, ..] => *first,
+    }
+}
+
+/// What the places of the other atoms are to be at or after, where the first atom's place is taken.
+fn from_after(from: &[usize], place: usize) -> &[usize] {
+    match from {
+        [first, rest @ ..] if *first == place => rest,
+        _ => &[],
+    }
+}
+
+/// Finds the least match from the given places on, and appends its places.
+pub fn search<'a>(
+    start: &'a Valuation,
+    body: &[Atom],
+    facts: &'a [Atom],
+    from: &[usize],
+    trail: &mut Vec<Binding<'a>>,
+    places: &mut Places,
+) -> Result<bool, OutOfMemory> {
+    let Some((atom, rest)) = body.split_first() else {
+        return Ok(from.is_empty());
+    };
+    let mark = trail.len();
+    let depth = places.len();
+    for place in least_first(from)..facts.len() {
+        if bind_atom(start, trail, atom, &facts[place])? {
+            places.push(place)?;
+            if search(start, rest, facts, from_after(from, place), trail, places)? {
+                return Ok(true);
+            }
+            places.truncate(depth);
+            trail.truncate(mark);
+        }
+    }
+    Ok(false)
+}

@@ -1,0 +1,78 @@
+//! The bindings that a search has made, in order.
+use crate::valuation::Valuation;
+use esto_semantics::Atom;
+use esto_term::{OutOfMemory, Term};
+
+/// A variable, and the term that it was given.
+#[derive(Clone, Copy)]
+pub struct Binding<'a> {
+    pub variable: u64,
+    pub term: &'a Term,
+}
+
+/// The variable's term, in the trail or at the start.
+pub fn value<'a>(start: &'a Valuation, trail: &[Binding<'a>], variable: u64) -> Option<&'a Term> {
+    for binding in trail {
+        if binding.variable == variable {
+            return Some(binding.term);
+        }
+    }
+    start.value(variable)
+}
+
+/// Gives the term's variable a term, if need be, so that the term becomes the target.
+pub fn bind_term<'a>(
+    start: &'a Valuation,
+    trail: &mut Vec<Binding<'a>>,
+    term: &Term,
+    target: &'a Term,
+) -> Result<bool, OutOfMemory> {
+    match term {
+        Term::Const(_) => Ok(term.equal(target)),
+        Term::Made(_, _, _) => Ok(term.equal(target)),
+        Term::Plain(variable) => match value(start, trail, *variable) {
+            Some(bound) => Ok(bound.equal(target)),
+            None => match trail.push(Binding {
+                variable: *variable,
+                term: target,
+            }) {
+                Ok(()) => Ok(true),
+                Err(_) => Err(OutOfMemory),
+            },
+        },
+    }
+}
+
+/// The same for a row of terms.
+pub fn bind_row<'a>(
+    start: &'a Valuation,
+    trail: &mut Vec<Binding<'a>>,
+    terms: &[Term],
+    targets: &'a [Term],
+) -> Result<bool, OutOfMemory> {
+    if terms.len() != targets.len() {
+        return Ok(false);
+    }
+    let mark = trail.len();
+    for at in 0..terms.len() {
+        if !bind_term(start, trail, &terms[at], &targets[at])? {
+            trail.truncate(mark);
+            return Ok(false);
+        }
+    }
+    Ok(true)
+}
+
+/// The same for an atom and a fact.
+pub fn bind_atom<'a>(
+    start: &'a Valuation,
+    trail: &mut Vec<Binding<'a>>,
+    atom: &Atom,
+    fact: &'a Atom,
+) -> Result<bool, OutOfMemory> {
+    if atom.relation != fact.relation {
+        return Ok(false);
+    }
+    let is_bound = bind_row(start, trail, atom.terms.items(), fact.terms.items())?;
+    Ok(is_bound)
+}
