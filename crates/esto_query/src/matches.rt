@@ -3,7 +3,8 @@ ghost use Rattle.std.specs.Prelude.{◌≡◌, ◌<◌, ◌↔◌, ℕ, List, le
 ghost use Rattle.esto_term.specs.declared.term.Term.{Term};
 ghost use Rattle.esto_semantics.specs.Maps.{AreFlat, Sends};
 ghost use Rattle.esto_semantics.specs.declared.fact.Fact.{Fact};
-ghost use Rattle.esto_query.specs.Matches.{IsMatch, IsBefore, IsLeastMatch, HasNoMatch};
+ghost use Rattle.esto_query.specs.Matches.{IsMatch, IsBefore, IsAtMost, IsLeastMatch, HasNoMatch};
+ghost use Rattle.esto_query.specs.Trails.{with_trail};
 
 use crate::search::search;
 use crate::trail::Binding;
@@ -44,7 +45,11 @@ fn least_match(
     facts: &[Atom],
     start: &Valuation,
     from: &[usize],
-) -> Result<Option<Found>, OutOfMemory> {
+) -> Result<Option<Found>, OutOfMemory>
+    requires { AreFlat body.now }
+    ensures found { IfOk result (λ outcome. IfSome outcome (λ found. IsLeastMatch body.now facts.now start.now (IsAtMost from.now) found.valuation found.places)) }
+    ensures none { IfOk result (λ outcome. IfNone outcome (HasNoMatch body.now facts.now start.now (IsAtMost from.now))) }
+{
     let mut trail = Vec::new(alloc);
     let mut places = Values::new(alloc);
     if search(start, body, facts, from, &mut trail, &mut places)? {
