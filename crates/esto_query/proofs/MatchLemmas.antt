@@ -12,6 +12,7 @@ use Rattle.esto_semantics.specs.Maps.{IsFlat, AreFlat, Keeps, Sends}
 use Rattle.esto_semantics.specs.declared.fact.Fact.{Fact}
 use Rattle.esto_query.specs.Valuations.{Assignment, Extends, map_of}
 use Rattle.esto_query.specs.Matches.{IsMatch}
+use Rattle.esto_query.specs.Trails.{Narrows}
 use Rattle.esto_query.specs.Variables.{mentions}
 use Rattle.esto_query.proofs.MapLemmas.{Contains-first, Contains-later, Contains-nil, Contains-at, image_agree, image_values, changed, changed-here, changed-flat, Keeps-changed, Extends-changed, terms_differ}
 use Rattle.esto_query.proofs.ValuationLemmas.{Keeps-map_of, Extends-map_of}
@@ -51,46 +52,54 @@ images_same f g (b ∷ more) facts [] m n atom inside = absurd m
 images_same f g (b ∷ more) facts (p ∷ ps) m n atom (zero, l, e) = subst (λ a. image f a ≡ image g a) e (same_Some _ _ (sym m.0 ∙ n.0))
 images_same f g (b ∷ more) facts (p ∷ ps) m n atom (suc k, l, e) = images_same f g more facts ps m.1 n.1 atom (k, omega arith, e)
 
+-- ---- which variables a valuation has that narrows another
+
+pub some_or_none : (o : Option Term) → (o ≡ None → ⊥) → IsSome o
+some_or_none None h = absurd (h refl)
+some_or_none (Some t) h = refl
+
+module _ (old new : Assignment) (Property : (Term → Term) → Type 0) (narrows : Narrows old new Property) (variable : ℕ) where
+  -- the new map, with another term for the variable
+  abbrev pub other : Term → Term → Term
+  other term = changed (map_of new) variable term
+
+  pub other_keeps : (term : Term) → Keeps Const (other term)
+  other_keeps term = Keeps-changed (map_of new) variable term (Keeps-map_of new)
+
+  pub whole : Extends (map_of new) old × Property (map_of new)
+  whole = (narrows (map_of new) (Keeps-map_of new)).0 (Extends-map_of new)
+
+  -- a variable without a term can have every term
+  free : get new variable ≡ None → (term : Term) → Extends (other term) old × Property (other term)
+  free none term = (narrows (other term) (other_keeps term)).0 (Extends-changed (map_of new) variable term new none (Extends-map_of new))
+
+  old_known : (o : Option Term) → get old variable ≡ o → IsSome o → get new variable ≡ None → ⊥
+  old_known None at some none = false≢true some
+  old_known (Some u) at some none = terms_differ u (λ term. sym (changed-here (map_of new) variable term) ∙ (free none term).0 variable u at)
+
+  -- a variable that had a term has one
+  pub known_kept : IsSome (get old variable) → IsSome (get new variable)
+  known_kept some = some_or_none (get new variable) (old_known (get old variable) refl some)
+
+  -- a variable that the property fixes has a term
+  pub known_fixed : ((m n : Term → Term) → Property m → Property n → m (Plain variable) ≡ n (Plain variable)) → IsSome (get new variable)
+  known_fixed fixes = some_or_none (get new variable) (λ none.
+      terms_differ (map_of new (Plain variable)) (λ term. sym (changed-here (map_of new) variable term) ∙ fixes (other term) (map_of new) (free none term).1 whole.1))
+
 -- ---- which variables a found valuation has
 
 module _ (body facts : List (Fact Term)) (start found : Assignment) (places : List ℕ) (flat : AreFlat body)
-    (exact : (m : Term → Term) → Keeps Const m → Extends m found ↔ (Extends m start × IsMatch m body facts places)) (variable : ℕ) where
-  -- the found map, with another term for the variable
-  abbrev other : Term → Term → Term
-  other new = changed (map_of found) variable new
-
-  other_keeps : (new : Term) → Keeps Const (other new)
-  other_keeps new = Keeps-changed (map_of found) variable new (Keeps-map_of found)
-
-  whole : Extends (map_of found) start × IsMatch (map_of found) body facts places
-  whole = (exact (map_of found) (Keeps-map_of found)).0 (Extends-map_of found)
-
-  -- a variable without a term can have every term
-  free : get found variable ≡ None → (new : Term) → Extends (other new) start × IsMatch (other new) body facts places
-  free none new = (exact (other new) (other_keeps new)).0 (Extends-changed (map_of found) variable new found none (Extends-map_of found))
-
-  started : (term : Term) → get start variable ≡ Some term → get found variable ≡ None → ⊥
-  started term at none = terms_differ term (λ new. sym (changed-here (map_of found) variable new) ∙ (free none new).0 variable term at)
-
-  mentioned : Mentions body (Plain variable) → get found variable ≡ None → ⊥
-  mentioned (atom, inside, at) none =
-      terms_differ (map_of found (Plain variable)) (λ new.
-      sym (changed-here (map_of found) variable new)
-      ∙ image_values (other new) (map_of found) atom (Plain variable) (images_same (other new) (map_of found) body facts places (free none new).1 whole.1 atom inside) at)
-
+    (exact : Narrows start found (λ m. IsMatch m body facts places)) (variable : ℕ) where
   -- a variable that is neither at the start nor in the body can have every term
   apart : (term : Term) → get start variable ≡ None → ¬ (Mentions body (Plain variable)) → get found variable ≡ Some term → ⊥
   apart term none absent at =
       terms_differ term (λ new.
-      let same : (atom : Fact Term) → Contains body atom → image (map_of found) atom ≡ image (other new) atom = λ atom inside.
-      image_agree (map_of found) (other new) atom (λ t in_atom. sym (changed-flat (map_of found) variable new t (flat t (atom, inside, in_atom)) (λ e. absent (atom, inside, subst (Contains atom.terms) e in_atom)))) in
-      let match : IsMatch (other new) body facts places = IsMatch-agree (map_of found) (other new) body facts places same whole.1 in
-      let extends : Extends (other new) start = Extends-changed (map_of found) variable new start none whole.0 in
-      sym (changed-here (map_of found) variable new) ∙ (exact (other new) (other_keeps new)).1 (extends, match) variable term at)
-
-  some_or_none : (o : Option Term) → (o ≡ None → ⊥) → IsSome o
-  some_or_none None h = absurd (h refl)
-  some_or_none (Some t) h = refl
+      let given : Extends (map_of found) start × IsMatch (map_of found) body facts places = whole start found (λ m. IsMatch m body facts places) exact variable in
+      let same : (atom : Fact Term) → Contains body atom → image (map_of found) atom ≡ image (changed (map_of found) variable new) atom = λ atom inside.
+      image_agree (map_of found) (changed (map_of found) variable new) atom (λ t in_atom. sym (changed-flat (map_of found) variable new t (flat t (atom, inside, in_atom)) (λ e. absent (atom, inside, subst (Contains atom.terms) e in_atom)))) in
+      let match : IsMatch (changed (map_of found) variable new) body facts places = IsMatch-agree (map_of found) (changed (map_of found) variable new) body facts places same given.1 in
+      let extends : Extends (changed (map_of found) variable new) start = Extends-changed (map_of found) variable new start none given.0 in
+      sym (changed-here (map_of found) variable new) ∙ (exact (changed (map_of found) variable new) (Keeps-changed (map_of found) variable new (Keeps-map_of found))).1 (extends, match) variable term at)
 
   found_has : (s f : Option Term) (b : Bool) → get start variable ≡ s → get found variable ≡ f → mentions variable body ≡ b → IsSome f → IsSome s ⊎ Mentions body (Plain variable)
   found_has (Some u) f b at in_found test some = inl refl
@@ -98,15 +107,12 @@ module _ (body facts : List (Fact Term)) (start found : Assignment) (places : Li
   found_has None None false none in_found test some = absurd (false≢true some)
   found_has None (Some t) false none in_found test some = absurd (apart t none (mentions_false variable body test) in_found)
 
-  start_has : (s : Option Term) → get start variable ≡ s → IsSome s → get found variable ≡ None → ⊥
-  start_has None at some none = false≢true some
-  start_has (Some u) at some none = started u at none
-
   pub found_variables : IsSome (get found variable) ↔ (IsSome (get start variable) ⊎ Mentions body (Plain variable))
   found_variables = (
     λ some. found_has (get start variable) (get found variable) (mentions variable body) refl refl refl some,
-    λ either. some_or_none (get found variable) (λ none. elim either [
-      | inl some ↦ start_has (get start variable) refl some none
-      | inr inside ↦ mentioned inside none
-    ]),
+    λ either. elim either [
+      | inl some ↦ known_kept start found (λ m. IsMatch m body facts places) exact variable some
+      | inr inside ↦ known_fixed start found (λ m. IsMatch m body facts places) exact variable
+          (λ m n p q. image_values m n inside.0 (Plain variable) (images_same m n body facts places p q inside.0 inside.1) inside.2)
+    ],
   )
