@@ -1,6 +1,7 @@
 -- A search for the least match, by the place of the first atom.
-use Rattle.std.proofs.Common.{◌≡◌, ℕ, ◌+◌, ◌<◌, ◌≤◌, ◌++◌, ◌⊎◌, ◌↔◌, Bool, true, false, eqb, List, [], ◌∷◌, length, get_or, take, Contains, Some, refl, sym, ap, subst, ◌∙◌, inl, inr, arith}
-use Rattle.std.specs.List.{slice_get, slice_set}
+use Rattle.std.proofs.Common.{◌≡◌, ℕ, ◌+◌, ◌<◌, ◌≤◌, ◌++◌, ◌⊎◌, ◌↔◌, Bool, true, false, eqb, List, [], ◌∷◌, length, get_or, take, Contains, Option, Some, None, refl, sym, ap, subst, ◌∙◌, inl, inr, arith}
+use Rattle.std.specs.List.{slice_get}
+use Rattle.std.specs.Option.{IfSome, IfNone}
 use Rattle.std.proofs.lemmas.Bool.Decides.{nat_tests}
 use Rattle.std.proofs.lemmas.Option.{same_Some, slice_get_within}
 use Rattle.std.proofs.lemmas.List.{append_assoc, append-nil}
@@ -14,6 +15,7 @@ use Rattle.esto_query.specs.Matches.{IsMatch, IsAtMost, IsBefore, IsFound, IsLea
 use Rattle.esto_query.specs.Trails.{with_trail, Narrows, Excludes, Grew, Tries}
 use Rattle.esto_query.specs.Searches.{IsLeastFrom, Searched, first_from, rest_from}
 use Rattle.esto_query.specs.declared.trail.Binding.{Binding}
+use Rattle.esto_query.specs.declared.matches.Found.{Found}
 use Rattle.esto_query.proofs.MapLemmas.{Contains-first, Contains-later}
 use Rattle.esto_query.proofs.ValuationLemmas.{Keeps-map_of, Extends-map_of}
 use Rattle.esto_query.proofs.TrailLemmas.{Grew-same, Grew-then}
@@ -172,3 +174,11 @@ module _ (body facts : List (Fact Term)) (start : Assignment) (Within Other : Li
 
   pub HasNoMatch-range : HasNoMatch body facts start Within → HasNoMatch body facts start Other
   HasNoMatch-range none m places keeps extends match in_other = none m places keeps extends match ((same places (IsMatch-length m body facts places match)).1 in_other)
+
+  pub if_least : (outcome : Option Found) → IfSome outcome (λ found. IsLeastMatch body facts start Within found.valuation found.places) → IfSome outcome (λ found. IsLeastMatch body facts start Other found.valuation found.places)
+  if_least None least = tt
+  if_least (Some found) least = IsLeastMatch-range found.valuation found.places least
+
+  pub if_none : (outcome : Option Found) → IfNone outcome (HasNoMatch body facts start Within) → IfNone outcome (HasNoMatch body facts start Other)
+  if_none None none = HasNoMatch-range none
+  if_none (Some found) none = tt

@@ -1,5 +1,5 @@
 -- The order on lists of places.
-use Rattle.std.proofs.Common.{◌≡◌, ◌≢◌, ℕ, suc, zero, ◌+◌, ◌-◌, ◌<◌, ◌≤◌, ◌⊎◌, ◌↔◌, Bool, true, false, cond, eqb, List, [], ◌∷◌, length, Some, refl, sym, ap, ◌∙◌, inl, inr, arith}
+use Rattle.std.proofs.Common.{◌≡◌, ◌≢◌, ℕ, suc, zero, ◌+◌, ◌-◌, ◌<◌, ◌≤◌, ◌⊎◌, ◌↔◌, Bool, true, false, cond, eqb, List, [], ◌∷◌, length, Some, refl, sym, ap, subst, ◌∙◌, inl, inr, arith}
 use Rattle.std.specs.List.{slice_get, slice_set}
 use Rattle.std.specs.declared.cmp.Ordering.{Ordering}
 use Rattle.std.specs.declared.cmp.Ordering.TheVariants.{Less, Equal, Greater}
@@ -7,7 +7,7 @@ use Rattle.std.specs.Ordering.{nat_cmp, ordering_then, MatchOrdering}
 use Rattle.std.specs.Cmp.Lexicographic.{slice_cmp}
 use Rattle.std.proofs.lemmas.Cmp.{ranked, by_ranked, nat_cmp_total, tied_itself}
 use Rattle.std.proofs.lemmas.Bool.Decides.{nat_tests}
-use Rattle.std.proofs.lemmas.Option.{same_Some}
+use Rattle.std.proofs.lemmas.Option.{same_Some, slice_get_within}
 use Rattle.esto_query.specs.Matches.{IsBefore, IsAtMost}
 use Rattle.esto_query.specs.Searches.{first_from, rest_from}
 
@@ -118,3 +118,9 @@ after_is_from (p ∷ r ∷ rs) (q ∷ qs) zero last l k at = absurd (omega arith
 after_is_from (p ∷ ps) (q ∷ qs) (suc i) last l k at =
     both_ways (IsAtMost-cons p q (slice_set ps i (last + 1)) qs)
     (both_ways (same_first (after_is_from ps qs i last (omega arith) (omega arith) at)) (other_way (IsBefore-cons p q ps qs)))
+
+-- the range after a list of places, for lists of its length
+pub next_range : (n : ℕ) (after from : List ℕ) (last : ℕ) → from ≡ slice_set after (length after - 1) (last + 1) → slice_get after (length after - 1) ≡ Some last → length after ≡ n → (places : List ℕ) → length places ≡ n → IsAtMost from places ↔ IsBefore after places
+next_range n after from last is_from at l places k =
+    let within = slice_get_within after (length after - 1) last at in
+    subst (λ f. IsAtMost f places ↔ IsBefore after places) (sym is_from) (after_is_from after places (length after - 1) last (omega arith) (omega arith) at)

@@ -24,9 +24,9 @@ returns-then-branch-2 t c =
     let tried = rw c.if-branch.true at c.in_ok-bind_atom.ensures in
     let at = slice_get_read c.args.facts.now _ c.loop-place.place _ refl c.loop-place-test.true c.index-facts-place.is in
     rw c.loop-place.invariant.split (Searched-found c.args.start.now c.in-Some.atom.now c.index-facts-place.result c.in-Some.rest.now c.args.facts.now c.args.from.now c.loop-place.place at
-      c.args.trail.now.items c.loop-place.trail.items c.loop-place.invariant.trail c.loop-place.invariant.none
-      c.bind_atom.new.trail.items c.search.new.trail.items c.from_after.result.now c.args.places.now c.loop-place.places c.push.new.self c.search.new.places
-      c.loop-place.invariant.places c.from_after.ensures c.in_ok-push.ensures.ok (omega (arith, c.least_first-place.ensures)) tried found)
+    c.args.trail.now.items c.loop-place.trail.items c.loop-place.invariant.trail c.loop-place.invariant.none
+    c.bind_atom.new.trail.items c.search.new.trail.items c.from_after.result.now c.args.places.now c.loop-place.places c.push.new.self c.search.new.places
+    c.loop-place.invariant.places c.from_after.ensures c.in_ok-push.ensures.ok (omega (arith, c.least_first-place.ensures)) tried found)
 
 pub loop-place-preserved : goal.loop-place-preserved
 loop-place-preserved t c =
@@ -57,4 +57,4 @@ loop-place-preserved t c =
 pub returns : goal.returns
 returns t c =
     rw c.loop-place.invariant.split (Searched-none c.args.start.now c.in-Some.atom.now c.in-Some.rest.now c.args.facts.now c.args.from.now c.loop-place.place
-      c.args.trail.now.items c.loop-place.trail.items c.args.places.now c.loop-place.places c.loop-place.invariant.places c.loop-place.invariant.trail c.loop-place.invariant.none c.loop-place-test.false)
+    c.args.trail.now.items c.loop-place.trail.items c.args.places.now c.loop-place.places c.loop-place.invariant.places c.loop-place.invariant.trail c.loop-place.invariant.none c.loop-place-test.false)
