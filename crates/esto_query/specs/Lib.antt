@@ -2,4 +2,8 @@ pub mod Valuations
 pub mod Schemas
 pub mod Soundness
 pub mod Making
+pub mod Variables
 pub mod Matches
+pub mod Trails
+pub mod Searches
+pub mod Rows

@@ -1,12 +1,14 @@
 //! When a query is made.
 ghost use Rattle.std.specs.Prelude.{◌≡◌, ◌≢◌, [], ◌<◌, Contains, All, length, MatchOption};
-ghost use Rattle.std.specs.List.{list_any};
 ghost use Rattle.esto_term.specs.declared.term.Term.{Term};
-ghost use Rattle.esto_semantics.specs.Maps.{IsFlat, AreFlat};
+ghost use Rattle.esto_semantics.specs.Maps.{IsFlat, AreFlat, IsFixedBy};
+ghost use Rattle.esto_semantics.specs.Facts.{Mentions};
+ghost use Rattle.esto_term.specs.declared.term.Term.TheVariants.{Plain};
 ghost use Rattle.esto_semantics.specs.WellFormed.{AreOver};
 ghost use Rattle.esto_query.specs.Soundness.{AreNamed, IsSafe};
 ghost use Rattle.esto_query.specs.Schemas.{arities_of};
-ghost use Rattle.esto_query.specs.Making.{MakesQuery};
+ghost use Rattle.esto_query.specs.Making.{MakesQuery, IsFirstMisfit, IsFirstUnsafe};
+ghost use Rattle.esto_query.specs.Variables.{is_variable, atom_mentions, mentions};
 
 use crate::query::{Names, Query};
 use crate::schema::Schema;
@@ -41,7 +43,9 @@ impl From<OutOfMemory> for QueryFault {
 }
 
 /// Whether the term is that variable.
-fn is_variable(term: &Term, variable: u64) -> bool {
+fn is_variable(term: &Term, variable: u64) -> bool
+    ensures { result ≡ is_variable variable term.now }
+{
     match term {
         Term::Plain(number) => *number == variable,
         Term::Const(_) => false,
@@ -50,11 +54,15 @@ fn is_variable(term: &Term, variable: u64) -> bool {
 }
 
 /// Whether the variable is in one of the atoms.
-fn mentions(body: &[Atom], variable: u64) -> bool {
+fn mentions(body: &[Atom], variable: u64) -> bool
+    ensures { result ≡ mentions variable body.now }
+{
     body.iter().any(|atom| atom_mentions(atom, variable))
 }
 
-fn atom_mentions(atom: &Atom, variable: u64) -> bool {
+fn atom_mentions(atom: &Atom, variable: u64) -> bool
+    ensures { result ≡ atom_mentions variable atom.now }
+{
     atom.terms
         .items()
         .iter()
@@ -64,6 +72,7 @@ fn atom_mentions(atom: &Atom, variable: u64) -> bool {
 /// The place of the first atom with a wrong number of terms.
 fn first_misfit(schema: &Schema, body: &[Atom]) -> Option<usize>
     requires { All (λ atom. atom.relation < length schema.now) body.now }
+    ensures { MatchOption result (AreOver (arities_of schema.now) body.now) (IsFirstMisfit (arities_of schema.now) body.now) }
 {
     for (place, atom) in body.iter().enumerate() {
         if atom.terms.len() != schema.arity(atom.relation) {
@@ -73,13 +82,32 @@ fn first_misfit(schema: &Schema, body: &[Atom]) -> Option<usize>
     None
 }
 
-/// The first variable of the head that is not in the body.
-fn first_unsafe(head: &[Term], body: &[Atom]) -> Option<u64> {
-    for term in head {
-        if let Term::Plain(variable) = term {
-            if !mentions(body, *variable) {
-                return Some(*variable);
+/// The variable that the term is, where it is in none of the atoms.
+fn missing_variable(term: &Term, body: &[Atom]) -> Option<u64>
+    requires { IsFlat term.now }
+    ensures { MatchOption result (IsFixedBy body.now term.now) (λ variable. (term.now ≡ Plain variable) × ¬ (Mentions body.now (Plain variable))) }
+{
+    match term {
+        Term::Plain(variable) => {
+            if mentions(body, *variable) {
+                None
+            } else {
+                Some(*variable)
             }
+        }
+        Term::Const(_) => None,
+        Term::Made(_, _, _) => None,
+    }
+}
+
+/// The first variable of the head that is not in the body.
+fn first_unsafe(head: &[Term], body: &[Atom]) -> Option<u64>
+    requires { (term : Term) → Contains head.now term → IsFlat term }
+    ensures { MatchOption result (IsSafe head.now body.now) (IsFirstUnsafe head.now body.now) }
+{
+    for term in head {
+        if let Some(variable) = missing_variable(term, body) {
+            return Some(variable);
         }
     }
     None

@@ -3,7 +3,8 @@ ghost use Rattle.std.specs.Prelude.{◌≡◌, ◌<◌, ◌↔◌, ℕ, List, le
 ghost use Rattle.esto_term.specs.declared.term.Term.{Term};
 ghost use Rattle.esto_semantics.specs.Maps.{AreFlat, Sends};
 ghost use Rattle.esto_semantics.specs.declared.fact.Fact.{Fact};
-ghost use Rattle.esto_query.specs.Matches.{IsMatch, IsBefore, IsLeastMatch, HasNoMatch};
+ghost use Rattle.esto_query.specs.Matches.{IsMatch, IsBefore, IsAtMost, IsLeastMatch, HasNoMatch};
+ghost use Rattle.esto_query.specs.Trails.{with_trail};
 
 use crate::search::search;
 use crate::trail::Binding;
@@ -29,7 +30,9 @@ impl Replicate for Found {
 }
 
 /// The start with the bindings of the trail.
-fn extended(alloc: Global, start: &Valuation, trail: &[Binding]) -> Result<Valuation, OutOfMemory> {
+fn extended(alloc: Global, start: &Valuation, trail: &[Binding]) -> Result<Valuation, OutOfMemory>
+    ensures { IfOk result (λ valuation. valuation ≡ with_trail start.now trail.now) }
+{
     let mut valuation = start.copy(alloc)?;
     for binding in trail {
         valuation.bind(binding.variable, binding.term.copy(alloc)?)?;
@@ -44,7 +47,11 @@ fn least_match(
     facts: &[Atom],
     start: &Valuation,
     from: &[usize],
-) -> Result<Option<Found>, OutOfMemory> {
+) -> Result<Option<Found>, OutOfMemory>
+    requires { AreFlat body.now }
+    ensures found { IfOk result (λ outcome. IfSome outcome (λ found. IsLeastMatch body.now facts.now start.now (IsAtMost from.now) found.valuation found.places)) }
+    ensures none { IfOk result (λ outcome. IfNone outcome (HasNoMatch body.now facts.now start.now (IsAtMost from.now))) }
+{
     let mut trail = Vec::new(alloc);
     let mut places = Values::new(alloc);
     if search(start, body, facts, from, &mut trail, &mut places)? {
@@ -53,6 +60,29 @@ fn least_match(
     } else {
         Ok(None)
     }
+}
+
+/// The least match after the given places.
+fn least_after(
+    alloc: Global,
+    body: &[Atom],
+    facts: &[Atom],
+    start: &Valuation,
+    after: &[usize],
+) -> Result<Option<Found>, OutOfMemory>
+    requires flat { AreFlat body.now }
+    requires long { length after.now ≡ length body.now }
+    requires places { All (λ place. place < length facts.now) after.now }
+    ensures found { IfOk result (λ outcome. IfSome outcome (λ found. IsLeastMatch body.now facts.now start.now (IsBefore after.now) found.valuation found.places)) }
+    ensures none { IfOk result (λ outcome. IfNone outcome (HasNoMatch body.now facts.now start.now (IsBefore after.now))) }
+{
+    let Some(last) = after.last() else {
+        return Ok(None);
+    };
+    let mut from = Values::from_slice(alloc, after)?;
+    from.set(after.len() - 1, *last + 1);
+    let least = least_match(alloc, body, facts, start, from.items())?;
+    Ok(least)
 }
 
 /// The least match of the body in the facts, by the list of places, that extends the start. None comes exactly
@@ -85,14 +115,13 @@ pub fn next_match(
     ensures found { IfOk result (λ outcome. IfSome outcome (λ found. IsLeastMatch body.now facts.now start.now (IsBefore after.now.places) found.valuation found.places)) }
     ensures none { IfOk result (λ outcome. IfNone outcome (HasNoMatch body.now facts.now start.now (IsBefore after.now.places))) }
 {
-    let mut from = after.places.copy(alloc)?;
-    let count = from.len();
-    if count == 0 {
-        return Ok(None);
-    }
-    let last = from.item(count - 1);
-    from.set(count - 1, last + 1);
-    least_match(alloc, body.items(), facts.items(), start, from.items())
+    least_after(
+        alloc,
+        body.items(),
+        facts.items(),
+        start,
+        after.places.items(),
+    )
 }
 
 /// A law: a map of terms sends each atom of a body to one of the facts exactly where it has a match in their list.

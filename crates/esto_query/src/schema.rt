@@ -1,5 +1,5 @@
 //! Schemas.
-ghost use Rattle.std.specs.Prelude.{◌≡◌, [], ◌∷◌, ◌++◌, ◌<◌, Contains, length, slice_get, Some, MatchOption, OnOk, OnErr};
+ghost use Rattle.std.specs.Prelude.{◌≡◌, [], ◌∷◌, ◌++◌, ◌<◌, Contains, length, slice_get, Some, MatchOption, OnOk, OnErr, IsTrue, ◌↔◌};
 ghost use Rattle.esto_query.specs.Schemas.{names_of, arities_of, IsArity, IsSchema, AddsRelation};
 
 use esto_term::{List, OutOfMemory, Text};
@@ -67,6 +67,13 @@ impl Model for Schema {
     ghost invariant = { λ it. IsSchema it.relations };
 }
 
+/// Whether the relation has that name.
+fn has_name(relation: &Relation, name: &[u8]) -> bool
+    ensures { IsTrue result ↔ (relation.now.name ≡ name.now) }
+{
+    relation.name.bytes() == name
+}
+
 impl Schema {
     /// No relation.
     pub fn new(alloc: Global) -> Schema
@@ -103,10 +110,12 @@ impl Schema {
     pub fn find(&self, name: &[u8]) -> Option<usize>
         ensures { MatchOption result (¬ (Contains (names_of self.now) name.now)) (λ relation. slice_get (names_of self.now) relation ≡ Some name.now) }
     {
-        self.relations
-            .items()
-            .iter()
-            .position(|relation| relation.name.bytes() == name)
+        for (number, relation) in self.relations.items().iter().enumerate() {
+            if has_name(relation, name) {
+                return Some(number);
+            }
+        }
+        None
     }
 
     /// How many relations there are.

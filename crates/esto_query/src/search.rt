@@ -1,11 +1,17 @@
 //! The search for the least match.
+ghost use Rattle.std.specs.Prelude.{◌≡◌, IfOk};
+ghost use Rattle.esto_semantics.specs.Maps.{AreFlat};
+ghost use Rattle.esto_query.specs.Searches.{Searched, first_from, rest_from};
+
 use crate::trail::{Binding, bind_atom};
 use crate::valuation::Valuation;
 use esto_semantics::Atom;
 use esto_term::{OutOfMemory, Places};
 
 /// The least place of the first atom in a list of places that is at or after the given one.
-fn least_first(from: &[usize]) -> usize {
+fn least_first(from: &[usize]) -> usize
+    ensures { result ≡ first_from from.now }
+{
     match from {
         [] => 0,
         [first, ..] => *first,
@@ -13,7 +19,9 @@ fn least_first(from: &[usize]) -> usize {
 }
 
 /// What the places of the other atoms are to be at or after, where the first atom's place is taken.
-fn from_after(from: &[usize], place: usize) -> &[usize] {
+fn from_after(from: &[usize], place: usize) -> &[usize]
+    ensures { result.now ≡ rest_from from.now place }
+{
     match from {
         [first, rest @ ..] if *first == place => rest,
         _ => &[],
@@ -28,7 +36,10 @@ pub fn search<'a>(
     from: &[usize],
     trail: &mut Vec<Binding<'a>>,
     places: &mut Places,
-) -> Result<bool, OutOfMemory> {
+) -> Result<bool, OutOfMemory>
+    requires { AreFlat body.now }
+    ensures { IfOk result (λ is_found. Searched start.now body.now facts.now from.now trail.old.items trail.new.items places.old places.new is_found) }
+{
     let Some((atom, rest)) = body.split_first() else {
         return Ok(from.is_empty());
     };

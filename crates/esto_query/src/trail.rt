@@ -1,4 +1,12 @@
 //! The bindings that a search has made, in order.
+ghost use Rattle.std.specs.Prelude.{◌≡◌, Contains, IfOk, map};
+ghost use Rattle.std.specs.FinMap.{get};
+ghost use Rattle.std.specs.Option.{option_copied};
+ghost use Rattle.esto_term.specs.declared.term.Term.{Term};
+ghost use Rattle.esto_semantics.specs.Facts.{image};
+ghost use Rattle.esto_semantics.specs.Maps.{IsFlat};
+ghost use Rattle.esto_query.specs.Trails.{with_trail, Tries};
+
 use crate::valuation::Valuation;
 use esto_semantics::Atom;
 use esto_term::{OutOfMemory, Term};
@@ -11,8 +19,11 @@ pub struct Binding<'a> {
 }
 
 /// The variable's term, in the trail or at the start.
-pub fn value<'a>(start: &'a Valuation, trail: &[Binding<'a>], variable: u64) -> Option<&'a Term> {
-    for binding in trail {
+pub fn value<'a>(start: &'a Valuation, trail: &[Binding<'a>], variable: u64) -> Option<&'a Term>
+    ensures { option_copied result ≡ get (with_trail start.now trail.now) variable }
+{
+    for at in (0..trail.len()).rev() {
+        let binding = &trail[at];
         if binding.variable == variable {
             return Some(binding.term);
         }
@@ -26,7 +37,10 @@ pub fn bind_term<'a>(
     trail: &mut Vec<Binding<'a>>,
     term: &Term,
     target: &'a Term,
-) -> Result<bool, OutOfMemory> {
+) -> Result<bool, OutOfMemory>
+    requires { IsFlat term.now }
+    ensures { IfOk result (λ is_bound. Tries start.now trail.old.items trail.new.items is_bound (λ m. m term.now ≡ target.now)) }
+{
     match term {
         Term::Const(_) => Ok(term.equal(target)),
         Term::Made(_, _, _) => Ok(term.equal(target)),
@@ -49,7 +63,10 @@ pub fn bind_row<'a>(
     trail: &mut Vec<Binding<'a>>,
     terms: &[Term],
     targets: &'a [Term],
-) -> Result<bool, OutOfMemory> {
+) -> Result<bool, OutOfMemory>
+    requires { (term : Term) → Contains terms.now term → IsFlat term }
+    ensures { IfOk result (λ is_bound. Tries start.now trail.old.items trail.new.items is_bound (λ m. map m terms.now ≡ targets.now)) }
+{
     if terms.len() != targets.len() {
         return Ok(false);
     }
@@ -69,7 +86,10 @@ pub fn bind_atom<'a>(
     trail: &mut Vec<Binding<'a>>,
     atom: &Atom,
     fact: &'a Atom,
-) -> Result<bool, OutOfMemory> {
+) -> Result<bool, OutOfMemory>
+    requires { (term : Term) → Contains atom.now.terms term → IsFlat term }
+    ensures { IfOk result (λ is_bound. Tries start.now trail.old.items trail.new.items is_bound (λ m. image m atom.now ≡ fact.now)) }
+{
     if atom.relation != fact.relation {
         return Ok(false);
     }

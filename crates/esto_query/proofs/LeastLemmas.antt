@@ -1,0 +1,184 @@
+-- A search for the least match, by the place of the first atom.
+use Rattle.std.proofs.Common.{◌≡◌, ℕ, ◌+◌, ◌<◌, ◌≤◌, ◌++◌, ◌⊎◌, ◌↔◌, Bool, true, false, eqb, List, [], ◌∷◌, length, get_or, take, Contains, Option, Some, None, refl, sym, ap, subst, ◌∙◌, inl, inr, arith}
+use Rattle.std.specs.List.{slice_get}
+use Rattle.std.specs.Option.{IfSome, IfNone}
+use Rattle.std.proofs.lemmas.Bool.Decides.{nat_tests}
+use Rattle.std.proofs.lemmas.Option.{same_Some, slice_get_within}
+use Rattle.std.proofs.lemmas.List.{append_assoc, append-nil}
+use Rattle.esto_term.specs.declared.term.Term.{Term}
+use Rattle.esto_term.specs.declared.term.Term.TheVariants.{Const}
+use Rattle.esto_semantics.specs.Facts.{image, Mentions}
+use Rattle.esto_semantics.specs.Maps.{IsFlat, AreFlat, Keeps}
+use Rattle.esto_semantics.specs.declared.fact.Fact.{Fact}
+use Rattle.esto_query.specs.Valuations.{Assignment, Extends, map_of}
+use Rattle.esto_query.specs.Matches.{IsMatch, IsAtMost, IsBefore, IsFound, IsLeastMatch, HasNoMatch}
+use Rattle.esto_query.specs.Trails.{with_trail, Narrows, Excludes, Grew, Tries}
+use Rattle.esto_query.specs.Searches.{IsLeastFrom, Searched, first_from, rest_from}
+use Rattle.esto_query.specs.declared.trail.Binding.{Binding}
+use Rattle.esto_query.specs.declared.matches.Found.{Found}
+use Rattle.esto_query.proofs.MapLemmas.{Contains-first, Contains-later}
+use Rattle.esto_query.proofs.ValuationLemmas.{Keeps-map_of, Extends-map_of}
+use Rattle.esto_query.proofs.TrailLemmas.{Grew-same, Grew-then}
+use Rattle.esto_query.proofs.PlaceLemmas.{IsAtMost-nil, first_is_least, rest_is_at_most, IsAtMost-onto, IsAtMost-least}
+use Rattle.esto_query.proofs.MatchLemmas.{IsMatch-length, found_variables}
+
+-- ---- where no first place below a bound has a match
+
+pub record NoneBelow (atom : Fact Term) (rest facts : List (Fact Term)) (known : Assignment) (from : List ℕ) (bound : ℕ) : Type 0 where
+  pub at_or_after : (m : Term → Term) (place : ℕ) (places : List ℕ) → Keeps Const m → Extends m known → IsMatch m (atom ∷ rest) facts (place ∷ places) → IsAtMost from (place ∷ places) → bound ≤ place
+
+-- no match has this first place
+abbrev pub NoneAt : Fact Term → List (Fact Term) → List (Fact Term) → Assignment → List ℕ → ℕ → Type 0
+NoneAt atom rest facts known from here =
+    (m : Term → Term) (places : List ℕ) → Keeps Const m → Extends m known → IsMatch m (atom ∷ rest) facts (here ∷ places) → IsAtMost from (here ∷ places) → ⊥
+
+cases_le : (a b : ℕ) → a ≤ b → (a < b) ⊎ (a ≡ b)
+cases_le a b m = grind arith
+
+module _ (atom : Fact Term) (rest facts : List (Fact Term)) (known : Assignment) (from : List ℕ) where
+  pub NoneBelow-first : (bound : ℕ) → bound ≡ first_from from → NoneBelow atom rest facts known from bound
+  NoneBelow-first bound e = record { at_or_after = λ m place places keeps extends match after. rw e (first_is_least from place places after) }
+
+  NoneBelow-next : (here : ℕ) → NoneBelow atom rest facts known from here → NoneAt atom rest facts known from here → NoneBelow atom rest facts known from (here + 1)
+  NoneBelow-next here before none = record { at_or_after = later }
+    where
+      later : (m : Term → Term) (place : ℕ) (places : List ℕ) → Keeps Const m → Extends m known → IsMatch m (atom ∷ rest) facts (place ∷ places) → IsAtMost from (place ∷ places) → here + 1 ≤ place
+      later m place places keeps extends match after =
+          elim (cases_le here place (before.at_or_after m place places keeps extends match after)) [
+            | inl less ↦ omega arith
+            | inr same ↦ absurd (none m places keeps extends (subst (λ p. IsMatch m (atom ∷ rest) facts (p ∷ places)) (sym same) match) (subst (λ p. IsAtMost from (p ∷ places)) (sym same) after))
+          ]
+
+  HasNoMatch-end : (bound : ℕ) → NoneBelow atom rest facts known from bound → length facts ≤ bound → HasNoMatch (atom ∷ rest) facts known (IsAtMost from)
+  HasNoMatch-end bound none end m [] keeps extends match after = match
+  HasNoMatch-end bound none end m (place ∷ places) keeps extends match after =
+      let low = none.at_or_after m place places keeps extends match after in
+      let within = slice_get_within facts place _ match.0 in
+      omega arith
+
+  module _ (fact : Fact Term) (here : ℕ) (at : slice_get facts here ≡ Some fact) where
+    no_fact : Excludes known (λ m. image m atom ≡ fact) → NoneAt atom rest facts known from here
+    no_fact none m places keeps extends match after = none m keeps extends (same_Some _ _ (sym match.0 ∙ at))
+
+    no_rest : (mid : Assignment) → Narrows known mid (λ m. image m atom ≡ fact) → HasNoMatch rest facts mid (IsAtMost (rest_from from here)) → NoneAt atom rest facts known from here
+    no_rest mid step none m places keeps extends match after =
+        none m places keeps ((step m keeps).1 (extends, same_Some _ _ (sym match.0 ∙ at))) match.1 (rest_is_at_most from here places after)
+
+    IsLeastFrom-cons : (mid new : Assignment) (places : List ℕ) → NoneBelow atom rest facts known from here → first_from from ≤ here → Narrows known mid (λ m. image m atom ≡ fact) → IsLeastFrom rest facts (rest_from from here) mid new places → IsLeastFrom (atom ∷ rest) facts from known new (here ∷ places)
+    IsLeastFrom-cons mid new places none low step found = record {
+      matches = λ m keeps. (
+        λ extends. let f = (found.matches m keeps).0 extends in let s = (step m keeps).0 f.0 in (s.0, (at ∙ ap Some (sym s.1), f.1)),
+        λ both. (found.matches m keeps).1 ((step m keeps).1 (both.0, same_Some _ _ (sym both.1.0 ∙ at)), both.1.1),
+      );
+      within = IsAtMost-onto from here places low found.within;
+      least = least_case;
+    }
+      where
+        same_place : (m : Term → Term) (qs : List ℕ) → Keeps Const m → Extends m known → IsMatch m (atom ∷ rest) facts (here ∷ qs) → IsAtMost from (here ∷ qs) → IsAtMost places qs
+        same_place m qs keeps extends match after =
+            found.least m qs keeps ((step m keeps).1 (extends, same_Some _ _ (sym match.0 ∙ at))) match.1 (rest_is_at_most from here qs after)
+
+        least_case : (m : Term → Term) (others : List ℕ) → Keeps Const m → Extends m known → IsMatch m (atom ∷ rest) facts others → IsAtMost from others → IsAtMost (here ∷ places) others
+        least_case m [] keeps extends match after = absurd match
+        least_case m (q ∷ qs) keeps extends match after =
+            IsAtMost-least here q places qs (none.at_or_after m q qs keeps extends match after)
+            (λ same. same_place m qs keeps extends (subst (λ p. IsMatch m (atom ∷ rest) facts (p ∷ qs)) same match) (subst (λ p. IsAtMost from (p ∷ qs)) same after))
+
+-- ---- what a search leaves
+
+IsLeastFrom-nil : (facts : List (Fact Term)) (known : Assignment) → IsLeastFrom [] facts [] known known []
+IsLeastFrom-nil facts known = record {
+  matches = λ m keeps. (λ extends. (extends, tt), λ both. both.0);
+  within = IsAtMost-nil [];
+  least = λ m others keeps extends match after. IsAtMost-nil others;
+}
+
+pub Searched-nil : (start : Assignment) (facts : List (Fact Term)) (from places : List ℕ) (trail : List Binding) (is_empty : Bool) → is_empty ≡ eqb (length from) 0 → Searched start [] facts from trail trail places places is_empty
+Searched-nil start facts [] places trail true e = ([], sym (append-nil places), Grew-same trail, IsLeastFrom-nil facts (with_trail start trail))
+Searched-nil start facts (x ∷ xs) places trail true e = absurd (grind (arith, nat_tests))
+Searched-nil start facts [] places trail false e = absurd (cc)
+Searched-nil start facts (x ∷ xs) places trail false e = (refl, refl, none)
+  where
+    none : HasNoMatch [] facts (with_trail start trail) (IsAtMost (x ∷ xs))
+    none m [] keeps extends match after = after refl
+    none m (p ∷ ps) keeps extends match after = match
+
+module _ (start : Assignment) (atom fact : Fact Term) (rest facts : List (Fact Term)) (from : List ℕ) (here : ℕ) (at : slice_get facts here ≡ Some fact)
+    (old now : List Binding) (same : now ≡ old) (none : NoneBelow atom rest facts (with_trail start old) from here) where
+  tried_first : (new : List Binding) (outcome : Bool) → Tries start now new outcome (λ m. image m atom ≡ fact) → Tries start old new outcome (λ m. image m atom ≡ fact)
+  tried_first new outcome tried = subst (λ trail. Tries start trail new outcome (λ m. image m atom ≡ fact)) same tried
+
+  pub Searched-found : (mid new : List Binding) (inner places_old places_now places_mid places_new : List ℕ) → places_now ≡ places_old → inner ≡ rest_from from here → places_mid ≡ places_now ++ here ∷ [] → first_from from ≤ here → Tries start now mid true (λ m. image m atom ≡ fact) → Searched start rest facts inner mid new places_mid places_new true → Searched start (atom ∷ rest) facts from old new places_old places_new true
+  Searched-found mid new inner places_old places_now places_mid places_new same_places is_inner pushed low tried found =
+      let step = tried_first mid true tried in
+      let least : IsLeastFrom rest facts (rest_from from here) (with_trail start mid) (with_trail start new) found.0 = subst (λ f. IsLeastFrom rest facts f (with_trail start mid) (with_trail start new) found.0) is_inner found.3 in (
+        here ∷ found.0,
+        found.1 ∙ ap (λ z. z ++ found.0) (pushed ∙ ap (λ z. z ++ here ∷ []) same_places) ∙ append_assoc places_old (here ∷ []) found.0,
+        Grew-then old mid new step.0 found.2,
+        IsLeastFrom-cons atom rest facts (with_trail start old) from fact here at (with_trail start mid) (with_trail start new) found.0 none low step.1 least,
+      )
+
+  pub NoneBelow-back : (mid new : List Binding) (inner places_mid places_new : List ℕ) → inner ≡ rest_from from here → Tries start now mid true (λ m. image m atom ≡ fact) → Searched start rest facts inner mid new places_mid places_new false → NoneBelow atom rest facts (with_trail start old) from (here + 1)
+  NoneBelow-back mid new inner places_mid places_new is_inner tried missed =
+      let step = tried_first mid true tried in
+      let no : HasNoMatch rest facts (with_trail start mid) (IsAtMost (rest_from from here)) = subst (λ f. HasNoMatch rest facts (with_trail start mid) (IsAtMost f)) is_inner missed.2 in
+      NoneBelow-next atom rest facts (with_trail start old) from here none (no_rest atom rest facts (with_trail start old) from fact here at (with_trail start mid) step.1 no)
+
+  pub NoneBelow-skip : (new : List Binding) → Tries start now new false (λ m. image m atom ≡ fact) → NoneBelow atom rest facts (with_trail start old) from (here + 1)
+  NoneBelow-skip new tried =
+      let step = tried_first new false tried in
+      NoneBelow-next atom rest facts (with_trail start old) from here none (no_fact atom rest facts (with_trail start old) from fact here at step.1)
+
+pub Searched-none : (start : Assignment) (atom : Fact Term) (rest facts : List (Fact Term)) (from : List ℕ) (bound : ℕ) (old new : List Binding) (places_old places_new : List ℕ) → places_new ≡ places_old → new ≡ old → NoneBelow atom rest facts (with_trail start old) from bound → length facts ≤ bound → Searched start (atom ∷ rest) facts from old new places_old places_new false
+Searched-none start atom rest facts from bound old new places_old places_new same_places same none end =
+    (same_places, same, HasNoMatch-end atom rest facts (with_trail start old) from bound none end)
+
+-- ---- atoms of a body
+
+pub flat_first : (atom : Fact Term) (rest : List (Fact Term)) → AreFlat (atom ∷ rest) → (term : Term) → Contains atom.terms term → IsFlat term
+flat_first atom rest flat term inside = flat term (atom, Contains-first atom rest, inside)
+
+pub flat_rest : (atom : Fact Term) (rest : List (Fact Term)) → AreFlat (atom ∷ rest) → AreFlat rest
+flat_rest atom rest flat term (other, inside, at) = flat term (other, Contains-later atom rest other inside, at)
+
+-- ---- matches as answers
+
+pub IsLeastMatch-searched : (start found : Assignment) (body facts : List (Fact Term)) (from : List ℕ) (old new : List Binding) (places_old places_new : List ℕ) → AreFlat body → old ≡ [] → places_old ≡ [] → found ≡ with_trail start new → Searched start body facts from old new places_old places_new true → IsLeastMatch body facts start (IsAtMost from) found places_new
+IsLeastMatch-searched start found body facts from old new places_old places_new flat empty none is_found searched =
+    let whole : searched.0 ≡ places_new = sym (searched.1 ∙ ap (λ z. z ++ searched.0) none) in
+    let least : IsLeastFrom body facts from start found places_new =
+    subst (λ ps. IsLeastFrom body facts from start found ps) whole
+    (subst (λ f. IsLeastFrom body facts from start f searched.0) (sym is_found)
+    (subst (λ trail. IsLeastFrom body facts from (with_trail start trail) (with_trail start new) searched.0) empty searched.3)) in
+    record {
+      is_found = record { exact = least.matches; variables = λ variable. found_variables body facts start found places_new flat least.matches variable };
+      within = least.within;
+      least = least.least;
+    }
+
+pub HasNoMatch-searched : (start : Assignment) (body facts : List (Fact Term)) (from : List ℕ) (old new : List Binding) (places_old places_new : List ℕ) → old ≡ [] → Searched start body facts from old new places_old places_new false → HasNoMatch body facts start (IsAtMost from)
+HasNoMatch-searched start body facts from old new places_old places_new empty searched =
+    subst (λ trail. HasNoMatch body facts (with_trail start trail) (IsAtMost from)) empty searched.2
+
+-- ---- the same range, said another way for lists as long as the body
+
+module _ (body facts : List (Fact Term)) (start : Assignment) (Within Other : List ℕ → Type 0) (same : (places : List ℕ) → length places ≡ length body → Within places ↔ Other places) where
+  pub IsLeastMatch-range : (found : Assignment) (places : List ℕ) → IsLeastMatch body facts start Within found places → IsLeastMatch body facts start Other found places
+  IsLeastMatch-range found places least =
+      let match = ((least.is_found.exact (map_of found) (Keeps-map_of found)).0 (Extends-map_of found)).1 in
+      record {
+        is_found = least.is_found;
+        within = (same places (IsMatch-length (map_of found) body facts places match)).0 least.within;
+        least = λ m others keeps extends other_match in_other. least.least m others keeps extends other_match ((same others (IsMatch-length m body facts others other_match)).1 in_other);
+      }
+
+  pub HasNoMatch-range : HasNoMatch body facts start Within → HasNoMatch body facts start Other
+  HasNoMatch-range none m places keeps extends match in_other = none m places keeps extends match ((same places (IsMatch-length m body facts places match)).1 in_other)
+
+  pub if_least : (outcome : Option Found) → IfSome outcome (λ found. IsLeastMatch body facts start Within found.valuation found.places) → IfSome outcome (λ found. IsLeastMatch body facts start Other found.valuation found.places)
+  if_least None least = tt
+  if_least (Some found) least = IsLeastMatch-range found.valuation found.places least
+
+  pub if_none : (outcome : Option Found) → IfNone outcome (HasNoMatch body facts start Within) → IfNone outcome (HasNoMatch body facts start Other)
+  if_none None none = HasNoMatch-range none
+  if_none (Some found) none = tt

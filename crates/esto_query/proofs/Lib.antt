@@ -1,0 +1,10 @@
+pub mod MapLemmas
+pub mod ValuationLemmas
+pub mod SoundLemmas
+pub mod SchemaLemmas
+pub mod TrailLemmas
+pub mod PlaceLemmas
+pub mod MatchLemmas
+pub mod LeastLemmas
+pub mod RowLemmas
+pub mod RowOrderLemmas

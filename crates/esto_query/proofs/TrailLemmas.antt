@@ -1,0 +1,159 @@
+-- Trails of bindings: the last binding of a variable, and what one more binding does.
+use Rattle.std.proofs.Common.{◌≡◌, ◌↔◌, ℕ, suc, ◌+◌, ◌-◌, ◌<◌, ◌≤◌, Bool, true, false, IsTrue, cond, Some, None, Option, List, [], ◌∷◌, ◌++◌, take, length, get_or, map, Contains, refl, sym, ap, subst, ◌∙◌, inl, inr, arith}
+use Rattle.std.proofs.Math.Seq.{take-suc}
+use Rattle.std.proofs.lemmas.List.{append_assoc, append-nil, take-map, take_at, take_all, take_more}
+use Rattle.std.proofs.lemmas.List.Sums.{fold-append}
+use Rattle.std.proofs.lemmas.Bool.{false≢true}
+use Rattle.std.proofs.lemmas.Option.{same_Some}
+use Rattle.std.specs.Ordering.{nat_cmp, eq_by_cmp}
+use Rattle.std.specs.Cmp.{nat_cmp_total}
+use Rattle.std.specs.FinMap.{get, insert, get-insert}
+use Rattle.esto_term.specs.declared.term.Term.{Term}
+use Rattle.esto_term.specs.declared.term.Term.TheVariants.{Const, Plain}
+use Rattle.esto_semantics.specs.Facts.{image}
+use Rattle.esto_semantics.specs.Maps.{IsConstant, IsFlat, Keeps}
+use Rattle.esto_semantics.specs.declared.fact.Fact.{Fact}
+use Rattle.esto_query.specs.Valuations.{Assignment, Extends}
+use Rattle.esto_query.specs.Trails.{with_trail, Narrows, Excludes, Grew, Tries}
+use Rattle.esto_query.specs.declared.trail.Binding.{Binding}
+use Rattle.esto_query.proofs.ValuationLemmas.{same_key, other_key, Extends-insert}
+
+-- ---- the valuation of a trail
+
+pub with_trail-push : (start : Assignment) (trail : List Binding) (binding : Binding) → with_trail start (trail ++ binding ∷ []) ≡ insert (with_trail start trail) binding.variable binding.term.now
+with_trail-push start trail binding = fold-append (λ (known : Assignment) (b : Binding). insert known b.variable b.term.now) start trail (binding ∷ [])
+
+module _ (start : Assignment) (trail : List Binding) (variable : ℕ) where
+  -- what the first i bindings give, where a later one hides an earlier one
+  abbrev pub given_by : ℕ → Option Term
+  given_by i = get (with_trail start (take i trail)) variable
+
+  given_step : (i : ℕ) (binding : Binding) → 0 < i → i ≤ length trail → binding ≡ get_or trail (i - 1) binding → given_by i ≡ cond (eq_by_cmp nat_cmp variable binding.variable) (Some binding.term.now) (given_by (i - 1))
+  given_step i binding some within read =
+      let more : i ≡ suc (i - 1) = omega arith in
+      let below : i - 1 < length trail = omega arith in
+      ap given_by more
+      ∙ ap (λ bs. get (with_trail start bs) variable) (take-suc trail (i - 1) binding below)
+      ∙ ap (λ b. get (with_trail start (take (i - 1) trail ++ b ∷ [])) variable) (sym read)
+      ∙ ap (λ (known : Assignment). get known variable) (with_trail-push start (take (i - 1) trail) binding)
+      ∙ get-insert nat_cmp_total (with_trail start (take (i - 1) trail)) binding.variable binding.term.now variable
+
+  pub given_found : (i : ℕ) (binding : Binding) → 0 < i → i ≤ length trail → binding ≡ get_or trail (i - 1) binding → binding.variable ≡ variable → given_by i ≡ Some binding.term.now
+  given_found i binding some within read same = given_step i binding some within read ∙ ap (λ b. cond b (Some binding.term.now) (given_by (i - 1))) (same_key _ _ same)
+
+  pub given_passed : (i : ℕ) (binding : Binding) → 0 < i → i ≤ length trail → binding ≡ get_or trail (i - 1) binding → (binding.variable ≡ variable → ⊥) → given_by (i - 1) ≡ given_by i
+  given_passed i binding some within read apart = sym (given_step i binding some within read ∙ ap (λ b. cond b (Some binding.term.now) (given_by (i - 1))) (other_key _ _ apart))
+
+  pub given_start : (i : ℕ) → i ≤ 0 → given_by i ≡ get start variable
+  given_start i l = let e : i ≡ 0 = omega arith in rw e refl
+
+-- ---- lists that grow
+
+pub Grew-same : {X : Type 0} (a : List X) → Grew a a
+Grew-same a = ([], sym (append-nil a))
+
+pub Grew-then : {X : Type 0} (a b c : List X) → Grew a b → Grew b c → Grew a c
+Grew-then a b c (more, p) (later, q) = (more ++ later, q ∙ ap (λ z. z ++ later) p ∙ append_assoc a more later)
+
+pub Grew-take : {X : Type 0} (n : ℕ) (a b : List X) → length a ≡ n → Grew a b → take n b ≡ a
+Grew-take n a b l (more, p) = ap (take n) p ∙ take_at a more n l
+
+-- what a part that failed is cut back to
+pub undone : {X : Type 0} (n : ℕ) (old now mid new cut : List X) → length old ≡ n → now ≡ old → Grew now mid → new ≡ mid → cut ≡ take n new → cut ≡ old
+undone n old now mid new cut l same grew missed is_cut =
+    is_cut ∙ ap (take n) missed ∙ Grew-take n now mid (ap length same ∙ l) grew ∙ same
+
+-- ---- attempts
+
+pub Tries-weaker : (start : Assignment) (old new : List Binding) (outcome : Bool) (P Q : (Term → Term) → Type 0) → ((m : Term → Term) → P m ↔ Q m) → Tries start old new outcome P → Tries start old new outcome Q
+Tries-weaker start old new true P Q same tried = (
+  tried.0,
+  λ m keeps. (
+    λ extends. let both = (tried.1 m keeps).0 extends in (both.0, (same m).0 both.1),
+    λ both. (tried.1 m keeps).1 (both.0, (same m).1 both.1),
+  ),
+)
+Tries-weaker start old new false P Q same tried = (tried.0, λ m keeps extends q. tried.1 m keeps extends ((same m).1 q))
+
+-- a property that every map has, or none
+pub Tries-decided : (start : Assignment) (trail : List Binding) (outcome : Bool) (Given : Type 0) (P : (Term → Term) → Type 0) → IsTrue outcome ↔ Given → ((m : Term → Term) → Keeps Const m → Extends m (with_trail start trail) → P m ↔ Given) → Tries start trail trail outcome P
+Tries-decided start trail true Given P test same =
+    (Grew-same trail, λ m keeps. (λ extends. (extends, (same m keeps extends).1 (test.0 refl)), λ both. both.0))
+Tries-decided start trail false Given P test same =
+    (refl, λ m keeps extends p. false≢true (test.1 ((same m keeps extends).0 p)))
+
+pub Tries-constant : (start : Assignment) (trail : List Binding) (outcome : Bool) (term target : Term) → IsConstant term → IsTrue outcome ↔ (term ≡ target) → Tries start trail trail outcome (λ m. m term ≡ target)
+Tries-constant start trail outcome term target constant test =
+    Tries-decided start trail outcome (term ≡ target) (λ m. m term ≡ target) test
+    (λ m keeps extends. let stays : m term ≡ term = ap m constant.1 ∙ keeps constant.0 ∙ sym constant.1 in (λ e. sym stays ∙ e, λ e. stays ∙ e))
+
+pub Tries-bound : (start : Assignment) (trail : List Binding) (outcome : Bool) (term target bound : Term) (variable : ℕ) → term ≡ Plain variable → get (with_trail start trail) variable ≡ Some bound → IsTrue outcome ↔ (bound ≡ target) → Tries start trail trail outcome (λ m. m term ≡ target)
+Tries-bound start trail outcome term target bound variable plain known test =
+    Tries-decided start trail outcome (bound ≡ target) (λ m. m term ≡ target) test
+    (λ m keeps extends. let value : m term ≡ bound = ap m plain ∙ extends variable bound known in (λ e. sym value ∙ e, λ e. value ∙ e))
+
+pub Tries-pushed : (start : Assignment) (old new : List Binding) (binding : Binding) (term target : Term) → term ≡ Plain binding.variable → binding.term.now ≡ target → get (with_trail start old) binding.variable ≡ None → new ≡ old ++ binding ∷ [] → Tries start old new true (λ m. m term ≡ target)
+Tries-pushed start old new binding term target plain value none grown = (
+  (binding ∷ [], grown),
+  λ m keeps.
+      let step = Extends-insert (with_trail start old) binding.variable binding.term.now m none in
+      let is_new : with_trail start new ≡ insert (with_trail start old) binding.variable binding.term.now = ap (with_trail start) grown ∙ with_trail-push start old binding in (
+        λ extends. let both = step.0 (subst (Extends m) is_new extends) in (both.0, ap m plain ∙ both.1 ∙ value),
+        λ both. subst (Extends m) (sym is_new) (step.1 (both.0, sym (ap m plain) ∙ both.1 ∙ sym value)),
+      ),
+)
+
+-- ---- rows
+
+-- two rows agree up to i + 1 where they agree up to i and at i
+row_next : (m : Term → Term) (xs ys : List Term) (i : ℕ) (x y : Term) → i < length xs → i < length ys → x ≡ get_or xs i x → y ≡ get_or ys i y → (map m (take (i + 1) xs) ≡ take (i + 1) ys) ↔ ((map m (take i xs) ≡ take i ys) × (m x ≡ y))
+row_next m xs ys i x y l k read_x read_y =
+    let left : map m (take (i + 1) xs) ≡ map m (take i xs) ++ m x ∷ [] = ap (map m) (take_more xs i x l ∙ ap (λ z. take i xs ++ z ∷ []) (sym read_x)) ∙ Rattle.std.proofs.lemmas.List.map_push m (take i xs) x in
+    let right : take (i + 1) ys ≡ take i ys ++ y ∷ [] = take_more ys i y k ∙ ap (λ z. take i ys ++ z ∷ []) (sym read_y) in (
+      λ e. Rattle.std.proofs.lemmas.List.same_from_push (map m (take i xs)) (take i ys) (m x) y (sym left ∙ e ∙ right),
+      λ both. left ∙ ap (λ z. z ++ m x ∷ []) both.0 ∙ ap (λ z. take i ys ++ z ∷ []) both.1 ∙ sym right,
+    )
+
+module _ (start : Assignment) (old now : List Binding) (xs ys : List Term) (i : ℕ) (x y : Term) (l : i < length xs) (k : i < length ys) (read_x : x ≡ get_or xs i x) (read_y : y ≡ get_or ys i y) where
+  pub Narrows-row : (new : List Binding) → Narrows (with_trail start old) (with_trail start now) (λ m. map m (take i xs) ≡ take i ys) → Narrows (with_trail start now) (with_trail start new) (λ m. m x ≡ y) → Narrows (with_trail start old) (with_trail start new) (λ m. map m (take (i + 1) xs) ≡ take (i + 1) ys)
+  Narrows-row new before here m keeps =
+      let next = row_next m xs ys i x y l k read_x read_y in (
+        λ extends. let h = (here m keeps).0 extends in let b = (before m keeps).0 h.0 in (b.0, next.1 (b.1, h.1)),
+        λ both. let n = next.0 both.1 in (here m keeps).1 ((before m keeps).1 (both.0, n.0), n.1),
+      )
+
+  pub Excludes-row : Narrows (with_trail start old) (with_trail start now) (λ m. map m (take i xs) ≡ take i ys) → Excludes (with_trail start now) (λ m. m x ≡ y) → Excludes (with_trail start old) (λ m. map m xs ≡ ys)
+  Excludes-row before here m keeps extends whole =
+      let cut : map m (take (i + 1) xs) ≡ take (i + 1) ys = sym (take-map m (i + 1) xs) ∙ ap (take (i + 1)) whole in
+      let next = (row_next m xs ys i x y l k read_x read_y).0 cut in
+      here m keeps ((before m keeps).1 (extends, next.0)) next.1
+
+pub Narrows-whole : (start : Assignment) (old new : List Binding) (xs ys : List Term) (i : ℕ) → length xs ≤ i → length ys ≤ i → Narrows (with_trail start old) (with_trail start new) (λ m. map m (take i xs) ≡ take i ys) → Narrows (with_trail start old) (with_trail start new) (λ m. map m xs ≡ ys)
+Narrows-whole start old new xs ys i l k before m keeps =
+    let same : (map m (take i xs) ≡ take i ys) ↔ (map m xs ≡ ys) = (
+      λ e. ap (map m) (sym (take_all i xs l)) ∙ e ∙ take_all i ys k,
+      λ e. ap (map m) (take_all i xs l) ∙ e ∙ sym (take_all i ys k),
+    ) in (
+      λ extends. let both = (before m keeps).0 extends in (both.0, same.0 both.1),
+      λ both. (before m keeps).1 (both.0, same.1 both.1),
+    )
+
+pub Narrows-nothing : (start : Assignment) (trail : List Binding) (xs ys : List Term) → Narrows (with_trail start trail) (with_trail start trail) (λ m. map m (take 0 xs) ≡ take 0 ys)
+Narrows-nothing start trail xs ys m keeps = (λ extends. (extends, refl), λ both. both.0)
+
+-- rows of different lengths have no images alike
+pub Excludes-lengths : (known : Assignment) (xs ys : List Term) → (length xs ≡ length ys → ⊥) → Excludes known (λ m. map m xs ≡ ys)
+Excludes-lengths known xs ys apart m keeps extends e = apart (sym (Rattle.std.proofs.lemmas.List.length-map xs m) ∙ ap length e)
+
+-- ---- atoms
+
+pub Tries-atom : (start : Assignment) (old new : List Binding) (outcome : Bool) (atom fact : Fact Term) → atom.relation ≡ fact.relation → Tries start old new outcome (λ m. map m atom.terms ≡ fact.terms) → Tries start old new outcome (λ m. image m atom ≡ fact)
+Tries-atom start old new outcome atom fact same =
+    Tries-weaker start old new outcome (λ m. map m atom.terms ≡ fact.terms) (λ m. image m atom ≡ fact) (λ m. (
+      λ e. ap (λ (r : ℕ). record { relation = r; terms = map m atom.terms }) same ∙ ap (λ (row : List Term). record { relation = fact.relation; terms = row }) e,
+      λ e. ap (λ (f : Fact Term). f.terms) e,
+    ))
+
+-- atoms of different relations have no images alike
+pub Excludes-relations : (known : Assignment) (atom fact : Fact Term) → (atom.relation ≡ fact.relation → ⊥) → Excludes known (λ m. image m atom ≡ fact)
+Excludes-relations known atom fact apart m keeps extends e = apart (ap (λ (f : Fact Term). f.relation) e)
