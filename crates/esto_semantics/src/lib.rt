@@ -3,6 +3,7 @@
 //! the contracts of public functions here.
 #![tactic(auto)]
 
+pub mod containment;
 mod fact;
 
 pub use fact::{Atom, Atoms, Database, Fact, Facts, Value};

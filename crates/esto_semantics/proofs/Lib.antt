@@ -1,0 +1,6 @@
+pub mod ContainsLemmas
+pub mod FactLemmas
+pub mod TermLemmas
+pub mod RenamingLemmas
+pub mod CanonicalLemmas
+pub mod ContainmentLemmas
