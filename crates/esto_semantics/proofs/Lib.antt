@@ -4,3 +4,4 @@ pub mod TermLemmas
 pub mod RenamingLemmas
 pub mod CanonicalLemmas
 pub mod ContainmentLemmas
+pub mod WellFormedLemmas

@@ -85,6 +85,14 @@ module _ {V : Type 0} (naming : Naming V) (things : List V) where
   pub value_of-kept : (text : List ℕ) → IsKept naming text → value (naming.constant text) ≡ Text text
   value_of-kept text kept = ap (λ found. value_step found (place naming.same things (naming.constant text))) kept
 
+  -- a thing that is named by a text has it
+  pub value_of-Text : (it : V) (text : List ℕ) → value it ≡ Text text → naming.text_of it ≡ Some text
+  value_of-Text it text is = by (naming.text_of it) is
+    where
+      by : (found : Option (List ℕ)) → value_step found (place naming.same things it) ≡ Text text → found ≡ Some text
+      by (Some own) is = cc
+      by None is = cc
+
   -- the way back undoes the way there
   pub thing_of-value_of : (it : V) → Contains things it → thing (value it) ≡ it
   thing_of-value_of it inside = by (naming.text_of it) refl
@@ -173,6 +181,6 @@ module _ {V : Type 0} (naming : Naming V) (things : List V) where
               (Sends-then found.0 value head facts (renamed naming things facts) found.3 fact_there),
         )
     meets_there (equality body left right) shape kept meets = λ m keeps sends.
-        sym (at_side m keeps body sends left kept.0 shape.1)
+        sym (at_side m keeps body sends left kept.0 shape.left_fixed)
         ∙ ap value (meets (λ term. thing (m term)) (back_keeps m keeps body sends) (back_sends m keeps body sends))
-        ∙ at_side m keeps body sends right kept.1 shape.2
+        ∙ at_side m keeps body sends right kept.1 shape.right_fixed

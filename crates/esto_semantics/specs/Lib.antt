@@ -11,3 +11,4 @@ pub mod Access
 pub mod Listed
 pub mod WellFormed
 pub mod Sides
+pub mod Restriction

@@ -5,5 +5,6 @@
 
 pub mod containment;
 mod fact;
+pub mod well_formed;
 
 pub use fact::{Atom, Atoms, Database, Fact, Facts, Value};
