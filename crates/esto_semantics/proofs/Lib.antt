@@ -5,3 +5,4 @@ pub mod RenamingLemmas
 pub mod CanonicalLemmas
 pub mod ContainmentLemmas
 pub mod WellFormedLemmas
+pub mod BindingLemmas

@@ -12,3 +12,4 @@ pub mod Listed
 pub mod WellFormed
 pub mod Sides
 pub mod Restriction
+pub mod Bindings

@@ -3,8 +3,10 @@
 //! the contracts of public functions here.
 #![tactic(auto)]
 
+mod answers;
 pub mod containment;
 mod fact;
 pub mod well_formed;
 
+pub use answers::answers_over;
 pub use fact::{Atom, Atoms, Database, Fact, Facts, Value};
