@@ -1,19 +1,19 @@
 -- Bindings that grow by one variable, by a row, by an atom and by a body.
-use Rattle.std.proofs.Common.{◌≡◌, ◌⊎◌, ◌↔◌, ◌<◌, ◌≤◌, ◌+◌, ◌==◌, inl, inr, zero, suc, ℕ, Bool, true, false, cond, eqb, List, [], ◌∷◌, ◌++◌, length, map, take, get_or, slice_get, Contains, Option, Some, None, MatchOption, add-one, refl, sym, ap, ◌∙◌, subst, arith}
+use Rattle.std.proofs.Common.{◌≡◌, ◌⊎◌, ◌↔◌, ◌<◌, ◌≤◌, ◌+◌, ◌==◌, inl, inr, zero, suc, ℕ, Bool, true, false, cond, List, [], ◌∷◌, ◌++◌, length, map, take, get_or, slice_get, Contains, Option, Some, None, MatchOption, add-one, refl, sym, ap, ◌∙◌, subst, arith}
 use Rattle.std.proofs.lemmas.Bool.Decides.{nat_tests}
 use Rattle.std.proofs.lemmas.List.{take_more, take_all, take-map}
 use Rattle.std.proofs.lemmas.List.Elements.{Contains-append_cases, Contains-append_left, Contains-append_right, Contains-push, Contains-push_cases}
 use Rattle.std.proofs.lemmas.Option.{slice_get-get_or}
 use Rattle.esto_term.specs.declared.term.Term.{Term}
-use Rattle.esto_term.specs.declared.term.Term.TheVariants.{Const, Plain, outs-Const, outs-Plain}
+use Rattle.esto_term.specs.declared.term.Term.TheVariants.{Plain, outs-Const, outs-Plain}
 use Rattle.esto_semantics.specs.Bindings.{value_at, value_of_level, valuation_of, Allows, Narrows, Excludes, Tries, AreExtended, AreMatches}
-use Rattle.esto_semantics.specs.Facts.{Database, image, Mentions}
-use Rattle.esto_semantics.specs.Maps.{IsFixedBy, Keeps, Sends}
+use Rattle.esto_semantics.specs.Facts.{Database, image}
+use Rattle.esto_semantics.specs.Maps.{IsFixedBy}
 use Rattle.esto_semantics.specs.Queries.{ConjunctiveQuery, IsQuery, IsAnswer}
 use Rattle.esto_semantics.specs.declared.answers.Binding.{Binding}
 use Rattle.esto_semantics.specs.declared.fact.Fact.{Fact}
 use Rattle.esto_semantics.specs.declared.fact.Value.{Value}
-use Rattle.esto_semantics.specs.declared.fact.Value.TheVariants.{Text, Node}
+use Rattle.esto_semantics.specs.declared.fact.Value.TheVariants.{Node}
 use Rattle.esto_semantics.proofs.ContainsLemmas.{Contains-at, Contains-nil, Contains-head, Contains-cases, Contains-map, Contains-map_from, map_agree, agree-from_map}
 
 -- ---- one variable

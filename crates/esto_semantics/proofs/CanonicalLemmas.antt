@@ -1,6 +1,6 @@
 -- The canonical database of a query: its body with each constant as its text, and every other term as the unnamed value of its
 -- first place among the query's terms.
-use Rattle.std.proofs.Common.{◌≡◌, List, ◌++◌, map, Contains, refl, sym, ap, ◌∙◌, subst}
+use Rattle.std.proofs.Common.{List, ◌++◌, map, Contains, sym, ◌∙◌}
 use Rattle.std.specs.List.{flat_map}
 use Rattle.std.proofs.lemmas.List.Elements.{Contains-append_left, Contains-append_right}
 use Rattle.esto_term.specs.declared.term.Term.{Term}

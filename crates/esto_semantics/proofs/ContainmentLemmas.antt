@@ -1,10 +1,8 @@
 -- Containment through universal instances, and the laws of containment and of answers.
-use Rattle.std.proofs.Common.{◌≡◌, ◌↔◌, ℕ, List, [], map, Contains, refl, sym, ap, ◌∙◌}
-use Rattle.esto_term.specs.declared.term.Term.{Term}
+use Rattle.std.proofs.Common.{◌↔◌, ℕ, List, [], map, Contains, refl, sym, ap, ◌∙◌}
 use Rattle.esto_semantics.specs.Containment.{IsContained, IsSatisfiable}
 use Rattle.esto_semantics.specs.Facts.{Database}
 use Rattle.esto_semantics.specs.Instances.{MapsTo, IsFollowed, IsUniversalFor, IsFinished}
-use Rattle.esto_semantics.specs.Maps.{Keeps}
 use Rattle.esto_semantics.specs.Queries.{ConjunctiveQuery, IsAnswer, IsAnswerInto}
 use Rattle.esto_semantics.specs.Rules.{Rule, AreRules}
 use Rattle.esto_semantics.specs.Sides.{Side, over_datasets, over_fragments, IsAnswerOf}

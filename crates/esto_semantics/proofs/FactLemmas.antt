@@ -34,11 +34,6 @@ pub SendsInto-agree : {V W : Type 0} (m other : V → W) (facts : List (Fact V))
 SendsInto-agree m other facts Holds agree sends fact inside =
     subst Holds (image_agree m other fact (λ thing in_fact. agree thing (fact, inside, in_fact))) (sends fact inside)
 
--- each image of the facts that holds is among what holds elsewhere
-pub SendsInto-among : {V W : Type 0} (m : V → W) (facts : List (Fact V)) (Holds Others : Fact W → Type 0) → ((fact : Fact V) → Contains facts fact → Holds (image m fact) → Others (image m fact))
-    → SendsInto m facts Holds → SendsInto m facts Others
-SendsInto-among m facts Holds Others among sends fact inside = among fact inside (sends fact inside)
-
 pub Sends-images : {V W : Type 0} (m : V → W) (facts : List (Fact V)) → Sends m facts (map (image m) facts)
 Sends-images m facts fact inside = Contains-map (image m) facts fact inside
 

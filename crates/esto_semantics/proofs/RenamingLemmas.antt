@@ -1,11 +1,11 @@
 -- Things named by values: each that has a text by that text, and every other by its first place in a list. What facts say of the
 -- things, the facts over the values say of the values.
-use Rattle.std.proofs.Common.{◌≡◌, inl, inr, zero, suc, ℕ, Bool, true, false, cond, List, [], ◌∷◌, map, Contains, slice_index_or, get_or, Some, None, Option, refl, sym, ap, ◌∙◌, subst}
+use Rattle.std.proofs.Common.{◌≡◌, inl, inr, suc, ℕ, Bool, true, false, cond, List, [], ◌∷◌, map, Contains, slice_index_or, get_or, Some, None, Option, refl, sym, ap, ◌∙◌, subst}
 use Rattle.std.specs.Bool.{Decides}
 use Rattle.esto_term.specs.declared.term.Term.{Term}
 use Rattle.esto_term.specs.declared.term.Term.TheVariants.{Const}
 use Rattle.esto_semantics.specs.Facts.{Database, image, Mentions}
-use Rattle.esto_semantics.specs.Maps.{Keeps, SendsInto, Sends, AgreeOn, IsFixedBy}
+use Rattle.esto_semantics.specs.Maps.{Keeps, Sends, IsFixedBy}
 use Rattle.esto_semantics.specs.Queries.{ConjunctiveQuery, IsAnswerInto}
 use Rattle.esto_semantics.specs.Rules.{Rule, tuple, equality, IsRule, MeetsInto, MeetsRule}
 use Rattle.esto_semantics.specs.declared.fact.Fact.{Fact}

@@ -1,8 +1,8 @@
 -- A database without the facts that aren't over a schema, and with each text that isn't UTF-8 renamed to an unnamed value, meets the
 -- same rules and gives the same answers.
-use Rattle.std.proofs.Common.{◌≡◌, ◌↔◌, ◌==◌, ℕ, Bool, true, false, cond, Option, Some, None, List, ◌++◌, length, map, Contains, slice_get, IsUtf8, refl, sym, ap, ◌∙◌, subst}
+use Rattle.std.proofs.Common.{◌≡◌, ◌↔◌, ◌==◌, ℕ, Bool, true, false, Option, Some, None, List, ◌++◌, length, map, Contains, slice_get, IsUtf8, refl, sym, ap, ◌∙◌, subst}
 use Rattle.std.specs.Bool.{Decides}
-use Rattle.std.specs.List.{filter, flat_map}
+use Rattle.std.specs.List.{flat_map}
 use Rattle.std.specs.Str.{bytes_eq, is_utf8}
 use Rattle.std.proofs.lemmas.Bool.Decides.{Decides-eqb}
 use Rattle.std.proofs.lemmas.List.{length-map}
@@ -13,7 +13,7 @@ use Rattle.esto_term.specs.declared.term.Term.{Term}
 use Rattle.esto_term.specs.declared.term.Term.TheVariants.{Const}
 use Rattle.esto_semantics.specs.Containment.{IsContained, IsSatisfiable}
 use Rattle.esto_semantics.specs.Facts.{Database, image, Mentions}
-use Rattle.esto_semantics.specs.Maps.{SendsInto, Sends}
+use Rattle.esto_semantics.specs.Maps.{Sends}
 use Rattle.esto_semantics.specs.Queries.{ConjunctiveQuery, IsAnswer, IsAnswerInto}
 use Rattle.esto_semantics.specs.Restriction.{is_over, has_columns, over_schema, AreRulesOver, IsSideOver, IsContainedOver, IsSatisfiableOver}
 use Rattle.esto_semantics.specs.Rules.{Rule, tuple, equality, AreRules, MeetsRule, Meets}
@@ -24,7 +24,7 @@ use Rattle.esto_semantics.specs.declared.fact.Fact.{Fact}
 use Rattle.esto_semantics.specs.declared.fact.Value.{Value}
 use Rattle.esto_semantics.specs.declared.fact.Value.TheVariants.{Text, Node}
 use Rattle.esto_semantics.proofs.ContainsLemmas.{Contains-at, Contains-flat, Contains-filter, Contains-filter_from, Contains-map_from}
-use Rattle.esto_semantics.proofs.FactLemmas.{SendsInto-among, Mentions-images}
+use Rattle.esto_semantics.proofs.FactLemmas.{Mentions-images}
 use Rattle.esto_semantics.proofs.RenamingLemmas.{Naming, RuleIsKept, value_of, thing_of, renamed, value_of-Text, map-thing_of-value_of, answer_there, answer_back, fact_there, fact_back, meets_there}
 use Rattle.esto_semantics.proofs.ContainmentLemmas.{IsAnswerOf-grows, IsAnswerInto-grows}
 

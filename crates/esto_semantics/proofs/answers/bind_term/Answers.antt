@@ -1,7 +1,6 @@
 use Rattle.std.proofs.Common.{◌≡◌, ◌++◌, ◌∷◌, [], ap, None, ◌∙◌, sym}
 use Rattle.std.specs.Option.{option_copied}
 use Rattle.esto_semantics.specs.Bindings.{value_at}
-use Rattle.esto_semantics.specs.declared.answers.Binding.{Binding}
 use Rattle.esto_semantics.specs.declared.fact.Value.{Value}
 use Rattle.esto_semantics.proofs.BindingLemmas.{Narrows-push}
 use Rattle.esto_semantics.proofs.answers.bind_term.Goals as goal
