@@ -22,15 +22,18 @@ pub fn universal_instances_decide_containment()
 pub fn queries_are_their_own_instances()
     ensures universal { (query : ConjunctiveQuery) → IsUniversalFor [] query query }
     ensures finished { (query : ConjunctiveQuery) → IsFinished [] query }
-    ensures contained { (left right : ConjunctiveQuery) → IsContained [] (IsAnswer left) (IsAnswer right) ↔ MapsTo right left }
+    ensures contained { (left right : ConjunctiveQuery)
+        → IsContained [] (IsAnswer left) (IsAnswer right) ↔ MapsTo right left }
 {}
 
 /// A law: each query is contained in itself, and one that is contained in a second is contained in each third that the
 /// second is contained in, whether they are over the datasets or over fragments.
 pub fn containment_is_a_preorder()
-    ensures reflexive { (rules : List Rule) (side : Side) → IsContained rules (IsAnswerOf side) (IsAnswerOf side) }
+    ensures reflexive { (rules : List Rule) (side : Side)
+        → IsContained rules (IsAnswerOf side) (IsAnswerOf side) }
     ensures transitive { (rules : List Rule) (left middle right : Side)
-        → IsContained rules (IsAnswerOf left) (IsAnswerOf middle) → IsContained rules (IsAnswerOf middle) (IsAnswerOf right)
+        → IsContained rules (IsAnswerOf left) (IsAnswerOf middle)
+        → IsContained rules (IsAnswerOf middle) (IsAnswerOf right)
         → IsContained rules (IsAnswerOf left) (IsAnswerOf right) }
 {}
 

@@ -17,7 +17,8 @@ pub fn facts_outside_a_schema_do_not_count()
     ensures rules { (schema : List ℕ) (rules : List Rule) (database : Database)
         → AreRulesOver schema rules → Meets rules database ↔ Meets rules (over_schema schema database) }
     ensures answers { (schema : List ℕ) (side : Side) (database : Database) (row : List Value)
-        → IsSideOver schema side → IsAnswerOf side database row ↔ IsAnswerOf side (over_schema schema database) row }
+        → IsSideOver schema side
+        → IsAnswerOf side database row ↔ IsAnswerOf side (over_schema schema database) row }
 {}
 
 /// A law: for rules and queries over a schema, containment under the rules over all databases is containment over the
@@ -25,7 +26,8 @@ pub fn facts_outside_a_schema_do_not_count()
 pub fn well_formed_databases_suffice()
     ensures contained { (schema : List ℕ) (rules : List Rule) (left right : Side)
         → AreRules rules → AreRulesOver schema rules → IsSideOver schema left → IsSideOver schema right
-        → IsContained rules (IsAnswerOf left) (IsAnswerOf right) ↔ IsContainedOver schema rules (IsAnswerOf left) (IsAnswerOf right) }
+        → IsContained rules (IsAnswerOf left) (IsAnswerOf right)
+        ↔ IsContainedOver schema rules (IsAnswerOf left) (IsAnswerOf right) }
     ensures satisfiable { (schema : List ℕ) (rules : List Rule) (query : ConjunctiveQuery)
         → AreRules rules → AreRulesOver schema rules → IsQueryOver schema query
         → IsSatisfiable rules query ↔ IsSatisfiableOver schema rules query }
