@@ -2,6 +2,7 @@
 ghost use Rattle.std.specs.Prelude.{◌≡◌, ◌<◌, ◌≤◌, ◌+◌, ◌^◌, length, take, None, IfOk, IfSome};
 ghost use Rattle.esto_ports.specs.Fetch.{Fetches};
 ghost use Rattle.esto_ports.specs.FolderShelf.{CountsFetch};
+ghost use Rattle.esto_ports.specs.declared.folder_shelf.ReadError.TheVariants as read;
 
 use crate::ports::{Shelf, ShelfError};
 use esto_term::{Bytes, OutOfMemory, Text};
@@ -43,6 +44,8 @@ enum ReadError {
 }
 
 impl From<OutOfMemory> for ReadError {
+    ghost from_gives = { λ _ e. e ≡ read.OutOfMemory };
+
     fn from(_: OutOfMemory) -> ReadError {
         ReadError::OutOfMemory
     }

@@ -58,7 +58,8 @@ pub trait Shelf {
     ghost faults: { Self → ℕ };
 
     /// The bytes of the file of that name, which are at most `limit`. Failed comes only where the count of faults
-    /// rose. TooLong comes only where the file is longer than `limit`.
+    /// rose. Where the files are told, TooLong comes exactly where the fetch isn't at a fault and the file is longer than
+    /// `limit`; want of memory aside.
     fn fetch(&mut self, alloc: Global, name: &Text, limit: u64) -> Result<Bytes, ShelfError>
         requires { limit < 2 ^ 32 }
         ensures answer { Fetches (files self.old) name.now limit (faults self.old) (faults self.new) result }
