@@ -51,11 +51,12 @@ impl From<OutOfMemory> for ReadError {
     }
 }
 
-// Reads to the end, or so many bytes. Each turn takes at least one byte. Where the reader's bytes are known, it
-// gives the first of them.
+// Reads to the end, or so many bytes. Each turn takes at least one byte. Where the reader's bytes are known,
+// it gives the first of them.
 fn read_up_to<F: Read>(alloc: Global, file: &mut F, most: usize) -> Result<Bytes, ReadError>
     ensures within { IfOk result (λ bytes. length bytes ≤ most) }
-    ensures first { IfOk result (λ bytes. IfSome (F.remaining file.old) (λ rest. bytes ≡ take most rest)) }
+    ensures first { IfOk result (λ bytes.
+        IfSome (F.remaining file.old) (λ rest. bytes ≡ take most rest)) }
 {
     let mut bytes = Bytes::new(alloc);
     let mut buffer = [0u8; 4096];
