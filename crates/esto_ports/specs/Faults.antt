@@ -1,0 +1,14 @@
+-- Counts of faults and of calls.
+use Rattle.std.specs.Prelude.{◌≡◌, ℕ, ◌+◌, ◌-◌, ◌^◌, ◌<◌, min, ◌⊎◌}
+
+-- The last value of a count, at which it stays.
+abbrev pub last_count : ℕ
+last_count = 2 ^ 64 - 1
+
+-- A count rose: it is greater than before, or stands at its last value.
+abbrev pub Rose : ℕ → ℕ → Type 0
+Rose before now = (before < now) ⊎ (now ≡ last_count)
+
+-- The next value of a count.
+abbrev pub next_count : ℕ → ℕ
+next_count n = min (n + 1) last_count

@@ -1,0 +1,54 @@
+-- A shelf in memory.
+use Rattle.std.specs.Prelude.{◌≡◌, ℕ, ◌+◌, ◌<◌, ◌≤◌, Bool, true, false, ◌||◌, ◌==◌, if◌then◌else◌, is_none, List, length, Some, Result, Ok, Err, refl}
+use Rattle.std.specs.Ordering.{nat_cmp}
+use Rattle.std.specs.Cmp.Lexicographic.{slice_cmp}
+use Rattle.std.specs.List.{list_any}
+use Rattle.std.specs.Coded.{Coded, code_by, coded×, coded_ℕ, coded_list}
+use Rattle.std.specs.FinMap as map
+use Rattle.esto_ports.specs.Files.{Files}
+use Rattle.esto_ports.specs.Faults.{next_count}
+use Rattle.esto_ports.specs.declared.ports.ShelfError.{ShelfError}
+use Rattle.esto_ports.specs.declared.ports.ShelfError.TheVariants.{Failed, TooLong, OutOfMemory}
+
+-- Its files, the calls that are to fail, and how many calls and faults there were.
+pub record ShelfState : Type 0 where
+  pub files : Files
+  pub fails : List ℕ
+  pub calls : ℕ
+  pub faults : ℕ
+
+-- The state as a value of a model.
+abbrev pub shelf_code : Coded ShelfState
+shelf_code =
+    code_by (Files × (List ℕ × (ℕ × ℕ))) (coded× (map.code {R = slice_cmp nat_cmp} (coded_list coded_ℕ) (coded_list coded_ℕ)) (coded× (coded_list coded_ℕ) (coded× coded_ℕ coded_ℕ)))
+    (λ s. (s.files, (s.fails, (s.calls, s.faults)))) (λ p. record { files = p.0; fails = p.1.0; calls = p.1.1.0; faults = p.1.1.1 }) (λ _. refl)
+
+-- A call of that number fails: it is listed, or there is no such file.
+abbrev pub fails_at : Files → List ℕ → ℕ → List ℕ → Bool
+fails_at files fails call name = list_any (λ c. c == call) fails || is_none (map.get files name)
+
+-- The call doesn't fail, and the file of that name has these bytes.
+abbrev pub HasFile : Files → List ℕ → ℕ → List ℕ → List ℕ → Type 0
+HasFile files fails call name bytes = (fails_at files fails call name ≡ false) × (map.get files name ≡ Some bytes)
+
+-- The next call fails.
+abbrev pub is_failing : ShelfState → List ℕ → Bool
+is_failing s name = fails_at s.files s.fails (next_count s.calls) name
+
+-- The state after a fetch of that name: one more call, and one more fault where it fails.
+abbrev pub after_fetch : ShelfState → List ℕ → ShelfState
+after_fetch s name = record s { calls = next_count s.calls; faults = if is_failing s name then next_count s.faults else s.faults }
+
+-- Failed comes exactly where the call fails. Else the answer is the file, or that it is too long.
+abbrev pub AnswersFetch : ShelfState → List ℕ → ℕ → Result (List ℕ) ShelfError → Type 0
+AnswersFetch s name limit (Ok bytes) = (is_failing s name ≡ false) × (map.get s.files name ≡ Some bytes) × (length bytes ≤ limit)
+AnswersFetch s name limit (Err Failed) = is_failing s name ≡ true
+AnswersFetch s name limit (Err (TooLong read)) = (is_failing s name ≡ false) × (read ≡ limit + 1) × ((bytes : List ℕ) × (map.get s.files name ≡ Some bytes) × (limit < length bytes))
+AnswersFetch s name limit (Err OutOfMemory) = is_failing s name ≡ false
+
+-- A file's bytes are given where they are within the limit.
+abbrev pub GivesWithin : List ℕ → ℕ → Result (List ℕ) ShelfError → Type 0
+GivesWithin file limit (Ok bytes) = (bytes ≡ file) × (length file ≤ limit)
+GivesWithin file limit (Err Failed) = ⊥
+GivesWithin file limit (Err (TooLong read)) = (read ≡ limit + 1) × (limit < length file)
+GivesWithin file limit (Err OutOfMemory) = Unit {0}
