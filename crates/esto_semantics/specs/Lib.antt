@@ -10,3 +10,4 @@ pub mod Sets
 pub mod Access
 pub mod Listed
 pub mod WellFormed
+pub mod SetLaws

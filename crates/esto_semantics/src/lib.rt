@@ -4,5 +4,7 @@
 #![tactic(auto)]
 
 mod fact;
+mod sets;
 
 pub use fact::{Atom, Atoms, Database, Fact, Facts, Value};
+pub use sets::{all_sets_are_listed, minimal_sets_cover, sets_are_ordered};
