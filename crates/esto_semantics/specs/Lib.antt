@@ -11,3 +11,4 @@ pub mod Access
 pub mod Listed
 pub mod WellFormed
 pub mod SetLaws
+pub mod AccessLaws

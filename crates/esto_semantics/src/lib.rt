@@ -3,8 +3,10 @@
 //! the contracts of public functions here.
 #![tactic(auto)]
 
+mod access;
 mod fact;
 mod sets;
 
+pub use access::{executable_sets_unite, rewritings_without_inputs, stated_orders_exist};
 pub use fact::{Atom, Atoms, Database, Fact, Facts, Value};
 pub use sets::{all_sets_are_listed, minimal_sets_cover, sets_are_ordered};

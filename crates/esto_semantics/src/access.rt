@@ -1,0 +1,35 @@
+//! Laws of executable sets, accessible parts and stated orders.
+ghost use Rattle.esto_semantics.specs.AccessLaws.{NoneIsExecutable, UnionIsExecutable, PartExists, PartIsOne, ExecutableIsOwnPart, PartRises};
+ghost use Rattle.esto_semantics.specs.AccessLaws.{StatedOrderExists, StatedOrderIsOne, NumbersAreStated, RewritingsNeedNoOrder};
+
+use esto_term::terms_are_ordered;
+
+/// A law: the set of no atoms is executable, and so is the union of two executable sets. So every set has an
+/// accessible part, and only one. It is the set itself exactly where the set is executable, and it grows with
+/// the set.
+pub fn executable_sets_unite()
+    ensures none { NoneIsExecutable }
+    ensures union { UnionIsExecutable }
+    ensures part { PartExists }
+    ensures one { PartIsOne }
+    ensures own { ExecutableIsOwnPart }
+    ensures rises { PartRises }
+{
+    terms_are_ordered();
+}
+
+/// A law: every executable set has a stated order, and no set has two.
+pub fn stated_orders_exist()
+    ensures exist { StatedOrderExists }
+    ensures one { StatedOrderIsOne }
+{
+    terms_are_ordered();
+}
+
+/// A law: where no column of a fragment is an input, the stated order of any set of the atoms is the rising
+/// list of its numbers. So every set is executable, and a safe candidate that is equivalent to the query is a
+/// rewriting.
+pub fn rewritings_without_inputs()
+    ensures stated { NumbersAreStated }
+    ensures rewritings { RewritingsNeedNoOrder }
+{}
