@@ -194,7 +194,7 @@ decided_input patterns fragment column = go (slice_get patterns fragment) refl
         at (Some false) d = inr (λ h. false≢true (same_Some false true (sym d ∙ ap (λ p. slice_get p column) (same_Some pattern h.0 (sym e ∙ h.1)) ∙ h.2)))
 
 module _ (exact : (term other : Term) → (term_cmp term other ≡ Equal) ↔ (term ≡ other)) where
-  decided_same : (term other : Term) → Decided (term ≡ other)
+  pub decided_same : (term other : Term) → Decided (term ≡ other)
   decided_same term other = go (term_cmp term other) refl
     where
       go : (order : Ordering) → term_cmp term other ≡ order → Decided (term ≡ other)

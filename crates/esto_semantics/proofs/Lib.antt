@@ -1,3 +1,4 @@
 pub mod ChoiceLemmas
 pub mod SetLemmas
 pub mod AccessLemmas
+pub mod ListedLemmas

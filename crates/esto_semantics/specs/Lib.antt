@@ -12,3 +12,4 @@ pub mod Listed
 pub mod WellFormed
 pub mod SetLaws
 pub mod AccessLaws
+pub mod ListedLaws
