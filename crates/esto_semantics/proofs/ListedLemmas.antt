@@ -14,7 +14,7 @@ use Rattle.esto_term.specs.declared.term.Term.{Term}
 use Rattle.esto_semantics.specs.declared.fact.Fact.{Fact}
 use Rattle.esto_semantics.specs.Queries.{ConjunctiveQuery}
 use Rattle.esto_semantics.specs.Rules.{Rule}
-use Rattle.esto_semantics.specs.Sets.{Has, Within, set_cmp, IsMinimal, AreMinimal, HaveCount, AreInOrder, all_sets}
+use Rattle.esto_semantics.specs.Sets.{Has, Within, set_cmp, IsMinimal, AreMinimal, HaveOneCount, AreInOrder, all_sets}
 use Rattle.esto_semantics.specs.Listed.{chosen, IsRewriting, IsListed, AreListed, IsWeight, IsPick}
 use Rattle.esto_semantics.specs.ListedLaws.{AreRewritings, TellsRewritings, TestedAreRewritings, ListedAreMinimal, ListedExist, ListedIsOne, ListedCover, NoneIsListed, ChosenAreNamed, WeightExists, WeightRises, WeightIsOne, WeightIsSum, PickExists, PickIsOne, PickWeighsLeast}
 use Rattle.esto_semantics.proofs.ChoiceLemmas.{Decided, decided_below, contains_none, contains_head, contains_tail, contains_split, kept, pairs_head, pairs_tail, pairs_cons}
@@ -29,52 +29,63 @@ contains_filter {A} test (x ∷ xs) z = go (contains_filter test xs z) (test x) 
   where
     go : (Contains (filter test xs) z ↔ (Contains xs z × (test z ≡ true))) → (passes : Bool) → test x ≡ passes → Contains (cond passes (x ∷ filter test xs) (filter test xs)) z ↔ (Contains (x ∷ xs) z × (test z ≡ true))
     go rest true e = (
-        λ h. elim (contains_split x (filter test xs) z h) [
-            inl same ↦ (subst (Contains (x ∷ xs)) same (contains_head x xs), ap test (sym same) ∙ e)
-          | inr later ↦ (contains_tail x xs z (rest.0 later).0, (rest.0 later).1) ],
-        λ h. elim (contains_split x xs z h.0) [
-            inl same ↦ subst (Contains (x ∷ filter test xs)) same (contains_head x (filter test xs))
-          | inr later ↦ contains_tail x (filter test xs) z (rest.1 (later, h.1)) ])
+      λ h. elim (contains_split x (filter test xs) z h) [
+        | inl same ↦ (subst (Contains (x ∷ xs)) same (contains_head x xs), ap test (sym same) ∙ e)
+        | inr later ↦ (contains_tail x xs z (rest.0 later).0, (rest.0 later).1)
+      ],
+      λ h. elim (contains_split x xs z h.0) [
+        | inl same ↦ subst (Contains (x ∷ filter test xs)) same (contains_head x (filter test xs))
+        | inr later ↦ contains_tail x (filter test xs) z (rest.1 (later, h.1))
+      ],
+    )
     go rest false e = (
-        λ h. (contains_tail x xs z (rest.0 h).0, (rest.0 h).1),
-        λ h. elim (contains_split x xs z h.0) [
-            inl same ↦ absurd (false≢true (sym e ∙ ap test same ∙ h.1))
-          | inr later ↦ rest.1 (later, h.1) ])
+      λ h. (contains_tail x xs z (rest.0 h).0, (rest.0 h).1),
+      λ h. elim (contains_split x xs z h.0) [
+        | inl same ↦ absurd (false≢true (sym e ∙ ap test same ∙ h.1))
+        | inr later ↦ rest.1 (later, h.1)
+      ],
+    )
 
 pub tested_are_rewritings : TestedAreRewritings
 tested_are_rewritings rules views patterns query plan test tells set = (
-    λ h. let both = (contains_filter test (all_sets (length plan.body)) set).0 h in (tells set (((all_sets_are_listed (length plan.body)).0 set).0 both.0)).0 both.1,
-    λ rewriting. let l = rewriting.has_candidate.over in
-        (contains_filter test (all_sets (length plan.body)) set).1 (((all_sets_are_listed (length plan.body)).0 set).1 l, (tells set l).1 rewriting))
+  λ h. let both = (contains_filter test (all_sets (length plan.body)) set).0 h in (tells set (((all_sets_are_listed (length plan.body)).0 set).0 both.0)).0 both.1,
+  λ rewriting. let l = rewriting.has_candidate.over in
+      (contains_filter test (all_sets (length plan.body)) set).1 (((all_sets_are_listed (length plan.body)).0 set).1 l, (tells set l).1 rewriting),
+)
 
 -- ---- the list
 
 module _ (rules : List Rule) (views : List ConjunctiveQuery) (patterns : List (List Bool)) (query plan : ConjunctiveQuery) (family : List (List Bool))
     (exact : AreRewritings rules views patterns query plan family) where
-  counted : HaveCount (length plan.body) family
-  counted set h = ((exact set).0 h).has_candidate.over
+  counted : HaveOneCount family
+  counted set other h k = ((exact set).0 h).has_candidate.over ∙ sym ((exact other).0 k).has_candidate.over
 
   minimal_listed : (set : List Bool) → IsMinimal (Contains family) set ↔ IsListed rules views patterns query plan set
   minimal_listed set = (
-      λ h. ((exact set).0 h.0, λ other rewriting within. h.1 other ((exact other).1 rewriting) within),
-      λ h. ((exact set).1 h.0, λ other there within. h.1 other ((exact other).0 there) within))
+    λ h. ((exact set).0 h.0, λ other rewriting within. h.1 other ((exact other).1 rewriting) within),
+    λ h. ((exact set).1 h.0, λ other there within. h.1 other ((exact other).0 there) within),
+  )
 
   listed_minimal : (sets : List (List Bool)) → AreListed rules views patterns query plan sets ↔ (AreMinimal family sets × AreInOrder sets)
   listed_minimal sets = (
-      λ listed. (record {
-          exact = λ set. (λ h. (minimal_listed set).1 ((listed.exact set).0 h), λ h. (listed.exact set).1 ((minimal_listed set).0 h));
-          once = in_order_once sets listed.ordered;
-        }, listed.ordered),
-      λ h. record {
-        exact = λ set. (λ there. (minimal_listed set).0 (((h.0).exact set).0 there), λ listed. ((h.0).exact set).1 ((minimal_listed set).1 listed));
-        ordered = h.1;
-      })
+    λ listed. (
+      record {
+        exact = λ set. (λ h. (minimal_listed set).1 ((listed.exact set).0 h), λ h. (listed.exact set).1 ((minimal_listed set).0 h));
+        once = in_order_once sets listed.ordered;
+      },
+      listed.ordered,
+    ),
+    λ h. record {
+      exact = λ set. (λ there. (minimal_listed set).0 (((h.0).exact set).0 there), λ listed. ((h.0).exact set).1 ((minimal_listed set).1 listed));
+      ordered = h.1;
+    },
+  )
 
   list_exists : (sets : List (List Bool)) × AreListed rules views patterns query plan sets
-  list_exists = let found = minimal_exist (length plan.body) family counted in (found.0, (listed_minimal found.0).1 (found.1, found.2))
+  list_exists = let found = minimal_exist family counted in (found.0, (listed_minimal found.0).1 (found.1, found.2))
 
   covered : (set : List Bool) → IsRewriting rules views patterns query plan set → (listed : List Bool) × IsListed rules views patterns query plan listed × Within listed set
-  covered set rewriting = let found = minimal_within (length plan.body) family counted set ((exact set).1 rewriting) in (found.0, (minimal_listed found.0).0 found.1, found.2)
+  covered set rewriting = let found = minimal_within family counted set ((exact set).1 rewriting) in (found.0, (minimal_listed found.0).0 found.1, found.2)
 
 pub listed_are_minimal : ListedAreMinimal
 listed_are_minimal rules views patterns query plan family sets exact = listed_minimal rules views patterns query plan family exact sets
@@ -88,13 +99,14 @@ listed_cover = covered
 pub listed_is_one : ListedIsOne
 listed_is_one rules views patterns query plan sets others listed listed' =
     order_is_one sets others listed.ordered listed'.ordered
-        (λ set. (λ h. (listed'.exact set).1 ((listed.exact set).0 h), λ h. (listed.exact set).1 ((listed'.exact set).0 h)))
+    (λ set. (λ h. (listed'.exact set).1 ((listed.exact set).0 h), λ h. (listed.exact set).1 ((listed'.exact set).0 h)))
 
 pub none_is_listed : NoneIsListed
 none_is_listed rules views patterns query plan family sets exact listed = (
-    λ e set rewriting. let found = listed_cover rules views patterns query plan family exact set rewriting in
-        contains_none found.0 (subst (λ zs. Contains zs found.0) e ((listed.exact found.0).1 found.1)),
-    λ none. go sets (λ set h. none set ((listed.exact set).0 h).0))
+  λ e set rewriting. let found = listed_cover rules views patterns query plan family exact set rewriting in
+      contains_none found.0 (subst (λ zs. Contains zs found.0) e ((listed.exact found.0).1 found.1)),
+  λ none. go sets (λ set h. none set ((listed.exact set).0 h).0),
+)
   where
     go : (zs : List (List Bool)) → ((set : List Bool) → Contains zs set → ⊥) → zs ≡ []
     go [] none = refl
@@ -132,7 +144,7 @@ chosen_once [] atoms once = λ i j d l m. absurd (omega (arith, m))
 chosen_once (is_in ∷ set) [] once = λ i j d l m. absurd (omega (arith, m))
 chosen_once (true ∷ set) (first ∷ atoms) once =
     pairs_cons ◌≢◌ first (chosen set atoms) (λ atom h. let back = chosen_back set atoms atom h in pairs_head ◌≢◌ first atoms once atom (contains_at atoms back.0 atom back.2))
-        (chosen_once set atoms (pairs_tail ◌≢◌ first atoms once))
+    (chosen_once set atoms (pairs_tail ◌≢◌ first atoms once))
 chosen_once (false ∷ set) (first ∷ atoms) once = chosen_once set atoms (pairs_tail ◌≢◌ first atoms once)
 
 -- ---- sums over distinct items
@@ -147,9 +159,11 @@ module _ {A : Type 0} (f : A → ℕ) where
           → (rest : List A) × (sum_by f (y ∷ ys) ≡ f x + sum_by f rest) × ((z : A) → Contains (y ∷ ys) z → (x ≡ z → ⊥) → Contains rest z)
       go (inl e) more = (ys, sum_by-cons f y ys ∙ ap (λ z. f z + sum_by f ys) e, λ z there apart. elim (contains_split y ys z there) [ inl d ↦ absurd (apart (sym e ∙ d)) | inr later ↦ later ])
       go (inr later) more =
-          let out = more later in
-          (y ∷ out.0, omega (arith, sum_by-cons f y ys, sum_by-cons f y out.0, out.1),
-           λ z there apart. elim (contains_split y ys z there) [ inl d ↦ subst (Contains (y ∷ out.0)) d (contains_head y out.0) | inr after ↦ contains_tail y out.0 z (out.2 z after apart) ])
+          let out = more later in (
+            y ∷ out.0,
+            omega (arith, sum_by-cons f y ys, sum_by-cons f y out.0, out.1),
+            λ z there apart. elim (contains_split y ys z there) [ inl d ↦ subst (Contains (y ∷ out.0)) d (contains_head y out.0) | inr after ↦ contains_tail y out.0 z (out.2 z after apart) ],
+          )
 
   pub sum_among : (xs ys : List A) → AllPairs ◌≢◌ xs → ((z : A) → Contains xs z → Contains ys z) → sum_by f xs ≤ sum_by f ys
   sum_among [] ys once among = omega arith
@@ -167,12 +181,22 @@ distinct_of {A} same (x ∷ xs) = go (distinct_of same xs)
     go rest = at (decided_below (λ k. get_or rest.0 k x ≡ x) (length rest.0) (λ k l. same (get_or rest.0 k x) x))
       where
         at : Decided (Contains rest.0 x) → (distinct : List A) × AllPairs ◌≢◌ distinct × ((z : A) → Contains distinct z ↔ Contains (x ∷ xs) z)
-        at (inl there) = (rest.0, rest.1, λ z. (
+        at (inl there) = (
+          rest.0,
+          rest.1,
+          λ z. (
             λ h. contains_tail x xs z ((rest.2 z).0 h),
-            λ h. elim (contains_split x xs z h) [ inl e ↦ subst (Contains rest.0) e there | inr later ↦ (rest.2 z).1 later ]))
-        at (inr absent) = (x ∷ rest.0, pairs_cons ◌≢◌ x rest.0 (λ z h e. absent (subst (Contains rest.0) (sym e) h)) rest.1, λ z. (
+            λ h. elim (contains_split x xs z h) [ inl e ↦ subst (Contains rest.0) e there | inr later ↦ (rest.2 z).1 later ],
+          ),
+        )
+        at (inr absent) = (
+          x ∷ rest.0,
+          pairs_cons ◌≢◌ x rest.0 (λ z h e. absent (subst (Contains rest.0) (sym e) h)) rest.1,
+          λ z. (
             λ h. elim (contains_split x rest.0 z h) [ inl e ↦ subst (Contains (x ∷ xs)) e (contains_head x xs) | inr later ↦ contains_tail x xs z ((rest.2 z).0 later) ],
-            λ h. elim (contains_split x xs z h) [ inl e ↦ subst (Contains (x ∷ rest.0)) e (contains_head x rest.0) | inr later ↦ contains_tail x rest.0 z ((rest.2 z).1 later) ]))
+            λ h. elim (contains_split x xs z h) [ inl e ↦ subst (Contains (x ∷ rest.0)) e (contains_head x rest.0) | inr later ↦ contains_tail x rest.0 z ((rest.2 z).1 later) ],
+          ),
+        )
 
 same_lists : {A : Type 0} → ((x z : A) → Decided (x ≡ z)) → (xs ys : List A) → Decided (xs ≡ ys)
 same_lists same [] [] = inl refl
@@ -233,33 +257,46 @@ record IsBest (weights : List ℕ) (count place : ℕ) : Type 0 where
   first : (other : ℕ) → other < place → get_or weights place 0 < get_or weights other 0
 
 best_of : (weights : List ℕ) (count : ℕ) → (place : ℕ) × IsBest weights (suc count) place
-best_of weights zero = (0, record {
-  there = omega arith;
-  least = λ other l. (let e : 0 ≡ other = omega (arith, l) in let d = ap (λ k. get_or weights k 0) e in omega (arith, d));
-  first = λ other l. absurd (omega (arith, l));
-})
+best_of weights zero = (
+  0,
+  record {
+    there = omega arith;
+    least = λ other l. (let e : 0 ≡ other = omega (arith, l) in let d = ap (λ k. get_or weights k 0) e in omega (arith, d));
+    first = λ other l. absurd (omega (arith, l));
+  },
+)
 best_of weights (suc count) = go (best_of weights count) (cases_lt (get_or weights (suc count) 0) (get_or weights (best_of weights count).0 0))
   where
     go : (best : (place : ℕ) × IsBest weights (suc count) place)
         → (get_or weights (suc count) 0 < get_or weights best.0 0) ⊎ (get_or weights best.0 0 ≤ get_or weights (suc count) 0) → (place : ℕ) × IsBest weights (suc (suc count)) place
-    go best (inl less) = (suc count, record {
-      there = omega arith;
-      least = λ other l. elim (cases_order other (suc count)) [
-          inl e ↦ (let d = ap (λ k. get_or weights k 0) e in omega (arith, d))
-        | inr apart ↦ elim apart [
-              inl below ↦ (let low = (best.1).least other below in omega (arith, low, less))
-            | inr above ↦ absurd (omega (arith, above, l)) ] ];
-      first = λ other l. let low = (best.1).least other l in omega (arith, low, less);
-    })
-    go best (inr most) = (best.0, record {
-      there = omega (arith, (best.1).there);
-      least = λ other l. elim (cases_order other (suc count)) [
-          inl e ↦ (let d = ap (λ k. get_or weights k 0) e in omega (arith, d, most))
-        | inr apart ↦ elim apart [
-              inl below ↦ (best.1).least other below
-            | inr above ↦ absurd (omega (arith, above, l)) ] ];
-      first = (best.1).first;
-    })
+    go best (inl less) = (
+      suc count,
+      record {
+        there = omega arith;
+        least = λ other l. elim (cases_order other (suc count)) [
+          | inl e ↦ (let d = ap (λ k. get_or weights k 0) e in omega (arith, d))
+          | inr apart ↦ elim apart [
+            | inl below ↦ (let low = (best.1).least other below in omega (arith, low, less))
+            | inr above ↦ absurd (omega (arith, above, l))
+          ]
+        ];
+        first = λ other l. let low = (best.1).least other l in omega (arith, low, less);
+      },
+    )
+    go best (inr most) = (
+      best.0,
+      record {
+        there = omega (arith, (best.1).there);
+        least = λ other l. elim (cases_order other (suc count)) [
+          | inl e ↦ (let d = ap (λ k. get_or weights k 0) e in omega (arith, d, most))
+          | inr apart ↦ elim apart [
+            | inl below ↦ (best.1).least other below
+            | inr above ↦ absurd (omega (arith, above, l))
+          ]
+        ];
+        first = (best.1).first;
+      },
+    )
 
 pub pick_exists : PickExists
 pick_exists [] some = absurd (some refl)
@@ -269,10 +306,12 @@ pick_exists (weight ∷ weights) some =
 
 pub pick_is_one : PickIsOne
 pick_is_one weights place other pick pick' = elim (cases_order place other) [
-    inl e ↦ e
+  | inl e ↦ e
   | inr apart ↦ elim apart [
-        inl below ↦ (let first = pick'.first place below in let least = pick.least other pick'.there in absurd (omega (arith, first, least)))
-      | inr above ↦ (let first = pick.first other above in let least = pick'.least place pick.there in absurd (omega (arith, first, least))) ] ]
+    | inl below ↦ (let first = pick'.first place below in let least = pick.least other pick'.there in absurd (omega (arith, first, least)))
+    | inr above ↦ (let first = pick.first other above in let least = pick'.least place pick.there in absurd (omega (arith, first, least)))
+  ]
+]
 
 zip_at : {A B : Type 0} (R : A → B → Type 0) (xs : List A) (ys : List B) → AllZip R xs ys → (place : ℕ) (x : A) (d : B) → slice_get xs place ≡ Some x → (place < length ys) × R x (get_or ys place d)
 zip_at R [] ys all place x d e = absurd (none-some x e)

@@ -11,7 +11,7 @@ use Rattle.std.proofs.lemmas.Cmp.{nat_cmp_total, nat_list_cmp_total, on_total, t
 use Rattle.std.proofs.lemmas.List.{get_or_default}
 use Rattle.std.proofs.lemmas.List.Elements.{Contains-append_left, Contains-append_right, Contains-append_cases}
 use Rattle.std.proofs.lemmas.Map.Lookups.{exact_bytes}
-use Rattle.esto_semantics.specs.Sets.{Has, Within, numbers_from, numbers, set_cmp, IsMinimal, AreMinimal, united, HaveCount, AreInOrder, all_sets}
+use Rattle.esto_semantics.specs.Sets.{Has, Within, numbers_from, numbers, set_cmp, IsMinimal, AreMinimal, united, HaveOneCount, AreInOrder, all_sets}
 use Rattle.esto_semantics.specs.SetLaws.{EqualIsSame, NumbersTellSets, WithinBothWays, OrderIsOne, AllSetsAreListed, MinimalAreApart, MinimalCover, MinimalExist, MinimalAreOne}
 use Rattle.esto_semantics.proofs.ChoiceLemmas.{Decided, decided_both, decided_not, decided_below, contains_none, contains_head, contains_tail, contains_split, contains_map, map_contains, kept, pairs_append, pairs_map, pairs_cons, not_less_itself, one_list, in_order}
 
@@ -144,7 +144,7 @@ sets_have (suc count) [] e = absurd (omega (arith, e))
 sets_have (suc count) (true ∷ set) e = Contains-append_left _ _ _ (contains_map (λ zs. true ∷ zs) (all_sets count) set (sets_have count set (omega (arith, e))))
 sets_have (suc count) (false ∷ set) e = Contains-append_right _ _ _ (contains_map (λ zs. false ∷ zs) (all_sets count) set (sets_have count set (omega (arith, e))))
 
-pub sets_count : (count : ℕ) → HaveCount count (all_sets count)
+pub sets_count : (count : ℕ) (set : List Bool) → Contains (all_sets count) set → length set ≡ count
 sets_count zero set h = elim (contains_split [] [] set h) [ inl e ↦ sym (ap length e) | inr none ↦ absurd (contains_none set none) ]
 sets_count (suc count) set h = elim (Contains-append_cases (map (λ zs. true ∷ zs) (all_sets count)) (map (λ zs. false ∷ zs) (all_sets count)) set h) [
   | inl left ↦ (let back = map_contains (λ zs. true ∷ zs) (all_sets count) set left in sym (ap length back.2) ∙ ap suc (sets_count count back.0 back.1))
@@ -174,14 +174,14 @@ all_sets_are_listed count = (λ set. (sets_count count set, sets_have count set)
 
 -- ---- minimal sets
 
-pub decided_minimal : (count : ℕ) (family : List (List Bool)) → HaveCount count family → (set : List Bool) → Contains family set → Decided (IsMinimal (Contains family) set)
-decided_minimal count family counted set there =
+pub decided_minimal : (family : List (List Bool)) → HaveOneCount family → (set : List Bool) → Contains family set → Decided (IsMinimal (Contains family) set)
+decided_minimal family counted set there =
     elim (decided_below Smaller (length family) (λ k l. decided_both (decided_within (get_or family k []) set) (decided_not (decided_within set (get_or family k []))))) [
       | inl found ↦ inr (λ is_minimal. found.2.1 (
           let at : List Bool = get_or family found.0 [] in
           let e : at ≡ set = is_minimal.1 at (found.0, found.1, get_or_default family found.0 at [] found.1) found.2.0 in
           subst (λ z. Within set z) (sym e) (within_refl set)))
-      | inr none ↦ inl (there, λ other h w. within_same other set (counted other h ∙ sym (counted set there)) w (back other h w none))
+      | inr none ↦ inl (there, λ other h w. within_same other set (counted other set h there) w (back other h w none))
     ]
   where
     Smaller : ℕ → Type 0
@@ -230,15 +230,15 @@ lowest (set ∷ sets) start = go (decided_within set start) (lowest sets set) (l
     )
 
 -- each set of the family has a minimal one within it
-pub minimal_within : (count : ℕ) (family : List (List Bool)) → HaveCount count family → (set : List Bool) → Contains family set → (low : List Bool) × IsMinimal (Contains family) low × Within low set
-minimal_within count family counted set there =
+pub minimal_within : (family : List (List Bool)) → HaveOneCount family → (set : List Bool) → Contains family set → (low : List Bool) × IsMinimal (Contains family) low × Within low set
+minimal_within family counted set there =
     let found = lowest family set in
     let in_family : Contains family found.0 = elim (contains_split set family found.0 (found.1).there) [ inl e ↦ subst (Contains family) e there | inr h ↦ h ] in
-    (found.0, (in_family, λ other h w. within_same other found.0 (counted other h ∙ sym (counted found.0 in_family)) w ((found.1).least other h w)), (found.1).within)
+    (found.0, (in_family, λ other h w. within_same other found.0 (counted other found.0 h in_family) w ((found.1).least other h w)), (found.1).within)
 
 pub minimal_cover : MinimalCover
-minimal_cover count family minimal counted are set there =
-    let found = minimal_within count family counted set there in
+minimal_cover family minimal counted are set there =
+    let found = minimal_within family counted set there in
     (found.0, (are.exact found.0).1 found.1, found.2)
 
 pub minimal_are_apart : MinimalAreApart
@@ -248,9 +248,9 @@ pub minimal_are_one : MinimalAreOne
 minimal_are_one family minimal others are are' set = (λ h. (are'.exact set).1 ((are.exact set).0 h), λ h. (are.exact set).1 ((are'.exact set).0 h))
 
 pub minimal_exist : MinimalExist
-minimal_exist count family counted =
-    let some = kept (IsMinimal (Contains family)) family (decided_minimal count family counted) in
-    let ordered = in_order set_cmp set_cmp_total some.0 (λ set other h k. equal_sets set other (counted set ((some.1 set).0 h).0 ∙ sym (counted other ((some.1 other).0 k).0))) in (
+minimal_exist family counted =
+    let some = kept (IsMinimal (Contains family)) family (decided_minimal family counted) in
+    let ordered = in_order set_cmp set_cmp_total some.0 (λ set other h k. equal_sets set other (counted set other ((some.1 set).0 h).0 ((some.1 other).0 k).0)) in (
       ordered.0,
       record {
         exact = λ set. (λ h. ((some.1 set).0 ((ordered.1 set).0 h)).1, λ is_minimal. (ordered.1 set).1 ((some.1 set).1 (is_minimal.0, is_minimal)));

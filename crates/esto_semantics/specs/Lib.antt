@@ -11,5 +11,6 @@ pub mod Access
 pub mod Listed
 pub mod WellFormed
 pub mod SetLaws
+pub mod AccessSteps
 pub mod AccessLaws
 pub mod ListedLaws

@@ -1,7 +1,7 @@
 -- Laws of sets, their order, and the minimal sets of a family.
 use Rattle.std.specs.Prelude.{◌≡◌, ◌≢◌, ◌↔◌, ℕ, Bool, List, length, Contains, AllPairs}
 use Rattle.std.specs.declared.cmp.Ordering.TheVariants.{Equal}
-use Rattle.esto_semantics.specs.Sets.{Has, Within, set_cmp, AreMinimal, HaveCount, AreInOrder, all_sets}
+use Rattle.esto_semantics.specs.Sets.{Has, Within, set_cmp, AreMinimal, HaveOneCount, AreInOrder, all_sets}
 
 -- Two sets of one count compare Equal exactly where they are one set.
 abbrev pub EqualIsSame : Type 0
@@ -32,12 +32,12 @@ MinimalAreApart =
 -- Each set of a family of one count has a minimal one within it.
 abbrev pub MinimalCover : Type 0
 MinimalCover =
-    (count : ℕ) (family minimal : List (List Bool)) → HaveCount count family → AreMinimal family minimal
+    (family minimal : List (List Bool)) → HaveOneCount family → AreMinimal family minimal
     → (set : List Bool) → Contains family set → (kept : List Bool) × Contains minimal kept × Within kept set
 
 -- Each family of one count has its minimal sets, in order.
 abbrev pub MinimalExist : Type 0
-MinimalExist = (count : ℕ) (family : List (List Bool)) → HaveCount count family → (minimal : List (List Bool)) × AreMinimal family minimal × AreInOrder minimal
+MinimalExist = (family : List (List Bool)) → HaveOneCount family → (minimal : List (List Bool)) × AreMinimal family minimal × AreInOrder minimal
 
 -- Two lists of the minimal sets of a family have the same sets.
 abbrev pub MinimalAreOne : Type 0

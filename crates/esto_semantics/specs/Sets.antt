@@ -42,9 +42,9 @@ united [] other = other
 united (is_in ∷ rest) [] = is_in ∷ rest
 united (is_in ∷ rest) (is_in_other ∷ others) = (is_in || is_in_other) ∷ united rest others
 
--- Each set of the family is a set of numbers below the count.
-abbrev pub HaveCount : ℕ → List (List Bool) → Type 0
-HaveCount count family = (set : List Bool) → Contains family set → length set ≡ count
+-- The sets of the family are of one count.
+abbrev pub HaveOneCount : List (List Bool) → Type 0
+HaveOneCount family = (set other : List Bool) → Contains family set → Contains family other → length set ≡ length other
 
 -- The sets stand in the order of the list, each once.
 abbrev pub AreInOrder : List (List Bool) → Type 0
