@@ -46,6 +46,14 @@ united (is_in ∷ rest) (is_in_other ∷ others) = (is_in || is_in_other) ∷ un
 abbrev pub HaveOneCount : List (List Bool) → Type 0
 HaveOneCount family = (set other : List Bool) → Contains family set → Contains family other → length set ≡ length other
 
+-- No set of the family is a proper subset of the set.
+abbrev pub HasNoSmaller : List (List Bool) → List Bool → Type 0
+HasNoSmaller family set = (other : List Bool) → Contains family other → Within other set → Within set other
+
+-- Some set of the family is a subset of the set.
+abbrev pub Covers : List (List Bool) → List Bool → Type 0
+Covers family set = (other : List Bool) × Contains family other × Within other set
+
 -- The sets stand in the order of the list, each once.
 abbrev pub AreInOrder : List (List Bool) → Type 0
 AreInOrder sets = AllPairs (λ set other. set_cmp set other ≡ Less) sets
