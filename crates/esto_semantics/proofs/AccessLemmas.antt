@@ -1,5 +1,5 @@
 -- Executable sets, accessible parts and stated orders, by the run that takes the accessible atom of least number each time.
-use Rattle.std.proofs.Common.{◌≡◌, ◌≢◌, ℕ, zero, suc, ◌+◌, ◌<◌, ◌≤◌, Bool, true, false, List, [], ◌∷◌, ◌++◌, length, get_or, slice_set, replicate, Option, Some, None, slice_get, refl, sym, ap, ◌∙◌, subst, arith, inl, inr}
+use Rattle.std.proofs.Common.{◌≡◌, ◌≢◌, ℕ, zero, suc, ◌<◌, ◌≤◌, Bool, true, false, List, [], ◌∷◌, ◌++◌, length, get_or, slice_set, replicate, Option, Some, None, slice_get, refl, sym, ap, ◌∙◌, subst, arith, inl, inr}
 use Rattle.std.specs.Prelude.{◌⊎◌, ◌↔◌, Contains, AllPairs}
 use Rattle.std.specs.declared.cmp.Ordering.{Ordering}
 use Rattle.std.specs.declared.cmp.Ordering.TheVariants.{Less, Equal, Greater}
@@ -7,11 +7,11 @@ use Rattle.std.proofs.lemmas.Bool.{false≢true, cases_order, cases_lt, cases_eq
 use Rattle.std.proofs.lemmas.List.{get_or-set_same, get_or-set_other, length-set, length-replicate}
 use Rattle.std.proofs.lemmas.List.Elements.{Contains-get_or, Contains-push_cases, Contains-append_left, Contains-push}
 use Rattle.std.proofs.lemmas.List.Quantifiers.{all_pairs_push}
-use Rattle.std.proofs.lemmas.Option.{none-some, same_Some, slice_get_within, slice_get-get_or, slice_get_past, get_or_from_slice_get}
+use Rattle.std.proofs.lemmas.Option.{none-some, same_Some, slice_get_within, slice_get-get_or, get_or_from_slice_get}
 use Rattle.esto_term.specs.Order.{term_cmp}
 use Rattle.esto_term.specs.declared.term.Term.{Term, out-Term, roll-Term, roll-out-Term}
 use Rattle.esto_term.specs.declared.term.Term.TheOpen.{Term-F}
-use Rattle.esto_term.specs.declared.term.Term.TheVariants.{Const, outs-Const, rolls-Const}
+use Rattle.esto_term.specs.declared.term.Term.TheVariants.{outs-Const, rolls-Const}
 use Rattle.esto_semantics.specs.declared.fact.Fact.{Fact}
 use Rattle.esto_semantics.specs.Maps.{IsConstant}
 use Rattle.esto_semantics.specs.Sets.{Has, Within, numbers, united}

@@ -1,12 +1,9 @@
 -- Listed sets, weights and the pick.
-use Rattle.std.proofs.Common.{◌≡◌, ◌≢◌, ℕ, zero, suc, ◌+◌, ◌<◌, ◌≤◌, Bool, true, false, cond, List, [], ◌∷◌, length, get_or, map, Option, Some, None, slice_get, slice_index_or, sum, filter, refl, sym, ap, ◌∙◌, subst, arith, inl, inr}
-use Rattle.std.specs.Prelude.{◌⊎◌, ◌↔◌, Contains, AllPairs, IsTrue}
+use Rattle.std.proofs.Common.{◌≡◌, ◌≢◌, ℕ, zero, suc, ◌+◌, ◌<◌, ◌≤◌, Bool, true, false, cond, List, [], ◌∷◌, length, get_or, map, Some, slice_get, slice_index_or, sum, filter, refl, sym, ap, ◌∙◌, subst, arith, inl, inr}
+use Rattle.std.specs.Prelude.{◌⊎◌, ◌↔◌, Contains, AllPairs}
 use Rattle.std.specs.List.{AllZip, sum_by}
-use Rattle.std.specs.Ordering.{nat_cmp}
-use Rattle.std.specs.declared.cmp.Ordering.{Ordering}
 use Rattle.std.specs.declared.cmp.Ordering.TheVariants.{Equal}
-use Rattle.std.proofs.lemmas.Bool.{false≢true, cases_order, cases_lt, cases_eq, cases_Bool, cond_both}
-use Rattle.std.proofs.lemmas.List.{get_or_default}
+use Rattle.std.proofs.lemmas.Bool.{false≢true, cases_order, cases_lt, cases_eq}
 use Rattle.std.proofs.lemmas.List.Sums.{sum-map, sum_by-cons}
 use Rattle.std.proofs.lemmas.Option.{none-some, same_Some}
 use Rattle.esto_term.specs.Order.{term_cmp}
@@ -14,11 +11,11 @@ use Rattle.esto_term.specs.declared.term.Term.{Term}
 use Rattle.esto_semantics.specs.declared.fact.Fact.{Fact}
 use Rattle.esto_semantics.specs.Queries.{ConjunctiveQuery}
 use Rattle.esto_semantics.specs.Rules.{Rule}
-use Rattle.esto_semantics.specs.Sets.{Has, Within, set_cmp, IsMinimal, AreMinimal, HaveOneCount, AreInOrder, all_sets}
-use Rattle.esto_semantics.specs.Listed.{chosen, IsRewriting, IsListed, AreListed, IsWeight, IsPick}
-use Rattle.esto_semantics.specs.ListedLaws.{AreRewritings, TellsRewritings, TestedAreRewritings, ListedAreMinimal, ListedExist, ListedIsOne, ListedCover, NoneIsListed, ChosenAreNamed, WeightExists, WeightRises, WeightIsOne, WeightIsSum, PickExists, PickIsOne, PickWeighsLeast}
-use Rattle.esto_semantics.proofs.ChoiceLemmas.{Decided, decided_below, contains_none, contains_head, contains_tail, contains_split, kept, pairs_head, pairs_tail, pairs_cons}
-use Rattle.esto_semantics.proofs.SetLemmas.{within_refl, in_order_once, order_is_one, minimal_within, minimal_exist, all_sets_are_listed}
+use Rattle.esto_semantics.specs.Sets.{Has, Within, IsMinimal, AreMinimal, HaveOneCount, AreInOrder, all_sets}
+use Rattle.esto_semantics.specs.Listed.{chosen, IsRewriting, IsListed, AreListed, IsWeight}
+use Rattle.esto_semantics.specs.ListedLaws.{AreRewritings, TestedAreRewritings, ListedAreMinimal, ListedExist, ListedIsOne, ListedCover, NoneIsListed, ChosenAreNamed, WeightExists, WeightRises, WeightIsOne, WeightIsSum, PickExists, PickIsOne, PickWeighsLeast}
+use Rattle.esto_semantics.proofs.ChoiceLemmas.{Decided, decided_below, contains_none, contains_head, contains_tail, contains_split, pairs_head, pairs_tail, pairs_cons}
+use Rattle.esto_semantics.proofs.SetLemmas.{in_order_once, order_is_one, minimal_within, minimal_exist, all_sets_are_listed}
 use Rattle.esto_semantics.proofs.AccessLemmas.{decided_same, contains_at, place_of}
 
 -- ---- what passes a test

@@ -1,6 +1,6 @@
 -- The plain programs: a turn of each of their loops.
 use Rattle.std.proofs.Common.{◌≡◌, ◌≢◌, ℕ, zero, suc, ◌+◌, ◌<◌, ◌≤◌, Bool, true, false, List, [], ◌∷◌, ◌++◌, length, get_or, replicate, Some, slice_get, slice_set, refl, sym, ap, ◌∙◌, subst, arith, add-one, inl, inr}
-use Rattle.std.specs.Prelude.{◌⊎◌, ◌↔◌, Contains, AllPairs}
+use Rattle.std.specs.Prelude.{Contains, AllPairs}
 use Rattle.std.proofs.lemmas.Bool.{cases_order}
 use Rattle.std.proofs.lemmas.Option.{slice_get_within, slice_get-get_or, get_or_from_slice_get}
 use Rattle.std.proofs.lemmas.List.Elements.{Contains-get_or, Contains-push, Contains-push_cases, Contains-append_left}

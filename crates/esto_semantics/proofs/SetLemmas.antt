@@ -1,9 +1,8 @@
 -- Sets, their order, and the minimal sets of a family.
-use Rattle.std.proofs.Common.{◌≡◌, ◌≢◌, ℕ, zero, suc, ◌+◌, ◌<◌, Bool, true, false, ◌||◌, List, [], ◌∷◌, ◌++◌, map, length, get_or, refl, sym, ap, ◌∙◌, subst, arith, inl, inr}
+use Rattle.std.proofs.Common.{◌≡◌, ◌≢◌, ℕ, zero, suc, ◌+◌, ◌<◌, Bool, true, false, List, [], ◌∷◌, map, length, get_or, refl, sym, ap, ◌∙◌, subst, arith, inl, inr}
 use Rattle.std.specs.Prelude.{◌⊎◌, ◌↔◌, Contains, AllPairs}
 use Rattle.std.specs.Cmp.{IsTotalOrder}
 use Rattle.std.specs.Ordering.{ordering_then, nat_cmp}
-use Rattle.std.specs.Cmp.Lexicographic.{slice_cmp}
 use Rattle.std.specs.declared.cmp.Ordering.{Ordering}
 use Rattle.std.specs.declared.cmp.Ordering.TheVariants.{Less, Equal, Greater}
 use Rattle.std.proofs.lemmas.Bool.{false≢true, cases_Bool, or_cases, or_left, or_right}
@@ -11,7 +10,7 @@ use Rattle.std.proofs.lemmas.Cmp.{nat_cmp_total, nat_list_cmp_total, on_total, t
 use Rattle.std.proofs.lemmas.List.{get_or_default}
 use Rattle.std.proofs.lemmas.List.Elements.{Contains-append_left, Contains-append_right, Contains-append_cases}
 use Rattle.std.proofs.lemmas.Map.Lookups.{exact_bytes}
-use Rattle.esto_semantics.specs.Sets.{Has, Within, numbers_from, numbers, set_cmp, IsMinimal, AreMinimal, united, HaveOneCount, AreInOrder, all_sets}
+use Rattle.esto_semantics.specs.Sets.{Has, Within, numbers_from, numbers, set_cmp, IsMinimal, united, HaveOneCount, AreInOrder, all_sets}
 use Rattle.esto_semantics.specs.SetLaws.{EqualIsSame, NumbersTellSets, WithinBothWays, OrderIsOne, AllSetsAreListed, MinimalAreApart, MinimalCover, MinimalExist, MinimalAreOne}
 use Rattle.esto_semantics.proofs.ChoiceLemmas.{Decided, decided_both, decided_not, decided_below, contains_none, contains_head, contains_tail, contains_split, contains_map, map_contains, kept, pairs_append, pairs_map, pairs_cons, not_less_itself, one_list, in_order}
 

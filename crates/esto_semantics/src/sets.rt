@@ -34,14 +34,14 @@ pub fn minimal_sets_cover()
 {}
 
 /// Whether the set has the number.
-pub fn has(set: &Values<bool>, number: usize) -> bool
+pub(crate) fn has(set: &Values<bool>, number: usize) -> bool
     ensures { IsTrue result ↔ Has set.now number }
 {
     number < set.len() && set.item(number)
 }
 
 /// Whether the one set is a subset of the other.
-pub fn is_within(set: &Values<bool>, other: &Values<bool>) -> bool
+pub(crate) fn is_within(set: &Values<bool>, other: &Values<bool>) -> bool
     ensures { IsTrue result ↔ Within set.now other.now }
 {
     'numbers: for number in 0..set.len() {
@@ -76,8 +76,8 @@ fn covers(family: &List<Values<bool>>, set: &Values<bool>) -> bool
     false
 }
 
-/// The minimal sets of a family of one count, each once, in the order in which they first stand in the family.
-/// This is plain and slow: it compares each two of them.
+/// The minimal sets of a family of one count, each once, in any order. This is plain and slow: it compares each
+/// two of them.
 pub fn minimal_sets_of(
     alloc: Global,
     family: &List<Values<bool>>,

@@ -1,4 +1,4 @@
-use Rattle.std.proofs.Common.{◌≡◌, ◌<◌, ◌∙◌, ap, sym, subst, false, replicate}
+use Rattle.std.proofs.Common.{◌<◌, ◌∙◌, ap, sym, subst, false, replicate}
 use Rattle.esto_semantics.proofs.AccessLemmas.{missing}
 use Rattle.esto_semantics.proofs.ProgramLemmas.{IsPartSoFar, part_starts, part_grows, fewer_missing, part_ends}
 use Rattle.esto_semantics.proofs.access.accessible_part.Goals as goal

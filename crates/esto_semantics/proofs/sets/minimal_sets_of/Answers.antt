@@ -1,4 +1,4 @@
-use Rattle.std.proofs.Common.{◌≡◌, [], ◌∷◌, ◌++◌, ◌+◌, sym, ◌∙◌, ap, subst}
+use Rattle.std.proofs.Common.{[], ◌∷◌, ◌++◌, ◌+◌, sym, ◌∙◌, ap, subst}
 use Rattle.std.proofs.lemmas.Bool.{false≢true}
 use Rattle.esto_semantics.specs.Sets.{AreMinimal, HaveOneCount, HasNoSmaller}
 use Rattle.esto_semantics.proofs.ProgramLemmas.{AreMinimalSoFar, takes_minimal, skips_covered, skips_greater, are_minimal}

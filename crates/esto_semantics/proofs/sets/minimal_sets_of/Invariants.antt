@@ -1,4 +1,3 @@
-use Rattle.std.proofs.Common.{◌≡◌, ℕ, ◌<◌, Bool, List, Some, slice_get}
 use Rattle.esto_semantics.proofs.ProgramLemmas.{AreMinimalSoFar}
 use Rattle.esto_semantics.proofs.sets.minimal_sets_of.Given as goal
 
