@@ -6,3 +6,8 @@ pub mod CanonicalLemmas
 pub mod ContainmentLemmas
 pub mod WellFormedLemmas
 pub mod BindingLemmas
+pub mod ChoiceLemmas
+pub mod SetLemmas
+pub mod AccessLemmas
+pub mod ListedLemmas
+pub mod ProgramLemmas

@@ -13,3 +13,7 @@ pub mod WellFormed
 pub mod Sides
 pub mod Restriction
 pub mod Bindings
+pub mod SetLaws
+pub mod AccessSteps
+pub mod AccessLaws
+pub mod ListedLaws
