@@ -2,6 +2,7 @@
 ghost use Rattle.std.specs.Prelude.{◌≡◌, ◌<◌, ◌≤◌, ◌+◌, ◌^◌, length, take, None, IfOk, IfSome};
 ghost use Rattle.esto_ports.specs.Fetch.{Fetches};
 ghost use Rattle.esto_ports.specs.FolderShelf.{CountsFetch};
+ghost use Rattle.esto_ports.specs.declared.folder_shelf.ReadError.TheVariants as read;
 
 use crate::ports::{Shelf, ShelfError};
 use esto_term::{Bytes, OutOfMemory, Text};
@@ -43,16 +44,19 @@ enum ReadError {
 }
 
 impl From<OutOfMemory> for ReadError {
+    ghost from_gives = { λ _ e. e ≡ read.OutOfMemory };
+
     fn from(_: OutOfMemory) -> ReadError {
         ReadError::OutOfMemory
     }
 }
 
-// Reads to the end, or so many bytes. Each turn takes at least one byte. Where the reader's bytes are known, it
-// gives the first of them.
+// Reads to the end, or so many bytes. Each turn takes at least one byte. Where the reader's bytes are known,
+// it gives the first of them.
 fn read_up_to<F: Read>(alloc: Global, file: &mut F, most: usize) -> Result<Bytes, ReadError>
     ensures within { IfOk result (λ bytes. length bytes ≤ most) }
-    ensures first { IfOk result (λ bytes. IfSome (F.remaining file.old) (λ rest. bytes ≡ take most rest)) }
+    ensures first { IfOk result (λ bytes.
+        IfSome (F.remaining file.old) (λ rest. bytes ≡ take most rest)) }
 {
     let mut bytes = Bytes::new(alloc);
     let mut buffer = [0u8; 4096];

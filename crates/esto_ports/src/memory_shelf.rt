@@ -30,7 +30,12 @@ impl Model for MemoryShelf {
 
     ghost coded = { shelf_code };
 
-    ghost view = { λ s. record { files = map.from_entries s.files; fails = s.fails; calls = s.calls; faults = s.faults } };
+    ghost view = { λ s. record {
+      files = map.from_entries s.files;
+      fails = s.fails;
+      calls = s.calls;
+      faults = s.faults;
+    } };
 }
 
 impl MemoryShelf {
@@ -48,7 +53,8 @@ impl MemoryShelf {
 
     /// Keeps a file, in place of what the name had.
     pub fn keep(&mut self, name: Text, bytes: Bytes) -> Result<(), OutOfMemory>
-        ensures ok { OnOk result (self.new ≡ record self.old { files = map.insert self.old.files name bytes }) }
+        ensures ok { OnOk result
+            (self.new ≡ record self.old { files = map.insert self.old.files name bytes }) }
         ensures err { OnErr result (self.new ≡ self.old) }
     {
         self.files.insert(0, (name, bytes))
@@ -56,7 +62,8 @@ impl MemoryShelf {
 
     /// Lists a call that is to fail. Calls are counted from 1.
     pub fn fail_at(&mut self, call: u64) -> Result<(), OutOfMemory>
-        ensures ok { OnOk result (self.new ≡ record self.old { fails = self.old.fails ++ call ∷ [] }) }
+        ensures ok { OnOk result
+            (self.new ≡ record self.old { fails = self.old.fails ++ call ∷ [] }) }
         ensures err { OnErr result (self.new ≡ self.old) }
     {
         self.fails.push(call)
@@ -65,7 +72,8 @@ impl MemoryShelf {
 
 // The newest file of that name.
 fn find_file<'a>(files: &'a [(Text, Bytes)], name: &[u8]) -> Option<&'a Bytes>
-    ensures { MatchOption result (map.find (slice_cmp nat_cmp) name.now files.now ≡ None) (λ bytes. map.find (slice_cmp nat_cmp) name.now files.now ≡ Some bytes.now) }
+    ensures { let found = map.find (slice_cmp nat_cmp) name.now files.now in
+        MatchOption result (found ≡ None) (λ bytes. found ≡ Some bytes.now) }
 {
     'names: for file in files {
         if name.cmp(&file.0.bytes()).is_eq() {
@@ -88,7 +96,9 @@ fn look_up<'a>(
     call: u64,
     name: &[u8],
 ) -> Option<&'a Bytes>
-    ensures { MatchOption result (fails_at (map.from_entries files.now) fails.now call name.now ≡ true) (λ bytes. HasFile (map.from_entries files.now) fails.now call name.now bytes.now) }
+    ensures { let held = map.from_entries files.now in
+        MatchOption result (fails_at held fails.now call name.now ≡ true)
+        (λ bytes. HasFile held fails.now call name.now bytes.now) }
 {
     if is_listed(fails, call) {
         return None;
@@ -115,7 +125,8 @@ impl Shelf for MemoryShelf {
     /// Failed comes exactly at a listed call and at a name that the shelf lacks. Every fetch counts as a call.
     fn fetch(&mut self, alloc: Global, name: &Text, limit: u64) -> Result<Bytes, ShelfError>
         requires { limit < 2 ^ 32 }
-        ensures answer { Fetches (Some self.old.files) name.now limit self.old.faults self.new.faults result }
+        ensures answer { Fetches (Some self.old.files) name.now limit
+            self.old.faults self.new.faults result }
         ensures files { Some self.new.files ≡ Some self.old.files }
         ensures later { self.old.faults ≤ self.new.faults }
         ensures exact { AnswersFetch self.old name.now limit result }

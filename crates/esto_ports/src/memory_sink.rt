@@ -28,7 +28,12 @@ impl Model for MemorySink {
 
     ghost coded = { sink_code };
 
-    ghost view = { λ s. record { written = s.written; fails = map.from_entries s.fails; calls = s.calls; faults = s.faults } };
+    ghost view = { λ s. record {
+      written = s.written;
+      fails = map.from_entries s.fails;
+      calls = s.calls;
+      faults = s.faults;
+    } };
 }
 
 impl MemorySink {
@@ -44,10 +49,11 @@ impl MemorySink {
         }
     }
 
-    /// Lists a call that is to fail once it has put the first `kept` bytes, at most all. Calls are counted from 1. Of two
-    /// entries for one call the later counts.
+    /// Lists a call that is to fail once it has put the first `kept` bytes, at most all. Calls are counted
+    /// from 1. Of two entries for one call the later counts.
     pub fn fail_at(&mut self, call: u64, kept: u64) -> Result<(), OutOfMemory>
-        ensures ok { OnOk result (self.new ≡ record self.old { fails = map.insert self.old.fails call kept }) }
+        ensures ok { OnOk result
+            (self.new ≡ record self.old { fails = map.insert self.old.fails call kept }) }
         ensures err { OnErr result (self.new ≡ self.old) }
     {
         self.fails.insert(0, (call, kept))
@@ -92,7 +98,8 @@ impl Sink for MemorySink {
 
     /// Failed comes exactly at a listed call. Every put counts as a call.
     fn put(&mut self, bytes: &[u8]) -> Result<(), SinkError>
-        ensures answer { Puts (Some self.old.written) (Some self.new.written) self.old.faults self.new.faults bytes.now result }
+        ensures answer { Puts (Some self.old.written) (Some self.new.written)
+            self.old.faults self.new.faults bytes.now result }
         ensures later { self.old.faults ≤ self.new.faults }
         ensures after { AfterPut self.old bytes.now result self.new }
     {

@@ -57,11 +57,13 @@ pub trait Shelf {
     /// How many fetches were at a fault. The count stays at 2^64 - 1.
     ghost faults: { Self → ℕ };
 
-    /// The bytes of the file of that name, which are at most `limit`. Failed comes only where the count of faults
-    /// rose. TooLong comes only where the file is longer than `limit`.
+    /// The bytes of the file of that name, which are at most `limit`. Failed comes only where the count of
+    /// faults rose. Where the files are told, TooLong comes exactly where the fetch isn't at a fault and the
+    /// file is longer than `limit`; want of memory aside.
     fn fetch(&mut self, alloc: Global, name: &Text, limit: u64) -> Result<Bytes, ShelfError>
         requires { limit < 2 ^ 32 }
-        ensures answer { Fetches (files self.old) name.now limit (faults self.old) (faults self.new) result }
+        ensures answer { Fetches (files self.old) name.now limit
+            (faults self.old) (faults self.new) result }
         ensures files { files self.new ≡ files self.old }
         ensures later { faults self.old ≤ faults self.new };
 }
@@ -74,9 +76,10 @@ pub trait Sink {
     /// How many puts were at a fault. The count stays at 2^64 - 1.
     ghost faults: { Self → ℕ };
 
-    /// Puts the bytes at the end of what was written. Failed comes only where the count of faults rose, and a prefix
-    /// of the bytes was put. At OutOfMemory nothing was.
+    /// Puts the bytes at the end of what was written. Failed comes only where the count of faults rose, and
+    /// a prefix of the bytes was put. At OutOfMemory nothing was.
     fn put(&mut self, bytes: &[u8]) -> Result<(), SinkError>
-        ensures answer { Puts (written self.old) (written self.new) (faults self.old) (faults self.new) bytes.now result }
+        ensures answer { Puts (written self.old) (written self.new)
+            (faults self.old) (faults self.new) bytes.now result }
         ensures later { faults self.old ≤ faults self.new };
 }

@@ -10,3 +10,10 @@ pub mod Sets
 pub mod Access
 pub mod Listed
 pub mod WellFormed
+pub mod Sides
+pub mod Restriction
+pub mod Bindings
+pub mod SetLaws
+pub mod AccessSteps
+pub mod AccessLaws
+pub mod ListedLaws

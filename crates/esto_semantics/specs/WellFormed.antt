@@ -6,7 +6,6 @@ use Rattle.esto_semantics.specs.Facts.{Database, Mentions}
 use Rattle.esto_semantics.specs.Queries.{ConjunctiveQuery}
 use Rattle.esto_semantics.specs.Rules.{Rule, tuple, equality}
 use Rattle.esto_semantics.specs.declared.fact.Fact.{Fact}
-use Rattle.esto_semantics.specs.declared.fact.Value.{Value}
 use Rattle.esto_semantics.specs.declared.fact.Value.TheVariants.{Text}
 
 -- Each fact is over a relation of the schema, which is the list of the relations' numbers of columns, and has as many terms as the relation has columns.

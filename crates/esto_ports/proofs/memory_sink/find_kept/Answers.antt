@@ -1,4 +1,4 @@
-use Rattle.std.proofs.Common.{rules, arith}
+use Rattle.std.proofs.Common.{arith}
 use Rattle.std.proofs.lemmas.Grind.{common_steps}
 use Rattle.esto_ports.proofs.EntryLemmas.{kept_of}
 use Rattle.esto_ports.proofs.memory_sink.find_kept.Goals as goal

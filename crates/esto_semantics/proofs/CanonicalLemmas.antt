@@ -1,0 +1,77 @@
+-- The canonical database of a query: its body with each constant as its text, and every other term as the unnamed value of its
+-- first place among the query's terms.
+use Rattle.std.proofs.Common.{List, ◌++◌, map, Contains, sym, ◌∙◌}
+use Rattle.std.specs.List.{flat_map}
+use Rattle.std.proofs.lemmas.List.Elements.{Contains-append_left, Contains-append_right}
+use Rattle.esto_term.specs.declared.term.Term.{Term}
+use Rattle.esto_term.specs.declared.term.Term.TheVariants.{Const}
+use Rattle.esto_semantics.specs.Facts.{Database, Mentions}
+use Rattle.esto_semantics.specs.Instances.{MapsTo, IsFinished}
+use Rattle.esto_semantics.specs.Queries.{ConjunctiveQuery, IsAnswer, IsAnswerInto}
+use Rattle.esto_semantics.specs.Rules.{Rule, tuple, equality, AreRules, Meets}
+use Rattle.esto_semantics.specs.declared.fact.Fact.{Fact}
+use Rattle.esto_semantics.specs.declared.fact.Value.{Value}
+use Rattle.esto_semantics.proofs.ContainsLemmas.{Contains-flat}
+use Rattle.esto_semantics.proofs.TermLemmas.{same_term, same_term-Decides, constant_text, constant_text-told, constant_text-Const}
+use Rattle.esto_semantics.proofs.RenamingLemmas.{Naming, RuleIsKept, value_of, thing_of, renamed, map-thing_of-value_of, answer_there, answer_back, fact_there, fact_back, meets_there}
+
+abbrev pub terms_naming : Naming Term
+terms_naming = record {
+  constant = Const;
+  text_of = constant_text;
+  same = same_term;
+  told = constant_text-told;
+  decides = same_term-Decides;
+}
+
+-- the terms of some facts, in order
+abbrev pub terms_of : List (Fact Term) → List Term
+terms_of facts = flat_map (λ (fact : Fact Term). fact.terms) facts
+
+module _ (query : ConjunctiveQuery) where
+  abbrev pub query_terms : List Term
+  query_terms = terms_of query.body ++ query.head
+
+  abbrev pub canonical_value : Term → Value
+  canonical_value = value_of terms_naming query_terms
+
+  abbrev pub canonical_term : Value → Term
+  canonical_term = thing_of terms_naming query_terms
+
+  abbrev pub canonical_database : Database
+  canonical_database = renamed terms_naming query_terms query.body
+
+pub Mentions-terms_of : (facts : List (Fact Term)) (term : Term) → Mentions facts term → Contains (terms_of facts) term
+Mentions-terms_of facts term (fact, inside, in_fact) = Contains-flat (λ (fact : Fact Term). fact.terms) facts fact term inside in_fact
+
+every_rule_is_kept : (rule : Rule) → RuleIsKept terms_naming rule
+every_rule_is_kept (tuple body head) = λ text inside. constant_text-Const text
+every_rule_is_kept (equality body left right) = ((λ text is. constant_text-Const text), (λ text is. constant_text-Const text))
+
+module _ (query : ConjunctiveQuery) where
+  body_terms : (term : Term) → Mentions query.body term → Contains (query_terms query) term
+  body_terms term inside = Contains-append_left (terms_of query.body) query.head term (Mentions-terms_of query.body term inside)
+
+  -- the canonical database meets the rules that the query's body meets
+  pub canonical_database-Meets : (rules : List Rule) → AreRules rules → IsFinished rules query → Meets rules (canonical_database query)
+  canonical_database-Meets rules are_rules finished rule inside =
+      meets_there terms_naming (query_terms query) query.body body_terms rule (are_rules rule inside) (every_rule_is_kept rule) (finished rule inside)
+
+  -- what maps to the query has the query's head as an answer over it
+  pub answer-from_map : (other : ConjunctiveQuery) → MapsTo other query → IsAnswer other (canonical_database query) (map (canonical_value query) query.head)
+  answer-from_map other (m, keeps, sends, heads) =
+      answer_there terms_naming (query_terms query) other (Contains query.body) (Contains (canonical_database query)) query.head
+      (λ text inside. constant_text-Const text) (λ term inside text is. constant_text-Const text)
+      (fact_there terms_naming (query_terms query) query.body body_terms) (m, keeps, sends, sym heads)
+
+  -- and what has it as an answer maps to the query
+  pub map-from_answer : (other : ConjunctiveQuery) → IsAnswer other (canonical_database query) (map (canonical_value query) query.head) → MapsTo other query
+  map-from_answer other answer =
+      let back : IsAnswerInto Const other (Contains query.body) (map (canonical_term query) (map (canonical_value query) query.head)) =
+      answer_back terms_naming (query_terms query) other (Contains query.body) (Contains (canonical_database query)) (map (canonical_value query) query.head)
+      (fact_back terms_naming (query_terms query) query.body body_terms) answer in (
+        back.0,
+        back.1,
+        back.2,
+        sym back.3 ∙ map-thing_of-value_of terms_naming (query_terms query) query.head (λ term inside. Contains-append_right (terms_of query.body) query.head term inside),
+      )

@@ -1,0 +1,61 @@
+-- Facts under maps: images, what maps send where, and what facts mention.
+use Rattle.std.proofs.Common.{◌≡◌, ◌⊎◌, inl, inr, List, ◌++◌, map, Contains, sym, ap, subst}
+use Rattle.std.proofs.lemmas.List.Elements.{Contains-append_cases}
+use Rattle.esto_semantics.specs.Facts.{image, Mentions}
+use Rattle.esto_semantics.specs.Maps.{SendsInto, Sends}
+use Rattle.esto_semantics.specs.declared.fact.Fact.{Fact}
+use Rattle.esto_semantics.proofs.ContainsLemmas.{Contains-map, Contains-map_from, map_agree, map_then, map_itself}
+
+-- ---- the image of a fact
+
+pub image_agree : {V W : Type 0} (m other : V → W) (fact : Fact V) → ((thing : V) → Contains fact.terms thing → m thing ≡ other thing) → image m fact ≡ image other fact
+image_agree {W = W} m other fact agree = ap (λ (row : List W). record { relation = fact.relation; terms = row }) (map_agree m other fact.terms agree)
+
+pub image_then : {V W U : Type 0} (m : V → W) (next : W → U) (fact : Fact V) → image next (image m fact) ≡ image (λ thing. next (m thing)) fact
+image_then {U = U} m next fact = ap (λ (row : List U). record { relation = fact.relation; terms = row }) (map_then m next fact.terms)
+
+pub image_itself : {V : Type 0} (fact : Fact V) → image (λ thing. thing) fact ≡ fact
+image_itself {V = V} fact = ap (λ (row : List V). record { relation = fact.relation; terms = row }) (map_itself fact.terms)
+
+-- ---- what a map sends where
+
+module _ {V W U : Type 0} (m : V → W) (next : W → U) (facts : List (Fact V)) where
+  -- one map after another, where the second takes what holds to what holds
+  pub SendsInto-then : (Holds : Fact W → Type 0) (Others : Fact U → Type 0) → ((fact : Fact W) → Holds fact → Others (image next fact))
+      → SendsInto m facts Holds → SendsInto (λ thing. next (m thing)) facts Others
+  SendsInto-then Holds Others taken sends fact inside = subst Others (image_then m next fact) (taken (image m fact) (sends fact inside))
+
+  pub Sends-then : (others : List (Fact W)) (last : List (Fact U)) → Sends m facts others → Sends next others last → Sends (λ thing. next (m thing)) facts last
+  Sends-then others last sends sends_on = SendsInto-then (Contains others) (Contains last) sends_on sends
+
+-- a map that agrees on what the facts mention sends them to the same
+pub SendsInto-agree : {V W : Type 0} (m other : V → W) (facts : List (Fact V)) (Holds : Fact W → Type 0) → ((thing : V) → Mentions facts thing → m thing ≡ other thing)
+    → SendsInto m facts Holds → SendsInto other facts Holds
+SendsInto-agree m other facts Holds agree sends fact inside =
+    subst Holds (image_agree m other fact (λ thing in_fact. agree thing (fact, inside, in_fact))) (sends fact inside)
+
+pub Sends-images : {V W : Type 0} (m : V → W) (facts : List (Fact V)) → Sends m facts (map (image m) facts)
+Sends-images m facts fact inside = Contains-map (image m) facts fact inside
+
+pub Sends-itself : {V : Type 0} (facts : List (Fact V)) → Sends (λ thing. thing) facts facts
+Sends-itself facts fact inside = subst (Contains facts) (sym (image_itself fact)) inside
+
+-- ---- what facts mention
+
+pub Mentions-images : {V W : Type 0} (m : V → W) (facts : List (Fact V)) (other : W) → Mentions (map (image m) facts) other → (thing : V) × Mentions facts thing × (m thing ≡ other)
+Mentions-images m facts other (image_fact, inside, in_image) =
+    let found = Contains-map_from (image m) facts image_fact inside in
+    let at = Contains-map_from m found.0.terms other (subst (λ (fact : Fact _). Contains fact.terms other) (sym found.2) in_image) in
+    (at.0, (found.0, found.1, at.1), at.2)
+
+pub Mentions-sent : {V W : Type 0} (m : V → W) (facts : List (Fact V)) (others : List (Fact W)) (thing : V) → Sends m facts others → Mentions facts thing → Mentions others (m thing)
+Mentions-sent m facts others thing sends (fact, inside, in_fact) = (image m fact, sends fact inside, Contains-map m fact.terms thing in_fact)
+
+pub Mentions-among : {V : Type 0} (facts others : List (Fact V)) (thing : V) → ((fact : Fact V) → Contains facts fact → Contains others fact) → Mentions facts thing → Mentions others thing
+Mentions-among facts others thing among (fact, inside, in_fact) = (fact, among fact inside, in_fact)
+
+pub Mentions-append : {V : Type 0} (facts others : List (Fact V)) (thing : V) → Mentions (facts ++ others) thing → Mentions facts thing ⊎ Mentions others thing
+Mentions-append facts others thing (fact, inside, in_fact) = elim (Contains-append_cases facts others fact inside) [
+  | inl left ↦ inl (fact, left, in_fact)
+  | inr right ↦ inr (fact, right, in_fact)
+]

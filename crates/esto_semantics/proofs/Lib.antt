@@ -1,0 +1,13 @@
+pub mod ContainsLemmas
+pub mod FactLemmas
+pub mod TermLemmas
+pub mod RenamingLemmas
+pub mod CanonicalLemmas
+pub mod ContainmentLemmas
+pub mod WellFormedLemmas
+pub mod BindingLemmas
+pub mod ChoiceLemmas
+pub mod SetLemmas
+pub mod AccessLemmas
+pub mod ListedLemmas
+pub mod ProgramLemmas
