@@ -1,5 +1,5 @@
 -- A search for the least match, by the place of the first atom.
-use Rattle.std.proofs.Common.{◌≡◌, ℕ, ◌+◌, ◌<◌, ◌≤◌, ◌++◌, ◌⊎◌, ◌↔◌, Bool, true, false, eqb, List, [], ◌∷◌, length, get_or, take, Contains, Option, Some, None, refl, sym, ap, subst, ◌∙◌, inl, inr, arith}
+use Rattle.std.proofs.Common.{◌≡◌, ℕ, ◌+◌, ◌<◌, ◌≤◌, ◌++◌, ◌⊎◌, ◌↔◌, Bool, true, false, eqb, List, [], ◌∷◌, length, Contains, Option, Some, None, refl, sym, ap, subst, ◌∙◌, inl, inr, arith}
 use Rattle.std.specs.List.{slice_get}
 use Rattle.std.specs.Option.{IfSome, IfNone}
 use Rattle.std.proofs.lemmas.Bool.Decides.{nat_tests}
@@ -7,12 +7,12 @@ use Rattle.std.proofs.lemmas.Option.{same_Some, slice_get_within}
 use Rattle.std.proofs.lemmas.List.{append_assoc, append-nil}
 use Rattle.esto_term.specs.declared.term.Term.{Term}
 use Rattle.esto_term.specs.declared.term.Term.TheVariants.{Const}
-use Rattle.esto_semantics.specs.Facts.{image, Mentions}
+use Rattle.esto_semantics.specs.Facts.{image}
 use Rattle.esto_semantics.specs.Maps.{IsFlat, AreFlat, Keeps}
 use Rattle.esto_semantics.specs.declared.fact.Fact.{Fact}
 use Rattle.esto_query.specs.Valuations.{Assignment, Extends, map_of}
-use Rattle.esto_query.specs.Matches.{IsMatch, IsAtMost, IsBefore, IsFound, IsLeastMatch, HasNoMatch}
-use Rattle.esto_query.specs.Trails.{with_trail, Narrows, Excludes, Grew, Tries}
+use Rattle.esto_query.specs.Matches.{IsMatch, IsAtMost, IsLeastMatch, HasNoMatch}
+use Rattle.esto_query.specs.Trails.{with_trail, Narrows, Excludes, Tries}
 use Rattle.esto_query.specs.Searches.{IsLeastFrom, Searched, first_from, rest_from}
 use Rattle.esto_query.specs.declared.trail.Binding.{Binding}
 use Rattle.esto_query.specs.declared.matches.Found.{Found}

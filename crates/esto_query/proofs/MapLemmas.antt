@@ -1,5 +1,5 @@
 -- What lists contain, maps of terms that agree, and maps that are changed at one variable.
-use Rattle.std.proofs.Common.{◌≡◌, ◌≢◌, ◌⊎◌, ◌↔◌, ℕ, zero, suc, ◌<◌, eqb, cond, Bool, true, false, List, [], ◌∷◌, map, length, take, get_or, Contains, ◌+◌, ◌≤◌, subst, Some, None, refl, sym, ap, ◌∙◌, inl, inr, arith}
+use Rattle.std.proofs.Common.{◌≡◌, ◌≢◌, ◌⊎◌, ℕ, zero, suc, ◌<◌, eqb, cond, true, false, List, [], ◌∷◌, map, length, take, get_or, Contains, ◌+◌, ◌≤◌, subst, Some, None, refl, sym, ap, ◌∙◌, inl, inr, arith}
 use Rattle.std.specs.List.{slice_get}
 use Rattle.std.proofs.lemmas.List.{get_or-map, take_more, take_all}
 use Rattle.std.proofs.lemmas.List.Elements.{Contains-push_cases}
@@ -9,7 +9,7 @@ use Rattle.std.specs.FinMap.{get}
 use Rattle.esto_term.specs.declared.term.Term.{Term, out-Term}
 use Rattle.esto_term.specs.declared.term.Term.TheOpen.{Term-F}
 use Rattle.esto_term.specs.declared.term.Term.TheVariants.{Const, Plain, outs-Const, outs-Plain}
-use Rattle.esto_semantics.specs.Facts.{image, Mentions}
+use Rattle.esto_semantics.specs.Facts.{image}
 use Rattle.esto_semantics.specs.Maps.{IsFlat, Keeps}
 use Rattle.esto_semantics.specs.declared.fact.Fact.{Fact}
 use Rattle.esto_query.specs.Valuations.{Assignment, Extends}

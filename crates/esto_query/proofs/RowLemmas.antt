@@ -1,5 +1,5 @@
 -- The rows of a body, atom by atom and fact by fact.
-use Rattle.std.proofs.Common.{◌≡◌, ℕ, ◌+◌, ◌<◌, ◌≤◌, ◌++◌, ◌⊎◌, ◌↔◌, true, List, [], ◌∷◌, length, get_or, take, map, Contains, Option, Some, None, IsSome, refl, sym, ap, subst, ◌∙◌, inl, inr, arith}
+use Rattle.std.proofs.Common.{◌≡◌, ℕ, ◌+◌, ◌<◌, ◌≤◌, ◌++◌, ◌⊎◌, ◌↔◌, List, [], ◌∷◌, length, get_or, take, map, Contains, Option, Some, None, IsSome, refl, sym, ap, subst, ◌∙◌, inl, inr}
 use Rattle.std.specs.FinMap.{get, empty, get-empty}
 use Rattle.std.specs.Ordering.{nat_cmp}
 use Rattle.std.proofs.lemmas.Bool.{false≢true}
@@ -13,9 +13,8 @@ use Rattle.esto_semantics.specs.Maps.{IsConstant, IsFlat, Keeps, Sends}
 use Rattle.esto_semantics.specs.Queries.{ConjunctiveQuery, IsQuery, IsAnswerInto}
 use Rattle.esto_semantics.specs.declared.fact.Fact.{Fact}
 use Rattle.esto_query.specs.Valuations.{Assignment, Extends, map_of}
-use Rattle.esto_query.specs.Trails.{with_trail, Narrows, Excludes, Tries}
+use Rattle.esto_query.specs.Trails.{Narrows, Excludes}
 use Rattle.esto_query.specs.Rows.{IsRow, IsKnown, AreKnown, Adds}
-use Rattle.esto_query.specs.declared.trail.Binding.{Binding}
 use Rattle.esto_query.proofs.MapLemmas.{Contains-first, Contains-later, Contains-cases, Contains-nil, map_agree, image_values}
 use Rattle.esto_query.proofs.ValuationLemmas.{Keeps-map_of, Extends-map_of}
 use Rattle.esto_query.proofs.MatchLemmas.{known_kept, known_fixed}

@@ -1,5 +1,5 @@
 -- Which variables a body mentions, and what every query keeps.
-use Rattle.std.proofs.Common.{◌≡◌, ◌≢◌, ◌⊎◌, ◌↔◌, ℕ, suc, ◌+◌, ◌<◌, ◌≤◌, eqb, Bool, true, false, List, [], ◌∷◌, ◌++◌, length, get_or, take, Contains, Some, None, Option, refl, sym, ap, subst, ◌∙◌, inl, inr, arith}
+use Rattle.std.proofs.Common.{◌≡◌, ◌≢◌, ◌⊎◌, ℕ, ◌<◌, eqb, Bool, true, false, List, [], ◌∷◌, length, get_or, take, Contains, Some, refl, sym, ap, subst, ◌∙◌, inl, inr, arith}
 use Rattle.std.specs.List.{list_any, slice_get}
 use Rattle.std.specs.Coded.{le_prop}
 use Rattle.std.proofs.Math.Logic.{∥∥₁_elim}
@@ -11,8 +11,7 @@ use Rattle.esto_term.specs.declared.term.Term.{Term, out-Term, roll-Term, roll-o
 use Rattle.esto_term.specs.declared.term.Term.TheOpen.{Term-F}
 use Rattle.esto_term.specs.declared.term.Term.TheVariants.{Const, Plain, Made, outs-Const, outs-Plain, outs-Made, rolls-Const, rolls-Plain, rolls-Made}
 use Rattle.esto_semantics.specs.Facts.{Mentions}
-use Rattle.esto_semantics.specs.Maps.{IsConstant, IsFlat, AreFlat, IsFixedBy}
-use Rattle.esto_semantics.specs.Queries.{IsQuery}
+use Rattle.esto_semantics.specs.Maps.{IsFlat, IsFixedBy}
 use Rattle.esto_semantics.specs.WellFormed.{AreOver}
 use Rattle.esto_semantics.specs.declared.fact.Fact.{Fact}
 use Rattle.esto_query.specs.Soundness.{IsSafe, IsSound}

@@ -1,4 +1,4 @@
--- What the order of terms answers at each two kinds.
+-- What the order of terms answers at each two kinds of terms, and that it tells equal terms from others.
 use Rattle.std.proofs.Common.{Bool, IsTrue, ◌↔◌, subst, ◌≡◌, ℕ, List, refl, sym, ◌∙◌}
 use Rattle.std.specs.Cmp.{Equal-is}
 use Rattle.std.proofs.lemmas.Cmp.{tied_itself}
@@ -11,48 +11,58 @@ use Rattle.esto_term.specs.declared.term.Term.TheVariants.{Const, Plain, Made, o
 use Rattle.esto_term.specs.Nesting.{nesting}
 use Rattle.esto_term.specs.Order.{term_cmp}
 use Rattle.esto_term.proofs.NestingLemmas.{nesting-Made}
-use Rattle.esto_term.proofs.OrderLemmas.{term_cmp-out, term_cmp_total, term_cmp_exact}
+use Rattle.esto_term.proofs.OrderLemmas.{term_cmp-levels, term_cmp_total, term_cmp_exact}
 
-then_equal : (a : Ordering) → ordering_then a Equal ≡ a
-then_equal Less = refl
-then_equal Equal = refl
-then_equal Greater = refl
+-- ---- one comparison after another
 
-then_assoc : (a b c : Ordering) → ordering_then (ordering_then a b) c ≡ ordering_then a (ordering_then b c)
-then_assoc Less b c = refl
-then_assoc Equal b c = refl
-then_assoc Greater b c = refl
+ordering_then-Equal : (first : Ordering) → ordering_then first Equal ≡ first
+ordering_then-Equal Less = refl
+ordering_then-Equal Equal = refl
+ordering_then-Equal Greater = refl
 
-pub term_cmp-Const-Const : (s t : List ℕ) → term_cmp (Const s) (Const t) ≡ slice_cmp nat_cmp s t
-term_cmp-Const-Const s t = term_cmp-out _ _ ∙ (rw (outs-Const s, outs-Const t) (then_equal _))
+ordering_then-assoc : (first second third : Ordering) → ordering_then (ordering_then first second) third ≡ ordering_then first (ordering_then second third)
+ordering_then-assoc Less second third = refl
+ordering_then-assoc Equal second third = refl
+ordering_then-assoc Greater second third = refl
 
-pub term_cmp-Const-Plain : (s : List ℕ) (n : ℕ) → term_cmp (Const s) (Plain n) ≡ Less
-term_cmp-Const-Plain s n = term_cmp-out _ _ ∙ (rw (outs-Const s, outs-Plain n) refl)
+-- ---- each two kinds
 
-pub term_cmp-Const-Made : (s : List ℕ) (q w : ℕ) (gs : List Term) → term_cmp (Const s) (Made q w gs) ≡ Less
-term_cmp-Const-Made s q w gs = term_cmp-out _ _ ∙ (rw (outs-Const s, outs-Made q w gs) refl)
+pub term_cmp-Const-Const : (bytes others : List ℕ) → term_cmp (Const bytes) (Const others) ≡ slice_cmp nat_cmp bytes others
+term_cmp-Const-Const bytes others = term_cmp-levels _ _ ∙ rw (outs-Const bytes, outs-Const others) (ordering_then-Equal _)
 
-pub term_cmp-Plain-Const : (m : ℕ) (t : List ℕ) → term_cmp (Plain m) (Const t) ≡ Greater
-term_cmp-Plain-Const m t = term_cmp-out _ _ ∙ (rw (outs-Plain m, outs-Const t) refl)
+pub term_cmp-Const-Plain : (bytes : List ℕ) (n : ℕ) → term_cmp (Const bytes) (Plain n) ≡ Less
+term_cmp-Const-Plain bytes n = term_cmp-levels _ _ ∙ rw (outs-Const bytes, outs-Plain n) refl
 
-pub term_cmp-Plain-Plain : (m n : ℕ) → term_cmp (Plain m) (Plain n) ≡ nat_cmp m n
-term_cmp-Plain-Plain m n = term_cmp-out _ _ ∙ (rw (outs-Plain m, outs-Plain n) (then_equal _))
+pub term_cmp-Const-Made : (bytes : List ℕ) (rule variable : ℕ) (frontier : List Term) → term_cmp (Const bytes) (Made rule variable frontier) ≡ Less
+term_cmp-Const-Made bytes rule variable frontier = term_cmp-levels _ _ ∙ rw (outs-Const bytes, outs-Made rule variable frontier) refl
 
-pub term_cmp-Plain-Made : (m q w : ℕ) (gs : List Term) → term_cmp (Plain m) (Made q w gs) ≡ Less
-term_cmp-Plain-Made m q w gs = term_cmp-out _ _ ∙ (rw (outs-Plain m, outs-Made q w gs) refl)
+pub term_cmp-Plain-Const : (n : ℕ) (bytes : List ℕ) → term_cmp (Plain n) (Const bytes) ≡ Greater
+term_cmp-Plain-Const n bytes = term_cmp-levels _ _ ∙ rw (outs-Plain n, outs-Const bytes) refl
 
-pub term_cmp-Made-Const : (r v : ℕ) (fs : List Term) (t : List ℕ) → term_cmp (Made r v fs) (Const t) ≡ Greater
-term_cmp-Made-Const r v fs t = term_cmp-out _ _ ∙ (rw (outs-Made r v fs, outs-Const t) refl)
+pub term_cmp-Plain-Plain : (n m : ℕ) → term_cmp (Plain n) (Plain m) ≡ nat_cmp n m
+term_cmp-Plain-Plain n m = term_cmp-levels _ _ ∙ rw (outs-Plain n, outs-Plain m) (ordering_then-Equal _)
 
-pub term_cmp-Made-Plain : (r v : ℕ) (fs : List Term) (n : ℕ) → term_cmp (Made r v fs) (Plain n) ≡ Greater
-term_cmp-Made-Plain r v fs n = term_cmp-out _ _ ∙ (rw (outs-Made r v fs, outs-Plain n) refl)
+pub term_cmp-Plain-Made : (n rule variable : ℕ) (frontier : List Term) → term_cmp (Plain n) (Made rule variable frontier) ≡ Less
+term_cmp-Plain-Made n rule variable frontier = term_cmp-levels _ _ ∙ rw (outs-Plain n, outs-Made rule variable frontier) refl
 
-pub term_cmp-Made-Made : (r v : ℕ) (fs : List Term) (q w : ℕ) (gs : List Term)
-    → term_cmp (Made r v fs) (Made q w gs)
-    ≡ ordering_then (ordering_then (ordering_then (nat_cmp (nesting (Made r v fs)) (nesting (Made q w gs))) (nat_cmp r q)) (nat_cmp v w)) (slice_cmp term_cmp fs gs)
-term_cmp-Made-Made r v fs q w gs =
-    term_cmp-out _ _ ∙ (rw (outs-Made r v fs, outs-Made q w gs) (simp (then_assoc, nesting-Made) refl))
+pub term_cmp-Made-Const : (rule variable : ℕ) (frontier : List Term) (bytes : List ℕ) → term_cmp (Made rule variable frontier) (Const bytes) ≡ Greater
+term_cmp-Made-Const rule variable frontier bytes = term_cmp-levels _ _ ∙ rw (outs-Made rule variable frontier, outs-Const bytes) refl
 
+pub term_cmp-Made-Plain : (rule variable : ℕ) (frontier : List Term) (n : ℕ) → term_cmp (Made rule variable frontier) (Plain n) ≡ Greater
+term_cmp-Made-Plain rule variable frontier n = term_cmp-levels _ _ ∙ rw (outs-Made rule variable frontier, outs-Plain n) refl
+
+pub term_cmp-Made-Made : (rule variable : ℕ) (frontier : List Term) (rule' variable' : ℕ) (frontier' : List Term)
+    → term_cmp (Made rule variable frontier) (Made rule' variable' frontier')
+    ≡ ordering_then (ordering_then (ordering_then
+    (nat_cmp (nesting (Made rule variable frontier)) (nesting (Made rule' variable' frontier')))
+    (nat_cmp rule rule'))
+    (nat_cmp variable variable'))
+    (slice_cmp term_cmp frontier frontier')
+term_cmp-Made-Made rule variable frontier rule' variable' frontier' =
+    term_cmp-levels _ _
+    ∙ rw (outs-Made rule variable frontier, outs-Made rule' variable' frontier') (simp (ordering_then-assoc, nesting-Made) refl)
+
+-- what the code of the comparison answers at each two kinds
 pub ruleset compare_rules = (
   term_cmp-Const-Const,
   term_cmp-Const-Plain,
@@ -65,11 +75,18 @@ pub ruleset compare_rules = (
   term_cmp-Made-Made,
 )
 
-equal_at : (t u : Term) → t ≡ u → term_cmp t u ≡ Equal
-equal_at t u p = subst (λ w. term_cmp t w ≡ Equal) p (tied_itself term_cmp_total t)
+-- ---- equal terms
 
-pub equal_iff : (t u : Term) (b : Bool) → b ≡ is_eq (term_cmp t u) → IsTrue b ↔ (t ≡ u)
-equal_iff t u b e = (λ h. term_cmp_exact t u ((Equal-is _).0 (sym e ∙ h)), λ p. e ∙ (Equal-is _).1 (equal_at t u p))
+term_cmp-same : (left right : Term) → left ≡ right → term_cmp left right ≡ Equal
+term_cmp-same left right same = subst (λ term. term_cmp left term ≡ Equal) same (tied_itself term_cmp_total left)
 
-pub cmp_iff : (t u : Term) → (term_cmp t u ≡ Equal) ↔ (t ≡ u)
-cmp_iff t u = (term_cmp_exact t u, equal_at t u)
+-- the order answers `Equal` exactly at equal terms
+pub term_cmp-Equal : (left right : Term) → (term_cmp left right ≡ Equal) ↔ (left ≡ right)
+term_cmp-Equal left right = (term_cmp_exact left right, term_cmp-same left right)
+
+-- and so the test whether it answers `Equal` is the test whether they are equal
+pub equal_tested : (left right : Term) (test : Bool) → test ≡ is_eq (term_cmp left right) → IsTrue test ↔ (left ≡ right)
+equal_tested left right test is = (
+  λ holds. term_cmp_exact left right ((Equal-is _).0 (sym is ∙ holds)),
+  λ same. is ∙ (Equal-is _).1 (term_cmp-same left right same),
+)

@@ -1,136 +1,71 @@
--- Finitely many terms stand over a finite stock.
-use Rattle.std.proofs.Common.{◌≡◌, ℕ, zero, suc, ◌≤◌, ◌<◌, List, [], ◌∷◌, ◌++◌, map, length, slice_index_or, Contains, refl, sym, ap, ◌∙◌, subst, arith}
-use Rattle.std.specs.List.{AllByRecursion, flat_map}
-use Rattle.std.specs.Prelude.{◌⊎◌}
-use Rattle.std.proofs.Common.{inl, inr}
-use Rattle.std.proofs.Math.ListN.{length-map}
-use Rattle.esto_term.specs.declared.term.Term.{Term, out-Term, roll-Term, roll-out-Term, map-Term, rec-roll-Term}
-use Rattle.esto_term.specs.declared.term.Term.TheVariants.{Const, Plain, Made, rolls-Const, rolls-Plain, rolls-Made}
-use Rattle.esto_term.specs.declared.term.Term.TheOpen.{Term-F}
-use Rattle.esto_term.specs.Nesting.{nesting, above}
-use Rattle.esto_term.specs.Finite.{Stock, made_step, IsMadeOf, AreFinite}
-use Rattle.esto_term.proofs.NestingLemmas.{nesting-Made}
+-- The terms over a finite stock, of bounded width and nesting, stand in one finite list.
+use Rattle.std.proofs.Common.{ℕ, zero, suc, ◌≤◌, ◌<◌, List, [], ◌∷◌, map, length, Contains, subst, arith}
+use Rattle.std.specs.List.{flat_map}
+use Rattle.std.proofs.lemmas.List.Elements.{Contains-append_left, Contains-append_right}
+use Rattle.esto_term.specs.Finite.{Stock, IsMadeOf, lists_within, unmade_terms, made_terms, terms_within, AreFinite}
+use Rattle.esto_term.specs.Finite.IsMadeOf.{constant, plain, made}
+use Rattle.esto_term.specs.Nesting.{nesting, nesting_above, greatest_u64}
+use Rattle.esto_term.specs.declared.term.Term.{Term}
+use Rattle.esto_term.specs.declared.term.Term.TheVariants.{Const, Plain, Made}
+use Rattle.esto_term.proofs.ContainsLemmas.{Contains-first, Contains-map, Contains-flat_map, Contains-lists_within}
+use Rattle.esto_term.proofs.NestingLemmas.{nesting-Made, one_deeper-part}
 
--- ---- the cases of a term
+module _ (stock : Stock) (width : ℕ) where
+  -- ---- one level of the list
 
-pub term_cases : (P : Term → Type 0) → ((s : List ℕ) → P (Const s)) → ((n : ℕ) → P (Plain n)) → ((r v : ℕ) (fs : List Term) → P (Made r v fs)) → (t : Term) → P t
-term_cases P c p m t = subst P (roll-out-Term t) (by (out-Term t))
-  where
-    by : (x : Term-F Term) → P (roll-Term x)
-    by (Term-F.Const s) = subst P (sym (rolls-Const s)) (c s)
-    by (Term-F.Plain n) = subst P (sym (rolls-Plain n)) (p n)
-    by (Term-F.Made r v fs) = subst P (sym (rolls-Made r v fs)) (m r v fs)
+  pub Contains-made_terms : (rule variable : ℕ) (frontier : List Term) (frontiers : List (List Term))
+      → Contains stock.rules rule → Contains stock.variables variable → Contains frontiers frontier → Contains (made_terms stock frontiers) (Made rule variable frontier)
+  Contains-made_terms rule variable frontier frontiers has_rule has_variable has_frontier =
+      Contains-flat_map (λ r. flat_map (λ v. map (Made r v) frontiers) stock.variables) stock.rules rule (Made rule variable frontier) has_rule
+      (Contains-flat_map (λ v. map (Made rule v) frontiers) stock.variables variable (Made rule variable frontier) has_variable
+      (Contains-map (Made rule variable) frontiers frontier has_frontier))
 
--- ---- membership
+  -- a constant or a plain term of the stock stands in each level
+  unmade_within : (depth : ℕ) (term : Term) → Contains (unmade_terms stock) term → Contains (terms_within stock width depth) term
+  unfolding terms_within
+  unmade_within zero term has = Contains-append_left (unmade_terms stock) _ term has
+  unmade_within (suc depth) term has = Contains-append_left (unmade_terms stock) _ term has
 
-abbrev In : {A : Type 0} → A → List A → Type 0
-In x [] = ⊥
-In x (y ∷ ys) = (x ≡ y) ⊎ In x ys
+  -- a made term without frontier stands in the lowest level
+  bare_within : (rule variable : ℕ) → Contains stock.rules rule → Contains stock.variables variable → Contains (terms_within stock width 0) (Made rule variable [])
+  unfolding terms_within
+  bare_within rule variable has_rule has_variable =
+      Contains-append_right (unmade_terms stock) _ _ (Contains-made_terms rule variable [] ([] ∷ []) has_rule has_variable (Contains-first [] []))
 
-in_of : {A : Type 0} (x : A) (xs : List A) (k : ℕ) → k < length xs → slice_index_or xs k x ≡ x → In x xs
-in_of x [] k h e = absurd (omega arith)
-in_of x (y ∷ ys) zero h e = inl (sym e)
-in_of x (y ∷ ys) (suc k) h e = inr (in_of x ys k (omega arith) e)
+  -- a made term stands one level above its frontier terms
+  made_within : (depth rule variable : ℕ) (frontier : List Term) → Contains stock.rules rule → Contains stock.variables variable → length frontier ≤ width
+      → ((term : Term) → Contains frontier term → Contains (terms_within stock width depth) term) → Contains (terms_within stock width (suc depth)) (Made rule variable frontier)
+  unfolding terms_within
+  made_within depth rule variable frontier has_rule has_variable short parts =
+      Contains-append_right (unmade_terms stock) _ _
+      (Contains-made_terms rule variable frontier (lists_within (terms_within stock width depth) width) has_rule has_variable
+      (Contains-lists_within (terms_within stock width depth) frontier width short parts))
 
-of_in : {A : Type 0} (x : A) (xs : List A) → In x xs → Contains xs x
-of_in x [] h = absurd h
-of_in x (y ∷ ys) (inl e) = (0, omega arith, sym e)
-of_in x (y ∷ ys) (inr h) = let c : Contains ys x = of_in x ys h in (suc c.0, omega arith, c.2)
+  -- ---- how deep the frontier of a term of bounded nesting nests
 
-in_left : {A : Type 0} (x : A) (xs ys : List A) → In x xs → In x (xs ++ ys)
-in_left x [] ys h = absurd h
-in_left x (z ∷ xs) ys (inl e) = inl e
-in_left x (z ∷ xs) ys (inr h) = inr (in_left x xs ys h)
+  -- a term that nests 0 deep has no frontier terms
+  frontier-none : (first : Term) (rest : List Term) → nesting_above (map nesting (first ∷ rest)) ≤ 0 → ⊥
+  frontier-none first rest low = omega arith
 
-in_right : {A : Type 0} (x : A) (xs ys : List A) → In x ys → In x (xs ++ ys)
-in_right x [] ys h = h
-in_right x (z ∷ xs) ys h = inr (in_right x xs ys h)
+  part_low : (depth : ℕ) → suc depth < greatest_u64 → (frontier : List Term) → nesting_above (map nesting frontier) ≤ suc depth
+      → (term : Term) → Contains frontier term → nesting term ≤ depth
+  part_low depth small frontier low term (place, within, is) = omega (arith, one_deeper-part frontier place term within is)
 
-in_map : {A B : Type 0} (f : A → B) (x : A) (xs : List A) → In x xs → In (f x) (map f xs)
-in_map f x [] h = absurd h
-in_map f x (y ∷ ys) (inl e) = inl (ap f e)
-in_map f x (y ∷ ys) (inr h) = inr (in_map f x ys h)
+  -- ---- every level
 
-in_flat : {A B : Type 0} (f : A → List B) (x : A) (xs : List A) (y : B) → In x xs → In y (f x) → In y (flat_map f xs)
-in_flat f x [] y h g = absurd h
-in_flat f x (z ∷ zs) y (inl e) g = in_left y (f z) (flat_map f zs) (subst (λ w. In y (f w)) e g)
-in_flat f x (z ∷ zs) y (inr h) g = in_right y (f z) (flat_map f zs) (in_flat f x zs y h g)
+  is_within : (depth : ℕ) → depth < greatest_u64 → (term : Term) → IsMadeOf stock width term → nesting term ≤ depth → Contains (terms_within stock width depth) term
+  is_within depth small term (constant text has) low =
+      unmade_within depth (Const text) (Contains-append_left (map Const stock.texts) _ (Const text) (Contains-map Const stock.texts text has))
+  is_within depth small term (plain number has) low =
+      unmade_within depth (Plain number) (Contains-append_right (map Const stock.texts) _ (Plain number) (Contains-map Plain stock.numbers number has))
+  is_within zero small term (made rule variable [] has_rule has_variable short parts) low = bare_within rule variable has_rule has_variable
+  is_within zero small term (made rule variable (first ∷ rest) has_rule has_variable short parts) low =
+      absurd (frontier-none first rest (subst (λ n. n ≤ 0) (nesting-Made rule variable (first ∷ rest)) low))
+  is_within (suc depth) small term (made rule variable frontier has_rule has_variable short parts) low =
+      made_within depth rule variable frontier has_rule has_variable short
+      (λ part has. is_within depth (omega arith) part (parts part has)
+      (part_low depth small frontier (subst (λ n. n ≤ suc depth) (nesting-Made rule variable frontier) low) part has))
 
--- ---- the terms, level by level
-
--- every list of at most n of the items
-abbrev lists_to : {A : Type 0} → ℕ → List A → List (List A)
-lists_to zero xs = [] ∷ []
-lists_to (suc n) xs = [] ∷ flat_map (λ x. map (λ ys. x ∷ ys) (lists_to n xs)) xs
-
-in_lists : {A : Type 0} (n : ℕ) (xs ys : List A) → length ys ≤ n → AllByRecursion (λ y. In y xs) ys → In ys (lists_to n xs)
-in_lists zero xs [] h a = inl refl
-in_lists zero xs (y ∷ ys) h a = absurd (omega arith)
-in_lists (suc n) xs [] h a = inl refl
-in_lists (suc n) xs (y ∷ ys) h a = inr (in_flat (λ x. map (λ zs. x ∷ zs) (lists_to n xs)) y xs (y ∷ ys) a.0 (in_map (λ zs. y ∷ zs) ys (lists_to n xs) (in_lists n xs ys (omega arith) a.1)))
-
-module _ (m : Stock) (width : ℕ) where
-  abbrev made_over : List (List Term) → List Term
-  made_over fss = flat_map (λ r. flat_map (λ v. map (Made r v) fss) m.variables) m.rules
-
-  abbrev plain_ones : List Term
-  plain_ones = map Const m.texts ++ map Plain m.numbers
-
-  abbrev terms_to : ℕ → List Term
-  terms_to zero = plain_ones ++ made_over ([] ∷ [])
-  terms_to (suc d) = plain_ones ++ made_over (lists_to width (terms_to d))
-
-  in_made : (r v : ℕ) (fs : List Term) (fss : List (List Term)) → In r m.rules → In v m.variables → In fs fss → In (Made r v fs) (made_over fss)
-  in_made r v fs fss a b c = in_flat (λ r. flat_map (λ v. map (Made r v) fss) m.variables) r m.rules (Made r v fs) a
-      (in_flat (λ v. map (Made r v) fss) v m.variables (Made r v fs) b (in_map (Made r v) fs fss c))
-
-  natural : (X : Type 0) (v : X → Term) (k : Term → Type 0) (x : Term-F X) → ◌≡◌ {A = Type 0} (made_step m width X v (λ p. k (v p)) x) (made_step m width Term (λ y. y) k (map-Term X Term v x))
-  natural X v k (Term-F.Const s) = refl
-  natural X v k (Term-F.Plain n) = refl
-  natural X v k (Term-F.Made r w xs) = λ i. Contains m.rules r × Contains m.variables w × (sym (length-map xs v) i ≤ width) × all xs i
-    where
-      all : (xs : List X) → ◌≡◌ {A = Type 0} (AllByRecursion (λ p. k (v p)) xs) (AllByRecursion k (map v xs))
-      all [] = refl
-      all (x ∷ xs) = λ i. k (v x) × all xs i
-
-  opened : (x : Term-F Term) → ◌≡◌ {A = Type 0} (IsMadeOf m width (roll-Term x)) (made_step m width Term (λ y. y) (IsMadeOf m width) x)
-  opened x = rec-roll-Term (Type 0) (made_step m width) natural x
-
-  plain_in : (d : ℕ) (t : Term) → In t plain_ones → In t (terms_to d)
-  plain_in zero t h = in_left t plain_ones _ h
-  plain_in (suc d) t h = in_left t plain_ones _ h
-
-  frontier_in : (d : ℕ) → suc d < 18446744073709551615 → ((t : Term) → IsMadeOf m width t → nesting t ≤ d → In t (terms_to d))
-      → (fs : List Term) → AllByRecursion (IsMadeOf m width) fs → above (map nesting fs) ≤ suc d → AllByRecursion (λ y. In y (terms_to d)) fs
-  frontier_in d h ih [] a n = tt
-  frontier_in d h ih (f ∷ fs) a n = (ih f a.0 (omega arith), frontier_in d h ih fs a.1 (omega arith))
-
-  -- what is to be shown of a made term at each bound
-  abbrev MadeIn : ℕ → Type 0
-  MadeIn d = (r v : ℕ) (fs : List Term) → Contains m.rules r → Contains m.variables v → length fs ≤ width → AllByRecursion (IsMadeOf m width) fs → above (map nesting fs) ≤ d → In (Made r v fs) (terms_to d)
-
-  made_zero : MadeIn 0
-  made_zero r v [] a b w c n = in_right _ plain_ones _ (in_made r v [] ([] ∷ []) (in_of r m.rules a.0 a.1 a.2) (in_of v m.variables b.0 b.1 b.2) (inl refl))
-  made_zero r v (f ∷ fs) a b w c n = absurd (omega arith)
-
-  made_suc : (d : ℕ) → suc d < 18446744073709551615 → ((t : Term) → IsMadeOf m width t → nesting t ≤ d → In t (terms_to d)) → MadeIn (suc d)
-  made_suc d h ih r v fs a b w c n =
-      in_right _ plain_ones _ (in_made r v fs (lists_to width (terms_to d)) (in_of r m.rules a.0 a.1 a.2) (in_of v m.variables b.0 b.1 b.2) (in_lists width (terms_to d) fs w (frontier_in d h ih fs c n)))
-
-  in_roll : (d : ℕ) → MadeIn d → (x : Term-F Term) → made_step m width Term (λ y. y) (IsMadeOf m width) x → nesting (roll-Term x) ≤ d → In (roll-Term x) (terms_to d)
-  in_roll d made (Term-F.Const s) a n = subst (λ t. In t (terms_to d)) (sym (rolls-Const s)) (plain_in d (Const s) (in_left (Const s) (map Const m.texts) _ (in_map Const s m.texts (in_of s m.texts a.0 a.1 a.2))))
-  in_roll d made (Term-F.Plain k) a n = subst (λ t. In t (terms_to d)) (sym (rolls-Plain k)) (plain_in d (Plain k) (in_right (Plain k) (map Const m.texts) _ (in_map Plain k m.numbers (in_of k m.numbers a.0 a.1 a.2))))
-  in_roll d made (Term-F.Made r v fs) a n =
-      subst (λ t. In t (terms_to d)) (sym (rolls-Made r v fs)) (made r v fs a.0 a.1 a.2 a.3 (subst (λ k. k ≤ d) (ap nesting (rolls-Made r v fs) ∙ nesting-Made r v fs) n))
-
-  in_out : (d : ℕ) → MadeIn d → (t : Term) → IsMadeOf m width t → nesting t ≤ d → In t (terms_to d)
-  in_out d made t c n =
-      subst (λ z. In z (terms_to d)) (roll-out-Term t)
-      (in_roll d made (out-Term t) (subst (λ (A : Type 0). A) (opened (out-Term t)) (subst (IsMadeOf m width) (sym (roll-out-Term t)) c)) (subst (λ z. nesting z ≤ d) (sym (roll-out-Term t)) n))
-
-  in_terms : (d : ℕ) → d < 18446744073709551615 → (t : Term) → IsMadeOf m width t → nesting t ≤ d → In t (terms_to d)
-  in_terms zero h = in_out zero made_zero
-  in_terms (suc d) h = in_out (suc d) (made_suc d h (in_terms d (omega arith)))
-
+-- the finite list holds every term within its bounds
 pub finite : AreFinite
-finite m width depth h = (terms_to m width depth, λ t c n. of_in t (terms_to m width depth) (in_terms m width depth h t c n))
+finite stock width depth small term is_made low = is_within stock width depth small term is_made low

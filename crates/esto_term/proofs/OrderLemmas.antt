@@ -1,4 +1,6 @@
--- The order of terms is a total order, which answers `Equal` at equal terms alone.
+-- The order of terms is total, and answers `Equal` at equal terms alone. The order goes down into frontiers, so these laws
+-- are shown first of the order that stops at a depth, by induction on the depth. At terms that are less high than the
+-- depth the two orders agree.
 use Rattle.std.proofs.Common.{◌≡◌, ℕ, max, ◌+◌, ◌<◌, suc, zero, List, [], ◌∷◌, map, refl, sym, ap, ◌∙◌, arith}
 use Rattle.std.specs.List.{AllByRecursion}
 use Rattle.std.specs.declared.cmp.Ordering.{Ordering}
@@ -11,144 +13,171 @@ use Rattle.std.proofs.lemmas.Cmp.{nat_cmp_total, nat_list_cmp_total, lists_total
 use Rattle.std.proofs.lemmas.Map.Lookups.{CmpEqualImpliesEq, exact_unsigned, exact_bytes}
 use Rattle.esto_term.specs.declared.term.Term.{Term, out-Term, roll-Term, roll-out-Term, fold-Term, fold_out-Term, para-roll-Term, map-Term}
 use Rattle.esto_term.specs.declared.term.Term.TheOpen.{Term-F}
-use Rattle.esto_term.specs.Nesting.{nesting, above}
-use Rattle.esto_term.specs.Order.{kind, text, number, rule, variable, frontier, layer_cmp, term_cmp}
+use Rattle.esto_term.specs.Nesting.{nesting, nesting_above}
+use Rattle.esto_term.specs.Order.{kind, text, number, rule, variable, frontier, level_cmp, term_cmp}
 
--- ---- one level
+-- ---- two terms compare by their levels
 
-paired : {A C D : Type 0} → (f : A → D) (xs : List A) (g : A → C) → map (λ (p : A × C). f p.0) (map (λ y. (y, g y)) xs) ≡ map f xs
-paired f [] g = refl
-paired f (x ∷ xs) g = ap (λ ys. f x ∷ ys) (paired f xs g)
+-- to map the first parts of pairs is to map what the pairs were made of
+map-paired : {A B C : Type 0} → (f : A → C) (g : A → B) (items : List A) → map (λ (pair : A × B). f pair.0) (map (λ item. (item, g item)) items) ≡ map f items
+map-paired f g [] = refl
+map-paired f g (first ∷ rest) = ap (λ mapped. f first ∷ mapped) (map-paired f g rest)
 
-compared : {A B : Type 0} (c : A → B → Ordering) (xs : List A) (ys : List B) → slice_cmp (λ (p : A × (B → Ordering)) w. p.1 w) (map (λ y. (y, c y)) xs) ys ≡ slice_cmp c xs ys
-compared c [] [] = refl
-compared c [] (y ∷ ys) = refl
-compared c (x ∷ xs) [] = refl
-compared c (x ∷ xs) (y ∷ ys) = ap (ordering_then (c x y)) (compared c xs ys)
+-- lists compare alike whether each left item comes with its own comparison or not
+slice_cmp-paired : {A B : Type 0} (order : A → B → Ordering) (left : List A) (right : List B)
+    → slice_cmp (λ (pair : A × (B → Ordering)) other. pair.1 other) (map (λ item. (item, order item)) left) right ≡ slice_cmp order left right
+slice_cmp-paired order [] [] = refl
+slice_cmp-paired order [] (other ∷ others) = refl
+slice_cmp-paired order (first ∷ rest) [] = refl
+slice_cmp-paired order (first ∷ rest) (other ∷ others) = ap (ordering_then (order first other)) (slice_cmp-paired order rest others)
 
-layer_paired : (c : Term → Term → Ordering) (x y : Term-F Term) → layer_cmp (λ (p : Term × (Term → Ordering)). nesting p.0) nesting (λ p w. p.1 w) (map-Term Term (Term × (Term → Ordering)) (λ t. (t, c t)) x) y ≡ layer_cmp nesting nesting c x y
-layer_paired c (Term-F.Const t) y = refl
-layer_paired c (Term-F.Plain n) y = refl
-layer_paired c (Term-F.Made r v fs) y =
-    let p = paired nesting fs c in
-    let q = compared c fs (frontier y) in
-    rw (p, q) refl
+-- and so do levels
+level_cmp-paired : (order : Term → Term → Ordering) (left right : Term-F Term)
+    → level_cmp (λ (pair : Term × (Term → Ordering)). nesting pair.0) nesting (λ pair other. pair.1 other) (map-Term Term (Term × (Term → Ordering)) (λ part. (part, order part)) left) right
+    ≡ level_cmp nesting nesting order left right
+level_cmp-paired order (Term-F.Const bytes) right = refl
+level_cmp-paired order (Term-F.Plain n) right = refl
+level_cmp-paired order (Term-F.Made r v parts) right =
+    let nestings = map-paired nesting order parts in
+    let frontiers = slice_cmp-paired order parts (frontier right) in
+    rw (nestings, frontiers) refl
 
-pub term_cmp-out : (t u : Term) → term_cmp t u ≡ layer_cmp nesting nesting term_cmp (out-Term t) (out-Term u)
-term_cmp-out t u =
-    ap (λ w. term_cmp w u) (sym (roll-out-Term t))
-    ∙ ap (λ (f : Term → Ordering). f u) (para-roll-Term (Term → Ordering) (λ x w. layer_cmp (λ p. nesting p.0) nesting (λ p z. p.1 z) x (out-Term w)) (out-Term t))
-    ∙ layer_paired term_cmp (out-Term t) (out-Term u)
+pub term_cmp-levels : (left right : Term) → term_cmp left right ≡ level_cmp nesting nesting term_cmp (out-Term left) (out-Term right)
+term_cmp-levels left right =
+    ap (λ term. term_cmp term right) (sym (roll-out-Term left))
+    ∙ ap (λ (against : Term → Ordering). against right)
+    (para-roll-Term (Term → Ordering) (λ level other. level_cmp (λ pair. nesting pair.0) nesting (λ pair part. pair.1 part) level (out-Term other)) (out-Term left))
+    ∙ level_cmp-paired term_cmp (out-Term left) (out-Term right)
 
--- ---- how deep a term is
+-- ---- the height of a term, which unlike its nesting has no greatest number
 
--- the greatest of the numbers, or 0
+-- the greatest of the numbers, or 0 where there is none
 abbrev greatest : List ℕ → ℕ
 greatest [] = 0
-greatest (n ∷ ns) = max n (greatest ns)
+greatest (first ∷ rest) = max first (greatest rest)
 
-abbrev depth_step : Term-F ℕ → ℕ
-depth_step (Term-F.Const _) = 0
-depth_step (Term-F.Plain _) = 0
-depth_step (Term-F.Made _ _ ns) = suc (greatest ns)
+-- a made term is higher than each term of its frontier
+abbrev level_height : Term-F ℕ → ℕ
+level_height (Term-F.Const _) = 0
+level_height (Term-F.Plain _) = 0
+level_height (Term-F.Made _ _ heights) = suc (greatest heights)
 
-depth : Term → ℕ
-depth = fold-Term ℕ depth_step
+height : Term → ℕ
+height = fold-Term ℕ level_height
 
-all_below : (fs : List Term) (n : ℕ) → greatest (map depth fs) < n → AllByRecursion (λ f. depth f < n) fs
-all_below [] n h = tt
-all_below (f ∷ fs) n h = (omega arith, all_below fs n (omega arith))
+all_lower : (terms : List Term) (bound : ℕ) → greatest (map height terms) < bound → AllByRecursion (λ term. height term < bound) terms
+all_lower [] bound low = tt
+all_lower (first ∷ rest) bound low = (omega arith, all_lower rest bound (omega arith))
 
-frontier_below : (t : Term) (n : ℕ) → depth t < suc n → AllByRecursion (λ f. depth f < n) (frontier (out-Term t))
-unfolding depth
-frontier_below t n h = by (out-Term t) (rw (fold_out-Term ℕ depth_step t) at h)
+-- the frontier terms of a term are lower than the term
+frontier_lower : (term : Term) (bound : ℕ) → height term < suc bound → AllByRecursion (λ part. height part < bound) (frontier (out-Term term))
+unfolding height
+frontier_lower term bound low = level (out-Term term) (rw (fold_out-Term ℕ level_height term) at low)
   where
-    by : (x : Term-F Term) → depth_step (map-Term Term ℕ depth x) < suc n → AllByRecursion (λ f. depth f < n) (frontier x)
-    by (Term-F.Const _) h = tt
-    by (Term-F.Plain _) h = tt
-    by (Term-F.Made _ _ fs) h = all_below fs n (omega arith)
+    level : (level : Term-F Term) → level_height (map-Term Term ℕ height level) < suc bound → AllByRecursion (λ part. height part < bound) (frontier level)
+    level (Term-F.Const _) low = tt
+    level (Term-F.Plain _) low = tt
+    level (Term-F.Made _ _ parts) low = all_lower parts bound (omega arith)
 
--- ---- the order of terms, looking no further than to a depth
+-- ---- the order that looks no deeper than to a depth
 
-abbrev cmp_to : ℕ → Term → Term → Ordering
-cmp_to zero = λ _ _. Equal
-cmp_to (suc n) = λ t u. layer_cmp nesting nesting (cmp_to n) (out-Term t) (out-Term u)
+-- at depth 0 all terms are alike
+abbrev cmp_within : ℕ → Term → Term → Ordering
+cmp_within zero = λ _ _. Equal
+cmp_within (suc depth) = λ left right. level_cmp nesting nesting (cmp_within depth) (out-Term left) (out-Term right)
 
-cmp_to_total : (n : ℕ) → IsTotalOrder (cmp_to n)
-cmp_to_total zero = point_total
-cmp_to_total (suc n) =
+cmp_within_total : (depth : ℕ) → IsTotalOrder (cmp_within depth)
+cmp_within_total zero = point_total
+cmp_within_total (suc depth) =
     on_total out-Term
     (then_total (on_total kind nat_cmp_total)
     (then_total (on_total text nat_list_cmp_total)
     (then_total (on_total number nat_cmp_total)
-    (then_total (on_total (λ x. above (map nesting (frontier x))) nat_cmp_total)
+    (then_total (on_total (λ level. nesting_above (map nesting (frontier level))) nat_cmp_total)
     (then_total (on_total rule nat_cmp_total)
     (then_total (on_total variable nat_cmp_total)
-    (on_total frontier (lists_total (cmp_to_total n)))))))))
+    (on_total frontier (lists_total (cmp_within_total depth)))))))))
 
-module _ (R S : Term → Term → Ordering) (P : Term → Type 0) where
-  lists_agree : ((t u : Term) → P t → R t u ≡ S t u) → (fs gs : List Term) → AllByRecursion P fs → slice_cmp R fs gs ≡ slice_cmp S fs gs
-  lists_agree same [] [] a = refl
-  lists_agree same [] (g ∷ gs) a = refl
-  lists_agree same (f ∷ fs) [] a = refl
-  lists_agree same (f ∷ fs) (g ∷ gs) a = λ i. ordering_then (same f g a.0 i) (lists_agree same fs gs a.1 i)
+-- lists compare alike by two orders that agree at each item of the left list
+lists_agree : (one other : Term → Term → Ordering) (P : Term → Type 0) → ((left right : Term) → P left → one left right ≡ other left right)
+    → (left right : List Term) → AllByRecursion P left → slice_cmp one left right ≡ slice_cmp other left right
+lists_agree one other P same [] [] all = refl
+lists_agree one other P same [] (y ∷ ys) all = refl
+lists_agree one other P same (x ∷ xs) [] all = refl
+lists_agree one other P same (x ∷ xs) (y ∷ ys) all = λ i. ordering_then (same x y all.0 i) (lists_agree one other P same xs ys all.1 i)
 
-agree : (n : ℕ) (t u : Term) → depth t < n → term_cmp t u ≡ cmp_to n t u
-agree zero t u h = absurd (omega arith)
-agree (suc n) t u h =
-    let p = lists_agree term_cmp (cmp_to n) (λ f. depth f < n) (agree n) (frontier (out-Term t)) (frontier (out-Term u)) (frontier_below t n h) in
-    rw term_cmp-out (rw p refl)
+-- at a term lower than the depth the order is the one that stops there
+orders_agree : (depth : ℕ) (left right : Term) → height left < depth → term_cmp left right ≡ cmp_within depth left right
+orders_agree zero left right low = absurd (omega arith)
+orders_agree (suc depth) left right low =
+    let frontiers =
+    lists_agree term_cmp (cmp_within depth) (λ part. height part < depth) (orders_agree depth) (frontier (out-Term left)) (frontier (out-Term right))
+    (frontier_lower left depth low) in
+    rw term_cmp-levels (rw frontiers refl)
+
+-- ---- the order is total
 
 pub term_cmp_total : IsTotalOrder term_cmp
 term_cmp_total = record {
-  antisymm = λ t u.
-      let n : ℕ = suc (depth t + depth u) in
-      agree n t u (omega arith) ∙ (cmp_to_total n).antisymm t u ∙ sym (ap ordering_reverse (agree n u t (omega arith)));
-  trans = λ t u w a b.
-      let n : ℕ = suc (depth t + depth u + depth w) in
-      agree n t w (omega arith) ∙ (cmp_to_total n).trans t u w (sym (agree n t u (omega arith)) ∙ a) (sym (agree n u w (omega arith)) ∙ b);
-  congr = λ t u w a.
-      let n : ℕ = suc (depth t + depth u + depth w) in
-      agree n t w (omega arith) ∙ (cmp_to_total n).congr t u w (sym (agree n t u (omega arith)) ∙ a) ∙ sym (agree n u w (omega arith));
+  antisymm = λ x y.
+      let depth : ℕ = suc (height x + height y) in
+      orders_agree depth x y (omega arith) ∙ (cmp_within_total depth).antisymm x y ∙ sym (ap ordering_reverse (orders_agree depth y x (omega arith)));
+  trans = λ x y z first second.
+      let depth : ℕ = suc (height x + height y + height z) in
+      orders_agree depth x z (omega arith)
+      ∙ (cmp_within_total depth).trans x y z (sym (orders_agree depth x y (omega arith)) ∙ first) (sym (orders_agree depth y z (omega arith)) ∙ second);
+  congr = λ x y z tied.
+      let depth : ℕ = suc (height x + height y + height z) in
+      orders_agree depth x z (omega arith)
+      ∙ (cmp_within_total depth).congr x y z (sym (orders_agree depth x y (omega arith)) ∙ tied)
+      ∙ sym (orders_agree depth y z (omega arith));
 }
 
--- ---- `Equal` comes at equal terms alone
+-- ---- the order answers `Equal` at equal terms alone
 
-then_first : (a b : Ordering) → ordering_then a b ≡ Equal → a ≡ Equal
-then_first Less b e = e
-then_first Equal b e = refl
-then_first Greater b e = e
+-- where a comparison and the next one together answer `Equal`, so does the first
+first_equal : (first next : Ordering) → ordering_then first next ≡ Equal → first ≡ Equal
+first_equal Less next tied = tied
+first_equal Equal next tied = refl
+first_equal Greater next tied = tied
 
-then_second : (a b : Ordering) → ordering_then a b ≡ Equal → b ≡ Equal
-then_second Less b e = cc
-then_second Equal b e = e
-then_second Greater b e = cc
+-- and so does the next one
+next_equal : (first next : Ordering) → ordering_then first next ≡ Equal → next ≡ Equal
+next_equal Less next tied = cc
+next_equal Equal next tied = tied
+next_equal Greater next tied = cc
 
-module _ (R : Term → Term → Ordering) (P : Term → Type 0) (exact : (t u : Term) → P t → R t u ≡ Equal → t ≡ u) where
-  lists_exact : (fs gs : List Term) → AllByRecursion P fs → slice_cmp R fs gs ≡ Equal → fs ≡ gs
-  lists_exact [] [] a e = refl
-  lists_exact [] (g ∷ gs) a e = cc
-  lists_exact (f ∷ fs) [] a e = cc
-  lists_exact (f ∷ fs) (g ∷ gs) a e = λ i. exact f g a.0 (then_first _ _ e) i ∷ lists_exact fs gs a.1 (then_second _ _ e) i
+-- an order that is exact at the terms of which P holds is exact at lists of them, and at levels over them
+module _ (order : Term → Term → Ordering) (P : Term → Type 0) (exact : (left right : Term) → P left → order left right ≡ Equal → left ≡ right) where
+  lists_exact : (left right : List Term) → AllByRecursion P left → slice_cmp order left right ≡ Equal → left ≡ right
+  lists_exact [] [] all tied = refl
+  lists_exact [] (y ∷ ys) all tied = cc
+  lists_exact (x ∷ xs) [] all tied = cc
+  lists_exact (x ∷ xs) (y ∷ ys) all tied = λ i. exact x y all.0 (first_equal _ _ tied) i ∷ lists_exact xs ys all.1 (next_equal _ _ tied) i
 
-  layer_exact : (x y : Term-F Term) → AllByRecursion P (frontier x) → layer_cmp nesting nesting R x y ≡ Equal → x ≡ y
-  layer_exact (Term-F.Const s) (Term-F.Const t) a e = ap Term-F.Const (exact_bytes s t (then_first _ _ e))
-  layer_exact (Term-F.Plain m) (Term-F.Plain n) a e = ap Term-F.Plain (exact_unsigned m n (then_first _ _ e))
-  layer_exact (Term-F.Made r v fs) (Term-F.Made q w gs) a e =
-      let e1 = then_second (nat_cmp (above (map nesting fs)) (above (map nesting gs))) _ e in
-      let e2 = then_second (nat_cmp r q) _ e1 in
-      λ i. Term-F.Made (exact_unsigned r q (then_first _ _ e1) i) (exact_unsigned v w (then_first _ _ e2) i) (lists_exact fs gs a (then_second (nat_cmp v w) _ e2) i)
-  layer_exact (Term-F.Const s) (Term-F.Plain n) a e = cc
-  layer_exact (Term-F.Const s) (Term-F.Made q w gs) a e = cc
-  layer_exact (Term-F.Plain m) (Term-F.Const t) a e = cc
-  layer_exact (Term-F.Plain m) (Term-F.Made q w gs) a e = cc
-  layer_exact (Term-F.Made r v fs) (Term-F.Const t) a e = cc
-  layer_exact (Term-F.Made r v fs) (Term-F.Plain n) a e = cc
+  levels_exact : (left right : Term-F Term) → AllByRecursion P (frontier left) → level_cmp nesting nesting order left right ≡ Equal → left ≡ right
+  levels_exact (Term-F.Const bytes) (Term-F.Const others) all tied = ap Term-F.Const (exact_bytes bytes others (first_equal _ _ tied))
+  levels_exact (Term-F.Plain n) (Term-F.Plain m) all tied = ap Term-F.Plain (exact_unsigned n m (first_equal _ _ tied))
+  levels_exact (Term-F.Made r v parts) (Term-F.Made q w others) all tied =
+      let from_rule = next_equal (nat_cmp (nesting_above (map nesting parts)) (nesting_above (map nesting others))) _ tied in
+      let from_variable = next_equal (nat_cmp r q) _ from_rule in
+      let from_frontier = next_equal (nat_cmp v w) _ from_variable in
+      λ i. Term-F.Made (exact_unsigned r q (first_equal _ _ from_rule) i) (exact_unsigned v w (first_equal _ _ from_variable) i) (lists_exact parts others all from_frontier i)
+  levels_exact (Term-F.Const bytes) (Term-F.Plain m) all tied = cc
+  levels_exact (Term-F.Const bytes) (Term-F.Made q w others) all tied = cc
+  levels_exact (Term-F.Plain n) (Term-F.Const others) all tied = cc
+  levels_exact (Term-F.Plain n) (Term-F.Made q w others) all tied = cc
+  levels_exact (Term-F.Made r v parts) (Term-F.Const others) all tied = cc
+  levels_exact (Term-F.Made r v parts) (Term-F.Plain m) all tied = cc
 
-exact_to : (n : ℕ) (t u : Term) → depth t < n → cmp_to n t u ≡ Equal → t ≡ u
-exact_to zero t u h e = absurd (omega arith)
-exact_to (suc n) t u h e =
-    sym (roll-out-Term t) ∙ ap roll-Term (layer_exact (cmp_to n) (λ f. depth f < n) (exact_to n) (out-Term t) (out-Term u) (frontier_below t n h) e) ∙ roll-out-Term u
+cmp_within_exact : (depth : ℕ) (left right : Term) → height left < depth → cmp_within depth left right ≡ Equal → left ≡ right
+cmp_within_exact zero left right low tied = absurd (omega arith)
+cmp_within_exact (suc depth) left right low tied =
+    let levels =
+    levels_exact (cmp_within depth) (λ part. height part < depth) (cmp_within_exact depth) (out-Term left) (out-Term right) (frontier_lower left depth low) tied in
+    sym (roll-out-Term left) ∙ ap roll-Term levels ∙ roll-out-Term right
 
 pub term_cmp_exact : CmpEqualImpliesEq term_cmp
-term_cmp_exact t u e = let n : ℕ = suc (depth t) in exact_to n t u (omega arith) (sym (agree n t u (omega arith)) ∙ e)
+term_cmp_exact left right tied =
+    let depth : ℕ = suc (height left) in
+    cmp_within_exact depth left right (omega arith) (sym (orders_agree depth left right (omega arith)) ∙ tied)

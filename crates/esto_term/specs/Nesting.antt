@@ -1,22 +1,28 @@
 -- How deep made terms nest.
 use Rattle.std.specs.Prelude.{ℕ, ◌+◌, max, min, List, [], ◌∷◌}
 use Rattle.esto_term.specs.declared.term.Term.{Term}
-use Rattle.esto_term.specs.declared.term.Term.TheOpen.{Term-F}
 use Rattle.esto_term.specs.declared.term.Term.TheFolds.{fold-Term}
+use Rattle.esto_term.specs.declared.term.Term.TheOpen.{Term-F}
 
--- one more, but for the greatest u64, which stays
-abbrev pub one_more : ℕ → ℕ
-one_more n = min (n + 1) 18446744073709551615
+-- The greatest `u64` is 2 ^ 64 - 1.
+abbrev pub greatest_u64 : ℕ
+greatest_u64 = 18446744073709551615
 
--- one more than the greatest of the numbers, and 0 where there is none
-abbrev pub above : List ℕ → ℕ
-above [] = 0
-above (n ∷ ns) = max (one_more n) (above ns)
+-- One level deeper is 1 more, but the greatest `u64` stays as it is.
+abbrev pub one_deeper : ℕ → ℕ
+one_deeper nesting = min (nesting + 1) greatest_u64
 
-abbrev pub nesting_step : Term-F ℕ → ℕ
-nesting_step (Term-F.Const _) = 0
-nesting_step (Term-F.Plain _) = 0
-nesting_step (Term-F.Made _ _ ns) = above ns
+-- What stands above terms of these nestings is one deeper than the deepest of them, and 0 deep above none.
+abbrev pub nesting_above : List ℕ → ℕ
+nesting_above [] = 0
+nesting_above (first ∷ rest) = max (one_deeper first) (nesting_above rest)
 
+-- The nesting of one level of a term, from the nestings of its frontier terms.
+abbrev pub level_nesting : Term-F ℕ → ℕ
+level_nesting (Term-F.Const _) = 0
+level_nesting (Term-F.Plain _) = 0
+level_nesting (Term-F.Made _ _ nestings) = nesting_above nestings
+
+-- A constant and a plain term nest 0 deep, and a made term nests as deep as its frontier makes it.
 abbrev pub nesting : Term → ℕ
-nesting = fold-Term ℕ nesting_step
+nesting = fold-Term ℕ level_nesting

@@ -1,59 +1,69 @@
--- The order of terms: by kind, then the bytes, the number, the nesting, the rule, the variable, and the frontiers as lists.
+-- The order of terms. Constants come first, then plain terms, then made terms. Constants compare by their bytes,
+-- plain terms by their numbers, and made terms by nesting, then rule, then variable, then frontier, as lists.
 use Rattle.std.specs.Prelude.{ℕ, List, [], map, cond}
-use Rattle.std.specs.declared.cmp.Ordering.{Ordering}
-use Rattle.std.specs.Ordering.{ordering_then, nat_cmp, is_eq}
 use Rattle.std.specs.Cmp.Lexicographic.{slice_cmp}
+use Rattle.std.specs.Ordering.{ordering_then, nat_cmp, is_eq}
+use Rattle.std.specs.declared.cmp.Ordering.{Ordering}
+use Rattle.esto_term.specs.Nesting.{nesting, nesting_above}
 use Rattle.esto_term.specs.declared.term.Term.{Term, out-Term, para-Term}
 use Rattle.esto_term.specs.declared.term.Term.TheOpen.{Term-F}
-use Rattle.esto_term.specs.Nesting.{nesting, above}
 
--- The parts of one level of a term, where a kind that lacks a part has 0 or nothing.
-module _ {A : Type 0} where
-  -- constants come first, and made terms last
-  abbrev pub kind : Term-F A → ℕ
+-- The parts of one level of a term that the order compares; a kind that lacks a part has 0 or nothing there.
+module _ {Part : Type 0} where
+  -- Constants come first, and made terms last.
+  abbrev pub kind : Term-F Part → ℕ
   kind (Term-F.Const _) = 0
   kind (Term-F.Plain _) = 1
   kind (Term-F.Made _ _ _) = 2
 
-  abbrev pub text : Term-F A → List ℕ
-  text (Term-F.Const x) = x
+  -- The bytes of a constant.
+  abbrev pub text : Term-F Part → List ℕ
+  text (Term-F.Const bytes) = bytes
   text (Term-F.Plain _) = []
   text (Term-F.Made _ _ _) = []
 
-  abbrev pub number : Term-F A → ℕ
+  -- The number of a plain term.
+  abbrev pub number : Term-F Part → ℕ
   number (Term-F.Const _) = 0
   number (Term-F.Plain n) = n
   number (Term-F.Made _ _ _) = 0
 
-  abbrev pub rule : Term-F A → ℕ
+  -- The rule of a made term.
+  abbrev pub rule : Term-F Part → ℕ
   rule (Term-F.Const _) = 0
   rule (Term-F.Plain _) = 0
   rule (Term-F.Made r _ _) = r
 
-  abbrev pub variable : Term-F A → ℕ
+  -- The variable of a made term.
+  abbrev pub variable : Term-F Part → ℕ
   variable (Term-F.Const _) = 0
   variable (Term-F.Plain _) = 0
   variable (Term-F.Made _ v _) = v
 
-  abbrev pub frontier : Term-F A → List A
+  -- The frontier of a made term.
+  abbrev pub frontier : Term-F Part → List Part
   frontier (Term-F.Const _) = []
   frontier (Term-F.Plain _) = []
-  frontier (Term-F.Made _ _ fs) = fs
+  frontier (Term-F.Made _ _ parts) = parts
 
--- the order of two levels, by the nesting of what stands in them and the order of what stands in them
-abbrev pub layer_cmp : {A B : Type 0} → (A → ℕ) → (B → ℕ) → (A → B → Ordering) → Term-F A → Term-F B → Ordering
-layer_cmp a b R x y =
-    ordering_then (nat_cmp (kind x) (kind y))
-    (ordering_then (slice_cmp nat_cmp (text x) (text y))
-    (ordering_then (nat_cmp (number x) (number y))
-    (ordering_then (nat_cmp (above (map a (frontier x))) (above (map b (frontier y))))
-    (ordering_then (nat_cmp (rule x) (rule y))
-    (ordering_then (nat_cmp (variable x) (variable y))
-    (slice_cmp R (frontier x) (frontier y)))))))
+-- Two levels compare by their parts, one after the other: `left_nesting` and `right_nesting` say how deep their
+-- frontier terms nest, and `order` compares frontier terms.
+abbrev pub level_cmp : {A B : Type 0} → (A → ℕ) → (B → ℕ) → (A → B → Ordering) → Term-F A → Term-F B → Ordering
+level_cmp left_nesting right_nesting order left right =
+    ordering_then (nat_cmp (kind left) (kind right))
+    (ordering_then (slice_cmp nat_cmp (text left) (text right))
+    (ordering_then (nat_cmp (number left) (number right))
+    (ordering_then (nat_cmp (nesting_above (map left_nesting (frontier left))) (nesting_above (map right_nesting (frontier right))))
+    (ordering_then (nat_cmp (rule left) (rule right))
+    (ordering_then (nat_cmp (variable left) (variable right))
+    (slice_cmp order (frontier left) (frontier right)))))))
 
+-- The order of terms compares their levels, and their frontier terms by the order itself.
 abbrev pub term_cmp : Term → Term → Ordering
-term_cmp = para-Term (Term → Ordering) (λ x u. layer_cmp (λ p. nesting p.0) nesting (λ p w. p.1 w) x (out-Term u))
+term_cmp =
+    para-Term (Term → Ordering)
+    (λ level other. level_cmp (λ part. nesting part.0) nesting (λ part frontier_term. part.1 frontier_term) level (out-Term other))
 
--- `to` in place of `from`, and no other term changed
+-- Where a term is `from` it becomes `to`; every other term stays, and nothing is replaced inside a made term.
 abbrev pub replaced : Term → Term → Term → Term
-replaced from to t = cond (is_eq (term_cmp t from)) to t
+replaced from to term = cond (is_eq (term_cmp term from)) to term

@@ -33,6 +33,7 @@ impl<T> Model for List<T> {
 
 /// A value that can be copied, where memory allows. The copy equals the original.
 pub trait Replicate {
+    /// A copy of this value.
     fn copy(&self, alloc: Global) -> Result<Self, OutOfMemory>
         ensures { IfOk result (λ it. it ≡ self.now) };
 }
@@ -47,12 +48,14 @@ impl<T> List<T> {
         }
     }
 
+    /// How many items the list has.
     pub fn len(&self) -> usize
         ensures { result ≡ length self.now }
     {
         self.items.len()
     }
 
+    /// Whether the list has no item.
     pub fn is_empty(&self) -> bool
         ensures { IsTrue result ↔ (length self.now ≡ 0) }
     {
@@ -130,7 +133,7 @@ impl<T: Drop> List<T> {
 impl<T: Replicate + Drop> Replicate for List<T> {
     fn copy(&self, alloc: Global) -> Result<List<T>, OutOfMemory> {
         let mut copied = List::new(alloc);
-        for item in self.items() {
+        'items: for item in self.items() {
             copied.push(item.copy(alloc)?)?;
         }
         Ok(copied)

@@ -40,11 +40,11 @@ impl Term {
             Term::Const(_) => 0,
             Term::Plain(_) => 0,
             Term::Made(_, _, frontier) => {
-                let mut above: u64 = 0;
-                for term in frontier.items() {
-                    above = above.max(term.nesting().saturating_add(1));
+                let mut nesting: u64 = 0;
+                'frontier: for part in frontier.items() {
+                    nesting = nesting.max(part.nesting().saturating_add(1));
                 }
-                above
+                nesting
             }
         }
     }
@@ -81,7 +81,7 @@ impl Term {
     }
 
     /// Whether both are the same tree.
-    #[tactic(auto, using(crate::proofs::CompareLemmas::equal_iff))]
+    #[tactic(auto, using(crate::proofs::CompareLemmas::equal_tested))]
     pub fn equal(&self, other: &Term) -> bool
         ensures { IsTrue result ↔ (self.now ≡ other.now) }
     {
@@ -94,11 +94,11 @@ impl Term {
 pub fn compare_terms(terms: &[Term], others: &[Term]) -> Ordering
     ensures { result ≡ slice_cmp term_cmp terms.now others.now }
 {
-    for (at, term) in terms.iter().enumerate() {
-        if at >= others.len() {
+    'terms: for (place, term) in terms.iter().enumerate() {
+        if place >= others.len() {
             return Ordering::Greater;
         }
-        let order = term.compare(&others[at]);
+        let order = term.compare(&others[place]);
         if order.is_ne() {
             return order;
         }
@@ -113,8 +113,8 @@ impl Replicate for Term {
             Term::Plain(number) => Ok(Term::Plain(*number)),
             Term::Made(rule, variable, frontier) => {
                 let mut copied = List::new(alloc);
-                for term in frontier.items() {
-                    copied.push(term.copy(alloc)?)?;
+                'frontier: for part in frontier.items() {
+                    copied.push(part.copy(alloc)?)?;
                 }
                 Ok(Term::Made(*rule, *variable, copied))
             }

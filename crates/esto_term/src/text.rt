@@ -14,6 +14,7 @@ pub enum TextError {
     /// The bytes are not UTF-8.
     #[error("the bytes are not UTF-8")]
     NotUtf8,
+    /// Memory is wanting; the bytes are UTF-8.
     #[error("out of memory")]
     OutOfMemory,
 }
@@ -39,7 +40,7 @@ pub type TextRow = List<Text>;
 pub type TextRows = List<TextRow>;
 
 impl Text {
-    /// The text of these bytes. NotUtf8 comes exactly where they are not UTF-8.
+    /// The text of these bytes. `NotUtf8` comes exactly where they are not UTF-8.
     pub fn from_bytes(alloc: Global, bytes: &[u8]) -> Result<Text, TextError>
         ensures { ReadsText bytes.now result }
     {
@@ -52,6 +53,7 @@ impl Text {
         }
     }
 
+    /// The bytes of the text, which are UTF-8.
     pub fn bytes(&self) -> &[u8]
         ensures value { result.now ≡ self.now }
         ensures utf8 { IsUtf8 result.now }
@@ -59,6 +61,7 @@ impl Text {
         self.text.as_str().as_bytes()
     }
 
+    /// The text as Rust's own.
     pub fn as_str(&self) -> &str
         ensures { result.now ≡ self.now }
     {
@@ -110,6 +113,7 @@ impl Bytes {
         }
     }
 
+    /// All the bytes, in order.
     pub fn bytes(&self) -> &[u8]
         ensures { result.now ≡ self.now }
     {

@@ -35,12 +35,14 @@ impl<T: Copy> Values<T> {
         }
     }
 
+    /// How many values the list has.
     pub fn len(&self) -> usize
         ensures { result ≡ length self.now }
     {
         self.values.len()
     }
 
+    /// Whether the list has no value.
     pub fn is_empty(&self) -> bool
         ensures { IsTrue result ↔ (length self.now ≡ 0) }
     {

@@ -1,4 +1,3 @@
-use Rattle.std.proofs.Common.{sym, arith}
 use Rattle.esto_semantics.specs.Maps.{IsFixedBy}
 use Rattle.esto_query.proofs.MapLemmas.{Contains-read, each_more, each_seen}
 use Rattle.esto_query.proofs.SoundLemmas.{unsafe_at}

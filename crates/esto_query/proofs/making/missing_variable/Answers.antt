@@ -1,4 +1,4 @@
-use Rattle.std.proofs.Common.{◌≡◌, true, false, sym, ◌∙◌, subst, inr}
+use Rattle.std.proofs.Common.{sym, ◌∙◌, subst, inr}
 use Rattle.esto_semantics.specs.Maps.{IsFixedBy}
 use Rattle.esto_query.proofs.SoundLemmas.{mentions_is, mentions_false}
 use Rattle.esto_query.proofs.making.missing_variable.Goals as goal

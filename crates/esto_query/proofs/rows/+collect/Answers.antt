@@ -1,7 +1,6 @@
 use Rattle.std.proofs.Common.{◌≡◌, [], ap, subst, ◌∙◌, arith, rules}
 use Rattle.std.proofs.lemmas.List.{nil_from_length}
 use Rattle.esto_semantics.specs.Maps.{AreFlat}
-use Rattle.esto_query.specs.Rows.{AreKnown, IsAscending}
 use Rattle.esto_query.specs.Trails.{with_trail}
 use Rattle.esto_query.proofs.TrailLemmas.{undone}
 use Rattle.esto_query.proofs.LeastLemmas.{flat_first, flat_rest}

@@ -1,7 +1,5 @@
-use Rattle.std.proofs.Common.{◌≡◌, None, refl, sym, ap, ◌∙◌}
-use Rattle.std.specs.FinMap.{get}
+use Rattle.std.proofs.Common.{refl, sym, ap, ◌∙◌}
 use Rattle.std.specs.Option.{option_copied}
-use Rattle.esto_query.specs.Trails.{with_trail}
 use Rattle.esto_query.proofs.TrailLemmas.{Tries-pushed}
 use Rattle.esto_query.proofs.trail.bind_term.Goals as goal
 

@@ -1,5 +1,6 @@
 use Rattle.std.proofs.Common.{◌≡◌, take}
 use Rattle.esto_term.proofs.term.TermReplicate.+copy.Given as goal
 
-abbrev pub invariant-loop-term : goal.invariant-loop-term
-invariant-loop-term l = l.copied ≡ take l.term-index l.term-items
+-- the frontier terms so far are copied
+abbrev pub invariant-frontier : goal.invariant-frontier
+invariant-frontier l = l.copied ≡ take l.part-index l.part-items

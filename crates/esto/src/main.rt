@@ -1,0 +1,39 @@
+//! The program `esto`: a polystore mediator.
+#![tactic(auto)]
+
+use esto_ports::{FolderShelf, OutSink};
+use esto_term::{List, Text, TextError};
+use esto_top::{Status, mediate};
+use std::alloc::Global;
+use std::env;
+use std::process::ExitCode;
+
+// The words after the program's name. What is not UTF-8 is outside the claims, and is answered as a word that names
+// no command.
+fn words_of(rt: &HostRuntime, alloc: Global) -> Result<List<Text>, Status> {
+    let mut words = List::new(alloc);
+    let Ok(arguments) = env::args(rt) else {
+        return Err(Status::OutOfMemory);
+    };
+    'arguments: for argument in arguments.skip(1) {
+        match Text::from_bytes(alloc, argument.as_bytes()) {
+            Ok(word) => words.push(word)?,
+            Err(TextError::NotUtf8) => return Err(Status::NotBuilt),
+            Err(TextError::OutOfMemory) => return Err(Status::OutOfMemory),
+        }
+    }
+    Ok(words)
+}
+
+fn main(rt: HostRuntime) -> ExitCode {
+    let alloc = rt.alloc();
+    let status = match words_of(&rt, alloc) {
+        Ok(words) => {
+            let mut shelf = FolderShelf::new(&rt);
+            let mut out = OutSink::new(&rt);
+            mediate(alloc, words.items(), &mut shelf, &mut out)
+        }
+        Err(status) => status,
+    };
+    ExitCode::from(status.code())
+}

@@ -1,0 +1,6 @@
+use Rattle.esto_top.specs.Course.{judges}
+use Rattle.esto_top.proofs.list.text_of.Goals as goal
+
+pub returns : goal.returns
+unfolding judges
+returns c = tt

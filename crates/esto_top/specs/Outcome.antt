@@ -1,0 +1,65 @@
+-- What the program answers to a command line.
+use Rattle.std.specs.Prelude.{◌≡◌, ◌≢◌, ◌⊎◌, ℕ, List, take, Option, Some, None, Result, Ok, Err}
+use Rattle.std.specs.Io.KnownBytes.{Appends, Keeps}
+use Rattle.esto_ports.specs.Files.{Files}
+use Rattle.esto_top.specs.Line.{line_of}
+use Rattle.esto_top.specs.Course.{Course, IsCaused}
+use Rattle.esto_top.specs.Grammar.{course_of}
+use Rattle.esto_top.specs.declared.ending.Reply.{Reply}
+use Rattle.esto_top.specs.declared.ending.Reply.TheVariants as reply
+use Rattle.esto_top.specs.declared.status.Status.{Status}
+use Rattle.esto_top.specs.declared.status.Status.TheVariants as status
+
+abbrev pub reply_status : Reply → Status
+reply_status (reply.Done text) = status.Done
+
+abbrev pub reply_text : Reply → List ℕ
+reply_text (reply.Done text) = text
+
+-- A course says a status and the text that is put with it: a reply's, or a refusal's line.
+pub data Says (course : Course Reply) (rose : Type 0) (status : Status) (text : List ℕ) : Type 0 where
+  replies : (reply : Reply) → course.goes reply → status ≡ reply_status reply → text ≡ reply_text reply → Says course rose status text
+  refuses : IsCaused rose status → course.stops status → text ≡ line_of status → Says course rose status text
+
+-- The status and the text are an outcome of a command line over these files, where no fetch is at a fault.
+abbrev pub Outcome : List (List ℕ) → Files → Status → List ℕ → Type 0
+Outcome words files status text = Says (course_of words (Some files)) ⊥ status text
+
+-- The whole text was put; or a prefix of it was, at a fault of the sink; or memory was refused, and nothing was put.
+pub data Mediates (course : Course Reply) (rose : Type 0) (old new : Option (List ℕ)) (sink_rose : Type 0) (result : Status) : Type 0 where
+  whole : (text : List ℕ) → Says course rose result text → Appends old new text → Mediates course rose old new sink_rose result
+  cut : (said : Status) (text : List ℕ) (kept : ℕ) → Says course rose said text → sink_rose → Appends old new (take kept text) → result ≡ status.WriteFault
+      → Mediates course rose old new sink_rose result
+  memory : Keeps old new → result ≡ status.OutOfMemory → Mediates course rose old new sink_rose result
+
+-- An answer of a command says a status and a text.
+abbrev pub IsSaid : Result Reply Status → Status → List ℕ → Type 0
+IsSaid (Ok reply) said text = (said ≡ reply_status reply) × (text ≡ reply_text reply)
+IsSaid (Err refusal) said text = (said ≡ refusal) × (text ≡ line_of refusal) × (refusal ≢ status.OutOfMemory)
+
+-- The one put of an answer.
+pub data Finishes (answer : Result Reply Status) (old new : Option (List ℕ)) (sink_rose : Type 0) (result : Status) : Type 0 where
+  whole : (text : List ℕ) → IsSaid answer result text → Appends old new text → Finishes answer old new sink_rose result
+  cut : (said : Status) (text : List ℕ) (kept : ℕ) → IsSaid answer said text → sink_rose → Appends old new (take kept text) → result ≡ status.WriteFault
+      → Finishes answer old new sink_rose result
+  memory : Keeps old new → result ≡ status.OutOfMemory → Finishes answer old new sink_rose result
+
+-- The answer is an outcome of the definition with its whole text, or want of memory and nothing.
+abbrev pub IsComplete : List (List ℕ) → Files → Option (List ℕ) → Option (List ℕ) → Status → Type 0
+IsComplete words files old new result =
+    ((text : List ℕ) × Outcome words files result text × Appends old new text) ⊎ ((result ≡ status.OutOfMemory) × Keeps old new)
+
+-- The same where the shelf tells its files, and neither count rose.
+abbrev pub CompleteWhereTold : List (List ℕ) → Option Files → Type 0 → Type 0 → Option (List ℕ) → Option (List ℕ) → Status → Type 0
+CompleteWhereTold words None rose sink_rose old new result = Unit {0}
+CompleteWhereTold words (Some files) rose sink_rose old new result = ¬ rose → ¬ sink_rose → IsComplete words files old new result
+
+-- A read fault: the count rose, the command fetches that file with no earlier refusal, and its line was put.
+abbrev pub CausedReadFault : Course Reply → Type 0 → Option (List ℕ) → Option (List ℕ) → Status → Type 0
+CausedReadFault course rose old new result =
+    (name : List ℕ) → result ≡ status.ReadFault name → rose × course.stops (status.ReadFault name) × Appends old new (line_of (status.ReadFault name))
+
+-- A write fault: the count rose, and a prefix of what was to be put was put.
+abbrev pub CausedWriteFault : Course Reply → Type 0 → Type 0 → Option (List ℕ) → Option (List ℕ) → Status → Type 0
+CausedWriteFault course rose sink_rose old new result =
+    result ≡ status.WriteFault → sink_rose × ((said : Status) × (text : List ℕ) × (kept : ℕ) × Says course rose said text × Appends old new (take kept text))
