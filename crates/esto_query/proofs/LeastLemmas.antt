@@ -19,7 +19,7 @@ use Rattle.esto_query.specs.declared.matches.Found.{Found}
 use Rattle.esto_query.proofs.MapLemmas.{Contains-first, Contains-later}
 use Rattle.esto_query.proofs.ValuationLemmas.{Keeps-map_of, Extends-map_of}
 use Rattle.esto_query.proofs.TrailLemmas.{Grew-same, Grew-then}
-use Rattle.esto_query.proofs.PlaceLemmas.{IsAtMost-nil, first_is_least, rest_is_at_most, IsAtMost-onto, IsAtMost-least}
+use Rattle.esto_query.proofs.PlaceLemmas.{IsAtMost-nil, rest_is_at_most, IsAtMost-onto, IsAtMost-least}
 use Rattle.esto_query.proofs.MatchLemmas.{IsMatch-length, found_variables}
 
 -- ---- where no first place below a bound has a match
@@ -36,9 +36,6 @@ cases_le : (a b : ℕ) → a ≤ b → (a < b) ⊎ (a ≡ b)
 cases_le a b m = grind arith
 
 module _ (atom : Fact Term) (rest facts : List (Fact Term)) (known : Assignment) (from : List ℕ) where
-  pub NoneBelow-first : (bound : ℕ) → bound ≡ first_from from → NoneBelow atom rest facts known from bound
-  NoneBelow-first bound e = record { at_or_after = λ m place places keeps extends match after. rw e (first_is_least from place places after) }
-
   NoneBelow-next : (here : ℕ) → NoneBelow atom rest facts known from here → NoneAt atom rest facts known from here → NoneBelow atom rest facts known from (here + 1)
   NoneBelow-next here before none = record { at_or_after = later }
     where

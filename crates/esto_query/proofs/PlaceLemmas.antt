@@ -51,9 +51,6 @@ pub IsAtMost-nil : (others : List ℕ) → IsAtMost [] others
 IsAtMost-nil [] greater = let e : Equal ≡ Greater = greater in cc
 IsAtMost-nil (q ∷ qs) greater = let e : Less ≡ Greater = greater in cc
 
-pub IsAtMost-past : (p : ℕ) (ps : List ℕ) → IsAtMost (p ∷ ps) [] → ⊥
-IsAtMost-past p ps h = h refl
-
 -- ---- from a list of places on
 
 cases_le : (a b : ℕ) → a ≤ b → (a < b) ⊎ (a ≡ b)

@@ -86,9 +86,6 @@ module _ (head : List Term) (atom : Fact Term) (rest facts : List (Fact Term)) (
   abbrev pub Seen : List (Fact Term) → List Term → Type 0
   Seen seen row = IsRowSeen head atom rest facts seen known row
 
-  pub seen_none : Adds old old (Seen [])
-  seen_none row = (λ there. inl there, λ either. elim either [ inl there ↦ there | inr s ↦ absurd (Contains-nil (image s.m atom) s.first) ])
-
   seen_more : (seen : List (Fact Term)) (fact : Fact Term) (row : List Term) → Seen seen row → Seen (seen ++ fact ∷ []) row
   seen_more seen fact row s = record {
     m = s.m;

@@ -1,21 +1,15 @@
 -- Schemas: looking a name up, and adding a relation.
-use Rattle.std.proofs.Common.{◌≡◌, ◌≢◌, ℕ, ◌<◌, List, [], ◌∷◌, ◌++◌, length, get_or, All, Contains, Option, Some, None, false, refl, sym, ap, ◌∙◌, arith}
+use Rattle.std.proofs.Common.{◌≡◌, ◌≢◌, ℕ, ◌<◌, List, [], ◌∷◌, ◌++◌, length, get_or, All, Contains, Option, Some, None, false, sym, ap, ◌∙◌, arith}
 use Rattle.std.specs.List.{slice_get}
 use Rattle.std.specs.Option.{option_map, is_some, MatchOption}
 use Rattle.std.proofs.lemmas.Bool.{false≢true}
-use Rattle.std.proofs.lemmas.List.{map_push, length_push, length-map}
+use Rattle.std.proofs.lemmas.List.{map_push, length_push, get_or_default}
 use Rattle.std.proofs.lemmas.List.Elements.{All-push}
 use Rattle.std.proofs.lemmas.List.Quantifiers.{all_pairs_push}
-use Rattle.std.proofs.lemmas.Option.{slice_get-map, slice_get_read, slice_get_within, get_or_from_slice_get}
+use Rattle.std.proofs.lemmas.Option.{slice_get-map, slice_get_within, get_or_from_slice_get}
 use Rattle.esto_query.specs.Schemas.{names_of, arities_of, IsArity, IsSchema}
 use Rattle.esto_query.specs.declared.schema.Relation.{Relation}
 use Rattle.esto_query.proofs.MapLemmas.{Contains-map_from}
-
-pub name_there : (schema : List Relation) (number : ℕ) (relation : Relation) (name : List ℕ) → number < length schema → relation ≡ get_or schema number relation → relation.name ≡ name → slice_get (names_of schema) number ≡ Some name
-name_there schema number relation name within read same =
-    slice_get-map (λ (it : Relation). it.name) schema number
-    ∙ ap (option_map (λ (it : Relation). it.name)) (slice_get_read schema (length schema) number relation refl within read)
-    ∙ ap Some same
 
 pub name_missing : (schema : List Relation) (name : List ℕ) → ((relation : Relation) → Contains schema relation → relation.name ≢ name) → ¬ (Contains (names_of schema) name)
 name_missing schema name apart inside =
@@ -37,7 +31,7 @@ IsSchema-push schema new relation grown old missing ranged room = rw grown (reco
 })
   where
     other : (k : ℕ) (d : List ℕ) → k < length (names_of schema) → get_or (names_of schema) k d ≡ relation.name → get_or (names_of schema) k relation.name ≡ relation.name
-    other k d within same = Rattle.std.proofs.lemmas.List.get_or_default (names_of schema) k relation.name d within ∙ same
+    other k d within same = get_or_default (names_of schema) k relation.name d within ∙ same
 
 -- where a look-up answered nothing
 pub none_found : {X : Type 0} (found : Option X) (P : Type 0) (Q : X → Type 0) → is_some found ≡ false → MatchOption found P Q → P

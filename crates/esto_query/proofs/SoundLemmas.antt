@@ -1,6 +1,6 @@
 -- Which variables a body mentions, and what every query keeps.
-use Rattle.std.proofs.Common.{◌≡◌, ◌≢◌, ◌⊎◌, ℕ, ◌<◌, eqb, Bool, true, false, List, [], ◌∷◌, length, get_or, take, Contains, Some, refl, sym, ap, subst, ◌∙◌, inl, inr, arith}
-use Rattle.std.specs.List.{list_any, slice_get}
+use Rattle.std.proofs.Common.{◌≡◌, ◌⊎◌, ℕ, ◌<◌, eqb, Bool, true, false, List, [], ◌∷◌, length, get_or, take, Contains, Some, refl, sym, ap, subst, ◌∙◌, inl, inr, arith}
+use Rattle.std.specs.List.{list_any}
 use Rattle.std.specs.Coded.{le_prop}
 use Rattle.std.proofs.Math.Logic.{∥∥₁_elim}
 use Rattle.std.proofs.lemmas.List.Folds.{list_any_at}
@@ -12,13 +12,12 @@ use Rattle.esto_term.specs.declared.term.Term.TheOpen.{Term-F}
 use Rattle.esto_term.specs.declared.term.Term.TheVariants.{Const, Plain, Made, outs-Const, outs-Plain, outs-Made, rolls-Const, rolls-Plain, rolls-Made}
 use Rattle.esto_semantics.specs.Facts.{Mentions}
 use Rattle.esto_semantics.specs.Maps.{IsFlat, IsFixedBy}
-use Rattle.esto_semantics.specs.WellFormed.{AreOver}
 use Rattle.esto_semantics.specs.declared.fact.Fact.{Fact}
 use Rattle.esto_query.specs.Soundness.{IsSafe, IsSound}
-use Rattle.esto_query.specs.Making.{IsFirstMisfit, IsFirstUnsafe}
+use Rattle.esto_query.specs.Making.{IsFirstUnsafe}
 use Rattle.esto_query.specs.Variables.{is_variable_kind, is_variable, atom_mentions, mentions}
 use Rattle.esto_query.specs.declared.query.Name.{Name}
-use Rattle.esto_query.proofs.MapLemmas.{Contains-first, Contains-later, Contains-nil}
+use Rattle.esto_query.proofs.MapLemmas.{Contains-first, Contains-later}
 
 -- ---- the tests of variables
 
@@ -122,17 +121,6 @@ sound_of head body names sound = record {
     flat_in_head term at = flat_known term (λ no. refute (λ kept. no (kept.query.flat_head term at)))
 
 -- ---- the first atom with a wrong number of terms, and the first unsafe variable
-
-pub AreOver-nil : (schema : List ℕ) → AreOver {V = Term} schema []
-AreOver-nil schema fact inside = absurd (Contains-nil fact inside)
-
-pub misfit_at : (schema : List ℕ) (body : List (Fact Term)) (place columns : ℕ) (atom : Fact Term) → place < length body → atom ≡ get_or body place atom → slice_get schema atom.relation ≡ Some columns → length atom.terms ≢ columns → AreOver schema (take place body) → IsFirstMisfit schema body place
-misfit_at schema body place columns atom within read arity other before = record {
-  atom = atom;
-  there = slice_get_read body (length body) place atom refl within read;
-  misfit = λ fits. other (let same : Some (length atom.terms) ≡ Some columns = sym fits ∙ arity in cc);
-  before = before;
-}
 
 pub unsafe_at : (head : List Term) (body : List (Fact Term)) (place variable : ℕ) (term : Term) → place < length head → term ≡ get_or head place term → term ≡ Plain variable → ¬ (Mentions body (Plain variable)) → IsSafe (take place head) body → IsFirstUnsafe head body variable
 unsafe_at head body place variable term within read plain missing before = record {

@@ -1,16 +1,14 @@
 -- Trails of bindings: the last binding of a variable, and what one more binding does.
-use Rattle.std.proofs.Common.{◌≡◌, ◌↔◌, ℕ, suc, ◌+◌, ◌-◌, ◌<◌, ◌≤◌, Bool, true, false, IsTrue, cond, Some, None, Option, List, [], ◌∷◌, ◌++◌, take, length, get_or, map, refl, sym, ap, subst, ◌∙◌, arith}
+use Rattle.std.proofs.Common.{◌≡◌, ◌↔◌, ℕ, suc, ◌+◌, ◌-◌, ◌<◌, ◌≤◌, Bool, true, false, cond, Some, None, Option, List, [], ◌∷◌, ◌++◌, take, length, get_or, map, refl, sym, ap, subst, ◌∙◌, arith}
 use Rattle.std.proofs.Math.Seq.{take-suc}
-use Rattle.std.proofs.lemmas.List.{append_assoc, append-nil, take-map, take_at, take_all, take_more}
+use Rattle.std.proofs.lemmas.List.{append_assoc, append-nil, take-map, take_at, take_all, take_more, map_push, same_from_push}
 use Rattle.std.proofs.lemmas.List.Sums.{fold-append}
-use Rattle.std.proofs.lemmas.Bool.{false≢true}
 use Rattle.std.specs.Ordering.{nat_cmp, eq_by_cmp}
 use Rattle.std.specs.Cmp.{nat_cmp_total}
 use Rattle.std.specs.FinMap.{get, insert, get-insert}
 use Rattle.esto_term.specs.declared.term.Term.{Term}
-use Rattle.esto_term.specs.declared.term.Term.TheVariants.{Const, Plain}
+use Rattle.esto_term.specs.declared.term.Term.TheVariants.{Plain}
 use Rattle.esto_semantics.specs.Facts.{image}
-use Rattle.esto_semantics.specs.Maps.{IsConstant, Keeps}
 use Rattle.esto_semantics.specs.declared.fact.Fact.{Fact}
 use Rattle.esto_query.specs.Valuations.{Assignment, Extends}
 use Rattle.esto_query.specs.Trails.{with_trail, Narrows, Excludes, Grew, Tries}
@@ -74,23 +72,6 @@ Tries-weaker start old new true P Q same tried = (
 )
 Tries-weaker start old new false P Q same tried = (tried.0, λ m keeps extends q. tried.1 m keeps extends ((same m).1 q))
 
--- a property that every map has, or none
-pub Tries-decided : (start : Assignment) (trail : List Binding) (outcome : Bool) (Given : Type 0) (P : (Term → Term) → Type 0) → IsTrue outcome ↔ Given → ((m : Term → Term) → Keeps Const m → Extends m (with_trail start trail) → P m ↔ Given) → Tries start trail trail outcome P
-Tries-decided start trail true Given P test same =
-    (Grew-same trail, λ m keeps. (λ extends. (extends, (same m keeps extends).1 (test.0 refl)), λ both. both.0))
-Tries-decided start trail false Given P test same =
-    (refl, λ m keeps extends p. false≢true (test.1 ((same m keeps extends).0 p)))
-
-pub Tries-constant : (start : Assignment) (trail : List Binding) (outcome : Bool) (term target : Term) → IsConstant term → IsTrue outcome ↔ (term ≡ target) → Tries start trail trail outcome (λ m. m term ≡ target)
-Tries-constant start trail outcome term target constant test =
-    Tries-decided start trail outcome (term ≡ target) (λ m. m term ≡ target) test
-    (λ m keeps extends. let stays : m term ≡ term = ap m constant.1 ∙ keeps constant.0 ∙ sym constant.1 in (λ e. sym stays ∙ e, λ e. stays ∙ e))
-
-pub Tries-bound : (start : Assignment) (trail : List Binding) (outcome : Bool) (term target bound : Term) (variable : ℕ) → term ≡ Plain variable → get (with_trail start trail) variable ≡ Some bound → IsTrue outcome ↔ (bound ≡ target) → Tries start trail trail outcome (λ m. m term ≡ target)
-Tries-bound start trail outcome term target bound variable plain known test =
-    Tries-decided start trail outcome (bound ≡ target) (λ m. m term ≡ target) test
-    (λ m keeps extends. let value : m term ≡ bound = ap m plain ∙ extends variable bound known in (λ e. sym value ∙ e, λ e. value ∙ e))
-
 pub Tries-pushed : (start : Assignment) (old new : List Binding) (binding : Binding) (term target : Term) → term ≡ Plain binding.variable → binding.term.now ≡ target → get (with_trail start old) binding.variable ≡ None → new ≡ old ++ binding ∷ [] → Tries start old new true (λ m. m term ≡ target)
 Tries-pushed start old new binding term target plain value none grown = (
   (binding ∷ [], grown),
@@ -107,9 +88,9 @@ Tries-pushed start old new binding term target plain value none grown = (
 -- two rows agree up to i + 1 where they agree up to i and at i
 row_next : (m : Term → Term) (xs ys : List Term) (i : ℕ) (x y : Term) → i < length xs → i < length ys → x ≡ get_or xs i x → y ≡ get_or ys i y → (map m (take (i + 1) xs) ≡ take (i + 1) ys) ↔ ((map m (take i xs) ≡ take i ys) × (m x ≡ y))
 row_next m xs ys i x y l k read_x read_y =
-    let left : map m (take (i + 1) xs) ≡ map m (take i xs) ++ m x ∷ [] = ap (map m) (take_more xs i x l ∙ ap (λ z. take i xs ++ z ∷ []) (sym read_x)) ∙ Rattle.std.proofs.lemmas.List.map_push m (take i xs) x in
+    let left : map m (take (i + 1) xs) ≡ map m (take i xs) ++ m x ∷ [] = ap (map m) (take_more xs i x l ∙ ap (λ z. take i xs ++ z ∷ []) (sym read_x)) ∙ map_push m (take i xs) x in
     let right : take (i + 1) ys ≡ take i ys ++ y ∷ [] = take_more ys i y k ∙ ap (λ z. take i ys ++ z ∷ []) (sym read_y) in (
-      λ e. Rattle.std.proofs.lemmas.List.same_from_push (map m (take i xs)) (take i ys) (m x) y (sym left ∙ e ∙ right),
+      λ e. same_from_push (map m (take i xs)) (take i ys) (m x) y (sym left ∙ e ∙ right),
       λ both. left ∙ ap (λ z. z ++ m x ∷ []) both.0 ∙ ap (λ z. take i ys ++ z ∷ []) both.1 ∙ sym right,
     )
 
@@ -137,13 +118,6 @@ Narrows-whole start old new xs ys i l k before m keeps =
       λ both. (before m keeps).1 (both.0, same.1 both.1),
     )
 
-pub Narrows-nothing : (start : Assignment) (trail : List Binding) (xs ys : List Term) → Narrows (with_trail start trail) (with_trail start trail) (λ m. map m (take 0 xs) ≡ take 0 ys)
-Narrows-nothing start trail xs ys m keeps = (λ extends. (extends, refl), λ both. both.0)
-
--- rows of different lengths have no images alike
-pub Excludes-lengths : (known : Assignment) (xs ys : List Term) → (length xs ≡ length ys → ⊥) → Excludes known (λ m. map m xs ≡ ys)
-Excludes-lengths known xs ys apart m keeps extends e = apart (sym (Rattle.std.proofs.lemmas.List.length-map xs m) ∙ ap length e)
-
 -- ---- atoms
 
 pub Tries-atom : (start : Assignment) (old new : List Binding) (outcome : Bool) (atom fact : Fact Term) → atom.relation ≡ fact.relation → Tries start old new outcome (λ m. map m atom.terms ≡ fact.terms) → Tries start old new outcome (λ m. image m atom ≡ fact)
@@ -152,7 +126,3 @@ Tries-atom start old new outcome atom fact same =
       λ e. ap (λ (r : ℕ). record { relation = r; terms = map m atom.terms }) same ∙ ap (λ (row : List Term). record { relation = fact.relation; terms = row }) e,
       λ e. ap (λ (f : Fact Term). f.terms) e,
     ))
-
--- atoms of different relations have no images alike
-pub Excludes-relations : (known : Assignment) (atom fact : Fact Term) → (atom.relation ≡ fact.relation → ⊥) → Excludes known (λ m. image m atom ≡ fact)
-Excludes-relations known atom fact apart m keeps extends e = apart (ap (λ (f : Fact Term). f.relation) e)

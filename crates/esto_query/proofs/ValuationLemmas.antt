@@ -1,5 +1,5 @@
 -- Finite valuations: the last binding of a variable in a list, and the map of a valuation.
-use Rattle.std.proofs.Common.{◌≡◌, ◌↔◌, ℕ, suc, ◌-◌, ◌<◌, ◌≤◌, Bool, true, false, cond, Some, None, List, [], ◌∷◌, reverse, take, length, get_or, unwrap_or, refl, sym, ap, ◌∙◌, arith}
+use Rattle.std.proofs.Common.{◌≡◌, ◌↔◌, ℕ, suc, ◌-◌, ◌<◌, ◌≤◌, Bool, true, false, cond, Option, Some, None, List, [], ◌∷◌, reverse, take, length, get_or, unwrap_or, refl, sym, ap, ◌∙◌, arith}
 use Rattle.std.proofs.Math.Seq.{take-suc}
 use Rattle.std.proofs.lemmas.List.{reverse-append}
 use Rattle.std.proofs.lemmas.Option.{none-some, same_Some}
@@ -27,7 +27,7 @@ key_same m n e = grind (arith, nat_tests)
 
 module _ {X : Type 0} (es : List (ℕ × X)) (q : ℕ) where
   -- what the first i entries give, where a later one hides an earlier one
-  abbrev pub last_of : ℕ → Rattle.std.proofs.Common.Option X
+  abbrev pub last_of : ℕ → Option X
   last_of i = find nat_cmp q (reverse (take i es))
 
   last_step : (i : ℕ) (e : ℕ × X) → 0 < i → i ≤ length es → e ≡ get_or es (i - 1) e → last_of i ≡ cond (eq_by_cmp nat_cmp q e.0) (Some e.1) (last_of (i - 1))

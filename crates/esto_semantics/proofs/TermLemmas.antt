@@ -1,16 +1,25 @@
 -- Terms: their kinds, the test of equality, and maps that are mended at the constants.
-use Rattle.std.proofs.Common.{◌≡◌, ◌≢◌, ◌⊎◌, inl, inr, ℕ, Bool, true, false, cond, List, Some, None, Option, refl, sym, ap, ◌∙◌}
+use Rattle.std.proofs.Common.{◌≡◌, ◌≢◌, ◌⊎◌, inl, inr, ℕ, Bool, true, false, cond, List, Some, None, Option, refl, sym, ap, subst, ◌∙◌}
 use Rattle.std.specs.Bool.{Decides}
 use Rattle.std.specs.Ordering.{is_eq}
-use Rattle.esto_term.specs.declared.term.Term.{Term, out-Term}
-use Rattle.esto_term.specs.declared.term.Term.TheVariants.{Const, Plain, Made, outs-Const, outs-Plain, outs-Made}
+use Rattle.esto_term.specs.declared.term.Term.{Term, out-Term, roll-Term, roll-out-Term}
+use Rattle.esto_term.specs.declared.term.Term.TheVariants.{Const, Plain, Made, outs-Const, outs-Plain, outs-Made, rolls-Const, rolls-Plain, rolls-Made}
 use Rattle.esto_term.specs.declared.term.Term.TheOpen.{Term-F}
 use Rattle.esto_term.specs.Order.{term_cmp, replaced}
-use Rattle.esto_term.proofs.CompareLemmas.{equal_iff}
-use Rattle.esto_term.proofs.FiniteLemmas.{term_cases}
+use Rattle.esto_term.proofs.CompareLemmas.{equal_tested}
 use Rattle.esto_semantics.specs.Maps.{IsFlat, Keeps}
 
--- ---- the kinds are apart
+-- ---- the kinds of a term
+
+-- what holds of each kind of term holds of every term
+pub term_cases : (P : Term → Type 0) → ((text : List ℕ) → P (Const text)) → ((number : ℕ) → P (Plain number)) → ((rule variable : ℕ) (frontier : List Term) → P (Made rule variable frontier)) → (term : Term) → P term
+term_cases P constant plain made term = subst P (roll-out-Term term) (by (out-Term term))
+  where
+    by : (level : Term-F Term) → P (roll-Term level)
+    by (Term-F.Const text) = subst P (sym (rolls-Const text)) (constant text)
+    by (Term-F.Plain number) = subst P (sym (rolls-Plain number)) (plain number)
+    by (Term-F.Made rule variable frontier) = subst P (sym (rolls-Made rule variable frontier)) (made rule variable frontier)
+
 
 pub Const-apart-Plain : (text : List ℕ) (number : ℕ) → Const text ≡ Plain number → ⊥
 Const-apart-Plain text number is = let levels : Term-F.Const text ≡ Term-F.Plain number = sym (outs-Const text) ∙ ap out-Term is ∙ outs-Plain number in cc
@@ -49,7 +58,7 @@ abbrev pub same_term : Term → Term → Bool
 same_term term other = is_eq (term_cmp term other)
 
 pub same_term-Decides : (term other : Term) → Decides (same_term term other) (term ≡ other)
-same_term-Decides term other = let both = equal_iff term other (same_term term other) refl in (both.0, both.1)
+same_term-Decides term other = let both = equal_tested term other (same_term term other) refl in (both.0, both.1)
 
 pub replaced_cases : (from to term : Term) → ((term ≡ from) × (replaced from to term ≡ to)) ⊎ ((term ≢ from) × (replaced from to term ≡ term))
 replaced_cases from to term = by (same_term term from) refl
