@@ -6,3 +6,5 @@ pub mod CanonicalLemmas
 pub mod ContainmentLemmas
 pub mod WellFormedLemmas
 pub mod BindingLemmas
+pub mod AnswerLemmas
+pub mod PlanLemmas

@@ -13,3 +13,4 @@ pub mod WellFormed
 pub mod Sides
 pub mod Restriction
 pub mod Bindings
+pub mod PlanOf

@@ -6,6 +6,7 @@
 mod answers;
 pub mod containment;
 mod fact;
+pub mod plans;
 pub mod well_formed;
 
 pub use answers::answers_over;
