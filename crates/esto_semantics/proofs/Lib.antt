@@ -8,3 +8,5 @@ pub mod WellFormedLemmas
 pub mod BindingLemmas
 pub mod AnswerLemmas
 pub mod PlanLemmas
+pub mod JoinLemmas
+pub mod ExpansionLemmas

@@ -14,3 +14,4 @@ pub mod Sides
 pub mod Restriction
 pub mod Bindings
 pub mod PlanOf
+pub mod Expansions

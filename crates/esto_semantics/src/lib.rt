@@ -5,6 +5,7 @@
 
 mod answers;
 pub mod containment;
+pub mod expansions;
 mod fact;
 pub mod plans;
 pub mod well_formed;
