@@ -1,6 +1,6 @@
 -- A query over fragments means what its expansion means.
-use Rattle.std.proofs.Common.{◌≡◌, ◌⊎◌, ◌↔◌, inl, inr, ℕ, ◌<◌, List, map, length, slice_get, Contains, Option, Some, None, refl, sym, ap, ◌∙◌, subst, arith}
-use Rattle.std.proofs.lemmas.Option.{slice_get_within, slice_get-get_or, slice_get_cases}
+use Rattle.std.proofs.Common.{◌≡◌, ◌⊎◌, ◌↔◌, inl, inr, ℕ, ◌<◌, List, map, length, slice_get, Contains, Option, Some, None, refl, sym, ap, ◌∙◌, subst}
+use Rattle.std.proofs.lemmas.Option.{slice_get_within}
 use Rattle.esto_term.specs.declared.term.Term.{Term}
 use Rattle.esto_term.specs.declared.term.Term.TheVariants.{Const}
 use Rattle.esto_semantics.specs.Containment.{IsContained}
@@ -19,18 +19,8 @@ use Rattle.esto_semantics.proofs.ContainmentLemmas.{universal_instances_decide}
 use Rattle.esto_semantics.proofs.ContainsLemmas.{Contains-at, Contains-map, Contains-flat_from, map_agree, agree-from_map, map_then}
 use Rattle.esto_semantics.proofs.FactLemmas.{image_agree, image_then}
 use Rattle.esto_semantics.proofs.JoinLemmas.{Contains-decided, joined, joined-spread, joined-given}
+use Rattle.esto_semantics.proofs.PlaceLemmas.{place-from_Contains, thing_at}
 use Rattle.esto_semantics.proofs.TermLemmas.{Const-apart-Plain, constant_text, constant_text-told, constant_text-Const}
-
--- ---- places
-
-pub place-from_Contains : {X : Type 0} (things : List X) (thing : X) → Contains things thing → (place : ℕ) × (slice_get things place ≡ Some thing)
-place-from_Contains things thing (place, within, is) = (place, slice_get-get_or things place thing within ∙ ap Some is)
-
-pub thing_at : {X : Type 0} (things : List X) (place : ℕ) → place < length things → (thing : X) × (slice_get things place ≡ Some thing)
-thing_at things place within = elim (slice_get_cases things place).1 [
-  | inl (thing, inside, found, is) ↦ (thing, found)
-  | inr (past, none) ↦ absurd (omega arith)
-]
 
 module _ (views : List ConjunctiveQuery) (query : ConjunctiveQuery) (expansion : List (Fact Term)) (is_expansion : IsExpansion views query expansion) where
   abbrev view : ℕ → ConjunctiveQuery

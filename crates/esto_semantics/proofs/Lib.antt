@@ -10,3 +10,5 @@ pub mod AnswerLemmas
 pub mod PlanLemmas
 pub mod JoinLemmas
 pub mod ExpansionLemmas
+pub mod PlaceLemmas
+pub mod CandidateLemmas

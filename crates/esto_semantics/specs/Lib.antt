@@ -15,3 +15,4 @@ pub mod Restriction
 pub mod Bindings
 pub mod PlanOf
 pub mod Expansions
+pub mod Rewritings

@@ -1,10 +1,14 @@
-//! Laws of universal plans.
-ghost use Rattle.std.specs.Prelude.{List};
-ghost use Rattle.esto_semantics.specs.Instances.{IsUniversalFor, IsFinished};
+//! Laws of universal plans, of their candidates, and of the rewritings that map to them.
+ghost use Rattle.std.specs.Prelude.{◌↔◌, Bool, List};
+ghost use Rattle.esto_semantics.specs.Containment.{IsContained, IsEquivalent};
+ghost use Rattle.esto_semantics.specs.Instances.{MapsTo, IsUniversalFor, IsFinished};
+ghost use Rattle.esto_semantics.specs.Listed.{candidate, HasCandidate, IsSafe};
 ghost use Rattle.esto_semantics.specs.PlanOf.{IsPlanOf};
 ghost use Rattle.esto_semantics.specs.Plans.{IsUniversalPlan};
-ghost use Rattle.esto_semantics.specs.Queries.{ConjunctiveQuery};
+ghost use Rattle.esto_semantics.specs.Queries.{ConjunctiveQuery, IsAnswer};
+ghost use Rattle.esto_semantics.specs.Rewritings.{IsPlanFor};
 ghost use Rattle.esto_semantics.specs.Rules.{Rule, AreRules};
+ghost use Rattle.esto_semantics.specs.Views.{IsFragmentAnswer};
 
 /// A law: where an instance is universal for a query under the rules, and meets the rules itself, the rows of all
 /// views over it, with its head, are a universal plan for the query, under whatever names for the terms.
@@ -12,4 +16,22 @@ pub fn rows_of_a_universal_instance_are_a_universal_plan()
     ensures { (rules : List Rule) (views : List ConjunctiveQuery) (query end plan : ConjunctiveQuery)
         → AreRules rules → IsUniversalFor rules query end → IsFinished rules end → IsPlanOf views end plan
         → IsUniversalPlan rules views query plan }
+{}
+
+/// A law: where a query over fragments maps to another, head to head, it contains the other.
+pub fn queries_contain_what_they_map_to()
+    ensures { (rules : List Rule) (views : List ConjunctiveQuery) (other query : ConjunctiveQuery)
+        → MapsTo other query → IsContained rules (IsFragmentAnswer views query) (IsFragmentAnswer views other) }
+{}
+
+/// A law: each safe candidate of a universal plan contains the query. So it is equivalent to the query exactly where it
+/// is contained in the query.
+pub fn candidates_contain_the_query()
+    ensures contains { (rules : List Rule) (views : List ConjunctiveQuery) (query plan : ConjunctiveQuery) (set : List Bool)
+        → IsPlanFor query plan → IsUniversalPlan rules views query plan → HasCandidate plan set → IsSafe plan set
+        → IsContained rules (IsAnswer query) (IsFragmentAnswer views (candidate plan set)) }
+    ensures equivalent { (rules : List Rule) (views : List ConjunctiveQuery) (query plan : ConjunctiveQuery) (set : List Bool)
+        → IsPlanFor query plan → IsUniversalPlan rules views query plan → HasCandidate plan set → IsSafe plan set
+        → IsEquivalent rules (IsFragmentAnswer views (candidate plan set)) (IsAnswer query)
+        ↔ IsContained rules (IsFragmentAnswer views (candidate plan set)) (IsAnswer query) }
 {}
