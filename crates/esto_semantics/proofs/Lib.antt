@@ -12,3 +12,5 @@ pub mod JoinLemmas
 pub mod ExpansionLemmas
 pub mod PlaceLemmas
 pub mod CandidateLemmas
+pub mod ScheduleLemmas
+pub mod RewritingLemmas

@@ -1,12 +1,13 @@
 //! Laws of universal plans, of their candidates, and of the rewritings that map to them.
 ghost use Rattle.std.specs.Prelude.{◌↔◌, Bool, List};
-ghost use Rattle.esto_semantics.specs.Containment.{IsContained, IsEquivalent};
+ghost use Rattle.esto_semantics.specs.Containment.{IsContained, IsEquivalent, IsSatisfiable};
 ghost use Rattle.esto_semantics.specs.Instances.{MapsTo, IsUniversalFor, IsFinished};
-ghost use Rattle.esto_semantics.specs.Listed.{candidate, HasCandidate, IsSafe};
+ghost use Rattle.esto_semantics.specs.Listed.{candidate, HasCandidate, IsSafe, IsRewriting, IsExecutableRewriting};
+ghost use Rattle.esto_semantics.specs.Maps.{AreFlat};
 ghost use Rattle.esto_semantics.specs.PlanOf.{IsPlanOf};
 ghost use Rattle.esto_semantics.specs.Plans.{IsUniversalPlan};
 ghost use Rattle.esto_semantics.specs.Queries.{ConjunctiveQuery, IsAnswer};
-ghost use Rattle.esto_semantics.specs.Rewritings.{IsPlanFor};
+ghost use Rattle.esto_semantics.specs.Rewritings.{IsPlanFor, MapsOnto};
 ghost use Rattle.esto_semantics.specs.Rules.{Rule, AreRules};
 ghost use Rattle.esto_semantics.specs.Views.{IsFragmentAnswer};
 
@@ -34,4 +35,13 @@ pub fn candidates_contain_the_query()
         → IsPlanFor query plan → IsUniversalPlan rules views query plan → HasCandidate plan set → IsSafe plan set
         → IsEquivalent rules (IsFragmentAnswer views (candidate plan set)) (IsAnswer query)
         ↔ IsContained rules (IsFragmentAnswer views (candidate plan set)) (IsAnswer query) }
+{}
+
+/// A law: each query over fragments that is an executable rewriting of a satisfiable query maps to a universal plan of
+/// it, head to head, and onto a set of the plan's atoms that is a rewriting: safe, executable and equivalent to the query.
+pub fn rewritings_map_onto_sets()
+    ensures { (rules : List Rule) (views : List ConjunctiveQuery) (patterns : List (List Bool)) (query plan other : ConjunctiveQuery)
+        → AreFlat plan.body → IsUniversalPlan rules views query plan → IsSatisfiable rules query
+        → IsExecutableRewriting rules views patterns query other
+        → (set : List Bool) × IsRewriting rules views patterns query plan set × MapsOnto other plan set }
 {}
