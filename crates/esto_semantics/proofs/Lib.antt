@@ -14,3 +14,4 @@ pub mod PlaceLemmas
 pub mod CandidateLemmas
 pub mod ScheduleLemmas
 pub mod RewritingLemmas
+pub mod WeightLemmas

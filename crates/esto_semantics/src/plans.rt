@@ -1,8 +1,8 @@
 //! Laws of universal plans, of their candidates, and of the rewritings that map to them.
-ghost use Rattle.std.specs.Prelude.{◌↔◌, Bool, List};
+ghost use Rattle.std.specs.Prelude.{◌↔◌, ℕ, ◌≤◌, Bool, List};
 ghost use Rattle.esto_semantics.specs.Containment.{IsContained, IsEquivalent, IsSatisfiable};
 ghost use Rattle.esto_semantics.specs.Instances.{MapsTo, IsUniversalFor, IsFinished};
-ghost use Rattle.esto_semantics.specs.Listed.{candidate, HasCandidate, IsSafe, IsRewriting, IsExecutableRewriting};
+ghost use Rattle.esto_semantics.specs.Listed.{chosen, candidate, HasCandidate, IsSafe, IsRewriting, IsExecutableRewriting, IsWeight};
 ghost use Rattle.esto_semantics.specs.Maps.{AreFlat};
 ghost use Rattle.esto_semantics.specs.PlanOf.{IsPlanOf};
 ghost use Rattle.esto_semantics.specs.Plans.{IsUniversalPlan};
@@ -44,4 +44,13 @@ pub fn rewritings_map_onto_sets()
         → AreFlat plan.body → IsUniversalPlan rules views query plan → IsSatisfiable rules query
         → IsExecutableRewriting rules views patterns query other
         → (set : List Bool) × IsRewriting rules views patterns query plan set × MapsOnto other plan set }
+{}
+
+/// A law: where a query over fragments maps onto a set of a plan's atoms, the set's distinct atoms weigh no more than
+/// the query's distinct atoms.
+pub fn sets_weigh_no_more_than_what_maps_onto_them()
+    ensures { (weights : List ℕ) (plan other : ConjunctiveQuery) (set : List Bool) (weight other_weight : ℕ)
+        → MapsOnto other plan set
+        → IsWeight weights (chosen set plan.body) weight → IsWeight weights other.body other_weight
+        → weight ≤ other_weight }
 {}
