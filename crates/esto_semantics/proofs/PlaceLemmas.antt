@@ -72,3 +72,25 @@ Has-from_chosen (true ∷ rest) (first ∷ others) atom inside = elim (Contains-
   | inr later ↦ let found = Has-from_chosen rest others atom later in (suc found.0, found.1, found.2)
 ]
 Has-from_chosen (false ∷ rest) (first ∷ others) atom inside = let found = Has-from_chosen rest others atom inside in (suc found.0, found.1, found.2)
+
+-- how many numbers of the set are less than the number: the place of its atom among the chosen ones
+abbrev pub rank : List Bool → ℕ → ℕ
+rank [] number = 0
+rank (is_in ∷ rest) zero = 0
+rank (true ∷ rest) (suc number) = suc (rank rest number)
+rank (false ∷ rest) (suc number) = rank rest number
+
+pub chosen_at-rank : (set : List Bool) (atoms : List (Fact Term)) (number : ℕ) (atom : Fact Term) → Has set number → slice_get atoms number ≡ Some atom → slice_get (chosen set atoms) (rank set number) ≡ Some atom
+chosen_at-rank [] atoms number atom has at = absurd (cc)
+chosen_at-rank (is_in ∷ rest) [] number atom has at = absurd (cc)
+chosen_at-rank (true ∷ rest) (first ∷ others) zero atom has at = at
+chosen_at-rank (false ∷ rest) (first ∷ others) zero atom has at = absurd (cc)
+chosen_at-rank (true ∷ rest) (first ∷ others) (suc number) atom has at = chosen_at-rank rest others number atom has at
+chosen_at-rank (false ∷ rest) (first ∷ others) (suc number) atom has at = chosen_at-rank rest others number atom has at
+
+pub rank-from : (set : List Bool) (atoms : List (Fact Term)) (place : ℕ) (atom : Fact Term) → slice_get (chosen set atoms) place ≡ Some atom → (number : ℕ) × Has set number × (rank set number ≡ place)
+rank-from [] atoms place atom at = absurd (cc)
+rank-from (is_in ∷ rest) [] place atom at = absurd (cc)
+rank-from (true ∷ rest) (first ∷ others) zero atom at = (0, refl, refl)
+rank-from (true ∷ rest) (first ∷ others) (suc place) atom at = let found = rank-from rest others place atom at in (suc found.0, found.1, ap suc found.2)
+rank-from (false ∷ rest) (first ∷ others) place atom at = let found = rank-from rest others place atom at in (suc found.0, found.1, found.2)

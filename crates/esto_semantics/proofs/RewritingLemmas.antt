@@ -1,10 +1,10 @@
 -- Every executable rewriting maps onto a set of the plan's atoms that is a rewriting.
-use Rattle.std.proofs.Common.{◌≡◌, ◌≢◌, ◌↔◌, inl, inr, ℕ, ◌<◌, Bool, true, false, List, [], ◌∷◌, map, length, replicate, slice_get, Contains, Option, Some, None, refl, sym, ap, ◌∙◌, subst, arith}
+use Rattle.std.proofs.Common.{◌≡◌, ◌≢◌, ◌↔◌, inl, inr, ℕ, ◌<◌, Bool, true, false, List, [], ◌∷◌, map, length, replicate, slice_get, Contains, Option, Some, None, refl, sym, ap, ◌∙◌, subst}
 use Rattle.std.proofs.lemmas.List.{get_or-replicate, length-map}
 use Rattle.std.proofs.lemmas.Option.{slice_get_within}
 use Rattle.esto_term.specs.declared.term.Term.{Term}
 use Rattle.esto_term.specs.declared.term.Term.TheVariants.{Const}
-use Rattle.esto_semantics.specs.Access.{IsInput, IsBound, IsAccessible, IsEarlier, IsOrder, IsExecutable}
+use Rattle.esto_semantics.specs.Access.{IsOrder, IsExecutable}
 use Rattle.esto_semantics.specs.Containment.{IsSatisfiable}
 use Rattle.esto_semantics.specs.Facts.{image, Mentions}
 use Rattle.esto_semantics.specs.Instances.{MapsTo}
@@ -20,8 +20,8 @@ use Rattle.esto_semantics.proofs.AnswerLemmas.{contained-in_mapped}
 use Rattle.esto_semantics.proofs.CandidateLemmas.{candidate-equivalent}
 use Rattle.esto_semantics.proofs.ContainsLemmas.{Contains-at, Contains-map, Contains-map_from}
 use Rattle.esto_semantics.proofs.FactLemmas.{Mentions-sent}
-use Rattle.esto_semantics.proofs.PlaceLemmas.{place-from_Contains, thing_at, map_at, map_at-from, passing, length-passing, passing-Has, Has-within, chosen-from_Has, Has-from_chosen}
-use Rattle.esto_semantics.proofs.ScheduleLemmas.{has_number, has_number-Decides, once_each, IsOrder-from_schedule}
+use Rattle.esto_semantics.proofs.PlaceLemmas.{place-from_Contains, passing, length-passing, passing-Has, chosen-from_Has, Has-from_chosen}
+use Rattle.esto_semantics.proofs.ScheduleLemmas.{has_number, has_number-Decides, once_each, atom_in_order, IsOrder-moved}
 
 module _ (patterns : List (List Bool)) (other plan : ConjunctiveQuery) (m : Term → Term) (keeps : Keeps Const m) (sends : Sends m other.body plan.body) where
   -- a place of the plan's atoms at which the image of the atom of a number stands
@@ -45,15 +45,9 @@ module _ (patterns : List (List Bool)) (other plan : ConjunctiveQuery) (m : Term
     in_order : (number : ℕ) (atom : Fact Term) → slice_get other.body number ≡ Some atom → Contains order number
     in_order number atom at = (is_order.names number).1 (get_or-replicate (length other.body) number true false (slice_get_within other.body number atom at))
 
-    atom_of : (number : ℕ) → Contains order number → (atom : Fact Term) × (slice_get other.body number ≡ Some atom)
-    atom_of number inside =
-        let below = Has-within (replicate (length other.body) true) number ((is_order.names number).0 inside) in
-        let over : length (replicate (length other.body) true) ≡ length other.body = is_order.over in
-        thing_at other.body number (omega arith)
-
     image_at : (number : ℕ) → Contains order number
         → (atom : Fact Term) × (slice_get other.body number ≡ Some atom) × (slice_get plan.body (place_of number).0 ≡ Some (image m atom))
-    image_at number inside = let at = atom_of number inside in (at.0, at.1, (place_of number).1 at.0 at.1)
+    image_at number inside = let at = atom_in_order patterns other.body (replicate (length other.body) true) order is_order number inside in (at.0, at.1, (place_of number).1 at.0 at.1)
 
     -- the set has exactly these places
     places_are : (number : ℕ) → Contains places number ↔ Has image_set number
@@ -85,30 +79,12 @@ module _ (patterns : List (List Bool)) (other plan : ConjunctiveQuery) (m : Term
           ((place_of at.0).1 from.0 at.1 ∙ ap Some from.2)),
     )
 
-    -- what is bound in the order is bound at the places
-    bound_at_places : (place : ℕ) (term goes : Term) → m term ≡ goes → IsBound other.body (IsEarlier order place) term → IsBound plan.body (IsEarlier places place) goes
-    bound_at_places place term goes there (inl (text, is)) = inl (text, sym there ∙ ap m is ∙ keeps text)
-    bound_at_places place term goes there (inr (number, (earlier, below, at), (atom, at_atom, occurs))) = inr (
-      (place_of number).0,
-      (earlier, below, map_at (λ it. (place_of it).0) order earlier number at),
-      (image m atom, (place_of number).1 atom at_atom, subst (Contains (map m atom.terms)) there (Contains-map m atom.terms term occurs)),
-    )
-
-    accessible_at_places : (place number : ℕ) (atom : Fact Term) → slice_get places place ≡ Some number → slice_get plan.body number ≡ Some atom
-        → IsAccessible patterns plan.body (IsEarlier places place) atom
-    accessible_at_places place number atom at at_atom column term input at_term =
-        let from = map_at-from (λ it. (place_of it).0) order place number at in
-        let own = image_at from.0 (Contains-at order place from.0 from.1) in
-        let at_place : slice_get plan.body (place_of from.0).0 ≡ Some atom = ap (slice_get plan.body) from.2 ∙ at_atom in
-        let own_at : slice_get plan.body (place_of from.0).0 ≡ Some (image m own.0) = own.2 in
-        let same : atom ≡ image m own.0 = cc in
-        let before = map_at-from m own.0.terms column term (subst (λ (it : Fact Term). slice_get it.terms column ≡ Some term) same at_term) in
-        bound_at_places place before.0 term before.2
-        (is_order.accessible place from.0 own.0 from.1 own.1 column before.0 (subst (λ (it : Fact Term). IsInput patterns it.relation column) same input) before.1)
-
     image_set-IsExecutable : IsExecutable patterns plan.body image_set
-    image_set-IsExecutable =
-        (once_each [] places, IsOrder-from_schedule patterns plan.body image_set places (length-passing (has_number places) (length plan.body)) places_are accessible_at_places)
+    image_set-IsExecutable = (
+      once_each [] places,
+      IsOrder-moved patterns other.body plan.body (replicate (length other.body) true) m keeps (λ number. (place_of number).0) (λ number atom has at. (place_of number).1 atom at) order is_order
+          image_set (length-passing (has_number places) (length plan.body)) places_are,
+    )
 
     -- each of the other query's atoms gives the set one
     image_set-has : (number : ℕ) (atom : Fact Term) → slice_get other.body number ≡ Some atom → Has image_set (place_of number).0

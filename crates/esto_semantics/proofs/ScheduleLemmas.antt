@@ -1,16 +1,20 @@
 -- Orders from lists that may name a number more than once: where each is accessible after the earlier ones, taking each number
 -- once, where it first stands, gives an order.
-use Rattle.std.proofs.Common.{◌≡◌, ◌≢◌, ◌⊎◌, ◌↔◌, inl, inr, zero, suc, ℕ, ◌==◌, Bool, true, false, cond, List, [], ◌∷◌, length, get_or, slice_get, Contains, Some, refl, sym, ap, ◌∙◌, subst, arith}
+use Rattle.std.proofs.Common.{◌≡◌, ◌≢◌, ◌⊎◌, ◌↔◌, inl, inr, zero, suc, ℕ, ◌==◌, Bool, true, false, cond, List, [], ◌∷◌, map, length, get_or, slice_get, Contains, Some, refl, sym, ap, ◌∙◌, subst, arith}
 use Rattle.std.specs.Bool.{Decides}
 use Rattle.std.specs.List.{AllPairs}
 use Rattle.std.proofs.lemmas.Bool.Decides.{Decides-eqb}
 use Rattle.std.proofs.lemmas.List.Elements.{Contains-get_or}
 use Rattle.std.proofs.lemmas.List.Kept.{AllPairs-cons}
 use Rattle.esto_term.specs.declared.term.Term.{Term}
-use Rattle.esto_semantics.specs.Access.{IsAccessible, IsEarlier, IsOrder}
+use Rattle.esto_term.specs.declared.term.Term.TheVariants.{Const}
+use Rattle.esto_semantics.specs.Access.{IsInput, IsBound, IsAccessible, IsEarlier, IsOrder}
+use Rattle.esto_semantics.specs.Facts.{image}
+use Rattle.esto_semantics.specs.Maps.{Keeps}
 use Rattle.esto_semantics.specs.Sets.{Has}
 use Rattle.esto_semantics.specs.declared.fact.Fact.{Fact}
-use Rattle.esto_semantics.proofs.ContainsLemmas.{Contains-nil, Contains-head, Contains-rest, Contains-cases}
+use Rattle.esto_semantics.proofs.ContainsLemmas.{Contains-nil, Contains-head, Contains-rest, Contains-cases, Contains-at, Contains-map}
+use Rattle.esto_semantics.proofs.PlaceLemmas.{thing_at, map_at, map_at-from, Has-within}
 
 -- ---- whether a list has a number
 
@@ -149,7 +153,7 @@ IsAccessible-more patterns atoms Chosen More atom more accessible column term in
   | inr (number, is_chosen, occurs) ↦ inr (number, more number is_chosen, occurs)
 ]
 
-pub IsOrder-from_schedule : (patterns : List (List Bool)) (atoms : List (Fact Term)) (set : List Bool) (numbers : List ℕ) → length set ≡ length atoms
+IsOrder-from_schedule : (patterns : List (List Bool)) (atoms : List (Fact Term)) (set : List Bool) (numbers : List ℕ) → length set ≡ length atoms
     → ((number : ℕ) → Contains numbers number ↔ Has set number)
     → ((place number : ℕ) (atom : Fact Term) → slice_get numbers place ≡ Some number → slice_get atoms number ≡ Some atom → IsAccessible patterns atoms (IsEarlier numbers place) atom)
     → IsOrder patterns atoms set (once_each [] numbers)
@@ -174,3 +178,43 @@ IsOrder-from_schedule patterns atoms set numbers over names accessible = record 
     unseen_earlier : (place other : ℕ) → Contains [] other ⊎ IsEarlier (once_each [] numbers) place other → IsEarlier (once_each [] numbers) place other
     unseen_earlier place other (inl seen) = absurd (Contains-nil other seen)
     unseen_earlier place other (inr before) = before
+
+-- ---- orders of moved atoms
+
+module _ (patterns : List (List Bool)) (atoms : List (Fact Term)) (set : List Bool) where
+  -- a number of an order is that of an atom
+  pub atom_in_order : (order : List ℕ) → IsOrder patterns atoms set order → (number : ℕ) → Contains order number → (atom : Fact Term) × (slice_get atoms number ≡ Some atom)
+  atom_in_order order is_order number inside =
+      let below = Has-within set number ((is_order.names number).0 inside) in
+      let over : length set ≡ length atoms = is_order.over in
+      thing_at atoms number (omega arith)
+
+module _ (patterns : List (List Bool)) (atoms others : List (Fact Term)) (set : List Bool) (m : Term → Term) (keeps : Keeps Const m) (place_of : ℕ → ℕ)
+    (moves : (number : ℕ) (atom : Fact Term) → Has set number → slice_get atoms number ≡ Some atom → slice_get others (place_of number) ≡ Some (image m atom))
+    (order : List ℕ) (is_order : IsOrder patterns atoms set order) where
+  -- what is bound in the order is bound at the places that its numbers move to
+  bound_moved : (place : ℕ) (term goes : Term) → m term ≡ goes → IsBound atoms (IsEarlier order place) term → IsBound others (IsEarlier (map place_of order) place) goes
+  bound_moved place term goes there (inl (text, is)) = inl (text, sym there ∙ ap m is ∙ keeps text)
+  bound_moved place term goes there (inr (number, (earlier, below, at), (atom, at_atom, occurs))) = inr (
+    place_of number,
+    (earlier, below, map_at place_of order earlier number at),
+    (image m atom, moves number atom ((is_order.names number).0 (Contains-at order earlier number at)) at_atom, subst (Contains (map m atom.terms)) there (Contains-map m atom.terms term occurs)),
+  )
+
+  accessible_moved : (place number : ℕ) (atom : Fact Term) → slice_get (map place_of order) place ≡ Some number → slice_get others number ≡ Some atom
+      → IsAccessible patterns others (IsEarlier (map place_of order) place) atom
+  accessible_moved place number atom at at_atom column term input at_term =
+      let from = map_at-from place_of order place number at in
+      let in_order = Contains-at order place from.0 from.1 in
+      let own = atom_in_order patterns atoms set order is_order from.0 in_order in
+      let at_place : slice_get others (place_of from.0) ≡ Some atom = ap (slice_get others) from.2 ∙ at_atom in
+      let own_at : slice_get others (place_of from.0) ≡ Some (image m own.0) = moves from.0 own.0 ((is_order.names from.0).0 in_order) own.1 in
+      let same : atom ≡ image m own.0 = cc in
+      let before = map_at-from m own.0.terms column term (subst (λ (it : Fact Term). slice_get it.terms column ≡ Some term) same at_term) in
+      bound_moved place before.0 term before.2
+      (is_order.accessible place from.0 own.0 from.1 own.1 column before.0 (subst (λ (it : Fact Term). IsInput patterns it.relation column) same input) before.1)
+
+  -- the places that an order's numbers move to give an order of the set of these places
+  pub IsOrder-moved : (other_set : List Bool) → length other_set ≡ length others → ((number : ℕ) → Contains (map place_of order) number ↔ Has other_set number)
+      → IsOrder patterns others other_set (once_each [] (map place_of order))
+  IsOrder-moved other_set over names = IsOrder-from_schedule patterns others other_set (map place_of order) over names accessible_moved

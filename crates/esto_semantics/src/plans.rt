@@ -46,6 +46,14 @@ pub fn rewritings_map_onto_sets()
         → (set : List Bool) × IsRewriting rules views patterns query plan set × MapsOnto other plan set }
 {}
 
+/// A law: where a set of a plan's atoms is a rewriting of the query, its candidate is a query over fragments that is an
+/// executable rewriting.
+pub fn candidates_of_rewritings_are_executable_rewritings()
+    ensures { (rules : List Rule) (views : List ConjunctiveQuery) (patterns : List (List Bool)) (query plan : ConjunctiveQuery)
+        (set : List Bool) → IsPlanFor query plan → IsRewriting rules views patterns query plan set
+        → IsExecutableRewriting rules views patterns query (candidate plan set) }
+{}
+
 /// A law: where a query over fragments maps onto a set of a plan's atoms, the set's distinct atoms weigh no more than
 /// the query's distinct atoms.
 pub fn sets_weigh_no_more_than_what_maps_onto_them()
