@@ -18,7 +18,7 @@ use Rattle.esto_semantics.specs.Views.{IsFragmentAnswer}
 use Rattle.esto_semantics.specs.declared.fact.Fact.{Fact}
 use Rattle.esto_semantics.proofs.ContainsLemmas.{Contains-nil, Contains-at, Contains-map, Contains-map_from, map_itself}
 use Rattle.esto_semantics.proofs.FactLemmas.{image_itself, Mentions-among}
-use Rattle.esto_semantics.proofs.PlaceLemmas.{thing_at, Has-within, chosen-from_Has, Has-from_chosen, rank, chosen_at-rank, rank-from}
+use Rattle.esto_semantics.proofs.PlaceLemmas.{thing_at, Has-within, chosen-from_Has, Has-from_chosen, rank, chosen_at-rank, number_at, number_at-chosen}
 use Rattle.esto_semantics.proofs.ScheduleLemmas.{once_each, atom_in_order, IsOrder-moved}
 
 module _ (plan : ConjunctiveQuery) (set : List Bool) where
@@ -84,8 +84,8 @@ module _ (patterns : List (List Bool)) (plan : ConjunctiveQuery) (set : List Boo
         let below = Has-within all place has in
         let count : length all ≡ length (chosen set plan.body) = length-replicate (length (chosen set plan.body)) true in
         let at = thing_at (chosen set plan.body) place (omega arith) in
-        let from = rank-from set plan.body place at.0 at.1 in
-        subst (Contains (map (rank set) order)) from.2 (Contains-map (rank set) order from.0 ((is_order.names from.0).1 from.1))),
+        let from = number_at-chosen set plan.body place at.0 at.1 in
+        subst (Contains (map (rank set) order)) from.2 (Contains-map (rank set) order (number_at set place) ((is_order.names (number_at set place)).1 from.0))),
   )
 
   pub candidate-IsExecutableQuery : IsExecutableQuery patterns (candidate plan set)

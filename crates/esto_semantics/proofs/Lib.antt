@@ -15,3 +15,4 @@ pub mod CandidateLemmas
 pub mod ScheduleLemmas
 pub mod RewritingLemmas
 pub mod WeightLemmas
+pub mod PartLemmas

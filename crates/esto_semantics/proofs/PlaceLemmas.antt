@@ -88,9 +88,24 @@ chosen_at-rank (false ∷ rest) (first ∷ others) zero atom has at = absurd (cc
 chosen_at-rank (true ∷ rest) (first ∷ others) (suc number) atom has at = chosen_at-rank rest others number atom has at
 chosen_at-rank (false ∷ rest) (first ∷ others) (suc number) atom has at = chosen_at-rank rest others number atom has at
 
-pub rank-from : (set : List Bool) (atoms : List (Fact Term)) (place : ℕ) (atom : Fact Term) → slice_get (chosen set atoms) place ≡ Some atom → (number : ℕ) × Has set number × (rank set number ≡ place)
-rank-from [] atoms place atom at = absurd (cc)
-rank-from (is_in ∷ rest) [] place atom at = absurd (cc)
-rank-from (true ∷ rest) (first ∷ others) zero atom at = (0, refl, refl)
-rank-from (true ∷ rest) (first ∷ others) (suc place) atom at = let found = rank-from rest others place atom at in (suc found.0, found.1, ap suc found.2)
-rank-from (false ∷ rest) (first ∷ others) place atom at = let found = rank-from rest others place atom at in (suc found.0, found.1, found.2)
+-- the number of the set at a place among its numbers
+abbrev pub number_at : List Bool → ℕ → ℕ
+number_at [] place = 0
+number_at (true ∷ rest) zero = 0
+number_at (true ∷ rest) (suc place) = suc (number_at rest place)
+number_at (false ∷ rest) place = suc (number_at rest place)
+
+pub number_at-rank : (set : List Bool) (number : ℕ) → Has set number → number_at set (rank set number) ≡ number
+number_at-rank [] number has = absurd (cc)
+number_at-rank (true ∷ rest) zero has = refl
+number_at-rank (false ∷ rest) zero has = absurd (cc)
+number_at-rank (true ∷ rest) (suc number) has = ap suc (number_at-rank rest number has)
+number_at-rank (false ∷ rest) (suc number) has = ap suc (number_at-rank rest number has)
+
+pub number_at-chosen : (set : List Bool) (atoms : List (Fact Term)) (place : ℕ) (atom : Fact Term) → slice_get (chosen set atoms) place ≡ Some atom
+    → Has set (number_at set place) × (slice_get atoms (number_at set place) ≡ Some atom) × (rank set (number_at set place) ≡ place)
+number_at-chosen [] atoms place atom at = absurd (cc)
+number_at-chosen (is_in ∷ rest) [] place atom at = absurd (cc)
+number_at-chosen (true ∷ rest) (first ∷ others) zero atom at = (refl, at, refl)
+number_at-chosen (true ∷ rest) (first ∷ others) (suc place) atom at = let found = number_at-chosen rest others place atom at in (found.0, found.1, ap suc found.2)
+number_at-chosen (false ∷ rest) (first ∷ others) place atom at = number_at-chosen rest others place atom at

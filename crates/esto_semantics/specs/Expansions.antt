@@ -1,10 +1,11 @@
 -- Expansions: what a query over fragments asks of the datasets.
-use Rattle.std.specs.Prelude.{◌≡◌, ◌⊎◌, ◌↔◌, ℕ, ◌<◌, List, Some, length, map, slice_get, Contains}
+use Rattle.std.specs.Prelude.{◌≡◌, ◌⊎◌, ◌↔◌, ℕ, ◌<◌, Bool, List, Some, length, map, slice_get, Contains}
 use Rattle.esto_term.specs.declared.term.Term.{Term}
 use Rattle.esto_term.specs.declared.term.Term.TheVariants.{Const}
 use Rattle.esto_semantics.specs.Facts.{image, Mentions}
 use Rattle.esto_semantics.specs.Maps.{IsConstant, IsVariable, Keeps}
 use Rattle.esto_semantics.specs.Queries.{ConjunctiveQuery}
+use Rattle.esto_semantics.specs.Sets.{Has}
 use Rattle.esto_semantics.specs.declared.fact.Fact.{Fact}
 
 -- The term is an inner one of the view: it stands in the view's body, is no constant and does not stand in the view's head.
@@ -17,7 +18,7 @@ pub record IsInner (view : ConjunctiveQuery) (term : Term) : Type 0 where
 abbrev pub IsOfQuery : ConjunctiveQuery → Term → Type 0
 IsOfQuery query term = Mentions query.body term ⊎ Contains query.head term
 
--- The facts, read as a set, are an expansion of the query over fragments: they are the facts of the view of each atom, by the atom's number, under a map of that number's own. Each atom's fragment has a view. The map keeps constants, sends the view's head to the atom's terms, and sends each inner term of the view to a new variable: one that does not stand in the query, and that no other inner term is sent to, of this atom or of another. Where the view's head is of distinct variables, as many as the atom's terms, there is such a map.
+-- The facts, read as a set, are an expansion of the query over fragments: for each atom, by its number, they are the body of its fragment's view under a map that keeps constants, sends the view's head to the atom's terms, and sends each inner term of the view to a variable that does not stand in the query and that no other inner term, of this atom or of another, is sent to. There is one where each atom's fragment has a view whose head is of distinct variables, as many as the atom has terms.
 pub record IsExpansion (views : List ConjunctiveQuery) (query : ConjunctiveQuery) (expansion : List (Fact Term)) : Type 0 where
   pub view : ℕ → ConjunctiveQuery
   pub spread : ℕ → Term → Term
@@ -32,3 +33,10 @@ pub record IsExpansion (views : List ConjunctiveQuery) (query : ConjunctiveQuery
   pub facts : (fact : Fact Term) → Contains expansion fact
       ↔ ((number : ℕ) × (number < length query.body)
       × ((part : Fact Term) × Contains (view number).body part × (image (spread number) part ≡ fact)))
+
+-- The facts, read as a set, are those that the expansion has for the numbers of the set.
+abbrev pub IsPartOf : {views : List ConjunctiveQuery} → {query : ConjunctiveQuery} → {expansion : List (Fact Term)}
+    → IsExpansion views query expansion → List Bool → List (Fact Term) → Type 0
+IsPartOf of set facts =
+    (fact : Fact Term) → Contains facts fact
+    ↔ ((number : ℕ) × Has set number × ((part : Fact Term) × Contains (of.view number).body part × (image (of.spread number) part ≡ fact)))

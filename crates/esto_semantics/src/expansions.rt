@@ -1,9 +1,10 @@
 //! Laws of expansions: queries over fragments read as queries over the datasets.
-ghost use Rattle.std.specs.Prelude.{◌↔◌, List, []};
+ghost use Rattle.std.specs.Prelude.{◌≡◌, ◌↔◌, Bool, List, [], length};
 ghost use Rattle.esto_semantics.specs.Containment.{IsContained};
-ghost use Rattle.esto_semantics.specs.Expansions.{IsExpansion};
+ghost use Rattle.esto_semantics.specs.Expansions.{IsExpansion, IsPartOf};
 ghost use Rattle.esto_semantics.specs.Facts.{Database};
 ghost use Rattle.esto_semantics.specs.Instances.{MapsTo, IsUniversalFor, IsFinished};
+ghost use Rattle.esto_semantics.specs.Listed.{candidate};
 ghost use Rattle.esto_semantics.specs.Queries.{ConjunctiveQuery, IsAnswer};
 ghost use Rattle.esto_semantics.specs.Rules.{Rule, AreRules};
 ghost use Rattle.esto_semantics.specs.Views.{IsFragmentAnswer};
@@ -28,4 +29,11 @@ pub fn an_expansion_means_the_same()
         (right : ConjunctiveQuery) → IsExpansion views query expansion
         → IsContained [] (IsFragmentAnswer views query) (IsAnswer right)
         ↔ MapsTo right (record { head = query.head; body = expansion }) }
+{}
+
+/// A law: what an expansion of a plan has for a set of its atoms is an expansion of the set's candidate.
+pub fn an_expansion_of_a_plan_expands_its_candidates()
+    ensures { (views : List ConjunctiveQuery) (plan : ConjunctiveQuery) (expansion : List (Fact Term))
+        (is_expansion : IsExpansion views plan expansion) (set : List Bool) → length set ≡ length plan.body
+        → (facts : List (Fact Term)) → IsPartOf is_expansion set facts → IsExpansion views (candidate plan set) facts }
 {}
