@@ -18,7 +18,7 @@ Contains-decided (first ∷ rest) term = by (Contains-decided rest term) (same_t
     ])
 
 -- a number below the next one is below this one or is it
-below_cases : (number count : ℕ) → number < suc count → (number ≡ count) ⊎ (number < count)
+pub below_cases : (number count : ℕ) → number < suc count → (number ≡ count) ⊎ (number < count)
 below_cases zero zero below = inl refl
 below_cases zero (suc count) below = inr (omega arith)
 below_cases (suc number) zero below = absurd (omega arith)

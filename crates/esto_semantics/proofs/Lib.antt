@@ -16,3 +16,4 @@ pub mod ScheduleLemmas
 pub mod RewritingLemmas
 pub mod WeightLemmas
 pub mod PartLemmas
+pub mod SpreadLemmas

@@ -20,10 +20,10 @@ module _ {X : Type 0} where
     | inr later ↦ let found = split rest thing later in (first ∷ found.0, found.1, ap (λ others. first ∷ others) found.2)
   ]
 
-  distinct_head : (first : X) (rest : List X) (thing : X) → AllPairs {X = X} ◌≢◌ (first ∷ rest) → Contains rest thing → first ≡ thing → ⊥
+  pub distinct_head : (first : X) (rest : List X) (thing : X) → AllPairs {X = X} ◌≢◌ (first ∷ rest) → Contains rest thing → first ≡ thing → ⊥
   distinct_head first rest thing distinct (place, within, at) is = distinct 0 (suc place) thing (omega arith) (omega arith) (is ∙ sym at)
 
-  distinct_rest : (first : X) (rest : List X) → AllPairs {X = X} ◌≢◌ (first ∷ rest) → AllPairs {X = X} ◌≢◌ rest
+  pub distinct_rest : (first : X) (rest : List X) → AllPairs {X = X} ◌≢◌ (first ∷ rest) → AllPairs {X = X} ◌≢◌ rest
   distinct_rest first rest distinct i j d less within = distinct (suc i) (suc j) d (omega arith) (omega arith)
 
   module _ (weight : X → ℕ) (g : X → X) (kept : (thing : X) → weight (g thing) ≡ weight thing) where

@@ -1,5 +1,5 @@
 -- Expansions: what a query over fragments asks of the datasets.
-use Rattle.std.specs.Prelude.{◌≡◌, ◌⊎◌, ◌↔◌, ℕ, ◌<◌, Bool, List, Some, length, map, slice_get, Contains}
+use Rattle.std.specs.Prelude.{◌≡◌, ◌≢◌, ◌⊎◌, ◌↔◌, ℕ, ◌<◌, Bool, List, Some, length, map, slice_get, Contains, AllPairs}
 use Rattle.esto_term.specs.declared.term.Term.{Term}
 use Rattle.esto_term.specs.declared.term.Term.TheVariants.{Const}
 use Rattle.esto_semantics.specs.Facts.{image, Mentions}
@@ -40,3 +40,15 @@ abbrev pub IsPartOf : {views : List ConjunctiveQuery} → {query : ConjunctiveQu
 IsPartOf of set facts =
     (fact : Fact Term) → Contains facts fact
     ↔ ((number : ℕ) × Has set number × ((part : Fact Term) × Contains (of.view number).body part × (image (of.spread number) part ≡ fact)))
+
+-- The view is one for the atom: its head is of distinct variables, as many as the atom has terms.
+pub record IsViewFor (view : ConjunctiveQuery) (atom : Fact Term) : Type 0 where
+  pub same_length : length view.head ≡ length atom.terms
+  pub variables : (term : Term) → Contains view.head term → IsVariable term
+  pub distinct : AllPairs ◌≢◌ view.head
+
+-- The query over fragments fits the views: each of its atoms has a view of its fragment that is one for it.
+abbrev pub FitsViews : List ConjunctiveQuery → ConjunctiveQuery → Type 0
+FitsViews views query =
+    (atom : Fact Term) → Contains query.body atom
+    → (view : ConjunctiveQuery) × (slice_get views atom.relation ≡ Some view) × IsViewFor view atom

@@ -1,7 +1,7 @@
 //! Laws of expansions: queries over fragments read as queries over the datasets.
 ghost use Rattle.std.specs.Prelude.{◌≡◌, ◌↔◌, Bool, List, [], length};
 ghost use Rattle.esto_semantics.specs.Containment.{IsContained};
-ghost use Rattle.esto_semantics.specs.Expansions.{IsExpansion, IsPartOf};
+ghost use Rattle.esto_semantics.specs.Expansions.{IsExpansion, IsPartOf, FitsViews};
 ghost use Rattle.esto_semantics.specs.Facts.{Database};
 ghost use Rattle.esto_semantics.specs.Instances.{MapsTo, IsUniversalFor, IsFinished};
 ghost use Rattle.esto_semantics.specs.Listed.{candidate};
@@ -29,6 +29,12 @@ pub fn an_expansion_means_the_same()
         (right : ConjunctiveQuery) → IsExpansion views query expansion
         → IsContained [] (IsFragmentAnswer views query) (IsAnswer right)
         ↔ MapsTo right (record { head = query.head; body = expansion }) }
+{}
+
+/// A law: each query over fragments that fits the views has an expansion.
+pub fn queries_over_fragments_have_expansions()
+    ensures { (views : List ConjunctiveQuery) (query : ConjunctiveQuery) → FitsViews views query
+        → (expansion : List (Fact Term)) × IsExpansion views query expansion }
 {}
 
 /// A law: what an expansion of a plan has for a set of its atoms is an expansion of the set's candidate.
