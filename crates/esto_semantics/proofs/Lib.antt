@@ -17,3 +17,8 @@ pub mod RewritingLemmas
 pub mod WeightLemmas
 pub mod PartLemmas
 pub mod SpreadLemmas
+pub mod ChoiceLemmas
+pub mod SetLemmas
+pub mod AccessLemmas
+pub mod ListedLemmas
+pub mod ProgramLemmas

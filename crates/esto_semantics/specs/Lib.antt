@@ -16,3 +16,7 @@ pub mod Bindings
 pub mod PlanOf
 pub mod Expansions
 pub mod Rewritings
+pub mod SetLaws
+pub mod AccessSteps
+pub mod AccessLaws
+pub mod ListedLaws

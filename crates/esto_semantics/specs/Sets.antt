@@ -1,6 +1,7 @@
 -- Sets of numbers below a count. A set is the list of the answers to "is it in?", one for each number; so two sets of one count are equal exactly where they have the same numbers.
-use Rattle.std.specs.Prelude.{◌≡◌, ◌≢◌, ◌↔◌, ℕ, ◌+◌, Bool, true, false, cond, List, [], ◌∷◌, length, slice_index_or, Contains, AllPairs}
+use Rattle.std.specs.Prelude.{◌≡◌, ◌≢◌, ◌↔◌, ℕ, zero, suc, ◌+◌, Bool, true, false, cond, ◌||◌, List, [], ◌∷◌, ◌++◌, map, length, slice_index_or, Contains, AllPairs}
 use Rattle.std.specs.declared.cmp.Ordering.{Ordering}
+use Rattle.std.specs.declared.cmp.Ordering.TheVariants.{Less}
 use Rattle.std.specs.Ordering.{ordering_then, nat_cmp}
 use Rattle.std.specs.Cmp.Lexicographic.{slice_cmp}
 
@@ -34,3 +35,30 @@ IsMinimal P set = P set × ((other : List Bool) → P other → Within other set
 pub record AreMinimal (family minimal : List (List Bool)) : Type 0 where
   pub exact : (set : List Bool) → Contains minimal set ↔ IsMinimal (Contains family) set
   pub once : AllPairs ◌≢◌ minimal
+
+-- The union of two sets.
+abbrev pub united : List Bool → List Bool → List Bool
+united [] other = other
+united (is_in ∷ rest) [] = is_in ∷ rest
+united (is_in ∷ rest) (is_in_other ∷ others) = (is_in || is_in_other) ∷ united rest others
+
+-- The sets of the family are of one count.
+abbrev pub HaveOneCount : List (List Bool) → Type 0
+HaveOneCount family = (set other : List Bool) → Contains family set → Contains family other → length set ≡ length other
+
+-- No set of the family is a proper subset of the set.
+abbrev pub HasNoSmaller : List (List Bool) → List Bool → Type 0
+HasNoSmaller family set = (other : List Bool) → Contains family other → Within other set → Within set other
+
+-- Some set of the family is a subset of the set.
+abbrev pub Covers : List (List Bool) → List Bool → Type 0
+Covers family set = (other : List Bool) × Contains family other × Within other set
+
+-- The sets stand in the order of the list, each once.
+abbrev pub AreInOrder : List (List Bool) → Type 0
+AreInOrder sets = AllPairs (λ set other. set_cmp set other ≡ Less) sets
+
+-- All sets of numbers below the count.
+abbrev pub all_sets : ℕ → List (List Bool)
+all_sets zero = [] ∷ []
+all_sets (suc count) = map (λ set. true ∷ set) (all_sets count) ++ map (λ set. false ∷ set) (all_sets count)

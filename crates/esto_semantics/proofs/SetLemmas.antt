@@ -1,0 +1,259 @@
+-- Sets, their order, and the minimal sets of a family.
+use Rattle.std.proofs.Common.{◌≡◌, ◌≢◌, ℕ, zero, suc, ◌+◌, ◌<◌, Bool, true, false, List, [], ◌∷◌, map, length, get_or, refl, sym, ap, ◌∙◌, subst, arith, inl, inr}
+use Rattle.std.specs.Prelude.{◌⊎◌, ◌↔◌, Contains, AllPairs}
+use Rattle.std.specs.Cmp.{IsTotalOrder}
+use Rattle.std.specs.Ordering.{ordering_then, nat_cmp}
+use Rattle.std.specs.declared.cmp.Ordering.{Ordering}
+use Rattle.std.specs.declared.cmp.Ordering.TheVariants.{Less, Equal, Greater}
+use Rattle.std.proofs.lemmas.Bool.{false≢true, cases_Bool, or_cases, or_left, or_right}
+use Rattle.std.proofs.lemmas.Cmp.{nat_cmp_total, nat_list_cmp_total, on_total, then_total, tied_itself}
+use Rattle.std.proofs.lemmas.List.{get_or_default}
+use Rattle.std.proofs.lemmas.List.Elements.{Contains-append_left, Contains-append_right, Contains-append_cases}
+use Rattle.std.proofs.lemmas.Map.Lookups.{exact_bytes}
+use Rattle.esto_semantics.specs.Sets.{Has, Within, numbers_from, numbers, set_cmp, IsMinimal, united, HaveOneCount, AreInOrder, all_sets}
+use Rattle.esto_semantics.specs.SetLaws.{EqualIsSame, NumbersTellSets, WithinBothWays, OrderIsOne, AllSetsAreListed, MinimalAreApart, MinimalCover, MinimalExist, MinimalAreOne}
+use Rattle.esto_semantics.proofs.ChoiceLemmas.{Decided, decided_both, decided_not, decided_below, contains_none, contains_head, contains_tail, contains_split, contains_map, map_contains, kept, pairs_append, pairs_map, pairs_cons, not_less_itself, one_list, in_order}
+
+-- ---- numbers of a set
+
+pub beyond : (set : List Bool) (number : ℕ) → Has set number → number < length set
+beyond [] number h = absurd (false≢true h)
+beyond (x ∷ set) zero h = omega arith
+beyond (x ∷ set) (suc number) h = let rest = beyond set number h in omega (arith, rest)
+
+pub decided_has : (set : List Bool) (number : ℕ) → Decided (Has set number)
+decided_has set number = elim (cases_Bool (get_or set number false)) [ inl e ↦ inl e | inr e ↦ inr (λ h. false≢true (sym e ∙ h)) ]
+
+pub within_refl : (set : List Bool) → Within set set
+within_refl set number h = h
+
+pub within_trans : (set other third : List Bool) → Within set other → Within other third → Within set third
+within_trans set other third f g number h = g number (f number h)
+
+pub decided_within : (set other : List Bool) → Decided (Within set other)
+decided_within set other = elim (decided_below Missing (length set) (λ k l. decided_both (decided_has set k) (decided_not (decided_has other k)))) [
+  | inl found ↦ inr (λ within. found.2.1 (within found.0 found.2.0))
+  | inr none ↦ inl (λ number h. elim (decided_has other number) [
+    | inl there ↦ there
+    | inr missing ↦ absurd (none (number, beyond set number h, (h, missing)))
+  ])
+]
+  where
+    Missing : ℕ → Type 0
+    Missing k = Has set k × (Has other k → ⊥)
+
+same_bool : (x y : Bool) → (x ≡ true → y ≡ true) → (y ≡ true → x ≡ true) → x ≡ y
+same_bool true y f g = sym (f refl)
+same_bool false true f g = g refl
+same_bool false false f g = refl
+
+pub within_same : WithinBothWays
+within_same [] [] e f g = refl
+within_same [] (y ∷ others) e f g = absurd (omega (arith, e))
+within_same (x ∷ set) [] e f g = absurd (omega (arith, e))
+within_same (x ∷ set) (y ∷ others) e f g =
+    ap (λ z. z ∷ set) (same_bool x y (f 0) (g 0)) ∙ ap (λ zs. y ∷ zs) (within_same set others (omega (arith, e)) (λ k. f (suc k)) (λ k. g (suc k)))
+
+pub numbers_tell : NumbersTellSets
+numbers_tell set other e same = within_same set other e (λ k. (same k).0) (λ k. (same k).1)
+
+-- ---- the rising list of a set's numbers
+
+pub number_there : (from : ℕ) (set : List Bool) (k : ℕ) → Has set k → Contains (numbers_from from set) (from + k)
+number_there from [] k h = absurd (false≢true h)
+number_there from (true ∷ set) zero h = let e : from ≡ from + 0 = omega arith in subst (Contains (from ∷ numbers_from (from + 1) set)) e (contains_head from _)
+number_there from (false ∷ set) zero h = absurd (false≢true h)
+number_there from (true ∷ set) (suc k) h =
+    let e : from + 1 + k ≡ from + suc k = omega arith in
+    subst (Contains (from ∷ numbers_from (from + 1) set)) e (contains_tail from _ _ (number_there (from + 1) set k h))
+number_there from (false ∷ set) (suc k) h =
+    let e : from + 1 + k ≡ from + suc k = omega arith in
+    subst (Contains (numbers_from (from + 1) set)) e (number_there (from + 1) set k h)
+
+pub number_back : (from : ℕ) (set : List Bool) (number : ℕ) → Contains (numbers_from from set) number → (k : ℕ) × (number ≡ from + k) × Has set k
+number_back from [] number h = absurd (contains_none number h)
+number_back from (true ∷ set) number h = elim (contains_split from _ number h) [
+  | inl e ↦ (0, omega (arith, e), refl)
+  | inr later ↦ (let rest = number_back (from + 1) set number later in (suc rest.0, omega (arith, rest.1), rest.2))
+]
+number_back from (false ∷ set) number h = let rest = number_back (from + 1) set number h in (suc rest.0, omega (arith, rest.1), rest.2)
+
+pub numbers_have : (set : List Bool) (number : ℕ) → Contains (numbers set) number ↔ Has set number
+numbers_have set number = (
+  λ h. let back = number_back 0 set number h in let e : back.0 ≡ number = omega (arith, back.1) in subst (Has set) e back.2,
+  λ h. let e : 0 + number ≡ number = omega arith in subst (Contains (numbers set)) e (number_there 0 set number h),
+)
+
+pub numbers_rise : (from : ℕ) (set : List Bool) → AllPairs ◌<◌ (numbers_from from set)
+numbers_rise from [] = λ i j d l m. absurd (omega (arith, m))
+numbers_rise from (true ∷ set) =
+    pairs_cons ◌<◌ from (numbers_from (from + 1) set) (λ z h. let back = number_back (from + 1) set z h in omega (arith, back.1)) (numbers_rise (from + 1) set)
+numbers_rise from (false ∷ set) = numbers_rise (from + 1) set
+
+-- ---- the order
+
+pub set_cmp_total : IsTotalOrder set_cmp
+set_cmp_total = then_total (on_total (λ set. length (numbers set)) nat_cmp_total) (on_total numbers nat_list_cmp_total)
+
+second_equal : (a b : Ordering) → ordering_then a b ≡ Equal → b ≡ Equal
+second_equal Less b e = cc
+second_equal Equal b e = e
+second_equal Greater b e = cc
+
+pub equal_numbers : (set other : List Bool) → set_cmp set other ≡ Equal → numbers set ≡ numbers other
+equal_numbers set other e = exact_bytes (numbers set) (numbers other) (second_equal (nat_cmp (length (numbers set)) (length (numbers other))) _ e)
+
+pub equal_sets : (set other : List Bool) → length set ≡ length other → set_cmp set other ≡ Equal → set ≡ other
+equal_sets set other l e =
+    numbers_tell set other l (λ k. (
+      λ h. (numbers_have other k).0 (subst (λ ns. Contains ns k) (equal_numbers set other e) ((numbers_have set k).1 h)),
+      λ h. (numbers_have set k).0 (subst (λ ns. Contains ns k) (sym (equal_numbers set other e)) ((numbers_have other k).1 h)),
+    ))
+
+pub equal_is_same : EqualIsSame
+equal_is_same set other l = (equal_sets set other l, λ e. subst (λ z. set_cmp set z ≡ Equal) e (tied_itself set_cmp_total set))
+
+pub order_is_one : OrderIsOne
+order_is_one = one_list set_cmp set_cmp_total
+
+pub in_order_once : (sets : List (List Bool)) → AreInOrder sets → AllPairs ◌≢◌ sets
+in_order_once sets ordered i j d l m e =
+    not_less_itself set_cmp set_cmp_total (get_or sets j d) (subst (λ z. set_cmp z (get_or sets j d) ≡ Less) e (ordered i j d l m))
+
+-- ---- unions
+
+pub has_united : (set other : List Bool) (number : ℕ) → Has (united set other) number ↔ (Has set number ⊎ Has other number)
+has_united [] other number = (inr, λ h. elim h [ inl none ↦ absurd (false≢true none) | inr there ↦ there ])
+has_united (x ∷ set) [] number = (inl, λ h. elim h [ inl there ↦ there | inr none ↦ absurd (false≢true none) ])
+has_united (x ∷ set) (y ∷ others) zero = (or_cases x y, λ h. elim h [ inl e ↦ or_left x y e | inr e ↦ or_right x y e ])
+has_united (x ∷ set) (y ∷ others) (suc number) = has_united set others number
+
+pub length-united : (set other : List Bool) → length set ≡ length other → length (united set other) ≡ length set
+length-united [] [] e = refl
+length-united [] (y ∷ others) e = absurd (omega (arith, e))
+length-united (x ∷ set) [] e = refl
+length-united (x ∷ set) (y ∷ others) e = ap suc (length-united set others (omega (arith, e)))
+
+-- ---- all sets of a count
+
+sets_have : (count : ℕ) (set : List Bool) → length set ≡ count → Contains (all_sets count) set
+sets_have zero [] e = contains_head [] []
+sets_have zero (x ∷ set) e = absurd (omega (arith, e))
+sets_have (suc count) [] e = absurd (omega (arith, e))
+sets_have (suc count) (true ∷ set) e = Contains-append_left _ _ _ (contains_map (λ zs. true ∷ zs) (all_sets count) set (sets_have count set (omega (arith, e))))
+sets_have (suc count) (false ∷ set) e = Contains-append_right _ _ _ (contains_map (λ zs. false ∷ zs) (all_sets count) set (sets_have count set (omega (arith, e))))
+
+pub sets_count : (count : ℕ) (set : List Bool) → Contains (all_sets count) set → length set ≡ count
+sets_count zero set h = elim (contains_split [] [] set h) [ inl e ↦ sym (ap length e) | inr none ↦ absurd (contains_none set none) ]
+sets_count (suc count) set h = elim (Contains-append_cases (map (λ zs. true ∷ zs) (all_sets count)) (map (λ zs. false ∷ zs) (all_sets count)) set h) [
+  | inl left ↦ (let back = map_contains (λ zs. true ∷ zs) (all_sets count) set left in sym (ap length back.2) ∙ ap suc (sets_count count back.0 back.1))
+  | inr right ↦ (let back = map_contains (λ zs. false ∷ zs) (all_sets count) set right in sym (ap length back.2) ∙ ap suc (sets_count count back.0 back.1))
+]
+
+abbrev first_of_set : List Bool → Bool
+first_of_set set = get_or set 0 false
+
+abbrev rest_of_set : List Bool → List Bool
+rest_of_set [] = []
+rest_of_set (x ∷ set) = set
+
+sets_once : (count : ℕ) → AllPairs ◌≢◌ (all_sets count)
+sets_once zero = λ i j d l m. absurd (omega (arith, l, m))
+sets_once (suc count) =
+    pairs_append ◌≢◌ _ _
+    (pairs_map (λ zs. true ∷ zs) ◌≢◌ ◌≢◌ (λ x y apart e. apart (ap rest_of_set e)) (all_sets count) (sets_once count))
+    (pairs_map (λ zs. false ∷ zs) ◌≢◌ ◌≢◌ (λ x y apart e. apart (ap rest_of_set e)) (all_sets count) (sets_once count))
+    (λ x y h k e.
+    let left = map_contains (λ zs. true ∷ zs) (all_sets count) x h in
+    let right = map_contains (λ zs. false ∷ zs) (all_sets count) y k in
+    false≢true (ap first_of_set (right.2 ∙ sym e ∙ sym left.2)))
+
+pub all_sets_are_listed : AllSetsAreListed
+all_sets_are_listed count = (λ set. (sets_count count set, sets_have count set), sets_once count)
+
+-- ---- minimal sets
+
+pub decided_minimal : (family : List (List Bool)) → HaveOneCount family → (set : List Bool) → Contains family set → Decided (IsMinimal (Contains family) set)
+decided_minimal family counted set there =
+    elim (decided_below Smaller (length family) (λ k l. decided_both (decided_within (get_or family k []) set) (decided_not (decided_within set (get_or family k []))))) [
+      | inl found ↦ inr (λ is_minimal. found.2.1 (
+          let at : List Bool = get_or family found.0 [] in
+          let e : at ≡ set = is_minimal.1 at (found.0, found.1, get_or_default family found.0 at [] found.1) found.2.0 in
+          subst (λ z. Within set z) (sym e) (within_refl set)))
+      | inr none ↦ inl (there, λ other h w. within_same other set (counted other set h there) w (back other h w none))
+    ]
+  where
+    Smaller : ℕ → Type 0
+    Smaller k = Within (get_or family k []) set × (Within set (get_or family k []) → ⊥)
+
+    back : (other : List Bool) → Contains family other → Within other set → ((k : ℕ) × (k < length family) × Smaller k → ⊥) → Within set other
+    back other h w none =
+        let e : get_or family h.0 [] ≡ other = get_or_default family h.0 [] other h.1 ∙ h.2 in
+        elim (decided_within set other) [
+          | inl there ↦ there
+          | inr apart ↦ absurd (none (h.0, h.1, (subst (λ z. Within z set) (sym e) w, λ back. apart (subst (λ z. Within set z) e back))))
+        ]
+
+-- Going through a list of sets, take each that is within the one taken so far: no set of the list is a proper subset of the last.
+record IsLow (sets : List (List Bool)) (start low : List Bool) : Type 0 where
+  within : Within low start
+  there : Contains (start ∷ sets) low
+  least : (set : List Bool) → Contains sets set → Within set low → Within low set
+
+lowest : (sets : List (List Bool)) (start : List Bool) → (low : List Bool) × IsLow sets start low
+lowest [] start = (start, record { within = within_refl start; there = contains_head start []; least = λ set h. absurd (contains_none set h) })
+lowest (set ∷ sets) start = go (decided_within set start) (lowest sets set) (lowest sets start)
+  where
+    go : Decided (Within set start) → ((low : List Bool) × IsLow sets set low) → ((low : List Bool) × IsLow sets start low) → (low : List Bool) × IsLow (set ∷ sets) start low
+    go (inl w) rest other = (
+      rest.0,
+      record {
+        within = within_trans rest.0 set start (rest.1).within w;
+        there = contains_tail start (set ∷ sets) rest.0 (rest.1).there;
+        least = λ z h v. elim (contains_split set sets z h) [ inl e ↦ subst (Within rest.0) e (rest.1).within | inr later ↦ (rest.1).least z later v ];
+      },
+    )
+    go (inr apart) other rest = (
+      rest.0,
+      record {
+        within = (rest.1).within;
+        there = elim (contains_split start sets rest.0 (rest.1).there) [
+          | inl e ↦ subst (Contains (start ∷ set ∷ sets)) e (contains_head start (set ∷ sets))
+          | inr later ↦ contains_tail start (set ∷ sets) rest.0 (contains_tail set sets rest.0 later)
+        ];
+        least = λ z h v. elim (contains_split set sets z h) [
+          | inl e ↦ absurd (apart (subst (λ a. Within a start) (sym e) (within_trans z rest.0 start v (rest.1).within)))
+          | inr later ↦ (rest.1).least z later v
+        ];
+      },
+    )
+
+-- each set of the family has a minimal one within it
+pub minimal_within : (family : List (List Bool)) → HaveOneCount family → (set : List Bool) → Contains family set → (low : List Bool) × IsMinimal (Contains family) low × Within low set
+minimal_within family counted set there =
+    let found = lowest family set in
+    let in_family : Contains family found.0 = elim (contains_split set family found.0 (found.1).there) [ inl e ↦ subst (Contains family) e there | inr h ↦ h ] in
+    (found.0, (in_family, λ other h w. within_same other found.0 (counted other found.0 h in_family) w ((found.1).least other h w)), (found.1).within)
+
+pub minimal_cover : MinimalCover
+minimal_cover family minimal counted are set there =
+    let found = minimal_within family counted set there in
+    (found.0, (are.exact found.0).1 found.1, found.2)
+
+pub minimal_are_apart : MinimalAreApart
+minimal_are_apart family minimal are set other h k w = ((are.exact other).0 k).1 set ((are.exact set).0 h).0 w
+
+pub minimal_are_one : MinimalAreOne
+minimal_are_one family minimal others are are' set = (λ h. (are'.exact set).1 ((are.exact set).0 h), λ h. (are.exact set).1 ((are'.exact set).0 h))
+
+pub minimal_exist : MinimalExist
+minimal_exist family counted =
+    let some = kept (IsMinimal (Contains family)) family (decided_minimal family counted) in
+    let ordered = in_order set_cmp set_cmp_total some.0 (λ set other h k. equal_sets set other (counted set other ((some.1 set).0 h).0 ((some.1 other).0 k).0)) in (
+      ordered.0,
+      record {
+        exact = λ set. (λ h. ((some.1 set).0 ((ordered.1 set).0 h)).1, λ is_minimal. (ordered.1 set).1 ((some.1 set).1 (is_minimal.0, is_minimal)));
+        once = in_order_once ordered.0 ordered.2;
+      },
+      ordered.2,
+    )

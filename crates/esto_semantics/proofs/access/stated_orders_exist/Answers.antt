@@ -1,0 +1,5 @@
+use Rattle.esto_semantics.proofs.AccessLemmas.{stated_order_exists, stated_order_is_one}
+use Rattle.esto_semantics.proofs.access.stated_orders_exist.Goals as goal
+
+pub returns : goal.returns
+returns c = record { exist = stated_order_exists c.terms_are_ordered.ensures.exact; one = stated_order_is_one }

@@ -1,0 +1,5 @@
+use Rattle.esto_semantics.proofs.ListedLemmas.{weight_exists, weight_is_one, weight_rises, weight_is_sum}
+use Rattle.esto_semantics.proofs.listed.weights_exist.Goals as goal
+
+pub returns : goal.returns
+returns c = record { exist = weight_exists c.terms_are_ordered.ensures.exact; one = weight_is_one; rise = weight_rises; sum = weight_is_sum }

@@ -1,0 +1,102 @@
+-- Laws of listed sets, weights and the pick.
+use Rattle.std.specs.Prelude.{◌≡◌, ◌≢◌, ◌↔◌, ℕ, ◌≤◌, Bool, IsTrue, List, [], length, sum, map, filter, Some, slice_get, slice_index_or, Contains, AllPairs}
+use Rattle.std.specs.List.{AllZip}
+use Rattle.esto_term.specs.declared.term.Term.{Term}
+use Rattle.esto_semantics.specs.Queries.{ConjunctiveQuery}
+use Rattle.esto_semantics.specs.Rules.{Rule}
+use Rattle.esto_semantics.specs.Sets.{Has, Within, AreMinimal, AreInOrder, all_sets}
+use Rattle.esto_semantics.specs.Listed.{chosen, IsRewriting, IsListed, AreListed, IsWeight, IsPick}
+use Rattle.esto_semantics.specs.declared.fact.Fact.{Fact}
+
+-- The family has exactly the rewritings.
+abbrev pub AreRewritings : List Rule → List ConjunctiveQuery → List (List Bool) → ConjunctiveQuery → ConjunctiveQuery → List (List Bool) → Type 0
+AreRewritings rules views patterns query plan family = (set : List Bool) → Contains family set ↔ IsRewriting rules views patterns query plan set
+
+-- The test tells the rewritings among the sets of the plan's atoms.
+abbrev pub TellsRewritings : List Rule → List ConjunctiveQuery → List (List Bool) → ConjunctiveQuery → ConjunctiveQuery → (List Bool → Bool) → Type 0
+TellsRewritings rules views patterns query plan test =
+    (set : List Bool) → length set ≡ length plan.body → IsTrue (test set) ↔ IsRewriting rules views patterns query plan set
+
+-- The sets that pass a test which tells the rewritings are the rewritings.
+abbrev pub TestedAreRewritings : Type 0
+TestedAreRewritings =
+    (rules : List Rule) (views : List ConjunctiveQuery) (patterns : List (List Bool)) (query plan : ConjunctiveQuery) (test : List Bool → Bool)
+    → TellsRewritings rules views patterns query plan test → AreRewritings rules views patterns query plan (filter test (all_sets (length plan.body)))
+
+-- A list has the listed sets, in order, exactly where it is in order and has the minimal sets of the family of rewritings.
+abbrev pub ListedAreMinimal : Type 0
+ListedAreMinimal =
+    (rules : List Rule) (views : List ConjunctiveQuery) (patterns : List (List Bool)) (query plan : ConjunctiveQuery) (family sets : List (List Bool))
+    → AreRewritings rules views patterns query plan family
+    → AreListed rules views patterns query plan sets ↔ (AreMinimal family sets × AreInOrder sets)
+
+-- Where the family of rewritings is given, the list of the listed sets exists.
+abbrev pub ListedExist : Type 0
+ListedExist =
+    (rules : List Rule) (views : List ConjunctiveQuery) (patterns : List (List Bool)) (query plan : ConjunctiveQuery) (family : List (List Bool))
+    → AreRewritings rules views patterns query plan family → (sets : List (List Bool)) × AreListed rules views patterns query plan sets
+
+-- There is one list of the listed sets.
+abbrev pub ListedIsOne : Type 0
+ListedIsOne =
+    (rules : List Rule) (views : List ConjunctiveQuery) (patterns : List (List Bool)) (query plan : ConjunctiveQuery) (sets others : List (List Bool))
+    → AreListed rules views patterns query plan sets → AreListed rules views patterns query plan others → sets ≡ others
+
+-- Where the family of rewritings is given, each rewriting has a listed set within it.
+abbrev pub ListedCover : Type 0
+ListedCover =
+    (rules : List Rule) (views : List ConjunctiveQuery) (patterns : List (List Bool)) (query plan : ConjunctiveQuery) (family : List (List Bool))
+    → AreRewritings rules views patterns query plan family
+    → (set : List Bool) → IsRewriting rules views patterns query plan set
+    → (listed : List Bool) × IsListed rules views patterns query plan listed × Within listed set
+
+-- Where the family of rewritings is given, the list is empty exactly where there is no rewriting.
+abbrev pub NoneIsListed : Type 0
+NoneIsListed =
+    (rules : List Rule) (views : List ConjunctiveQuery) (patterns : List (List Bool)) (query plan : ConjunctiveQuery) (family sets : List (List Bool))
+    → AreRewritings rules views patterns query plan family → AreListed rules views patterns query plan sets
+    → (sets ≡ []) ↔ ((set : List Bool) → IsRewriting rules views patterns query plan set → ⊥)
+
+-- The atoms that a set chooses are those at its numbers.
+abbrev pub ChosenAreNamed : Type 0
+ChosenAreNamed =
+    (set : List Bool) (atoms : List (Fact Term)) (atom : Fact Term)
+    → Contains (chosen set atoms) atom ↔ ((number : ℕ) × Has set number × (slice_get atoms number ≡ Some atom))
+
+-- Atoms have a weight.
+abbrev pub WeightExists : Type 0
+WeightExists = (weights : List ℕ) (atoms : List (Fact Term)) → (weight : ℕ) × IsWeight weights atoms weight
+
+-- Atoms among others weigh no more than those.
+abbrev pub WeightRises : Type 0
+WeightRises =
+    (weights : List ℕ) (atoms others : List (Fact Term)) (weight other : ℕ) → ((atom : Fact Term) → Contains atoms atom → Contains others atom)
+    → IsWeight weights atoms weight → IsWeight weights others other → weight ≤ other
+
+-- Atoms have one weight.
+abbrev pub WeightIsOne : Type 0
+WeightIsOne =
+    (weights : List ℕ) (atoms : List (Fact Term)) (weight other : ℕ) → IsWeight weights atoms weight → IsWeight weights atoms other → weight ≡ other
+
+-- Where the atoms of a plan are distinct, the weight of those that a set chooses is the plain sum of their weights.
+abbrev pub WeightIsSum : Type 0
+WeightIsSum =
+    (weights : List ℕ) (atoms : List (Fact Term)) (set : List Bool) → AllPairs ◌≢◌ atoms
+    → IsWeight weights (chosen set atoms) (sum (map (λ atom. slice_index_or weights atom.relation 0) (chosen set atoms)))
+
+-- A list of weights that isn't empty has a pick.
+abbrev pub PickExists : Type 0
+PickExists = (weights : List ℕ) → weights ≢ [] → (place : ℕ) × IsPick weights place
+
+-- A list of weights has one pick.
+abbrev pub PickIsOne : Type 0
+PickIsOne = (weights : List ℕ) (place other : ℕ) → IsPick weights place → IsPick weights other → place ≡ other
+
+-- Where the totals are the weights of the listed sets, no rewriting weighs less than the pick.
+abbrev pub PickWeighsLeast : Type 0
+PickWeighsLeast =
+    (rules : List Rule) (views : List ConjunctiveQuery) (patterns : List (List Bool)) (query plan : ConjunctiveQuery) (family sets : List (List Bool)) (weights totals : List ℕ)
+    → AreRewritings rules views patterns query plan family → AreListed rules views patterns query plan sets
+    → AllZip (λ set total. IsWeight weights (chosen set plan.body) total) sets totals → (place : ℕ) → IsPick totals place
+    → (set : List Bool) (weight : ℕ) → IsRewriting rules views patterns query plan set → IsWeight weights (chosen set plan.body) weight
+    → slice_index_or totals place 0 ≤ weight
