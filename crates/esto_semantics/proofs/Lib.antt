@@ -6,6 +6,17 @@ pub mod CanonicalLemmas
 pub mod ContainmentLemmas
 pub mod WellFormedLemmas
 pub mod BindingLemmas
+pub mod AnswerLemmas
+pub mod PlanLemmas
+pub mod JoinLemmas
+pub mod ExpansionLemmas
+pub mod PlaceLemmas
+pub mod CandidateLemmas
+pub mod ScheduleLemmas
+pub mod RewritingLemmas
+pub mod WeightLemmas
+pub mod PartLemmas
+pub mod SpreadLemmas
 pub mod ChoiceLemmas
 pub mod SetLemmas
 pub mod AccessLemmas

@@ -13,6 +13,9 @@ pub mod WellFormed
 pub mod Sides
 pub mod Restriction
 pub mod Bindings
+pub mod PlanOf
+pub mod Expansions
+pub mod Rewritings
 pub mod SetLaws
 pub mod AccessSteps
 pub mod AccessLaws
