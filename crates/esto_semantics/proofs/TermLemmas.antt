@@ -20,7 +20,6 @@ term_cases P constant plain made term = subst P (roll-out-Term term) (by (out-Te
     by (Term-F.Plain number) = subst P (sym (rolls-Plain number)) (plain number)
     by (Term-F.Made rule variable frontier) = subst P (sym (rolls-Made rule variable frontier)) (made rule variable frontier)
 
-
 pub Const-apart-Plain : (text : List ℕ) (number : ℕ) → Const text ≡ Plain number → ⊥
 Const-apart-Plain text number is = let levels : Term-F.Const text ≡ Term-F.Plain number = sym (outs-Const text) ∙ ap out-Term is ∙ outs-Plain number in cc
 

@@ -1,0 +1,350 @@
+-- Families of sets: what covers, what stays an antichain, and that the kept sets are the minimal ones.
+use Rattle.std.proofs.Common.{◌≡◌, ◌↔◌, ◌⊎◌, ℕ, zero, suc, ◌+◌, ◌<◌, Bool, true, false, cond, not, ◌||◌, List, [], ◌∷◌, ◌++◌, length, take, drop, remove, filter, slice_index_or, IsTrue, add-one, All, Contains, refl, sym, ap, ◌∙◌, subst, inl, inr, arith, append_assoc, append-nil}
+use Rattle.std.proofs.Math.Seq.{drop-cons}
+use Rattle.std.proofs.lemmas.Bool.{cases_lt}
+use Rattle.std.proofs.lemmas.List.{get_or_default, take-append-drop}
+use Rattle.std.proofs.lemmas.List.Elements.{All-filter, All-push, All-contains, All-contains_itself, All-nil, All-head, All-tail, All-cons, All-append, All-take, All-drop, All-more, filter_passes, filter-append, Contains-append_left, Contains-append_cases, Contains-push, Contains-push_cases}
+use Rattle.std.proofs.lemmas.List.Kept.{AllPairs-filter}
+use Rattle.std.proofs.lemmas.List.Quantifiers.{all_pairs_push}
+use Rattle.std.proofs.lemmas.List.Sorted.{IsPermutation-filter_both, Contains-permutation}
+use Rattle.esto_semantics.specs.Sets.{Has, Within, Covers, IsMinimal, AreMinimal}
+use Rattle.esto_bits.specs.Kept.{is_within, AreOver, IsAntichain, is_covered, is_left_by, with_set, with_sets, OneMoreIsMinimal, KeptAreMinimal}
+use Rattle.esto_semantics.proofs.SetLemmas.{within_refl, within_trans, within_same}
+use Rattle.esto_bits.proofs.SetLemmas.{false-not_true, Within-from_test, test_from_Within}
+
+-- ---- lists
+
+Contains-none : {A : Type 0} (item : A) → Contains [] item → ⊥
+Contains-none item (place, within, is) = omega arith
+
+Contains-cases : {A : Type 0} (first : A) (rest : List A) (item : A) → Contains (first ∷ rest) item → (first ≡ item) ⊎ Contains rest item
+Contains-cases first rest item (zero, within, is) = inl is
+Contains-cases first rest item (suc place, within, is) = inr (place, omega arith, is)
+
+-- what holds of each item that the list contains
+from_each : {A : Type 0} (P : A → Type 0) (items : List A) → ((item : A) → Contains items item → P item) → All P items
+from_each P [] each = All-nil P
+from_each P (first ∷ rest) each = All-cons P first rest (each first (0, omega arith, refl)) (from_each P rest (λ item has. each item (suc has.0, omega (arith, has.1), has.2)))
+
+-- the items that a filter keeps are those that pass
+Contains-from_filter : {A : Type 0} (test : A → Bool) (items : List A) (item : A) → Contains (filter test items) item → Contains items item × (test item ≡ true)
+Contains-from_filter test items item has = (
+  All-contains (Contains items) (filter test items) item (All-filter test (Contains items) items (All-contains_itself items)) has,
+  All-contains (λ x. test x ≡ true) (filter test items) item (filter_passes test items) has,
+)
+
+Contains-filter : {A : Type 0} (test : A → Bool) (items : List A) (item : A) → Contains items item → test item ≡ true → Contains (filter test items) item
+Contains-filter test items item has passes =
+    let moved = Contains-permutation items (filter test items ++ filter (λ x. not (test x)) items) item (IsPermutation-filter_both test (λ x. not (test x)) (λ x. refl) items) has in
+    elim (Contains-append_cases (filter test items) (filter (λ x. not (test x)) items) item moved) [
+      | inl kept ↦ kept
+      | inr dropped ↦ absurd (both_ways (test item) passes (Contains-from_filter (λ x. not (test x)) items item dropped).1)
+    ]
+  where
+    both_ways : (answer : Bool) → answer ≡ true → not answer ≡ true → ⊥
+    both_ways true passed failed = false-not_true failed
+    both_ways false passed failed = false-not_true passed
+
+-- ---- truth values
+
+not-true : (answer : Bool) → not answer ≡ true → answer ≡ false
+not-true true is = absurd (false-not_true is)
+not-true false is = refl
+
+false-not : (answer : Bool) → answer ≡ false → not answer ≡ true
+false-not answer is = ap not is
+
+-- a choice is made by cases
+by_cases : {A : Type 0} (P : A → Type 0) (test : Bool) (one other : A) → (test ≡ true → P one) → (test ≡ false → P other) → P (cond test one other)
+by_cases P true one other if_true if_false = if_true refl
+by_cases P false one other if_true if_false = if_false refl
+
+-- ---- covering
+
+module _ (set : List Bool) where
+  pub covered_from_test : (family : List (List Bool)) → is_covered family set ≡ true → Covers family set
+  covered_from_test [] passes = absurd (false-not_true passes)
+  covered_from_test (first ∷ rest) passes = go (is_within first set) refl passes (covered_from_test rest)
+    where
+      go : (test : Bool) → is_within first set ≡ test → test || is_covered rest set ≡ true → (is_covered rest set ≡ true → Covers rest set) → Covers (first ∷ rest) set
+      go true is either later = (first, (0, omega arith, refl), Within-from_test first set is)
+      go false is either later = let found = later either in (found.0, (suc found.1.0, omega (arith, found.1.1), found.1.2), found.2)
+
+  pub test_from_covered : (family : List (List Bool)) → Covers family set → is_covered family set ≡ true
+  test_from_covered [] covered = absurd (Contains-none covered.0 covered.1)
+  test_from_covered (first ∷ rest) covered = elim (Contains-cases first rest covered.0 covered.1) [
+    | inl is ↦ ap (λ test. test || is_covered rest set) (test_from_Within first set (subst (λ member. Within member set) (sym is) covered.2))
+    | inr later ↦ or_second (is_within first set) (is_covered rest set) (test_from_covered rest (covered.0, later, covered.2))
+  ]
+    where
+      or_second : (one other : Bool) → other ≡ true → one || other ≡ true
+      or_second true other is = refl
+      or_second false other is = is
+
+-- ---- a walk over a family that looks for a member which covers
+
+module _ (sets : List (List Bool)) (row : List Bool) (place : ℕ) (set : List Bool) (small : place < length sets) (is : set ≡ slice_index_or sets place set) where
+  rests : is_covered (drop place sets) row ≡ is_within set row || is_covered (drop (place + 1) sets) row
+  rests =
+      ap (λ family. is_covered family row) (drop-cons sets place set small)
+      ∙ ap (λ member. is_within member row || is_covered (drop (suc place) sets) row) (sym is)
+      ∙ ap (λ next. is_within set row || is_covered (drop next sets) row) (sym (add-one place))
+
+  pub covered-here : is_within set row ≡ true → is_covered (drop place sets) row ≡ true
+  covered-here passes = rests ∙ ap (λ test. test || is_covered (drop (place + 1) sets) row) passes
+
+  pub covered-next : is_within set row ≡ false → is_covered (drop place sets) row ≡ is_covered (drop (place + 1) sets) row
+  covered-next fails = rests ∙ ap (λ test. test || is_covered (drop (place + 1) sets) row) fails
+
+-- the test is the answer to "is it covered?"
+pub covered_says : (family : List (List Bool)) (set : List Bool) (answer : Bool) → answer ≡ is_covered family set → IsTrue answer ↔ Covers family set
+covered_says family set answer is = (λ holds. covered_from_test set family (sym is ∙ holds), λ covered. is ∙ test_from_covered set family covered)
+
+-- where a set is covered, it covers nothing that isn't
+pub covered-already : (family : List (List Bool)) (row : List Bool) → is_covered family row ≡ true → (set : List Bool) → Covers family set ↔ (Covers family set ⊎ Within row set)
+covered-already family row passes set = (
+  λ covered. inl covered,
+  λ either. elim either [
+    | inl covered ↦ covered
+    | inr within ↦ let by = covered_from_test row family passes in (by.0, by.1, within_trans by.0 row set by.2 within)
+  ],
+)
+
+-- ---- antichains
+
+-- of two members of an antichain the one is a subset of the other only where they are one
+pub antichain-same : (sets : List (List Bool)) → IsAntichain sets → (set other : List Bool) → Contains sets set → Contains sets other → Within set other → set ≡ other
+antichain-same sets antichain set other has has' within = elim (cases_lt has.0 has'.0) [
+  | inl less ↦ absurd ((antichain has.0 has'.0 set less has'.1).0 (λ number is. subst (λ row. Has row number) (sym (other_at set)) (within number (subst (λ row. Has row number) (set_at set) is))))
+  | inr above ↦ elim (cases_lt has'.0 has.0) [
+    | inl more ↦ absurd ((antichain has'.0 has.0 set more has.1).1 (λ number is. subst (λ row. Has row number) (sym (other_at set)) (within number (subst (λ row. Has row number) (set_at set) is))))
+    | inr same ↦ let one_place : has.0 ≡ has'.0 = omega arith in sym (set_at set) ∙ ap (λ place. slice_index_or sets place set) one_place ∙ other_at set
+  ]
+]
+  where
+    set_at : (d : List Bool) → slice_index_or sets has.0 d ≡ set
+    set_at d = get_or_default sets has.0 d set has.1 ∙ has.2
+
+    other_at : (d : List Bool) → slice_index_or sets has'.0 d ≡ other
+    other_at d = get_or_default sets has'.0 d other has'.1 ∙ has'.2
+
+-- ---- one set more
+
+module _ (sets : List (List Bool)) (row : List Bool) where
+  -- the kept sets that are no supersets of the new one
+  abbrev others : List (List Bool)
+  others = filter (λ set. not (is_within row set)) sets
+
+  Contains-with_set : (set : List Bool) → Contains (with_set sets row) set → Contains sets set ⊎ (set ≡ row)
+  Contains-with_set set =
+      by_cases (λ kept. Contains kept set → Contains sets set ⊎ (set ≡ row)) (is_covered sets row) sets (others ++ row ∷ [])
+      (λ covered has. inl has)
+      (λ uncovered has. elim (Contains-push_cases others row set has) [ inl kept ↦ inl (Contains-from_filter (λ s. not (is_within row s)) sets set kept).0 | inr is ↦ inr (sym is) ])
+
+  -- a set is covered afterwards exactly where it was, or where the new set covers it
+  pub covered-with_set : (set : List Bool) → Covers (with_set sets row) set ↔ (Covers sets set ⊎ Within row set)
+  covered-with_set set = (there, back)
+    where
+      there : Covers (with_set sets row) set → Covers sets set ⊎ Within row set
+      there covered = elim (Contains-with_set covered.0 covered.1) [ inl kept ↦ inl (covered.0, kept, covered.2) | inr is ↦ inr (subst (λ member. Within member set) is covered.2) ]
+
+      -- a kept set stays, or the new one is a subset of it
+      stays : Covers sets set → Covers (others ++ row ∷ []) set
+      stays covered = go (is_within row covered.0) refl
+        where
+          go : (test : Bool) → is_within row covered.0 ≡ test → Covers (others ++ row ∷ []) set
+          go true is = (row, Contains-push others row, within_trans row covered.0 set (Within-from_test row covered.0 is) covered.2)
+          go false is = (covered.0, Contains-append_left others (row ∷ []) covered.0 (Contains-filter (λ s. not (is_within row s)) sets covered.0 covered.1 (false-not _ is)), covered.2)
+
+      back : Covers sets set ⊎ Within row set → Covers (with_set sets row) set
+      back either =
+          by_cases (λ kept. Covers kept set) (is_covered sets row) sets (others ++ row ∷ [])
+          (λ passes. elim either [
+            | inl covered ↦ covered
+            | inr within ↦ let by = covered_from_test row sets passes in (by.0, by.1, within_trans by.0 row set by.2 within)
+          ])
+          (λ fails. elim either [ inl covered ↦ stays covered | inr within ↦ (row, Contains-push others row, within) ])
+
+  pub antichain-with_set : IsAntichain sets → IsAntichain (with_set sets row)
+  antichain-with_set antichain =
+      by_cases IsAntichain (is_covered sets row) sets (others ++ row ∷ []) (λ passes. antichain)
+      (λ fails.
+      all_pairs_push (λ set other. (¬ (Within set other)) × (¬ (Within other set))) others row
+      (AllPairs-filter (λ set other. (¬ (Within set other)) × (¬ (Within other set))) (λ s. not (is_within row s)) sets antichain)
+      (λ place d within. apart fails (slice_index_or others place d) (at others place d within)))
+    where
+      at : (items : List (List Bool)) (place : ℕ) (d : List Bool) → place < length items → Contains items (slice_index_or items place d)
+      at items place d within = (place, within, get_or_default items place _ d within)
+
+      apart : is_covered sets row ≡ false → (set : List Bool) → Contains others set → (¬ (Within set row)) × (¬ (Within row set))
+      apart fails set has =
+          let kept = Contains-from_filter (λ s. not (is_within row s)) sets set has in (
+            λ within. false-not_true (sym fails ∙ test_from_covered row sets (set, kept.0, within)),
+            λ within. false-not_true (sym (not-true _ kept.1) ∙ test_from_Within row set within),
+          )
+
+  pub over-with_set : (count : ℕ) → AreOver count sets → length row ≡ count → AreOver count (with_set sets row)
+  over-with_set count over is =
+      by_cases (AreOver count) (is_covered sets row) sets (others ++ row ∷ []) (λ passes. over)
+      (λ fails. All-push (λ set. length set ≡ count) others row (All-filter (λ s. not (is_within row s)) (λ set. length set ≡ count) sets over) is)
+
+-- ---- the kept sets are the minimal ones
+
+-- what products keep of a family of sets of one count
+record KeepsOf (count : ℕ) (family sets : List (List Bool)) : Type 0 where
+  pub over : AreOver count family
+  pub antichain : IsAntichain sets
+  pub within : (set : List Bool) → Contains sets set → Contains family set
+  pub covers : (set : List Bool) → Contains family set → Covers sets set
+
+keeps-none : (count : ℕ) → KeepsOf count [] []
+keeps-none count = record {
+  over = All-nil (λ set. length set ≡ count);
+  antichain = λ i j d less within. absurd (omega arith);
+  within = λ set has. has;
+  covers = λ set has. absurd (Contains-none set has);
+}
+
+keeps-one_more : (count : ℕ) (family sets : List (List Bool)) (row : List Bool) → length row ≡ count → KeepsOf count family sets → KeepsOf count (family ++ row ∷ []) (with_set sets row)
+keeps-one_more count family sets row is keeps = record {
+  over = All-push (λ set. length set ≡ count) family row keeps.over is;
+  antichain = antichain-with_set sets row keeps.antichain;
+  within = λ set has. elim (Contains-with_set sets row set has) [
+    | inl kept ↦ Contains-append_left family (row ∷ []) set (keeps.within set kept)
+    | inr same ↦ subst (Contains (family ++ row ∷ [])) (sym same) (Contains-push family row)
+  ];
+  covers = λ set has. (covered-with_set sets row set).1 (elim (Contains-push_cases family row set has) [
+    | inl before ↦ inl (keeps.covers set before)
+    | inr same ↦ inr (subst (Within row) same (within_refl row))
+  ]);
+}
+
+keeps-all : (count : ℕ) (more family sets : List (List Bool)) → AreOver count more → KeepsOf count family sets → KeepsOf count (family ++ more) (with_sets sets more)
+keeps-all count [] family sets over keeps = subst (λ all. KeepsOf count all sets) (sym (append-nil family)) keeps
+keeps-all count (row ∷ rows) family sets over keeps =
+    subst (λ all. KeepsOf count all (with_sets (with_set sets row) rows)) (append_assoc family (row ∷ []) rows)
+    (keeps-all count rows (family ++ row ∷ []) (with_set sets row) (All-tail (λ set. length set ≡ count) row rows over)
+    (keeps-one_more count family sets row (All-head (λ set. length set ≡ count) row rows over) keeps))
+
+minimal_from_keeps : (count : ℕ) (family sets : List (List Bool)) → KeepsOf count family sets → AreMinimal family sets
+minimal_from_keeps count family sets keeps = record {
+  exact = λ set. (there set, back set);
+  once = λ i j d less within same. (keeps.antichain i j d less within).0 (subst (Within (slice_index_or sets i d)) same (within_refl (slice_index_or sets i d)));
+}
+  where
+    count_of : (set : List Bool) → Contains family set → length set ≡ count
+    count_of set has = All-contains (λ s. length s ≡ count) family set keeps.over has
+
+    there : (set : List Bool) → Contains sets set → IsMinimal (Contains family) set
+    there set has = (
+      keeps.within set has,
+      λ other has' within.
+          let by = keeps.covers other has' in
+          let same : by.0 ≡ set = antichain-same sets keeps.antichain by.0 set by.1 has (within_trans by.0 other set by.2 within) in
+          within_same other set (count_of other has' ∙ sym (count_of set (keeps.within set has))) within (subst (λ s. Within s other) same by.2),
+    )
+
+    back : (set : List Bool) → IsMinimal (Contains family) set → Contains sets set
+    back set minimal = let by = keeps.covers set minimal.0 in subst (Contains sets) (minimal.1 by.0 (keeps.within by.0 by.1) by.2) by.1
+
+pub kept_are_minimal : KeptAreMinimal
+kept_are_minimal count family over = minimal_from_keeps count family (with_sets [] family) (keeps-all count family [] [] over (keeps-none count))
+
+-- the minimal sets of a family, each once, are what products keep of it
+keeps_from_minimal : (count : ℕ) (family sets : List (List Bool)) → AreOver count family → AreMinimal family sets → KeepsOf count family sets
+keeps_from_minimal count family sets over minimal = record {
+  over = over;
+  antichain = λ i j d less within. (
+    λ sub. minimal.once i j d less within (one_is sub (member i d (omega arith)) (member j d within)),
+    λ sub. minimal.once i j d less within (sym (one_is sub (member j d within) (member i d (omega arith)))),
+  );
+  within = λ set has. ((minimal.exact set).0 has).0;
+  covers = λ set has. let by = kept.covers set has in (by.0, (minimal.exact by.0).1 ((again.exact by.0).0 by.1), by.2);
+}
+  where
+    kept : KeepsOf count family (with_sets [] family)
+    kept = keeps-all count family [] [] over (keeps-none count)
+
+    again : AreMinimal family (with_sets [] family)
+    again = minimal_from_keeps count family (with_sets [] family) kept
+
+    member : (place : ℕ) (d : List Bool) → place < length sets → Contains sets (slice_index_or sets place d)
+    member place d within = (place, within, get_or_default sets place _ d within)
+
+    one_is : {set other : List Bool} → Within set other → Contains sets set → Contains sets other → set ≡ other
+    one_is {set} {other} sub has has' = ((minimal.exact other).0 has').1 set ((minimal.exact set).0 has).0 sub
+
+pub one_more_is_minimal : OneMoreIsMinimal
+one_more_is_minimal count family sets row over is minimal =
+    minimal_from_keeps count (family ++ row ∷ []) (with_set sets row) (keeps-one_more count family sets row is (keeps_from_minimal count family sets over minimal))
+
+-- ---- a walk over a list that removes what doesn't pass a test
+
+-- where all items pass the filter keeps all
+pub filter-all : {A : Type 0} (test : A → Bool) (items : List A) → All (λ item. test item ≡ true) items → filter test items ≡ items
+filter-all test [] all = refl
+filter-all test (first ∷ rest) all =
+    ap (λ passes. cond passes (first ∷ filter test rest) (filter test rest)) (All-head (λ item. test item ≡ true) first rest all)
+    ∙ ap (λ kept. first ∷ kept) (filter-all test rest (All-tail (λ item. test item ≡ true) first rest all))
+
+-- the items before a removed one stay
+pub take-remove : {A : Type 0} (items : List A) (place : ℕ) → take place (remove items place) ≡ take place items
+take-remove items zero = refl
+take-remove [] (suc place) = refl
+take-remove (first ∷ rest) (suc place) = ap (λ kept. first ∷ kept) (take-remove rest place)
+
+pub All-remove : {A : Type 0} (P : A → Type 0) (items : List A) (place : ℕ) → All P items → All P (remove items place)
+All-remove P items place all = All-append P (take place items) (drop (suc place) items) (All-take P place items all) (All-drop P (suc place) items all)
+
+-- what holds of the items before a place and of the item there holds of one more
+pub All-next : {A : Type 0} (P : A → Type 0) (items : List A) (place : ℕ) (item : A) → place < length items → item ≡ slice_index_or items place item
+    → All P (take place items) → P item → All P (take (place + 1) items)
+All-next P items place item small is all here = All-more P items place item small all (subst P is here)
+
+module _ {A : Type 0} (test : A → Bool) (items : List A) (place : ℕ) (item : A) (small : place < length items) (is : item ≡ slice_index_or items place item) where
+  -- to remove an item that doesn't pass leaves what the filter keeps
+  pub filter-remove : test item ≡ false → filter test (remove items place) ≡ filter test items
+  filter-remove fails =
+      filter-append test (take place items) (drop (suc place) items)
+      ∙ ap (λ kept. filter test (take place items) ++ kept) (sym from_place)
+      ∙ sym (filter-append test (take place items) (drop place items))
+      ∙ ap (filter test) (take-append-drop place items)
+    where
+      from_place : filter test (drop place items) ≡ filter test (drop (suc place) items)
+      from_place =
+          ap (filter test) (drop-cons items place item small)
+          ∙ ap (λ here. cond (test here) (here ∷ filter test (drop (suc place) items)) (filter test (drop (suc place) items))) (sym is)
+          ∙ ap (λ passes. cond passes (item ∷ filter test (drop (suc place) items)) (filter test (drop (suc place) items))) fails
+
+-- ---- the code that adds a set
+
+-- a set that isn't covered goes to the end, and then its proper supersets are dropped
+pub with_set-left_by : (sets : List (List Bool)) (row : List Bool) → is_covered sets row ≡ false → filter (is_left_by row) (sets ++ row ∷ []) ≡ with_set sets row
+with_set-left_by sets row fails =
+    filter-append (is_left_by row) sets (row ∷ []) ∙ ap (λ kept. kept ++ filter (is_left_by row) (row ∷ [])) (same sets fails) ∙ ap (λ kept. others sets row ++ kept) itself
+    ∙ ap (λ test. cond test sets (others sets row ++ row ∷ [])) (sym fails)
+  where
+    itself : filter (is_left_by row) (row ∷ []) ≡ row ∷ []
+    itself = let within = test_from_Within row row (within_refl row) in rw within refl
+
+    same : (members : List (List Bool)) → is_covered members row ≡ false → filter (is_left_by row) members ≡ filter (λ set. not (is_within row set)) members
+    same [] none = refl
+    same (first ∷ others) none = go (is_within first row) refl none (same others)
+      where
+        or-false : (test : Bool) → test || false ≡ test
+        or-false true = refl
+        or-false false = refl
+
+        go : (test : Bool) → is_within first row ≡ test → test || is_covered others row ≡ false
+            → (is_covered others row ≡ false → filter (is_left_by row) others ≡ filter (λ set. not (is_within row set)) others)
+            → filter (is_left_by row) (first ∷ others) ≡ filter (λ set. not (is_within row set)) (first ∷ others)
+        go true is either later = absurd (false-not_true (sym either))
+        go false is either later = rw (later either, is, or-false) refl
+
+-- so the code keeps an antichain of the count, and it is what is kept after one set more
+pub added : (count : ℕ) (sets pushed left : List (List Bool)) (row : List Bool) → AreOver count sets × IsAntichain sets → is_covered sets row ≡ false → length row ≡ count
+    → pushed ≡ sets ++ row ∷ [] → left ≡ filter (is_left_by row) pushed → (left ≡ with_set sets row) × AreOver count left × IsAntichain left
+added count sets pushed left row holds fails is pushed_is left_is = (now, subst (AreOver count) (sym now) (over-with_set sets row count holds.0 is), subst IsAntichain (sym now) (antichain-with_set sets row holds.1))
+  where
+    now : left ≡ with_set sets row
+    now = left_is ∙ ap (filter (is_left_by row)) pushed_is ∙ with_set-left_by sets row fails

@@ -1,0 +1,5 @@
+pub mod SetLemmas
+pub mod WordLemmas
+pub mod NumberLemmas
+pub mod FamilyLemmas
+pub mod SortLemmas

@@ -1,0 +1,97 @@
+-- The numbers of a set with one number more, and the test for subsets.
+use Rattle.std.proofs.Common.{◌≡◌, ◌≢◌, ◌↔◌, ◌⊎◌, ℕ, zero, suc, ◌<◌, Bool, true, false, not, ◌&&◌, ◌||◌, List, [], ◌∷◌, length, set, slice_index_or, replicate, IsTrue, refl, sym, ap, ◌∙◌, subst, inl, inr, arith}
+use Rattle.std.proofs.lemmas.Bool.{cases_lt}
+use mathlib.Core.Bool.{beq}
+use Rattle.std.proofs.lemmas.List.{get_or-set_same, get_or-set_other, get_or-replicate, length-replicate}
+use Rattle.esto_semantics.specs.Sets.{Has, Within}
+use Rattle.esto_semantics.proofs.SetLemmas.{beyond}
+use Rattle.esto_bits.specs.Kept.{is_within}
+
+-- ---- truth values
+
+pub false-not_true : false ≡ true → ⊥
+false-not_true e = cc
+
+-- two truth values that imply one another are equal
+same_truth : (one other : Bool) → (one ≡ true → other ≡ true) → (other ≡ true → one ≡ true) → one ≡ other
+same_truth true other there back = sym (there refl)
+same_truth false true there back = back refl
+same_truth false false there back = refl
+
+-- of two truth values that differ the other is false where the one is true, and true where it is false
+pub other_false : (one other : Bool) → not (beq one other) ≡ true → one ≡ true → other ≡ false
+other_false true true differ is = sym differ
+other_false true false differ is = refl
+other_false false other differ is = absurd (false-not_true is)
+
+pub other_true : (one other : Bool) → not (beq one other) ≡ true → one ≡ false → other ≡ true
+other_true true other differ is = absurd (false-not_true (sym is))
+other_true false true differ is = refl
+other_true false false differ is = differ
+
+both-first : (one other : Bool) → one && other ≡ true → one ≡ true
+both-first true other e = refl
+both-first false other e = e
+
+both-second : (one other : Bool) → one && other ≡ true → other ≡ true
+both-second true other e = e
+both-second false other e = absurd (false-not_true e)
+
+-- ---- the numbers of a set
+
+-- what says whether a set has a number is the set's own answer
+pub answer_is : (row : List Bool) (number : ℕ) (answer : Bool) → IsTrue answer ↔ Has row number → answer ≡ slice_index_or row number false
+answer_is row number answer says = same_truth answer (slice_index_or row number false) says.0 says.1
+
+pub Has-replicate : (count number : ℕ) → Has (replicate count false) number → ⊥
+Has-replicate count number has =
+    let below : number < count = subst (λ n. number < n) (length-replicate count false) (beyond (replicate count false) number has) in
+    false-not_true (sym (get_or-replicate count number false false below) ∙ has)
+
+-- with one number more a set has that number, and all that it had
+pub Has-set : (row : List Bool) (added number : ℕ) → added < length row → Has (set row added true) number ↔ ((number ≡ added) ⊎ Has row number)
+Has-set row added number within = (there, back)
+  where
+    other : number ≢ added → slice_index_or (set row added true) number false ≡ slice_index_or row number false
+    other differs = get_or-set_other row added number true false differs
+
+    there : Has (set row added true) number → (number ≡ added) ⊎ Has row number
+    there has = elim (cases_lt number added) [
+      | inl less ↦ inr (sym (other (omega arith)) ∙ has)
+      | inr above ↦ elim (cases_lt added number) [ inl more ↦ inr (sym (other (omega arith)) ∙ has) | inr same ↦ inl (omega arith) ]
+    ]
+
+    same_number : number ≡ added → Has (set row added true) number
+    same_number same = subst (Has (set row added true)) (sym same) (get_or-set_same row added true false within)
+
+    back : (number ≡ added) ⊎ Has row number → Has (set row added true) number
+    back (inl same) = same_number same
+    back (inr has) = elim (cases_lt number added) [
+      | inl less ↦ other (omega arith) ∙ has
+      | inr above ↦ elim (cases_lt added number) [ inl more ↦ other (omega arith) ∙ has | inr same ↦ same_number (omega arith) ]
+    ]
+
+-- ---- the test for subsets
+
+pub Within-from_test : (one other : List Bool) → is_within one other ≡ true → Within one other
+Within-from_test [] other passes number has = absurd (false-not_true has)
+Within-from_test (true ∷ rest) [] passes number has = absurd (false-not_true passes)
+Within-from_test (false ∷ rest) [] passes zero has = has
+Within-from_test (false ∷ rest) [] passes (suc number) has = Within-from_test rest [] passes number has
+Within-from_test (true ∷ rest) (in_other ∷ others) passes zero has = both-first in_other (is_within rest others) passes
+Within-from_test (false ∷ rest) (in_other ∷ others) passes zero has = absurd (false-not_true has)
+Within-from_test (is_in ∷ rest) (in_other ∷ others) passes (suc number) has =
+    Within-from_test rest others (both-second (not is_in || in_other) (is_within rest others) passes) number has
+
+pub test_from_Within : (one other : List Bool) → Within one other → is_within one other ≡ true
+test_from_Within [] other within = refl
+test_from_Within (true ∷ rest) [] within = absurd (false-not_true (within 0 refl))
+test_from_Within (false ∷ rest) [] within = test_from_Within rest [] (λ number has. within (suc number) has)
+test_from_Within (true ∷ rest) (in_other ∷ others) within =
+    ap (λ first. first && is_within rest others) (within 0 refl) ∙ test_from_Within rest others (λ number has. within (suc number) has)
+test_from_Within (false ∷ rest) (in_other ∷ others) within = test_from_Within rest others (λ number has. within (suc number) has)
+
+-- an answer that says whether the one set is a subset of the other is the test's
+pub test_is : (one other : List Bool) (answer : Bool) → IsTrue answer ↔ Within one other → answer ≡ is_within one other
+test_is one other answer says =
+    same_truth answer (is_within one other) (λ yes. test_from_Within one other (says.0 yes)) (λ passes. says.1 (Within-from_test one other passes))

@@ -1,0 +1,9 @@
+//! Sets of atom numbers, kept as 64-bit words, and products: families of such sets of which none is a subset of another.
+#![tactic(auto)]
+
+mod products;
+mod row_bits;
+mod words;
+
+pub use products::{Products, SetList, kept_sets_are_minimal};
+pub use row_bits::RowBits;

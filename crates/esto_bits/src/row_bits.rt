@@ -1,0 +1,132 @@
+//! Sets of atom numbers below a count.
+ghost use Rattle.std.specs.Prelude.{ℕ, ◌≡◌, ◌↔◌, ◌⊎◌, ◌<◌, false, true, length, replicate, slice_set, IsTrue, IfOk};
+ghost use Rattle.esto_semantics.specs.Sets.{Has, Within, numbers, set_cmp, united};
+
+use crate::words::{add_bits, row_within};
+use esto_term::{OutOfMemory, Replicate};
+use std::alloc::Global;
+use std::cmp::Ordering;
+use std::marker::Model;
+
+/// A set of atom numbers below a count. Contracts see the list of the answers to "is it in?", one for each
+/// number below the count, so two sets of one count are equal exactly where they have the same numbers.
+#[derive(Debug, Drop)]
+pub struct RowBits {
+    count: usize,
+    words: Vec<u64>,
+}
+
+impl Model for RowBits {
+    ghost use Rattle.std.specs.Prelude.{List, Bool};
+    ghost use Rattle.esto_bits.specs.Words.{set_of, AreWordsBelow};
+
+    ghost Value = { List Bool };
+
+    ghost view = { λ it. set_of it.words.items it.count };
+
+    ghost invariant = { λ it. AreWordsBelow it.words.items it.count };
+}
+
+impl RowBits {
+    /// The empty set of numbers below `atoms`.
+    pub fn new(alloc: Global, atoms: usize) -> Result<RowBits, OutOfMemory>
+        ensures { IfOk result (λ it. it ≡ replicate atoms false) }
+    {
+        match vec![in alloc; 0u64; atoms.div_ceil(64)] {
+            Ok(words) => Ok(RowBits {
+                count: atoms,
+                words,
+            }),
+            Err(_) => Err(OutOfMemory),
+        }
+    }
+
+    /// The count that each number of the set is below.
+    pub fn count(&self) -> usize
+        ensures { result ≡ length self.now }
+    {
+        self.count
+    }
+
+    /// How many numbers the set has.
+    pub fn size(&self) -> usize
+        ensures { result ≡ length (numbers self.now) }
+    {
+        let mut size: usize = 0;
+        'numbers: for number in 0..self.count() {
+            if self.has(number) {
+                size += 1;
+            }
+        }
+        size
+    }
+
+    /// Whether the set has the number.
+    pub fn has(&self, atom: usize) -> bool
+        requires { atom < length self.now }
+        ensures { IsTrue result ↔ Has self.now atom }
+    {
+        (self.words[atom / 64] >> (atom % 64)) & 1 == 1
+    }
+
+    /// Puts a number into the set.
+    pub fn insert(&mut self, atom: usize)
+        requires { atom < length self.old }
+        ensures value { self.new ≡ slice_set self.old atom true }
+        ensures has { (number : ℕ) → Has self.new number ↔ ((number ≡ atom) ⊎ Has self.old number) }
+    {
+        self.words[atom / 64] |= 1u64 << (atom % 64);
+    }
+
+    /// Whether the set is a subset of the other, which has the same count.
+    pub fn within(&self, other: &RowBits) -> bool
+        requires { length self.now ≡ length other.now }
+        ensures { IsTrue result ↔ Within self.now other.now }
+    {
+        row_within(self.words.as_slice(), other.words.as_slice())
+    }
+
+    /// Puts the numbers of the other set, which has the same count, into this one.
+    pub fn union(&mut self, other: &RowBits)
+        requires { length self.old ≡ length other.now }
+        ensures value { self.new ≡ united self.old other.now }
+        ensures has { (number : ℕ) → Has self.new number ↔ (Has self.old number ⊎ Has other.now number) }
+        ensures count { length self.new ≡ length self.old }
+    {
+        add_bits(&mut self.words, other.words.as_slice());
+    }
+
+    /// The order of two sets of one count: by size, then by their rising lists of numbers, compared as lists.
+    pub fn compare(&self, other: &RowBits) -> Ordering
+        requires { length self.now ≡ length other.now }
+        ensures { result ≡ set_cmp self.now other.now }
+    {
+        let order = self.size().cmp(&other.size());
+        if order.is_ne() {
+            return order;
+        }
+        'numbers: for number in 0..self.count() {
+            let here = self.has(number);
+            if here != other.has(number) {
+                return if here {
+                    Ordering::Less
+                } else {
+                    Ordering::Greater
+                };
+            }
+        }
+        Ordering::Equal
+    }
+}
+
+impl Replicate for RowBits {
+    fn copy(&self, alloc: Global) -> Result<RowBits, OutOfMemory> {
+        match Vec::from_slice(alloc, self.words.as_slice()) {
+            Ok(words) => Ok(RowBits {
+                count: self.count,
+                words,
+            }),
+            Err(_) => Err(OutOfMemory),
+        }
+    }
+}

@@ -1,0 +1,28 @@
+//! Plain loops over 64-bit words.
+ghost use Rattle.std.specs.Prelude.{ℕ, ◌≡◌, ◌↔◌, ◌<◌, ◌^◌, length, slice_index_or, IsTrue};
+ghost use Rattle.esto_bits.specs.Words.{LackNoBit, HaveBitsOf};
+
+/// Whether no word of `small` has a bit that the same word of `large` lacks.
+pub fn row_within(small: &[u64], large: &[u64]) -> bool
+    requires { length small.now ≡ length large.now }
+    ensures fits { (place : ℕ) → slice_index_or small.now place 0 < 2 ^ 64 }
+    ensures within { IsTrue result ↔ LackNoBit small.now large.now }
+{
+    'words: for place in 0..small.len() {
+        if small[place] & large[place] != small[place] {
+            return false;
+        }
+    }
+    true
+}
+
+/// Adds the bits of each word of `other` to the same word of `words`.
+pub fn add_bits(words: &mut Vec<u64>, other: &[u64])
+    requires { length words.old.items ≡ length other.now }
+    ensures length { length words.new.items ≡ length words.old.items }
+    ensures bits { HaveBitsOf words.new.items words.old.items other.now }
+{
+    'words: for place in 0..other.len() {
+        words[place] |= other[place];
+    }
+}
