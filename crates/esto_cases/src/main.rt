@@ -13,7 +13,7 @@ use std::process::ExitCode;
 use std::rt::Files;
 
 /// The words of each case.
-const CASES: [&str; 8] = [
+const CASES: [&str; 9] = [
     "list first.toml first.txt",
     "list equal_views.toml first.txt",
     "list self_join.toml self_join.txt",
@@ -22,6 +22,7 @@ const CASES: [&str; 8] = [
     "list first.toml missing.txt",
     "list first.toml long.txt",
     "list marked.toml marked.txt",
+    "list first.toml unclosed.txt",
 ];
 
 // The words of a line.

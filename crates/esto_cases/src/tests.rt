@@ -74,29 +74,106 @@ fn fetches_and_puts_fail(rt: HostRuntime) -> Result<(), Fail> {
     Ok(())
 }
 
+// The text of so many copies of a part, between a start and an end.
+fn repeated(
+    alloc: Global,
+    start: &str,
+    part: &str,
+    count: usize,
+    end: &str,
+) -> Result<Bytes, Fail> {
+    let mut text = Bytes::from_slice(alloc, start.as_bytes())?;
+    for _turn in 0..count {
+        text.append(part.as_bytes())?;
+    }
+    text.append(end.as_bytes())?;
+    Ok(text)
+}
+
+// The status and the text that `list` over a catalogue answers to a query.
+fn listed(alloc: Global, catalogue: &str, query: &[u8]) -> Result<(u8, MemorySink), Fail> {
+    let words = words_of(alloc, "list c q")?;
+    let mut shelf = MemoryShelf::new(alloc);
+    keep(alloc, &mut shelf, "c", catalogue)?;
+    shelf.keep(text(alloc, "q")?, Bytes::from_slice(alloc, query)?)?;
+    let mut out = MemorySink::new(alloc);
+    let status = mediate(alloc, words.items(), &mut shelf, &mut out);
+    Ok((status.code(), out))
+}
+
 #[test]
-fn queries_are_listed(rt: HostRuntime) -> Result<(), Fail> {
+fn queries_are_read(rt: HostRuntime) -> Result<(), Fail> {
     let alloc = rt.alloc();
     let none = "plan 1\n1 V2(x)\nhead (x,y)\nrewritings 0\npick none\n";
+    let constant = "plan 1\n1 V2(x)\nhead (x)\nrewritings 0\npick none\n";
     let cases = [
         ("q(x,y) :- R(x,y)", 0, none),
         ("q ( x ) :-\tR(x, _),R(x,z)\r\n", 0, LISTED),
-        ("q(x) :- R(x,'a')", 18, "NotBuilt\n"),
-        ("q(x) :- S(x)", 18, "NotBuilt\n"),
-        ("q(x) :- R(x)", 18, "NotBuilt\n"),
-        ("q(z) :- R(x,y)", 18, "NotBuilt\n"),
-        ("q(x) :- R(x", 18, "NotBuilt\n"),
-        ("q(x) :- R(x,_y)", 18, "NotBuilt\n"),
-        ("q(x) : - R(x,y)", 18, "NotBuilt\n"),
-        ("", 18, "NotBuilt\n"),
+        ("# all\nq(x) :- R(x,y) # of them", 0, LISTED),
+        ("q(x) :- R(x,'a''b')", 0, constant),
+        ("q(x) :- R(x,'')", 0, constant),
+        ("q(x) :- R(x,-7)", 0, constant),
+        ("q(x) :- Q(x)", 7, "BadQuery 8 Unknown\n"),
+        ("q(x) :- R.pair(x,y,z)", 7, "BadQuery 8 Unknown\n"),
+        ("q(x) :- R{ a: x }", 7, "BadQuery 8 Unknown\n"),
+        ("q(x) :- R(x), Q(x)", 7, "BadQuery 8 Arity\n"),
+        ("q(x) :- R(x,y), Q(x), R(x)", 7, "BadQuery 16 Unknown\n"),
+        ("q(z) :- R(x,y)", 7, "BadQuery 2 Unsafe\n"),
+        ("q(x,z) :- R(x,y)", 7, "BadQuery 4 Unsafe\n"),
+        ("q(x) :- R(x", 7, "BadQuery 11 Syntax\n"),
+        ("q(x) :- R(x,_y)", 7, "BadQuery 12 Syntax\n"),
+        ("q(x) : - R(x,y)", 7, "BadQuery 5 Syntax\n"),
+        ("q(x) :-5", 7, "BadQuery 7 Syntax\n"),
+        ("q(x) :- R(x,'a''", 7, "BadQuery 15 Syntax\n"),
+        ("q(x) :- R(x,'a\u{1}')", 7, "BadQuery 12 Syntax\n"),
+        ("q(x) :- R(x,y) R", 7, "BadQuery 15 Syntax\n"),
     ];
     for (query, code, written) in cases {
-        let words = words_of(alloc, "list c q")?;
-        let mut shelf = shelf_of(alloc, query)?;
-        let mut out = MemorySink::new(alloc);
-        let status = mediate(alloc, words.items(), &mut shelf, &mut out);
-        assert_eq!(rt; status.code(), code, "at {query}");
+        let (status, out) = listed(alloc, CATALOGUE, query.as_bytes())?;
+        assert_eq!(rt; status, code, "at {query}");
         assert_eq!(rt; out.written(), written.as_bytes(), "at {query}");
+    }
+    let (status, out) = listed(alloc, CATALOGUE, b"q(x) :- R(x,y)\xff")?;
+    assert_eq!(rt; status, 7);
+    assert_eq!(rt; out.written(), b"BadQuery 0 Utf8\n".as_slice());
+    Ok(())
+}
+
+#[test]
+fn limits_of_texts(rt: HostRuntime) -> Result<(), Fail> {
+    let alloc = rt.alloc();
+    let none = "plan 1\n1 V2(x)\nhead (x)\nrewritings 0\npick none\n";
+    let long = "n123456789012345678901234567890123456789012345678901234567890123";
+    // A start, a part and its number, an end, the status and what was put.
+    let cases = [
+        ("q(x) :- R(x,x)", ",R(x,x)", 63, "", 0, none),
+        (
+            "q(x) :- R(x,x)",
+            ",R(x,x)",
+            64,
+            "",
+            7,
+            "BadQuery 456 TooLarge\n",
+        ),
+        ("q(x) :- R{a", "{a", 31, ": x", 7, "BadQuery 76 Syntax\n"),
+        ("q(x) :- R{a", "{a", 32, ": x", 7, "BadQuery 73 Syntax\n"),
+        ("q(x", ",x", 32, ") :- R(x,y)", 7, "BadQuery 66 Syntax\n"),
+        ("q(x) :- ", long, 1, "(x)", 7, "BadQuery 8 Unknown\n"),
+        ("q(x) :- n", long, 1, "(x)", 7, "BadQuery 8 Syntax\n"),
+    ];
+    for (start, part, count, end, code, written) in cases {
+        let query = repeated(alloc, start, part, count, end)?;
+        let (status, out) = listed(alloc, CATALOGUE, query.bytes())?;
+        assert_eq!(rt; status, code, "at {start}, {count}");
+        assert_eq!(rt; out.written(), written.as_bytes(), "at {start}, {count}");
+    }
+    let query = "q(x) :- R(x,y)";
+    for length in 0..query.len() {
+        let offset = if length == 6 { 5 } else { length };
+        let wanted = format!(in alloc; "BadQuery {offset} Syntax\n")?;
+        let (status, out) = listed(alloc, CATALOGUE, &query.as_bytes()[..length])?;
+        assert_eq!(rt; status, 7, "at {length}");
+        assert_eq!(rt; out.written(), wanted.as_str().as_bytes(), "at {length}");
     }
     Ok(())
 }

@@ -1,3 +1,3 @@
 pub mod Steps
 pub mod Mediation
-pub mod FitLemmas
+pub mod WordLemmas

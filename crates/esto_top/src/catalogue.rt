@@ -1,7 +1,10 @@
 //! The catalogue, where it has nothing but table datasets and scannable table fragments.
-use crate::plain::is_name;
-use crate::reader::{NamedQuery, read_view};
+ghost use Rattle.esto_query.specs.Schemas.{arities_of};
+ghost use Rattle.esto_read.specs.Words.{IsVocabulary, AreTables};
+
+use crate::words::table_words;
 use esto_query::{Query, Schema};
+use esto_read::{NamedQuery, ReadError, Vocabulary, read_view};
 use esto_term::{List, OutOfMemory, Text};
 use std::alloc::Global;
 use toml::{Table, Value};
@@ -11,6 +14,9 @@ const ENTRY_LIMIT: usize = 256;
 
 /// The greatest number of columns of a dataset.
 const COLUMN_LIMIT: usize = 32;
+
+/// The greatest length of a name, in bytes.
+const NAME_LIMIT: usize = 64;
 
 /// A fragment: the rows of a view over the datasets.
 #[derive(Drop)]
@@ -127,6 +133,20 @@ fn arity_of(alloc: Global, entry: &Table) -> Result<Option<usize>, OutOfMemory> 
     }
 }
 
+// Whether the text is a name: an ASCII letter, then ASCII letters, digits and `_`.
+fn is_name(text: &str) -> bool {
+    match text.as_bytes().first() {
+        Some(first) => {
+            first.is_ascii_alphabetic()
+                && text.len() <= NAME_LIMIT
+                && text
+                    .bytes()
+                    .all(|byte| byte.is_ascii_alphanumeric() || byte == b'_')
+        }
+        None => false,
+    }
+}
+
 // Adds a dataset's relation, and answers whether it is a table dataset with nothing else.
 fn add_dataset(alloc: Global, schema: &mut Schema, entry: &Table) -> Result<bool, OutOfMemory> {
     if !has_only(entry, &["name", "model", "columns"]) || !is_text_at(entry, "model", "table") {
@@ -138,7 +158,7 @@ fn add_dataset(alloc: Global, schema: &mut Schema, entry: &Table) -> Result<bool
     let Some(arity) = arity_of(alloc, entry)? else {
         return Ok(false);
     };
-    if !is_name(name.as_bytes()) {
+    if !is_name(name) {
         return Ok(false);
     }
     let added = schema.add(text_of(alloc, name)?, arity);
@@ -163,17 +183,38 @@ fn has_fragment(fragments: &[FragmentDef], name: &Text) -> bool {
         .any(|other| other.name.bytes() == name.bytes())
 }
 
+// The view of a text, or None where the text has a fault.
+fn view_of_text(
+    alloc: Global,
+    schema: &Schema,
+    words: &Vocabulary,
+    text: &str,
+) -> Result<Option<NamedQuery>, OutOfMemory>
+    requires words { IsVocabulary (arities_of schema.now) words.now }
+    requires tables { AreTables words.now }
+{
+    match read_view(alloc, text.as_bytes(), words, schema) {
+        Ok(view) => Ok(Some(view)),
+        Err(ReadError::Fault(_)) => Ok(None),
+        Err(ReadError::OutOfMemory) => Err(OutOfMemory),
+    }
+}
+
 // The view of a fragment, or None where it isn't a scannable table fragment with nothing else.
 fn view_of(
     alloc: Global,
     schema: &Schema,
+    words: &Vocabulary,
     entry: &Table,
-) -> Result<Option<NamedQuery>, OutOfMemory> {
+) -> Result<Option<NamedQuery>, OutOfMemory>
+    requires words { IsVocabulary (arities_of schema.now) words.now }
+    requires tables { AreTables words.now }
+{
     if !has_only(entry, &["view", "store", "file"]) || !is_text_at(entry, "store", "table") {
         return Ok(None);
     }
     match (text_at(entry, "file"), text_at(entry, "view")) {
-        (Some(_), Some(view)) => read_view(alloc, view.as_bytes(), schema),
+        (Some(_), Some(view)) => view_of_text(alloc, schema, words, view),
         _ => Ok(None),
     }
 }
@@ -184,12 +225,13 @@ fn read_fragments(
     schema: &Schema,
     entries: &[Value],
 ) -> Result<Option<List<FragmentDef>>, OutOfMemory> {
+    let words = table_words(alloc, schema)?;
     let mut fragments = List::new(alloc);
     'fragments: for entry in entries {
         let Some(entry) = entry.as_table() else {
             return Ok(None);
         };
-        let Some(NamedQuery { name, query }) = view_of(alloc, schema, entry)? else {
+        let Some(NamedQuery { name, query }) = view_of(alloc, schema, &words, entry)? else {
             return Ok(None);
         };
         if schema.find(name.bytes()).is_some() || has_fragment(fragments.items(), &name) {

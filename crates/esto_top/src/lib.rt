@@ -7,12 +7,11 @@ mod command;
 mod ending;
 mod list;
 mod listing;
-mod plain;
 mod plan;
-mod reader;
 mod search;
 mod status;
 mod top;
+mod words;
 
 pub use status::{Status, status_line};
 pub use top::mediate;

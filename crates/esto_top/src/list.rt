@@ -2,15 +2,16 @@
 ghost use Rattle.std.specs.Prelude.{◌≡◌, ◌≤◌};
 ghost use Rattle.esto_ports.specs.Faults.{Rose};
 ghost use Rattle.esto_top.specs.Course.{Runs};
-ghost use Rattle.esto_top.specs.List.{reads, prints, list_course};
+ghost use Rattle.esto_top.specs.List.{reads, reads_query, prints, list_course};
 
 use crate::catalogue::{Catalogue, read_catalogue};
 use crate::ending::{Reply, fetch};
 use crate::listing::list_text;
-use crate::reader::read_query;
 use crate::status::Status;
+use crate::words::table_words;
 use esto_ports::Shelf;
 use esto_query::Query;
+use esto_read::{NamedQuery, ReadError, read_query};
 use esto_term::{Bytes, Text};
 use std::alloc::Global;
 
@@ -30,13 +31,15 @@ fn catalogue_of(alloc: Global, bytes: &Bytes) -> Result<Catalogue, Status>
     }
 }
 
-// The query, where it is of the form that is read.
+// The query over the catalogue's tables, or the status of its first fault.
 fn query_of(alloc: Global, bytes: &Bytes, catalogue: &Catalogue) -> Result<Query, Status>
-    ensures { Runs reads ⊥ result }
+    ensures { Runs (reads_query catalogue.now bytes.now) ⊥ result }
 {
-    match read_query(alloc, bytes.bytes(), &catalogue.schema)? {
-        Some(query) => Ok(query),
-        None => Err(Status::NotBuilt),
+    let words = table_words(alloc, &catalogue.schema)?;
+    match read_query(alloc, bytes.bytes(), &words, &catalogue.schema) {
+        Ok(NamedQuery { name: _, query }) => Ok(query),
+        Err(ReadError::Fault(fault)) => Err(Status::BadQuery(fault)),
+        Err(ReadError::OutOfMemory) => Err(Status::OutOfMemory),
     }
 }
 

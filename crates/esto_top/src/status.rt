@@ -1,9 +1,10 @@
 //! How a command line ended.
 ghost use Rattle.std.specs.Prelude.{◌≡◌, IfOk, string_bytes};
-ghost use Rattle.esto_top.specs.Line.{code_of, line_of};
+ghost use Rattle.esto_top.specs.Line.{code_of, kind_word, line_of};
 ghost use Rattle.esto_top.specs.declared.status.Status.TheVariants as status;
 
 use crate::cell::cell_text;
+use esto_read::{TextFault, TextKind};
 use esto_term::{Bytes, OutOfMemory, Text};
 use std::alloc::Global;
 
@@ -20,7 +21,9 @@ pub enum Status {
     WriteFault,
     /// The file of this name is longer than this limit, in bytes.
     TooLong(Text, u64),
-    /// The command, or the form of the catalogue or of the query, is not built yet.
+    /// The query's text has this first fault.
+    BadQuery(TextFault),
+    /// The command, or the form of the catalogue, is not built yet.
     NotBuilt,
 }
 
@@ -43,6 +46,7 @@ impl Status {
             Status::ReadFault(_) => 3,
             Status::WriteFault => 4,
             Status::TooLong(_, _) => 5,
+            Status::BadQuery(_) => 7,
             Status::NotBuilt => 18,
         }
     }
@@ -71,6 +75,31 @@ fn too_long_line(alloc: Global, name: &Text, limit: u64) -> Result<Bytes, OutOfM
     Ok(line)
 }
 
+// The word of a kind of fault.
+fn kind_word(kind: TextKind) -> &'static str
+    ensures { result.now ≡ kind_word kind }
+{
+    match kind {
+        TextKind::Utf8 => "Utf8",
+        TextKind::Syntax => "Syntax",
+        TextKind::Unknown => "Unknown",
+        TextKind::Arity => "Arity",
+        TextKind::TooLarge => "TooLarge",
+        TextKind::SameVariable => "SameVariable",
+        TextKind::Unsafe => "Unsafe",
+    }
+}
+
+// The line of a query's fault.
+fn bad_query_line(alloc: Global, fault: TextFault) -> Result<Bytes, OutOfMemory>
+    ensures { IfOk result (λ line. line ≡ line_of (status.BadQuery fault)) }
+{
+    let offset = fault.offset;
+    let word = kind_word(fault.kind);
+    let line = format!(in alloc; "BadQuery {offset} {word}\n")?;
+    Bytes::from_slice(alloc, line.as_str().as_bytes())
+}
+
 /// The line of a status, ended by a line feed. Done and OutOfMemory have none. A file's name is written as one CSV
 /// cell.
 pub fn status_line(alloc: Global, status: &Status) -> Result<Bytes, OutOfMemory>
@@ -82,6 +111,7 @@ pub fn status_line(alloc: Global, status: &Status) -> Result<Bytes, OutOfMemory>
         Status::ReadFault(name) => read_fault_line(alloc, name),
         Status::WriteFault => Bytes::from_slice(alloc, b"WriteFault\n"),
         Status::TooLong(name, limit) => too_long_line(alloc, name, *limit),
+        Status::BadQuery(fault) => bad_query_line(alloc, *fault),
         Status::NotBuilt => Bytes::from_slice(alloc, b"NotBuilt\n"),
     }
 }

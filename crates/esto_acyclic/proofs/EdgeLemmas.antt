@@ -1,0 +1,81 @@
+-- The edges that rules give, as a list, and what is judged of it.
+use Rattle.std.proofs.Common.{◌≡◌, ◌↔◌, ◌⊎◌, ℕ, ◌<◌, List, [], ◌∷◌, Contains, refl, sym, ap, subst, inl, inr}
+use Rattle.std.specs.List.{All, AllByRecursion}
+use Rattle.std.proofs.lemmas.List.Elements.{All-from_recursion}
+use Rattle.esto_term.specs.declared.term.Term.{Term}
+use Rattle.esto_semantics.specs.Rules.{Rule, tuple, equality}
+use Rattle.esto_semantics.specs.declared.fact.Fact.{Fact}
+use Rattle.esto_semantics.proofs.ContainsLemmas.{Contains-flat, Contains-flat_from}
+use Rattle.esto_query.proofs.MapLemmas.{Contains-first, Contains-cases, Contains-nil}
+use Rattle.esto_acyclic.specs.Graphs.{Joins, IsWithin, IsWalk, IsLeastCycle, IsAcyclic, AreRanks}
+use Rattle.esto_acyclic.proofs.SameLemmas.{IsWithin-same, IsLeastCycle-same, AreRanks-same}
+use Rattle.esto_acyclic.specs.Relations.{HasRelation, IsEdge, edges_from, edges_of_rule, edges_of}
+
+-- ---- membership
+
+abbrev edge_of : ℕ → ℕ → ℕ × ℕ
+edge_of from to = (from, to)
+
+edges_from-is : (relation : ℕ) (head : List (Fact Term)) (from to : ℕ) → Contains (edges_from relation head) (edge_of from to) → (relation ≡ from) × HasRelation head to
+edges_from-is relation head from to inside =
+    let found = Contains-flat_from (λ (atom : Fact Term). edge_of relation atom.relation ∷ []) head (edge_of from to) inside in
+    by found.0 found.1 (Contains-cases (edge_of relation found.0.relation) [] (edge_of from to) found.2)
+  where
+    by : (atom : Fact Term) → Contains head atom → (edge_of relation atom.relation ≡ edge_of from to) ⊎ Contains [] (edge_of from to) → (relation ≡ from) × HasRelation head to
+    by atom at (inl same) = (ap (λ (edge : ℕ × ℕ). edge.0) same, (atom, at, ap (λ (edge : ℕ × ℕ). edge.1) same))
+    by atom at (inr none) = absurd (Contains-nil (edge_of from to) none)
+
+edges_from-has : (relation : ℕ) (head : List (Fact Term)) (to : ℕ) → HasRelation head to → Contains (edges_from relation head) (edge_of relation to)
+edges_from-has relation head to (atom, at, is) =
+    Contains-flat (λ (other : Fact Term). edge_of relation other.relation ∷ []) head atom (edge_of relation to) at
+    (subst (λ end. Contains (edge_of relation atom.relation ∷ []) (edge_of relation end)) is (Contains-first (edge_of relation atom.relation) []))
+
+rule_joins : (rule : Rule) (from to : ℕ) → Contains (edges_of_rule rule) (edge_of from to) → (body : List (Fact Term)) × (head : List (Fact Term)) × (rule ≡ tuple body head) × HasRelation body from × HasRelation head to
+rule_joins (tuple body head) from to inside =
+    let found = Contains-flat_from (λ (atom : Fact Term). edges_from atom.relation head) body (edge_of from to) inside in
+    let ends = edges_from-is found.0.relation head from to found.2 in
+    (body, head, refl, (found.0, found.1, ends.0), ends.1)
+rule_joins (equality body left right) from to inside = absurd (Contains-nil (edge_of from to) inside)
+
+tuple_joins : (body head : List (Fact Term)) (from to : ℕ) → HasRelation body from → HasRelation head to → Contains (edges_of_rule (tuple body head)) (edge_of from to)
+tuple_joins body head from to (atom, at, is) ends =
+    Contains-flat (λ (other : Fact Term). edges_from other.relation head) body atom (edge_of from to) at
+    (subst (λ start. Contains (edges_from atom.relation head) (edge_of start to)) is (edges_from-has atom.relation head to ends))
+
+pub joins_edges : (rules : List Rule) (from to : ℕ) → Joins (edges_of rules) from to ↔ IsEdge rules from to
+joins_edges rules from to = (
+  λ joined.
+      let found = Contains-flat_from edges_of_rule rules (edge_of from to) joined in
+      let ends = rule_joins found.0 from to found.2 in
+      (ends.0, ends.1, subst (Contains rules) ends.2 found.1, ends.3, ends.4),
+  λ edge. Contains-flat edges_of_rule rules (tuple edge.0 edge.1) (edge_of from to) edge.2 (tuple_joins edge.0 edge.1 from to edge.3 edge.4),
+)
+
+-- ---- the relations of a cycle
+
+starts_below : (Edge : ℕ → ℕ → Type 0) (count : ℕ) → IsWithin count Edge → (from : ℕ) (relations : List ℕ) (to : ℕ) → IsWalk Edge from relations to → AllByRecursion (λ relation. relation < count) relations
+starts_below Edge count within from [] to same = tt
+starts_below Edge count within from (here ∷ rest) to (next, is, edge, walk) =
+    (subst (λ relation. relation < count) (sym is) (within from next edge).0, starts_below Edge count within next rest to walk)
+
+pub cycle_below : (Edge : ℕ → ℕ → Type 0) (count : ℕ) → IsWithin count Edge → (relations : List ℕ) → IsLeastCycle Edge relations → All (λ relation. relation < count) relations
+cycle_below Edge count within relations is =
+    All-from_recursion (λ relation. relation < count) relations (starts_below Edge count within is.start relations is.start is.here.cycle.1)
+
+pub not_acyclic : (Edge : ℕ → ℕ → Type 0) (relations : List ℕ) → IsLeastCycle Edge relations → ¬ (IsAcyclic Edge)
+not_acyclic Edge relations is acyclic = acyclic is.start relations is.here.cycle
+
+-- ---- what is judged of the list
+
+module _ (rules : List Rule) (edges : List (ℕ × ℕ)) (is : edges ≡ edges_of rules) where
+  joined : (from to : ℕ) → Joins edges from to ↔ IsEdge rules from to
+  joined = subst (λ list. (from to : ℕ) → Joins list from to ↔ IsEdge rules from to) (sym is) (joins_edges rules)
+
+  pub joined_within : (count number : ℕ) → number ≡ count → IsWithin count (IsEdge rules) → IsWithin number (Joins edges)
+  joined_within count number same within = subst (λ n. IsWithin n (Joins edges)) (sym same) (IsWithin-same (Joins edges) (IsEdge rules) joined count within)
+
+  pub judged_ranks : (count number : ℕ) → number ≡ count → (ranks : List ℕ) → AreRanks (Joins edges) number ranks → AreRanks (IsEdge rules) count ranks
+  judged_ranks count number same ranks are = AreRanks-same (Joins edges) (IsEdge rules) joined count ranks (subst (λ n. AreRanks (Joins edges) n ranks) same are)
+
+  pub judged_cycle : (relations : List ℕ) → IsLeastCycle (Joins edges) relations → IsLeastCycle (IsEdge rules) relations
+  judged_cycle relations cycle = IsLeastCycle-same (Joins edges) (IsEdge rules) joined relations cycle

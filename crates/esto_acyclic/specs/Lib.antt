@@ -1,0 +1,3 @@
+pub mod Graphs
+pub mod Rounds
+pub mod Relations

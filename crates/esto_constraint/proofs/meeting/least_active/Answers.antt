@@ -1,0 +1,63 @@
+use Rattle.std.proofs.Common.{sym, subst}
+use Rattle.esto_term.specs.declared.term.Term.{Term}
+use Rattle.esto_term.specs.declared.term.Term.TheVariants.{Const}
+use Rattle.esto_semantics.specs.Maps.{AreFlat, Keeps, Sends}
+use Rattle.esto_constraint.specs.Constraints.{rule_of}
+use Rattle.esto_constraint.specs.Matches.{Holds}
+use Rattle.esto_constraint.specs.Tests.{IsOver, Tells}
+use Rattle.esto_constraint.proofs.RuleLemmas.{flat_body}
+use Rattle.esto_constraint.proofs.MeetingLemmas.{IsCandidate, IsMet-holds, first_candidate, holds_always, places_long, places_inside, found_over, next_candidate, fewer_left, active_here}
+use Rattle.esto_constraint.proofs.meeting.least_active.Goals as goal
+
+pub first_match-requires : goal.first_match-requires
+first_match-requires c = subst AreFlat (sym c.body_of-body.ensures) (flat_body c.args.rule.now)
+
+pub matches-init : goal.matches-init
+matches-init c = first_candidate _ _ _ (Holds c.args.facts.now (rule_of c.args.rule.now)) c.requires _ c.in_ok-candidate.ensures.found c.in_ok-candidate.ensures.none
+
+pub is_active-requires : goal.is_active-requires
+is_active-requires c =
+    let now = rw c.in-Some.is at c.matches.invariant in
+    subst (λ body. IsOver body c.in-Some.found.valuation) c.body_of-body.ensures (found_over _ _ _ _ c.requires c.in-Some.found now)
+
+pub next_match-requires-clause-flat : goal.next_match-requires-clause-flat
+next_match-requires-clause-flat c = subst AreFlat (sym c.body_of-body.ensures) (flat_body c.args.rule.now)
+
+pub next_match-requires-clause-long : goal.next_match-requires-clause-long
+next_match-requires-clause-long c =
+    let now = rw c.in-Some.is at c.matches.invariant in
+    places_long _ _ _ _ c.requires c.in-Some.found now
+
+pub next_match-requires-clause-places : goal.next_match-requires-clause-places
+next_match-requires-clause-places c =
+    let now = rw c.in-Some.is at c.matches.invariant in
+    places_inside _ _ _ _ c.requires c.in-Some.found now
+
+pub returns-then-unmet : goal.returns-then-unmet
+returns-then-unmet c =
+    let now = rw c.in-Some.is at c.matches.invariant in
+    active_here (rule_of c.args.rule.now) c.args.facts.now c.args.start.now c.requires c.in-Some.found
+    (subst (λ body. IsCandidate body c.args.facts.now c.args.start.now (Holds c.args.facts.now (rule_of c.args.rule.now)) c.in-Some.found) c.body_of-body.ensures now)
+    (subst (λ unmet. Tells c.in-Some.found.valuation (Holds c.args.facts.now (rule_of c.args.rule.now)) unmet) c.if-unmet.true c.in_ok-unmet.ensures)
+
+pub matches-preserved : goal.matches-preserved
+matches-preserved c =
+    let now = rw c.in-Some.is at c.matches.invariant in
+    next_candidate _ _ _ (Holds c.args.facts.now (rule_of c.args.rule.now)) c.requires c.in-Some.found now
+    (subst (λ unmet. Tells c.in-Some.found.valuation (Holds c.args.facts.now (rule_of c.args.rule.now)) unmet) c.if-unmet.false c.in_ok-unmet.ensures)
+    c.in_ok-candidate-2.candidate c.in_ok-candidate-2.ensures.found c.in_ok-candidate-2.ensures.none
+
+pub matches-smaller : goal.matches-smaller
+matches-smaller c =
+    let now = rw c.in-Some.is at c.matches.invariant in
+    let next = next_candidate _ _ _ (Holds c.args.facts.now (rule_of c.args.rule.now)) c.requires c.in-Some.found now
+    (subst (λ unmet. Tells c.in-Some.found.valuation (Holds c.args.facts.now (rule_of c.args.rule.now)) unmet) c.if-unmet.false c.in_ok-unmet.ensures)
+    c.in_ok-candidate-2.candidate c.in_ok-candidate-2.ensures.found c.in_ok-candidate-2.ensures.none in
+    rw c.in-Some.is (fewer_left _ _ _ (Holds c.args.facts.now (rule_of c.args.rule.now)) c.requires c.in-Some.found now c.in_ok-candidate-2.candidate next c.in_ok-candidate-2.ensures.found)
+
+pub returns : goal.returns
+returns c =
+    let all = rw c.in_default.is at c.matches.invariant in
+    IsMet-holds c.args.facts.now (rule_of c.args.rule.now)
+    (subst (λ body. (m : Term → Term) → Keeps Const m → Sends m body c.args.facts.now → Holds c.args.facts.now (rule_of c.args.rule.now) m) c.body_of-body.ensures
+    (holds_always _ _ _ (Holds c.args.facts.now (rule_of c.args.rule.now)) c.requires all))

@@ -1,0 +1,5 @@
+pub mod Soundness
+pub mod Constraints
+pub mod Making
+pub mod Matches
+pub mod Tests

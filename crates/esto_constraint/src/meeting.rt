@@ -1,0 +1,137 @@
+//! Active matches of rules, and whether facts meet rules.
+ghost use Rattle.std.specs.Prelude.{◌≡◌, IfOk, MatchOption};
+ghost use Rattle.std.specs.FinMap as map;
+ghost use Rattle.esto_query.specs.Valuations.{map_of};
+ghost use Rattle.esto_constraint.specs.Constraints.{rule_of, rules_of, body_of};
+ghost use Rattle.esto_constraint.specs.Matches.{HasExtension, Holds, IsMet, AreMet, IsLeastActive, IsFirstBroken};
+ghost use Rattle.esto_constraint.specs.Tests.{IsOver, Tells};
+
+use crate::rule::{Constraint, Egd, Rules, Tgd};
+use esto_query::{Found, Valuation, first_match, next_match};
+use esto_semantics::{Atoms, Facts};
+use esto_term::{OutOfMemory, Term};
+use std::alloc::Global;
+
+/// A rule that some facts do not meet, by its number, and its least active match.
+#[derive(Debug, Drop)]
+pub struct Broken {
+    pub rule: usize,
+    pub found: Found,
+}
+
+/// The rule's body.
+fn body_of(rule: &Constraint) -> &Atoms
+    ensures { result.now ≡ body_of (rule_of rule.now) }
+{
+    match rule {
+        Constraint::Tuple(rule) => &rule.body,
+        Constraint::Equal(rule) => &rule.body,
+    }
+}
+
+/// The term's value.
+fn value_of<'a>(valuation: &'a Valuation, term: &'a Term) -> &'a Term
+    ensures { result.now ≡ map_of valuation.now term.now }
+{
+    match term {
+        Term::Plain(variable) => match valuation.value(*variable) {
+            Some(value) => value,
+            None => term,
+        },
+        Term::Const(_) => term,
+        Term::Made(_, _, _) => term,
+    }
+}
+
+/// Whether a match of the body has no extension to the head.
+fn lacks_extension(
+    alloc: Global,
+    rule: &Tgd,
+    facts: &Facts,
+    valuation: &Valuation,
+) -> Result<bool, OutOfMemory>
+    requires { IsOver rule.now.body valuation.now }
+    ensures { IfOk result (λ it. Tells valuation.now (HasExtension rule.now.body rule.now.head facts.now) it) }
+{
+    let extension = first_match(alloc, &rule.head, facts, valuation)?;
+    Ok(extension.is_none())
+}
+
+/// Whether a match of the body makes the two sides different.
+fn tells_apart(rule: &Egd, valuation: &Valuation) -> bool
+    requires { IsOver rule.now.body valuation.now }
+    ensures { Tells valuation.now (λ m. m rule.now.left ≡ m rule.now.right) result }
+{
+    let left = value_of(valuation, &rule.left);
+    let right = value_of(valuation, &rule.right);
+    !left.equal(right)
+}
+
+/// Whether a match of the body is active.
+fn is_active(
+    alloc: Global,
+    rule: &Constraint,
+    facts: &Facts,
+    valuation: &Valuation,
+) -> Result<bool, OutOfMemory>
+    requires { IsOver (body_of (rule_of rule.now)) valuation.now }
+    ensures { IfOk result (λ it. Tells valuation.now (Holds facts.now (rule_of rule.now)) it) }
+{
+    match rule {
+        Constraint::Tuple(rule) => {
+            let lacks = lacks_extension(alloc, rule, facts, valuation)?;
+            Ok(lacks)
+        }
+        Constraint::Equal(rule) => Ok(tells_apart(rule, valuation)),
+    }
+}
+
+/// The least active match of the rule, by a look at each match of its body in order.
+fn least_active(
+    alloc: Global,
+    rule: &Constraint,
+    facts: &Facts,
+    start: &Valuation,
+) -> Result<Option<Found>, OutOfMemory>
+    requires { start.now ≡ map.empty }
+    ensures { IfOk result (λ outcome. MatchOption outcome (IsMet facts.now (rule_of rule.now)) (λ found. IsLeastActive (rule_of rule.now) facts.now found.valuation found.places)) }
+{
+    let body = body_of(rule);
+    let mut candidate = first_match(alloc, body, facts, start)?;
+    'matches: while let Some(found) = candidate {
+        let unmet = is_active(alloc, rule, facts, &found.valuation)?;
+        if unmet {
+            return Ok(Some(found));
+        }
+        candidate = next_match(alloc, body, facts, start, &found)?;
+    }
+    Ok(None)
+}
+
+/// The least active match of the rule in the facts, by the list of places: the least match of its body that has
+/// no extension to the head, or that makes the two sides different. None comes exactly where the facts meet the
+/// rule.
+pub fn active(alloc: Global, rule: &Constraint, facts: &Facts) -> Result<Option<Found>, OutOfMemory>
+    ensures { IfOk result (λ outcome. MatchOption outcome (IsMet facts.now (rule_of rule.now)) (λ found. IsLeastActive (rule_of rule.now) facts.now found.valuation found.places)) }
+{
+    let start = Valuation::new(alloc);
+    let outcome = least_active(alloc, rule, facts, &start)?;
+    Ok(outcome)
+}
+
+/// The first rule, by its number, that the facts do not meet, with its least active match. None comes exactly
+/// where they meet each rule.
+pub fn meets(alloc: Global, rules: &Rules, facts: &Facts) -> Result<Option<Broken>, OutOfMemory>
+    ensures { IfOk result (λ outcome. MatchOption outcome (AreMet facts.now (rules_of rules.now)) (λ broken. IsFirstBroken (rules_of rules.now) facts.now broken.rule broken.found.valuation broken.found.places)) }
+{
+    'rules: for number in 0..rules.len() {
+        let outcome = active(alloc, rules.item(number), facts)?;
+        if let Some(found) = outcome {
+            return Ok(Some(Broken {
+                rule: number,
+                found,
+            }));
+        }
+    }
+    Ok(None)
+}

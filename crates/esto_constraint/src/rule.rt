@@ -1,0 +1,70 @@
+//! Rules.
+ghost use Rattle.esto_constraint.specs.Soundness.{IsSoundTuple, IsSoundEquality};
+
+use esto_query::Names;
+use esto_semantics::Atoms;
+use esto_term::{List, OutOfMemory, Replicate, Term};
+use std::alloc::Global;
+
+/// A tuple rule: each match of the body is to have an extension to the head. The variables of the head that are
+/// not in the body are existential. Body and head are not empty, their terms are constants or plain, and each
+/// variable's number is below the length of the names.
+#[derive(Debug, Drop)]
+pub struct Tgd {
+    pub body: Atoms,
+    pub head: Atoms,
+    pub names: Names,
+    pub ghost sound: { ∥ IsSoundTuple body head names ∥₁ },
+}
+
+/// An equality rule: each match of the body is to give both sides one term. The body is not empty, its terms are
+/// constants or plain, each side is a constant or a variable of the body, and each variable's number is below
+/// the length of the names.
+#[derive(Debug, Drop)]
+pub struct Egd {
+    pub body: Atoms,
+    pub left: Term,
+    pub right: Term,
+    pub names: Names,
+    pub ghost sound: { ∥ IsSoundEquality body left right names ∥₁ },
+}
+
+/// A rule that databases are to meet.
+#[derive(Debug, Drop)]
+pub enum Constraint {
+    Tuple(Tgd),
+    Equal(Egd),
+}
+
+/// The rules of a catalogue, numbered from 0.
+pub type Rules = List<Constraint>;
+
+impl Replicate for Tgd {
+    fn copy(&self, alloc: Global) -> Result<Tgd, OutOfMemory> {
+        Ok(Tgd {
+            body: self.body.copy(alloc)?,
+            head: self.head.copy(alloc)?,
+            names: self.names.copy(alloc)?,
+        })
+    }
+}
+
+impl Replicate for Egd {
+    fn copy(&self, alloc: Global) -> Result<Egd, OutOfMemory> {
+        Ok(Egd {
+            body: self.body.copy(alloc)?,
+            left: self.left.copy(alloc)?,
+            right: self.right.copy(alloc)?,
+            names: self.names.copy(alloc)?,
+        })
+    }
+}
+
+impl Replicate for Constraint {
+    fn copy(&self, alloc: Global) -> Result<Constraint, OutOfMemory> {
+        match self {
+            Constraint::Tuple(rule) => Ok(Constraint::Tuple(rule.copy(alloc)?)),
+            Constraint::Equal(rule) => Ok(Constraint::Equal(rule.copy(alloc)?)),
+        }
+    }
+}

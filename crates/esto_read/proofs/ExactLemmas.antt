@@ -1,0 +1,180 @@
+-- A text has one reading and no fault, or one first fault and no reading.
+use Rattle.std.proofs.Common.{◌≡◌, ◌≢◌, ℕ, suc, ◌<◌, ◌≤◌, inl, inr, List, [], ◌∷◌, length, take, Some, refl, sym, ap, subst, ◌∙◌, arith}
+use Rattle.std.specs.Prelude.{Contains, AllPairs, map, slice_get}
+use Rattle.std.proofs.lemmas.Bool.{cases_lt}
+use Rattle.std.proofs.lemmas.List.{get_or-take, length-take-le}
+use Rattle.std.proofs.lemmas.Option.{slice_get_within, get_or_from_slice_get}
+use Rattle.esto_query.specs.declared.query.Name.{Name}
+use Rattle.esto_semantics.specs.declared.fact.Fact.{Fact}
+use Rattle.esto_term.specs.declared.term.Term.{Term}
+use Rattle.esto_text.specs.Faults as text
+use Rattle.esto_text.specs.Tokens.{text_of}
+use Rattle.esto_text.specs.Trees.{ItemTree, Atom, Part, Pattern, QueryTree}
+use Rattle.esto_text.specs.declared.fault.TextFault.{TextFault}
+use Rattle.esto_text.specs.declared.fault.TextKind.{TextKind}
+use Rattle.esto_text.specs.declared.fault.TextKind.TheVariants.{Unknown, Arity, TooLarge}
+use Rattle.esto_text.specs.declared.token.Token.{Token}
+use Rattle.esto_read.specs.Heads.{IsFirstRepeat, IsFirstMissing}
+use Rattle.esto_read.specs.Items.{IsFit, IsMisfit, IsFitting, AreFitting, IsItemFault, IsFirstItemFault, AreItems}
+use Rattle.esto_read.specs.Readings.{IsRead, IsAllowed, IsRefused, IsHeadFit, IsHeadFault, IsReading, IsTreeFault, IsFirstFault, AreSame}
+use Rattle.esto_read.specs.declared.read.Form.{Form}
+use Rattle.esto_read.specs.declared.read.Form.TheVariants.{Query, View}
+use Rattle.esto_read.specs.declared.read.NamedQuery.{NamedQuery}
+use Rattle.esto_read.specs.declared.words.Word.{Word}
+use Rattle.esto_read.proofs.OneLemmas.{terms_one, items_one, table_one, apart_none}
+
+fault_same : (f g : TextFault) → f.offset ≡ g.offset → f.kind ≡ g.kind → f ≡ g
+fault_same f g o k = λ i. record { offset = o i; kind = k i }
+
+found : {X : Type 0} → (xs : List X) (i : ℕ) (x : X) → slice_get xs i ≡ Some x → Contains xs x
+found xs i x e = (i, slice_get_within xs i x e, get_or_from_slice_get xs i x x e)
+
+found_before : {X : Type 0} → (xs : List X) (i j : ℕ) (x : X) → slice_get xs i ≡ Some x → i < j → j ≤ length xs → Contains (take j xs) x
+found_before xs i j x e lt le = (i, omega (arith, length-take-le j xs le), get_or-take j xs i x lt ∙ get_or_from_slice_get xs i x x e)
+
+one_there : {X : Type 0} → (xs : List X) (i j : ℕ) (x y : X) → slice_get xs i ≡ Some x → slice_get xs j ≡ Some y → i ≡ j → x ≡ y
+one_there xs i j x y e f same = let g : Some x ≡ Some y = sym e ∙ ap (slice_get xs) same ∙ f in cc
+
+-- ---- heads
+
+repeat_one : (bytes : List ℕ) (variables : List Token) (m n : ℕ) → IsFirstRepeat bytes variables m → IsFirstRepeat bytes variables n → m ≡ n
+repeat_one bytes variables m n (p, t, r, e, none) (q, u, s, f, none') =
+    elim (cases_lt p q) [
+      | inl lt ↦ absurd (none' p t lt r)
+      | inr le ↦ elim (cases_lt q p) [
+        | inl lt ↦ absurd (none q u lt s)
+        | inr ge ↦ let same : t ≡ u = one_there variables p q t u r.0 s.0 (omega arith) in e ∙ ap (λ (x : Token). x.start) same ∙ sym f
+      ]
+    ]
+
+missing_one : (body : List (Fact Term)) (head : List Term) (p q : ℕ) → IsFirstMissing body head p → IsFirstMissing body head q → p ≡ q
+missing_one body head p q (x, at, none, before) (y, at', none', before') =
+    elim (cases_lt p q) [
+      | inl lt ↦ absurd (none (before' x (found_before head p q x at lt (omega (arith, slice_get_within head q y at')))))
+      | inr le ↦ elim (cases_lt q p) [
+        | inl lt ↦ absurd (none' (before y (found_before head q p y at' lt (omega (arith, slice_get_within head p x at)))))
+        | inr ge ↦ omega arith
+      ]
+    ]
+
+not_refused : (form : Form) (bytes : List ℕ) (variables : List Token) (n : ℕ) → IsAllowed form bytes variables → ¬ IsRefused form bytes variables n
+not_refused Query bytes variables n h g = g
+not_refused View bytes variables n h (place, token, r, e, none) = h place token r
+
+refused_one : (form : Form) (bytes : List ℕ) (variables : List Token) (m n : ℕ) → IsRefused form bytes variables m → IsRefused form bytes variables n → m ≡ n
+refused_one Query bytes variables m n h g = absurd h
+refused_one View bytes variables m n h g = repeat_one bytes variables m n h g
+
+module _ (form : Form) (bytes : List ℕ) (variables : List Token) (head : List Term) (body : List (Fact Term)) where
+  fit_or_fault : (f : TextFault) → IsHeadFit form bytes variables head body → ¬ IsHeadFault form bytes variables head body f
+  fit_or_fault f fit (inl (k, r)) = not_refused form bytes variables f.offset fit.0 r
+  fit_or_fault f fit (inr (k, allowed, place, token, (x, at, none, before), there, e)) = none (fit.1 x (found head place x at))
+
+  head_fault_one : (f g : TextFault) → IsHeadFault form bytes variables head body f → IsHeadFault form bytes variables head body g → f ≡ g
+  head_fault_one f g (inl (k, r)) (inl (k', r')) = fault_same f g (refused_one form bytes variables f.offset g.offset r r') (k ∙ sym k')
+  head_fault_one f g (inl (k, r)) (inr h) = absurd (not_refused form bytes variables f.offset h.1 r)
+  head_fault_one f g (inr h) (inl (k', r')) = absurd (not_refused form bytes variables g.offset h.1 r')
+  head_fault_one f g (inr (k, allowed, p, t, m, at, e)) (inr (k', allowed', q, u, m', at', e')) =
+      let same : t ≡ u = one_there variables p q t u at at' (missing_one body head p q m m') in
+      fault_same f g (e ∙ ap (λ (x : Token). x.start) same ∙ sym e') (k ∙ sym k')
+
+module _ (words : List Word) (apart : AllPairs ◌≢◌ (map (λ word. word.name) words)) (schema bytes : List ℕ) where
+  -- ---- items
+
+  fit_no_misfit : (name : List ℕ) (columns atoms : ℕ) (k : TextKind) → IsFit words schema name columns atoms → ¬ IsMisfit words schema name columns atoms k
+  fit_no_misfit name columns atoms Unknown (r, table, n, lt) h = h r table
+  fit_no_misfit name columns atoms Arity (r, table, n, lt) (s, table', no_fit) = no_fit (ap (slice_get schema) (table_one words apart name s r table' table) ∙ n)
+  fit_no_misfit name columns atoms TooLarge (r, table, n, lt) (s, table', m, le) = omega arith
+  fit_no_misfit name columns atoms _ h g = absurd g
+
+  misfit_one : (name : List ℕ) (columns atoms : ℕ) (k l : TextKind) → IsMisfit words schema name columns atoms k → IsMisfit words schema name columns atoms l → k ≡ l
+  misfit_one name columns atoms Unknown Unknown h g = refl
+  misfit_one name columns atoms Unknown Arity h (s, table, n) = absurd (h s table)
+  misfit_one name columns atoms Unknown TooLarge h (s, table, n, le) = absurd (h s table)
+  misfit_one name columns atoms Unknown _ h g = absurd g
+  misfit_one name columns atoms Arity Unknown (r, table, n) g = absurd (g r table)
+  misfit_one name columns atoms Arity Arity h g = refl
+  misfit_one name columns atoms Arity TooLarge (r, table, n) (s, table', m, le) = absurd (n (ap (slice_get schema) (table_one words apart name r s table table') ∙ m))
+  misfit_one name columns atoms Arity _ h g = absurd g
+  misfit_one name columns atoms TooLarge Unknown (r, table, n, le) g = absurd (g r table)
+  misfit_one name columns atoms TooLarge Arity (r, table, n, le) (s, table', m) = absurd (m (ap (slice_get schema) (table_one words apart name s r table' table) ∙ n))
+  misfit_one name columns atoms TooLarge TooLarge h g = refl
+  misfit_one name columns atoms TooLarge _ h g = absurd g
+  misfit_one name columns atoms _ l h g = absurd h
+
+  fitting_no_fault : (atoms : ℕ) (item : ItemTree) (f : TextFault) → IsFitting words schema bytes atoms item → ¬ IsItemFault words schema bytes atoms item f
+  fitting_no_fault atoms (Atom name ts) f h (o, m) = fit_no_misfit (text_of bytes name) (length ts) atoms f.kind h m
+  fitting_no_fault atoms (Part name part ts) f h g = h
+  fitting_no_fault atoms (Pattern name es) f h g = h
+
+  item_fault_one : (atoms : ℕ) (item : ItemTree) (f g : TextFault) → IsItemFault words schema bytes atoms item f → IsItemFault words schema bytes atoms item g → f ≡ g
+  item_fault_one atoms (Atom name ts) f g (o, m) (o', m') = fault_same f g (o ∙ sym o') (misfit_one (text_of bytes name) (length ts) atoms f.kind g.kind m m')
+  item_fault_one atoms (Part name part ts) f g (o, k) (o', k') = fault_same f g (o ∙ sym o') (k ∙ sym k')
+  item_fault_one atoms (Pattern name es) f g (o, k) (o', k') = fault_same f g (o ∙ sym o') (k ∙ sym k')
+
+  fitting_or_fault : (atoms : ℕ) (items : List ItemTree) (f : TextFault) → AreFitting words schema bytes atoms items → ¬ IsFirstItemFault words schema bytes atoms items f
+  fitting_or_fault atoms [] f h g = g
+  fitting_or_fault atoms (item ∷ items) f h (inl g) = fitting_no_fault atoms item f h.0 g
+  fitting_or_fault atoms (item ∷ items) f h (inr g) = fitting_or_fault (suc atoms) items f h.1 g.1
+
+  items_fault_one : (atoms : ℕ) (items : List ItemTree) (f g : TextFault) → IsFirstItemFault words schema bytes atoms items f → IsFirstItemFault words schema bytes atoms items g → f ≡ g
+  items_fault_one atoms [] f g h k = absurd h
+  items_fault_one atoms (item ∷ items) f g (inl h) (inl k) = item_fault_one atoms item f g h k
+  items_fault_one atoms (item ∷ items) f g (inl h) (inr k) = absurd (fitting_no_fault atoms item f k.0 h)
+  items_fault_one atoms (item ∷ items) f g (inr h) (inl k) = absurd (fitting_no_fault atoms item g h.0 k)
+  items_fault_one atoms (item ∷ items) f g (inr h) (inr k) = items_fault_one (suc atoms) items f g h.1 k.1
+
+  -- ---- trees
+
+  read_one : (tree : QueryTree) (head head' : List Term) (body body' : List (Fact Term)) (names names' : List Name) → IsRead words schema bytes tree head body names → IsRead words schema bytes tree head' body' names'
+      → (head ≡ head') × (body ≡ body') × (names ≡ names')
+  read_one tree head head' body body' names names' h g =
+      let first = terms_one bytes [] tree.variables head head' h.between g.between apart_none h.head_terms g.head_terms in
+      let later = items_one words apart schema bytes h.between tree.items body body' names names' first.2 h.body_atoms (subst (λ (l : List Name). AreItems words schema bytes l tree.items body' names') (sym first.1) g.body_atoms) in
+      (first.0, later.0, later.1)
+
+  module _ (form : Form) (tree : QueryTree) where
+    head_moves : (head head' : List Term) (body body' : List (Fact Term)) (names names' : List Name) (f : TextFault) → IsRead words schema bytes tree head body names → IsRead words schema bytes tree head' body' names'
+        → IsHeadFault form bytes tree.variables head' body' f → IsHeadFault form bytes tree.variables head body f
+    head_moves head head' body body' names names' f h g k =
+        let s = read_one tree head head' body body' names names' h g in
+        subst (λ (l : List Term). IsHeadFault form bytes tree.variables l body f) (sym s.0) (subst (λ (l : List (Fact Term)). IsHeadFault form bytes tree.variables head' l f) (sym s.1) k)
+
+    tree_fault_one : (f g : TextFault) → IsTreeFault form words schema bytes tree f → IsTreeFault form words schema bytes tree g → f ≡ g
+    tree_fault_one f g (inl h) (inl k) = items_fault_one 0 tree.items f g h k
+    tree_fault_one f g (inl h) (inr (head, body, names, r, k)) = absurd (fitting_or_fault 0 tree.items f r.fits h)
+    tree_fault_one f g (inr (head, body, names, r, h)) (inl k) = absurd (fitting_or_fault 0 tree.items g r.fits k)
+    tree_fault_one f g (inr (head, body, names, r, h)) (inr (head', body', names', r', k)) =
+        head_fault_one form bytes tree.variables head body f g h (head_moves head head' body body' names names' g r r' k)
+
+    read_or_fault : (head : List Term) (body : List (Fact Term)) (names : List Name) (f : TextFault) → IsRead words schema bytes tree head body names → IsHeadFit form bytes tree.variables head body → ¬ IsTreeFault form words schema bytes tree f
+    read_or_fault head body names f r fit (inl h) = fitting_or_fault 0 tree.items f r.fits h
+    read_or_fault head body names f r fit (inr (head', body', names', r', h)) = fit_or_fault form bytes tree.variables head body f fit (head_moves head head' body body' names names' f r r' h)
+
+-- ---- texts
+
+module _ (trees : text.HaveOneTree) where
+  pub one_reading : (form : Form) (words : List Word) → AllPairs ◌≢◌ (map (λ word. word.name) words) → (schema bytes : List ℕ) (query other : NamedQuery) → IsReading form words schema bytes query → IsReading form words schema bytes other
+      → AreSame query other
+  one_reading form words apart schema bytes query other (tree, h) (tree', g) =
+      let same : tree' ≡ tree = trees bytes tree' g.text tree h.text in
+      let r = subst (λ (t : QueryTree). IsRead words schema bytes t other.query.head other.query.body other.query.names) same g.read in
+      let s = read_one words apart schema bytes tree query.query.head other.query.head query.query.body other.query.body query.query.names other.query.names h.read r in
+      (h.name ∙ ap (λ (t : QueryTree). text_of bytes t.name) (sym same) ∙ sym g.name, s.0, s.1, s.2)
+
+  module _ (clean : text.HaveNoFault) where
+    pub no_fault : (form : Form) (words : List Word) → AllPairs ◌≢◌ (map (λ word. word.name) words) → (schema bytes : List ℕ) (query : NamedQuery) (fault : TextFault) → IsReading form words schema bytes query
+        → ¬ IsFirstFault form words schema bytes fault
+    no_fault form words apart schema bytes query fault (tree, h) (inl g) = clean bytes tree fault h.text g
+    no_fault form words apart schema bytes query fault (tree, h) (inr (tree', text', g)) =
+        let same : tree' ≡ tree = trees bytes tree' text' tree h.text in
+        read_or_fault words apart schema bytes form tree query.query.head query.query.body query.query.names fault h.read h.fit (subst (λ (t : QueryTree). IsTreeFault form words schema bytes t fault) same g)
+
+    pub one_fault : (grammar : text.HaveOneFault) (form : Form) (words : List Word) → AllPairs ◌≢◌ (map (λ word. word.name) words) → (schema bytes : List ℕ) (fault other : TextFault) → IsFirstFault form words schema bytes fault
+        → IsFirstFault form words schema bytes other → fault ≡ other
+    one_fault grammar form words apart schema bytes fault other (inl h) (inl g) = grammar bytes fault other h g
+    one_fault grammar form words apart schema bytes fault other (inl h) (inr (tree, t, g)) = absurd (clean bytes tree fault t h)
+    one_fault grammar form words apart schema bytes fault other (inr (tree, t, h)) (inl g) = absurd (clean bytes tree other t g)
+    one_fault grammar form words apart schema bytes fault other (inr (tree, t, h)) (inr (tree', t', g)) =
+        let same : tree' ≡ tree = trees bytes tree' t' tree t in
+        tree_fault_one words apart schema bytes form tree fault other h (subst (λ (x : QueryTree). IsTreeFault form words schema bytes x other) same g)

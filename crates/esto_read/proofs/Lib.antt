@@ -1,0 +1,9 @@
+pub mod SeenLemmas
+pub mod QuoteLemmas
+pub mod Utf8Lemmas
+pub mod TermLemmas
+pub mod BodyLemmas
+pub mod HeadLemmas
+pub mod ReadLemmas
+pub mod OneLemmas
+pub mod ExactLemmas

@@ -1,0 +1,198 @@
+-- A text has one reading, or one first fault.
+use Rattle.std.proofs.Common.{◌≡◌, ◌≢◌, ℕ, suc, ◌<◌, ◌⊎◌, inl, inr, true, false, eqb, List, [], ◌∷◌, ◌++◌, length, get_or, Some, refl, sym, ap, subst, ◌∙◌, arith}
+use Rattle.std.specs.Prelude.{Contains, AllPairs, map, slice_get}
+use Rattle.std.specs.List.{flat_map}
+use Rattle.std.proofs.Math.ListN.{get_or-map}
+use Rattle.std.proofs.lemmas.Bool.{cases_lt}
+use Rattle.std.proofs.lemmas.List.{length-append, append_cancel_right, get_or_append_left, get_or_at}
+use Rattle.std.proofs.lemmas.Option.{slice_get_within, slice_get-get_or, get_or_from_slice_get}
+use Rattle.esto_query.specs.declared.query.Name.{Name}
+use Rattle.esto_query.specs.declared.query.Name.TheVariants.{Given, Hidden}
+use Rattle.esto_semantics.specs.declared.fact.Fact.{Fact}
+use Rattle.esto_term.specs.declared.term.Term.{Term}
+use Rattle.esto_term.specs.declared.term.Term.TheVariants.{Const, Plain}
+use Rattle.esto_text.specs.Quotes.{written, closed}
+use Rattle.esto_text.specs.Tokens.{text_of}
+use Rattle.esto_text.specs.Trees.{ItemTree, Atom, Part, Pattern}
+use Rattle.esto_text.specs.declared.token.Token.{Token}
+use Rattle.esto_text.specs.declared.token.TokenKind.{TokenKind}
+use Rattle.esto_text.specs.declared.token.TokenKind.TheVariants as kind
+use Rattle.esto_read.specs.Items.{IsItemOf, AreItems}
+use Rattle.esto_read.specs.Terms.{IsVariableOf, IsTermOf, AreTerms}
+use Rattle.esto_read.specs.Words.{IsTableAt}
+use Rattle.esto_read.specs.declared.words.Word.{Word}
+use Rattle.esto_read.proofs.QuoteLemmas.{written_cases}
+
+-- ---- constants
+
+said_one : (s t : List ℕ) → flat_map written s ≡ flat_map written t → s ≡ t
+said_one [] [] e = refl
+said_one [] (y ∷ t) e =
+    elim (written_cases y) [
+      | inl w ↦ let f : [] ≡ 39 ∷ 39 ∷ flat_map written t = e ∙ ap (λ (l : List ℕ). l ++ flat_map written t) w.2 in absurd cc
+      | inr w ↦ let f : [] ≡ y ∷ flat_map written t = e ∙ ap (λ (l : List ℕ). l ++ flat_map written t) w.1 in absurd cc
+    ]
+said_one (x ∷ s) [] e =
+    elim (written_cases x) [
+      | inl w ↦ let f : 39 ∷ 39 ∷ flat_map written s ≡ [] = sym (ap (λ (l : List ℕ). l ++ flat_map written s) w.2) ∙ e in absurd cc
+      | inr w ↦ let f : x ∷ flat_map written s ≡ [] = sym (ap (λ (l : List ℕ). l ++ flat_map written s) w.1) ∙ e in absurd cc
+    ]
+said_one (x ∷ s) (y ∷ t) e =
+    elim (written_cases x) [
+      | inl w ↦ elim (written_cases y) [
+        | inl v ↦
+            let f : 39 ∷ 39 ∷ flat_map written s ≡ 39 ∷ 39 ∷ flat_map written t = sym (ap (λ (l : List ℕ). l ++ flat_map written s) w.2) ∙ e ∙ ap (λ (l : List ℕ). l ++ flat_map written t) v.2 in
+            let g : flat_map written s ≡ flat_map written t = cc in
+            let r = said_one s t g in
+            let h : x ≡ y = w.0 ∙ sym v.0 in cc
+        | inr v ↦
+            let f : 39 ∷ 39 ∷ flat_map written s ≡ y ∷ flat_map written t = sym (ap (λ (l : List ℕ). l ++ flat_map written s) w.2) ∙ e ∙ ap (λ (l : List ℕ). l ++ flat_map written t) v.1 in
+            let g : 39 ≡ y = cc in
+            let r : true ≡ false = ap (λ (n : ℕ). eqb n 39) g ∙ v.0 in absurd cc
+      ]
+      | inr w ↦ elim (written_cases y) [
+        | inl v ↦
+            let f : x ∷ flat_map written s ≡ 39 ∷ 39 ∷ flat_map written t = sym (ap (λ (l : List ℕ). l ++ flat_map written s) w.1) ∙ e ∙ ap (λ (l : List ℕ). l ++ flat_map written t) v.2 in
+            let g : x ≡ 39 = cc in
+            let r : false ≡ true = sym w.0 ∙ ap (λ (n : ℕ). eqb n 39) g in absurd cc
+        | inr v ↦
+            let f : x ∷ flat_map written s ≡ y ∷ flat_map written t = sym (ap (λ (l : List ℕ). l ++ flat_map written s) w.1) ∙ e ∙ ap (λ (l : List ℕ). l ++ flat_map written t) v.1 in
+            let g : flat_map written s ≡ flat_map written t = cc in
+            let h : x ≡ y = cc in
+            let r = said_one s t g in cc
+      ]
+    ]
+
+content_one : (text s t : List ℕ) → text ≡ 39 ∷ closed s → text ≡ 39 ∷ closed t → s ≡ t
+content_one text s t e f =
+    let g : 39 ∷ closed s ≡ 39 ∷ closed t = sym e ∙ f in
+    let h : closed s ≡ closed t = cc in
+    said_one s t (append_cancel_right (flat_map written s) (flat_map written t) (39 ∷ []) h)
+
+-- ---- names
+
+-- no two numbers have one name
+abbrev Apart : List Name → Type 0
+Apart names = (i j : ℕ) (name : List ℕ) → slice_get names i ≡ Some (Given name) → slice_get names j ≡ Some (Given name) → i ≡ j
+
+last_cases : (names : List Name) (new name : Name) (i : ℕ) → slice_get (names ++ new ∷ []) i ≡ Some name → (slice_get names i ≡ Some name) ⊎ ((i ≡ length names) × (new ≡ name))
+last_cases names new name i e =
+    let n = length-append names (new ∷ []) in
+    elim (cases_lt i (length names)) [
+      | inl lt ↦ inl (slice_get-get_or names i name lt ∙ ap (λ (x : Name). Some x) (sym (get_or_append_left names (new ∷ []) name i lt) ∙ get_or_from_slice_get (names ++ new ∷ []) i name name e))
+      | inr le ↦
+          let at : i ≡ length names = omega (arith, n, slice_get_within (names ++ new ∷ []) i name e) in
+          inr (at, sym (get_or_at names new [] name i (sym at)) ∙ get_or_from_slice_get (names ++ new ∷ []) i name name e)
+    ]
+
+contained : (names : List Name) (i : ℕ) (name : Name) → slice_get names i ≡ Some name → Contains names name
+contained names i name e = (i, slice_get_within names i name e, get_or_from_slice_get names i name name e)
+
+apart_hidden : (names : List Name) → Apart names → Apart (names ++ Hidden ∷ [])
+apart_hidden names h i j name e f =
+    elim (last_cases names Hidden (Given name) i e) [
+      | inl a ↦ elim (last_cases names Hidden (Given name) j f) [ inl b ↦ h i j name a b | inr b ↦ let c : Hidden ≡ Given name = b.1 in absurd cc ]
+      | inr a ↦ let c : Hidden ≡ Given name = a.1 in absurd cc
+    ]
+
+apart_given : (names : List Name) (new : List ℕ) → ¬ Contains names (Given new) → Apart names → Apart (names ++ Given new ∷ [])
+apart_given names new none h i j name e f =
+    elim (last_cases names (Given new) (Given name) i e) [
+      | inl a ↦ elim (last_cases names (Given new) (Given name) j f) [
+        | inl b ↦ h i j name a b
+        | inr b ↦ absurd (none (subst (Contains names) (sym b.1) (contained names i (Given name) a)))
+      ]
+      | inr a ↦ elim (last_cases names (Given new) (Given name) j f) [
+        | inl b ↦ absurd (none (subst (Contains names) (sym a.1) (contained names j (Given name) b)))
+        | inr b ↦ a.0 ∙ sym b.0
+      ]
+    ]
+
+apart_same : (before after : List Name) → after ≡ before → Apart before → Apart after
+apart_same before after e h = subst Apart (sym e) h
+
+-- ---- terms
+
+abbrev Same : List Name → List Name → Term → Term → Type 0
+Same after after' x x' = (x ≡ x') × (after ≡ after') × Apart after
+
+variable_one : (name : List ℕ) (before after after' : List Name) (x x' : Term) → Apart before → IsVariableOf name before x after → IsVariableOf name before x' after' → Same after after' x x'
+variable_one name before after after' x x' h (inl (n, at, e, p)) (inl (m, at', e', p')) =
+    (e ∙ ap Plain (h n m name at at') ∙ sym e', p ∙ sym p', apart_same before after p h)
+variable_one name before after after' x x' h (inl (n, at, e, p)) (inr (none, e', p')) = absurd (none (contained before n (Given name) at))
+variable_one name before after after' x x' h (inr (none, e, p)) (inl (m, at', e', p')) = absurd (none (contained before m (Given name) at'))
+variable_one name before after after' x x' h (inr (none, e, p)) (inr (none', e', p')) = (e ∙ sym e', p ∙ sym p', subst Apart (sym p) (apart_given before name none h))
+
+term_one : (k : TokenKind) (text : List ℕ) (before after after' : List Name) (x x' : Term) → Apart before → IsTermOf k text before x after → IsTermOf k text before x' after' → Same after after' x x'
+term_one kind.Name text before after after' x x' h g g' = variable_one text before after after' x x' h g g'
+term_one kind.Wildcard text before after after' x x' h (e, p) (e', p') = (e ∙ sym e', p ∙ sym p', subst Apart (sym p) (apart_hidden before h))
+term_one kind.Quoted text before after after' x x' h (s, w, e, p) (t, w', e', p') = (e ∙ ap Const (content_one text s t w w') ∙ sym e', p ∙ sym p', apart_same before after p h)
+term_one kind.Number text before after after' x x' h (e, p) (e', p') = (e ∙ sym e', p ∙ sym p', apart_same before after p h)
+term_one _ text before after after' x x' h g g' = absurd g
+
+module _ (bytes : List ℕ) where
+  pub terms_one : (before : List Name) (ts : List Token) (xs xs' : List Term) (after after' : List Name) → Apart before → AreTerms bytes before ts xs after → AreTerms bytes before ts xs' after'
+      → (xs ≡ xs') × (after ≡ after') × Apart after
+  terms_one before [] [] [] after after' h g g' = (refl, g ∙ sym g', apart_same before after g h)
+  terms_one before [] [] (y ∷ ys) after after' h g g' = absurd g'
+  terms_one before [] (x ∷ xs) ys after after' h g g' = absurd g
+  terms_one before (t ∷ ts) [] ys after after' h g g' = absurd g
+  terms_one before (t ∷ ts) (x ∷ xs) [] after after' h g g' = absurd g'
+  terms_one before (t ∷ ts) (x ∷ xs) (y ∷ ys) after after' h (between, g, more) (between', g', more') =
+      let first = term_one t.kind (text_of bytes t) before between between' x y h g g' in
+      let rest = terms_one between ts xs ys after after' first.2 more (subst (λ (l : List Name). AreTerms bytes l ts ys after') (sym first.1) more') in
+      (cc (first.0, rest.0), rest.1, rest.2)
+
+-- ---- items
+
+-- a name is one table's
+pub table_one : (words : List Word) → AllPairs ◌≢◌ (map (λ word. word.name) words) → (name : List ℕ) (r s : ℕ) → IsTableAt words name r → IsTableAt words name s → r ≡ s
+table_one words apart name r s (w, (i, lt, at), n, m, b) (v, (j, lt', at'), n', m', b') =
+    elim (cases_lt i j) [
+      | inl less ↦ absurd (differ i j w v less lt' at at' (n ∙ sym n'))
+      | inr le ↦ elim (cases_lt j i) [
+        | inl less ↦ absurd (differ j i v w less lt at' at (n' ∙ sym n))
+        | inr ge ↦
+            let k : i ≡ j = omega arith in
+            let one : slice_get words i ≡ Some w = slice_get-get_or words i w lt ∙ ap (λ (x : Word). Some x) at in
+            let two : slice_get words j ≡ Some v = slice_get-get_or words j v lt' ∙ ap (λ (x : Word). Some x) at' in
+            let same : Some w ≡ Some v = sym one ∙ ap (slice_get words) k ∙ two in
+            let word : w ≡ v = cc in
+            sym b ∙ ap (λ (x : Word). x.base) word ∙ b'
+      ]
+    ]
+  where
+    length_names : (xs : List Word) → length (map (λ word. word.name) xs) ≡ length xs
+    length_names [] = refl
+    length_names (x ∷ xs) = ap suc (length_names xs)
+
+    differ : (i j : ℕ) (w v : Word) → i < j → j < length words → get_or words i w ≡ w → get_or words j v ≡ v → ¬ (w.name ≡ v.name)
+    differ i j w v less lt at at' e =
+        let one : slice_get words j ≡ Some v = slice_get-get_or words j v lt ∙ ap (λ (x : Word). Some x) at' in
+        let here : get_or words j w ≡ v = get_or_from_slice_get words j v w one in
+        apart i j w.name less (omega (arith, length_names words, lt))
+        (get_or-map (λ word. word.name) words i w ∙ ap (λ (x : Word). x.name) at ∙ e ∙ sym (get_or-map (λ word. word.name) words j w ∙ ap (λ (x : Word). x.name) here))
+
+module _ (words : List Word) (apart : AllPairs ◌≢◌ (map (λ word. word.name) words)) (schema bytes : List ℕ) where
+  item_one : (item : ItemTree) (before after after' : List Name) (own own' : List (Fact Term)) → Apart before → IsItemOf words schema bytes before item own after → IsItemOf words schema bytes before item own' after'
+      → (own ≡ own') × (after ≡ after') × Apart after
+  item_one (Atom name ts) before after after' own own' h (r, row, table, columns, g, e) (r', row', table', columns', g', e') =
+      let s = terms_one bytes before ts row row' after after' h g g' in
+      let n : r ≡ r' = table_one words apart (text_of bytes name) r r' table table' in
+      let f : Fact Term = record { relation = r; terms = row } in
+      let f' : Fact Term = record { relation = r'; terms = row' } in
+      let same : f ≡ f' = λ i. record { relation = n i; terms = s.0 i } in
+      (e ∙ ap (λ (x : Fact Term). x ∷ []) same ∙ sym e', s.1, s.2)
+  item_one (Part name part ts) before after after' own own' h g g' = absurd g
+  item_one (Pattern name es) before after after' own own' h g g' = absurd g
+
+  pub items_one : (before : List Name) (items : List ItemTree) (atoms atoms' : List (Fact Term)) (after after' : List Name) → Apart before → AreItems words schema bytes before items atoms after
+      → AreItems words schema bytes before items atoms' after' → (atoms ≡ atoms') × (after ≡ after')
+  items_one before [] atoms atoms' after after' h (e, p) (e', p') = (e ∙ sym e', p ∙ sym p')
+  items_one before (item ∷ items) atoms atoms' after after' h (own, rest, between, e, g, more) (own', rest', between', e', g', more') =
+      let first = item_one item before between between' own own' h g g' in
+      let later = items_one between items rest rest' after after' first.2 more (subst (λ (l : List Name). AreItems words schema bytes l items rest' after') (sym first.1) more') in
+      (e ∙ ap (λ (l : List (Fact Term)). l ++ rest) first.0 ∙ ap (λ (l : List (Fact Term)). own' ++ l) later.0 ∙ sym e', later.1)
+
+pub apart_none : Apart []
+apart_none i j name e f = absurd (omega (arith, slice_get_within [] i (Given name) e))

@@ -1,0 +1,85 @@
+use Rattle.std.proofs.Common.{inr, ◌∙◌}
+use Rattle.std.proofs.lemmas.Result.{err_from_is_err_and}
+use Rattle.esto_query.specs.Schemas.{arities_of}
+use Rattle.esto_text.specs.View.{tree_of}
+use Rattle.esto_read.proofs.ReadLemmas.{names_are_terms, terms_length, sound, over, head_is, body_error}
+use Rattle.esto_read.proofs.Utf8Lemmas.{name_token}
+use Rattle.esto_read.proofs.read.read.Goals as goal
+
+pub plain-requires : goal.plain-requires
+plain-requires c =
+    let name = c.in_ok-tree.ensures.tokens.0 in
+    rw c.text_of.ensures (name_token c.args.bytes.now c.in_ok-tree.ensures.tree.1.0 c.in_ok-tree.tree.name name.0 name.1)
+
+pub terms-requires-clause-stand : goal.terms-requires-clause-stand
+terms-requires-clause-stand c = rw c.items.ensures (names_are_terms c.args.bytes.now c.in_ok-tree.tree.variables c.in_ok-tree.ensures.tokens.1)
+
+pub returns-in_err-body-clause-error : goal.returns-in_err-body-clause-error
+returns-in_err-body-clause-error c =
+    let p = err_from_is_err_and c.from_residual-in_err-body.result c.from_residual-in_err-body.ensures.1 in
+    rw (p.1, p.2) (body_error c.args.form c.args.words.now (arities_of c.args.schema.now) c.args.bytes.now (tree_of c.in_ok-tree.tree) _ c.in_ok-tree.ensures.tree (rw (c.items-2.ensures, c.items-words.ensures) at c.in_err-body.ensures.err))
+
+pub head_fault-requires-clause-lengths : goal.head_fault-requires-clause-lengths
+head_fault-requires-clause-lengths c =
+    rw (c.items-3.ensures, c.items-4.ensures) (terms_length c.args.bytes.now c.new-names.result c.in_ok-tree.tree.variables c.in_ok-head.head c.terms.new.names (rw c.items.ensures at c.in_ok-head.ensures))
+
+pub returns-in-Some-clause-error : goal.returns-in-Some-clause-error
+returns-in-Some-clause-error c =
+    inr (
+      tree_of c.in_ok-tree.tree,
+      c.in_ok-tree.ensures.tree,
+      inr (
+        c.in_ok-head.head,
+        c.in_ok-body.body,
+        c.body.new.names,
+        record {
+          between = c.terms.new.names;
+          head_terms = rw (c.new-names.ensures, c.items.ensures) at c.in_ok-head.ensures;
+          body_atoms = rw (c.items-2.ensures, c.items-words.ensures) at c.in_ok-body.ensures.ok;
+          fits = rw (c.items-2.ensures, c.items-words.ensures) at c.in_ok-body.ensures.fits;
+        },
+        rw (c.items-3.ensures, c.items-4.ensures, c.items-5.ensures) at c.in-Some.ensures,
+      ),
+    )
+
+pub invariant_of-result : goal.invariant_of-result
+invariant_of-result c =
+    let fit = rw (c.items-3.ensures, c.items-4.ensures, c.items-5.ensures) at c.in-None.ensures in
+    record {
+      sound = ∣ sound c.args.words.now (arities_of c.args.schema.now) c.args.bytes.now c.in_ok-tree.ensures.tree.1.0 (tree_of c.in_ok-tree.tree) c.in_ok-head.head c.in_ok-body.body c.body.new.names c.in_ok-tree.ensures.tree c.in_ok-tree.ensures.tokens (record {
+        between = c.terms.new.names;
+        head_terms = rw (c.new-names.ensures, c.items.ensures) at c.in_ok-head.ensures;
+        body_atoms = rw (c.items-2.ensures, c.items-words.ensures) at c.in_ok-body.ensures.ok;
+        fits = rw (c.items-2.ensures, c.items-words.ensures) at c.in_ok-body.ensures.fits;
+      }) fit.1 ∣₁;
+    }
+
+pub returns-clause-reading : goal.returns-clause-reading
+returns-clause-reading c = (
+  tree_of c.in_ok-tree.tree,
+  record {
+    text = c.in_ok-tree.ensures.tree;
+    name = c.in_ok-name.ensures ∙ c.text_of.ensures;
+    read = record {
+      between = c.terms.new.names;
+      head_terms = rw (c.new-names.ensures, c.items.ensures) at c.in_ok-head.ensures;
+      body_atoms = rw (c.items-2.ensures, c.items-words.ensures) at c.in_ok-body.ensures.ok;
+      fits = rw (c.items-2.ensures, c.items-words.ensures) at c.in_ok-body.ensures.fits;
+    };
+    fit = rw (c.items-3.ensures, c.items-4.ensures, c.items-5.ensures) at c.in-None.ensures;
+  },
+)
+
+pub returns-clause-over : goal.returns-clause-over
+returns-clause-over c =
+    over c.args.words.now (arities_of c.args.schema.now) c.args.bytes.now c.in_ok-tree.ensures.tree.1.0 (tree_of c.in_ok-tree.tree) c.in_ok-head.head c.in_ok-body.body c.body.new.names c.in_ok-tree.ensures.tree c.in_ok-tree.ensures.tokens (record {
+      between = c.terms.new.names;
+      head_terms = rw (c.new-names.ensures, c.items.ensures) at c.in_ok-head.ensures;
+      body_atoms = rw (c.items-2.ensures, c.items-words.ensures) at c.in_ok-body.ensures.ok;
+      fits = rw (c.items-2.ensures, c.items-words.ensures) at c.in_ok-body.ensures.fits;
+    })
+
+pub returns-clause-head : goal.returns-clause-head
+returns-clause-head c =
+    let fit = rw (c.items-3.ensures, c.items-4.ensures, c.items-5.ensures) at c.in-None.ensures in
+    head_is c.args.bytes.now c.in_ok-tree.tree.variables c.in_ok-head.head c.terms.new.names c.in_ok-tree.ensures.tokens.1 (rw (c.new-names.ensures, c.items.ensures) at c.in_ok-head.ensures) c.args.form fit.0

@@ -1,0 +1,5 @@
+pub mod Words
+pub mod Terms
+pub mod Items
+pub mod Heads
+pub mod Readings

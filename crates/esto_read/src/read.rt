@@ -1,0 +1,161 @@
+//! Queries and views, from their texts.
+ghost use Rattle.std.specs.Prelude.{◌≡◌, ◌<◌, ℕ, [], length, map, All, Contains, MatchOption, IfOk, IfErr, IsUtf8};
+ghost use Rattle.std.specs.List.{AllByRecursion};
+ghost use Rattle.esto_query.specs.Making.{query_of};
+ghost use Rattle.esto_semantics.specs.WellFormed.{IsQueryOver};
+ghost use Rattle.esto_query.specs.Schemas.{arities_of};
+ghost use Rattle.esto_text.specs.Faults.{IsNameIn};
+ghost use Rattle.esto_read.specs.declared.read.Form.{Form};
+ghost use Rattle.esto_read.specs.Words.{IsVocabulary, AreTables};
+ghost use Rattle.esto_read.specs.Readings.{HasVariables, IsAllowed, IsRefused, IsHeadFit, IsHeadFault, IsReading, IsReadError, HaveOneReading, HaveNoFault, HaveOneFault};
+
+use crate::body::body;
+use crate::constant::{plain, text_of};
+use crate::head::{first_missing, first_repeat};
+use crate::term::terms;
+use crate::words::Vocabulary;
+use esto_query::{Query, Schema};
+use esto_semantics::Atom;
+use esto_term::{List, Term, Text};
+use esto_text::{ReadError, TextFault, TextKind, Token, read_query_tree, trees_are_determined};
+use std::alloc::Global;
+
+/// A query or a view, and the name of its head.
+#[derive(Debug, Drop)]
+pub struct NamedQuery {
+    pub name: Text,
+    pub query: Query,
+}
+
+/// What a text is to be.
+#[derive(Clone, Copy, Debug)]
+pub enum Form {
+    Query,
+    /// A view, whose head has each name once.
+    View,
+}
+
+/// What is wrong with a head over a body.
+fn head_fault(
+    form: Form,
+    bytes: &[u8],
+    variables: &[Token],
+    head: &[Term],
+    body: &[Atom],
+) -> Option<TextFault>
+    requires names { AllByRecursion (IsNameIn bytes.now) variables.now }
+    requires lengths { length head.now ≡ length variables.now }
+    ensures { MatchOption result (IsHeadFit form bytes.now variables.now head.now body.now) (IsHeadFault form bytes.now variables.now head.now body.now) }
+{
+    if let Some(offset) = repeat(form, bytes, variables) {
+        return Some(TextFault {
+            offset,
+            kind: TextKind::SameVariable,
+        });
+    }
+    let place = first_missing(head, body)?;
+    Some(TextFault {
+        offset: variables[place].start,
+        kind: TextKind::Unsafe,
+    })
+}
+
+/// Where the first name stands that a head of this form may not have again.
+fn repeat(form: Form, bytes: &[u8], variables: &[Token]) -> Option<u64>
+    requires { AllByRecursion (IsNameIn bytes.now) variables.now }
+    ensures { MatchOption result (IsAllowed form bytes.now variables.now) (IsRefused form bytes.now variables.now) }
+{
+    match form {
+        Form::Query => None,
+        Form::View => first_repeat(bytes, variables),
+    }
+}
+
+/// The query or view that a text is.
+fn read(
+    alloc: Global,
+    bytes: &[u8],
+    words: &Vocabulary,
+    schema: &Schema,
+    form: Form,
+) -> Result<NamedQuery, ReadError>
+    requires words { IsVocabulary (arities_of schema.now) words.now }
+    requires tables { AreTables words.now }
+    ensures reading { IfOk result (λ query. IsReading form words.now (arities_of schema.now) bytes.now query) }
+    ensures over { IfOk result (λ query. IsQueryOver (arities_of schema.now) (query_of query.query)) }
+    ensures head { IfOk result (λ query. HasVariables form query.query.head) }
+    ensures error { IfErr result (λ e. IsReadError form words.now (arities_of schema.now) bytes.now e) }
+{
+    let words = words.items();
+    let tree = read_query_tree(alloc, bytes)?;
+    let name = plain(alloc, text_of(bytes, tree.name))?;
+    let mut names = List::new(alloc);
+    let head = terms(alloc, bytes, tree.variables.items(), &mut names)?;
+    let body = body(alloc, bytes, tree.items.items(), words, schema, &mut names)?;
+    match head_fault(
+        form,
+        bytes,
+        tree.variables.items(),
+        head.items(),
+        body.items(),
+    ) {
+        Some(fault) => Err(ReadError::Fault(fault)),
+        None => Ok(NamedQuery {
+            name,
+            query: Query { head, body, names },
+        }),
+    }
+}
+
+/// The query that a text is, over the tables that the words name, with its name; or the text's first fault:
+/// Utf8, Syntax, then for each item in order Unknown, Arity and TooLarge, then Unsafe.
+pub fn read_query(
+    alloc: Global,
+    bytes: &[u8],
+    words: &Vocabulary,
+    schema: &Schema,
+) -> Result<NamedQuery, ReadError>
+    requires words { IsVocabulary (arities_of schema.now) words.now }
+    requires tables { AreTables words.now }
+    // The answer is the text's reading.
+    ensures reading { IfOk result (λ query. IsReading Form.Query words.now (arities_of schema.now) bytes.now query) }
+    // It is over the schema, and its constants are UTF-8.
+    ensures over { IfOk result (λ query. IsQueryOver (arities_of schema.now) (query_of query.query)) }
+    // Each term of its head is a variable.
+    ensures head { IfOk result (λ query. HasVariables Form.Query query.query.head) }
+    // A fault is the text's first fault.
+    ensures error { IfErr result (λ e. IsReadError Form.Query words.now (arities_of schema.now) bytes.now e) }
+{
+    read(alloc, bytes, words, schema, Form::Query)
+}
+
+/// The view that a text is, over the tables that the words name, with its name; or the text's first fault: those
+/// of a query, where SameVariable comes before Unsafe.
+pub fn read_view(
+    alloc: Global,
+    bytes: &[u8],
+    words: &Vocabulary,
+    schema: &Schema,
+) -> Result<NamedQuery, ReadError>
+    requires words { IsVocabulary (arities_of schema.now) words.now }
+    requires tables { AreTables words.now }
+    // The answer is the text's reading.
+    ensures reading { IfOk result (λ query. IsReading Form.View words.now (arities_of schema.now) bytes.now query) }
+    // It is over the schema, and its constants are UTF-8.
+    ensures over { IfOk result (λ query. IsQueryOver (arities_of schema.now) (query_of query.query)) }
+    // The terms of its head are different variables.
+    ensures head { IfOk result (λ query. HasVariables Form.View query.query.head) }
+    // A fault is the text's first fault.
+    ensures error { IfErr result (λ e. IsReadError Form.View words.now (arities_of schema.now) bytes.now e) }
+{
+    read(alloc, bytes, words, schema, Form::View)
+}
+
+/// A law: a text has one reading and no fault, or one first fault and no reading.
+pub fn readings_are_determined()
+    ensures reading { HaveOneReading }
+    ensures apart { HaveNoFault }
+    ensures fault { HaveOneFault }
+{
+    trees_are_determined();
+}

@@ -1,0 +1,13 @@
+pub mod ScanLemmas
+pub mod LexemeLemmas
+pub mod Covering
+pub mod Runs
+pub mod Languages
+pub mod Unique
+pub mod RowLemmas
+pub mod PathLemmas
+pub mod GroupLemmas
+pub mod HeadLemmas
+pub mod ItemLemmas
+pub mod LeafLemmas
+pub mod SyntaxLemmas

@@ -1,0 +1,195 @@
+-- A text is one tree.
+use Rattle.std.proofs.Common.{◌≡◌, ℕ, suc, ◌⊎◌, inl, inr, Some, List, [], ◌∷◌, ◌++◌, refl, sym, ap, ◌∙◌, append_assoc}
+use Rattle.esto_text.specs.declared.token.Token.{Token}
+use Rattle.esto_text.specs.declared.token.TokenKind.{TokenKind}
+use Rattle.esto_text.specs.declared.token.TokenKind.TheVariants.{Colon, LeftBrace, LeftBracket}
+use Rattle.esto_text.specs.declared.tree.StepSyntax.{StepSyntax}
+use Rattle.esto_text.specs.Trees.{EntryTree, Value, Nested, EntryTrees, NoEntry, AndEntry, ItemTree, Atom, Part, Pattern, QueryTree}
+use Rattle.esto_text.specs.Grammar.{class_of, step_at, IsName, IsTerm, IsNext, IsRowEnd, IsRow, IsFirst, IsLater, IsPathEnd, IsPath, IsEntry, IsGroupEnd, IsGroup, IsItem, IsBodyEnd, IsBody, IsQuery}
+use Rattle.esto_text.specs.Machine.{class_at}
+
+-- the same of fronts that are known
+along : (a x a' y b b' : List Token) → a ++ x ≡ a' ++ y → a ≡ b → a' ≡ b' → b ++ x ≡ b' ++ y
+along a x a' y b b' e p q = sym (ap (λ (l : List Token). l ++ x) p) ∙ e ∙ ap (λ (l : List Token). l ++ y) q
+
+row_end_one : (P : Token → Type 0) (ns ts ns' ts' x y : List Token) → ts ++ x ≡ ts' ++ y → IsRowEnd P ns ts → IsRowEnd P ns' ts' → (ns ≡ ns') × (x ≡ y)
+row_end_one P [] ts [] ts' x y e (c, p, q) (c', p', q') = let f = along ts x ts' y (c ∷ []) (c' ∷ []) e p p' in (refl, cc)
+row_end_one P [] ts (n ∷ ns') ts' x y e (c, p, q) (c', more, p', q', h, r) = let f = along ts x ts' y (c ∷ []) (c' ∷ n ∷ more) e p p' in let g : c ≡ c' = cc in absurd cc
+row_end_one P (n ∷ ns) ts [] ts' x y e (c, more, p, q, h, r) (c', p', q') = let f = along ts x ts' y (c ∷ n ∷ more) (c' ∷ []) e p p' in let g : c ≡ c' = cc in absurd cc
+row_end_one P (n ∷ ns) ts (n' ∷ ns') ts' x y e (c, more, p, q, h, r) (c', more', p', q', h', r') =
+    let f = along ts x ts' y (c ∷ n ∷ more) (c' ∷ n' ∷ more') e p p' in
+    let g : more ++ x ≡ more' ++ y = cc in
+    let s = row_end_one P ns more ns' more' x y g r r' in
+    let t : n ≡ n' = cc in (cc, s.1)
+
+row_one : (P : Token → Type 0) (ns ts ns' ts' x y : List Token) → ts ++ x ≡ ts' ++ y → IsRow P ns ts → IsRow P ns' ts' → (ns ≡ ns') × (x ≡ y)
+row_one P [] ts ns' ts' x y e h h' = absurd h
+row_one P (n ∷ ns) ts [] ts' x y e h h' = absurd h'
+row_one P (n ∷ ns) ts (n' ∷ ns') ts' x y e (more, p, h, r) (more', p', h', r') =
+    let f = along ts x ts' y (n ∷ more) (n' ∷ more') e p p' in
+    let g : more ++ x ≡ more' ++ y = cc in
+    let s = row_end_one P ns more ns' more' x y g r r' in
+    let t : n ≡ n' = cc in (cc, s.1)
+
+-- two parts, one after the other
+parts : (a b a' b' x y : List Token) → (a ++ b) ++ x ≡ (a' ++ b') ++ y → a ++ (b ++ x) ≡ a' ++ (b' ++ y)
+parts a b a' b' x y e = sym (append_assoc a b x) ∙ e ∙ append_assoc a' b' y
+
+-- ---- paths, which end at a colon or a brace
+
+abbrev EndsPath : List Token → Type 0
+EndsPath x = (class_at x ≡ Colon) ⊎ (class_at x ≡ LeftBrace)
+
+next_one : (s s' : StepSyntax) (t : Token) → IsNext s t → IsNext s' t → s ≡ s'
+next_one s s' t h h' = let e : Some s ≡ Some s' = sym h ∙ h' in cc
+
+next_no_bracket : (k : TokenKind) (t : Token) (s : StepSyntax) → class_of t ≡ k → step_at k t ≡ Some s → ¬ (class_of t ≡ LeftBracket)
+next_no_bracket LeftBracket t s p e q = absurd cc
+next_no_bracket _ t s p e q = absurd cc
+
+first_one : (s : StepSyntax) (ts : List Token) (s' : StepSyntax) (ts' x y : List Token) → ts ++ x ≡ ts' ++ y → IsFirst s ts → IsFirst s' ts' → (s ≡ s') × (x ≡ y)
+first_one s ts s' ts' x y e (inl (t, p, h)) (inl (t', p', h')) =
+    let f = along ts x ts' y (t ∷ []) (t' ∷ []) e p p' in let g : t ≡ t' = cc in (next_one s s' t h (rw g h'), cc)
+first_one s ts s' ts' x y e (inl (t, p, h)) (inr (i, l, r, p', q, q')) =
+    let f = along ts x ts' y (t ∷ []) (l ∷ r ∷ []) e p p' in let g : t ≡ l = cc in absurd (next_no_bracket (class_of t) t s refl h (ap class_of g ∙ q))
+first_one s ts s' ts' x y e (inr (i, l, r, p, q, q')) (inl (t, p', h)) =
+    let f = along ts x ts' y (l ∷ r ∷ []) (t ∷ []) e p p' in let g : t ≡ l = cc in absurd (next_no_bracket (class_of t) t s' refl h (ap class_of g ∙ q))
+first_one s ts s' ts' x y e (inr (i, l, r, p, q, q')) (inr (i', l', r', p', o, o')) =
+    let f = along ts x ts' y (l ∷ r ∷ []) (l' ∷ r' ∷ []) e p p' in (i ∙ sym i', cc)
+
+later_one : (s : StepSyntax) (ts : List Token) (s' : StepSyntax) (ts' x y : List Token) → ts ++ x ≡ ts' ++ y → IsLater s ts → IsLater s' ts' → (s ≡ s') × (x ≡ y)
+later_one s ts s' ts' x y e (inl (d, t, p, c, h)) (inl (d', t', p', c', h')) =
+    let f = along ts x ts' y (d ∷ t ∷ []) (d' ∷ t' ∷ []) e p p' in let g : t ≡ t' = cc in (next_one s s' t h (rw g h'), cc)
+later_one s ts s' ts' x y e (inl (d, t, p, c, h)) (inr (i, l, r, p', q, q')) =
+    let f = along ts x ts' y (d ∷ t ∷ []) (l ∷ r ∷ []) e p p' in let g : d ≡ l = cc in absurd cc
+later_one s ts s' ts' x y e (inr (i, l, r, p, q, q')) (inl (d, t, p', c, h)) =
+    let f = along ts x ts' y (l ∷ r ∷ []) (d ∷ t ∷ []) e p p' in let g : d ≡ l = cc in absurd cc
+later_one s ts s' ts' x y e (inr (i, l, r, p, q, q')) (inr (i', l', r', p', o, o')) =
+    let f = along ts x ts' y (l ∷ r ∷ []) (l' ∷ r' ∷ []) e p p' in (i ∙ sym i', cc)
+
+-- no later step begins where a path ends
+no_later : (s : StepSyntax) (ts b x : List Token) → x ≡ ts ++ b → IsLater s ts → ¬ EndsPath x
+no_later s ts b x e (inl (d, t, p, c, h)) (inl q) = let f : class_at x ≡ class_of d = ap class_at (e ∙ ap (λ (l : List Token). l ++ b) p) in absurd cc
+no_later s ts b x e (inl (d, t, p, c, h)) (inr q) = let f : class_at x ≡ class_of d = ap class_at (e ∙ ap (λ (l : List Token). l ++ b) p) in absurd cc
+no_later s ts b x e (inr (i, l, r, p, c, c')) (inl q) = let f : class_at x ≡ class_of l = ap class_at (e ∙ ap (λ (w : List Token). w ++ b) p) in absurd cc
+no_later s ts b x e (inr (i, l, r, p, c, c')) (inr q) = let f : class_at x ≡ class_of l = ap class_at (e ∙ ap (λ (w : List Token). w ++ b) p) in absurd cc
+
+path_end_one : (path : List StepSyntax) (ts : List Token) (path' : List StepSyntax) (ts' x y : List Token) → ts ++ x ≡ ts' ++ y → EndsPath x → EndsPath y → IsPathEnd path ts → IsPathEnd path' ts'
+    → (path ≡ path') × (x ≡ y)
+path_end_one [] ts [] ts' x y e n n' p p' = (refl, along ts x ts' y [] [] e p p')
+path_end_one [] ts (s' ∷ path') ts' x y e n n' p (a', b', p', h', g') =
+    absurd (no_later s' a' (b' ++ y) x (along ts x ts' y [] (a' ++ b') e p p' ∙ append_assoc a' b' y) h' n)
+path_end_one (s ∷ path) ts [] ts' x y e n n' (a, b, p, h, g) p' =
+    absurd (no_later s a (b ++ x) y (sym (along ts x ts' y (a ++ b) [] e p p') ∙ append_assoc a b x) h n')
+path_end_one (s ∷ path) ts (s' ∷ path') ts' x y e n n' (a, b, p, h, g) (a', b', p', h', g') =
+    let k = later_one s a s' a' (b ++ x) (b' ++ y) (parts a b a' b' x y (along ts x ts' y (a ++ b) (a' ++ b') e p p')) h h' in
+    let m = path_end_one path b path' b' x y k.1 n n' g g' in (cc (k.0, m.0), m.1)
+
+path_one : (path : List StepSyntax) (ts : List Token) (path' : List StepSyntax) (ts' x y : List Token) → ts ++ x ≡ ts' ++ y → EndsPath x → EndsPath y → IsPath path ts → IsPath path' ts'
+    → (path ≡ path') × (x ≡ y)
+path_one [] ts path' ts' x y e n n' h h' = absurd h
+path_one (s ∷ path) ts [] ts' x y e n n' h h' = absurd h'
+path_one (s ∷ path) ts (s' ∷ path') ts' x y e n n' (a, b, p, h, g) (a', b', p', h', g') =
+    let k = first_one s a s' a' (b ++ x) (b' ++ y) (parts a b a' b' x y (along ts x ts' y (a ++ b) (a' ++ b') e p p')) h h' in
+    let m = path_end_one path b path' b' x y k.1 n n' g g' in (cc (k.0, m.0), m.1)
+
+-- a path and what comes after it
+entry_path : (path : List StepSyntax) (ts u x : List Token) (path' : List StepSyntax) (ts' u' y : List Token) (whole whole' : List Token) → whole ++ x ≡ whole' ++ y → whole ≡ ts ++ u → whole' ≡ ts' ++ u'
+    → EndsPath (u ++ x) → EndsPath (u' ++ y) → IsPath path ts → IsPath path' ts' → (path ≡ path') × (u ++ x ≡ u' ++ y)
+entry_path path ts u x path' ts' u' y whole whole' e p p' n n' h h' =
+    path_one path ts path' ts' (u ++ x) (u' ++ y) (parts ts u ts' u' x y (along whole x whole' y (ts ++ u) (ts' ++ u') e p p')) n n' h h'
+
+-- ---- entries
+
+mutual
+  entry_one : (f : EntryTree) (n : ℕ) (ts : List Token) (f' : EntryTree) (ts' x y : List Token) → ts ++ x ≡ ts' ++ y → IsEntry n f ts → IsEntry n f' ts' → (f ≡ f') × (x ≡ y)
+  entry_one (Value m t) n ts (Value m' t') ts' x y e (w, c, p, q, r, s) (w', c', p', q', r', s') =
+      let k = entry_path m w (c ∷ t ∷ []) x m' w' (c' ∷ t' ∷ []) y ts ts' e p p' (inl r) (inl r') q q' in
+      let h : t ≡ t' = cc k.1 in (cc (k.0, h), cc k.1)
+  entry_one (Value m t) n ts (Nested m' NoEntry) ts' x y e h h' = absurd h'
+  entry_one (Value m t) n ts (Nested m' (AndEntry f' fs')) ts' x y e (w, c, p, q, r, s) (w', c', a', b', p', q', r', l', ha', hb') =
+      let k = entry_path m w (c ∷ t ∷ []) x m' w' (c' ∷ (a' ++ b')) y ts ts' e p p' (inl r) (inr r') q q' in let g : c ≡ c' = cc k.1 in absurd cc
+  entry_one (Nested m NoEntry) n ts f' ts' x y e h h' = absurd h
+  entry_one (Nested m (AndEntry f fs)) n ts (Value m' t') ts' x y e (w, c, a, b, p, q, r, l, ha, hb) (w', c', p', q', r', s') =
+      let k = entry_path m w (c ∷ (a ++ b)) x m' w' (c' ∷ t' ∷ []) y ts ts' e p p' (inr r) (inl r') q q' in let g : c ≡ c' = cc k.1 in absurd cc
+  entry_one (Nested m (AndEntry f fs)) n ts (Nested m' NoEntry) ts' x y e h h' = absurd h'
+  entry_one (Nested m (AndEntry f fs)) n ts (Nested m' (AndEntry f' fs')) ts' x y e (w, c, a, b, p, q, r, l, ha, hb) (w', c', a', b', p', q', r', l', ha', hb') =
+      let k = entry_path m w (c ∷ (a ++ b)) x m' w' (c' ∷ (a' ++ b')) y ts ts' e p p' (inr r) (inr r') q q' in
+      let g : (a ++ b) ++ x ≡ (a' ++ b') ++ y = cc k.1 in
+      let s = entry_one f (suc n) a f' a' (b ++ x) (b' ++ y) (parts a b a' b' x y g) ha ha' in
+      let t = group_end_one fs (suc n) b fs' b' x y s.1 hb hb' in
+      (cc (s.0, t.0, k.0), t.1)
+
+  group_end_one : (fs : EntryTrees) (n : ℕ) (ts : List Token) (fs' : EntryTrees) (ts' x y : List Token) → ts ++ x ≡ ts' ++ y → IsGroupEnd n fs ts → IsGroupEnd n fs' ts' → (fs ≡ fs') × (x ≡ y)
+  group_end_one NoEntry n ts NoEntry ts' x y e (c, p, q) (c', p', q') = let f = along ts x ts' y (c ∷ []) (c' ∷ []) e p p' in (refl, cc)
+  group_end_one NoEntry n ts (AndEntry f' fs') ts' x y e (c, p, q) (c', a', b', p', q', ha', hb') =
+      let f = along ts x ts' y (c ∷ []) (c' ∷ (a' ++ b')) e p p' in let g : c ≡ c' = cc in absurd cc
+  group_end_one (AndEntry f fs) n ts NoEntry ts' x y e (c, a, b, p, q, ha, hb) (c', p', q') =
+      let k = along ts x ts' y (c ∷ (a ++ b)) (c' ∷ []) e p p' in let g : c ≡ c' = cc in absurd cc
+  group_end_one (AndEntry f fs) n ts (AndEntry f' fs') ts' x y e (c, a, b, p, q, ha, hb) (c', a', b', p', q', ha', hb') =
+      let k = along ts x ts' y (c ∷ (a ++ b)) (c' ∷ (a' ++ b')) e p p' in
+      let g : (a ++ b) ++ x ≡ (a' ++ b') ++ y = cc in
+      let s = entry_one f n a f' a' (b ++ x) (b' ++ y) (parts a b a' b' x y g) ha ha' in
+      let t = group_end_one fs n b fs' b' x y s.1 hb hb' in (cc (s.0, t.0), t.1)
+
+group_one : (fs : EntryTrees) (n : ℕ) (ts : List Token) (fs' : EntryTrees) (ts' x y : List Token) → ts ++ x ≡ ts' ++ y → IsGroup n fs ts → IsGroup n fs' ts' → (fs ≡ fs') × (x ≡ y)
+group_one NoEntry n ts fs' ts' x y e h h' = absurd h
+group_one (AndEntry f fs) n ts NoEntry ts' x y e h h' = absurd h'
+group_one (AndEntry f fs) n ts (AndEntry f' fs') ts' x y e (a, b, p, ha, hb) (a', b', p', ha', hb') =
+    let s = entry_one f n a f' a' (b ++ x) (b' ++ y) (parts a b a' b' x y (along ts x ts' y (a ++ b) (a' ++ b') e p p')) ha ha' in
+    let t = group_end_one fs n b fs' b' x y s.1 hb hb' in (cc (s.0, t.0), t.1)
+
+item_one : (i : ItemTree) (ts : List Token) (i' : ItemTree) (ts' x y : List Token) → ts ++ x ≡ ts' ++ y → IsItem i ts → IsItem i' ts' → (i ≡ i') × (x ≡ y)
+item_one (Atom m t) ts (Atom m' t') ts' x y e (c, more, p, q, r, h) (c', more', p', q', r', h') =
+    let k = along ts x ts' y (m ∷ c ∷ more) (m' ∷ c' ∷ more') e p p' in
+    let g : more ++ x ≡ more' ++ y = cc in
+    let s = row_one IsTerm t more t' more' x y g h h' in let m-is : m ≡ m' = cc in (cc (s.0, m-is), s.1)
+item_one (Atom m t) ts (Pattern m' fs') ts' x y e (c, more, p, q, r, h) (c', more', p', q', r', h') =
+    let k = along ts x ts' y (m ∷ c ∷ more) (m' ∷ c' ∷ more') e p p' in let g : c ≡ c' = cc in absurd cc
+item_one (Atom m t) ts (Part m' s' t') ts' x y e (c, more, p, q, r, h) (c', d', more', p', q', r', i', j', h') =
+    let k = along ts x ts' y (m ∷ c ∷ more) (m' ∷ c' ∷ s' ∷ d' ∷ more') e p p' in let g : c ≡ c' = cc in absurd cc
+item_one (Part m s t) ts (Atom m' t') ts' x y e (c, d, more, p, q, r, i, j, h) (c', more', p', q', r', h') =
+    let k = along ts x ts' y (m ∷ c ∷ s ∷ d ∷ more) (m' ∷ c' ∷ more') e p p' in let g : c ≡ c' = cc in absurd cc
+item_one (Part m s t) ts (Pattern m' fs') ts' x y e (c, d, more, p, q, r, i, j, h) (c', more', p', q', r', h') =
+    let k = along ts x ts' y (m ∷ c ∷ s ∷ d ∷ more) (m' ∷ c' ∷ more') e p p' in let g : c ≡ c' = cc in absurd cc
+item_one (Pattern m fs) ts (Part m' s' t') ts' x y e (c, more, p, q, r, h) (c', d', more', p', q', r', i', j', h') =
+    let k = along ts x ts' y (m ∷ c ∷ more) (m' ∷ c' ∷ s' ∷ d' ∷ more') e p p' in let g : c ≡ c' = cc in absurd cc
+item_one (Part m s t) ts (Part m' s' t') ts' x y e (c, d, more, p, q, r, i, j, h) (c', d', more', p', q', r', i', j', h') =
+    let k = along ts x ts' y (m ∷ c ∷ s ∷ d ∷ more) (m' ∷ c' ∷ s' ∷ d' ∷ more') e p p' in
+    let g : more ++ x ≡ more' ++ y = cc in
+    let o = row_one IsTerm t more t' more' x y g h h' in let m-is : m ≡ m' = cc in let s-is : s ≡ s' = cc in (cc (o.0, m-is, s-is), o.1)
+item_one (Pattern m fs) ts (Atom m' t') ts' x y e (c, more, p, q, r, h) (c', more', p', q', r', h') =
+    let k = along ts x ts' y (m ∷ c ∷ more) (m' ∷ c' ∷ more') e p p' in let g : c ≡ c' = cc in absurd cc
+item_one (Pattern m fs) ts (Pattern m' fs') ts' x y e (c, more, p, q, r, h) (c', more', p', q', r', h') =
+    let k = along ts x ts' y (m ∷ c ∷ more) (m' ∷ c' ∷ more') e p p' in
+    let g : more ++ x ≡ more' ++ y = cc in
+    let s = group_one fs 1 more fs' more' x y g h h' in let m-is : m ≡ m' = cc in (cc (s.0, m-is), s.1)
+
+body_end_one : (is : List ItemTree) (ts : List Token) (is' : List ItemTree) (ts' : List Token) → ts ≡ ts' → IsBodyEnd is ts → IsBodyEnd is' ts' → is ≡ is'
+body_end_one [] ts [] ts' e h h' = refl
+body_end_one [] ts (i' ∷ is') ts' e h (c', a', b', p', q', ha', hb') = absurd cc
+body_end_one (i ∷ is) ts [] ts' e (c, a, b, p, q, ha, hb) h' = absurd cc
+body_end_one (i ∷ is) ts (i' ∷ is') ts' e (c, a, b, p, q, ha, hb) (c', a', b', p', q', ha', hb') =
+    let k : c ∷ (a ++ b) ≡ c' ∷ (a' ++ b') = sym p ∙ e ∙ p' in
+    let g : a ++ b ≡ a' ++ b' = cc in
+    let s = item_one i a i' a' b b' g ha ha' in
+    let t = body_end_one is b is' b' s.1 hb hb' in cc (s.0, t)
+
+body_one : (is : List ItemTree) (ts : List Token) (is' : List ItemTree) (ts' : List Token) → ts ≡ ts' → IsBody is ts → IsBody is' ts' → is ≡ is'
+body_one [] ts is' ts' e h h' = absurd h
+body_one (i ∷ is) ts [] ts' e h h' = absurd h'
+body_one (i ∷ is) ts (i' ∷ is') ts' e (a, b, p, ha, hb) (a', b', p', ha', hb') =
+    let s = item_one i a i' a' b b' (sym p ∙ e ∙ p') ha ha' in
+    let t = body_end_one is b is' b' s.1 hb hb' in cc (s.0, t)
+
+tree_same : (q q' : QueryTree) → q.name ≡ q'.name → q.variables ≡ q'.variables → q.items ≡ q'.items → q ≡ q'
+tree_same q q' a b c = λ i. record { name = a i; variables = b i; items = c i }
+
+pub query_one : (q q' : QueryTree) (ts : List Token) → IsQuery q ts → IsQuery q' ts → q ≡ q'
+query_one q q' ts (c, head, t, body, e, n, p, h, r, b) (c', head', t', body', e', n', p', h', r', b') =
+    let k : q.name ∷ c ∷ (head ++ t ∷ body) ≡ q'.name ∷ c' ∷ (head' ++ t' ∷ body') = sym e ∙ e' in
+    let g : head ++ t ∷ body ≡ head' ++ t' ∷ body' = cc in
+    let s = row_one IsName q.variables head q'.variables head' (t ∷ body) (t' ∷ body') g h h' in
+    let u : body ≡ body' = cc s.1 in
+    let v : q.name ≡ q'.name = cc k in
+    tree_same q q' v s.0 (body_one q.items body q'.items body' u b b')

@@ -1,0 +1,10 @@
+pub mod Gaps
+pub mod Quotes
+pub mod Lexemes
+pub mod Tokens
+pub mod Trees
+pub mod Grammar
+pub mod Limits
+pub mod Faults
+pub mod Machine
+pub mod View

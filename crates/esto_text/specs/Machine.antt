@@ -1,0 +1,96 @@
+-- What may come next, by the first token alone. Only the private contracts of the readers speak of it.
+use Rattle.std.specs.Prelude.{◌≡◌, ◌≢◌, ℕ, suc, Bool, true, false, nat_lt, if◌then◌else◌, List, [], ◌∷◌, ◌++◌, length, Option, Some, None}
+use Rattle.esto_text.specs.declared.stop.Stop.{Stop}
+use Rattle.esto_text.specs.declared.stop.Stop.TheVariants.{Syntax, OutOfMemory}
+use Rattle.esto_text.specs.declared.token.Token.{Token}
+use Rattle.esto_text.specs.declared.token.TokenKind.{TokenKind}
+use Rattle.esto_text.specs.declared.token.TokenKind.TheVariants.{Name, Quoted, LeftParen, RightParen, LeftBrace, RightBrace, LeftBracket, RightBracket, Comma, Dot, Colon, Turnstile, Stars, Stray}
+use Rattle.esto_text.specs.Grammar.{class_of, is_term}
+
+-- A part of the grammar that is still to come. An entry and its rest have the number of open braces.
+pub data Symbol : Type 0 where
+  AName ATerm ANext AParen ABracket ATurnstile MoreNames MoreTerms AnItem ItemRest MoreItems : Symbol
+  AnEntry : ℕ → Symbol
+  PathRest : ℕ → Symbol
+  MoreEntries : ℕ → Symbol
+
+-- What comes after a head.
+abbrev pub after_head : List Symbol
+after_head = ATurnstile ∷ AnItem ∷ MoreItems ∷ []
+
+-- A whole query or view.
+abbrev pub start : List Symbol
+start = AName ∷ AParen ∷ AName ∷ MoreNames ∷ after_head
+
+-- What takes the symbol's place when a token of the kind is read.
+abbrev pub step : Symbol → TokenKind → Option (List Symbol)
+step AName Name = Some []
+step ATerm kind = if is_term kind then Some [] else None
+step ANext Name = Some []
+step ANext Quoted = Some []
+step ANext Stars = Some []
+step AParen LeftParen = Some []
+step ABracket RightBracket = Some []
+step ATurnstile Turnstile = Some []
+step MoreNames Comma = Some (AName ∷ MoreNames ∷ [])
+step MoreNames RightParen = Some []
+step MoreTerms Comma = Some (ATerm ∷ MoreTerms ∷ [])
+step MoreTerms RightParen = Some []
+step AnItem Name = Some (ItemRest ∷ [])
+step ItemRest LeftParen = Some (ATerm ∷ MoreTerms ∷ [])
+step ItemRest Dot = Some (AName ∷ AParen ∷ ATerm ∷ MoreTerms ∷ [])
+step ItemRest LeftBrace = Some (AnEntry 1 ∷ MoreEntries 1 ∷ [])
+step MoreItems Comma = Some (AnItem ∷ MoreItems ∷ [])
+step (AnEntry n) Name = Some (PathRest n ∷ [])
+step (AnEntry n) Quoted = Some (PathRest n ∷ [])
+step (AnEntry n) Stars = Some (PathRest n ∷ [])
+step (AnEntry n) LeftBracket = Some (ABracket ∷ PathRest n ∷ [])
+step (PathRest n) Dot = Some (ANext ∷ PathRest n ∷ [])
+step (PathRest n) LeftBracket = Some (ABracket ∷ PathRest n ∷ [])
+step (PathRest n) Colon = Some (ATerm ∷ [])
+step (PathRest n) LeftBrace = if nat_lt n 32 then Some (AnEntry (suc n) ∷ MoreEntries (suc n) ∷ []) else None
+step (MoreEntries n) Comma = Some (AnEntry n ∷ MoreEntries n ∷ [])
+step (MoreEntries n) RightBrace = Some []
+step _ _ = None
+
+-- Nothing more need come.
+abbrev pub is_done : List Symbol → Bool
+is_done [] = true
+is_done (MoreItems ∷ []) = true
+is_done _ = false
+
+-- What is still to come after a token of the kind.
+abbrev pub advance : List Symbol → TokenKind → Option (List Symbol)
+advance [] kind = None
+advance (x ∷ xs) kind = elim (step x kind) [ Some new ↦ Some (new ++ xs) | None ↦ None ]
+
+-- The rest from the first token on that does not fit, and none where all do.
+abbrev pub first_fault : List Symbol → List Token → Option (List Token)
+first_fault xs [] = if is_done xs then None else Some []
+first_fault xs (t ∷ ts) = elim (advance xs (class_of t)) [ Some new ↦ first_fault new ts | None ↦ Some (t ∷ ts) ]
+
+-- The class of the next token, and Stray where there is none.
+abbrev pub class_at : List Token → TokenKind
+class_at [] = Stray
+class_at (t ∷ ts) = class_of t
+
+-- The first fault leaves so many tokens.
+abbrev pub FaultLeaves : List Symbol → List Token → ℕ → Type 0
+FaultLeaves xs ts left = (rest : List Token) × (first_fault xs ts ≡ Some rest) × (left ≡ length rest)
+
+-- Tokens were not read as these symbols for this cause.
+abbrev pub FailsAt : List Symbol → List Token → Stop → Type 0
+FailsAt xs ts OutOfMemory = Unit {0}
+FailsAt xs ts (Syntax left) = FaultLeaves xs ts left
+
+-- A part of these symbols was not read for this cause, whatever is to follow it.
+abbrev pub Fails : List Symbol → List Token → Stop → Type 0
+Fails part ts e = (follow : List Symbol) → FailsAt (part ++ follow) ts e
+
+-- A part was read from the front.
+abbrev pub Takes : (List Token → Type 0) → List Token → List Token → Type 0
+Takes IsPart ts rest = (front : List Token) × (ts ≡ front ++ rest) × IsPart front
+
+-- No later step of a path begins there.
+abbrev pub EndsPath : List Token → Type 0
+EndsPath ts = (class_at ts ≢ LeftBracket) × (class_at ts ≢ Dot)

@@ -1,0 +1,49 @@
+//! Rows of names and of terms.
+ghost use Rattle.std.specs.Prelude.{◌≡◌, [], ◌∷◌, IfOk, IfErr};
+ghost use Rattle.esto_text.specs.Grammar.{IsName, IsTerm, IsRow};
+ghost use Rattle.esto_text.specs.Limits.{limited_row};
+ghost use Rattle.esto_text.specs.Machine.{AName, ATerm, MoreNames, MoreTerms, Takes, Fails};
+
+use crate::parts::{separator, sign, term};
+use crate::stop::Stop;
+use crate::token::{Token, TokenKind, Tokens};
+use esto_term::List;
+use std::alloc::Global;
+
+/// How many names a head may have.
+const MAX_NAMES: usize = 32;
+
+/// The names of a head, of which there are not too many, and what comes after its parenthesis.
+pub fn names(alloc: Global, tokens: &[Token]) -> Result<(Tokens, &[Token]), Stop>
+    ensures ok { IfOk result (λ x. Takes (IsRow IsName x.0) (limited_row 32 tokens.now) x.1.now) }
+    ensures err { IfErr result (λ e. Fails (AName ∷ MoreNames ∷ []) (limited_row 32 tokens.now) e) }
+{
+    let mut names = List::new(alloc);
+    let mut rest = tokens;
+    let mut more = true;
+    'names: while more {
+        if names.len() >= MAX_NAMES {
+            return Err(Stop::Syntax(rest.len()));
+        }
+        let (name, after) = sign(rest, TokenKind::Name)?;
+        names.push(name)?;
+        (more, rest) = separator(after, TokenKind::RightParen)?;
+    }
+    Ok((names, rest))
+}
+
+/// The terms of an atom, and what comes after its parenthesis.
+pub fn terms(alloc: Global, tokens: &[Token]) -> Result<(Tokens, &[Token]), Stop>
+    ensures ok { IfOk result (λ x. Takes (IsRow IsTerm x.0) tokens.now x.1.now) }
+    ensures err { IfErr result (λ e. Fails (ATerm ∷ MoreTerms ∷ []) tokens.now e) }
+{
+    let mut terms = List::new(alloc);
+    let mut rest = tokens;
+    let mut more = true;
+    'terms: while more {
+        let (term, after) = term(rest)?;
+        terms.push(term)?;
+        (more, rest) = separator(after, TokenKind::RightParen)?;
+    }
+    Ok((terms, rest))
+}

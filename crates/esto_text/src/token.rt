@@ -1,0 +1,54 @@
+//! Tokens.
+use esto_term::List;
+
+/// What a token is.
+#[derive(Clone, Copy, Debug, PartialEq, Eq)]
+pub enum TokenKind {
+    /// An ASCII letter, then ASCII letters, digits and `_`.
+    Name,
+    /// `_`, with no letter, digit or `_` after it.
+    Wildcard,
+    /// A constant between quotes, in which a quote is written twice.
+    Quoted,
+    /// A number: `-` or nothing, then digits.
+    Number,
+    /// `(`
+    LeftParen,
+    /// `)`
+    RightParen,
+    /// `{`
+    LeftBrace,
+    /// `}`
+    RightBrace,
+    /// `[`
+    LeftBracket,
+    /// `]`
+    RightBracket,
+    /// `,`
+    Comma,
+    /// `.`
+    Dot,
+    /// `:`
+    Colon,
+    /// `:-`
+    Turnstile,
+    /// `->`
+    Arrow,
+    /// `=`
+    Equals,
+    /// `**`
+    Stars,
+    /// The rest of the text from the first place at which no other token stands.
+    Stray,
+}
+
+/// A token: the bytes of the text from `start` up to `end`, counted from 0.
+#[derive(Clone, Copy, Debug)]
+pub struct Token {
+    pub kind: TokenKind,
+    pub start: u64,
+    pub end: u64,
+}
+
+/// A list of tokens.
+pub type Tokens = List<Token>;

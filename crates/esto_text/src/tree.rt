@@ -1,0 +1,56 @@
+//! The trees of the grammar.
+use crate::token::{Token, Tokens};
+use esto_term::List;
+
+/// A step of a path.
+#[derive(Clone, Copy, Debug)]
+pub enum StepSyntax {
+    /// The field with this name, or with the name that this quoted constant says.
+    Field(Token),
+    /// `[]`: any item.
+    Item,
+    /// `**`: anything inside.
+    Below,
+}
+
+/// An entry of a group: a path, and what stands at its end.
+#[derive(Debug, Drop)]
+pub enum EntrySyntax {
+    Value {
+        path: List<StepSyntax>,
+        term: Token,
+    },
+    Group {
+        path: List<StepSyntax>,
+        entries: List<EntrySyntax>,
+    },
+}
+
+/// An item of a body.
+#[derive(Debug, Drop)]
+pub enum ItemSyntax {
+    /// `name(terms)`
+    Atom {
+        name: Token,
+        terms: Tokens,
+    },
+    /// `name.part(terms)`
+    Part {
+        name: Token,
+        part: Token,
+        terms: Tokens,
+    },
+    /// `name{entries}`
+    Pattern {
+        name: Token,
+        entries: List<EntrySyntax>,
+    },
+}
+
+/// A query or a view: the name and the variables of its head, and the items of its body.
+#[derive(Debug, Drop)]
+pub struct QuerySyntax {
+    pub name: Token,
+    pub variables: Tokens,
+    pub items: List<ItemSyntax>,
+}
