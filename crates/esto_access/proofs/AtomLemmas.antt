@@ -1,0 +1,67 @@
+-- The atoms of a plan, read as facts over fragments, and lists of numbers.
+use Rattle.std.proofs.Common.{◌≡◌, ◌⊎◌, ◌↔◌, ℕ, ◌+◌, ◌<◌, ◌≤◌, Bool, List, map, length, get_or, Some, slice_get, IsTrue, Contains, sym, ap, ◌∙◌, subst, arith, inl, inr}
+use Rattle.std.proofs.lemmas.Bool.{cases_order}
+use Rattle.std.proofs.lemmas.List.{get_or_default}
+use Rattle.std.proofs.lemmas.Option.{same_Some, slice_get_within, slice_get-get_or, get_or_from_slice_get}
+use Rattle.esto_term.specs.declared.term.Term.{Term}
+use Rattle.esto_semantics.specs.declared.fact.Fact.{Fact}
+use Rattle.esto_semantics.specs.Sets.{Has}
+use Rattle.esto_semantics.specs.Access.{IsAccessible, IsEarlier}
+use Rattle.esto_semantics.proofs.PlaceLemmas.{map_at}
+use Rattle.esto_views.specs.declared.plan.PlanAtom.{PlanAtom}
+use Rattle.esto_views.specs.Plans.{fact_of}
+use Rattle.esto_access.specs.Runs.{CanFollow}
+
+module _ (atoms : List PlanAtom) (number : ℕ) (atom : PlanAtom) (at : slice_get atoms number ≡ Some atom) where
+  at_fact : slice_get (map fact_of atoms) number ≡ Some (fact_of atom)
+  at_fact = map_at fact_of atoms number atom at
+
+  one_fact : (fact : Fact Term) → slice_get (map fact_of atoms) number ≡ Some fact → fact_of atom ≡ fact
+  one_fact fact e = same_Some (fact_of atom) fact (sym at_fact ∙ e)
+
+  pub occurs : (term : Term) (answer : Bool) → IsTrue answer ↔ Contains atom.terms term
+      → IsTrue answer ↔ ((fact : Fact Term) × (slice_get (map fact_of atoms) number ≡ Some fact) × Contains fact.terms term)
+  occurs term answer told = (
+    λ yes. (fact_of atom, at_fact, told.0 yes),
+    λ found. told.1 (subst (λ (it : Fact Term). Contains it.terms term) (sym (one_fact found.0 found.1)) found.2),
+  )
+
+  pub follows : (patterns : List (List Bool)) (set : List Bool) (earlier : List ℕ) (answer : Bool) → Has set number → ¬ (Contains earlier number)
+      → IsTrue answer ↔ IsAccessible patterns (map fact_of atoms) (Contains earlier) (fact_of atom)
+      → IsTrue answer ↔ CanFollow patterns (map fact_of atoms) set earlier number
+  follows patterns set earlier answer has absent told = (
+    λ yes. record {
+      there = slice_get_within (map fact_of atoms) number (fact_of atom) at_fact;
+      chosen = has;
+      absent = absent;
+      ready = λ fact e. subst (IsAccessible patterns (map fact_of atoms) (Contains earlier)) (one_fact fact e) (told.0 yes);
+    },
+    λ can. told.1 (can.ready (fact_of atom) at_fact),
+  )
+
+-- ---- what holds of each number of a list
+
+-- what holds of none of the first few numbers holds of no number of the list, where these are all
+pub holds_of_none : (P : ℕ → Type 0) (numbers : List ℕ) (count : ℕ) → length numbers ≤ count → ((k : ℕ) → k < count → ¬ (P (get_or numbers k 0))) → (number : ℕ) → Contains numbers number → ¬ (P number)
+holds_of_none P numbers count l none number h holds = none h.0 (omega (arith, h.1, l)) (subst P (sym (get_or_default numbers h.0 0 number h.1 ∙ h.2)) holds)
+
+-- what holds at each of the first few places holds at each place, where these are all
+pub holds_at_each : (P : ℕ → ℕ → Type 0) (numbers : List ℕ) (count : ℕ) → length numbers ≤ count → ((k : ℕ) → k < count → P k (get_or numbers k 0)) → (place number : ℕ) → slice_get numbers place ≡ Some number → P place number
+holds_at_each P numbers count l each place number e = subst (P place) (get_or_from_slice_get numbers place number 0 e) (each place (omega (arith, slice_get_within numbers place number e, l)))
+
+-- a set that has the first few numbers has one more
+pub earlier_more : (numbers : List ℕ) (count : ℕ) (old new : List Bool) → count < length numbers → ((number : ℕ) → Has new number ↔ ((number ≡ get_or numbers count 0) ⊎ Has old number))
+    → ((number : ℕ) → Has old number ↔ IsEarlier numbers count number) → (number : ℕ) → Has new number ↔ IsEarlier numbers (count + 1) number
+earlier_more numbers count old new l has before number = (
+  λ h. elim ((has number).0 h) [
+    | inl same ↦ (count, omega arith, slice_get-get_or numbers count 0 l ∙ ap Some (sym same))
+    | inr there ↦ let place = (before number).0 there in (place.0, omega (arith, place.1), place.2)
+  ],
+  λ place. (has number).1 (elim (cases_order place.0 count) [
+    | inl last ↦ inl (sym (ap (λ k. get_or numbers k 0) (sym last) ∙ get_or_from_slice_get numbers place.0 number 0 place.2))
+    | inr apart ↦ elim apart [
+      | inl below ↦ inr ((before number).1 (place.0, below, place.2))
+      | inr above ↦ absurd (omega (arith, above, place.1))
+    ]
+  ]),
+)

@@ -1,0 +1,124 @@
+//! Which atoms of a plan are accessible after some of them.
+ghost use Rattle.std.specs.Prelude.{ℕ, ◌≡◌, ◌↔◌, slice_get, Some, IsTrue, Contains};
+ghost use Rattle.esto_term.specs.declared.term.Term.{Term};
+ghost use Rattle.esto_semantics.specs.declared.fact.Fact.{Fact};
+ghost use Rattle.esto_semantics.specs.Access.{IsInput, IsBound, IsAccessible};
+ghost use Rattle.esto_semantics.specs.Maps.{IsConstant};
+ghost use Rattle.esto_semantics.specs.Sets.{Has};
+ghost use Rattle.esto_views.specs.Fragments.{patterns_of};
+ghost use Rattle.esto_views.specs.Plans.{fact_of, plan_query};
+ghost use Rattle.esto_access.specs.Runs.{CanFollow};
+
+use esto_bits::RowBits;
+use esto_term::{Term, Terms};
+use esto_views::{FragmentDefs, Plan, PlanAtom};
+
+/// Whether the column of the fragment is an input.
+fn is_input(fragments: &FragmentDefs, fragment: usize, column: usize) -> bool
+    ensures { IsTrue result ↔ IsInput (patterns_of fragments.now) fragment column }
+{
+    if fragment >= fragments.len() {
+        return false;
+    }
+    let access = &fragments.item(fragment).access;
+    column < access.len() && access.item(column)
+}
+
+/// Whether the term is a constant.
+fn is_constant(term: &Term) -> bool
+    ensures { IsTrue result ↔ IsConstant term.now }
+{
+    match term {
+        Term::Const(_) => true,
+        Term::Plain(_) => false,
+        Term::Made(_, _, _) => false,
+    }
+}
+
+/// Whether the term is one of these.
+fn is_among(terms: &Terms, term: &Term) -> bool
+    ensures { IsTrue result ↔ Contains terms.now term.now }
+{
+    'terms: for other in terms.items() {
+        if other.equal(term) {
+            return true;
+        }
+    }
+    false
+}
+
+/// Whether the plan has an atom of this number, and the term occurs in it.
+fn occurs_at(plan: &Plan, number: usize, term: &Term) -> bool
+    ensures { IsTrue result ↔ ((atom : Fact Term) × (slice_get (plan_query plan.now).body number ≡ Some atom) × Contains atom.terms term.now) }
+{
+    if number >= plan.atoms.len() {
+        return false;
+    }
+    is_among(&plan.atoms.item(number).terms, term)
+}
+
+/// Whether the term is a constant, or occurs in one of the atoms of these numbers.
+fn is_bound(plan: &Plan, earlier: &[usize], term: &Term) -> bool
+    ensures { IsTrue result ↔ IsBound (plan_query plan.now).body (Contains earlier.now) term.now }
+{
+    if is_constant(term) {
+        return true;
+    }
+    'numbers: for number in earlier {
+        if occurs_at(plan, *number, term) {
+            return true;
+        }
+    }
+    false
+}
+
+/// Whether the atom is accessible after the atoms of these numbers.
+fn is_accessible(plan: &Plan, fragments: &FragmentDefs, earlier: &[usize], atom: &PlanAtom) -> bool
+    ensures { IsTrue result ↔ IsAccessible (patterns_of fragments.now) (plan_query plan.now).body (Contains earlier.now) (fact_of atom.now) }
+{
+    'columns: for (column, term) in atom.terms.items().iter().enumerate() {
+        if is_input(fragments, atom.fragment, column) && !is_bound(plan, earlier, term) {
+            return false;
+        }
+    }
+    true
+}
+
+/// Whether the number is one of these.
+fn is_named(numbers: &[usize], number: usize) -> bool
+    ensures { IsTrue result ↔ Contains numbers.now number }
+{
+    numbers.contains(&number)
+}
+
+/// Whether the atom of the number can come after the atoms of the earlier numbers: it is in the set, it is not one of
+/// them, and it is accessible after them.
+pub(crate) fn can_follow(
+    set: &RowBits,
+    plan: &Plan,
+    fragments: &FragmentDefs,
+    earlier: &[usize],
+    number: usize,
+) -> bool
+    ensures { IsTrue result ↔ CanFollow (patterns_of fragments.now) (plan_query plan.now).body set.now earlier.now number }
+{
+    if number >= plan.atoms.len() || number >= set.count() || !set.has(number) {
+        return false;
+    }
+    if is_named(earlier, number) {
+        return false;
+    }
+    is_accessible(plan, fragments, earlier, plan.atoms.item(number))
+}
+
+/// Whether each number of the set is one of these.
+pub(crate) fn names_all(set: &RowBits, numbers: &[usize]) -> bool
+    ensures { IsTrue result ↔ ((number : ℕ) → Has set.now number → Contains numbers.now number) }
+{
+    'numbers: for number in 0..set.count() {
+        if set.has(number) && !is_named(numbers, number) {
+            return false;
+        }
+    }
+    true
+}

@@ -1,0 +1,6 @@
+use Rattle.std.proofs.Common.{◌≡◌, ◌++◌, drop}
+use Rattle.esto_list.specs.Text.{item_line, each_from}
+use Rattle.esto_list.proofs.text.put_items.Given as goal
+
+abbrev pub invariant-items : goal.invariant-items
+invariant-items l = l.text ++ each_from item_line l.place (drop l.place l.items) ≡ l.initial.text ++ each_from item_line 0 l.items

@@ -1,0 +1,22 @@
+-- The items of a list, their weights, and the pick.
+use Rattle.std.specs.Prelude.{◌≡◌, ℕ, Bool, Option, List, [], sum, map, slice_index_or, MatchOption}
+use Rattle.esto_term.specs.declared.term.Term.{Term}
+use Rattle.esto_semantics.specs.Listed.{chosen, IsPick}
+use Rattle.esto_semantics.specs.declared.fact.Fact.{Fact}
+use Rattle.esto_list.specs.declared.listing.Listed.{Listed}
+
+-- The sum, over the atoms that the set names, of their fragments' weights.
+abbrev pub set_weight : List ℕ → List (Fact Term) → List Bool → ℕ
+set_weight weights atoms set = sum (map (λ atom. slice_index_or weights atom.relation 0) (chosen set atoms))
+
+-- The sets of the items, in order.
+abbrev pub sets_of : List Listed → List (List Bool)
+sets_of items = map (λ item. item.set) items
+
+-- The weights of the items, in order.
+abbrev pub totals_of : List Listed → List ℕ
+totals_of items = map (λ item. item.weight) items
+
+-- The pick: none exactly where there is no item, and else the place of the first item of least weight.
+abbrev pub IsPickOf : List Listed → Option ℕ → Type 0
+IsPickOf items pick = MatchOption pick (items ≡ []) (IsPick (totals_of items))

@@ -1,0 +1,11 @@
+//! The list of the executable sets of a plan's atoms that are kept: in order, with weights, the pick, and the text that
+//! is printed.
+#![tactic(auto)]
+
+mod listing;
+mod numbers;
+mod printing;
+mod text;
+mod weight;
+
+pub use listing::{Listed, Listing};

@@ -1,0 +1,216 @@
+//! The text that is printed of a list.
+ghost use Rattle.std.specs.Prelude.{◌≡◌, ◌++◌, ◌↔◌, [], slice_get, length, IsTrue, IfOk, OnOk, codes};
+ghost use Rattle.esto_term.specs.declared.term.Term.{out-Term};
+ghost use Rattle.esto_list.specs.Names.{has_number, is_given, met_atoms, met_level, met_terms, met_variable, nameless_of};
+ghost use Rattle.esto_list.specs.Text.{atom_line, count_line, each_from, fragment_name, item_line, list_text, pick_line, plan_lines};
+
+use crate::listing::Listed;
+use crate::numbers::numbers_of;
+use crate::printing::{put_number, put_numbers, put_terms};
+use esto_query::{Name, Names};
+use esto_term::{Bytes, OutOfMemory, Term, Values};
+use esto_views::{FragmentDefs, Plan, PlanAtom};
+use std::alloc::Global;
+
+/// Whether the variable has a given name.
+fn has_name(names: &Names, variable: u64) -> bool
+    ensures { result ≡ is_given (slice_get names.now variable) }
+{
+    let place = variable as usize;
+    if place >= names.len() {
+        return false;
+    }
+    match names.item(place) {
+        Name::Given(_) => true,
+        Name::Hidden => false,
+    }
+}
+
+/// Whether the number is one of these.
+fn is_met(met: &[u64], number: u64) -> bool
+    ensures { result ≡ has_number met.now number }
+{
+    'numbers: for other in met {
+        if *other == number {
+            return true;
+        }
+    }
+    false
+}
+
+/// Notes a variable, where it has no name and wasn't met.
+fn meet_variable(names: &Names, met: &mut Values<u64>, variable: u64) -> Result<(), OutOfMemory>
+    ensures { OnOk result (met.new ≡ met_variable names.now met.old variable) }
+{
+    if has_name(names, variable) || is_met(met.items(), variable) {
+        return Ok(());
+    }
+    met.push(variable)
+}
+
+/// Notes the variable of a term, where it has no name and wasn't met.
+fn meet_term(names: &Names, met: &mut Values<u64>, term: &Term) -> Result<(), OutOfMemory>
+    ensures { OnOk result (met.new ≡ met_level names.now met.old (out-Term term.now)) }
+{
+    match term {
+        Term::Const(_) => Ok(()),
+        Term::Plain(variable) => meet_variable(names, met, *variable),
+        Term::Made(_, _, _) => Ok(()),
+    }
+}
+
+/// Notes the variables of terms that have no name and weren't met.
+fn meet_terms(names: &Names, met: &mut Values<u64>, terms: &[Term]) -> Result<(), OutOfMemory>
+    ensures { OnOk result (met.new ≡ met_terms names.now met.old terms.now) }
+{
+    'terms: for term in terms {
+        meet_term(names, met, term)?;
+    }
+    Ok(())
+}
+
+/// The variables of the plan that have no name, in the order in which they are printed first.
+fn nameless_variables(alloc: Global, plan: &Plan) -> Result<Values<u64>, OutOfMemory>
+    ensures { IfOk result (λ it. it ≡ nameless_of plan.now) }
+{
+    let mut met = Values::new(alloc);
+    'atoms: for atom in plan.atoms.items() {
+        meet_terms(&plan.names, &mut met, atom.terms.items())?;
+    }
+    meet_terms(&plan.names, &mut met, plan.head.items())?;
+    Ok(met)
+}
+
+/// Puts a line of a word and a number at the end.
+fn put_count(alloc: Global, text: &mut Bytes, word: &[u8], count: u128) -> Result<(), OutOfMemory>
+    ensures { OnOk result (text.new ≡ text.old ++ count_line word.now count) }
+{
+    text.append(word)?;
+    put_number(alloc, text, count)?;
+    text.append(b"\n")
+}
+
+/// Puts the name of a fragment at the end, where there is one.
+fn put_fragment_name(
+    text: &mut Bytes,
+    fragments: &FragmentDefs,
+    fragment: usize,
+) -> Result<(), OutOfMemory>
+    ensures { OnOk result (text.new ≡ text.old ++ fragment_name (slice_get fragments.now fragment)) }
+{
+    if fragment >= fragments.len() {
+        return Ok(());
+    }
+    text.append(fragments.item(fragment).name.bytes())
+}
+
+/// Puts the line of an atom at the end.
+fn put_atom(
+    alloc: Global,
+    text: &mut Bytes,
+    fragments: &FragmentDefs,
+    names: &Names,
+    nameless: &[u64],
+    place: usize,
+    atom: &PlanAtom,
+) -> Result<(), OutOfMemory>
+    ensures { OnOk result (text.new ≡ text.old ++ atom_line fragments.now names.now nameless.now place atom.now) }
+{
+    put_number(alloc, text, place as u128 + 1)?;
+    text.append(b" ")?;
+    put_fragment_name(text, fragments, atom.fragment)?;
+    put_terms(alloc, text, names, nameless, atom.terms.items())?;
+    text.append(b"\n")
+}
+
+/// Puts the lines of the atoms at the end.
+fn put_atoms(
+    alloc: Global,
+    text: &mut Bytes,
+    fragments: &FragmentDefs,
+    names: &Names,
+    nameless: &[u64],
+    atoms: &[PlanAtom],
+) -> Result<(), OutOfMemory>
+    ensures { OnOk result (text.new ≡ text.old ++ each_from (atom_line fragments.now names.now nameless.now) 0 atoms.now) }
+{
+    'atoms: for (place, atom) in atoms.iter().enumerate() {
+        put_atom(alloc, text, fragments, names, nameless, place, atom)?;
+    }
+    Ok(())
+}
+
+/// Puts the lines of the plan at the end.
+fn put_plan(
+    alloc: Global,
+    text: &mut Bytes,
+    fragments: &FragmentDefs,
+    plan: &Plan,
+) -> Result<(), OutOfMemory>
+    ensures { OnOk result (text.new ≡ text.old ++ plan_lines fragments.now plan.now) }
+{
+    let met = nameless_variables(alloc, plan)?;
+    let nameless = met.items();
+    put_count(alloc, text, b"plan ", plan.atoms.len() as u128)?;
+    put_atoms(
+        alloc,
+        text,
+        fragments,
+        &plan.names,
+        nameless,
+        plan.atoms.items(),
+    )?;
+    text.append(b"head ")?;
+    put_terms(alloc, text, &plan.names, nameless, plan.head.items())?;
+    text.append(b"\n")
+}
+
+/// Puts the line of an item at the end.
+fn put_item(alloc: Global, text: &mut Bytes, place: usize, item: &Listed) -> Result<(), OutOfMemory>
+    ensures { OnOk result (text.new ≡ text.old ++ item_line place item.now) }
+{
+    let numbers = numbers_of(alloc, &item.set)?;
+    put_number(alloc, text, place as u128 + 1)?;
+    text.append(b" {")?;
+    put_numbers(alloc, text, numbers.items())?;
+    text.append(b"} order ")?;
+    put_numbers(alloc, text, item.order.items())?;
+    put_count(alloc, text, b" weight ", item.weight)
+}
+
+/// Puts the lines of the items at the end.
+fn put_items(alloc: Global, text: &mut Bytes, items: &[Listed]) -> Result<(), OutOfMemory>
+    ensures { OnOk result (text.new ≡ text.old ++ each_from item_line 0 items.now) }
+{
+    'items: for (place, item) in items.iter().enumerate() {
+        put_item(alloc, text, place, item)?;
+    }
+    Ok(())
+}
+
+/// Puts the line of the pick at the end.
+fn put_pick(alloc: Global, text: &mut Bytes, pick: Option<usize>) -> Result<(), OutOfMemory>
+    ensures { OnOk result (text.new ≡ text.old ++ pick_line pick) }
+{
+    match pick {
+        Some(place) => put_count(alloc, text, b"pick ", place as u128 + 1),
+        None => text.append(b"pick none\n"),
+    }
+}
+
+/// Puts the text of a list at the end.
+pub(crate) fn put_list(
+    alloc: Global,
+    text: &mut Bytes,
+    plan: &Plan,
+    fragments: &FragmentDefs,
+    items: &[Listed],
+    pick: Option<usize>,
+) -> Result<(), OutOfMemory>
+    ensures { OnOk result (text.new ≡ text.old ++ list_text fragments.now plan.now items.now pick) }
+{
+    put_plan(alloc, text, fragments, plan)?;
+    put_count(alloc, text, b"rewritings ", items.len() as u128)?;
+    put_items(alloc, text, items)?;
+    put_pick(alloc, text, pick)
+}

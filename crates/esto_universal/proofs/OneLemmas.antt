@@ -1,0 +1,141 @@
+-- There is one stated plan.
+use Rattle.std.proofs.Common.{◌≡◌, ◌↔◌, ◌⊎◌, inl, inr, ℕ, ◌<◌, ◌≤◌, List, [], ◌∷◌, ◌++◌, map, length, get_or, slice_get, Contains, refl, sym, ap, ◌∙◌, subst, arith}
+use Rattle.std.specs.List.{AllPairs}
+use Rattle.std.specs.Cmp.{IsTotalOrder}
+use Rattle.std.specs.Cmp.Lexicographic.{slice_cmp}
+use Rattle.std.specs.Ordering.{ordering_reverse}
+use Rattle.std.specs.declared.cmp.Ordering.TheVariants.{Less, Greater}
+use Rattle.std.proofs.lemmas.Cmp.{lists_total}
+use Rattle.std.proofs.lemmas.List.{length_push, get_or_push, get_or_append_left}
+use Rattle.esto_term.specs.Order.{term_cmp}
+use Rattle.esto_term.specs.declared.term.Term.{Term}
+use Rattle.esto_term.specs.declared.term.Term.TheVariants.{Const}
+use Rattle.esto_term.proofs.OrderLemmas.{term_cmp_total}
+use Rattle.esto_semantics.specs.Facts.{image}
+use Rattle.esto_semantics.specs.Queries.{ConjunctiveQuery}
+use Rattle.esto_semantics.specs.declared.fact.Fact.{Fact}
+use Rattle.esto_semantics.proofs.ChoiceLemmas.{pairs_head, pairs_tail}
+use Rattle.esto_semantics.proofs.ContainsLemmas.{Contains-nil, Contains-head, Contains-rest, Contains-cases, map_agree}
+use Rattle.esto_query.specs.declared.query.Name.{Name}
+use Rattle.esto_views.specs.Plans.{plan_query}
+use Rattle.esto_views.specs.declared.plan.Plan.{Plan}
+use Rattle.esto_universal.specs.Reading.{terms_read, OccursBefore}
+use Rattle.esto_universal.specs.Renamings.{name_of}
+use Rattle.esto_universal.specs.Rows.{IsRowBefore}
+use Rattle.esto_universal.specs.Stated.{IsStatedPlan}
+use Rattle.esto_universal.proofs.PlanLemmas.{became, read_row, read_head}
+
+-- ---- lists in one order
+
+module _ {X : Type 0} (R : X → X → Type 0) (apart : (x y : X) → R x y → R y x → ⊥) where
+  -- a thing of the one list is in the rest of the other, where they have the same things and begin with one thing
+  rest_has : (x y : X) (xs ys : List X) → x ≡ y → AllPairs R (x ∷ xs) → ((z : X) → Contains (x ∷ xs) z → Contains (y ∷ ys) z) → (z : X) → Contains xs z → Contains ys z
+  rest_has x y xs ys same pairs has z inside = elim (Contains-cases y ys z (has z (Contains-rest x xs z inside))) [
+    | inl first ↦ let before = subst (R x) (sym (same ∙ first)) (pairs_head R x xs pairs z inside) in absurd (apart x x before before)
+    | inr later ↦ later
+  ]
+
+  firsts : (x y : X) (xs ys : List X) → AllPairs R (x ∷ xs) → AllPairs R (y ∷ ys) → Contains (y ∷ ys) x → Contains (x ∷ xs) y → x ≡ y
+  firsts x y xs ys pairs other_pairs there here = elim (Contains-cases y ys x there) [
+    | inl same ↦ sym same
+    | inr later ↦ elim (Contains-cases x xs y here) [
+      | inl same ↦ same
+      | inr other_later ↦ absurd (apart x y (pairs_head R x xs pairs y other_later) (pairs_head R y ys other_pairs x later))
+    ]
+  ]
+
+  pub one_order : (xs ys : List X) → AllPairs R xs → AllPairs R ys → ((z : X) → Contains xs z → Contains ys z) → ((z : X) → Contains ys z → Contains xs z) → xs ≡ ys
+  one_order [] [] pairs other_pairs there here = refl
+  one_order [] (y ∷ ys) pairs other_pairs there here = absurd (Contains-nil y (here y (Contains-head y ys)))
+  one_order (x ∷ xs) [] pairs other_pairs there here = absurd (Contains-nil x (there x (Contains-head x xs)))
+  one_order (x ∷ xs) (y ∷ ys) pairs other_pairs there here =
+      let first = firsts x y xs ys pairs other_pairs (there x (Contains-head x xs)) (here y (Contains-head y ys)) in
+      let rest = one_order xs ys (pairs_tail R x xs pairs) (pairs_tail R y ys other_pairs) (rest_has x y xs ys first pairs there) (rest_has y x ys xs (sym first) other_pairs here) in
+      λ i. first i ∷ rest i
+
+-- ---- the order of rows, and that of first occurrences
+
+less_apart : (row other : List Term) → slice_cmp term_cmp row other ≡ Less → slice_cmp term_cmp other row ≡ Less → ⊥
+less_apart row other less back =
+    let total : IsTotalOrder (slice_cmp term_cmp) = lists_total term_cmp_total in
+    let wrong : Less ≡ Greater = sym back ∙ total.antisymm other row ∙ ap ordering_reverse less in
+    cc
+
+rows_apart : (row other : Fact Term) → IsRowBefore row other → IsRowBefore other row → ⊥
+rows_apart row other (inl less) (inl more) = omega arith
+rows_apart row other (inl less) (inr (same, back)) = omega arith
+rows_apart row other (inr (same, less)) (inl more) = omega arith
+rows_apart row other (inr (same, less)) (inr (is, back)) = less_apart row.terms other.terms less back
+
+-- of two fronts of one list, the longer one has the last term of the other
+front_has : (terms front back other_front other_back : List Term) (term : Term) → terms ≡ (front ++ term ∷ []) ++ back → terms ≡ other_front ++ other_back → length front < length other_front
+    → Contains other_front term
+front_has terms front back other_front other_back term is other_is less =
+    let within : length front < length (front ++ term ∷ []) = omega (arith, length_push front term) in (
+      length front,
+      less,
+      sym (get_or_append_left other_front other_back term (length front) less)
+          ∙ ap (λ it. get_or it (length front) term) (sym other_is ∙ is)
+          ∙ get_or_append_left (front ++ term ∷ []) back term (length front) within
+          ∙ get_or_push front term term (length front) refl,
+    )
+
+occurs_apart : (terms : List Term) (term other : Term) → OccursBefore terms term other → OccursBefore terms other term → ⊥
+occurs_apart terms term other (front, (back, is, without)) (other_front, (other_back, other_is, other_without)) = by (cases_le (length front) (length other_front))
+  where
+    cases_le : (a b : ℕ) → (a ≤ b) ⊎ (b ≤ a)
+    cases_le a b = grind arith
+
+    by : (length front ≤ length other_front) ⊎ (length other_front ≤ length front) → ⊥
+    by (inl less) =
+        let longer : length front < length (other_front ++ other ∷ []) = omega (arith, length_push other_front other) in
+        other_without (front_has terms front back (other_front ++ other ∷ []) other_back term is other_is longer)
+    by (inr more) =
+        let longer : length other_front < length (front ++ term ∷ []) = omega (arith, length_push front term) in
+        without (front_has terms other_front other_back (front ++ term ∷ []) back other other_is is longer)
+
+-- ---- the plan
+
+module _ (names : List Name) (views : List ConjunctiveQuery) (end : ConjunctiveQuery) (plan other : Plan) (stated : IsStatedPlan names views end plan) (again : IsStatedPlan names views end other) where
+  same_rows : stated.rows ≡ again.rows
+  same_rows = one_order IsRowBefore rows_apart stated.rows again.rows stated.are_rows.ordered again.are_rows.ordered
+      (λ row inside. (again.are_rows.exact row).1 ((stated.are_rows.exact row).0 inside))
+      (λ row inside. (stated.are_rows.exact row).1 ((again.are_rows.exact row).0 inside))
+
+  abbrev read : List Term
+  read = terms_read stated.rows end.head
+
+  same_read : terms_read again.rows end.head ≡ read
+  same_read = ap (λ it. terms_read it end.head) (sym same_rows)
+
+  same_seen : stated.seen ≡ again.seen
+  same_seen =
+      let there = subst (λ it. (term : Term) → Contains again.seen term ↔ (Contains it term × ¬ ((text : List ℕ) × (term ≡ Const text)))) same_read again.are_seen.exact in
+      one_order (OccursBefore read) (occurs_apart read) stated.seen again.seen stated.are_seen.ordered (subst (λ it. AllPairs (OccursBefore it) again.seen) same_read again.are_seen.ordered)
+      (λ term inside. (there term).1 ((stated.are_seen.exact term).0 inside))
+      (λ term inside. (stated.are_seen.exact term).1 ((there term).0 inside))
+
+  same_renaming : (term : Term) → Contains read term → stated.renaming term ≡ again.renaming term
+  same_renaming term inside = elim (became read stated.seen stated.renaming term stated.are_seen stated.is_renaming inside) [
+    | inl (constant, same) ↦ same ∙ constant.1 ∙ sym (again.is_renaming.keeps constant.0) ∙ ap again.renaming (sym constant.1)
+    | inr (place, at, same) ↦ same ∙ sym (again.is_renaming.numbers place term (ap (λ it. slice_get it place) (sym same_seen) ∙ at))
+  ]
+
+  same_head : plan.head ≡ other.head
+  same_head =
+      stated.head ∙ map_agree stated.renaming again.renaming end.head (λ term inside. same_renaming term (read_head stated.rows end.head term inside)) ∙ sym again.head
+
+  same_body : (plan_query plan).body ≡ (plan_query other).body
+  same_body =
+      stated.atoms
+      ∙ map_agree (image stated.renaming) (image again.renaming) stated.rows
+      (λ row in_rows. ap (λ (it : List Term). record { relation = row.relation; terms = it })
+      (map_agree stated.renaming again.renaming row.terms (λ term inside. same_renaming term (read_row stated.rows end.head row term in_rows inside))))
+      ∙ ap (map (image again.renaming)) same_rows
+      ∙ sym again.atoms
+
+  pub one_plan : (plan_query plan ≡ plan_query other) × (plan.names ≡ other.names)
+  one_plan = (
+    (λ i. record { head = same_head i; body = same_body i }),
+    stated.names_are ∙ ap (map (name_of names)) same_seen ∙ sym again.names_are,
+  )

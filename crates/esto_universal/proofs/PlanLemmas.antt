@@ -1,0 +1,133 @@
+-- The stated plan is a plan of its end, is over the fragments, and keeps what a plan keeps.
+use Rattle.std.proofs.Common.{◌≡◌, ◌≢◌, ◌⊎◌, inl, inr, ℕ, List, [], ◌∷◌, map, length, slice_get, Contains, Some, refl, sym, ap, ◌∙◌, subst}
+use Rattle.std.specs.List.{flat_map}
+use Rattle.std.proofs.lemmas.List.{length-map}
+use Rattle.std.proofs.lemmas.List.Elements.{Contains-append_left, Contains-append_right}
+use Rattle.std.proofs.lemmas.Option.{slice_get_within}
+use Rattle.esto_term.specs.declared.term.Term.{Term}
+use Rattle.esto_term.specs.declared.term.Term.TheVariants.{Plain}
+use Rattle.esto_semantics.specs.Facts.{image}
+use Rattle.esto_semantics.specs.Maps.{IsConstant}
+use Rattle.esto_semantics.specs.PlanOf.{IsOfRows, IsPlanOf}
+use Rattle.esto_semantics.specs.Queries.{ConjunctiveQuery}
+use Rattle.esto_semantics.specs.declared.fact.Fact.{Fact}
+use Rattle.esto_semantics.proofs.ContainsLemmas.{Contains-at, Contains-map, Contains-map_from, Contains-flat, map_then}
+use Rattle.esto_semantics.proofs.PlaceLemmas.{place-from_Contains, map_at-from}
+use Rattle.esto_semantics.proofs.TermLemmas.{term_cases, Const-apart-Plain, Const-apart-Made}
+use Rattle.esto_query.specs.Making.{query_of}
+use Rattle.esto_query.specs.declared.query.Name.{Name}
+use Rattle.esto_views.specs.Fragments.{views_of, AreFragments}
+use Rattle.esto_views.specs.Plans.{fact_of, plan_query, IsPlanOver}
+use Rattle.esto_views.specs.Soundness.{IsNamed, IsSoundPlan}
+use Rattle.esto_views.specs.declared.fragments.FragmentDef.{FragmentDef}
+use Rattle.esto_views.specs.declared.plan.PlanAtom.{PlanAtom}
+use Rattle.esto_views.specs.declared.plan.Plan.{Plan}
+use Rattle.esto_universal.specs.Reading.{terms_read, AreFirstOccurrences}
+use Rattle.esto_universal.specs.Renamings.{IsRenaming, numbered, renamed_atom, name_of}
+use Rattle.esto_universal.specs.Rows.{AreRows}
+use Rattle.esto_universal.specs.Stated.{IsStatedPlan}
+use Rattle.esto_universal.proofs.RenamingLemmas.{back, back-Const, back-Plain, numbered_renames}
+
+-- ---- the terms that are read
+
+constant_or_not : (term : Term) → IsConstant term ⊎ ¬ (IsConstant term)
+constant_or_not = term_cases (λ term. IsConstant term ⊎ ¬ (IsConstant term))
+    (λ text. inl (text, refl))
+    (λ number. inr (λ constant. Const-apart-Plain constant.0 number (sym constant.1)))
+    (λ rule variable frontier. inr (λ constant. Const-apart-Made constant.0 rule variable frontier (sym constant.1)))
+
+-- what becomes of a term that is read
+pub became : (terms seen : List Term) (m : Term → Term) (term : Term) → AreFirstOccurrences terms seen → IsRenaming seen m → Contains terms term
+    → (IsConstant term × (m term ≡ term)) ⊎ ((place : ℕ) × (slice_get seen place ≡ Some term) × (m term ≡ Plain place))
+became terms seen m term are_seen is_renaming inside = by (constant_or_not term)
+  where
+    by : IsConstant term ⊎ ¬ (IsConstant term) → (IsConstant term × (m term ≡ term)) ⊎ ((place : ℕ) × (slice_get seen place ≡ Some term) × (m term ≡ Plain place))
+    by (inl (text, is)) = inl ((text, is), ap m is ∙ is_renaming.keeps text ∙ sym is)
+    by (inr no_constant) =
+        let at = place-from_Contains seen term ((are_seen.exact term).1 (inside, no_constant)) in
+        inr (at.0, at.1, is_renaming.numbers at.0 term at.1)
+
+pub read_row : (rows : List (Fact Term)) (head : List Term) (row : Fact Term) (term : Term) → Contains rows row → Contains row.terms term → Contains (terms_read rows head) term
+read_row rows head row term inside at = Contains-append_left (flat_map (λ it. it.terms) rows) head term (Contains-flat (λ it. it.terms) rows row term inside at)
+
+pub read_head : (rows : List (Fact Term)) (head : List Term) (term : Term) → Contains head term → Contains (terms_read rows head) term
+read_head rows head term inside = Contains-append_right (flat_map (λ it. it.terms) rows) head term inside
+
+-- ---- a plan of its end
+
+module _ (names : List Name) (views : List ConjunctiveQuery) (end : ConjunctiveQuery) (plan : Plan) (stated : IsStatedPlan names views end plan) where
+  of_rows : (term : Term) → IsOfRows views end term → Contains (terms_read stated.rows end.head) term
+  of_rows term (inl (row, is_row, inside)) = read_row stated.rows end.head row term ((stated.are_rows.exact row).1 is_row) inside
+  of_rows term (inr in_head) = read_head stated.rows end.head term in_head
+
+  undone : (term : Term) → IsOfRows views end term → back stated.seen (stated.renaming term) ≡ term
+  undone term inside = by (became (terms_read stated.rows end.head) stated.seen stated.renaming term stated.are_seen stated.is_renaming (of_rows term inside))
+    where
+      by : (IsConstant term × (stated.renaming term ≡ term)) ⊎ ((place : ℕ) × (slice_get stated.seen place ≡ Some term) × (stated.renaming term ≡ Plain place)) → back stated.seen (stated.renaming term) ≡ term
+      by (inl ((text, is), same)) = ap (back stated.seen) (same ∙ is) ∙ back-Const stated.seen text ∙ sym is
+      by (inr (place, at, same)) = ap (back stated.seen) same ∙ back-Plain stated.seen place term at
+
+  pub plan_of : IsPlanOf views end (plan_query plan)
+  plan_of = record {
+    renaming = stated.renaming;
+    back = back stated.seen;
+    keeps = stated.is_renaming.keeps;
+    back_keeps = back-Const stated.seen;
+    undone = undone;
+    rows = λ row is_row. subst (λ it. Contains it (image stated.renaming row)) (sym stated.atoms) (Contains-map (image stated.renaming) stated.rows row ((stated.are_rows.exact row).1 is_row));
+    only_rows = λ atom inside.
+        let found = Contains-map_from (image stated.renaming) stated.rows atom (subst (λ it. Contains it atom) stated.atoms inside) in
+        (found.0, (stated.are_rows.exact found.0).0 found.1, found.2);
+    head = stated.head;
+  }
+
+pub plan_over : (names : List Name) (fragments : List FragmentDef) (end : ConjunctiveQuery) (plan : Plan) → AreFragments fragments → IsStatedPlan names (views_of fragments) end plan → IsPlanOver plan fragments
+plan_over names fragments end plan are_fragments stated atom inside =
+    let found = Contains-map_from (image stated.renaming) stated.rows (fact_of atom) (subst (λ it. Contains it (fact_of atom)) stated.atoms (Contains-map fact_of plan.atoms atom inside)) in
+    let row = (stated.are_rows.exact found.0).0 found.1 in
+    let source = map_at-from (λ (it : FragmentDef). query_of it.view) fragments found.0.relation row.0 row.1 in
+    let relation : found.0.relation ≡ atom.fragment = ap (λ (it : Fact Term). it.relation) found.2 in
+    let lengths : length atom.terms ≡ length source.0.view.head =
+    ap (λ (it : Fact Term). length it.terms) (sym found.2) ∙ length-map found.0.terms stated.renaming ∙ ap length row.2.3 ∙ length-map row.0.head row.2.0
+    ∙ ap (λ (it : ConjunctiveQuery). length it.head) (sym source.2) in
+    (source.0, ap (slice_get fragments) (sym relation) ∙ source.1, are_fragments source.0 (Contains-at fragments found.0.relation source.0 source.1), lengths)
+
+-- ---- what a plan keeps, and the plan itself
+
+module _ (names : List Name) (views : List ConjunctiveQuery) (end : ConjunctiveQuery) (rows : List (Fact Term)) (seen : List Term)
+    (are_rows : AreRows views end.body rows) (are_seen : AreFirstOccurrences (terms_read rows end.head) seen) where
+  named : (term : Term) → Contains (terms_read rows end.head) term → IsNamed (map (name_of names) seen) (numbered 0 seen term)
+  named term inside = by (became (terms_read rows end.head) seen (numbered 0 seen) term are_seen (numbered_renames (terms_read rows end.head) seen are_seen) inside)
+    where
+      by : (IsConstant term × (numbered 0 seen term ≡ term)) ⊎ ((place : ℕ) × (slice_get seen place ≡ Some term) × (numbered 0 seen term ≡ Plain place)) → IsNamed (map (name_of names) seen) (numbered 0 seen term)
+      by (inl (constant, same)) = inl (subst IsConstant (sym same) constant)
+      by (inr (place, at, same)) = inr (place, same, rw length-map (slice_get_within seen place term at))
+
+  pub keeps : end.head ≢ [] → IsSoundPlan (map (renamed_atom (numbered 0 seen)) rows) (map (numbered 0 seen) end.head) (map (name_of names) seen)
+  keeps has_head = record {
+    has_head = λ none. has_head (no_head end.head none);
+    named_atoms = λ atom in_atoms term inside.
+        let row = Contains-map_from (renamed_atom (numbered 0 seen)) rows atom in_atoms in
+        let source = Contains-map_from (numbered 0 seen) row.0.terms term (subst (λ (it : PlanAtom). Contains it.terms term) (sym row.2) inside) in
+        subst (IsNamed (map (name_of names) seen)) source.2 (named source.0 (read_row rows end.head row.0 source.0 row.1 source.1));
+    named_head = λ term inside.
+        let source = Contains-map_from (numbered 0 seen) end.head term inside in
+        subst (IsNamed (map (name_of names) seen)) source.2 (named source.0 (read_head rows end.head source.0 source.1));
+  }
+    where
+      no_head : (head : List Term) → map (numbered 0 seen) head ≡ [] → head ≡ []
+      no_head [] none = refl
+      no_head (first ∷ rest) none = absurd (cc)
+
+  pub stated_is : (plan : Plan) → plan.atoms ≡ map (renamed_atom (numbered 0 seen)) rows → plan.head ≡ map (numbered 0 seen) end.head → plan.names ≡ map (name_of names) seen → IsStatedPlan names views end plan
+  stated_is plan atoms head names_are = record {
+    rows = rows;
+    are_rows = are_rows;
+    seen = seen;
+    are_seen = are_seen;
+    renaming = numbered 0 seen;
+    is_renaming = numbered_renames (terms_read rows end.head) seen are_seen;
+    atoms = ap (map fact_of) atoms ∙ map_then (renamed_atom (numbered 0 seen)) fact_of rows;
+    head = head;
+    names_are = names_are;
+  }

@@ -1,0 +1,9 @@
+//! The universal plan of a query.
+#![tactic(auto)]
+
+mod planning;
+mod reading;
+mod renaming;
+mod rows;
+
+pub use planning::{stated_plans_are_one, universal};

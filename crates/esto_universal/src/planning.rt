@@ -1,0 +1,64 @@
+//! The universal plan.
+ghost use Rattle.std.specs.Prelude.{◌≡◌, List, [], IfOk};
+ghost use Rattle.esto_semantics.specs.PlanOf.{IsPlanOf};
+ghost use Rattle.esto_semantics.specs.Plans.{IsUniversalPlan};
+ghost use Rattle.esto_semantics.specs.Queries.{ConjunctiveQuery};
+ghost use Rattle.esto_query.specs.Making.{query_of};
+ghost use Rattle.esto_query.specs.declared.query.Name.{Name};
+ghost use Rattle.esto_views.specs.Fragments.{views_of, AreFragments};
+ghost use Rattle.esto_views.specs.Plans.{plan_query, IsPlanOver};
+ghost use Rattle.esto_views.specs.declared.plan.Plan.{Plan};
+ghost use Rattle.esto_universal.specs.Stated.{IsStatedPlan};
+
+use crate::reading::first_occurrences;
+use crate::renaming::{names_of, rename_row, rename_rows};
+use crate::rows::view_rows;
+use esto_query::{Query, queries_are_sound};
+use esto_semantics::{
+    queries_are_their_own_instances, rows_of_a_universal_instance_are_a_universal_plan,
+};
+use esto_term::OutOfMemory;
+use esto_views::{FragmentDefs, Plan};
+use std::alloc::Global;
+
+/// The plan whose atoms are the rows of all views over the query's body, and whose head is the query's, renamed.
+fn stated_plan(alloc: Global, query: &Query, fragments: &FragmentDefs) -> Result<Plan, OutOfMemory>
+    ensures { IfOk result (λ plan. IsStatedPlan query.now.names (views_of fragments.now) (query_of query.now) plan) }
+{
+    queries_are_sound();
+    let rows = view_rows(alloc, &query.body, fragments)?;
+    let seen = first_occurrences(alloc, &rows, &query.head)?;
+    let atoms = rename_rows(alloc, &seen, &rows)?;
+    let head = rename_row(alloc, &seen, query.head.items())?;
+    let names = names_of(alloc, &query.names, &seen)?;
+    Ok(Plan { atoms, head, names })
+}
+
+/// The universal plan of the query, where there are no rules: the query's own body is then its universal instance.
+/// Its atoms are, for each fragment in order, the rows of the fragment's view over the query's body, in the order of
+/// terms, and its head is the query's. Each term that is no constant is renamed to a variable, whose number is the
+/// place of the term's first occurrence among those of the others, reading the atoms in order and then the head. The
+/// variable has the name that the query gives the term, and else it is hidden.
+pub fn universal(
+    alloc: Global,
+    query: &Query,
+    fragments: &FragmentDefs,
+) -> Result<Plan, OutOfMemory>
+    requires { AreFragments fragments.now }
+    ensures stated { IfOk result (λ plan. IsStatedPlan query.now.names (views_of fragments.now) (query_of query.now) plan) }
+    ensures rows { IfOk result (λ plan. IsPlanOf (views_of fragments.now) (query_of query.now) (plan_query plan)) }
+    ensures over { IfOk result (λ plan. IsPlanOver plan fragments.now) }
+    ensures universal { IfOk result (λ plan. IsUniversalPlan [] (views_of fragments.now) (query_of query.now) (plan_query plan)) }
+{
+    queries_are_their_own_instances();
+    rows_of_a_universal_instance_are_a_universal_plan();
+    let plan = stated_plan(alloc, query, fragments)?;
+    Ok(plan)
+}
+
+/// A law: there is one stated plan.
+pub fn stated_plans_are_one()
+    ensures { (names : List Name) (views : List ConjunctiveQuery) (end : ConjunctiveQuery) (plan other : Plan)
+        → IsStatedPlan names views end plan → IsStatedPlan names views end other
+        → (plan_query plan ≡ plan_query other) × (plan.names ≡ other.names) }
+{}

@@ -1,0 +1,4 @@
+pub mod SoundLemmas
+pub mod InnerLemmas
+pub mod SubstitutionLemmas
+pub mod ExpandedLemmas

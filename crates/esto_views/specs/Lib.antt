@@ -1,0 +1,5 @@
+pub mod Fragments
+pub mod Soundness
+pub mod Plans
+pub mod Spreads
+pub mod Expanded
