@@ -9,6 +9,9 @@ use std::test::Fail;
 const CATALOGUE: &str =
     "version = 1\n[[dataset]]\nname = \"R\"\nmodel = \"table\"\ncolumns = [\"a\", \"b\"]\n[[fragment]]\nview = \"V2(x) :- R(x,_)\"\nstore = \"table\"\nfile = \"v2.csv\"\n";
 
+const SEVENS: &str =
+    "version = 1\n[[dataset]]\nname = \"R\"\nmodel = \"table\"\ncolumns = [\"a\", \"b\"]\n[[fragment]]\nview = \"V7(x) :- R(x,7)\"\nstore = \"table\"\nfile = \"v7.csv\"\n";
+
 const LISTED: &str = "plan 1\n1 V2(x)\nhead (x)\nrewritings 1\n1 {1} order 1 weight 1\npick 1\n";
 
 fn text(alloc: Global, text: &str) -> Result<Text, Fail> {
@@ -131,6 +134,20 @@ fn queries_are_read(rt: HostRuntime) -> Result<(), Fail> {
     for (query, code, written) in cases {
         let (status, out) = listed(alloc, CATALOGUE, query.as_bytes())?;
         assert_eq!(rt; status, code, "at {query}");
+        assert_eq!(rt; out.written(), written.as_bytes(), "at {query}");
+    }
+    let seven = "plan 1\n1 V7(x)\nhead (x)\nrewritings 1\n1 {1} order 1 weight 1\npick 1\n";
+    let constants = [
+        ("q(x) :- R(x,7)", seven),
+        ("q(x) :- R(x,'7')", seven),
+        (
+            "q(x) :- R(x,07)",
+            "plan 0\nhead (x)\nrewritings 0\npick none\n",
+        ),
+    ];
+    for (query, written) in constants {
+        let (status, out) = listed(alloc, SEVENS, query.as_bytes())?;
+        assert_eq!(rt; status, 0, "at {query}");
         assert_eq!(rt; out.written(), written.as_bytes(), "at {query}");
     }
     let (status, out) = listed(alloc, CATALOGUE, b"q(x) :- R(x,y)\xff")?;
