@@ -1,0 +1,4 @@
+pub mod BindingLemmas
+pub mod SafetyLemmas
+pub mod PassLemmas
+pub mod VisitLemmas
