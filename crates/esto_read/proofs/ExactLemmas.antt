@@ -23,7 +23,7 @@ use Rattle.esto_read.specs.declared.read.NamedQuery.{NamedQuery}
 use Rattle.esto_read.specs.declared.words.Word.{Word}
 use Rattle.esto_read.proofs.OneLemmas.{terms_one, items_one, table_one, apart_none}
 
-fault_same : (f g : TextFault) → f.offset ≡ g.offset → f.kind ≡ g.kind → f ≡ g
+pub fault_same : (f g : TextFault) → f.offset ≡ g.offset → f.kind ≡ g.kind → f ≡ g
 fault_same f g o k = λ i. record { offset = o i; kind = k i }
 
 found : {X : Type 0} → (xs : List X) (i : ℕ) (x : X) → slice_get xs i ≡ Some x → Contains xs x
@@ -112,12 +112,12 @@ module _ (words : List Word) (apart : AllPairs ◌≢◌ (map (λ word. word.nam
   item_fault_one atoms (Part name part ts) f g (o, k) (o', k') = fault_same f g (o ∙ sym o') (k ∙ sym k')
   item_fault_one atoms (Pattern name es) f g (o, k) (o', k') = fault_same f g (o ∙ sym o') (k ∙ sym k')
 
-  fitting_or_fault : (atoms : ℕ) (items : List ItemTree) (f : TextFault) → AreFitting words schema bytes atoms items → ¬ IsFirstItemFault words schema bytes atoms items f
+  pub fitting_or_fault : (atoms : ℕ) (items : List ItemTree) (f : TextFault) → AreFitting words schema bytes atoms items → ¬ IsFirstItemFault words schema bytes atoms items f
   fitting_or_fault atoms [] f h g = g
   fitting_or_fault atoms (item ∷ items) f h (inl g) = fitting_no_fault atoms item f h.0 g
   fitting_or_fault atoms (item ∷ items) f h (inr g) = fitting_or_fault (suc atoms) items f h.1 g.1
 
-  items_fault_one : (atoms : ℕ) (items : List ItemTree) (f g : TextFault) → IsFirstItemFault words schema bytes atoms items f → IsFirstItemFault words schema bytes atoms items g → f ≡ g
+  pub items_fault_one : (atoms : ℕ) (items : List ItemTree) (f g : TextFault) → IsFirstItemFault words schema bytes atoms items f → IsFirstItemFault words schema bytes atoms items g → f ≡ g
   items_fault_one atoms [] f g h k = absurd h
   items_fault_one atoms (item ∷ items) f g (inl h) (inl k) = item_fault_one atoms item f g h k
   items_fault_one atoms (item ∷ items) f g (inl h) (inr k) = absurd (fitting_no_fault atoms item f k.0 h)
@@ -153,7 +153,7 @@ module _ (words : List Word) (apart : AllPairs ◌≢◌ (map (λ word. word.nam
 
 -- ---- texts
 
-module _ (trees : text.HaveOneTree) where
+module _ (trees : text.HaveOneTree text.IsQueryText) where
   pub one_reading : (form : Form) (words : List Word) → AllPairs ◌≢◌ (map (λ word. word.name) words) → (schema bytes : List ℕ) (query other : NamedQuery) → IsReading form words schema bytes query → IsReading form words schema bytes other
       → AreSame query other
   one_reading form words apart schema bytes query other (tree, h) (tree', g) =
@@ -162,7 +162,7 @@ module _ (trees : text.HaveOneTree) where
       let s = read_one words apart schema bytes tree query.query.head other.query.head query.query.body other.query.body query.query.names other.query.names h.read r in
       (h.name ∙ ap (λ (t : QueryTree). text_of bytes t.name) (sym same) ∙ sym g.name, s.0, s.1, s.2)
 
-  module _ (clean : text.HaveNoFault) where
+  module _ (clean : text.HaveNoFault text.IsQueryText text.IsGrammarFault) where
     pub no_fault : (form : Form) (words : List Word) → AllPairs ◌≢◌ (map (λ word. word.name) words) → (schema bytes : List ℕ) (query : NamedQuery) (fault : TextFault) → IsReading form words schema bytes query
         → ¬ IsFirstFault form words schema bytes fault
     no_fault form words apart schema bytes query fault (tree, h) (inl g) = clean bytes tree fault h.text g
@@ -170,7 +170,7 @@ module _ (trees : text.HaveOneTree) where
         let same : tree' ≡ tree = trees bytes tree' text' tree h.text in
         read_or_fault words apart schema bytes form tree query.query.head query.query.body query.query.names fault h.read h.fit (subst (λ (t : QueryTree). IsTreeFault form words schema bytes t fault) same g)
 
-    pub one_fault : (grammar : text.HaveOneFault) (form : Form) (words : List Word) → AllPairs ◌≢◌ (map (λ word. word.name) words) → (schema bytes : List ℕ) (fault other : TextFault) → IsFirstFault form words schema bytes fault
+    pub one_fault : (grammar : text.HaveOneFault text.IsGrammarFault) (form : Form) (words : List Word) → AllPairs ◌≢◌ (map (λ word. word.name) words) → (schema bytes : List ℕ) (fault other : TextFault) → IsFirstFault form words schema bytes fault
         → IsFirstFault form words schema bytes other → fault ≡ other
     one_fault grammar form words apart schema bytes fault other (inl h) (inl g) = grammar bytes fault other h g
     one_fault grammar form words apart schema bytes fault other (inl h) (inr (tree, t, g)) = absurd (clean bytes tree fault t h)

@@ -7,3 +7,5 @@ pub mod HeadLemmas
 pub mod ReadLemmas
 pub mod OneLemmas
 pub mod ExactLemmas
+pub mod RuleLemmas
+pub mod RuleExact

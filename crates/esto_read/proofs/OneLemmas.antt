@@ -187,12 +187,12 @@ module _ (words : List Word) (apart : AllPairs ◌≢◌ (map (λ word. word.nam
   item_one (Pattern name es) before after after' own own' h g g' = absurd g
 
   pub items_one : (before : List Name) (items : List ItemTree) (atoms atoms' : List (Fact Term)) (after after' : List Name) → Apart before → AreItems words schema bytes before items atoms after
-      → AreItems words schema bytes before items atoms' after' → (atoms ≡ atoms') × (after ≡ after')
-  items_one before [] atoms atoms' after after' h (e, p) (e', p') = (e ∙ sym e', p ∙ sym p')
+      → AreItems words schema bytes before items atoms' after' → (atoms ≡ atoms') × (after ≡ after') × Apart after
+  items_one before [] atoms atoms' after after' h (e, p) (e', p') = (e ∙ sym e', p ∙ sym p', apart_same before after p h)
   items_one before (item ∷ items) atoms atoms' after after' h (own, rest, between, e, g, more) (own', rest', between', e', g', more') =
       let first = item_one item before between between' own own' h g g' in
       let later = items_one between items rest rest' after after' first.2 more (subst (λ (l : List Name). AreItems words schema bytes l items rest' after') (sym first.1) more') in
-      (e ∙ ap (λ (l : List (Fact Term)). l ++ rest) first.0 ∙ ap (λ (l : List (Fact Term)). own' ++ l) later.0 ∙ sym e', later.1)
+      (e ∙ ap (λ (l : List (Fact Term)). l ++ rest) first.0 ∙ ap (λ (l : List (Fact Term)). own' ++ l) later.0 ∙ sym e', later.1, later.2)
 
 pub apart_none : Apart []
 apart_none i j name e f = absurd (omega (arith, slice_get_within [] i (Given name) e))

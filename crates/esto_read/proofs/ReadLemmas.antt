@@ -50,17 +50,17 @@ terms_length bytes before (t ∷ ts) (x ∷ xs) after (between, h, more) = let n
 plain_one : (m n : ℕ) → Plain m ≡ Plain n → m ≡ n
 plain_one m n e = let same : Term-F.Plain m ≡ Term-F.Plain n = sym (outs-Plain m) ∙ ap out-Term e ∙ outs-Plain n in cc
 
-const_no_plain : (s : List ℕ) (n : ℕ) → ¬ (Const s ≡ Plain n)
+pub const_no_plain : (s : List ℕ) (n : ℕ) → ¬ (Const s ≡ Plain n)
 const_no_plain s n e = let same : Term-F.Const s ≡ Term-F.Plain n = sym (outs-Const s) ∙ ap out-Term e ∙ outs-Plain n in cc
 
-const_one : (s t : List ℕ) → Const s ≡ Const t → s ≡ t
+pub const_one : (s t : List ℕ) → Const s ≡ Const t → s ≡ t
 const_one s t e = let same : Term-F.Const s ≡ Term-F.Const t = sym (outs-Const s) ∙ ap out-Term e ∙ outs-Const t in cc
 
 -- the term is a constant that is UTF-8, or a variable that is among so many
 abbrev pub Below : ℕ → Term → Type 0
 Below count x = IsFlat x × ((v : ℕ) → x ≡ Plain v → v < count) × ((s : List ℕ) → x ≡ Const s → IsUtf8 s)
 
-below_more : (m n : ℕ) (x : Term) → m ≤ n → Below m x → Below n x
+pub below_more : (m n : ℕ) (x : Term) → m ≤ n → Below m x → Below n x
 below_more m n x le h = (h.0, λ v e. omega (arith, h.1 v e), h.2)
 
 plain_below : (m n : ℕ) (x : Term) → x ≡ Plain m → m < n → Below n x
@@ -93,7 +93,7 @@ term_grows bytes u t h _ q before after x g = absurd g
 cons_cases : {X : Type 0} → (x y : X) (xs : List X) → Contains (x ∷ xs) y → (y ≡ x) ⊎ Contains xs y
 cons_cases x y xs h = elim (Contains-append_cases (x ∷ []) xs y h) [ inl k ↦ inl (only_item x y k) | inr k ↦ inr k ]
 
-abbrev AllGrow : List Name → List Name → List Term → Type 0
+abbrev pub AllGrow : List Name → List Name → List Term → Type 0
 AllGrow before after xs = (length before ≤ length after) × ((x : Term) → Contains xs x → Below (length after) x)
 
 no_item : {X : Type 0} → (y : X) → ¬ Contains [] y
@@ -114,14 +114,14 @@ module _ (bytes : List ℕ) (u : IsUtf8 bytes) where
 -- ---- bodies
 
 module _ (words : List Word) (schema bytes : List ℕ) (u : IsUtf8 bytes) where
-  abbrev ItemIn : ItemTree → Type 0
+  abbrev pub ItemIn : ItemTree → Type 0
   ItemIn item = EachOfItem (IsNameIn bytes) (IsFieldIn bytes) (IsTermIn bytes) item
 
   -- the atom is over the schema, and its terms are among so many variables
   abbrev pub Good : ℕ → Fact Term → Type 0
   Good count atom = (slice_get schema atom.relation ≡ Some (length atom.terms)) × ((x : Term) → Contains atom.terms x → Below count x)
 
-  abbrev AllGood : List Name → List Name → List (Fact Term) → Type 0
+  abbrev pub AllGood : List Name → List Name → List (Fact Term) → Type 0
   AllGood before after atoms = (length before ≤ length after) × ((atom : Fact Term) → Contains atoms atom → Good (length after) atom)
 
   item_good : (item : ItemTree) (before after : List Name) (atoms : List (Fact Term)) → ItemIn item → IsItemOf words schema bytes before item atoms after → AllGood before after atoms × (atoms ≢ [])
@@ -152,7 +152,7 @@ module _ (words : List Word) (schema bytes : List ℕ) (u : IsUtf8 bytes) where
         ],
       )
 
-  items_some : (before : List Name) (items : List ItemTree) (atoms : List (Fact Term)) (after : List Name) → AllByRecursion ItemIn items → AreItems words schema bytes before items atoms after → items ≢ [] → atoms ≢ []
+  pub items_some : (before : List Name) (items : List ItemTree) (atoms : List (Fact Term)) (after : List Name) → AllByRecursion ItemIn items → AreItems words schema bytes before items atoms after → items ≢ [] → atoms ≢ []
   items_some before [] atoms after in_text h ne = absurd (ne refl)
   items_some before (item ∷ items) atoms after in_text (own, rest, between, e, h, more) ne = go own e (item_good item before between own in_text.0 h).1
     where

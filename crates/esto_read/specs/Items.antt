@@ -71,7 +71,7 @@ abbrev pub IsItemError : List Word → List ℕ → List ℕ → ℕ → ItemTre
 IsItemError words schema bytes atoms item (Fault fault) = IsItemFault words schema bytes atoms item fault
 IsItemError words schema bytes atoms item OutOfMemory = Unit {0}
 
--- Why a body is not read: the first fault of its items, or want of memory.
+-- Why items are not read: the first fault of theirs, or want of memory.
 abbrev pub IsBodyError : List Word → List ℕ → List ℕ → List ItemTree → ReadError → Type 0
 IsBodyError words schema bytes items (Fault fault) = IsFirstItemFault words schema bytes 0 items fault
 IsBodyError words schema bytes items OutOfMemory = Unit {0}

@@ -3,3 +3,4 @@ pub mod Terms
 pub mod Items
 pub mod Heads
 pub mod Readings
+pub mod Constraints

@@ -18,7 +18,7 @@ use esto_term::List;
 use esto_text::{ItemSyntax, ReadError, TextFault, TextKind, Token};
 use std::alloc::Global;
 
-/// The greatest number of atoms of a body.
+/// The greatest number of atoms of a body, or of the head of a constraint.
 const MAX_ATOMS: usize = 64;
 
 /// The relation of a table of that name and so many columns, where so many atoms come before, or what is wrong.

@@ -57,7 +57,7 @@ fn has_term(terms: &[Term], term: &Term) -> bool
 }
 
 /// Whether one of the atoms mentions the term.
-fn mentions(body: &[Atom], term: &Term) -> bool
+pub fn mentions(body: &[Atom], term: &Term) -> bool
     ensures { IsTrue result ↔ Mentions body.now term.now }
 {
     'atoms: for atom in body {

@@ -151,7 +151,7 @@ pub fn read_view(
     read(alloc, bytes, words, schema, Form::View)
 }
 
-/// A law: a text has one reading and no fault, or one first fault and no reading.
+/// A law: a text has at most one reading and at most one first fault, and never both.
 pub fn readings_are_determined()
     ensures reading { HaveOneReading }
     ensures apart { HaveNoFault }

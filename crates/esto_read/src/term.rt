@@ -48,7 +48,12 @@ fn variable(alloc: Global, text: &[u8], names: &mut Names) -> Result<Term, OutOf
 }
 
 /// The term that a token is.
-fn term(alloc: Global, bytes: &[u8], token: Token, names: &mut Names) -> Result<Term, OutOfMemory>
+pub fn term(
+    alloc: Global,
+    bytes: &[u8],
+    token: Token,
+    names: &mut Names,
+) -> Result<Term, OutOfMemory>
     requires utf8 { IsUtf8 bytes.now }
     requires stands { IsTermIn bytes.now token }
     ensures { IfOk result (λ term. IsTermOf token.kind (text_of bytes.now token) names.old term names.new) }

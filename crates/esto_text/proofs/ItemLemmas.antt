@@ -69,7 +69,7 @@ module _ (tokens rest : List Token) (name : Token) (h : Named tokens name rest) 
 abbrev pub IsItemsOf : List ItemSyntax → List Token → Type 0
 IsItemsOf is ts = IsBody (map item_of is) ts
 
-body_cons : (i : ItemTree) (is : List ItemTree) (a : List Token) (c : Token) (ts : List Token) → IsItem i a → class_of c ≡ Comma → IsBody is ts → IsBody (i ∷ is) (a ++ c ∷ ts)
+pub body_cons : (i : ItemTree) (is : List ItemTree) (a : List Token) (c : Token) (ts : List Token) → IsItem i a → class_of c ≡ Comma → IsBody is ts → IsBody (i ∷ is) (a ++ c ∷ ts)
 body_cons i [] a c ts p q h = absurd h
 body_cons i (j ∷ js) a c ts p q (a', b', e, hg, hgs) = (a, c ∷ ts, refl, p, (c, a', b', ap (λ (l : List Token). c ∷ l) e, q, hg, hgs))
 

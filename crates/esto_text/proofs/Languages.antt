@@ -5,14 +5,14 @@ use Rattle.std.proofs.lemmas.List.{append-nil}
 use Rattle.std.proofs.lemmas.Bool.{ltb-true}
 use Rattle.esto_text.specs.declared.token.Token.{Token}
 use Rattle.esto_text.specs.declared.token.TokenKind.{TokenKind}
-use Rattle.esto_text.specs.declared.token.TokenKind.TheVariants.{Name, Wildcard, Quoted, LeftParen, RightParen, LeftBrace, RightBrace, LeftBracket, RightBracket, Comma, Dot, Colon, Turnstile, Stars}
+use Rattle.esto_text.specs.declared.token.TokenKind.TheVariants.{Name, Wildcard, Quoted, LeftParen, RightParen, LeftBrace, RightBrace, LeftBracket, RightBracket, Comma, Dot, Colon, Turnstile, Arrow, Equals, Stars}
 use Rattle.esto_text.specs.declared.tree.StepSyntax.{StepSyntax}
 use Rattle.esto_text.specs.declared.tree.StepSyntax.TheVariants.{Field, Item, Below}
-use Rattle.esto_text.specs.Trees.{EntryTree, Value, Nested, EntryTrees, NoEntry, AndEntry, ItemTree, Atom, Part, Pattern, QueryTree}
-use Rattle.esto_text.specs.Grammar.{class_of, step_at, is_term, IsName, IsTerm, IsNext, IsRowEnd, IsLater, IsPathEnd, IsPath, IsEntry, IsGroupEnd, IsGroup, IsItem, IsBodyEnd, IsQuery}
+use Rattle.esto_text.specs.Trees.{EntryTree, Value, Nested, EntryTrees, NoEntry, AndEntry, ItemTree, Atom, Part, Pattern, QueryTree, HeadTree, Items, Equality, ConstraintTree}
+use Rattle.esto_text.specs.Grammar.{class_of, step_at, is_term, IsName, IsTerm, IsNext, IsRowEnd, IsLater, IsPathEnd, IsPath, IsEntry, IsGroupEnd, IsGroup, IsItem, IsBodyEnd, IsQuery, IsHead, IsConstraint}
 use Rattle.esto_text.specs.Faults.{Leaves, StopsAt}
-use Rattle.esto_text.specs.Machine.{Symbol, AName, ATerm, ANext, AParen, ABracket, ATurnstile, MoreNames, MoreTerms, AnItem, ItemRest, MoreItems, AnEntry, PathRest, MoreEntries, start, step, is_done, advance, first_fault}
-use Rattle.esto_text.proofs.Runs.{after, query_runs}
+use Rattle.esto_text.specs.Machine.{Symbol, AName, ATerm, ANext, AParen, ABracket, ATurnstile, MoreNames, MoreTerms, AnItem, ItemRest, MoreItems, MoreBody, AHead, HeadRest, AnEntry, PathRest, MoreEntries, start, constraint_start, step, is_done, advance, first_fault}
+use Rattle.esto_text.proofs.Runs.{after, query_runs, constraint_runs}
 
 -- the texts of a symbol
 abbrev Lang : Symbol → List Token → Type 0
@@ -27,6 +27,9 @@ Lang MoreTerms ts = (ns : List Token) × IsRowEnd IsTerm ns ts
 Lang AnItem ts = (i : ItemTree) × IsItem i ts
 Lang ItemRest ts = (of : Token → ItemTree) × ((n : Token) → IsName n → IsItem (of n) (n ∷ ts))
 Lang MoreItems ts = (is : List ItemTree) × IsBodyEnd is ts
+Lang MoreBody ts = (is : List ItemTree) × (front : List Token) × (arrow : Token) × (ts ≡ front ++ arrow ∷ []) × IsBodyEnd is front × (class_of arrow ≡ Arrow)
+Lang AHead ts = (h : HeadTree) × IsHead h ts
+Lang HeadRest ts = (of : Token → HeadTree) × ((n : Token) → IsName n → IsHead (of n) (n ∷ ts))
 Lang (AnEntry n) ts = (f : EntryTree) × IsEntry n f ts
 Lang (PathRest n) ts = (of : List StepSyntax → EntryTree) × ((path : List StepSyntax) (front : List Token) → IsPath path front → IsEntry n (of path) (front ++ ts))
 Lang (MoreEntries n) ts = (fs : EntryTrees) × IsGroupEnd n fs ts
@@ -125,6 +128,41 @@ part_back t ws p (a0, b0, e0, (r, f0, p0), (a1, b1, e1, (c, f1, p1), last)) =
     let whole : ws ≡ r ∷ c ∷ b1 = e0 ∙ ap (λ (w : List Token). w ++ b0) f0 ∙ ap (λ (w : List Token). r ∷ w) (e1 ∙ ap (λ (w : List Token). w ++ b1) f1) in
     (λ n. Part n r (k.3.0 ∷ k.4.0), λ n name. (t, c, b1, ap (λ (w : List Token). n ∷ t ∷ w) whole, name, p, p0, p1, (k.1, k.2 ∙ ap (λ (w : List Token). w ++ k.1) k.3.1, k.3.2, k.4.1)))
 
+rest_back : (c : TokenKind) (t : Token) (new : List Symbol) (ws : List Token) → class_of t ≡ c → step ItemRest c ≡ Some new → Langs new ws → Lang ItemRest (t ∷ ws)
+rest_back LeftParen t new ws p e h =
+    let q : ATerm ∷ MoreTerms ∷ [] ≡ new = cc in
+    let r = two ATerm MoreTerms ws (subst (λ (l : List Symbol). Langs l ws) (sym q) h) in
+    (λ n. Atom n (r.3.0 ∷ r.4.0), λ n name. (t, ws, refl, name, p, (r.1, r.2 ∙ ap (λ (w : List Token). w ++ r.1) r.3.1, r.3.2, r.4.1)))
+rest_back Dot t new ws p e h =
+    let q : AName ∷ AParen ∷ ATerm ∷ MoreTerms ∷ [] ≡ new = cc in part_back t ws p (subst (λ (l : List Symbol). Langs l ws) (sym q) h)
+rest_back LeftBrace t new ws p e h =
+    let q : AnEntry 1 ∷ MoreEntries 1 ∷ [] ≡ new = cc in
+    let r = group_parts 1 ws (subst (λ (l : List Symbol). Langs l ws) (sym q) h) in
+    (λ n. Pattern n r.0, λ n name. (t, ws, refl, name, p, r.1))
+rest_back _ t new ws p e h = absurd cc
+
+-- ---- the rest of a constraint
+
+body_comma_back : (t : Token) (ws : List Token) → class_of t ≡ Comma → Langs (AnItem ∷ MoreBody ∷ []) ws → Lang MoreBody (t ∷ ws)
+body_comma_back t ws p h =
+    let k = two AnItem MoreBody ws h in
+    let (is, front, arrow, e, g, c) = k.4 in (
+      k.3.0 ∷ is,
+      t ∷ (k.0 ++ front),
+      arrow,
+      ap (λ (w : List Token). t ∷ w) (k.2 ∙ ap (λ (w : List Token). k.0 ++ w) e ∙ sym (append_assoc k.0 front (arrow ∷ []))),
+      (t, k.0, front, refl, p, k.3.1, g),
+      c,
+    )
+
+-- the rest of an item, and more items
+items_back : (c : TokenKind) (t : Token) (new : List Symbol) (ws : List Token) → class_of t ≡ c → step ItemRest c ≡ Some new → Langs (new ++ MoreItems ∷ []) ws → Lang HeadRest (t ∷ ws)
+items_back c t new ws p e h =
+    let k = langs_split new (MoreItems ∷ []) ws h in
+    let first = rest_back c t new k.0 p e k.3 in
+    let others = one MoreItems k.1 k.4 in
+    (λ n. Items (first.0 n ∷ others.0), λ n name. (n ∷ t ∷ k.0, k.1, ap (λ (w : List Token). n ∷ t ∷ w) k.2, first.1 n name, others.1))
+
 step_back : (x : Symbol) (c : TokenKind) (t : Token) (new : List Symbol) (ws : List Token) → class_of t ≡ c → step x c ≡ Some new → Langs new ws → Lang x (t ∷ ws)
 step_back AName Name t new ws p e h = let q : [] ≡ new = cc in (t, ap (λ (l : List Token). t ∷ l) (subst (λ (l : List Symbol). Langs l ws) (sym q) h), p)
 step_back AParen LeftParen t new ws p e h = let q : [] ≡ new = cc in (t, ap (λ (l : List Token). t ∷ l) (subst (λ (l : List Symbol). Langs l ws) (sym q) h), p)
@@ -143,20 +181,28 @@ step_back MoreTerms RightParen t new ws p e h = let q : [] ≡ new = cc in ([], 
 step_back AnItem Name t new ws p e h =
     let q : ItemRest ∷ [] ≡ new = cc in
     let r = one ItemRest ws (subst (λ (l : List Symbol). Langs l ws) (sym q) h) in (r.0 t, r.1 t p)
-step_back ItemRest LeftParen t new ws p e h =
-    let q : ATerm ∷ MoreTerms ∷ [] ≡ new = cc in
-    let r = two ATerm MoreTerms ws (subst (λ (l : List Symbol). Langs l ws) (sym q) h) in
-    (λ n. Atom n (r.3.0 ∷ r.4.0), λ n name. (t, ws, refl, name, p, (r.1, r.2 ∙ ap (λ (w : List Token). w ++ r.1) r.3.1, r.3.2, r.4.1)))
-step_back ItemRest Dot t new ws p e h =
-    let q : AName ∷ AParen ∷ ATerm ∷ MoreTerms ∷ [] ≡ new = cc in part_back t ws p (subst (λ (l : List Symbol). Langs l ws) (sym q) h)
-step_back ItemRest LeftBrace t new ws p e h =
-    let q : AnEntry 1 ∷ MoreEntries 1 ∷ [] ≡ new = cc in
-    let r = group_parts 1 ws (subst (λ (l : List Symbol). Langs l ws) (sym q) h) in
-    (λ n. Pattern n r.0, λ n name. (t, ws, refl, name, p, r.1))
+step_back ItemRest c t new ws p e h = rest_back c t new ws p e h
 step_back MoreItems Comma t new ws p e h =
     let q : AnItem ∷ MoreItems ∷ [] ≡ new = cc in
     let r = two AnItem MoreItems ws (subst (λ (l : List Symbol). Langs l ws) (sym q) h) in
     (r.3.0 ∷ r.4.0, (t, r.0, r.1, ap (λ (w : List Token). t ∷ w) r.2, p, r.3.1, r.4.1))
+step_back MoreBody Comma t new ws p e h =
+    let q : AnItem ∷ MoreBody ∷ [] ≡ new = cc in body_comma_back t ws p (subst (λ (l : List Symbol). Langs l ws) (sym q) h)
+step_back MoreBody Arrow t new ws p e h = let q : [] ≡ new = cc in ([], [], t, ap (λ (l : List Token). t ∷ l) (subst (λ (l : List Symbol). Langs l ws) (sym q) h), refl, p)
+step_back AHead Name t new ws p e h =
+    let q : HeadRest ∷ [] ≡ new = cc in
+    let r = one HeadRest ws (subst (λ (l : List Symbol). Langs l ws) (sym q) h) in (r.0 t, r.1 t p)
+step_back HeadRest Equals t new ws p e h =
+    let q : ATerm ∷ [] ≡ new = cc in
+    let r = one ATerm ws (subst (λ (l : List Symbol). Langs l ws) (sym q) h) in
+    (λ n. Equality n r.0, λ n name. (t, ap (λ (w : List Token). n ∷ t ∷ w) r.1, name, p, r.2))
+step_back HeadRest LeftParen t new ws p e h =
+    let q : ATerm ∷ MoreTerms ∷ MoreItems ∷ [] ≡ new = cc in items_back LeftParen t (ATerm ∷ MoreTerms ∷ []) ws p refl (subst (λ (l : List Symbol). Langs l ws) (sym q) h)
+step_back HeadRest Dot t new ws p e h =
+    let q : AName ∷ AParen ∷ ATerm ∷ MoreTerms ∷ MoreItems ∷ [] ≡ new = cc in
+    items_back Dot t (AName ∷ AParen ∷ ATerm ∷ MoreTerms ∷ []) ws p refl (subst (λ (l : List Symbol). Langs l ws) (sym q) h)
+step_back HeadRest LeftBrace t new ws p e h =
+    let q : AnEntry 1 ∷ MoreEntries 1 ∷ MoreItems ∷ [] ≡ new = cc in items_back LeftBrace t (AnEntry 1 ∷ MoreEntries 1 ∷ []) ws p refl (subst (λ (l : List Symbol). Langs l ws) (sym q) h)
 step_back (AnEntry n) Name t new ws p e h =
     let q : PathRest n ∷ [] ≡ new = cc in first_back n (Field t) t ws (ap (λ (k : TokenKind). step_at k t) p) (one (PathRest n) ws (subst (λ (l : List Symbol). Langs l ws) (sym q) h))
 step_back (AnEntry n) Quoted t new ws p e h =
@@ -210,6 +256,9 @@ least_rest = (
 least_end : (n : ℕ) → (ts : List Token) × Lang (PathRest n) ts
 least_end n = (a_token Colon ∷ a_token Wildcard ∷ [], (λ path. Value path (a_token Wildcard), λ path front h. (front, a_token Colon, refl, h, refl, refl)))
 
+least_side : (ts : List Token) × Lang HeadRest ts
+least_side = (a_token Equals ∷ a_token Wildcard ∷ [], (λ n. Equality n (a_token Wildcard), λ n name. (a_token Equals, refl, name, refl, refl)))
+
 least : (x : Symbol) → (ts : List Token) × Lang x ts
 least AName = (a_token Name ∷ [], (a_token Name, refl, refl))
 least ATerm = (a_token Wildcard ∷ [], (a_token Wildcard, refl, refl))
@@ -222,6 +271,9 @@ least ABracket = (a_token RightBracket ∷ [], (a_token RightBracket, refl, refl
 least ItemRest = least_rest
 least AnItem = (a_token Name ∷ least_rest.0, (least_rest.1.0 (a_token Name), least_rest.1.1 (a_token Name) refl))
 least MoreItems = ([], ([], refl))
+least MoreBody = (a_token Arrow ∷ [], ([], [], a_token Arrow, refl, refl, refl))
+least HeadRest = least_side
+least AHead = (a_token Name ∷ least_side.0, (least_side.1.0 (a_token Name), least_side.1.1 (a_token Name) refl))
 least (AnEntry n) = let r = least_end n in (a_token Name ∷ r.0, first_back n (Field (a_token Name)) (a_token Name) r.0 refl r.1)
 least (PathRest n) = least_end n
 least (MoreEntries n) = (a_token RightBrace ∷ [], (NoEntry, (a_token RightBrace, refl, refl)))
@@ -294,19 +346,41 @@ query_of ts (a0, b0, e0, (n, f0, p0), (a1, b1, e1, (paren, f1, p1), (a2, b2, e2,
       ),
     )
 
-pub fault_is : (ts rest : List Token) → first_fault start ts ≡ Some rest → StopsAt ts rest
-fault_is ts rest e =
-    let r = run_is ts rest start e in
-    let w = least_all r.then in
-    let q = query_of (r.front ++ w.0) (r.backward w.0 w.1) in
-    (r.front, r.split, (q.0, w.0, q.1), leaves rest r.then r.front r.forward r.stuck)
-  where
-    leaves : (rest : List Token) (then : List Symbol) (front : List Token) → ((ws : List Token) → first_fault start (front ++ ws) ≡ first_fault then ws) → IsStuck then rest → Leaves front rest
-    leaves [] then front forward stuck = λ q h.
-        let here : first_fault start (front ++ []) ≡ Some [] = forward [] ∙ ended then stuck in
-        let none : first_fault start (front ++ []) ≡ None = ap (first_fault start) (append-nil front) ∙ query_runs q front h in
-        absurd cc
-    leaves (t ∷ ts) then front forward stuck = λ (q, more, h).
-        let here : first_fault start (front ++ (t ∷ more)) ≡ Some (t ∷ more) = forward (t ∷ more) ∙ advanced then t more None stuck in
-        let none : first_fault start (front ++ (t ∷ more)) ≡ None = sym (ap (first_fault start) (append_assoc front (t ∷ []) more)) ∙ query_runs q ((front ++ t ∷ []) ++ more) h in
-        absurd cc
+constraint_of : (ts : List Token) → Langs constraint_start ts → (c : ConstraintTree) × IsConstraint c ts
+constraint_of ts (a0, b0, e0, (i, hi), (a1, b1, e1, (is, front, arrow, f, g, c), last)) =
+    let h = one AHead b1 last in (
+      record { body = i ∷ is; head = h.0 },
+      (
+        a0 ++ a1,
+        b1,
+        e0 ∙ ap (λ (w : List Token). a0 ++ w) e1 ∙ sym (append_assoc a0 a1 b1),
+        (a0 ++ front, arrow, ap (λ (w : List Token). a0 ++ w) f ∙ sym (append_assoc a0 front (arrow ∷ [])), (a0, front, refl, hi, g), c),
+        h.1,
+      ),
+    )
+
+-- the machine stops where the texts of its symbols do
+module _ {T : Type 0} (IsTree : T → List Token → Type 0) (whole : List Symbol) (tree : (ts : List Token) → Langs whole ts → (x : T) × IsTree x ts)
+    (runs : (x : T) (ts : List Token) → IsTree x ts → first_fault whole ts ≡ None) where
+  leaves : (rest : List Token) (then : List Symbol) (front : List Token) → ((ws : List Token) → first_fault whole (front ++ ws) ≡ first_fault then ws) → IsStuck then rest → Leaves IsTree front rest
+  leaves [] then front forward stuck = λ x h.
+      let here : first_fault whole (front ++ []) ≡ Some [] = forward [] ∙ ended then stuck in
+      let none : first_fault whole (front ++ []) ≡ None = ap (first_fault whole) (append-nil front) ∙ runs x front h in
+      absurd cc
+  leaves (t ∷ ts) then front forward stuck = λ (x, more, h).
+      let here : first_fault whole (front ++ (t ∷ more)) ≡ Some (t ∷ more) = forward (t ∷ more) ∙ advanced then t more None stuck in
+      let none : first_fault whole (front ++ (t ∷ more)) ≡ None = sym (ap (first_fault whole) (append_assoc front (t ∷ []) more)) ∙ runs x ((front ++ t ∷ []) ++ more) h in
+      absurd cc
+
+  stops_at : (ts rest : List Token) → first_fault whole ts ≡ Some rest → StopsAt IsTree ts rest
+  stops_at ts rest e =
+      let r = run_is ts rest whole e in
+      let w = least_all r.then in
+      let x = tree (r.front ++ w.0) (r.backward w.0 w.1) in
+      (r.front, r.split, (x.0, w.0, x.1), leaves rest r.then r.front r.forward r.stuck)
+
+pub fault_is : (ts rest : List Token) → first_fault start ts ≡ Some rest → StopsAt IsQuery ts rest
+fault_is = stops_at IsQuery start query_of query_runs
+
+pub constraint_fault_is : (ts rest : List Token) → first_fault constraint_start ts ≡ Some rest → StopsAt IsConstraint ts rest
+constraint_fault_is = stops_at IsConstraint constraint_start constraint_of constraint_runs

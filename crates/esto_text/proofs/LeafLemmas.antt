@@ -8,11 +8,11 @@ use Rattle.esto_text.specs.declared.token.TokenKind.{TokenKind}
 use Rattle.esto_text.specs.declared.token.TokenKind.TheVariants.{Name, Quoted, Stars, Stray}
 use Rattle.esto_text.specs.declared.tree.StepSyntax.{StepSyntax}
 use Rattle.esto_text.specs.declared.tree.StepSyntax.TheVariants.{Field, Item, Below}
-use Rattle.esto_text.specs.Grammar.{fitting, class_of, is_term, step_at, IsName, IsTerm, IsRowEnd, IsRow, IsFirst, IsLater, IsPathEnd, IsPath, IsEntry, IsGroupEnd, IsGroup, IsItem, IsBodyEnd, IsBody, IsQuery}
-use Rattle.esto_text.specs.Faults.{IsNameIn, IsFieldIn, IsTermIn, StandsAt}
+use Rattle.esto_text.specs.Grammar.{fitting, class_of, is_term, step_at, IsName, IsTerm, IsRowEnd, IsRow, IsFirst, IsLater, IsPathEnd, IsPath, IsEntry, IsGroupEnd, IsGroup, IsItem, IsBodyEnd, IsBody, IsQuery, IsHead, IsConstraint}
+use Rattle.esto_text.specs.Faults.{IsNameIn, IsFieldIn, IsTermIn, StandsAt, ConstraintStandsAt}
 use Rattle.esto_text.specs.Limits.{is_close, is_name, in_room, limited_row, limited}
 use Rattle.esto_text.specs.Tokens.{IsToken, Places, Covers, text_of, StandsIn}
-use Rattle.esto_text.specs.Trees.{EntryTree, Value, Nested, EntryTrees, NoEntry, AndEntry, ItemTree, Atom, Part, Pattern, QueryTree, EachOfPath, EachOfEntry, EachOfEntries, EachOfItem, EachOfQuery}
+use Rattle.esto_text.specs.Trees.{EntryTree, Value, Nested, EntryTrees, NoEntry, AndEntry, ItemTree, Atom, Part, Pattern, QueryTree, HeadTree, Items, Equality, ConstraintTree, EachOfPath, EachOfEntry, EachOfEntries, EachOfItem, EachOfQuery, EachOfHead, EachOfConstraint}
 
 -- ---- from the tokens to the tree
 
@@ -120,6 +120,16 @@ module _ (P N F T : Token → Type 0) (name_leaf : (t : Token) → P t → IsNam
       let behind = here.1.1 in
       (name_leaf q.name here.0 n, row_each IsName N name_leaf q.variables head h (front_of head (turnstile ∷ body) behind), body_each q.items body b (back_of head (turnstile ∷ body) behind).1)
 
+  head_each : (h : HeadTree) (ts : List Token) → IsHead h ts → Every ts → EachOfHead N F T h
+  head_each (Items items) ts h all = body_each items ts h all
+  head_each (Equality left right) ts (sign, e, n, c, t) all = let here = subst Every e all in (name_leaf left here.0 n, term_leaf right here.1.1.0 t)
+
+  pub constraint_each : (c : ConstraintTree) (ts : List Token) → IsConstraint c ts → Every ts → EachOfConstraint N F T c
+  constraint_each c ts (body, head, e, (front, arrow, f, b, q), h) all =
+      let here = subst Every e all in
+      let before = subst Every f (front_of body head here) in
+      (body_each c.body front b (front_of front (arrow ∷ []) before), head_each c.head head h (back_of body head here))
+
 -- ---- tokens stand in the text
 
 module _ (bytes : List ℕ) where
@@ -150,6 +160,10 @@ module _ (bytes : List ℕ) where
   abbrev StandsOrNot : Token → Type 0
   StandsOrNot t = (class_of t ≡ Stray) ⊎ StandsIn bytes t
 
+  all_stand : (ts : List Token) → AllByRecursion (StandsIn bytes) ts → AllByRecursion StandsOrNot ts
+  all_stand [] h = tt
+  all_stand (t ∷ ts) h = (inr h.0, all_stand ts h.1)
+
   row_stands : (room : ℕ) (ts : List Token) → AllByRecursion (StandsIn bytes) ts → AllByRecursion StandsOrNot (limited_row room ts)
   row_stands room [] h = tt
   row_stands room (t ∷ ts) h = go (is_close (class_of t)) (is_name (class_of t)) (row_stands room ts h.1) (row_stands (room - 1) ts h.1)
@@ -158,13 +172,9 @@ module _ (bytes : List ℕ) where
       here zero = inl refl
       here (suc r) = inr h.0
 
-      rest : (us : List Token) → AllByRecursion (StandsIn bytes) us → AllByRecursion StandsOrNot us
-      rest [] g = tt
-      rest (u ∷ us) g = (inr g.0, rest us g.1)
-
       go : (b c : Bool) → AllByRecursion StandsOrNot (limited_row room ts) → AllByRecursion StandsOrNot (limited_row (room - 1) ts)
           → AllByRecursion StandsOrNot (cond b (t ∷ ts) (cond c (in_room room t ∷ limited_row (room - 1) ts) (t ∷ limited_row room ts)))
-      go true c p q = (inr h.0, rest ts h.1)
+      go true c p q = (inr h.0, all_stand ts h.1)
       go false true p q = (here room, q)
       go false false p q = (inr h.0, p)
 
@@ -202,3 +212,7 @@ module _ (bytes : List ℕ) where
   pub tree_stands : (ts : List Token) (q : QueryTree) → Covers 0 bytes ts → IsQuery q (limited ts) → StandsAt bytes q
   tree_stands ts q h g =
       query_each StandsOrNot (IsNameIn bytes) (IsFieldIn bytes) (IsTermIn bytes) name_in field_in term_in q (limited ts) g (limited_stands ts (stand_all 0 ts (omega arith) h))
+
+  pub constraint_stands : (ts : List Token) (c : ConstraintTree) → Covers 0 bytes ts → IsConstraint c ts → ConstraintStandsAt bytes c
+  constraint_stands ts c h g =
+      constraint_each StandsOrNot (IsNameIn bytes) (IsFieldIn bytes) (IsTermIn bytes) name_in field_in term_in c ts g (all_stand ts (stand_all 0 ts (omega arith) h))

@@ -9,5 +9,6 @@ pub mod PathLemmas
 pub mod GroupLemmas
 pub mod HeadLemmas
 pub mod ItemLemmas
+pub mod RuleLemmas
 pub mod LeafLemmas
 pub mod SyntaxLemmas

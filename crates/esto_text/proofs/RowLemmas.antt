@@ -6,9 +6,9 @@ use Rattle.esto_text.specs.declared.stop.Stop.{Stop}
 use Rattle.esto_text.specs.declared.stop.Stop.TheVariants.{Syntax, OutOfMemory}
 use Rattle.esto_text.specs.declared.token.Token.{Token}
 use Rattle.esto_text.specs.declared.token.TokenKind.{TokenKind}
-use Rattle.esto_text.specs.declared.token.TokenKind.TheVariants.{Name, Quoted, LeftParen, RightParen, LeftBrace, RightBrace, LeftBracket, RightBracket, Comma, Dot, Colon, Turnstile, Stars}
+use Rattle.esto_text.specs.declared.token.TokenKind.TheVariants.{Name, Quoted, LeftParen, RightParen, LeftBrace, RightBrace, LeftBracket, RightBracket, Comma, Dot, Colon, Turnstile, Arrow, Stars}
 use Rattle.esto_text.specs.Grammar.{class_of, step_at, is_term, IsName, IsTerm, IsRow}
-use Rattle.esto_text.specs.Machine.{Symbol, AName, ATerm, ANext, AParen, ABracket, ATurnstile, MoreNames, MoreTerms, MoreItems, AnEntry, PathRest, MoreEntries, step, is_done, class_at, first_fault, FaultLeaves, FailsAt, Fails, Takes}
+use Rattle.esto_text.specs.Machine.{Symbol, AName, ATerm, ANext, AParen, ABracket, ATurnstile, MoreNames, MoreTerms, MoreItems, MoreBody, AnEntry, PathRest, MoreEntries, step, is_done, class_at, first_fault, FaultLeaves, FailsAt, Fails, Takes}
 use Rattle.esto_text.proofs.Runs.{after, put, seen, term_seen}
 
 -- ---- failures
@@ -85,6 +85,11 @@ not_more_terms _ h g = refl
 pub not_more_items : (c : TokenKind) → c ≢ Comma → step MoreItems c ≡ None
 not_more_items Comma h = absurd (h refl)
 not_more_items _ h = refl
+
+pub not_more_body : (c : TokenKind) → c ≢ Comma → c ≢ Arrow → step MoreBody c ≡ None
+not_more_body Comma h g = absurd (h refl)
+not_more_body Arrow h g = absurd (g refl)
+not_more_body _ h g = refl
 
 pub not_more_entries : (n : ℕ) (c : TokenKind) → c ≢ Comma → c ≢ RightBrace → step (MoreEntries n) c ≡ None
 not_more_entries n Comma h g = absurd (h refl)

@@ -1,13 +1,14 @@
 -- What the grammar has, the machine goes through.
-use Rattle.std.proofs.Common.{◌≡◌, ℕ, suc, ◌<◌, inl, inr, Bool, cond, List, [], ◌∷◌, ◌++◌, Option, Some, None, refl, ap, ◌∙◌, append_assoc}
+use Rattle.std.proofs.Common.{◌≡◌, ◌≢◌, ℕ, suc, ◌<◌, inl, inr, Bool, cond, List, [], ◌∷◌, ◌++◌, Option, Some, None, refl, sym, ap, ◌∙◌, append_assoc}
+use Rattle.std.proofs.lemmas.List.{append-nil}
 use Rattle.std.proofs.lemmas.Bool.{lt-ltb}
 use Rattle.esto_text.specs.declared.token.Token.{Token}
 use Rattle.esto_text.specs.declared.token.TokenKind.{TokenKind}
-use Rattle.esto_text.specs.declared.token.TokenKind.TheVariants.{Name, Quoted, LeftParen, RightParen, LeftBrace, RightBrace, LeftBracket, RightBracket, Comma, Dot, Colon, Turnstile, Stars}
+use Rattle.esto_text.specs.declared.token.TokenKind.TheVariants.{Name, Quoted, LeftParen, RightParen, LeftBrace, RightBrace, LeftBracket, RightBracket, Comma, Dot, Colon, Turnstile, Arrow, Equals, Stars}
 use Rattle.esto_text.specs.declared.tree.StepSyntax.{StepSyntax}
-use Rattle.esto_text.specs.Trees.{EntryTree, Value, Nested, EntryTrees, NoEntry, AndEntry, ItemTree, Atom, Part, Pattern, QueryTree}
-use Rattle.esto_text.specs.Grammar.{class_of, step_at, IsName, IsTerm, IsRowEnd, IsRow, IsFirst, IsLater, IsPathEnd, IsPath, IsEntry, IsGroupEnd, IsGroup, IsItem, IsBodyEnd, IsBody, IsQuery}
-use Rattle.esto_text.specs.Machine.{Symbol, AName, ATerm, ANext, AParen, ABracket, MoreNames, MoreTerms, AnItem, ItemRest, MoreItems, AnEntry, PathRest, MoreEntries, after_head, start, advance, first_fault}
+use Rattle.esto_text.specs.Trees.{EntryTree, Value, Nested, EntryTrees, NoEntry, AndEntry, ItemTree, Atom, Part, Pattern, QueryTree, HeadTree, Items, Equality, ConstraintTree}
+use Rattle.esto_text.specs.Grammar.{class_of, step_at, IsName, IsTerm, IsRowEnd, IsRow, IsFirst, IsLater, IsPathEnd, IsPath, IsEntry, IsGroupEnd, IsGroup, IsItem, IsBodyEnd, IsBody, IsQuery, IsRuleBody, IsHead, IsConstraint}
+use Rattle.esto_text.specs.Machine.{Symbol, AName, ATerm, ANext, AParen, ABracket, MoreNames, MoreTerms, AnItem, ItemRest, MoreItems, MoreBody, AHead, HeadRest, AnEntry, PathRest, MoreEntries, after_head, start, constraint_start, step, class_at, advance, first_fault}
 
 -- ---- one token
 
@@ -108,15 +109,61 @@ item_runs (Part name part terms) ts s ws (dot, paren, more, e, p, q, r, t, h) =
 item_runs (Pattern name entries) ts s ws (brace, more, e, p, q, r) =
     rw e (seen (AnItem ∷ s) name (brace ∷ (more ++ ws)) Name p ∙ seen (ItemRest ∷ s) brace (more ++ ws) LeftBrace q ∙ group_runs entries 1 more s ws r)
 
-pub body_end_runs : (is : List ItemTree) (ts : List Token) → IsBodyEnd is ts → first_fault (MoreItems ∷ []) ts ≡ None
-body_end_runs [] ts e = rw e refl
-body_end_runs (i ∷ is) ts (comma, a, b, e, c, ha, hb) = rw e (seen (MoreItems ∷ []) comma (a ++ b) Comma c ∙ item_runs i a (MoreItems ∷ []) b ha ∙ body_end_runs is b hb)
+-- items, and then whatever the symbol that takes a comma and one more item takes beside it
+module _ (x : Symbol) (goes : step x Comma ≡ Some (AnItem ∷ x ∷ [])) where
+  items_end_runs : (is : List ItemTree) (ts : List Token) (s : List Symbol) (ws : List Token) → IsBodyEnd is ts → first_fault (x ∷ s) (ts ++ ws) ≡ first_fault (x ∷ s) ws
+  items_end_runs [] ts s ws e = rw e refl
+  items_end_runs (i ∷ is) ts s ws (comma, a, b, e, c, ha, hb) =
+      rw (e, append_assoc a b ws) (seen (x ∷ s) comma (a ++ (b ++ ws)) Comma c ∙ ap (λ (o : Option (List Symbol)). after (put o s) comma (a ++ (b ++ ws))) goes
+      ∙ item_runs i a (x ∷ s) (b ++ ws) ha ∙ items_end_runs is b s ws hb)
+
+  pub items_runs : (is : List ItemTree) (ts : List Token) (s : List Symbol) (ws : List Token) → IsBody is ts → first_fault (AnItem ∷ x ∷ s) (ts ++ ws) ≡ first_fault (x ∷ s) ws
+  items_runs [] ts s ws h = absurd h
+  items_runs (i ∷ is) ts s ws (a, b, e, ha, hb) = rw (e, append_assoc a b ws) (item_runs i a (x ∷ s) (b ++ ws) ha ∙ items_end_runs is b s ws hb)
 
 pub body_runs : (is : List ItemTree) (ts : List Token) → IsBody is ts → first_fault (AnItem ∷ MoreItems ∷ []) ts ≡ None
-body_runs [] ts h = absurd h
-body_runs (i ∷ is) ts (a, b, e, ha, hb) = rw e (item_runs i a (MoreItems ∷ []) b ha ∙ body_end_runs is b hb)
+body_runs is ts h = ap (first_fault (AnItem ∷ MoreItems ∷ [])) (sym (append-nil ts)) ∙ items_runs MoreItems refl is ts [] [] h
 
 pub query_runs : (q : QueryTree) (ts : List Token) → IsQuery q ts → first_fault start ts ≡ None
 query_runs q ts (paren, head, turnstile, body, e, n, p, h, t, b) =
     rw e (seen start q.name (paren ∷ (head ++ turnstile ∷ body)) Name n ∙ seen (AParen ∷ AName ∷ MoreNames ∷ after_head) paren (head ++ turnstile ∷ body) LeftParen p
     ∙ names_runs q.variables head after_head (turnstile ∷ body) h ∙ seen after_head turnstile body Turnstile t ∙ body_runs q.items body b)
+
+-- ---- constraints
+
+pub rule_body_runs : (is : List ItemTree) (ts : List Token) (s : List Symbol) (ws : List Token) → IsRuleBody is ts → first_fault (AnItem ∷ MoreBody ∷ s) (ts ++ ws) ≡ first_fault s ws
+rule_body_runs is ts s ws (front, arrow, e, h, c) =
+    rw (e, append_assoc front (arrow ∷ []) ws) (items_runs MoreBody refl is front s (arrow ∷ ws) h ∙ seen (MoreBody ∷ s) arrow ws Arrow c)
+
+-- a head whose name has no `=` behind it is read as items
+rest_same : (c : TokenKind) → c ≢ Equals → advance (HeadRest ∷ []) c ≡ advance (ItemRest ∷ MoreItems ∷ []) c
+rest_same Equals h = absurd (h refl)
+rest_same LeftParen h = refl
+rest_same Dot h = refl
+rest_same LeftBrace h = refl
+rest_same _ h = refl
+
+side_rest_runs : (rest : List Token) → class_at rest ≢ Equals → first_fault (HeadRest ∷ []) rest ≡ first_fault (ItemRest ∷ MoreItems ∷ []) rest
+side_rest_runs [] h = refl
+side_rest_runs (t ∷ ts) h = ap (λ (o : Option (List Symbol)). after o t ts) (rest_same (class_of t) h)
+
+pub side_runs : (name : Token) (rest : List Token) → IsName name → class_at rest ≢ Equals → first_fault (AHead ∷ []) (name ∷ rest) ≡ first_fault (AnItem ∷ MoreItems ∷ []) (name ∷ rest)
+side_runs name rest n h = seen (AHead ∷ []) name rest Name n ∙ side_rest_runs rest h ∙ sym (seen (AnItem ∷ MoreItems ∷ []) name rest Name n)
+
+-- an item begins with a name that has no `=` behind it
+pub item_begins : (i : ItemTree) (a b : List Token) → IsItem i a → (name : Token) × (rest : List Token) × (a ++ b ≡ name ∷ rest) × IsName name × (class_at rest ≢ Equals)
+item_begins (Atom name terms) a b (paren, more, e, p, q, r) = (name, paren ∷ (more ++ b), ap (λ (l : List Token). l ++ b) e, p, λ z. cc)
+item_begins (Part name part terms) a b (dot, paren, more, e, p, q, r, t, h) = (name, dot ∷ part ∷ paren ∷ (more ++ b), ap (λ (l : List Token). l ++ b) e, p, λ z. cc)
+item_begins (Pattern name entries) a b (brace, more, e, p, q, r) = (name, brace ∷ (more ++ b), ap (λ (l : List Token). l ++ b) e, p, λ z. cc)
+
+head_runs : (h : HeadTree) (ts : List Token) → IsHead h ts → first_fault (AHead ∷ []) ts ≡ None
+head_runs (Items []) ts h = absurd h
+head_runs (Items (i ∷ is)) ts (a, b, e, ha, hb) =
+    let n = item_begins i a b ha in
+    let whole : ts ≡ n.0 ∷ n.1 = e ∙ n.2 in
+    ap (first_fault (AHead ∷ [])) whole ∙ side_runs n.0 n.1 n.3 n.4 ∙ ap (first_fault (AnItem ∷ MoreItems ∷ [])) (sym whole) ∙ body_runs (i ∷ is) ts (a, b, e, ha, hb)
+head_runs (Equality left right) ts (sign, e, n, c, t) =
+    rw e (seen (AHead ∷ []) left (sign ∷ right ∷ []) Name n ∙ seen (HeadRest ∷ []) sign (right ∷ []) Equals c ∙ term_seen [] right [] t)
+
+pub constraint_runs : (c : ConstraintTree) (ts : List Token) → IsConstraint c ts → first_fault constraint_start ts ≡ None
+constraint_runs c ts (body, head, e, b, h) = ap (first_fault constraint_start) e ∙ rule_body_runs c.body body (AHead ∷ []) head b ∙ head_runs c.head head h

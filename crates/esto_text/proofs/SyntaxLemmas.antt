@@ -1,21 +1,18 @@
 -- Whole texts: the place of a fault, and what a text has as its tree.
-use Rattle.std.proofs.Common.{inl, ◌≡◌, ℕ, zero, suc, ◌+◌, ◌-◌, ◌≤◌, Bool, true, false, cond, inr, List, [], ◌∷◌, ◌++◌, length, drop, refl, sym, ap, subst, ◌∙◌, append_assoc, arith}
+use Rattle.std.proofs.Common.{inl, ◌≡◌, ℕ, zero, suc, ◌+◌, ◌-◌, ◌≤◌, Bool, true, false, cond, inr, List, [], ◌∷◌, ◌++◌, length, drop, Some, refl, sym, ap, subst, ◌∙◌, append_assoc, arith}
 use Rattle.std.specs.Prelude.{map}
 use Rattle.std.proofs.lemmas.List.{append-nil, length-append, map-append, drop-map}
 use Rattle.std.proofs.Math.Seq.{drop-append_seam}
 use Rattle.esto_text.specs.declared.fault.TextKind.TheVariants as kind
 use Rattle.esto_text.specs.declared.stop.Stop.TheVariants.{Syntax}
 use Rattle.esto_text.specs.declared.token.Token.{Token}
-use Rattle.esto_text.specs.Faults.{IsViable, Leaves, place_of, IsQueryText, IsGrammarFault}
-use Rattle.esto_text.specs.Grammar.{class_of, IsQuery}
+use Rattle.esto_text.specs.Faults.{IsViable, Leaves, StopsAt, place_of, IsTextOf, IsFaultOf, IsOnlyTree, IsGrammarFault, IsConstraintGrammarFault, HaveOneTree, HaveNoFault, HaveOneFault}
+use Rattle.esto_text.specs.Grammar.{class_of, IsQuery, IsConstraint}
 use Rattle.esto_text.specs.Limits.{is_close, is_name, in_room, limited_row, limited}
-use Rattle.esto_text.specs.Machine.{start, FailsAt}
+use Rattle.esto_text.specs.Machine.{Symbol, start, constraint_start, first_fault, FailsAt}
 use Rattle.esto_text.specs.Tokens.{AreTokens}
-use Rattle.esto_text.specs.Trees.{QueryTree}
-use Rattle.esto_text.proofs.Languages.{fault_is}
-use Rattle.esto_text.specs.declared.fault.TextFault.{TextFault}
+use Rattle.esto_text.proofs.Languages.{fault_is, constraint_fault_is}
 use Rattle.esto_text.proofs.Covering.{covers_unique}
-use Rattle.esto_text.proofs.Unique.{query_one}
 
 -- ---- places
 
@@ -53,82 +50,101 @@ length_starts : (ts : List Token) → length (starts ts) ≡ length ts
 length_starts [] = refl
 length_starts (t ∷ ts) = ap suc (length_starts ts)
 
-module _ (ts : List Token) (front rest : List Token) (e : limited ts ≡ front ++ rest) where
-  starts_split : starts ts ≡ starts front ++ starts rest
-  starts_split = sym (starts_limited ts) ∙ ap starts e ∙ map-append (λ t. t.start) front rest
+-- the tokens as a grammar sees them, each at its place
+module _ (marked : List Token → List Token) (kept : (ts : List Token) → starts (marked ts) ≡ starts ts) where
+  module _ (ts : List Token) (front rest : List Token) (e : marked ts ≡ front ++ rest) where
+    starts_split : starts ts ≡ starts front ++ starts rest
+    starts_split = sym (kept ts) ∙ ap starts e ∙ map-append (λ t. t.start) front rest
 
-  lengths : length ts ≡ length front + length rest
-  lengths = omega (arith, length_starts ts, ap length starts_split, length-append (starts front) (starts rest), length_starts front, length_starts rest)
+    lengths : length ts ≡ length front + length rest
+    lengths = omega (arith, length_starts ts, ap length starts_split, length-append (starts front) (starts rest), length_starts front, length_starts rest)
 
-  place_same : (n : ℕ) → place_of rest n ≡ place_of (drop (length ts - length rest) ts) n
-  place_same n =
-      let k : length ts - length rest ≡ length (starts front) = omega (arith, lengths, length_starts front) in
-      let d : starts (drop (length ts - length rest) ts) ≡ starts rest =
-      sym (drop-map (λ t. t.start) (length ts - length rest) ts) ∙ ap (λ (i : ℕ). drop i (starts ts)) k ∙ ap (drop (length (starts front))) starts_split ∙ drop-append_seam (starts front) (starts rest) in
-      place_is rest n ∙ ap (λ (l : List ℕ). place_by l n) (sym d) ∙ sym (place_is (drop (length ts - length rest) ts) n)
+    place_same : (n : ℕ) → place_of rest n ≡ place_of (drop (length ts - length rest) ts) n
+    place_same n =
+        let k : length ts - length rest ≡ length (starts front) = omega (arith, lengths, length_starts front) in
+        let d : starts (drop (length ts - length rest) ts) ≡ starts rest =
+        sym (drop-map (λ t. t.start) (length ts - length rest) ts) ∙ ap (λ (i : ℕ). drop i (starts ts)) k ∙ ap (drop (length (starts front))) starts_split ∙ drop-append_seam (starts front) (starts rest) in
+        place_is rest n ∙ ap (λ (l : List ℕ). place_by l n) (sym d) ∙ sym (place_is (drop (length ts - length rest) ts) n)
+
+  module _ {T : Type 0} (IsTree : T → List Token → Type 0) (whole : List Symbol) (stops : (ts rest : List Token) → first_fault whole ts ≡ Some rest → StopsAt IsTree ts rest) where
+    left_is : (ts : List Token) (left : ℕ) → FailsAt whole (marked ts) (Syntax left) → left ≤ length ts
+    left_is ts left (rest, e, n) = let f = stops (marked ts) rest e in omega (arith, n, lengths ts f.0 rest f.1)
+
+    fault_at : (bytes : List ℕ) (ts : List Token) (left offset : ℕ) → AreTokens bytes ts → FailsAt whole (marked ts) (Syntax left) → offset ≡ place_of (drop (length ts - left) ts) (length bytes)
+        → IsFaultOf IsTree marked bytes (record { offset = offset; kind = kind.Syntax })
+    fault_at bytes ts left offset h (rest, e, n) p =
+        let f = stops (marked ts) rest e in
+        let q : offset ≡ place_of rest (length bytes) = p ∙ ap (λ (i : ℕ). place_of (drop (length ts - i) ts) (length bytes)) n ∙ sym (place_same ts f.0 rest f.1 (length bytes)) in
+        inr (ts, rest, h, f, ap (λ (i : ℕ). record { offset = i; kind = kind.Syntax }) q)
 
 pub left_fits : (ts : List Token) (left : ℕ) → FailsAt start (limited ts) (Syntax left) → left ≤ length ts
-left_fits ts left (rest, e, n) = let f = fault_is (limited ts) rest e in omega (arith, n, lengths ts f.0 rest f.1)
+left_fits = left_is limited starts_limited IsQuery start fault_is
 
 pub syntax_fault : (bytes : List ℕ) (ts : List Token) (left offset : ℕ) → AreTokens bytes ts → FailsAt start (limited ts) (Syntax left) → offset ≡ place_of (drop (length ts - left) ts) (length bytes)
     → IsGrammarFault bytes (record { offset = offset; kind = kind.Syntax })
-syntax_fault bytes ts left offset h (rest, e, n) p =
-    let f = fault_is (limited ts) rest e in
-    let q : offset ≡ place_of rest (length bytes) = p ∙ ap (λ (i : ℕ). place_of (drop (length ts - i) ts) (length bytes)) n ∙ sym (place_same ts f.0 rest f.1 (length bytes)) in
-    inr (ts, rest, h, f, ap (λ (i : ℕ). record { offset = i; kind = kind.Syntax }) q)
+syntax_fault = fault_at limited starts_limited IsQuery start fault_is
 
--- ---- one tree
+pub constraint_left_fits : (ts : List Token) (left : ℕ) → FailsAt constraint_start ts (Syntax left) → left ≤ length ts
+constraint_left_fits = left_is (λ ts. ts) (λ ts. refl) IsConstraint constraint_start constraint_fault_is
 
-pub only_tree : (bytes : List ℕ) (ts : List Token) (q other : QueryTree) → ((us : List Token) → AreTokens bytes us → ts ≡ us) → IsQuery q (limited ts) → IsQueryText bytes other → q ≡ other
-only_tree bytes ts q other one h (us, tokens, g) = query_one q other (limited ts) h (subst (λ (l : List Token). IsQuery other (limited l)) (sym (one us tokens)) g)
+pub constraint_syntax_fault : (bytes : List ℕ) (ts : List Token) (left offset : ℕ) → AreTokens bytes ts → FailsAt constraint_start ts (Syntax left) → offset ≡ place_of (drop (length ts - left) ts) (length bytes)
+    → IsConstraintGrammarFault bytes (record { offset = offset; kind = kind.Syntax })
+constraint_syntax_fault = fault_at (λ ts. ts) (λ ts. refl) IsConstraint constraint_start constraint_fault_is
 
 -- ---- one tree, or one fault
 
 same_tokens : (bytes : List ℕ) (ts us : List Token) → AreTokens bytes ts → AreTokens bytes us → ts ≡ us
 same_tokens bytes ts us h g = covers_unique 0 bytes ts us h.1 g.1
 
-pub one_tree : (bytes : List ℕ) (q other : QueryTree) → IsQueryText bytes q → IsQueryText bytes other → q ≡ other
-one_tree bytes q other (ts, h, g) (us, h', g') = query_one q other (limited ts) g (subst (λ (l : List Token). IsQuery other (limited l)) (same_tokens bytes us ts h' h) g')
-
--- where the text leaves the grammar it is no text of it
-leaves_none : (q : QueryTree) (front rest : List Token) → Leaves front rest → ¬ IsQuery q (front ++ rest)
-leaves_none q front [] h g = h q (subst (IsQuery q) (append-nil front) g)
-leaves_none q front (t ∷ rest) h g = h (q, rest, subst (IsQuery q) (sym (append_assoc front (t ∷ []) rest)) g)
-
-pub no_fault : (bytes : List ℕ) (q : QueryTree) (fault : TextFault) → IsQueryText bytes q → ¬ IsGrammarFault bytes fault
-no_fault bytes q fault (ts, h, g) (inl (e, none)) = none h.0
-no_fault bytes q fault (ts, h, g) (inr (us, rest, h', (front, e, viable, leaves), p)) =
-    leaves_none q front rest leaves (subst (IsQuery q) (ap limited (same_tokens bytes ts us h h') ∙ e) g)
-
--- what begins a text that begins a text begins one
-viable_front : (pre : List Token) (x : Token) (front : List Token) → IsViable (pre ++ x ∷ front) → IsViable (pre ++ x ∷ [])
-viable_front pre x front (q, more, h) = (q, front ++ more, subst (IsQuery q) (append_assoc pre (x ∷ front) more ∙ sym (append_assoc pre (x ∷ []) (front ++ more))) h)
-
 along : (pre : List Token) (x : Token) (front : List Token) → pre ++ x ∷ front ≡ (pre ++ x ∷ []) ++ front
 along pre x front = sym (append_assoc pre (x ∷ []) front)
 
-not_sooner : (pre : List Token) (rest : List Token) (x : Token) (front rest' : List Token) → rest ≡ x ∷ (front ++ rest') → Leaves (pre ++ []) rest → ¬ IsViable (pre ++ x ∷ front)
-not_sooner pre [] x front rest' e leaves viable = absurd cc
-not_sooner pre (t ∷ rest) x front rest' e leaves viable =
-    let same : x ≡ t = cc in
-    leaves (subst (λ (l : List Token). IsViable (l ++ t ∷ [])) (sym (append-nil pre)) (subst (λ (y : Token). IsViable (pre ++ y ∷ [])) same (viable_front pre x front viable)))
+module _ {T : Type 0} (IsTree : T → List Token → Type 0) where
+  -- where the text leaves the grammar it is no text of it
+  leaves_none : (q : T) (front rest : List Token) → Leaves IsTree front rest → ¬ IsTree q (front ++ rest)
+  leaves_none q front [] h g = h q (subst (IsTree q) (append-nil front) g)
+  leaves_none q front (t ∷ rest) h g = h (q, rest, subst (IsTree q) (sym (append_assoc front (t ∷ []) rest)) g)
 
-one_stop : (pre front rest front' rest' : List Token) → front ++ rest ≡ front' ++ rest' → IsViable (pre ++ front) → Leaves (pre ++ front) rest → IsViable (pre ++ front') → Leaves (pre ++ front') rest' → rest ≡ rest'
-one_stop pre [] rest [] rest' e v l v' l' = e
-one_stop pre [] rest (x ∷ front') rest' e v l v' l' = absurd (not_sooner pre rest x front' rest' e l v')
-one_stop pre (x ∷ front) rest [] rest' e v l v' l' = absurd (not_sooner pre rest' x front rest (sym e) l' v)
-one_stop pre (x ∷ front) rest (y ∷ front') rest' e v l v' l' =
-    let same : x ≡ y = cc in
-    let more : front ++ rest ≡ front' ++ rest' = cc in
-    let whole : pre ++ y ∷ front' ≡ (pre ++ x ∷ []) ++ front' = ap (λ (z : Token). pre ++ z ∷ front') (sym same) ∙ along pre x front' in
-    one_stop (pre ++ x ∷ []) front rest front' rest' more (subst IsViable (along pre x front) v) (subst (λ (w : List Token). Leaves w rest) (along pre x front) l)
-    (subst IsViable whole v') (subst (λ (w : List Token). Leaves w rest') whole l')
+  -- what begins a text that begins a text begins one
+  viable_front : (pre : List Token) (x : Token) (front : List Token) → IsViable IsTree (pre ++ x ∷ front) → IsViable IsTree (pre ++ x ∷ [])
+  viable_front pre x front (q, more, h) = (q, front ++ more, subst (IsTree q) (append_assoc pre (x ∷ front) more ∙ sym (append_assoc pre (x ∷ []) (front ++ more))) h)
 
-pub one_fault : (bytes : List ℕ) (fault other : TextFault) → IsGrammarFault bytes fault → IsGrammarFault bytes other → fault ≡ other
-one_fault bytes fault other (inl (e, none)) (inl (e', none')) = e ∙ sym e'
-one_fault bytes fault other (inl (e, none)) (inr (us, rest, h, stop, p)) = absurd (none h.0)
-one_fault bytes fault other (inr (us, rest, h, stop, p)) (inl (e, none)) = absurd (none h.0)
-one_fault bytes fault other (inr (ts, rest, h, (front, e, v, l), p)) (inr (us, rest', h', (front', e', v', l'), p')) =
-    let whole : front ++ rest ≡ front' ++ rest' = sym e ∙ ap limited (same_tokens bytes ts us h h') ∙ e' in
-    let same : rest ≡ rest' = one_stop [] front rest front' rest' whole v l v' l' in
-    p ∙ ap (λ (r : List Token). record { offset = place_of r (length bytes); kind = kind.Syntax }) same ∙ sym p'
+  not_sooner : (pre : List Token) (rest : List Token) (x : Token) (front rest' : List Token) → rest ≡ x ∷ (front ++ rest') → Leaves IsTree (pre ++ []) rest → ¬ IsViable IsTree (pre ++ x ∷ front)
+  not_sooner pre [] x front rest' e leaves viable = absurd cc
+  not_sooner pre (t ∷ rest) x front rest' e leaves viable =
+      let same : x ≡ t = cc in
+      leaves (subst (λ (l : List Token). IsViable IsTree (l ++ t ∷ [])) (sym (append-nil pre)) (subst (λ (y : Token). IsViable IsTree (pre ++ y ∷ [])) same (viable_front pre x front viable)))
+
+  one_stop : (pre front rest front' rest' : List Token) → front ++ rest ≡ front' ++ rest' → IsViable IsTree (pre ++ front) → Leaves IsTree (pre ++ front) rest → IsViable IsTree (pre ++ front')
+      → Leaves IsTree (pre ++ front') rest' → rest ≡ rest'
+  one_stop pre [] rest [] rest' e v l v' l' = e
+  one_stop pre [] rest (x ∷ front') rest' e v l v' l' = absurd (not_sooner pre rest x front' rest' e l v')
+  one_stop pre (x ∷ front) rest [] rest' e v l v' l' = absurd (not_sooner pre rest' x front rest (sym e) l' v)
+  one_stop pre (x ∷ front) rest (y ∷ front') rest' e v l v' l' =
+      let same : x ≡ y = cc in
+      let more : front ++ rest ≡ front' ++ rest' = cc in
+      let whole : pre ++ y ∷ front' ≡ (pre ++ x ∷ []) ++ front' = ap (λ (z : Token). pre ++ z ∷ front') (sym same) ∙ along pre x front' in
+      one_stop (pre ++ x ∷ []) front rest front' rest' more (subst (IsViable IsTree) (along pre x front) v) (subst (λ (w : List Token). Leaves IsTree w rest) (along pre x front) l)
+      (subst (IsViable IsTree) whole v') (subst (λ (w : List Token). Leaves IsTree w rest') whole l')
+
+  module _ (marked : List Token → List Token) where
+    pub no_fault : HaveNoFault (IsTextOf IsTree marked) (IsFaultOf IsTree marked)
+    no_fault bytes q fault (ts, h, g) (inl (e, none)) = none h.0
+    no_fault bytes q fault (ts, h, g) (inr (us, rest, h', (front, e, viable, leaves), p)) =
+        leaves_none q front rest leaves (subst (IsTree q) (ap marked (same_tokens bytes ts us h h') ∙ e) g)
+
+    pub one_fault : HaveOneFault (IsFaultOf IsTree marked)
+    one_fault bytes fault other (inl (e, none)) (inl (e', none')) = e ∙ sym e'
+    one_fault bytes fault other (inl (e, none)) (inr (us, rest, h, stop, p)) = absurd (none h.0)
+    one_fault bytes fault other (inr (us, rest, h, stop, p)) (inl (e, none)) = absurd (none h.0)
+    one_fault bytes fault other (inr (ts, rest, h, (front, e, v, l), p)) (inr (us, rest', h', (front', e', v', l'), p')) =
+        let whole : front ++ rest ≡ front' ++ rest' = sym e ∙ ap marked (same_tokens bytes ts us h h') ∙ e' in
+        let same : rest ≡ rest' = one_stop [] front rest front' rest' whole v l v' l' in
+        p ∙ ap (λ (r : List Token). record { offset = place_of r (length bytes); kind = kind.Syntax }) same ∙ sym p'
+
+    module _ (one : (q q' : T) (ts : List Token) → IsTree q ts → IsTree q' ts → q ≡ q') where
+      pub only_tree : (bytes : List ℕ) (ts : List Token) (q : T) → ((us : List Token) → AreTokens bytes us → ts ≡ us) → IsTree q (marked ts) → IsOnlyTree (IsTextOf IsTree marked) bytes q
+      only_tree bytes ts q only h other (us, tokens, g) = one q other (marked ts) h (subst (λ (l : List Token). IsTree other (marked l)) (sym (only us tokens)) g)
+
+      pub one_tree : HaveOneTree (IsTextOf IsTree marked)
+      one_tree bytes q (ts, h, g) = only_tree bytes ts q (λ us tokens. same_tokens bytes ts us h tokens) g

@@ -1,12 +1,13 @@
 -- A text is one tree.
-use Rattle.std.proofs.Common.{◌≡◌, ℕ, suc, ◌⊎◌, inl, inr, Some, List, [], ◌∷◌, ◌++◌, refl, sym, ap, ◌∙◌, append_assoc}
+use Rattle.std.proofs.Common.{◌≡◌, ◌≢◌, ℕ, suc, ◌⊎◌, inl, inr, Some, List, [], ◌∷◌, ◌++◌, refl, sym, ap, ◌∙◌, append_assoc}
 use Rattle.esto_text.specs.declared.token.Token.{Token}
 use Rattle.esto_text.specs.declared.token.TokenKind.{TokenKind}
-use Rattle.esto_text.specs.declared.token.TokenKind.TheVariants.{Colon, LeftBrace, LeftBracket}
+use Rattle.esto_text.specs.declared.token.TokenKind.TheVariants.{Colon, LeftBrace, LeftBracket, Comma, Equals}
 use Rattle.esto_text.specs.declared.tree.StepSyntax.{StepSyntax}
-use Rattle.esto_text.specs.Trees.{EntryTree, Value, Nested, EntryTrees, NoEntry, AndEntry, ItemTree, Atom, Part, Pattern, QueryTree}
-use Rattle.esto_text.specs.Grammar.{class_of, step_at, IsName, IsTerm, IsNext, IsRowEnd, IsRow, IsFirst, IsLater, IsPathEnd, IsPath, IsEntry, IsGroupEnd, IsGroup, IsItem, IsBodyEnd, IsBody, IsQuery}
+use Rattle.esto_text.specs.Trees.{EntryTree, Value, Nested, EntryTrees, NoEntry, AndEntry, ItemTree, Atom, Part, Pattern, QueryTree, HeadTree, Items, Equality, ConstraintTree}
+use Rattle.esto_text.specs.Grammar.{class_of, step_at, IsName, IsTerm, IsNext, IsRowEnd, IsRow, IsFirst, IsLater, IsPathEnd, IsPath, IsEntry, IsGroupEnd, IsGroup, IsItem, IsBodyEnd, IsBody, IsQuery, IsHead, IsConstraint}
 use Rattle.esto_text.specs.Machine.{class_at}
+use Rattle.esto_text.proofs.Runs.{item_begins}
 
 -- the same of fronts that are known
 along : (a x a' y b b' : List Token) → a ++ x ≡ a' ++ y → a ≡ b → a' ≡ b' → b ++ x ≡ b' ++ y
@@ -165,22 +166,30 @@ item_one (Pattern m fs) ts (Pattern m' fs') ts' x y e (c, more, p, q, r, h) (c',
     let g : more ++ x ≡ more' ++ y = cc in
     let s = group_one fs 1 more fs' more' x y g h h' in let m-is : m ≡ m' = cc in (cc (s.0, m-is), s.1)
 
-body_end_one : (is : List ItemTree) (ts : List Token) (is' : List ItemTree) (ts' : List Token) → ts ≡ ts' → IsBodyEnd is ts → IsBodyEnd is' ts' → is ≡ is'
-body_end_one [] ts [] ts' e h h' = refl
-body_end_one [] ts (i' ∷ is') ts' e h (c', a', b', p', q', ha', hb') = absurd cc
-body_end_one (i ∷ is) ts [] ts' e (c, a, b, p, q, ha, hb) h' = absurd cc
-body_end_one (i ∷ is) ts (i' ∷ is') ts' e (c, a, b, p, q, ha, hb) (c', a', b', p', q', ha', hb') =
-    let k : c ∷ (a ++ b) ≡ c' ∷ (a' ++ b') = sym p ∙ e ∙ p' in
-    let g : a ++ b ≡ a' ++ b' = cc in
-    let s = item_one i a i' a' b b' g ha ha' in
-    let t = body_end_one is b is' b' s.1 hb hb' in cc (s.0, t)
+-- items, and what comes after them, which is no comma
+body_end_one : (is : List ItemTree) (ts : List Token) (is' : List ItemTree) (ts' x y : List Token) → ts ++ x ≡ ts' ++ y → class_at x ≢ Comma → class_at y ≢ Comma → IsBodyEnd is ts → IsBodyEnd is' ts'
+    → (is ≡ is') × (x ≡ y)
+body_end_one [] ts [] ts' x y e n n' h h' = (refl, along ts x ts' y [] [] e h h')
+body_end_one [] ts (i' ∷ is') ts' x y e n n' h (c', a', b', p', q', ha', hb') =
+    let f : x ≡ c' ∷ ((a' ++ b') ++ y) = along ts x ts' y [] (c' ∷ (a' ++ b')) e h p' in absurd (n (ap class_at f ∙ q'))
+body_end_one (i ∷ is) ts [] ts' x y e n n' (c, a, b, p, q, ha, hb) h' =
+    let f : c ∷ ((a ++ b) ++ x) ≡ y = along ts x ts' y (c ∷ (a ++ b)) [] e p h' in absurd (n' (ap class_at (sym f) ∙ q))
+body_end_one (i ∷ is) ts (i' ∷ is') ts' x y e n n' (c, a, b, p, q, ha, hb) (c', a', b', p', q', ha', hb') =
+    let k = along ts x ts' y (c ∷ (a ++ b)) (c' ∷ (a' ++ b')) e p p' in
+    let g : (a ++ b) ++ x ≡ (a' ++ b') ++ y = cc in
+    let s = item_one i a i' a' (b ++ x) (b' ++ y) (parts a b a' b' x y g) ha ha' in
+    let t = body_end_one is b is' b' x y s.1 n n' hb hb' in (cc (s.0, t.0), t.1)
 
-body_one : (is : List ItemTree) (ts : List Token) (is' : List ItemTree) (ts' : List Token) → ts ≡ ts' → IsBody is ts → IsBody is' ts' → is ≡ is'
-body_one [] ts is' ts' e h h' = absurd h
-body_one (i ∷ is) ts [] ts' e h h' = absurd h'
-body_one (i ∷ is) ts (i' ∷ is') ts' e (a, b, p, ha, hb) (a', b', p', ha', hb') =
-    let s = item_one i a i' a' b b' (sym p ∙ e ∙ p') ha ha' in
-    let t = body_end_one is b is' b' s.1 hb hb' in cc (s.0, t)
+body_one : (is : List ItemTree) (ts : List Token) (is' : List ItemTree) (ts' x y : List Token) → ts ++ x ≡ ts' ++ y → class_at x ≢ Comma → class_at y ≢ Comma → IsBody is ts → IsBody is' ts'
+    → (is ≡ is') × (x ≡ y)
+body_one [] ts is' ts' x y e n n' h h' = absurd h
+body_one (i ∷ is) ts [] ts' x y e n n' h h' = absurd h'
+body_one (i ∷ is) ts (i' ∷ is') ts' x y e n n' (a, b, p, ha, hb) (a', b', p', ha', hb') =
+    let s = item_one i a i' a' (b ++ x) (b' ++ y) (parts a b a' b' x y (along ts x ts' y (a ++ b) (a' ++ b') e p p')) ha ha' in
+    let t = body_end_one is b is' b' x y s.1 n n' hb hb' in (cc (s.0, t.0), t.1)
+
+last_body_one : (is : List ItemTree) (ts : List Token) (is' : List ItemTree) (ts' : List Token) → ts ≡ ts' → IsBody is ts → IsBody is' ts' → is ≡ is'
+last_body_one is ts is' ts' e h h' = (body_one is ts is' ts' [] [] (ap (λ (l : List Token). l ++ []) e) (λ z. cc) (λ z. cc) h h').0
 
 tree_same : (q q' : QueryTree) → q.name ≡ q'.name → q.variables ≡ q'.variables → q.items ≡ q'.items → q ≡ q'
 tree_same q q' a b c = λ i. record { name = a i; variables = b i; items = c i }
@@ -192,4 +201,34 @@ query_one q q' ts (c, head, t, body, e, n, p, h, r, b) (c', head', t', body', e'
     let s = row_one IsName q.variables head q'.variables head' (t ∷ body) (t' ∷ body') g h h' in
     let u : body ≡ body' = cc s.1 in
     let v : q.name ≡ q'.name = cc k in
-    tree_same q q' v s.0 (body_one q.items body q'.items body' u b b')
+    tree_same q q' v s.0 (last_body_one q.items body q'.items body' u b b')
+
+-- ---- constraints
+
+no_equality : (i : ItemTree) (a b : List Token) (left sign : Token) (rest : List Token) → a ++ b ≡ left ∷ sign ∷ rest → IsItem i a → ¬ (class_of sign ≡ Equals)
+no_equality i a b left sign rest e h q =
+    let n = item_begins i a b h in
+    let k : n.0 ∷ n.1 ≡ left ∷ sign ∷ rest = sym n.2 ∙ e in
+    let g : n.1 ≡ sign ∷ rest = cc in n.4 (ap class_at g ∙ q)
+
+head_one : (h : HeadTree) (ts : List Token) (h' : HeadTree) (ts' : List Token) → ts ≡ ts' → IsHead h ts → IsHead h' ts' → h ≡ h'
+head_one (Items is) ts (Items is') ts' e h h' = ap Items (last_body_one is ts is' ts' e h h')
+head_one (Items []) ts (Equality l' r') ts' e h h' = absurd h
+head_one (Items (i ∷ is)) ts (Equality l' r') ts' e (a, b, p, ha, hb) (s', p', n', c', t') = absurd (no_equality i a b l' s' (r' ∷ []) (sym p ∙ e ∙ p') ha c')
+head_one (Equality l r) ts (Items []) ts' e h h' = absurd h'
+head_one (Equality l r) ts (Items (i' ∷ is')) ts' e (s, p, n, c, t) (a', b', p', ha', hb') = absurd (no_equality i' a' b' l s (r ∷ []) (sym p' ∙ sym e ∙ p) ha' c)
+head_one (Equality l r) ts (Equality l' r') ts' e (s, p, n, c, t) (s', p', n', c', t') =
+    let k : l ∷ s ∷ r ∷ [] ≡ l' ∷ s' ∷ r' ∷ [] = sym p ∙ e ∙ p' in
+    let left : l ≡ l' = cc in
+    let right : r ≡ r' = cc in cc (left, right)
+
+constraint_same : (c c' : ConstraintTree) → c.body ≡ c'.body → c.head ≡ c'.head → c ≡ c'
+constraint_same c c' a b = λ i. record { body = a i; head = b i }
+
+pub constraint_one : (c c' : ConstraintTree) (ts : List Token) → IsConstraint c ts → IsConstraint c' ts → c ≡ c'
+constraint_one c c' ts (body, head, e, (front, arrow, f, b, q), h) (body', head', e', (front', arrow', f', b', q'), h') =
+    let k = along body head body' head' (front ++ arrow ∷ []) (front' ++ arrow' ∷ []) (sym e ∙ e') f f' in
+    let g : front ++ (arrow ∷ head) ≡ front' ++ (arrow' ∷ head') = parts front (arrow ∷ []) front' (arrow' ∷ []) head head' k in
+    let s = body_one c.body front c'.body front' (arrow ∷ head) (arrow' ∷ head') g (λ z. cc) (λ z. cc) b b' in
+    let u : head ≡ head' = cc s.1 in
+    constraint_same c c' s.0 (head_one c.head head c'.head head' u h h')

@@ -6,50 +6,66 @@ use Rattle.esto_text.specs.declared.fault.TextFault.{TextFault}
 use Rattle.esto_text.specs.declared.fault.TextKind.TheVariants.{Syntax}
 use Rattle.esto_text.specs.declared.token.Token.{Token}
 use Rattle.esto_text.specs.declared.token.TokenKind.TheVariants.{Name, Quoted}
-use Rattle.esto_text.specs.Grammar.{is_term, IsQuery}
+use Rattle.esto_text.specs.Grammar.{is_term, IsQuery, IsConstraint}
 use Rattle.esto_text.specs.Limits.{limited}
 use Rattle.esto_text.specs.Tokens.{AreTokens, StandsIn, utf8_fault}
-use Rattle.esto_text.specs.Trees.{QueryTree, EachOfQuery}
+use Rattle.esto_text.specs.Trees.{QueryTree, EachOfQuery, ConstraintTree, EachOfConstraint}
 
--- The tokens begin a text of the grammar.
-abbrev pub IsViable : List Token → Type 0
-IsViable front = (query : QueryTree) × (more : List Token) × IsQuery query (front ++ more)
+-- The tokens begin a text of the grammar: with some more they are one of its trees.
+abbrev pub IsViable : {T : Type 0} → (T → List Token → Type 0) → List Token → Type 0
+IsViable {T} IsTree front = (tree : T) × (more : List Token) × IsTree tree (front ++ more)
 
 -- With the next token they begin none; where there is none, they are no text of the grammar.
-abbrev pub Leaves : List Token → List Token → Type 0
-Leaves front [] = (query : QueryTree) → ¬ IsQuery query front
-Leaves front (token ∷ rest) = ¬ IsViable (front ++ token ∷ [])
+abbrev pub Leaves : {T : Type 0} → (T → List Token → Type 0) → List Token → List Token → Type 0
+Leaves {T} IsTree front [] = (tree : T) → ¬ IsTree tree front
+Leaves IsTree front (token ∷ rest) = ¬ IsViable IsTree (front ++ token ∷ [])
 
 -- From this rest on the tokens stop being a prefix of a text of the grammar.
-abbrev pub StopsAt : List Token → List Token → Type 0
-StopsAt tokens rest = (front : List Token) × (tokens ≡ front ++ rest) × IsViable front × Leaves front rest
+abbrev pub StopsAt : {T : Type 0} → (T → List Token → Type 0) → List Token → List Token → Type 0
+StopsAt IsTree tokens rest = (front : List Token) × (tokens ≡ front ++ rest) × IsViable IsTree front × Leaves IsTree front rest
 
 -- The place at which the rest begins, in a text of so many bytes.
 abbrev pub place_of : List Token → ℕ → ℕ
 place_of [] bytes = bytes
 place_of (token ∷ rest) bytes = token.start
 
--- The bytes are a text of the grammar, with this tree.
-abbrev pub IsQueryText : List ℕ → QueryTree → Type 0
-IsQueryText bytes query = (tokens : List Token) × AreTokens bytes tokens × IsQuery query (limited tokens)
-
--- The bytes are a text of the grammar with no other tree.
-abbrev pub IsOnlyTree : List ℕ → QueryTree → Type 0
-IsOnlyTree bytes query = (other : QueryTree) → IsQueryText bytes other → query ≡ other
+-- The bytes are a text of the grammar, which sees their tokens as they are marked, with this tree.
+abbrev pub IsTextOf : {T : Type 0} → (T → List Token → Type 0) → (List Token → List Token) → List ℕ → T → Type 0
+IsTextOf IsTree marked bytes tree = (tokens : List Token) × AreTokens bytes tokens × IsTree tree (marked tokens)
 
 -- The first token at which a text leaves the grammar, or its end.
-abbrev pub IsSyntaxFault : List ℕ → TextFault → Type 0
-IsSyntaxFault bytes fault =
-    (tokens rest : List Token) × AreTokens bytes tokens × StopsAt (limited tokens) rest × (fault ≡ record { offset = place_of rest (length bytes); kind = Syntax })
+abbrev pub IsSyntaxFault : {T : Type 0} → (T → List Token → Type 0) → (List Token → List Token) → List ℕ → TextFault → Type 0
+IsSyntaxFault IsTree marked bytes fault =
+    (tokens rest : List Token) × AreTokens bytes tokens × StopsAt IsTree (marked tokens) rest × (fault ≡ record { offset = place_of rest (length bytes); kind = Syntax })
 
 -- The first fault of bytes that are no text of the grammar.
-abbrev pub IsGrammarFault : List ℕ → TextFault → Type 0
-IsGrammarFault bytes fault = ((fault ≡ utf8_fault) × ¬ IsUtf8 bytes) ⊎ IsSyntaxFault bytes fault
+abbrev pub IsFaultOf : {T : Type 0} → (T → List Token → Type 0) → (List Token → List Token) → List ℕ → TextFault → Type 0
+IsFaultOf IsTree marked bytes fault = ((fault ≡ utf8_fault) × ¬ IsUtf8 bytes) ⊎ IsSyntaxFault IsTree marked bytes fault
 
 -- Why bytes are not read as a tree: their first fault, or, for bytes that are UTF-8, want of memory.
-abbrev pub IsGrammarError : List ℕ → ReadError → Type 0
-IsGrammarError bytes (Fault fault) = IsGrammarFault bytes fault
-IsGrammarError bytes OutOfMemory = IsUtf8 bytes
+abbrev pub IsErrorOf : (List ℕ → TextFault → Type 0) → List ℕ → ReadError → Type 0
+IsErrorOf IsFault bytes (Fault fault) = IsFault bytes fault
+IsErrorOf IsFault bytes OutOfMemory = IsUtf8 bytes
+
+-- The bytes are a text of no other tree than this.
+abbrev pub IsOnlyTree : {T : Type 0} → (List ℕ → T → Type 0) → List ℕ → T → Type 0
+IsOnlyTree {T} IsText bytes tree = (other : T) → IsText bytes other → tree ≡ other
+
+-- The bytes are a text of a query or a view, with this tree.
+abbrev pub IsQueryText : List ℕ → QueryTree → Type 0
+IsQueryText bytes query = IsTextOf IsQuery limited bytes query
+
+-- The first fault of bytes that are no text of a query or a view.
+abbrev pub IsGrammarFault : List ℕ → TextFault → Type 0
+IsGrammarFault bytes fault = IsFaultOf IsQuery limited bytes fault
+
+-- The bytes are a text of a constraint, with this tree.
+abbrev pub IsConstraintText : List ℕ → ConstraintTree → Type 0
+IsConstraintText bytes constraint = IsTextOf IsConstraint (λ tokens. tokens) bytes constraint
+
+-- The first fault of bytes that are no text of a constraint.
+abbrev pub IsConstraintGrammarFault : List ℕ → TextFault → Type 0
+IsConstraintGrammarFault bytes fault = IsFaultOf IsConstraint (λ tokens. tokens) bytes fault
 
 -- The token is a name that stands in the bytes.
 abbrev pub IsNameIn : List ℕ → Token → Type 0
@@ -63,18 +79,22 @@ IsFieldIn bytes token = StandsIn bytes token × ((token.kind ≡ Name) ⊎ (toke
 abbrev pub IsTermIn : List ℕ → Token → Type 0
 IsTermIn bytes token = StandsIn bytes token × (is_term token.kind ≡ true)
 
--- Each token of the tree is what it is to be there, and stands in the bytes.
+-- Each token of the tree of a query or a view is what it is to be there, and stands in the bytes.
 abbrev pub StandsAt : List ℕ → QueryTree → Type 0
 StandsAt bytes query = EachOfQuery (IsNameIn bytes) (IsFieldIn bytes) (IsTermIn bytes) query
 
--- A text of the grammar has one tree.
-abbrev pub HaveOneTree : Type 0
-HaveOneTree = (bytes : List ℕ) (query : QueryTree) → IsQueryText bytes query → IsOnlyTree bytes query
+-- Each token of the tree of a constraint is what it is to be there, and stands in the bytes.
+abbrev pub ConstraintStandsAt : List ℕ → ConstraintTree → Type 0
+ConstraintStandsAt bytes constraint = EachOfConstraint (IsNameIn bytes) (IsFieldIn bytes) (IsTermIn bytes) constraint
 
--- A text of the grammar has no fault of the grammar.
-abbrev pub HaveNoFault : Type 0
-HaveNoFault = (bytes : List ℕ) (query : QueryTree) (fault : TextFault) → IsQueryText bytes query → ¬ IsGrammarFault bytes fault
+-- A text has at most one tree.
+abbrev pub HaveOneTree : {T : Type 0} → (List ℕ → T → Type 0) → Type 0
+HaveOneTree {T} IsText = (bytes : List ℕ) (tree : T) → IsText bytes tree → IsOnlyTree IsText bytes tree
 
--- A text has at most one fault of the grammar.
-abbrev pub HaveOneFault : Type 0
-HaveOneFault = (bytes : List ℕ) (fault other : TextFault) → IsGrammarFault bytes fault → IsGrammarFault bytes other → fault ≡ other
+-- A text that has a tree has no fault.
+abbrev pub HaveNoFault : {T : Type 0} → (List ℕ → T → Type 0) → (List ℕ → TextFault → Type 0) → Type 0
+HaveNoFault {T} IsText IsFault = (bytes : List ℕ) (tree : T) (fault : TextFault) → IsText bytes tree → ¬ IsFault bytes fault
+
+-- A text has at most one fault.
+abbrev pub HaveOneFault : (List ℕ → TextFault → Type 0) → Type 0
+HaveOneFault IsFault = (bytes : List ℕ) (fault other : TextFault) → IsFault bytes fault → IsFault bytes other → fault ≡ other

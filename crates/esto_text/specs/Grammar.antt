@@ -2,10 +2,10 @@
 use Rattle.std.specs.Prelude.{◌≡◌, ◌⊎◌, ℕ, suc, ◌-◌, ◌<◌, Bool, true, false, nat_lt, if◌then◌else◌, List, [], ◌∷◌, ◌++◌, Option, Some, None}
 use Rattle.esto_text.specs.declared.token.Token.{Token}
 use Rattle.esto_text.specs.declared.token.TokenKind.{TokenKind}
-use Rattle.esto_text.specs.declared.token.TokenKind.TheVariants.{Name, Wildcard, Quoted, Number, LeftParen, RightParen, LeftBrace, RightBrace, LeftBracket, RightBracket, Comma, Dot, Colon, Turnstile, Stars, Stray}
+use Rattle.esto_text.specs.declared.token.TokenKind.TheVariants.{Name, Wildcard, Quoted, Number, LeftParen, RightParen, LeftBrace, RightBrace, LeftBracket, RightBracket, Comma, Dot, Colon, Turnstile, Arrow, Equals, Stars, Stray}
 use Rattle.esto_text.specs.declared.tree.StepSyntax.{StepSyntax}
 use Rattle.esto_text.specs.declared.tree.StepSyntax.TheVariants.{Field, Item, Below}
-use Rattle.esto_text.specs.Trees.{EntryTree, Value, Nested, EntryTrees, NoEntry, AndEntry, ItemTree, Atom, Part, Pattern, QueryTree}
+use Rattle.esto_text.specs.Trees.{EntryTree, Value, Nested, EntryTrees, NoEntry, AndEntry, ItemTree, Atom, Part, Pattern, QueryTree, HeadTree, Items, Equality, ConstraintTree}
 
 -- What a token of so many bytes is to the grammar: a name of more than 64 bytes fits nowhere.
 abbrev pub fitting : TokenKind → ℕ → TokenKind
@@ -125,3 +125,18 @@ abbrev pub IsQuery : QueryTree → List Token → Type 0
 IsQuery query tokens =
     (paren : Token) × (head : List Token) × (turnstile : Token) × (body : List Token) × (tokens ≡ query.name ∷ paren ∷ (head ++ turnstile ∷ body))
     × IsName query.name × (class_of paren ≡ LeftParen) × IsRow IsName query.variables head × (class_of turnstile ≡ Turnstile) × IsBody query.items body
+
+-- items "->"
+abbrev pub IsRuleBody : List ItemTree → List Token → Type 0
+IsRuleBody items tokens = (front : List Token) × (arrow : Token) × (tokens ≡ front ++ arrow ∷ []) × IsBody items front × (class_of arrow ≡ Arrow)
+
+-- items | name "=" term
+abbrev pub IsHead : HeadTree → List Token → Type 0
+IsHead (Items items) tokens = IsBody items tokens
+IsHead (Equality left right) tokens =
+    (sign : Token) × (tokens ≡ left ∷ sign ∷ right ∷ []) × IsName left × (class_of sign ≡ Equals) × IsTerm right
+
+-- constraint = items "->" ( items | name "=" term )
+abbrev pub IsConstraint : ConstraintTree → List Token → Type 0
+IsConstraint constraint tokens =
+    (body head : List Token) × (tokens ≡ body ++ head) × IsRuleBody constraint.body body × IsHead constraint.head head

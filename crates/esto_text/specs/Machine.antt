@@ -4,12 +4,12 @@ use Rattle.esto_text.specs.declared.stop.Stop.{Stop}
 use Rattle.esto_text.specs.declared.stop.Stop.TheVariants.{Syntax, OutOfMemory}
 use Rattle.esto_text.specs.declared.token.Token.{Token}
 use Rattle.esto_text.specs.declared.token.TokenKind.{TokenKind}
-use Rattle.esto_text.specs.declared.token.TokenKind.TheVariants.{Name, Quoted, LeftParen, RightParen, LeftBrace, RightBrace, LeftBracket, RightBracket, Comma, Dot, Colon, Turnstile, Stars, Stray}
+use Rattle.esto_text.specs.declared.token.TokenKind.TheVariants.{Name, Quoted, LeftParen, RightParen, LeftBrace, RightBrace, LeftBracket, RightBracket, Comma, Dot, Colon, Turnstile, Arrow, Equals, Stars, Stray}
 use Rattle.esto_text.specs.Grammar.{class_of, is_term}
 
 -- A part of the grammar that is still to come. An entry and its rest have the number of open braces.
 pub data Symbol : Type 0 where
-  AName ATerm ANext AParen ABracket ATurnstile MoreNames MoreTerms AnItem ItemRest MoreItems : Symbol
+  AName ATerm ANext AParen ABracket ATurnstile MoreNames MoreTerms AnItem ItemRest MoreItems MoreBody AHead HeadRest : Symbol
   AnEntry : ℕ → Symbol
   PathRest : ℕ → Symbol
   MoreEntries : ℕ → Symbol
@@ -21,6 +21,10 @@ after_head = ATurnstile ∷ AnItem ∷ MoreItems ∷ []
 -- A whole query or view.
 abbrev pub start : List Symbol
 start = AName ∷ AParen ∷ AName ∷ MoreNames ∷ after_head
+
+-- A whole constraint.
+abbrev pub constraint_start : List Symbol
+constraint_start = AnItem ∷ MoreBody ∷ AHead ∷ []
 
 -- What takes the symbol's place when a token of the kind is read.
 abbrev pub step : Symbol → TokenKind → Option (List Symbol)
@@ -41,6 +45,13 @@ step ItemRest LeftParen = Some (ATerm ∷ MoreTerms ∷ [])
 step ItemRest Dot = Some (AName ∷ AParen ∷ ATerm ∷ MoreTerms ∷ [])
 step ItemRest LeftBrace = Some (AnEntry 1 ∷ MoreEntries 1 ∷ [])
 step MoreItems Comma = Some (AnItem ∷ MoreItems ∷ [])
+step MoreBody Comma = Some (AnItem ∷ MoreBody ∷ [])
+step MoreBody Arrow = Some []
+step AHead Name = Some (HeadRest ∷ [])
+step HeadRest Equals = Some (ATerm ∷ [])
+step HeadRest LeftParen = Some (ATerm ∷ MoreTerms ∷ MoreItems ∷ [])
+step HeadRest Dot = Some (AName ∷ AParen ∷ ATerm ∷ MoreTerms ∷ MoreItems ∷ [])
+step HeadRest LeftBrace = Some (AnEntry 1 ∷ MoreEntries 1 ∷ MoreItems ∷ [])
 step (AnEntry n) Name = Some (PathRest n ∷ [])
 step (AnEntry n) Quoted = Some (PathRest n ∷ [])
 step (AnEntry n) Stars = Some (PathRest n ∷ [])

@@ -28,6 +28,16 @@ pub record QueryTree : Type 0 where
   pub variables : List Token
   pub items : List ItemTree
 
+-- The head of a constraint is the items of a tuple rule, or the name and the term of an equality.
+pub data HeadTree : Type 0 where
+  Items : (items : List ItemTree) → HeadTree
+  Equality : (left right : Token) → HeadTree
+
+-- A constraint is the items of its body, and its head.
+pub record ConstraintTree : Type 0 where
+  pub body : List ItemTree
+  pub head : HeadTree
+
 -- Each field name of a path has the property.
 abbrev pub EachOfPath : (Token → Type 0) → List StepSyntax → Type 0
 EachOfPath F [] = Unit {0}
@@ -54,3 +64,12 @@ EachOfItem N F T (Pattern name entries) = N name × EachOfEntries F T entries
 -- Each name of a query or a view, its variables included, has the first property, each field name the second, and each term the third.
 abbrev pub EachOfQuery : (Token → Type 0) → (Token → Type 0) → (Token → Type 0) → QueryTree → Type 0
 EachOfQuery N F T query = N query.name × AllByRecursion N query.variables × AllByRecursion (EachOfItem N F T) query.items
+
+-- Each name of a constraint's head has the first property, each field name the second, and each term the third. The left side of an equality is a name.
+abbrev pub EachOfHead : (Token → Type 0) → (Token → Type 0) → (Token → Type 0) → HeadTree → Type 0
+EachOfHead N F T (Items items) = AllByRecursion (EachOfItem N F T) items
+EachOfHead N F T (Equality left right) = N left × T right
+
+-- Each name of a constraint has the first property, each field name the second, and each term the third.
+abbrev pub EachOfConstraint : (Token → Type 0) → (Token → Type 0) → (Token → Type 0) → ConstraintTree → Type 0
+EachOfConstraint N F T constraint = AllByRecursion (EachOfItem N F T) constraint.body × EachOfHead N F T constraint.head

@@ -6,7 +6,10 @@ use Rattle.esto_text.specs.declared.tree.EntrySyntax.TheFolds.{fold-EntrySyntax}
 use Rattle.esto_text.specs.declared.tree.ItemSyntax.{ItemSyntax}
 use Rattle.esto_text.specs.declared.tree.ItemSyntax.TheVariants as item
 use Rattle.esto_text.specs.declared.tree.QuerySyntax.{QuerySyntax}
-use Rattle.esto_text.specs.Trees.{EntryTree, Value, Nested, EntryTrees, NoEntry, AndEntry, ItemTree, Atom, Part, Pattern, QueryTree}
+use Rattle.esto_text.specs.declared.tree.HeadSyntax.{HeadSyntax}
+use Rattle.esto_text.specs.declared.tree.HeadSyntax.TheVariants as head
+use Rattle.esto_text.specs.declared.tree.ConstraintSyntax.{ConstraintSyntax}
+use Rattle.esto_text.specs.Trees.{EntryTree, Value, Nested, EntryTrees, NoEntry, AndEntry, ItemTree, Atom, Part, Pattern, QueryTree, HeadTree, Items, Equality, ConstraintTree}
 
 -- A list of entries as one tree.
 abbrev pub group_of : List EntryTree → EntryTrees
@@ -35,3 +38,12 @@ item_of (item.Pattern name entries) = Pattern name (entries_of entries)
 -- The tree of a query or a view.
 abbrev pub tree_of : QuerySyntax → QueryTree
 tree_of query = record { name = query.name; variables = query.variables; items = map item_of query.items }
+
+-- The tree of a constraint's head.
+abbrev pub head_of : HeadSyntax → HeadTree
+head_of (head.Items items) = Items (map item_of items)
+head_of (head.Equality left right) = Equality left right
+
+-- The tree of a constraint.
+abbrev pub constraint_of : ConstraintSyntax → ConstraintTree
+constraint_of constraint = record { body = map item_of constraint.body; head = head_of constraint.head }

@@ -13,11 +13,11 @@ pub enum TextKind {
     Unknown,
     /// The relation has another number of columns.
     Arity,
-    /// The body has too many atoms.
+    /// The body, or the head of a constraint, has too many atoms.
     TooLarge,
     /// A view's head has this name twice.
     SameVariable,
-    /// The body lacks this name.
+    /// The body lacks this name, or this side of an equality is a wildcard.
     Unsafe,
 }
 

@@ -1,4 +1,4 @@
-//! The texts of queries and views: their tokens, and the trees of the grammar.
+//! The texts of queries, views and constraints: their tokens, and the trees of the grammar.
 #![tactic(auto)]
 
 mod fault;
@@ -8,6 +8,7 @@ mod parts;
 mod paths;
 mod reader;
 mod rows;
+mod rule;
 mod scan;
 mod stop;
 mod syntax;
@@ -16,7 +17,7 @@ mod tokens;
 mod tree;
 
 pub use fault::{ReadError, TextFault, TextKind};
-pub use syntax::{read_query_tree, trees_are_determined};
+pub use syntax::{read_constraint_tree, read_query_tree, trees_are_determined};
 pub use token::{Token, TokenKind, Tokens};
 pub use tokens::{read_tokens, tokens_are_determined};
-pub use tree::{EntrySyntax, ItemSyntax, QuerySyntax, StepSyntax};
+pub use tree::{ConstraintSyntax, EntrySyntax, HeadSyntax, ItemSyntax, QuerySyntax, StepSyntax};

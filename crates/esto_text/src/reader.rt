@@ -15,7 +15,7 @@ use esto_term::List;
 use std::alloc::Global;
 
 /// An item, and what comes after it.
-fn item(alloc: Global, tokens: &[Token]) -> Result<(ItemSyntax, &[Token]), Stop>
+pub fn item(alloc: Global, tokens: &[Token]) -> Result<(ItemSyntax, &[Token]), Stop>
     ensures ok { IfOk result (λ x. Takes (IsItem (item_of x.0)) tokens.now x.1.now) }
     ensures shorter { IfOk result (λ x. length x.1.now < length tokens.now) }
     ensures err { IfErr result (λ e. Fails (AnItem ∷ []) tokens.now e) }
@@ -44,7 +44,7 @@ fn item(alloc: Global, tokens: &[Token]) -> Result<(ItemSyntax, &[Token]), Stop>
 }
 
 /// The items up to the end.
-fn items(alloc: Global, tokens: &[Token]) -> Result<List<ItemSyntax>, Stop>
+pub fn items(alloc: Global, tokens: &[Token]) -> Result<List<ItemSyntax>, Stop>
     ensures ok { IfOk result (λ items. IsBody (map item_of items) tokens.now) }
     ensures err { IfErr result (λ e. FailsAt (AnItem ∷ MoreItems ∷ []) tokens.now e) }
 {

@@ -1,14 +1,15 @@
 //! Texts as syntax trees.
 ghost use Rattle.std.specs.Prelude.{◌≡◌, ◌≤◌, ◌-◌, length, drop, IfOk, IfErr};
-ghost use Rattle.esto_text.specs.Faults.{place_of, IsQueryText, IsOnlyTree, StandsAt, IsGrammarError, HaveOneTree, HaveNoFault, HaveOneFault};
-ghost use Rattle.esto_text.specs.View.{tree_of};
+ghost use Rattle.esto_text.specs.Faults.{place_of, IsErrorOf, IsOnlyTree, IsQueryText, IsGrammarFault, StandsAt, IsConstraintText, IsConstraintGrammarFault, ConstraintStandsAt, HaveOneTree, HaveNoFault, HaveOneFault};
+ghost use Rattle.esto_text.specs.View.{tree_of, constraint_of};
 
 use crate::fault::{ReadError, TextFault, TextKind};
 use crate::reader::query;
+use crate::rule::constraint;
 use crate::stop::Stop;
 use crate::token::Token;
 use crate::tokens::read_tokens;
-use crate::tree::QuerySyntax;
+use crate::tree::{ConstraintSyntax, QuerySyntax};
 use std::alloc::Global;
 
 /// The place at which the last `left` tokens begin, in a text of so many bytes.
@@ -23,6 +24,17 @@ fn place(tokens: &[Token], left: usize, bytes: usize) -> u64
     }
 }
 
+/// The error of a text of so many bytes, where the last `left` tokens begin at the first that does not fit.
+fn syntax_error(tokens: &[Token], left: usize, bytes: usize) -> ReadError
+    requires { left ≤ length tokens.now }
+    ensures { result ≡ ReadError.Fault (record { offset = place_of (drop (length tokens.now - left) tokens.now) bytes; kind = TextKind.Syntax }) }
+{
+    ReadError::Fault(TextFault {
+        offset: place(tokens, left, bytes),
+        kind: TextKind::Syntax,
+    })
+}
+
 /// The syntax tree of a query or a view. The fault Utf8, at offset 0, comes exactly where the bytes are not UTF-8;
 /// the fault Syntax exactly where the text is outside the grammar, at the start of the first token at which the
 /// tokens so far stop being a prefix of a text of the grammar, or at the end of a text that ends too early.
@@ -30,29 +42,48 @@ pub fn read_query_tree(alloc: Global, bytes: &[u8]) -> Result<QuerySyntax, ReadE
     // The text is in the grammar, with this tree.
     ensures tree { IfOk result (λ query. IsQueryText bytes.now (tree_of query)) }
     // It is no other tree's.
-    ensures only { IfOk result (λ query. IsOnlyTree bytes.now (tree_of query)) }
+    ensures only { IfOk result (λ query. IsOnlyTree IsQueryText bytes.now (tree_of query)) }
     // Each token of the tree stands in the text.
     ensures tokens { IfOk result (λ query. StandsAt bytes.now (tree_of query)) }
-    ensures error { IfErr result (λ e. IsGrammarError bytes.now e) }
+    ensures error { IfErr result (λ e. IsErrorOf IsGrammarFault bytes.now e) }
 {
     let tokens = read_tokens(alloc, bytes)?;
     let tokens = tokens.items();
     match query(alloc, tokens) {
         Ok(query) => Ok(query),
         Err(Stop::OutOfMemory) => Err(ReadError::OutOfMemory),
-        Err(Stop::Syntax(left)) => {
-            let offset = place(tokens, left, bytes.len());
-            Err(ReadError::Fault(TextFault {
-                offset,
-                kind: TextKind::Syntax,
-            }))
-        }
+        Err(Stop::Syntax(left)) => Err(syntax_error(tokens, left, bytes.len())),
     }
 }
 
-/// A law: a text of the grammar has one tree and no fault of the grammar, and every other text one fault.
+/// The syntax tree of a constraint. The fault Utf8, at offset 0, comes exactly where the bytes are not UTF-8; the
+/// fault Syntax exactly where the text is outside the grammar, at the start of the first token at which the tokens
+/// so far stop being a prefix of a text of the grammar, or at the end of a text that ends too early.
+pub fn read_constraint_tree(alloc: Global, bytes: &[u8]) -> Result<ConstraintSyntax, ReadError>
+    // The text is in the grammar, with this tree.
+    ensures tree { IfOk result (λ constraint. IsConstraintText bytes.now (constraint_of constraint)) }
+    // It is no other tree's.
+    ensures only { IfOk result (λ constraint. IsOnlyTree IsConstraintText bytes.now (constraint_of constraint)) }
+    // Each token of the tree stands in the text.
+    ensures tokens { IfOk result (λ constraint. ConstraintStandsAt bytes.now (constraint_of constraint)) }
+    ensures error { IfErr result (λ e. IsErrorOf IsConstraintGrammarFault bytes.now e) }
+{
+    let tokens = read_tokens(alloc, bytes)?;
+    let tokens = tokens.items();
+    match constraint(alloc, tokens) {
+        Ok(constraint) => Ok(constraint),
+        Err(Stop::OutOfMemory) => Err(ReadError::OutOfMemory),
+        Err(Stop::Syntax(left)) => Err(syntax_error(tokens, left, bytes.len())),
+    }
+}
+
+/// A law: a text of a query or a view, or of a constraint, has at most one tree and at most one fault of its grammar,
+/// and never both.
 pub fn trees_are_determined()
-    ensures tree { HaveOneTree }
-    ensures apart { HaveNoFault }
-    ensures fault { HaveOneFault }
+    ensures tree { HaveOneTree IsQueryText }
+    ensures apart { HaveNoFault IsQueryText IsGrammarFault }
+    ensures fault { HaveOneFault IsGrammarFault }
+    ensures constraint_tree { HaveOneTree IsConstraintText }
+    ensures constraint_apart { HaveNoFault IsConstraintText IsConstraintGrammarFault }
+    ensures constraint_fault { HaveOneFault IsConstraintGrammarFault }
 {}

@@ -54,3 +54,19 @@ pub struct QuerySyntax {
     pub variables: Tokens,
     pub items: List<ItemSyntax>,
 }
+
+/// The head of a constraint.
+#[derive(Debug, Drop)]
+pub enum HeadSyntax {
+    /// `item, item, ..`: the head of a tuple rule.
+    Items(List<ItemSyntax>),
+    /// `left = right`, where the left side is a name.
+    Equality { left: Token, right: Token },
+}
+
+/// A constraint: the items of its body, and its head.
+#[derive(Debug, Drop)]
+pub struct ConstraintSyntax {
+    pub body: List<ItemSyntax>,
+    pub head: HeadSyntax,
+}

@@ -1,11 +1,23 @@
+use Rattle.esto_text.specs.Grammar.{IsQuery, IsConstraint}
+use Rattle.esto_text.specs.Limits.{limited}
 use Rattle.esto_text.proofs.SyntaxLemmas.{one_tree, no_fault, one_fault}
+use Rattle.esto_text.proofs.Unique.{query_one, constraint_one}
 use Rattle.esto_text.proofs.syntax.trees_are_determined.Goals as goal
 
 pub returns-clause-tree : goal.returns-clause-tree
-returns-clause-tree c bytes q h other g = one_tree bytes q other h g
+returns-clause-tree c = one_tree IsQuery limited query_one
 
 pub returns-clause-apart : goal.returns-clause-apart
-returns-clause-apart c bytes q fault h g = no_fault bytes q fault h g
+returns-clause-apart c = no_fault IsQuery limited
 
 pub returns-clause-fault : goal.returns-clause-fault
-returns-clause-fault c bytes fault other h g = one_fault bytes fault other h g
+returns-clause-fault c = one_fault IsQuery limited
+
+pub returns-clause-constraint_tree : goal.returns-clause-constraint_tree
+returns-clause-constraint_tree c = one_tree IsConstraint (λ tokens. tokens) constraint_one
+
+pub returns-clause-constraint_apart : goal.returns-clause-constraint_apart
+returns-clause-constraint_apart c = no_fault IsConstraint (λ tokens. tokens)
+
+pub returns-clause-constraint_fault : goal.returns-clause-constraint_fault
+returns-clause-constraint_fault c = one_fault IsConstraint (λ tokens. tokens)

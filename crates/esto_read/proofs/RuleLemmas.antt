@@ -1,0 +1,177 @@
+-- Rules from their parts.
+use Rattle.std.proofs.Common.{IsUtf8, ◌≡◌, ◌≢◌, ℕ, ◌<◌, ◌≤◌, inl, inr, get_or, List, [], ◌∷◌, length, refl, sym, ap, subst, arith}
+use Rattle.std.specs.Prelude.{Contains, All}
+use Rattle.std.specs.List.{AllByRecursion}
+use Rattle.std.proofs.lemmas.List.{length-map}
+use Rattle.esto_constraint.specs.declared.rule.Constraint.TheVariants.{Tuple, Equal}
+use Rattle.esto_constraint.specs.declared.rule.Egd.{Egd}
+use Rattle.esto_constraint.specs.declared.rule.Tgd.{Tgd}
+use Rattle.esto_constraint.specs.Soundness.{IsSoundTuple, IsSoundEquality}
+use Rattle.esto_query.specs.Schemas.{arities_of}
+use Rattle.esto_query.specs.Soundness.{AreNamed}
+use Rattle.esto_query.specs.declared.schema.Relation.{Relation}
+use Rattle.esto_query.specs.declared.query.Name.{Name}
+use Rattle.esto_semantics.specs.Maps.{AreFlat, IsFixedBy}
+use Rattle.esto_semantics.specs.Rules.{tuple, equality}
+use Rattle.esto_semantics.specs.WellFormed.{AreOver, HaveUtf8, IsRuleOver}
+use Rattle.esto_semantics.specs.declared.fact.Fact.{Fact}
+use Rattle.esto_term.specs.declared.term.Term.{Term}
+use Rattle.esto_term.specs.declared.term.Term.TheVariants.{Const, Plain}
+use Rattle.esto_text.specs.Faults.{IsNameIn, IsFieldIn, IsTermIn, IsConstraintText, ConstraintStandsAt}
+use Rattle.esto_text.specs.Grammar.{is_term, IsBody, IsHead}
+use Rattle.esto_text.specs.Tokens.{text_of}
+use Rattle.esto_text.specs.Trees.{ItemTree, HeadTree, Items, Equality, ConstraintTree, EachOfHead}
+use Rattle.esto_text.specs.declared.fault.ReadError.{ReadError}
+use Rattle.esto_text.specs.declared.fault.ReadError.TheVariants.{Fault, OutOfMemory}
+use Rattle.esto_text.specs.declared.fault.TextKind.TheVariants.{Unsafe}
+use Rattle.esto_text.specs.declared.token.Token.{Token}
+use Rattle.esto_read.specs.Constraints.{IsTupleRead, IsEqualityRead, IsUnsafeSide, IsRuleOf, IsConstraintReading, IsRuleHeadFault, IsConstraintError}
+use Rattle.esto_read.specs.Items.{AreFitting, IsBodyError}
+use Rattle.esto_read.specs.Terms.{IsTermOf, AreTerms}
+use Rattle.esto_read.specs.Words.{IsVocabulary, HasRelations, AreTables}
+use Rattle.esto_read.specs.declared.words.DataModel.{DataModel}
+use Rattle.esto_read.specs.declared.words.Word.{Word}
+use Rattle.esto_read.proofs.ReadLemmas.{below_more, Good, ItemIn, AllGood, items_good, items_some, AllGrow, terms_grow}
+
+-- ---- the words
+
+pub bases : (schema : List Relation) (words : List Word) → IsVocabulary (arities_of schema) words → AreTables words → All (λ word. word.base < length schema) words
+bases schema words vocabulary tables k d lt =
+    let base = subst (λ (model : DataModel). HasRelations (arities_of schema) model (get_or words k d).base) (tables k d lt) (vocabulary.relations k d lt) in
+    omega (arith, length-map schema (λ relation. relation.arity))
+
+-- ---- sides
+
+pub name_is_term : (bytes : List ℕ) (t : Token) → IsNameIn bytes t → IsTermIn bytes t
+name_is_term bytes t h = (h.0, ap is_term h.1)
+
+pub sides_are : (bytes : List ℕ) (before between after : List Name) (left right : Token) (one other : Term) → IsTermOf left.kind (text_of bytes left) before one between
+    → IsTermOf right.kind (text_of bytes right) between other after → AreTerms bytes before (left ∷ right ∷ []) (one ∷ other ∷ []) after
+sides_are bytes before between after left right one other h g = (between, h, (after, g, refl))
+
+-- ---- what a text's constraint stands in
+
+module _ (bytes : List ℕ) (tree : ConstraintTree) (text : IsConstraintText bytes tree) where
+  pub some_items : tree.body ≢ []
+  some_items none = let (tokens, h, (body, head, e, (front, arrow, f, b, a), g)) = text in subst (λ (l : List ItemTree). IsBody l front) none b
+
+  pub some_head : (items : List ItemTree) → tree.head ≡ Items items → items ≢ []
+  some_head items is none =
+      let (tokens, h, (body, head, e, b, g)) = text in
+      subst (λ (l : List ItemTree). IsBody l head) none (subst (λ (x : HeadTree). IsHead x head) is g)
+
+module _ (bytes : List ℕ) (tree : ConstraintTree) (stands : ConstraintStandsAt bytes tree) where
+  pub head_stands : (h : HeadTree) → tree.head ≡ h → EachOfHead (IsNameIn bytes) (IsFieldIn bytes) (IsTermIn bytes) h
+  head_stands h is = subst (EachOfHead (IsNameIn bytes) (IsFieldIn bytes) (IsTermIn bytes)) is stands.1
+
+-- ---- atoms among so many variables
+
+module _ (words : List Word) (schema bytes : List ℕ) (u : IsUtf8 bytes) where
+  abbrev AreGood : ℕ → List (Fact Term) → Type 0
+  AreGood count atoms = (atom : Fact Term) → Contains atoms atom → Good words schema bytes u count atom
+
+  good_more : (m n : ℕ) (atoms : List (Fact Term)) → m ≤ n → AreGood m atoms → AreGood n atoms
+  good_more m n atoms le h atom k = let g = h atom k in (g.0, λ x l. below_more m n x le (g.1 x l))
+
+  good_flat : (n : ℕ) (atoms : List (Fact Term)) → AreGood n atoms → AreFlat atoms
+  good_flat n atoms h x (atom, k, l) = ((h atom k).1 x l).0
+
+  good_named : (names : List Name) (atoms : List (Fact Term)) → AreGood (length names) atoms → AreNamed names atoms
+  good_named names atoms h v (atom, k, l) = ((h atom k).1 (Plain v) l).1 v refl
+
+  good_over : (n : ℕ) (atoms : List (Fact Term)) → AreGood n atoms → AreOver schema atoms
+  good_over n atoms h atom k = (h atom k).0
+
+  good_texts : (n : ℕ) (atoms : List (Fact Term)) → AreGood n atoms → HaveUtf8 atoms
+  good_texts n atoms h s (atom, k, l) = ((h atom k).1 (Const s) l).2 s refl
+
+-- ---- what a text's constraint keeps
+
+module _ (words : List Word) (schema bytes : List ℕ) (tree : ConstraintTree) (text : IsConstraintText bytes tree) (stands : ConstraintStandsAt bytes tree) where
+  u : IsUtf8 bytes
+  u = text.1.0
+
+  module _ (items : List ItemTree) (is : tree.head ≡ Items items) (body head : List (Fact Term)) (names : List Name) (h : IsTupleRead words schema bytes tree.body items body head names) where
+    head_stand : AllByRecursion (ItemIn words schema bytes u) items
+    head_stand = head_stands bytes tree stands (Items items) is
+
+    in_head : AllGood words schema bytes u h.between names head
+    in_head = items_good words schema bytes u h.between items head names head_stand h.head_atoms
+
+    good_body : AreGood words schema bytes u (length names) body
+    good_body = good_more words schema bytes u (length h.between) (length names) body in_head.0 (items_good words schema bytes u [] tree.body body h.between stands.0 h.body_atoms).1
+
+    pub tuple_sound : IsSoundTuple body head names
+    tuple_sound = record {
+      rule = record {
+        has_body = items_some words schema bytes u [] tree.body body h.between stands.0 h.body_atoms (some_items bytes tree text);
+        has_head = items_some words schema bytes u h.between items head names head_stand h.head_atoms (some_head bytes tree text items is);
+        flat_body = good_flat words schema bytes u (length names) body good_body;
+        flat_head = good_flat words schema bytes u (length names) head in_head.1;
+      };
+      body_named = good_named words schema bytes u names body good_body;
+      head_named = good_named words schema bytes u names head in_head.1;
+    }
+
+    pub tuple_over : IsRuleOver schema (tuple body head)
+    tuple_over = (
+      good_over words schema bytes u (length names) body good_body,
+      good_over words schema bytes u (length names) head in_head.1,
+      good_texts words schema bytes u (length names) body good_body,
+      good_texts words schema bytes u (length names) head in_head.1,
+    )
+
+  module _ (left_token right_token : Token) (is : tree.head ≡ Equality left_token right_token) (body : List (Fact Term)) (left right : Term) (names : List Name)
+      (h : IsEqualityRead words schema bytes tree.body left_token right_token body left right names) where
+    in_sides : AllGrow h.between names (left ∷ right ∷ [])
+    in_sides =
+        let stand = head_stands bytes tree stands (Equality left_token right_token) is in
+        terms_grow bytes u h.between (left_token ∷ right_token ∷ []) (left ∷ right ∷ []) names (name_is_term bytes left_token stand.0, (stand.1, tt)) h.sides
+
+    good_equality : AreGood words schema bytes u (length names) body
+    good_equality = good_more words schema bytes u (length h.between) (length names) body in_sides.0 (items_good words schema bytes u [] tree.body body h.between stands.0 h.body_atoms).1
+
+    pub equality_sound : IsFixedBy body left × IsFixedBy body right → IsSoundEquality body left right names
+    equality_sound fixed = record {
+      rule = record {
+        has_body = items_some words schema bytes u [] tree.body body h.between stands.0 h.body_atoms (some_items bytes tree text);
+        flat_body = good_flat words schema bytes u (length names) body good_equality;
+        left_fixed = fixed.0;
+        right_fixed = fixed.1;
+      };
+      named = good_named words schema bytes u names body good_equality;
+    }
+
+    pub equality_over : IsRuleOver schema (equality body left right)
+    equality_over = (
+      good_over words schema bytes u (length names) body good_equality,
+      good_texts words schema bytes u (length names) body good_equality,
+      λ s e. (in_sides.1 left (0, omega arith, refl)).2 s e,
+      λ s e. (in_sides.1 right (1, omega arith, refl)).2 s e,
+    )
+
+-- ---- readings and errors
+
+module _ (words : List Word) (schema bytes : List ℕ) (tree : ConstraintTree) (text : IsConstraintText bytes tree) where
+  pub tuple_reading : (head_items : List ItemTree) (rule : Tgd) → tree.head ≡ Items head_items → IsTupleRead words schema bytes tree.body head_items rule.body rule.head rule.names
+      → IsConstraintReading words schema bytes (Tuple rule)
+  tuple_reading head_items rule is h = (tree, text, subst (λ (x : HeadTree). IsRuleOf words schema bytes tree.body x (Tuple rule)) (sym is) h)
+
+  pub equality_reading : (left right : Token) (rule : Egd) → tree.head ≡ Equality left right → IsEqualityRead words schema bytes tree.body left right rule.body rule.left rule.right rule.names
+      → IsFixedBy rule.body rule.left × IsFixedBy rule.body rule.right → IsConstraintReading words schema bytes (Equal rule)
+  equality_reading left right rule is h fixed = (tree, text, subst (λ (x : HeadTree). IsRuleOf words schema bytes tree.body x (Equal rule)) (sym is) (h, fixed.0, fixed.1))
+
+  pub body_error : (e : ReadError) → IsBodyError words schema bytes tree.body e → IsConstraintError words schema bytes e
+  body_error OutOfMemory h = text.1.0
+  body_error (Fault f) h = inr (tree, text, inl h)
+
+  module _ (fits : AreFitting words schema bytes 0 tree.body) where
+    pub head_error : (head_items : List ItemTree) → tree.head ≡ Items head_items → (e : ReadError) → IsBodyError words schema bytes head_items e → IsConstraintError words schema bytes e
+    head_error head_items is OutOfMemory h = text.1.0
+    head_error head_items is (Fault f) h = inr (tree, text, inr (fits, subst (λ (x : HeadTree). IsRuleHeadFault words schema bytes tree.body x f) (sym is) h))
+
+    pub side_error : (left right : Token) (body : List (Fact Term)) (one other : Term) (names : List Name) (offset : ℕ) → tree.head ≡ Equality left right
+        → IsEqualityRead words schema bytes tree.body left right body one other names → IsUnsafeSide body left right one other offset
+        → IsConstraintError words schema bytes (Fault (record { offset = offset; kind = Unsafe }))
+    side_error left right body one other names offset is h g =
+        inr (tree, text, inr (fits, subst (λ (x : HeadTree). IsRuleHeadFault words schema bytes tree.body x (record { offset = offset; kind = Unsafe })) (sym is) (body, one, other, names, h, refl, g)))

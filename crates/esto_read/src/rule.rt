@@ -1,0 +1,111 @@
+//! Constraints, from their texts.
+ghost use Rattle.std.specs.Prelude.{◌≡◌, ◌↔◌, IsTrue, MatchOption, IfOk, IfErr};
+ghost use Rattle.esto_constraint.specs.Constraints.{rule_of};
+ghost use Rattle.esto_query.specs.Schemas.{arities_of};
+ghost use Rattle.esto_semantics.specs.Maps.{IsFixedBy};
+ghost use Rattle.esto_semantics.specs.WellFormed.{IsRuleOver};
+ghost use Rattle.esto_read.specs.Words.{IsVocabulary, AreTables};
+ghost use Rattle.esto_read.specs.Constraints.{IsUnsafeSide, IsConstraintReading, IsConstraintError, HaveOneRule, HaveNoRuleFault, HaveOneRuleFault};
+
+use crate::body::body;
+use crate::head::mentions;
+use crate::term::term;
+use crate::words::Vocabulary;
+use esto_constraint::{Constraint, Egd, Tgd};
+use esto_query::Schema;
+use esto_semantics::Atom;
+use esto_term::{List, Term};
+use esto_text::{
+    HeadSyntax, ReadError, TextFault, TextKind, Token, read_constraint_tree, trees_are_determined,
+};
+use std::alloc::Global;
+
+/// Whether the term is a constant, or one of the atoms mentions it.
+fn is_fixed(term: &Term, body: &[Atom]) -> bool
+    ensures { IsTrue result ↔ IsFixedBy body.now term.now }
+{
+    match term {
+        Term::Const(_) => true,
+        Term::Plain(_) => mentions(body, term),
+        Term::Made(_, _, _) => mentions(body, term),
+    }
+}
+
+/// Where the first side of an equality begins, left and then right, that is no constant and not in the body.
+fn unsafe_side(
+    left: Token,
+    right: Token,
+    left_term: &Term,
+    right_term: &Term,
+    body: &[Atom],
+) -> Option<u64>
+    ensures { MatchOption result (IsFixedBy body.now left_term.now × IsFixedBy body.now right_term.now)
+        (IsUnsafeSide body.now left right left_term.now right_term.now) }
+{
+    if !is_fixed(left_term, body) {
+        return Some(left.start);
+    }
+    if !is_fixed(right_term, body) {
+        return Some(right.start);
+    }
+    None
+}
+
+/// The constraint that a text is, over the tables that the words name; or the text's first fault: Utf8, Syntax,
+/// then for each item in order, the body before the head, Unknown, Arity and TooLarge, then Unsafe. Unsafe comes for
+/// an equality alone, at the first side that is no constant and not in the body.
+pub fn read_constraint(
+    alloc: Global,
+    bytes: &[u8],
+    words: &Vocabulary,
+    schema: &Schema,
+) -> Result<Constraint, ReadError>
+    requires words { IsVocabulary (arities_of schema.now) words.now }
+    requires tables { AreTables words.now }
+    // The answer is the text's reading.
+    ensures reading { IfOk result (λ constraint. IsConstraintReading words.now (arities_of schema.now) bytes.now constraint) }
+    // It is over the schema, and its constants are UTF-8.
+    ensures over { IfOk result (λ constraint. IsRuleOver (arities_of schema.now) (rule_of constraint)) }
+    // A fault is the text's first fault.
+    ensures error { IfErr result (λ e. IsConstraintError words.now (arities_of schema.now) bytes.now e) }
+{
+    let words = words.items();
+    let tree = read_constraint_tree(alloc, bytes)?;
+    let mut names = List::new(alloc);
+    let atoms = body(alloc, bytes, tree.body.items(), words, schema, &mut names)?;
+    match &tree.head {
+        HeadSyntax::Items(items) => {
+            let head = body(alloc, bytes, items.items(), words, schema, &mut names)?;
+            Ok(Constraint::Tuple(Tgd {
+                body: atoms,
+                head,
+                names,
+            }))
+        }
+        HeadSyntax::Equality { left, right } => {
+            let left_term = term(alloc, bytes, *left, &mut names)?;
+            let right_term = term(alloc, bytes, *right, &mut names)?;
+            match unsafe_side(*left, *right, &left_term, &right_term, atoms.items()) {
+                Some(offset) => Err(ReadError::Fault(TextFault {
+                    offset,
+                    kind: TextKind::Unsafe,
+                })),
+                None => Ok(Constraint::Equal(Egd {
+                    body: atoms,
+                    left: left_term,
+                    right: right_term,
+                    names,
+                })),
+            }
+        }
+    }
+}
+
+/// A law: a text of a constraint has at most one reading and at most one first fault, and never both.
+pub fn constraint_readings_are_determined()
+    ensures reading { HaveOneRule }
+    ensures apart { HaveNoRuleFault }
+    ensures fault { HaveOneRuleFault }
+{
+    trees_are_determined();
+}
