@@ -2,3 +2,4 @@ pub mod BindingLemmas
 pub mod SafetyLemmas
 pub mod PassLemmas
 pub mod VisitLemmas
+pub mod CoverLemmas

@@ -1,14 +1,13 @@
 //! Laws of listed sets: each executable rewriting maps onto a superset of one, and how they are told by matches.
 ghost use Rattle.std.specs.Prelude.{◌↔◌, List, Bool, []};
 ghost use Rattle.esto_semantics.specs.Containment.{IsSatisfiable};
-ghost use Rattle.esto_semantics.specs.Listed.{IsRewriting, IsListed, IsExecutableRewriting};
-ghost use Rattle.esto_semantics.specs.ListedLaws.{AreRewritings};
+ghost use Rattle.esto_semantics.specs.Listed.{AreListed, IsRewriting, IsExecutableRewriting};
 ghost use Rattle.esto_semantics.specs.Maps.{AreFlat};
 ghost use Rattle.esto_semantics.specs.Plans.{IsUniversalPlan};
 ghost use Rattle.esto_semantics.specs.Queries.{ConjunctiveQuery};
 ghost use Rattle.esto_semantics.specs.Rewritings.{MapsOnto};
 ghost use Rattle.esto_semantics.specs.Rules.{Rule};
-ghost use Rattle.esto_semantics.specs.Sets.{Within};
+ghost use Rattle.esto_semantics.specs.Sets.{Covers};
 ghost use Rattle.esto_query.specs.Making.{query_of};
 ghost use Rattle.esto_query.specs.declared.query.Query.{Query};
 ghost use Rattle.esto_views.specs.Fragments.{views_of, patterns_of};
@@ -21,22 +20,20 @@ ghost use Rattle.esto_backchase.specs.Searching.{Passes};
 
 use esto_semantics::{
     an_expansion_means_the_same, an_expansion_of_a_plan_expands_its_candidates,
-    candidates_contain_the_query, listed_sets_are_minimal, rewritings_map_onto_sets,
-    rewritings_without_inputs, universal_instances_satisfy_queries,
+    candidates_contain_the_query, rewritings_map_onto_sets, rewritings_without_inputs,
+    universal_instances_satisfy_queries,
 };
 use esto_views::plans_are_sound;
 
 /// A law: each query over fragments that is an executable rewriting of a satisfiable query maps to a universal plan of
-/// it, head to head, and onto a set of the plan's atoms that has a listed set within it. The family is any list of
-/// exactly the sets that are rewritings.
-pub fn rewritings_map_onto_supersets_of_listed_sets()
+/// it, head to head, and onto a set of the plan's atoms that has one of the sets within it, where these are exactly the
+/// listed sets.
+pub fn listed_sets_cover_rewritings()
     ensures { (rules : List Rule) (views : List ConjunctiveQuery) (patterns : List (List Bool)) (query plan other : ConjunctiveQuery)
-        (family : List (List Bool)) → AreFlat plan.body → IsUniversalPlan rules views query plan → IsSatisfiable rules query
-        → AreRewritings rules views patterns query plan family → IsExecutableRewriting rules views patterns query other
-        → (set : List Bool) × MapsOnto other plan set
-        × ((listed : List Bool) × IsListed rules views patterns query plan listed × Within listed set) }
+        (sets : List (List Bool)) → AreFlat plan.body → IsUniversalPlan rules views query plan → IsSatisfiable rules query
+        → AreListed rules views patterns query plan sets → IsExecutableRewriting rules views patterns query other
+        → (set : List Bool) × MapsOnto other plan set × Covers sets set }
 {
-    listed_sets_are_minimal();
     rewritings_map_onto_sets();
 }
 

@@ -6,5 +6,5 @@ mod laws;
 mod safety;
 mod search;
 
-pub use laws::rewritings_map_onto_supersets_of_listed_sets;
+pub use laws::listed_sets_cover_rewritings;
 pub use search::minimal_sets_plain;

@@ -1,8 +1,10 @@
 //! The universal plan.
 ghost use Rattle.std.specs.Prelude.{◌≡◌, List, [], IfOk};
+ghost use Rattle.esto_semantics.specs.Instances.{IsUniversalFor, IsFinished};
 ghost use Rattle.esto_semantics.specs.PlanOf.{IsPlanOf};
 ghost use Rattle.esto_semantics.specs.Plans.{IsUniversalPlan};
 ghost use Rattle.esto_semantics.specs.Queries.{ConjunctiveQuery};
+ghost use Rattle.esto_semantics.specs.Rules.{Rule, AreRules};
 ghost use Rattle.esto_query.specs.Making.{query_of};
 ghost use Rattle.esto_query.specs.declared.query.Name.{Name};
 ghost use Rattle.esto_views.specs.Fragments.{views_of, AreFragments};
@@ -62,3 +64,13 @@ pub fn stated_plans_are_one()
         → IsStatedPlan names views end plan → IsStatedPlan names views end other
         → (plan_query plan ≡ plan_query other) × (plan.names ≡ other.names) }
 {}
+
+/// A law: where an instance is universal for a query under the rules, and meets the rules itself, the plan that is
+/// stated for it is universal for the query.
+pub fn stated_plans_are_universal()
+    ensures { (rules : List Rule) (names : List Name) (views : List ConjunctiveQuery) (query end : ConjunctiveQuery) (plan : Plan)
+        → AreRules rules → IsUniversalFor rules query end → IsFinished rules end → IsStatedPlan names views end plan
+        → IsUniversalPlan rules views query (plan_query plan) }
+{
+    rows_of_a_universal_instance_are_a_universal_plan();
+}
