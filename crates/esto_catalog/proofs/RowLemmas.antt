@@ -1,0 +1,113 @@
+-- How the answer of a row follows from what it found.
+use Rattle.std.proofs.Common.{◌≡◌, ◌<◌, ◌≤◌, ℕ, List, length, Bor, Option, Some, None, option_copied, subst, arith, Bool, true, false, not, Result, Ok, Err, inl, inr, refl, sym, ◌∙◌}
+use Rattle.std.proofs.lemmas.Bool.{false≢true}
+use Rattle.std.specs.Prelude.{◌↔◌, MatchOption}
+use Rattle.std.specs.Result.{IsErrAnd}
+use Rattle.esto_course.proofs.Steps.{at_exit, first_stops, then_stops, then_goes, gives_goes}
+use Rattle.esto_course.specs.Course.{Course, judges, gives, refuses, demands, Stops}
+use Rattle.esto_course.specs.Course.Stops.{is_free, refused}
+use Rattle.esto_catalog.specs.Rows.{IsWant, IsAny, IsFault, Walks, fault_at, top}
+use Rattle.esto_catalog.specs.Whole.{reads_section}
+use Rattle.esto_catalog.specs.declared.fault.CatalogueKind.TheVariants.{TooMany}
+use Rattle.esto_catalog.specs.declared.setting.Field.{Field}
+use Rattle.esto_catalog.specs.declared.setting.Setting.{Setting}
+use Rattle.esto_catalog.specs.declared.fault.CatalogueError.{CatalogueError}
+use Rattle.esto_catalog.specs.declared.fault.CatalogueError.TheVariants.{OutOfMemory}
+
+-- an error that `?` hands on
+pub row_exit : {A : Type 0} (course : Course CatalogueError A) (error : CatalogueError) (result : Result A CatalogueError) → IsErrAnd result (λ handed. handed ≡ error) → Stops IsWant IsAny course error → Walks course result
+row_exit course error result handed stops = at_exit course error result handed stops
+
+-- want of memory is free
+pub memory_stops : {A : Type 0} (course : Course CatalogueError A) (error : CatalogueError) → error ≡ OutOfMemory → Stops IsWant IsAny course error
+memory_stops course error is = is_free is
+
+-- the fault itself
+pub fault_is : (fault error : CatalogueError) → error ≡ fault → IsFault fault error
+fault_is fault error is = inl is
+
+-- a row that refuses with the fault
+pub refuses_stops : (A : Type 0) (fault error : CatalogueError) → IsFault fault error → Stops IsWant IsAny (refuses {A = A} fault) error
+unfolding refuses
+refuses_stops A fault error (inl is) = refused tt is
+refuses_stops A fault error (inr want) = is_free want
+
+-- a condition that holds
+pub demands_goes : (condition : Type 0) (fault : CatalogueError) (unit : Unit {0}) → condition → (demands condition fault).goes unit
+unfolding demands
+demands_goes condition fault unit holds = holds
+
+-- a condition that does not hold
+pub demands_stops : (condition : Type 0) (fault error : CatalogueError) → ¬ condition → IsFault fault error → Stops IsWant IsAny (demands condition fault) error
+unfolding demands
+demands_stops condition fault error fails (inl is) = refused tt (fails, is)
+demands_stops condition fault error fails (inr want) = is_free want
+
+-- a condition in other words
+module _ (condition other : Type 0) (fault : CatalogueError) (same : condition ↔ other) where
+  pub same_goes : (unit more : Unit {0}) → (demands condition fault).goes unit → (demands other fault).goes more
+  unfolding demands
+  same_goes unit more holds = same.0 holds
+
+  pub same_stops : (error : CatalogueError) → Stops IsWant IsAny (demands condition fault) error → Stops IsWant IsAny (demands other fault) error
+  unfolding demands
+  same_stops error (is_free is) = is_free is
+  same_stops error (refused because stops) = refused because ((λ holds. stops.0 (same.1 holds)), stops.1)
+
+  pub same_walks : (result : Result (Unit {0}) CatalogueError) → Walks (demands condition fault) result → Walks (demands other fault) result
+  same_walks (Ok unit) goes = same_goes unit unit goes
+  same_walks (Err error) stops = same_stops error stops
+
+-- a test that answers another
+by_test : (answer test : Bool) → answer ≡ test → (answer ≡ true) ↔ (test ≡ true)
+by_test answer test is = ((λ yes. sym is ∙ yes), (λ yes. is ∙ yes))
+
+by_not : (answer test : Bool) → answer ≡ not test → (answer ≡ true) ↔ (test ≡ false)
+by_not answer true is = ((λ yes. absurd (false≢true (sym is ∙ yes))), (λ no. absurd (false≢true (sym no))))
+by_not answer false is = ((λ yes. refl), (λ no. is))
+
+module _ (answer test : Bool) (fault : CatalogueError) where
+  pub test_goes : (unit more : Unit {0}) → (demands (answer ≡ true) fault).goes unit → answer ≡ test → (demands (test ≡ true) fault).goes more
+  test_goes unit more goes is = same_goes _ _ fault (by_test answer test is) unit more goes
+
+  pub test_stops : (error : CatalogueError) → Stops IsWant IsAny (demands (answer ≡ true) fault) error → answer ≡ test → Stops IsWant IsAny (demands (test ≡ true) fault) error
+  test_stops error stops is = same_stops _ _ fault (by_test answer test is) error stops
+
+  pub not_goes : (unit more : Unit {0}) → (demands (answer ≡ true) fault).goes unit → answer ≡ not test → (demands (test ≡ false) fault).goes more
+  not_goes unit more goes is = same_goes _ _ fault (by_not answer test is) unit more goes
+
+  pub not_stops : (error : CatalogueError) → Stops IsWant IsAny (demands (answer ≡ true) fault) error → answer ≡ not test → Stops IsWant IsAny (demands (test ≡ false) fault) error
+  not_stops error stops is = same_stops _ _ fault (by_not answer test is) error stops
+
+-- a judgement that accepts
+pub judges_goes : {A : Type 0} (accepts : A → Type 0) (refuses : CatalogueError → Type 0) (value : A) → accepts value → (judges accepts refuses).goes value
+unfolding judges
+judges_goes accepts refuses value accepted = accepted
+
+-- a judgement that refuses with a fault
+pub judges_stops : {A : Type 0} (accepts : A → Type 0) (refuses : CatalogueError → Type 0) (fault error : CatalogueError) → ((other : CatalogueError) → other ≡ fault → refuses other)
+    → IsFault fault error → Stops IsWant IsAny (judges accepts refuses) error
+unfolding judges
+judges_stops accepts refuses fault error refused_so (inl is) = refused tt (refused_so error is)
+judges_stops accepts refuses fault error refused_so (inr want) = is_free want
+
+-- ---- a section
+
+pub section_goes : (key : List ℕ) (section : Option (List (List Field))) (entries : List (List Field)) → section ≡ Some entries → length entries ≤ 256 → (reads_section key section).goes entries
+section_goes key section entries is few =
+    subst (λ (s : Option (List (List Field))). (reads_section key s).goes entries) (sym is)
+    (then_goes (demands (length entries ≤ 256) (fault_at TooMany top key)) (λ _. gives entries) tt entries (demands_goes (length entries ≤ 256) (fault_at TooMany top key) tt few) (gives_goes CatalogueError entries entries refl))
+
+pub section_stops : (key : List ℕ) (section : Option (List (List Field))) (entries : List (List Field)) (error : CatalogueError) → section ≡ Some entries → 256 < length entries → IsFault (fault_at TooMany top key) error
+    → Stops IsWant IsAny (reads_section key section) error
+section_stops key section entries error is many fault =
+    subst (λ (s : Option (List (List Field))). Stops IsWant IsAny (reads_section key s) error) (sym is)
+    (first_stops (demands (length entries ≤ 256) (fault_at TooMany top key)) (λ _. gives entries) (demands_stops (length entries ≤ 256) (fault_at TooMany top key) error (λ few. absurd (omega arith)) fault))
+
+-- a setting by reference
+pub copied_setting : (found : Option (Bor Setting)) (setting : Option Setting) → MatchOption found (setting ≡ None) (λ it. setting ≡ Some it.now) → option_copied found ≡ setting
+copied_setting None setting is = sym is
+copied_setting (Some it) setting is = sym is
+
+-- the rows, for the search
+pub ruleset rows = (row_exit, first_stops, then_stops, then_goes, gives_goes, memory_stops, fault_is, refuses_stops, demands_goes, demands_stops, judges_goes, test_goes, test_stops, not_goes, not_stops, same_goes, same_stops)

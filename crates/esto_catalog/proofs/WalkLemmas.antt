@@ -1,0 +1,196 @@
+-- What the end of the walk gives.
+use Rattle.std.proofs.Common.{◌≡◌, ◌<◌, ◌+◌, zero, suc, drop, get_or, length-append, ℕ, List, [], ◌∷◌, ◌++◌, length, Bool, false, inl, inr, refl, sym, ap, subst, ◌∙◌, arith, replicate}
+use Rattle.std.specs.Prelude.{Contains}
+use Rattle.std.proofs.Math.ListN.{length-map}
+use Rattle.std.proofs.lemmas.List.Elements.{Contains-push_cases}
+use Rattle.esto_acyclic.specs.Graphs.{AreRanks, IsWithin}
+use Rattle.esto_acyclic.specs.Relations.{HasRelation, IsEdge}
+use Rattle.esto_constraint.specs.Constraints.{rule_of, rules_of}
+use Rattle.esto_constraint.specs.declared.rule.Constraint.{Constraint}
+use Rattle.esto_course.proofs.Steps.{Leads, first_stops, then_goes, gives_goes, turn_next, turn_stops}
+use Rattle.esto_course.specs.Course.{Course, Stops, gives, each}
+use Rattle.esto_query.specs.Schemas.{IsSchema, arities_of}
+use Rattle.esto_query.specs.declared.schema.Relation.{Relation}
+use Rattle.esto_semantics.proofs.ContainsLemmas.{Contains-nil, Contains-cases, Contains-map_from}
+use Rattle.esto_semantics.specs.Rules.{tuple}
+use Rattle.esto_semantics.specs.WellFormed.{AreOver, IsRuleOver}
+use Rattle.esto_semantics.specs.declared.fact.Fact.{Fact}
+use Rattle.esto_term.specs.declared.term.Term.{Term}
+use Rattle.esto_catalog.proofs.DatasetLemmas.{get_below, tables_schema}
+use Rattle.esto_catalog.specs.Datasets.{IsTableDataset, schema_of, words_of}
+use Rattle.esto_catalog.specs.Tables.{IsTables}
+use Rattle.esto_catalog.specs.declared.tables.Tables.{Tables}
+use Rattle.esto_catalog.specs.Constraints.{adds_constraint, reads_constraint, reads_constraints}
+use Rattle.esto_catalog.specs.Fragments.{adds_fragment, reads_fragment, reads_fragments, with_fragment, no_fragments, stored_fragment}
+use Rattle.esto_catalog.specs.Reading.{is_acyclic}
+use Rattle.esto_catalog.specs.Rows.{IsWant, IsAny}
+use Rattle.esto_catalog.specs.declared.catalogue.Catalogue.{Catalogue}
+use Rattle.esto_catalog.specs.Soundness.{AreSoundRules, AreSoundFragments, IsSoundCatalogue, IsSoundFragment, IsSoundView}
+use Rattle.esto_catalog.specs.declared.dataset.Dataset.{Dataset}
+use Rattle.esto_catalog.specs.declared.fault.CatalogueError.{CatalogueError}
+use Rattle.esto_catalog.specs.declared.fault.Place.{Place}
+use Rattle.esto_catalog.specs.declared.fault.Section.TheVariants as section
+use Rattle.esto_catalog.specs.declared.fragment.Fragments.{Fragments}
+use Rattle.esto_catalog.specs.declared.fragment.Stored.{Stored}
+use Rattle.esto_catalog.specs.declared.setting.Field.{Field}
+use Rattle.esto_read.specs.Constraints.{IsConstraintReading, IsConstraintFault}
+use Rattle.esto_read.specs.Readings.{IsReading, IsFirstFault}
+use Rattle.esto_read.specs.declared.read.Form.TheVariants.{View}
+use Rattle.esto_read.specs.declared.read.NamedQuery.{NamedQuery}
+use Rattle.esto_read.specs.declared.words.Word.{Word}
+use Rattle.esto_text.specs.declared.fault.TextFault.{TextFault}
+use Rattle.esto_views.specs.declared.fragments.FragmentDef.{FragmentDef}
+
+relation_below : (schema : List Relation) (atoms : List (Fact Term)) (relation : ℕ) → AreOver (arities_of schema) atoms → HasRelation atoms relation → relation < length schema
+relation_below schema atoms relation over (atom, there, is) =
+    let below : atom.relation < length (arities_of schema) = get_below (arities_of schema) atom.relation (length atom.terms) (over atom there) in
+    let count : length (arities_of schema) ≡ length schema = length-map schema (λ (r : Relation). r.arity) in
+    omega (arith, below, count, is)
+
+-- edges of rules over a schema go between its relations
+pub rules_within : (schema : List Relation) (rules : List Constraint) → AreSoundRules (arities_of schema) rules → IsWithin (length schema) (IsEdge (rules_of rules))
+rules_within schema rules sound from to (body, head, inside, leaves, arrives) =
+    let (rule, there, same) = Contains-map_from rule_of rules (tuple body head) inside in
+    let over : IsRuleOver (arities_of schema) (tuple body head) = subst (IsRuleOver (arities_of schema)) same (sound rule there) in
+    (relation_below schema body from over.0 leaves, relation_below schema head to over.1 arrives)
+
+-- one rule more
+pub rules_more : (arities : List ℕ) (rules : List Constraint) (rule : Constraint) → AreSoundRules arities rules → IsRuleOver arities (rule_of rule) → AreSoundRules arities (rules ++ rule ∷ [])
+rules_more arities rules rule sound over other inside = elim (Contains-push_cases rules rule other inside) [
+  | inl before ↦ sound other before
+  | inr same ↦ subst (λ (r : Constraint). IsRuleOver arities (rule_of r)) same over
+]
+
+pub no_rules : (arities : List ℕ) → AreSoundRules arities []
+no_rules arities rule inside = absurd (Contains-nil rule inside)
+
+-- a turn of the loop over the entries of constraints
+module _ (tables : List Dataset) (entries : List (List Field)) (to : Course CatalogueError (List Constraint)) (index : ℕ) (rules : List Constraint)
+    (leads : Leads (each (adds_constraint tables) (suc index) rules (drop index entries)) to) (item : List Field) (below : index < length entries) (is : item ≡ get_or entries index item)
+    (entry : List Field) (fields : entry ≡ item) where
+  abbrev rule_place : Place
+  rule_place = record { section = section.Constraint; number = index + 1 }
+
+  pub rule_turn : (rule : Constraint) → (reads_constraint rule_place tables entry).goes rule → Leads (each (adds_constraint tables) (suc (index + 1)) (rules ++ rule ∷ []) (drop (index + 1) entries)) to
+  rule_turn rule goes =
+      let here : (reads_constraint rule_place tables item).goes rule = subst (λ (f : List Field). (reads_constraint rule_place tables f).goes rule) fields goes in
+      turn_next (adds_constraint tables) entries to index rules leads item below is (rules ++ rule ∷ [])
+      (then_goes (reads_constraint rule_place tables item) (λ r. gives (rules ++ r ∷ [])) rule (rules ++ rule ∷ []) here (gives_goes CatalogueError _ _ refl))
+
+  pub rule_fails : (error : CatalogueError) → Stops IsWant IsAny (reads_constraint rule_place tables entry) error → Stops IsWant IsAny to error
+  rule_fails error stops =
+      let here : Stops IsWant IsAny (reads_constraint rule_place tables item) error = subst (λ (f : List Field). Stops IsWant IsAny (reads_constraint rule_place tables f) error) fields stops in
+      turn_stops (adds_constraint tables) entries to index rules leads item below is error (first_stops (reads_constraint rule_place tables item) (λ r. gives (rules ++ r ∷ [])) here)
+
+-- a turn of the loop over the entries of fragments
+module _ (tables : List Dataset) (entries : List (List Field)) (to : Course CatalogueError Fragments) (index : ℕ) (fragments : Fragments)
+    (leads : Leads (each (adds_fragment tables) (suc index) fragments (drop index entries)) to) (item : List Field) (below : index < length entries) (is : item ≡ get_or entries index item)
+    (seen : List FragmentDef) (entry : List Field) (same : seen ≡ fragments.definitions) (fields : entry ≡ item) where
+  abbrev fragment_place : Place
+  fragment_place = record { section = section.Fragment; number = index + 1 }
+
+  pub fragment_turn : (fragment : Stored) → (reads_fragment fragment_place tables seen entry).goes fragment
+      → Leads (each (adds_fragment tables) (suc (index + 1)) (with_fragment fragments fragment) (drop (index + 1) entries)) to
+  fragment_turn fragment goes =
+      let here : (reads_fragment fragment_place tables fragments.definitions item).goes fragment =
+      subst (λ (s : List FragmentDef). (reads_fragment fragment_place tables s item).goes fragment) same (subst (λ (f : List Field). (reads_fragment fragment_place tables seen f).goes fragment) fields goes) in
+      turn_next (adds_fragment tables) entries to index fragments leads item below is (with_fragment fragments fragment)
+      (then_goes (reads_fragment fragment_place tables fragments.definitions item) (λ f. gives (with_fragment fragments f)) fragment (with_fragment fragments fragment) here (gives_goes CatalogueError _ _ refl))
+
+  pub fragment_fails : (error : CatalogueError) → Stops IsWant IsAny (reads_fragment fragment_place tables seen entry) error → Stops IsWant IsAny to error
+  fragment_fails error stops =
+      let here : Stops IsWant IsAny (reads_fragment fragment_place tables fragments.definitions item) error =
+      subst (λ (s : List FragmentDef). Stops IsWant IsAny (reads_fragment fragment_place tables s item) error) same
+      (subst (λ (f : List Field). Stops IsWant IsAny (reads_fragment fragment_place tables seen f) error) fields stops) in
+      turn_stops (adds_fragment tables) entries to index fragments leads item below is error (first_stops (reads_fragment fragment_place tables fragments.definitions item) (λ f. gives (with_fragment fragments f)) here)
+
+-- one fragment more
+pub fragments_more : (arities : List ℕ) (fragments : Fragments) (stored : Stored) → AreSoundFragments arities fragments → IsSoundFragment arities stored.definition → AreSoundFragments arities (with_fragment fragments stored)
+fragments_more arities fragments stored sound one = record {
+  sound = λ other inside. elim (Contains-push_cases fragments.definitions stored.definition other inside) [
+    | inl before ↦ sound.sound other before
+    | inr same ↦ subst (IsSoundFragment arities) same one
+  ];
+  stored = length-append fragments.stores (stored.store ∷ []) ∙ (ap (λ n. n + 1) sound.stored ∙ sym (length-append fragments.definitions (stored.definition ∷ [])));
+}
+
+pub no_fragments_sound : (arities : List ℕ) → AreSoundFragments arities no_fragments
+no_fragments_sound arities = record { sound = λ fragment inside. absurd (Contains-nil fragment inside); stored = refl }
+
+outputs_false : (count : ℕ) (input : Bool) → Contains (replicate count false) input → input ≡ false
+outputs_false zero input inside = absurd (Contains-nil input inside)
+outputs_false (suc count) input inside = elim (Contains-cases false (replicate count false) input inside) [ inl same ↦ sym same | inr later ↦ outputs_false count input later ]
+
+length-replicate_false : (count : ℕ) → length (replicate count false) ≡ count
+length-replicate_false zero = refl
+length-replicate_false (suc count) = ap suc (length-replicate_false count)
+
+-- the fragment of a view over the schema
+pub stored_sound : (arities : List ℕ) (view : NamedQuery) (file : List ℕ) (columns : List (List ℕ)) (stored : Stored) → stored ≡ stored_fragment view file columns → IsSoundView arities view → IsSoundFragment arities stored.definition
+stored_sound arities view file columns stored is (over, variables) = subst (λ (s : Stored). IsSoundFragment arities s.definition) (sym is) (record {
+  made = record { variables = variables.0; distinct = variables.1; columns = length-replicate_false (length view.query.head) };
+  view = over;
+  outputs = outputs_false (length view.query.head);
+})
+
+-- what a catalogue keeps, where its graph has ranks
+pub sound_catalogue : (tables : Tables) (fragments : Fragments) (rules : List Constraint) (ranks : List ℕ) → IsTables tables → AreSoundFragments (arities_of tables.schema) fragments → AreSoundRules (arities_of tables.schema) rules
+    → AreRanks (IsEdge (rules_of rules)) (length tables.schema) ranks
+    → IsSoundCatalogue tables.schema tables.words tables.datasets fragments.definitions fragments.stores rules (length rules) ranks
+sound_catalogue tables fragments rules ranks are sound over exact = record {
+  schema_is = subst IsSchema (sym are.schema) (tables_schema tables.datasets are.datasets_are);
+  datasets_are = λ dataset inside. subst (λ (s : List Relation). IsTableDataset s dataset) (sym are.schema) (are.datasets_are.tables dataset inside);
+  named = are.words;
+  vocabulary = are.vocabulary;
+  tables = are.named;
+  fragments_are = λ fragment inside. (sound.sound fragment inside).made;
+  views = λ fragment inside. (sound.sound fragment inside).view;
+  outputs = λ fragment inside. (sound.sound fragment inside).outputs;
+  stored = sound.stored;
+  given_are = refl;
+  rules_are = over;
+  within = rules_within tables.schema rules over;
+  ranks_are = exact;
+}
+
+-- what a text says over tables, said over their datasets
+module _ (tables : Tables) (are : IsTables tables) (text : List ℕ) where
+  over_datasets : (P : List Word → List ℕ → Type 0) → P tables.words (arities_of tables.schema) → P (words_of tables.datasets) (arities_of (schema_of tables.datasets))
+  over_datasets P holds = subst (λ (s : List Relation). P (words_of tables.datasets) (arities_of s)) are.schema (subst (λ (w : List Word). P w (arities_of tables.schema)) are.words holds)
+
+  pub view_over : (view : NamedQuery) → IsReading View tables.words (arities_of tables.schema) text view → IsReading View (words_of tables.datasets) (arities_of (schema_of tables.datasets)) text view
+  view_over view reading = over_datasets (λ words arities. IsReading View words arities text view) reading
+
+  pub view_fault_over : (fault : TextFault) → IsFirstFault View tables.words (arities_of tables.schema) text fault → IsFirstFault View (words_of tables.datasets) (arities_of (schema_of tables.datasets)) text fault
+  view_fault_over fault first = over_datasets (λ words arities. IsFirstFault View words arities text fault) first
+
+  pub rule_over : (rule : Constraint) → IsConstraintReading tables.words (arities_of tables.schema) text rule → IsConstraintReading (words_of tables.datasets) (arities_of (schema_of tables.datasets)) text rule
+  rule_over rule reading = over_datasets (λ words arities. IsConstraintReading words arities text rule) reading
+
+  pub rule_fault_over : (fault : TextFault) → IsConstraintFault tables.words (arities_of tables.schema) text fault → IsConstraintFault (words_of tables.datasets) (arities_of (schema_of tables.datasets)) text fault
+  rule_fault_over fault first = over_datasets (λ words arities. IsConstraintFault words arities text fault) first
+
+-- what holds of datasets and entries, by other names of them
+pub over_same : (P : List Dataset → List (List Field) → Type 0) (tables datasets : List Dataset) (seen entries : List (List Field)) → tables ≡ datasets → seen ≡ entries → P tables seen → P datasets entries
+over_same P tables datasets seen entries same is holds = subst (λ (d : List Dataset). P d entries) same (subst (λ (e : List (List Field)). P tables e) is holds)
+
+pub fragments_same : (tables datasets : List Dataset) (seen entries : List (List Field)) (fragments : Fragments) → tables ≡ datasets → seen ≡ entries → (reads_fragments tables seen).goes fragments → (reads_fragments datasets entries).goes fragments
+fragments_same tables datasets seen entries fragments = over_same (λ d e. (reads_fragments d e).goes fragments) tables datasets seen entries
+
+pub fragments_same_stops : (tables datasets : List Dataset) (seen entries : List (List Field)) (error : CatalogueError) → tables ≡ datasets → seen ≡ entries → Stops IsWant IsAny (reads_fragments tables seen) error
+    → Stops IsWant IsAny (reads_fragments datasets entries) error
+fragments_same_stops tables datasets seen entries error = over_same (λ d e. Stops IsWant IsAny (reads_fragments d e) error) tables datasets seen entries
+
+pub rules_same : (tables datasets : List Dataset) (seen entries : List (List Field)) (rules : List Constraint) → tables ≡ datasets → seen ≡ entries → (reads_constraints tables seen).goes rules → (reads_constraints datasets entries).goes rules
+rules_same tables datasets seen entries rules = over_same (λ d e. (reads_constraints d e).goes rules) tables datasets seen entries
+
+pub rules_same_stops : (tables datasets : List Dataset) (seen entries : List (List Field)) (error : CatalogueError) → tables ≡ datasets → seen ≡ entries → Stops IsWant IsAny (reads_constraints tables seen) error
+    → Stops IsWant IsAny (reads_constraints datasets entries) error
+rules_same_stops tables datasets seen entries error = over_same (λ d e. Stops IsWant IsAny (reads_constraints d e) error) tables datasets seen entries
+
+pub acyclic_same : (tables datasets : List Dataset) (fragments : Fragments) (rules : List Constraint) (catalogue : Catalogue) → tables ≡ datasets → (is_acyclic tables fragments rules).goes catalogue → (is_acyclic datasets fragments rules).goes catalogue
+acyclic_same tables datasets fragments rules catalogue same goes = subst (λ (d : List Dataset). (is_acyclic d fragments rules).goes catalogue) same goes
+
+pub acyclic_same_stops : (tables datasets : List Dataset) (fragments : Fragments) (rules : List Constraint) (error : CatalogueError) → tables ≡ datasets → Stops IsWant IsAny (is_acyclic tables fragments rules) error
+    → Stops IsWant IsAny (is_acyclic datasets fragments rules) error
+acyclic_same_stops tables datasets fragments rules error same stops = subst (λ (d : List Dataset). Stops IsWant IsAny (is_acyclic d fragments rules) error) same stops

@@ -1,0 +1,13 @@
+use Rattle.std.proofs.Common.{suc, drop}
+use Rattle.esto_course.proofs.Steps.{Leads}
+use Rattle.esto_course.specs.Course.{each}
+use Rattle.esto_query.specs.Schemas.{arities_of}
+use Rattle.esto_catalog.specs.Fragments.{adds_fragment, reads_fragments}
+use Rattle.esto_catalog.specs.Soundness.{AreSoundFragments}
+use Rattle.esto_catalog.proofs.fragment.read_fragments.Given as goal
+
+abbrev pub invariant-entries : goal.invariant-entries
+invariant-entries l = record {
+  leads : Leads (each (adds_fragment l.tables.datasets) (suc l.index) (record { definitions = l.definitions; stores = l.stores }) (drop l.index l.entries)) (reads_fragments l.tables.datasets l.entries);
+  sound : AreSoundFragments (arities_of l.tables.schema) (record { definitions = l.definitions; stores = l.stores });
+}

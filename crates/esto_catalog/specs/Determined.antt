@@ -1,0 +1,36 @@
+-- That bytes say one catalogue, or have one first fault.
+use Rattle.std.specs.Prelude.{◌≡◌, ◌≢◌, ℕ, List, map}
+use Rattle.esto_catalog.specs.Reading.{IsCatalogueOf, IsCatalogueError}
+use Rattle.esto_catalog.specs.declared.catalogue.Catalogue.{Catalogue}
+use Rattle.esto_catalog.specs.declared.fault.CatalogueError.{CatalogueError}
+use Rattle.esto_catalog.specs.declared.fault.CatalogueError.TheVariants as error
+use Rattle.esto_constraint.specs.Constraints.{rules_of}
+use Rattle.esto_views.specs.Fragments.{views_of, patterns_of, weights_of}
+
+-- Two catalogues say the same.
+pub record AreSame (catalogue other : Catalogue) : Type 0 where
+  pub schema : catalogue.schema ≡ other.schema
+  pub words : catalogue.words ≡ other.words
+  pub datasets : catalogue.datasets ≡ other.datasets
+  pub names : map (λ fragment. fragment.name) catalogue.fragments ≡ map (λ fragment. fragment.name) other.fragments
+  pub views : views_of catalogue.fragments ≡ views_of other.fragments
+  pub patterns : patterns_of catalogue.fragments ≡ patterns_of other.fragments
+  pub weights : weights_of catalogue.fragments ≡ weights_of other.fragments
+  pub stores : catalogue.stores ≡ other.stores
+  pub rules : rules_of catalogue.rules ≡ rules_of other.rules
+  pub given : catalogue.given ≡ other.given
+  pub ranks : catalogue.ranks ≡ other.ranks
+
+-- Bytes say at most one catalogue.
+abbrev pub HaveOneCatalogue : Type 0
+HaveOneCatalogue = (bytes : List ℕ) (catalogue other : Catalogue) → IsCatalogueOf bytes catalogue → IsCatalogueOf bytes other → AreSame catalogue other
+
+-- Bytes that say a catalogue have no fault.
+abbrev pub HaveNoError : Type 0
+HaveNoError = (bytes : List ℕ) (catalogue : Catalogue) (cause : CatalogueError) → IsCatalogueOf bytes catalogue → IsCatalogueError bytes cause → cause ≡ error.OutOfMemory
+
+-- Bytes have at most one first fault.
+abbrev pub HaveOneError : Type 0
+HaveOneError =
+    (bytes : List ℕ) (cause other : CatalogueError) → IsCatalogueError bytes cause → IsCatalogueError bytes other → cause ≢ error.OutOfMemory → other ≢ error.OutOfMemory
+    → cause ≡ other

@@ -1,0 +1,10 @@
+pub mod Settings
+pub mod Rows
+pub mod Whole
+pub mod Datasets
+pub mod Tables
+pub mod Fragments
+pub mod Constraints
+pub mod Soundness
+pub mod Reading
+pub mod Determined

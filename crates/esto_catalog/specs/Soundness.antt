@@ -1,0 +1,56 @@
+-- What catalogues keep.
+use Rattle.std.specs.Prelude.{◌≡◌, ℕ, List, length, Contains, Bool, false}
+use Rattle.esto_acyclic.specs.Graphs.{IsWithin, AreRanks}
+use Rattle.esto_acyclic.specs.Relations.{IsEdge}
+use Rattle.esto_catalog.specs.Datasets.{IsTableDataset, words_of}
+use Rattle.esto_catalog.specs.declared.dataset.Dataset.{Dataset}
+use Rattle.esto_catalog.specs.declared.dataset.Store.{Store}
+use Rattle.esto_constraint.specs.Constraints.{rule_of, rules_of}
+use Rattle.esto_constraint.specs.declared.rule.Constraint.{Constraint}
+use Rattle.esto_query.specs.Making.{query_of}
+use Rattle.esto_query.specs.Schemas.{IsSchema, arities_of}
+use Rattle.esto_query.specs.declared.schema.Relation.{Relation}
+use Rattle.esto_catalog.specs.declared.fragment.Fragments.{Fragments}
+use Rattle.esto_read.specs.Readings.{HasVariables}
+use Rattle.esto_read.specs.declared.read.Form.TheVariants.{View}
+use Rattle.esto_read.specs.declared.read.NamedQuery.{NamedQuery}
+use Rattle.esto_read.specs.Words.{IsVocabulary, AreTables}
+use Rattle.esto_read.specs.declared.words.Word.{Word}
+use Rattle.esto_semantics.specs.WellFormed.{IsQueryOver, IsRuleOver}
+use Rattle.esto_views.specs.Fragments.{IsFragment, AreFragments}
+use Rattle.esto_views.specs.declared.fragments.FragmentDef.{FragmentDef}
+
+-- A view is over the schema, and its head is of distinct variables.
+abbrev pub IsSoundView : List ℕ → NamedQuery → Type 0
+IsSoundView schema view = IsQueryOver schema (query_of view.query) × HasVariables View view.query.head
+
+-- A fragment is well made, its view is over the schema, and no column is an input.
+pub record IsSoundFragment (schema : List ℕ) (fragment : FragmentDef) : Type 0 where
+  pub made : IsFragment fragment
+  pub view : IsQueryOver schema (query_of fragment.view)
+  pub outputs : (input : Bool) → Contains fragment.access input → input ≡ false
+
+-- Each rule is over the schema.
+abbrev pub AreSoundRules : List ℕ → List Constraint → Type 0
+AreSoundRules schema rules = (rule : Constraint) → Contains rules rule → IsRuleOver schema (rule_of rule)
+
+-- Each fragment is sound, and each has a store.
+pub record AreSoundFragments (schema : List ℕ) (fragments : Fragments) : Type 0 where
+  pub sound : (fragment : FragmentDef) → Contains fragments.definitions fragment → IsSoundFragment schema fragment
+  pub stored : length fragments.stores ≡ length fragments.definitions
+
+-- The relations are those of table datasets, and the words name them; the fragments are well made, their views are over the schema, no column of theirs is an input, and each has a store; the rules are the given ones and over the schema, and the ranks are those of the relations by them.
+pub record IsSoundCatalogue (schema : List Relation) (words : List Word) (datasets : List Dataset) (fragments : List FragmentDef) (stores : List Store) (rules : List Constraint) (given : ℕ) (ranks : List ℕ) : Type 0 where
+  pub schema_is : IsSchema schema
+  pub datasets_are : (dataset : Dataset) → Contains datasets dataset → IsTableDataset schema dataset
+  pub named : words ≡ words_of datasets
+  pub vocabulary : IsVocabulary (arities_of schema) words
+  pub tables : AreTables words
+  pub fragments_are : AreFragments fragments
+  pub views : (fragment : FragmentDef) → Contains fragments fragment → IsQueryOver (arities_of schema) (query_of fragment.view)
+  pub outputs : (fragment : FragmentDef) → Contains fragments fragment → (input : Bool) → Contains fragment.access input → input ≡ false
+  pub stored : length stores ≡ length fragments
+  pub given_are : given ≡ length rules
+  pub rules_are : (rule : Constraint) → Contains rules rule → IsRuleOver (arities_of schema) (rule_of rule)
+  pub within : IsWithin (length schema) (IsEdge (rules_of rules))
+  pub ranks_are : AreRanks (IsEdge (rules_of rules)) (length schema) ranks

@@ -1,0 +1,93 @@
+//! The rows of a constraint.
+ghost use Rattle.std.specs.Prelude.{IfOk};
+ghost use Rattle.esto_constraint.specs.Constraints.{rule_of};
+ghost use Rattle.esto_query.specs.Schemas.{arities_of};
+ghost use Rattle.esto_semantics.specs.WellFormed.{IsRuleOver};
+ghost use Rattle.esto_catalog.specs.Constraints.{reads_rule, rule_row, reads_constraint, reads_constraints};
+ghost use Rattle.esto_catalog.specs.Rows.{Walks};
+ghost use Rattle.esto_catalog.specs.Soundness.{AreSoundRules};
+ghost use Rattle.esto_catalog.specs.Tables.{IsTables};
+
+use crate::fault::{CatalogueError, Place, Section, text_fault};
+use crate::row::{knows_keys, needs_text};
+use crate::setting::{Entry, Field};
+use crate::tables::Tables;
+use esto_constraint::{Constraint, Rules};
+use esto_read::{ReadError, read_constraint};
+use esto_term::{List, Text};
+use std::alloc::Global;
+
+// The constraint that the text is, or its first fault.
+fn rule_of_text(
+    alloc: Global,
+    place: Place,
+    tables: &Tables,
+    text: &Text,
+) -> Result<Constraint, CatalogueError>
+    requires { IsTables tables.now }
+    ensures rule { Walks (reads_rule place tables.now.datasets text.now) result }
+    ensures over { IfOk result (λ rule. IsRuleOver (arities_of tables.now.schema) (rule_of rule)) }
+{
+    match read_constraint(alloc, text.bytes(), &tables.words, &tables.schema) {
+        Ok(rule) => Ok(rule),
+        Err(ReadError::Fault(found)) => Err(text_fault(alloc, found, place, "rule")),
+        Err(ReadError::OutOfMemory) => Err(CatalogueError::OutOfMemory),
+    }
+}
+
+// The rule.
+#[tactic(auto, using(crate::proofs::RowLemmas::rows))]
+fn rule(
+    alloc: Global,
+    place: Place,
+    tables: &Tables,
+    entry: &[Field],
+) -> Result<Constraint, CatalogueError>
+    requires { IsTables tables.now }
+    ensures rule { Walks (rule_row place tables.now.datasets entry.now) result }
+    ensures over { IfOk result (λ rule. IsRuleOver (arities_of tables.now.schema) (rule_of rule)) }
+{
+    let text = needs_text(alloc, place, "rule", entry)?;
+    let rule = rule_of_text(alloc, place, tables, &text)?;
+    Ok(rule)
+}
+
+// The rows of a constraint, in order: unknown keys, rule.
+#[tactic(auto, using(crate::proofs::RowLemmas::rows))]
+fn read_entry(
+    alloc: Global,
+    place: Place,
+    tables: &Tables,
+    entry: &[Field],
+) -> Result<Constraint, CatalogueError>
+    requires { IsTables tables.now }
+    ensures rule { Walks (reads_constraint place tables.now.datasets entry.now) result }
+    ensures over { IfOk result (λ rule. IsRuleOver (arities_of tables.now.schema) (rule_of rule)) }
+{
+    knows_keys(alloc, place, entry)?;
+    let rule = rule(alloc, place, tables, entry)?;
+    Ok(rule)
+}
+
+/// The constraints of the entries, in order, counted from 1.
+pub fn read_constraints(
+    alloc: Global,
+    tables: &Tables,
+    entries: &[Entry],
+) -> Result<Rules, CatalogueError>
+    requires { IsTables tables.now }
+    ensures rules { Walks (reads_constraints tables.now.datasets entries.now) result }
+    ensures over { IfOk result (AreSoundRules (arities_of tables.now.schema)) }
+{
+    let mut rules = List::new(alloc);
+    'entries: for (index, entry) in entries.iter().enumerate() {
+        let place = Place {
+            section: Section::Constraint,
+            number: index as u64 + 1,
+        };
+        let fields = entry.items();
+        let rule = read_entry(alloc, place, tables, fields)?;
+        rules.push(rule)?;
+    }
+    Ok(rules)
+}

@@ -1,0 +1,153 @@
+//! What rows of the catalogue's table have in common.
+ghost use Rattle.std.specs.Prelude.{◌≡◌, ℕ, List, codes, Contains, MatchOption, option_copied};
+ghost use Rattle.esto_course.specs.Course.{demands};
+ghost use Rattle.esto_catalog.specs.Datasets.{unfit_row};
+ghost use Rattle.esto_catalog.specs.Rows.{Walks, is_known, IsUnknown, IsLeastUnknown, IsLesserOf, knows_keys, needs_text, allows_text, needs_texts};
+ghost use Rattle.esto_catalog.specs.Settings.{setting_at};
+
+use crate::fault::{CatalogueError, CatalogueKind, Place, Section, demand, fault};
+use crate::setting::{Field, Setting, has_key, is_same, setting_at};
+use esto_term::{Replicate, Text, TextRow};
+use std::alloc::Global;
+
+// Whether the section knows the key.
+fn is_known(section: Section, key: &Text) -> bool
+    ensures { result ≡ is_known section key.now }
+{
+    match section {
+        Section::Top => {
+            is_same(key, "version")
+                || is_same(key, "dataset")
+                || is_same(key, "fragment")
+                || is_same(key, "constraint")
+        }
+        Section::Dataset => {
+            is_same(key, "name")
+                || is_same(key, "model")
+                || is_same(key, "columns")
+                || is_same(key, "layout")
+                || is_same(key, "file")
+        }
+        Section::Fragment => {
+            is_same(key, "view")
+                || is_same(key, "store")
+                || is_same(key, "file")
+                || is_same(key, "columns")
+                || is_same(key, "layout")
+                || is_same(key, "pattern")
+                || is_same(key, "access")
+                || is_same(key, "weight")
+        }
+        Section::Constraint => is_same(key, "rule"),
+    }
+}
+
+// The lesser of two keys by bytes, where there are two.
+fn lesser<'a>(least: Option<&'a Text>, key: &'a Text) -> &'a Text
+    ensures { IsLesserOf (option_copied least.entry) key.now result.now }
+{
+    match least {
+        Some(other) => {
+            if key.bytes().cmp(other.bytes()).is_lt() {
+                key
+            } else {
+                other
+            }
+        }
+        None => key,
+    }
+}
+
+// The least unknown key of the entry, by bytes.
+fn least_unknown<'a>(section: Section, entry: &'a [Field]) -> Option<&'a Text>
+    ensures { MatchOption result ((key : List ℕ) → ¬ IsUnknown section entry.now key) (λ key. IsLeastUnknown section entry.now key.now) }
+{
+    let mut least: Option<&'a Text> = None;
+    'fields: for field in entry {
+        if !is_known(section, &field.key) {
+            least = Some(lesser(least, &field.key));
+        }
+    }
+    least
+}
+
+/// Each key of the entry is known; else UnknownKey at the least unknown one.
+pub fn knows_keys(alloc: Global, place: Place, entry: &[Field]) -> Result<(), CatalogueError>
+    ensures { Walks (knows_keys place entry.now) result }
+{
+    match least_unknown(place.section, entry) {
+        Some(key) => Err(fault(alloc, CatalogueKind::UnknownKey, place, key.as_str())),
+        None => Ok(()),
+    }
+}
+
+/// The text at the key; Missing where it is absent, WrongType where it is something else.
+#[tactic(auto, using(crate::proofs::RowLemmas::rows))]
+pub fn needs_text(
+    alloc: Global,
+    place: Place,
+    key: &str,
+    entry: &[Field],
+) -> Result<Text, CatalogueError>
+    ensures { Walks (needs_text place key.now (setting_at key.now entry.now)) result }
+{
+    match setting_at(key, entry) {
+        None => Err(fault(alloc, CatalogueKind::Missing, place, key)),
+        Some(Setting::Text(text)) => Ok(text.copy(alloc)?),
+        Some(Setting::Integer(_)) => Err(fault(alloc, CatalogueKind::WrongType, place, key)),
+        Some(Setting::Texts(_)) => Err(fault(alloc, CatalogueKind::WrongType, place, key)),
+        Some(Setting::Other) => Err(fault(alloc, CatalogueKind::WrongType, place, key)),
+    }
+}
+
+/// The text at the key, where there is one; WrongType where it is something else.
+#[tactic(auto, using(crate::proofs::RowLemmas::rows))]
+pub fn allows_text(
+    alloc: Global,
+    place: Place,
+    key: &str,
+    entry: &[Field],
+) -> Result<Option<Text>, CatalogueError>
+    ensures { Walks (allows_text place key.now (setting_at key.now entry.now)) result }
+{
+    match setting_at(key, entry) {
+        None => Ok(None),
+        Some(Setting::Text(text)) => Ok(Some(text.copy(alloc)?)),
+        Some(Setting::Integer(_)) => Err(fault(alloc, CatalogueKind::WrongType, place, key)),
+        Some(Setting::Texts(_)) => Err(fault(alloc, CatalogueKind::WrongType, place, key)),
+        Some(Setting::Other) => Err(fault(alloc, CatalogueKind::WrongType, place, key)),
+    }
+}
+
+/// The texts at the key; Missing where it is absent, WrongType where it is something else.
+#[tactic(auto, using(crate::proofs::RowLemmas::rows))]
+pub fn needs_texts(
+    alloc: Global,
+    place: Place,
+    key: &str,
+    entry: &[Field],
+) -> Result<TextRow, CatalogueError>
+    ensures { Walks (needs_texts place key.now (setting_at key.now entry.now)) result }
+{
+    match setting_at(key, entry) {
+        None => Err(fault(alloc, CatalogueKind::Missing, place, key)),
+        Some(Setting::Texts(texts)) => Ok(texts.copy(alloc)?),
+        Some(Setting::Text(_)) => Err(fault(alloc, CatalogueKind::WrongType, place, key)),
+        Some(Setting::Integer(_)) => Err(fault(alloc, CatalogueKind::WrongType, place, key)),
+        Some(Setting::Other) => Err(fault(alloc, CatalogueKind::WrongType, place, key)),
+    }
+}
+
+/// The key is absent, since it is for other models or stores than tables; else Unfit.
+#[tactic(auto, using(crate::proofs::RowLemmas::rows))]
+pub fn unfit(alloc: Global, key: &str, place: Place, entry: &[Field]) -> Result<(), CatalogueError>
+    ensures { Walks (unfit_row key.now place entry.now) result }
+{
+    demand(
+        alloc,
+        !has_key(key, entry),
+        CatalogueKind::Unfit,
+        place,
+        key,
+    )
+}

@@ -1,0 +1,196 @@
+//! What is written in a catalogue, in plain data: after this file nothing knows TOML.
+ghost use Rattle.std.specs.Prelude.{◌≡◌, ◌↔◌, None, Some, IfOk, IsTrue, MatchOption};
+ghost use Rattle.toml.specs.Data.{get_member};
+ghost use Rattle.toml.specs.View.{view, items_view, table_view};
+ghost use Rattle.esto_catalog.specs.Rows.{Walks};
+ghost use Rattle.esto_catalog.specs.Settings.{is_same, has_key, is_set_to, setting_at, texts_of, array_setting, setting_of, entry_of, entries_of, section_of, document_of};
+ghost use Rattle.esto_catalog.specs.Whole.{reads_toml};
+
+use crate::fault::{CatalogueError, CatalogueKind, TOP, fault};
+use esto_term::{List, OutOfMemory, Text, TextRow};
+use std::alloc::Global;
+use toml::{Table, Value};
+
+/// What a key is set to.
+#[derive(Drop)]
+pub enum Setting {
+    Text(Text),
+    Integer(i64),
+    /// An array of texts alone, which may be empty.
+    Texts(TextRow),
+    /// Anything else.
+    Other,
+}
+
+/// A key and what it is set to.
+#[derive(Drop)]
+pub struct Field {
+    pub key: Text,
+    pub setting: Setting,
+}
+
+/// The keys of a table with their settings.
+pub type Entry = List<Field>;
+
+/// The entries of a section, in order.
+pub type Entries = List<Entry>;
+
+/// A catalogue's file: its top keys, and its sections, each None where it is no array of tables.
+#[derive(Drop)]
+pub struct Document {
+    pub fields: Entry,
+    pub datasets: Option<Entries>,
+    pub fragments: Option<Entries>,
+    pub constraints: Option<Entries>,
+}
+
+fn text_of(alloc: Global, text: &str) -> Result<Text, OutOfMemory>
+    ensures { IfOk result (λ it. it ≡ text.now) }
+{
+    match Text::from_bytes(alloc, text.as_bytes()) {
+        Ok(text) => Ok(text),
+        Err(_) => Err(OutOfMemory),
+    }
+}
+
+// The texts of an array, or None where it has something else.
+fn texts_of(alloc: Global, array: &[Value]) -> Result<Option<TextRow>, OutOfMemory>
+    ensures { IfOk result (λ it. it ≡ texts_of (items_view array.now)) }
+{
+    let mut texts = List::new(alloc);
+    'items: for item in array {
+        match item.as_str() {
+            Some(text) => texts.push(text_of(alloc, text)?)?,
+            None => return Ok(None),
+        }
+    }
+    Ok(Some(texts))
+}
+
+fn array_setting(alloc: Global, array: &[Value]) -> Result<Setting, OutOfMemory>
+    ensures { IfOk result (λ it. it ≡ array_setting (texts_of (items_view array.now))) }
+{
+    match texts_of(alloc, array)? {
+        Some(texts) => Ok(Setting::Texts(texts)),
+        None => Ok(Setting::Other),
+    }
+}
+
+fn setting_of(alloc: Global, value: &Value) -> Result<Setting, OutOfMemory>
+    ensures { IfOk result (λ it. it ≡ setting_of (view value.now)) }
+{
+    if let Some(text) = value.as_str() {
+        return Ok(Setting::Text(text_of(alloc, text)?));
+    }
+    if let Some(number) = value.as_integer() {
+        return Ok(Setting::Integer(number));
+    }
+    match value.as_array() {
+        Some(array) => array_setting(alloc, array.as_slice()),
+        None => Ok(Setting::Other),
+    }
+}
+
+fn entry_of(alloc: Global, table: &Table) -> Result<Entry, OutOfMemory>
+    ensures { IfOk result (λ it. it ≡ entry_of (table_view table.now)) }
+{
+    let mut entry = List::new(alloc);
+    'fields: for (key, value) in table {
+        let key = text_of(alloc, key.as_str())?;
+        let setting = setting_of(alloc, value)?;
+        entry.push(Field { key, setting })?;
+    }
+    Ok(entry)
+}
+
+// The entries of an array, or None where it has something else than tables.
+fn entries_of(alloc: Global, array: &[Value]) -> Result<Option<Entries>, OutOfMemory>
+    ensures { IfOk result (λ it. it ≡ entries_of (items_view array.now)) }
+{
+    let mut entries = List::new(alloc);
+    'items: for item in array {
+        match item.as_table() {
+            Some(table) => entries.push(entry_of(alloc, table)?)?,
+            None => return Ok(None),
+        }
+    }
+    Ok(Some(entries))
+}
+
+// The entries of a section, or None where it is no array of tables.
+fn section_of(alloc: Global, table: &Table, key: &str) -> Result<Option<Entries>, OutOfMemory>
+    ensures { IfOk result (λ it. it ≡ section_of (get_member key.now (table_view table.now))) }
+{
+    let Some(value) = table.get(key) else {
+        return Ok(Some(List::new(alloc)));
+    };
+    match value.as_array() {
+        Some(array) => entries_of(alloc, array.as_slice()),
+        None => Ok(None),
+    }
+}
+
+fn document_of(alloc: Global, table: &Table) -> Result<Document, OutOfMemory>
+    ensures { IfOk result (λ it. it ≡ document_of (table_view table.now)) }
+{
+    let fields = entry_of(alloc, table)?;
+    let datasets = section_of(alloc, table, "dataset")?;
+    let fragments = section_of(alloc, table, "fragment")?;
+    let constraints = section_of(alloc, table, "constraint")?;
+    Ok(Document {
+        fields,
+        datasets,
+        fragments,
+        constraints,
+    })
+}
+
+/// The file that the bytes are as TOML, or its fault.
+pub fn read_toml(alloc: Global, bytes: &[u8]) -> Result<Document, CatalogueError>
+    ensures { Walks (reads_toml bytes.now) result }
+{
+    match toml::table_from_slice(alloc, bytes) {
+        Ok(table) => Ok(document_of(alloc, &table)?),
+        Err(error) if error.is_memory() => Err(CatalogueError::OutOfMemory),
+        Err(_) => Err(fault(alloc, CatalogueKind::Toml, TOP, "-")),
+    }
+}
+
+/// Whether the texts are the same.
+pub fn is_same(text: &Text, other: &str) -> bool
+    ensures { result ≡ is_same text.now other.now }
+{
+    text.bytes() == other.as_bytes()
+}
+
+/// Whether the entry has the key.
+pub fn has_key(key: &str, entry: &[Field]) -> bool
+    ensures { result ≡ has_key key.now entry.now }
+{
+    entry.iter().any(|field| is_same(&field.key, key))
+}
+
+/// What the key is set to, where the entry has it.
+pub fn setting_at<'a>(key: &str, entry: &'a [Field]) -> Option<&'a Setting>
+    ensures { MatchOption result (setting_at key.now entry.now ≡ None) (λ setting. setting_at key.now entry.now ≡ Some setting.now) }
+{
+    'fields: for field in entry {
+        if is_same(&field.key, key) {
+            return Some(&field.setting);
+        }
+    }
+    None
+}
+
+/// Whether the key is set to this text.
+pub fn is_set_to(text: &str, key: &str, entry: &[Field]) -> bool
+    ensures { result ≡ is_set_to text.now (setting_at key.now entry.now) }
+{
+    match setting_at(key, entry) {
+        Some(Setting::Text(other)) => is_same(other, text),
+        Some(Setting::Integer(_)) => false,
+        Some(Setting::Texts(_)) => false,
+        Some(Setting::Other) => false,
+        None => false,
+    }
+}

@@ -1,0 +1,103 @@
+//! The walk over the rows of the whole catalogue.
+ghost use Rattle.std.specs.Prelude.{IfOk, IfErr};
+ghost use Rattle.esto_query.specs.Schemas.{arities_of};
+ghost use Rattle.esto_catalog.specs.Determined.{HaveOneCatalogue, HaveNoError, HaveOneError};
+ghost use Rattle.esto_catalog.specs.Reading.{IsCatalogueOf, IsCatalogueError, is_acyclic, reads_catalogue};
+ghost use Rattle.esto_catalog.specs.Rows.{Walks};
+ghost use Rattle.esto_catalog.specs.Soundness.{AreSoundFragments, AreSoundRules, IsSoundCatalogue};
+ghost use Rattle.esto_catalog.specs.Tables.{IsTables};
+ghost use Rattle.esto_catalog.specs.declared.catalogue.Catalogue.{Catalogue};
+
+use crate::catalogue::Catalogue;
+use crate::constraint::read_constraints;
+use crate::dataset_rows::read_datasets;
+use crate::fault::CatalogueError;
+use crate::fragment::{Fragments, read_fragments};
+use crate::tables::{Tables, tables_of};
+use crate::whole::read_whole;
+use either::{Left, Right};
+use esto_acyclic::{judge, judgements_are_exact};
+use esto_constraint::Rules;
+use esto_read::{constraint_readings_are_determined, readings_are_determined};
+use std::alloc::Global;
+
+// The catalogue of datasets, fragments and rules; or the least cycle of the rules' graph of relations.
+fn judged(
+    alloc: Global,
+    tables: Tables,
+    fragments: Fragments,
+    rules: Rules,
+) -> Result<Catalogue, CatalogueError>
+    requires tables { IsTables tables }
+    requires fragments { AreSoundFragments (arities_of tables.schema) fragments }
+    requires rules { AreSoundRules (arities_of tables.schema) rules }
+    ensures { Walks (is_acyclic tables.datasets fragments rules) result }
+{
+    let Tables {
+        datasets,
+        schema,
+        words,
+    } = tables;
+    let Fragments {
+        definitions,
+        stores,
+    } = fragments;
+    match judge(alloc, &schema, &rules)? {
+        Left(ranks) => Ok(Catalogue {
+            schema,
+            words,
+            datasets,
+            fragments: definitions,
+            stores,
+            given: rules.len(),
+            rules,
+            ranks,
+        }),
+        Right(cycle) => Err(CatalogueError::NotAcyclic(cycle)),
+    }
+}
+
+// The walk over the rows.
+#[tactic(auto, using(crate::proofs::RowLemmas::rows))]
+fn walk(alloc: Global, bytes: &[u8]) -> Result<Catalogue, CatalogueError>
+    ensures { Walks (reads_catalogue bytes.now) result }
+{
+    let sections = read_whole(alloc, bytes)?;
+    let dataset_entries = sections.datasets.items();
+    let datasets = read_datasets(alloc, dataset_entries)?;
+    let tables = tables_of(alloc, datasets)?;
+    let fragment_entries = sections.fragments.items();
+    let fragments = read_fragments(alloc, &tables, fragment_entries)?;
+    let constraint_entries = sections.constraints.items();
+    let rules = read_constraints(alloc, &tables, constraint_entries)?;
+    let catalogue = judged(alloc, tables, fragments, rules)?;
+    Ok(catalogue)
+}
+
+/// The catalogue that the bytes say; or its first fault; or NotBuilt, which stands between the faults of the whole file
+/// and those of its entries; or, where there is no fault, the least cycle by which a relation leads back to itself.
+pub fn read_catalogue(alloc: Global, bytes: &[u8]) -> Result<Catalogue, CatalogueError>
+    // The answer is the reading of the bytes.
+    ensures reading { IfOk result (IsCatalogueOf bytes.now) }
+    // A fault is the first one; a cycle is told only where there is no fault, and is the least.
+    ensures error { IfErr result (IsCatalogueError bytes.now) }
+{
+    walk(alloc, bytes)
+}
+
+/// A law: each catalogue keeps what its description says.
+pub fn catalogues_are_sound()
+    ensures { (it : Catalogue) → IsSoundCatalogue it.schema it.words it.datasets it.fragments it.stores it.rules it.given it.ranks }
+{}
+
+/// A law: bytes say at most one catalogue, up to what its views and rules mean, or have at most one first fault, and
+/// never both. Want of memory is excepted.
+pub fn catalogues_are_determined()
+    ensures catalogue { HaveOneCatalogue }
+    ensures apart { HaveNoError }
+    ensures error { HaveOneError }
+{
+    readings_are_determined();
+    constraint_readings_are_determined();
+    judgements_are_exact();
+}
