@@ -8,8 +8,8 @@ use std::alloc::Global;
 use std::env;
 use std::process::ExitCode;
 
-// The words after the program's name. What is not UTF-8 is outside the claims, and is answered as a word that names
-// no command.
+// The words after the program's name. What is not UTF-8 is outside the claims, and is answered as words outside the
+// grammar.
 fn words_of(rt: &HostRuntime, alloc: Global) -> Result<List<Text>, Status> {
     let mut words = List::new(alloc);
     let Ok(arguments) = env::args(rt) else {
@@ -18,7 +18,7 @@ fn words_of(rt: &HostRuntime, alloc: Global) -> Result<List<Text>, Status> {
     'arguments: for argument in arguments.skip(1) {
         match Text::from_bytes(alloc, argument.as_bytes()) {
             Ok(word) => words.push(word)?,
-            Err(TextError::NotUtf8) => return Err(Status::NotBuilt),
+            Err(TextError::NotUtf8) => return Err(Status::Usage),
             Err(TextError::OutOfMemory) => return Err(Status::OutOfMemory),
         }
     }

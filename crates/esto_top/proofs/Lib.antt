@@ -1,3 +1,11 @@
 pub mod Steps
 pub mod Mediation
-pub mod WordLemmas
+pub mod CheckLemmas
+pub mod OpeningLemmas
+pub mod PlainLemmas
+pub mod LeadLemmas
+pub mod OneListLemmas
+pub mod AlikeLemmas
+pub mod HeadlineLemmas
+pub mod AgreeLemmas
+pub mod DeterminedLemmas

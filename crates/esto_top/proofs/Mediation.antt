@@ -50,6 +50,10 @@ write_fault course rose sink_rose old new result (whole text says appends) is = 
 write_fault course rose sink_rose old new result (cut said text kept says risen appends e) is = (risen, (said, text, kept, says, appends))
 write_fault course rose sink_rose old new result (nothing keeps e) is = let h : status.OutOfMemory ≡ status.WriteFault = sym e ∙ is in cc
 
-pub not_built : (files : Option Files) (rose : Type 0) (request : Option Request) → request ≡ None → Stops (course_of_asked files request) rose status.NotBuilt
+-- a course that refuses stops with its refusal
+pub refused_by : {A : Type 0} (rose : Type 0) (refusal : Status) → IsCaused rose refusal → Stops (course_refuses {A = A} refusal) rose refusal
 unfolding course_refuses
-not_built files rose request e = rw e (refused tt refl)
+refused_by rose refusal caused = refused caused refl
+
+pub usage : (files : Option Files) (rose : Type 0) (request : Option Request) → request ≡ None → Stops (course_of_asked files request) rose status.Usage
+usage files rose request e = rw e (refused_by rose status.Usage tt)

@@ -27,7 +27,7 @@ and_then {A} first next = record {
   stops = λ status. first.stops status ⊎ ((value : A) × first.goes value × (next value).stops status);
 }
 
--- A read fault has its cause: the shelf's count rose. No command stops with a write fault, nor, but for want of memory, with that.
+-- A read fault comes only where the shelf's count rose. No course stops with a write fault. Want of memory needs no cause, and is told apart.
 abbrev pub IsCaused : Type 0 → Status → Type 0
 IsCaused rose (ReadFault name) = rose
 IsCaused rose WriteFault = ⊥

@@ -10,7 +10,7 @@ use Rattle.esto_top.specs.declared.status.Status.TheVariants.{ReadFault, TooLong
 abbrev pub without_mark : List ℕ → List ℕ
 without_mark bytes = if starts_with nat_eq bytes (239 ∷ 187 ∷ 191 ∷ []) then drop 3 bytes else bytes
 
--- The fetch is at a fault, or the file is longer than the limit.
+-- The fetch is at a fault, whose cause is asked for where the status is said; or the file is longer than the limit.
 pub data FetchStops (files : Option Files) (name : List ℕ) (limit : ℕ) (status : Status) : Type 0 where
   fails : status ≡ ReadFault name → FetchStops files name limit status
   is_longer : (file : List ℕ) → Holds files name file → limit < length file → status ≡ TooLong name limit → FetchStops files name limit status

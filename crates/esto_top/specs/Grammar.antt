@@ -1,38 +1,85 @@
 -- The command line: its grammar, and the course of each command.
-use Rattle.std.specs.Prelude.{ℕ, List, [], ◌∷◌, Bool, Option, Some, None, if◌then◌else◌, codes, nat_eq}
+use Rattle.std.specs.Prelude.{ℕ, ◌==◌, nat_le, nat_lt, List, [], ◌∷◌, length, Bool, false, ◌&&◌, ◌||◌, Option, Some, None, if◌then◌else◌, codes, nat_eq}
 use Rattle.std.specs.Cmp.Lexicographic.{pointwise}
+use Rattle.std.specs.List.{list_all}
 use Rattle.esto_ports.specs.Files.{Files}
+use Rattle.esto_top.specs.Check.{check_course}
 use Rattle.esto_top.specs.Course.{Course, refuses}
 use Rattle.esto_top.specs.List.{list_course}
 use Rattle.esto_top.specs.declared.command.Command.{Command}
 use Rattle.esto_top.specs.declared.command.Command.TheVariants as command
 use Rattle.esto_top.specs.declared.ending.Reply.{Reply}
-use Rattle.esto_top.specs.declared.status.Status.TheVariants.{NotBuilt}
+use Rattle.esto_top.specs.declared.status.Status.TheVariants.{Usage, NotBuilt}
 
--- What the words ask for: the list for the names of a catalogue's and a query's file.
+-- What words of the grammar ask for: the check of a catalogue's file, the list for a catalogue's and a query's file, or what is not built yet.
 pub data Request : Type 0 where
+  CheckOf : List ℕ → Request
   ListFor : List ℕ → List ℕ → Request
+  Unbuilt : Request
 
 -- The word has these bytes.
 abbrev pub is_word : List ℕ → List ℕ → Bool
 is_word word name = pointwise nat_eq word name
 
--- What the words ask for, or nothing where it is not built yet.
+-- The byte is a digit.
+abbrev pub is_digit : ℕ → Bool
+is_digit byte = nat_le 48 byte && nat_le byte 57
+
+-- The byte is a digit other than 0.
+abbrev pub is_leading_digit : ℕ → Bool
+is_leading_digit byte = nat_le 49 byte && nat_le byte 57
+
+-- The word is a number of the list: one to nine digits, of which the first is not 0.
+abbrev pub is_list_number : List ℕ → Bool
+is_list_number [] = false
+is_list_number (first ∷ rest) = is_leading_digit first && (nat_lt (length rest) 9 && list_all is_digit rest)
+
+-- The word is a size of the made case: 1 to 14 in decimal, so a digit other than 0, or 1 and a digit up to 4.
+abbrev pub is_made_size : List ℕ → Bool
+is_made_size (digit ∷ []) = is_leading_digit digit
+is_made_size (first ∷ second ∷ []) = (first == 49) && (nat_le 48 second && nat_le second 52)
+is_made_size _ = false
+
+-- The commands of one word: check C, audit C, bench N.
+abbrev pub request_of_one : List ℕ → List ℕ → Option Request
+request_of_one verb word =
+    if is_word verb (codes "check") then Some (Request.CheckOf word)
+    else if is_word verb (codes "audit") || (is_word verb (codes "bench") && is_made_size word) then Some Request.Unbuilt
+    else None
+
+-- The commands of two words: list C Q, run C Q, fill C F, answer C Q.
+abbrev pub request_of_two : List ℕ → List ℕ → List ℕ → Option Request
+request_of_two verb first second =
+    if is_word verb (codes "list") then Some (Request.ListFor first second)
+    else if is_word verb (codes "run") || (is_word verb (codes "fill") || is_word verb (codes "answer")) then Some Request.Unbuilt
+    else None
+
+-- The command of three words: run C Q N.
+abbrev pub request_of_three : List ℕ → List ℕ → Option Request
+request_of_three verb number = if is_word verb (codes "run") && is_list_number number then Some Request.Unbuilt else None
+
+-- What the words ask for; nothing where they are outside the grammar.
 abbrev pub request_of : List (List ℕ) → Option Request
-request_of (verb ∷ catalogue ∷ query ∷ []) = if is_word verb (codes "list") then Some (Request.ListFor catalogue query) else None
+request_of (verb ∷ word ∷ []) = request_of_one verb word
+request_of (verb ∷ first ∷ second ∷ []) = request_of_two verb first second
+request_of (verb ∷ first ∷ second ∷ third ∷ []) = request_of_three verb third
 request_of _ = None
 
 -- A command of the program as what its words ask for.
 abbrev pub asked : Command → Request
+asked (command.Check catalogue) = Request.CheckOf catalogue.now
 asked (command.List catalogue query) = Request.ListFor catalogue.now query.now
+asked command.Unbuilt = Request.Unbuilt
 
 -- The course of what is asked for.
 abbrev pub course_of_request : Option Files → Request → Course Reply
+course_of_request files (Request.CheckOf catalogue) = check_course files catalogue
 course_of_request files (Request.ListFor catalogue query) = list_course files catalogue query
+course_of_request files Request.Unbuilt = refuses NotBuilt
 
--- The course of the words, where they ask for something, and the refusal of what is not built yet.
+-- The course of the words that ask for something, and the refusal of words outside the grammar.
 abbrev pub course_of_asked : Option Files → Option Request → Course Reply
-course_of_asked files None = refuses NotBuilt
+course_of_asked files None = refuses Usage
 course_of_asked files (Some request) = course_of_request files request
 
 -- The course of a command line.

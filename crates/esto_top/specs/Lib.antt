@@ -1,7 +1,11 @@
 pub mod Line
-pub mod Words
 pub mod Course
 pub mod Fetch
+pub mod Opening
+pub mod Check
+pub mod Listing
 pub mod List
 pub mod Grammar
 pub mod Outcome
+pub mod Headline
+pub mod Determined

@@ -10,9 +10,11 @@ use Rattle.esto_top.specs.declared.ending.Reply.TheVariants as reply
 use Rattle.esto_top.specs.declared.status.Status.{Status}
 use Rattle.esto_top.specs.declared.status.Status.TheVariants as status
 
+-- The status of a reply.
 abbrev pub reply_status : Reply → Status
 reply_status (reply.Done text) = status.Done
 
+-- The text of a reply.
 abbrev pub reply_text : Reply → List ℕ
 reply_text (reply.Done text) = text
 
@@ -44,7 +46,7 @@ pub data Finishes (answer : Result Reply Status) (old new : Option (List ℕ)) (
       → Finishes answer old new sink_rose result
   memory : Keeps old new → result ≡ status.OutOfMemory → Finishes answer old new sink_rose result
 
--- The answer is an outcome of the definition with its whole text, or want of memory and nothing.
+-- The answer is an outcome of the words and the files with its whole text, or want of memory and nothing.
 abbrev pub IsComplete : List (List ℕ) → Files → Option (List ℕ) → Option (List ℕ) → Status → Type 0
 IsComplete words files old new result =
     ((text : List ℕ) × Outcome words files result text × Appends old new text) ⊎ ((result ≡ status.OutOfMemory) × Keeps old new)

@@ -1,9 +1,11 @@
 //! The words of the command line.
 ghost use Rattle.std.specs.Prelude.{◌≡◌, ◌≤◌, None, Some, MatchOption};
+ghost use Rattle.std.specs.List.{list_all};
 ghost use Rattle.esto_ports.specs.Faults.{Rose};
 ghost use Rattle.esto_top.specs.Course.{Runs};
-ghost use Rattle.esto_top.specs.Grammar.{is_word, request_of, asked, course_of_request};
+ghost use Rattle.esto_top.specs.Grammar.{is_word, is_digit, is_leading_digit, is_list_number, is_made_size, request_of_one, request_of_two, request_of_three, request_of, asked, course_of_request};
 
+use crate::check::check;
 use crate::ending::Reply;
 use crate::list::list;
 use crate::status::Status;
@@ -11,11 +13,18 @@ use esto_ports::Shelf;
 use esto_term::Text;
 use std::alloc::Global;
 
+/// The greatest number of digits of the number of a list.
+const MAX_DIGITS: usize = 9;
+
 /// A command with its words.
 #[derive(Clone, Copy)]
 pub enum Command<'a> {
+    /// `check C`: the counts and the ranks of a catalogue's file.
+    Check(&'a Text),
     /// `list C Q`: the plan and the list for a catalogue's file and a query's file.
     List(&'a Text, &'a Text),
+    /// A command that is not built yet: `run C Q`, `run C Q N`, `fill C F`, `answer C Q`, `audit C` or `bench N`.
+    Unbuilt,
 }
 
 fn is_word(word: &Text, name: &[u8]) -> bool
@@ -24,14 +33,90 @@ fn is_word(word: &Text, name: &[u8]) -> bool
     word.bytes() == name
 }
 
-/// The command that the words ask for, or nothing where it is not built yet.
+fn is_digit(byte: u8) -> bool
+    ensures { result ≡ is_digit byte }
+{
+    byte >= b'0' && byte <= b'9'
+}
+
+fn is_leading_digit(byte: u8) -> bool
+    ensures { result ≡ is_leading_digit byte }
+{
+    byte >= b'1' && byte <= b'9'
+}
+
+fn are_digits(word: &[u8]) -> bool
+    ensures { result ≡ list_all is_digit word.now }
+{
+    word.iter().all(|byte| is_digit(*byte))
+}
+
+// Whether the word is one to nine digits, of which the first is not 0.
+fn is_list_number(word: &[u8]) -> bool
+    ensures { result ≡ is_list_number word.now }
+{
+    let Some((first, rest)) = word.split_first() else {
+        return false;
+    };
+    is_leading_digit(*first) && rest.len() < MAX_DIGITS && are_digits(rest)
+}
+
+// Whether the word is 1 to 14 in decimal.
+fn is_made_size(word: &[u8]) -> bool
+    ensures { result ≡ is_made_size word.now }
+{
+    match word {
+        [digit] => is_leading_digit(*digit),
+        [first, second] => *first == b'1' && *second >= b'0' && *second <= b'4',
+        _ => false,
+    }
+}
+
+// The command of one word after the verb.
+fn command_of_one<'a>(verb: &Text, word: &'a Text) -> Option<Command<'a>>
+    ensures { MatchOption result (request_of_one verb.now word.now ≡ None) (λ command. request_of_one verb.now word.now ≡ Some (asked command)) }
+{
+    if is_word(verb, b"check") {
+        Some(Command::Check(word))
+    } else if is_word(verb, b"audit") || is_word(verb, b"bench") && is_made_size(word.bytes()) {
+        Some(Command::Unbuilt)
+    } else {
+        None
+    }
+}
+
+// The command of two words after the verb.
+fn command_of_two<'a>(verb: &Text, first: &'a Text, second: &'a Text) -> Option<Command<'a>>
+    ensures { MatchOption result (request_of_two verb.now first.now second.now ≡ None) (λ command. request_of_two verb.now first.now second.now ≡ Some (asked command)) }
+{
+    if is_word(verb, b"list") {
+        Some(Command::List(first, second))
+    } else if is_word(verb, b"run") || is_word(verb, b"fill") || is_word(verb, b"answer") {
+        Some(Command::Unbuilt)
+    } else {
+        None
+    }
+}
+
+// The command of three words after the verb.
+fn command_of_three<'a>(verb: &Text, number: &Text) -> Option<Command<'a>>
+    ensures { MatchOption result (request_of_three verb.now number.now ≡ None) (λ command. request_of_three verb.now number.now ≡ Some (asked command)) }
+{
+    if is_word(verb, b"run") && is_list_number(number.bytes()) {
+        Some(Command::Unbuilt)
+    } else {
+        None
+    }
+}
+
+/// The command that the words ask for, or nothing where they are outside the grammar.
 pub fn command_of<'a>(words: &'a [Text]) -> Option<Command<'a>>
     ensures { MatchOption result (request_of words.now ≡ None) (λ command. request_of words.now ≡ Some (asked command)) }
 {
     match words {
-        [verb, catalogue, query] if is_word(verb, b"list") => {
-            Some(Command::List(catalogue, query))
-        }
+        [verb, word] => command_of_one(verb, word),
+        [verb, first, second] => command_of_two(verb, first, second),
+        [verb, _first, _second, third] => command_of_three(verb, third),
         _ => None,
     }
 }
@@ -43,6 +128,8 @@ pub fn obey<S: Shelf>(alloc: Global, shelf: &mut S, command: Command<'_>) -> Res
     ensures later { S.faults shelf.old ≤ S.faults shelf.new }
 {
     match command {
+        Command::Check(catalogue) => check(alloc, shelf, catalogue),
         Command::List(catalogue, query) => list(alloc, shelf, catalogue, query),
+        Command::Unbuilt => Err(Status::NotBuilt),
     }
 }

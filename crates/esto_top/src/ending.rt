@@ -5,7 +5,8 @@ ghost use Rattle.esto_top.specs.Course.{Runs};
 ghost use Rattle.esto_top.specs.Fetch.{without_mark, fetches};
 ghost use Rattle.esto_top.specs.Outcome.{IsSaid, Finishes};
 
-use crate::status::{Status, status_line};
+use crate::line::status_line;
+use crate::status::Status;
 use esto_ports::{Shelf, ShelfError, Sink, SinkError};
 use esto_term::{Bytes, OutOfMemory, Replicate, Text};
 use std::alloc::Global;

@@ -1,17 +1,18 @@
 //! The top call: from the words of a command line, over a shelf and a sink, to a status and one text.
 #![tactic(auto)]
 
-mod catalogue;
 mod cell;
+mod check;
 mod command;
 mod ending;
+mod laws;
+mod line;
 mod list;
-mod listing;
-mod plan;
-mod search;
+mod opening;
 mod status;
 mod top;
-mod words;
 
-pub use status::{Status, status_line};
+pub use laws::outcomes_are_determined;
+pub use line::status_line;
+pub use status::Status;
 pub use top::mediate;

@@ -1,53 +1,77 @@
 //! The command `list`.
-ghost use Rattle.std.specs.Prelude.{◌≡◌, ◌≤◌};
+ghost use Rattle.std.specs.Prelude.{◌≡◌, ◌≤◌, [], IfOk, OnOk};
 ghost use Rattle.esto_ports.specs.Faults.{Rose};
+ghost use Rattle.esto_query.specs.Making.{query_of};
+ghost use Rattle.esto_semantics.specs.Plans.{IsUniversalPlan};
+ghost use Rattle.esto_universal.specs.Stated.{IsStatedPlan};
+ghost use Rattle.esto_views.specs.Fragments.{views_of};
+ghost use Rattle.esto_views.specs.Plans.{plan_query, IsPlanOver};
 ghost use Rattle.esto_top.specs.Course.{Runs};
-ghost use Rattle.esto_top.specs.List.{reads, reads_query, prints, list_course};
+ghost use Rattle.esto_top.specs.List.{has_no_constraint, prints_list, list_course};
+ghost use Rattle.esto_top.specs.Listing.{IsListOf, IsListing};
 
-use crate::catalogue::{Catalogue, read_catalogue};
-use crate::ending::{Reply, fetch};
-use crate::listing::list_text;
+use crate::ending::Reply;
+use crate::opening::{open_catalogue, open_query};
 use crate::status::Status;
-use crate::words::table_words;
+use esto_backchase::minimal_sets_plain;
+use esto_catalog::{Catalogue, catalogues_are_sound};
+use esto_list::Listing;
 use esto_ports::Shelf;
 use esto_query::Query;
-use esto_read::{NamedQuery, ReadError, read_query};
-use esto_term::{Bytes, Text};
+use esto_term::{Bytes, OutOfMemory, Text};
+use esto_universal::universal;
+use esto_views::Plan;
 use std::alloc::Global;
 
-/// The greatest length of a catalogue's file, in bytes.
-pub const CATALOGUE_LIMIT: u64 = 1_048_576;
-
-/// The greatest length of a query's file, in bytes.
-pub const QUERY_LIMIT: u64 = 65_536;
-
-// The catalogue, where it is of the form that is read.
-fn catalogue_of(alloc: Global, bytes: &Bytes) -> Result<Catalogue, Status>
-    ensures { Runs reads ⊥ result }
+// Refuses a catalogue that has a constraint.
+fn check_constraints(catalogue: &Catalogue) -> Result<(), Status>
+    ensures course { Runs (has_no_constraint catalogue.now) ⊥ result }
+    ensures none { OnOk result (catalogue.now.given ≡ 0) }
 {
-    match read_catalogue(alloc, bytes.bytes())? {
-        Some(catalogue) => Ok(catalogue),
-        None => Err(Status::NotBuilt),
+    if catalogue.given == 0 {
+        Ok(())
+    } else {
+        Err(Status::NotBuilt)
     }
 }
 
-// The query over the catalogue's tables, or the status of its first fault.
-fn query_of(alloc: Global, bytes: &Bytes, catalogue: &Catalogue) -> Result<Query, Status>
-    ensures { Runs (reads_query catalogue.now bytes.now) ⊥ result }
+// The list of a plan for the query.
+fn listing_of(
+    alloc: Global,
+    plan: &Plan,
+    query: &Query,
+    catalogue: &Catalogue,
+) -> Result<Listing, OutOfMemory>
+    requires no_constraint { catalogue.now.given ≡ 0 }
+    requires stated { IsStatedPlan query.now.names (views_of catalogue.now.fragments) (query_of query.now) plan.now }
+    requires over { IsPlanOver plan.now catalogue.now.fragments }
+    requires universal { IsUniversalPlan [] (views_of catalogue.now.fragments) (query_of query.now) (plan_query plan.now) }
+    ensures { IfOk result (IsListOf catalogue.now query.now plan.now) }
 {
-    let words = table_words(alloc, &catalogue.schema)?;
-    match read_query(alloc, bytes.bytes(), &words, &catalogue.schema) {
-        Ok(NamedQuery { name: _, query }) => Ok(query),
-        Err(ReadError::Fault(fault)) => Err(Status::BadQuery(fault)),
-        Err(ReadError::OutOfMemory) => Err(Status::OutOfMemory),
-    }
+    catalogues_are_sound();
+    let sets = minimal_sets_plain(alloc, plan, query, &catalogue.fragments)?;
+    let listing = Listing::of(alloc, &sets, plan, &catalogue.fragments)?;
+    Ok(listing)
+}
+
+// The text of the list for the query.
+fn list_text(alloc: Global, query: &Query, catalogue: &Catalogue) -> Result<Bytes, OutOfMemory>
+    requires { catalogue.now.given ≡ 0 }
+    ensures { IfOk result (IsListing catalogue.now query.now) }
+{
+    catalogues_are_sound();
+    let plan = universal(alloc, query, &catalogue.fragments)?;
+    let listing = listing_of(alloc, &plan, query, catalogue)?;
+    let text = listing.text(alloc, &plan, &catalogue.fragments)?;
+    Ok(text)
 }
 
 // What the command prints.
 fn text_of(alloc: Global, query: &Query, catalogue: &Catalogue) -> Result<Bytes, Status>
-    ensures { Runs prints ⊥ result }
+    requires { catalogue.now.given ≡ 0 }
+    ensures { Runs (prints_list catalogue.now query.now) ⊥ result }
 {
-    let text = list_text(alloc, query, &catalogue.fragments)?;
+    let text = list_text(alloc, query, catalogue)?;
     Ok(text)
 }
 
@@ -63,10 +87,9 @@ pub fn list<S: Shelf>(
     ensures files { S.files shelf.new ≡ S.files shelf.old }
     ensures later { S.faults shelf.old ≤ S.faults shelf.new }
 {
-    let bytes = fetch(alloc, shelf, catalogue, CATALOGUE_LIMIT)?;
-    let catalogue = catalogue_of(alloc, &bytes)?;
-    let bytes = fetch(alloc, shelf, query, QUERY_LIMIT)?;
-    let query = query_of(alloc, &bytes, &catalogue)?;
+    let catalogue = open_catalogue(alloc, shelf, catalogue)?;
+    check_constraints(&catalogue)?;
+    let query = open_query(alloc, shelf, query, &catalogue)?;
     let text = text_of(alloc, &query, &catalogue)?;
     Ok(Reply::Done(text))
 }

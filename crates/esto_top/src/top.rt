@@ -2,11 +2,14 @@
 ghost use Rattle.std.specs.Prelude.{◌≡◌, ◌≤◌};
 ghost use Rattle.esto_ports.specs.Faults.{Rose};
 ghost use Rattle.esto_top.specs.Course.{Runs};
+ghost use Rattle.esto_top.specs.Determined.{ExactWhereTold};
 ghost use Rattle.esto_top.specs.Grammar.{course_of};
+ghost use Rattle.esto_top.specs.Headline.{ListsWhereTold};
 ghost use Rattle.esto_top.specs.Outcome.{Mediates, CompleteWhereTold, CausedReadFault, CausedWriteFault};
 
 use crate::command::{command_of, obey};
 use crate::ending::{Reply, finish};
+use crate::laws::{lists_are_exact, outcomes_are_determined};
 use crate::status::Status;
 use esto_ports::{Shelf, Sink};
 use esto_term::Text;
@@ -18,7 +21,7 @@ fn answer<S: Shelf>(alloc: Global, words: &[Text], shelf: &mut S) -> Result<Repl
     ensures later { S.faults shelf.old ≤ S.faults shelf.new }
 {
     match command_of(words) {
-        None => Err(Status::NotBuilt),
+        None => Err(Status::Usage),
         Some(command) => obey(alloc, shelf, command),
     }
 }
@@ -37,6 +40,15 @@ pub fn mediate<S: Shelf, O: Sink>(
     // or memory was refused.
     ensures complete { CompleteWhereTold words.now (S.files shelf.old) (Rose (S.faults shelf.old) (S.faults shelf.new)) (Rose (O.faults out.old) (O.faults out.new)) (O.written out.old) (O.written out.new) result }
 
+    // Then any outcome of the words and the files is this one, or memory was refused.
+    ensures exact { ExactWhereTold words.now (S.files shelf.old) (Rose (S.faults shelf.old) (S.faults shelf.new)) (Rose (O.faults out.old) (O.faults out.new)) (O.written out.old) (O.written out.new) result }
+
+    // The headline. Where the files say a catalogue without constraints and a query over it, `list` prints exactly the
+    // plan that is stated for the query and its listed sets, each once, in order, with orders, weights and the pick. The
+    // plan is universal, and each executable rewriting of the query, with any variables and of any size, maps onto a set
+    // of its atoms that has a listed set within it.
+    ensures headline { ListsWhereTold words.now (S.files shelf.old) (Rose (S.faults shelf.old) (S.faults shelf.new)) (Rose (O.faults out.old) (O.faults out.new)) (O.written out.old) (O.written out.new) result }
+
     // A fault has its cause.
     ensures read_fault { CausedReadFault (course_of words.now (S.files shelf.old)) (Rose (S.faults shelf.old) (S.faults shelf.new)) (O.written out.old) (O.written out.new) result }
     ensures write_fault { CausedWriteFault (course_of words.now (S.files shelf.old)) (Rose (S.faults shelf.old) (S.faults shelf.new)) (Rose (O.faults out.old) (O.faults out.new)) (O.written out.old) (O.written out.new) result }
@@ -46,6 +58,8 @@ pub fn mediate<S: Shelf, O: Sink>(
     ensures shelf_later { S.faults shelf.old ≤ S.faults shelf.new }
     ensures sink_later { O.faults out.old ≤ O.faults out.new }
 {
+    lists_are_exact();
+    outcomes_are_determined();
     let answer = answer(alloc, words, shelf);
     finish(alloc, answer, out)
 }

@@ -3,4 +3,4 @@ use Rattle.esto_top.proofs.list.text_of.Goals as goal
 
 pub returns : goal.returns
 unfolding judges
-returns c = tt
+returns c = c.in_ok-text.ensures

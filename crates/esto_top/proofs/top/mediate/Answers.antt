@@ -1,3 +1,5 @@
+use Rattle.esto_top.proofs.DeterminedLemmas.{exact}
+use Rattle.esto_top.proofs.HeadlineLemmas.{lists_told}
 use Rattle.esto_top.proofs.Mediation.{mediates, complete, write_fault}
 use Rattle.esto_top.proofs.top.mediate.Goals as goal
 
@@ -9,3 +11,13 @@ returns-clause-complete g c = complete c.args.words.now _ _ _ _ _ _ (mediates _ 
 
 pub returns-clause-write_fault : goal.returns-clause-write_fault
 returns-clause-write_fault g c = write_fault _ _ _ _ _ _ (mediates _ _ _ _ _ _ _ c.answer-answer.ensures.answer c.finish.ensures.put)
+
+pub returns-clause-headline : goal.returns-clause-headline
+returns-clause-headline g c =
+    lists_told c.lists_are_exact.ensures c.args.words.now _ _ _ _ _ _
+    (complete c.args.words.now _ _ _ _ _ _ (mediates _ _ _ _ _ _ _ c.answer-answer.ensures.answer c.finish.ensures.put))
+
+pub returns-clause-exact : goal.returns-clause-exact
+returns-clause-exact g c =
+    exact c.outcomes_are_determined.ensures c.args.words.now _ _ _ _ _ _
+    (complete c.args.words.now _ _ _ _ _ _ (mediates _ _ _ _ _ _ _ c.answer-answer.ensures.answer c.finish.ensures.put))

@@ -1,0 +1,77 @@
+-- Catalogues that say the same, queries that are the same, and their lists.
+use Rattle.std.proofs.Common.{◌≡◌, ℕ, Bool, List, All, refl, sym, ap, subst, ◌∙◌}
+use Rattle.esto_catalog.specs.Determined.{AreSame}
+use Rattle.esto_catalog.specs.declared.catalogue.Catalogue.{Catalogue}
+use Rattle.esto_constraint.specs.Constraints.{rules_of}
+use Rattle.esto_list.specs.Items.{sets_of, set_weight}
+use Rattle.esto_list.specs.declared.listing.Listed.{Listed}
+use Rattle.esto_query.specs.Making.{query_of}
+use Rattle.esto_query.specs.declared.query.Query.{Query}
+use Rattle.esto_read.specs.Readings.{IsReading, HaveOneReading}
+use Rattle.esto_read.specs.Words.{IsVocabulary}
+use Rattle.esto_read.specs.declared.read.Form.TheVariants as form
+use Rattle.esto_read.specs.declared.read.NamedQuery.{NamedQuery}
+use Rattle.esto_read.specs.declared.words.Word.{Word}
+use Rattle.esto_semantics.specs.Access.{IsStatedOrder}
+use Rattle.esto_semantics.specs.Listed.{AreListed}
+use Rattle.esto_universal.specs.Stated.{IsStatedPlan}
+use Rattle.esto_views.specs.Fragments.{views_of, patterns_of, weights_of}
+use Rattle.esto_views.specs.Plans.{plan_query}
+use Rattle.esto_views.specs.declared.plan.Plan.{Plan}
+use Rattle.esto_top.specs.Listing.{IsListing, IsListOf, HasListedSets}
+use Rattle.esto_top.proofs.OneListLemmas.{same_text}
+
+-- two queries with one head, one body and the same names
+pub record IsSameQuery (query other : Query) : Type 0 where
+  pub head : query.head ≡ other.head
+  pub body : query.body ≡ other.body
+  pub names : query.names ≡ other.names
+
+same_query : (query other : Query) → IsSameQuery query other → query_of query ≡ query_of other
+same_query query other same = λ i. record { head = same.head i; body = same.body i }
+
+-- the query is a reading of the bytes over the words
+abbrev IsQueryOver : List Word → List ℕ → List ℕ → Query → Type 0
+IsQueryOver words schema bytes query = (named : NamedQuery) × IsReading form.Query words schema bytes named × (query ≡ named.query)
+
+-- two readings of one text are the same query
+pub same_reading : HaveOneReading → {words : List Word} {schema : List ℕ} → IsVocabulary schema words → (bytes : List ℕ) (query other : Query)
+    → IsQueryOver words schema bytes query → IsQueryOver words schema bytes other → IsSameQuery query other
+same_reading one_reading {words} {schema} vocabulary bytes query other here there =
+    let same = one_reading form.Query words schema bytes here.0 there.0 vocabulary here.1 there.1 in
+    record {
+      head = ap (λ (it : Query). it.head) here.2 ∙ same.1 ∙ sym (ap (λ (it : Query). it.head) there.2);
+      body = ap (λ (it : Query). it.body) here.2 ∙ same.2 ∙ sym (ap (λ (it : Query). it.body) there.2);
+      names = ap (λ (it : Query). it.names) here.2 ∙ same.3 ∙ sym (ap (λ (it : Query). it.names) there.2);
+    }
+
+module _ (catalogue other : Catalogue) (alike : AreSame catalogue other) (query other_query : Query) (same : IsSameQuery query other_query) where
+  stated_moved : (plan : Plan) → IsStatedPlan other_query.names (views_of other.fragments) (query_of other_query) plan → IsStatedPlan query.names (views_of catalogue.fragments) (query_of query) plan
+  stated_moved plan stated =
+      subst (λ names. IsStatedPlan names (views_of catalogue.fragments) (query_of query) plan) (sym same.names)
+      (subst (λ views. IsStatedPlan other_query.names views (query_of query) plan) (sym alike.views)
+      (subst (λ end. IsStatedPlan other_query.names (views_of other.fragments) end plan) (sym (same_query query other_query same)) stated))
+
+  sets_moved : (plan : Plan) (items : List Listed) → HasListedSets other other_query plan items → HasListedSets catalogue query plan items
+  sets_moved plan items listed =
+      subst (λ it. AreListed (rules_of catalogue.rules) (views_of catalogue.fragments) (patterns_of catalogue.fragments) it (plan_query plan) (sets_of items)) (sym (same_query query other_query same))
+      (subst (λ it. AreListed (rules_of catalogue.rules) (views_of catalogue.fragments) it (query_of other_query) (plan_query plan) (sets_of items)) (sym alike.patterns)
+      (subst (λ it. AreListed (rules_of catalogue.rules) it (patterns_of other.fragments) (query_of other_query) (plan_query plan) (sets_of items)) (sym alike.views)
+      (subst (λ it. AreListed it (views_of other.fragments) (patterns_of other.fragments) (query_of other_query) (plan_query plan) (sets_of items)) (sym alike.rules) listed)))
+
+  list_moved : (plan : Plan) (items : List Listed) → IsListOf other other_query plan items → IsListOf catalogue query plan items
+  list_moved plan items list = record {
+    sets = sets_moved plan items list.sets;
+    orders = subst (λ (it : List (List Bool)). All (λ (item : Listed). IsStatedOrder it (plan_query plan).body item.set item.order) items) (sym alike.patterns) list.orders;
+    weights = subst (λ (it : List ℕ). All (λ (item : Listed). item.weight ≡ set_weight it (plan_query plan).body item.set) items) (sym alike.weights) list.weights;
+  }
+
+  -- a list over the other catalogue is one over this
+  pub listing_moved : (text : List ℕ) → IsListing other other_query text → IsListing catalogue query text
+  listing_moved text listing = record {
+    plan = listing.plan;
+    items = listing.items;
+    stated = stated_moved listing.plan listing.stated;
+    list = list_moved listing.plan listing.items listing.list;
+    printed = (listing.printed.0, listing.printed.1, listing.printed.2 ∙ same_text other.fragments catalogue.fragments (sym alike.names) listing.plan listing.plan listing.items listing.printed.0 refl refl refl);
+  }

@@ -1,0 +1,20 @@
+-- That a command line has at most one outcome.
+use Rattle.std.specs.Prelude.{◌≡◌, ◌⊎◌, ℕ, List, Option, Some, None}
+use Rattle.std.specs.Io.KnownBytes.{Appends, Keeps}
+use Rattle.esto_ports.specs.Files.{Files}
+use Rattle.esto_top.specs.Outcome.{Outcome}
+use Rattle.esto_top.specs.declared.status.Status.{Status}
+use Rattle.esto_top.specs.declared.status.Status.TheVariants as status
+
+-- The same words over the same files have at most one status and one text.
+abbrev pub OutcomesAreDetermined : Type 0
+OutcomesAreDetermined =
+    (words : List (List ℕ)) (files : Files) (said other_said : Status) (text other_text : List ℕ)
+    → Outcome words files said text → Outcome words files other_said other_text → (said ≡ other_said) × (text ≡ other_text)
+
+-- Where the shelf tells its files, and neither count rose, any outcome of the words and the files is the one that was answered and put; or memory was refused, and nothing was put.
+abbrev pub ExactWhereTold : List (List ℕ) → Option Files → Type 0 → Type 0 → Option (List ℕ) → Option (List ℕ) → Status → Type 0
+ExactWhereTold words None rose sink_rose old new result = Unit {0}
+ExactWhereTold words (Some files) rose sink_rose old new result =
+    ¬ rose → ¬ sink_rose → (said : Status) (text : List ℕ) → Outcome words files said text
+    → ((result ≡ said) × Appends old new text) ⊎ ((result ≡ status.OutOfMemory) × Keeps old new)

@@ -1,0 +1,43 @@
+-- The catalogue and the query of a command, as steps: each file is fetched, and then read.
+use Rattle.std.specs.Prelude.{◌≡◌, ℕ, List, Option}
+use Rattle.esto_catalog.specs.Reading.{IsCatalogueOf, IsCatalogueError}
+use Rattle.esto_catalog.specs.declared.catalogue.Catalogue.{Catalogue}
+use Rattle.esto_catalog.specs.declared.fault.CatalogueError.{CatalogueError}
+use Rattle.esto_catalog.specs.declared.fault.CatalogueError.TheVariants as error
+use Rattle.esto_ports.specs.Files.{Files}
+use Rattle.esto_query.specs.Schemas.{arities_of}
+use Rattle.esto_query.specs.declared.query.Query.{Query}
+use Rattle.esto_read.specs.Readings.{IsReading, IsFirstFault}
+use Rattle.esto_read.specs.declared.read.Form.TheVariants as form
+use Rattle.esto_read.specs.declared.read.NamedQuery.{NamedQuery}
+use Rattle.esto_text.specs.declared.fault.TextFault.{TextFault}
+use Rattle.esto_top.specs.Course.{Course, judges, and_then}
+use Rattle.esto_top.specs.Fetch.{fetches}
+use Rattle.esto_top.specs.declared.status.Status.{Status}
+use Rattle.esto_top.specs.declared.status.Status.TheVariants as status
+
+-- The status of why a catalogue is not read.
+abbrev pub status_of : CatalogueError → Status
+status_of (error.Fault fault) = status.BadCatalogue fault
+status_of (error.NotAcyclic cycle) = status.NotAcyclic cycle
+status_of error.NotBuilt = status.NotBuilt
+status_of error.OutOfMemory = status.OutOfMemory
+
+-- The bytes say a catalogue, or there is a cause for which they say none.
+abbrev pub reads_catalogue : List ℕ → Course Catalogue
+reads_catalogue bytes =
+    judges (IsCatalogueOf bytes) (λ refusal. (cause : CatalogueError) × IsCatalogueError bytes cause × (refusal ≡ status_of cause))
+
+-- The catalogue of a file of at most 1,048,576 bytes.
+abbrev pub opens_catalogue : Option Files → List ℕ → Course Catalogue
+opens_catalogue files name = and_then (fetches files name 1048576) reads_catalogue
+
+-- The bytes are the text of a query over the catalogue's words, or the text has a first fault.
+abbrev pub reads_query : Catalogue → List ℕ → Course Query
+reads_query catalogue bytes =
+    judges (λ query. (named : NamedQuery) × IsReading form.Query catalogue.words (arities_of catalogue.schema) bytes named × (query ≡ named.query))
+    (λ refusal. (fault : TextFault) × IsFirstFault form.Query catalogue.words (arities_of catalogue.schema) bytes fault × (refusal ≡ status.BadQuery fault))
+
+-- The query of a file of at most 65,536 bytes.
+abbrev pub opens_query : Option Files → List ℕ → Catalogue → Course Query
+opens_query files name catalogue = and_then (fetches files name 65536) (reads_query catalogue)

@@ -1,0 +1,80 @@
+//! The command `check`.
+ghost use Rattle.std.specs.Prelude.{◌≡◌, ◌≤◌, ◌++◌, length, IfOk, OnOk};
+ghost use Rattle.esto_ports.specs.Faults.{Rose};
+ghost use Rattle.esto_query.specs.Schemas.{names_of};
+ghost use Rattle.esto_top.specs.Check.{count_lines, rank_line, rank_lines, check_text, check_course};
+ghost use Rattle.esto_top.specs.Course.{Runs};
+
+use crate::ending::Reply;
+use crate::opening::open_catalogue;
+use crate::status::Status;
+use esto_acyclic::Ranks;
+use esto_catalog::{Catalogue, catalogues_are_sound};
+use esto_ports::Shelf;
+use esto_query::Schema;
+use esto_term::{Bytes, OutOfMemory, Text};
+use std::alloc::Global;
+
+// The lines of the counts of datasets, fragments and constraints.
+fn count_lines(
+    alloc: Global,
+    datasets: usize,
+    fragments: usize,
+    constraints: usize,
+) -> Result<Bytes, OutOfMemory>
+    ensures { IfOk result (λ text. text ≡ count_lines datasets fragments constraints) }
+{
+    let lines = format!(in alloc;
+        "datasets {datasets}\nfragments {fragments}\nconstraints {constraints}\n"
+    )?;
+    Bytes::from_slice(alloc, lines.as_str().as_bytes())
+}
+
+// Puts the line of a relation and its rank at the end.
+fn put_rank(alloc: Global, text: &mut Bytes, name: &Text, rank: u64) -> Result<(), OutOfMemory>
+    ensures { OnOk result (text.new ≡ text.old ++ rank_line name.now rank) }
+{
+    let name = name.as_str();
+    let line = format!(in alloc; "{name} {rank}\n")?;
+    text.append(line.as_str().as_bytes())
+}
+
+// Puts the lines of the relations and their ranks at the end.
+fn put_ranks(
+    alloc: Global,
+    text: &mut Bytes,
+    schema: &Schema,
+    ranks: &Ranks,
+) -> Result<(), OutOfMemory>
+    requires { length ranks.now ≡ length schema.now }
+    ensures { OnOk result (text.new ≡ text.old ++ rank_lines (names_of schema.now) ranks.now) }
+{
+    'relations: for relation in 0..schema.len() {
+        put_rank(alloc, text, schema.name(relation), ranks.rank(relation))?;
+    }
+    Ok(())
+}
+
+// What the command prints.
+fn check_text(alloc: Global, catalogue: &Catalogue) -> Result<Bytes, OutOfMemory>
+    ensures { IfOk result (λ text. text ≡ check_text catalogue.now) }
+{
+    catalogues_are_sound();
+    let datasets = catalogue.datasets.len();
+    let fragments = catalogue.fragments.len();
+    let mut text = count_lines(alloc, datasets, fragments, catalogue.given)?;
+    put_ranks(alloc, &mut text, &catalogue.schema, &catalogue.ranks)?;
+    Ok(text)
+}
+
+/// Fetches and reads the catalogue, and prints its counts and the ranks of its relations.
+#[tactic(auto, using(crate::proofs::Steps::steps))]
+pub fn check<S: Shelf>(alloc: Global, shelf: &mut S, catalogue: &Text) -> Result<Reply, Status>
+    ensures answer { Runs (check_course (S.files shelf.old) catalogue.now) (Rose (S.faults shelf.old) (S.faults shelf.new)) result }
+    ensures files { S.files shelf.new ≡ S.files shelf.old }
+    ensures later { S.faults shelf.old ≤ S.faults shelf.new }
+{
+    let catalogue = open_catalogue(alloc, shelf, catalogue)?;
+    let text = check_text(alloc, &catalogue)?;
+    Ok(Reply::Done(text))
+}
