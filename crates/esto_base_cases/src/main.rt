@@ -2,9 +2,12 @@
 //! then what comes of it. A few on terms come first.
 #![tactic(auto)]
 
+mod orders;
+mod plain;
 mod printing;
 mod reading;
 mod script;
+mod sets;
 mod terms;
 
 use crate::reading::tables;

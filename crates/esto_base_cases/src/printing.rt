@@ -1,6 +1,7 @@
 //! How places and rows are printed.
 
-use esto_term::{Bytes, OutOfMemory, Places, Term, TermRows, Terms};
+use esto_bits::RowBits;
+use esto_term::{Bytes, OutOfMemory, Places, Term, TermRows, Terms, Values};
 use std::alloc::Global;
 
 /// A place, and a blank.
@@ -15,6 +16,40 @@ pub fn put_places(alloc: Global, out: &mut Bytes, places: &Places) -> Result<(),
         put_place(alloc, out, *place)?;
     }
     out.append(b"\n")
+}
+
+/// A line of the numbers of a set.
+pub fn put_set(alloc: Global, out: &mut Bytes, set: &RowBits) -> Result<(), OutOfMemory> {
+    'numbers: for number in 0..set.count() {
+        if set.has(number) {
+            put_place(alloc, out, number)?;
+        }
+    }
+    out.append(b"\n")
+}
+
+/// A line of the places of the flags that are true.
+pub fn put_flags(alloc: Global, out: &mut Bytes, flags: &Values<bool>) -> Result<(), OutOfMemory> {
+    'places: for (place, flag) in flags.items().iter().enumerate() {
+        if *flag {
+            put_place(alloc, out, place)?;
+        }
+    }
+    out.append(b"\n")
+}
+
+/// The one word where it is so, else the other.
+pub fn put_either(
+    out: &mut Bytes,
+    is_so: bool,
+    word: &[u8],
+    other: &[u8],
+) -> Result<(), OutOfMemory> {
+    if is_so {
+        out.append(word)
+    } else {
+        out.append(other)
+    }
 }
 
 fn put_term(alloc: Global, out: &mut Bytes, term: &Term) -> Result<(), OutOfMemory> {

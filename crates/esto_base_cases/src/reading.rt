@@ -1,4 +1,4 @@
-//! What the words of the script say: facts, and texts over three tables.
+//! What the words of the script say: facts, numbers, and texts over three tables.
 
 use crate::script::Refused;
 use esto_catalog::{Catalogue, catalogues_are_sound, read_catalogue};
@@ -6,14 +6,14 @@ use esto_constraint::Constraint;
 use esto_query::{Facts, Query};
 use esto_read::{read_constraint, read_query};
 use esto_semantics::Atom;
-use esto_term::{List, Term, Terms, Text};
+use esto_term::{List, Places, Term, Terms, Text, Values};
 use std::alloc::Global;
 
-/// Three tables: R and S of two columns, and T of one.
+/// Three tables, R and S of two columns and T of one; and three fragments, of which the first has two columns.
 const TABLES: &[u8] =
-    b"version = 1\n[[dataset]]\nname = \"R\"\nmodel = \"table\"\ncolumns = [\"a\", \"b\"]\n[[dataset]]\nname = \"S\"\nmodel = \"table\"\ncolumns = [\"a\", \"b\"]\n[[dataset]]\nname = \"T\"\nmodel = \"table\"\ncolumns = [\"a\"]\n";
+    b"version = 1\n[[dataset]]\nname = \"R\"\nmodel = \"table\"\ncolumns = [\"a\", \"b\"]\n[[dataset]]\nname = \"S\"\nmodel = \"table\"\ncolumns = [\"a\", \"b\"]\n[[dataset]]\nname = \"T\"\nmodel = \"table\"\ncolumns = [\"a\"]\n[[fragment]]\nview = \"A(x,y) :- R(x,y)\"\nstore = \"table\"\nfile = \"a.csv\"\n[[fragment]]\nview = \"B(x) :- R(x,_)\"\nstore = \"table\"\nfile = \"b.csv\"\n[[fragment]]\nview = \"C(x) :- R(x,_)\"\nstore = \"table\"\nfile = \"c.csv\"\n";
 
-/// The catalogue of the three tables.
+/// The catalogue of the three tables and the three fragments.
 pub fn tables(alloc: Global) -> Result<Catalogue, Refused> {
     match read_catalogue(alloc, TABLES) {
         Ok(catalogue) => Ok(catalogue),
@@ -88,4 +88,25 @@ pub fn facts(alloc: Global, line: &str) -> Result<Facts, Refused> {
         }
     }
     Ok(facts)
+}
+
+/// The numbers that a word writes, a digit each.
+pub fn numbers(alloc: Global, word: &str) -> Result<Places, Refused> {
+    let mut numbers = Values::new(alloc);
+    'bytes: for byte in word.as_bytes() {
+        if !byte.is_ascii_digit() {
+            return Err(Refused);
+        }
+        numbers.push(usize::from(*byte - b'0'))?;
+    }
+    Ok(numbers)
+}
+
+/// Which columns are inputs: those of a `+`.
+pub fn columns(alloc: Global, word: &str) -> Result<Values<bool>, Refused> {
+    let mut columns = Values::new(alloc);
+    'bytes: for byte in word.as_bytes() {
+        columns.push(*byte == b'+')?;
+    }
+    Ok(columns)
 }

@@ -1,9 +1,13 @@
-//! The script: lines that set facts, and lines that ask for matches, answers and active matches over them.
+//! The script: lines that set facts, and lines that ask for matches, answers and active matches over them; and lines
+//! that ask about sets and orders.
 ghost use Rattle.std.specs.Prelude.{◌≡◌, nat_lt};
 ghost use Rattle.std.specs.List.{list_all};
 
+use crate::orders::put_orders;
+use crate::plain::{put_access, put_answers};
 use crate::printing::{put_place, put_places, put_rows};
 use crate::reading::{facts, query, rule, term};
+use crate::sets::put_products;
 use esto_catalog::Catalogue;
 use esto_constraint::{Rules, active, meets};
 use esto_query::{
@@ -96,6 +100,12 @@ impl Script {
         Ok(())
     }
 
+    fn rows_over(&self, alloc: Global, text: &str, out: &mut Bytes) -> Result<(), Refused> {
+        let query = query(alloc, &self.tables, text)?;
+        put_answers(alloc, out, &query, &self.facts)?;
+        Ok(())
+    }
+
     // The places of a rule's least active match, or that it is met.
     fn active(&self, alloc: Global, text: &str, out: &mut Bytes) -> Result<(), Refused> {
         let rule = rule(alloc, &self.tables, text)?;
@@ -143,6 +153,10 @@ impl Script {
             "answers" => self.rows(alloc, rest, out)?,
             "active" => self.active(alloc, rest, out)?,
             "meets" => self.meets(alloc, out)?,
+            "products" => put_products(alloc, out, rest)?,
+            "orders" => put_orders(alloc, out, &self.tables, rest)?,
+            "answers_over" => self.rows_over(alloc, rest, out)?,
+            "access" => put_access(alloc, out, &self.tables, rest)?,
             _ => return Err(Refused),
         }
         Ok(())
