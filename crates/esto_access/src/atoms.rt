@@ -1,27 +1,24 @@
 //! Which atoms of a plan are accessible after some of them.
-ghost use Rattle.std.specs.Prelude.{ℕ, ◌≡◌, ◌↔◌, slice_get, Some, IsTrue, Contains};
+ghost use Rattle.std.specs.Prelude.{ℕ, ◌≡◌, ◌↔◌, [], slice_get, slice_index_or, MatchOption, Some, IsTrue, Contains};
 ghost use Rattle.esto_term.specs.declared.term.Term.{Term};
 ghost use Rattle.esto_semantics.specs.declared.fact.Fact.{Fact};
-ghost use Rattle.esto_semantics.specs.Access.{IsInput, IsBound, IsAccessible};
+ghost use Rattle.esto_semantics.specs.Access.{IsInput, IsBound, MeetsPattern, IsAccessible};
 ghost use Rattle.esto_semantics.specs.Maps.{IsConstant};
 ghost use Rattle.esto_semantics.specs.Sets.{Has};
 ghost use Rattle.esto_views.specs.Fragments.{patterns_of};
 ghost use Rattle.esto_views.specs.Plans.{fact_of, plan_query};
 ghost use Rattle.esto_access.specs.Runs.{CanFollow};
+ghost use Rattle.esto_access.specs.Ways.{IsFirstMet, MeetsNone};
 
 use esto_bits::RowBits;
 use esto_term::{Term, Terms};
-use esto_views::{FragmentDefs, Plan, PlanAtom};
+use esto_views::{Access, AccessList, FragmentDefs, Plan, PlanAtom};
 
-/// Whether the column of the fragment is an input.
-fn is_input(fragments: &FragmentDefs, fragment: usize, column: usize) -> bool
-    ensures { IsTrue result ↔ IsInput (patterns_of fragments.now) fragment column }
+/// Whether the column is an input of the pattern.
+fn is_input(pattern: &Access, column: usize) -> bool
+    ensures { IsTrue result ↔ IsInput pattern.now column }
 {
-    if fragment >= fragments.len() {
-        return false;
-    }
-    let access = &fragments.item(fragment).access;
-    column < access.len() && access.item(column)
+    column < pattern.len() && pattern.item(column)
 }
 
 /// Whether the term is a constant.
@@ -72,16 +69,56 @@ fn is_bound(plan: &Plan, earlier: &[usize], term: &Term) -> bool
     false
 }
 
-/// Whether the atom is accessible after the atoms of these numbers.
-fn is_accessible(plan: &Plan, fragments: &FragmentDefs, earlier: &[usize], atom: &PlanAtom) -> bool
-    ensures { IsTrue result ↔ IsAccessible (patterns_of fragments.now) (plan_query plan.now).body (Contains earlier.now) (fact_of atom.now) }
+/// Whether the atom meets the pattern after the atoms of these numbers.
+fn meets_pattern(plan: &Plan, earlier: &[usize], atom: &PlanAtom, pattern: &Access) -> bool
+    ensures { IsTrue result ↔ MeetsPattern (plan_query plan.now).body (Contains earlier.now) (fact_of atom.now) pattern.now }
 {
     'columns: for (column, term) in atom.terms.items().iter().enumerate() {
-        if is_input(fragments, atom.fragment, column) && !is_bound(plan, earlier, term) {
+        if is_input(pattern, column) && !is_bound(plan, earlier, term) {
             return false;
         }
     }
     true
+}
+
+/// The place of the first of these patterns that the atom meets after the atoms of these numbers.
+fn first_met(
+    plan: &Plan,
+    earlier: &[usize],
+    atom: &PlanAtom,
+    patterns: &AccessList,
+) -> Option<usize>
+    ensures { MatchOption result (MeetsNone (plan_query plan.now).body (Contains earlier.now) (fact_of atom.now) patterns.now) (IsFirstMet (plan_query plan.now).body (Contains earlier.now) (fact_of atom.now) patterns.now) }
+{
+    'patterns: for (place, pattern) in patterns.items().iter().enumerate() {
+        if meets_pattern(plan, earlier, atom, pattern) {
+            return Some(place);
+        }
+    }
+    None
+}
+
+/// The way in which the atom is read after the atoms of these numbers: the place of the first pattern of its fragment
+/// that it meets.
+pub fn way_of(
+    plan: &Plan,
+    fragments: &FragmentDefs,
+    earlier: &[usize],
+    atom: &PlanAtom,
+) -> Option<usize>
+    ensures { MatchOption result (MeetsNone (plan_query plan.now).body (Contains earlier.now) (fact_of atom.now) (slice_index_or (patterns_of fragments.now) atom.now.fragment [])) (IsFirstMet (plan_query plan.now).body (Contains earlier.now) (fact_of atom.now) (slice_index_or (patterns_of fragments.now) atom.now.fragment [])) }
+{
+    if atom.fragment >= fragments.len() {
+        return None;
+    }
+    first_met(plan, earlier, atom, &fragments.item(atom.fragment).access)
+}
+
+/// Whether the atom is accessible after the atoms of these numbers.
+fn is_accessible(plan: &Plan, fragments: &FragmentDefs, earlier: &[usize], atom: &PlanAtom) -> bool
+    ensures { IsTrue result ↔ IsAccessible (patterns_of fragments.now) (plan_query plan.now).body (Contains earlier.now) (fact_of atom.now) }
+{
+    way_of(plan, fragments, earlier, atom).is_some()
 }
 
 /// Whether the number is one of these.

@@ -5,4 +5,5 @@ mod atoms;
 mod order;
 mod run;
 
+pub use atoms::way_of;
 pub use order::{Order, is_order, order_of, reached};

@@ -3,7 +3,7 @@ use Rattle.std.proofs.Common.{◌≡◌, ◌↔◌, ◌⊎◌, ℕ, ◌<◌, Lis
 use Rattle.std.specs.List.{All, AllByRecursion}
 use Rattle.std.proofs.lemmas.List.Elements.{All-from_recursion}
 use Rattle.esto_term.specs.declared.term.Term.{Term}
-use Rattle.esto_semantics.specs.Rules.{Rule, tuple, equality}
+use Rattle.esto_semantics.specs.Rules.{Rule, tuple, equality, denial}
 use Rattle.esto_semantics.specs.declared.fact.Fact.{Fact}
 use Rattle.esto_semantics.proofs.ContainsLemmas.{Contains-flat, Contains-flat_from}
 use Rattle.esto_query.proofs.MapLemmas.{Contains-first, Contains-cases, Contains-nil}
@@ -36,6 +36,7 @@ rule_joins (tuple body head) from to inside =
     let ends = edges_from-is found.0.relation head from to found.2 in
     (body, head, refl, (found.0, found.1, ends.0), ends.1)
 rule_joins (equality body left right) from to inside = absurd (Contains-nil (edge_of from to) inside)
+rule_joins (denial body) from to inside = absurd (Contains-nil (edge_of from to) inside)
 
 tuple_joins : (body head : List (Fact Term)) (from to : ℕ) → HasRelation body from → HasRelation head to → Contains (edges_of_rule (tuple body head)) (edge_of from to)
 tuple_joins body head from to (atom, at, is) ends =

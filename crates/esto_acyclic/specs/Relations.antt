@@ -2,7 +2,7 @@
 use Rattle.std.specs.Prelude.{◌≡◌, ℕ, List, [], ◌∷◌, Some, map, slice_get, Contains}
 use Rattle.std.specs.List.{flat_map}
 use Rattle.esto_term.specs.declared.term.Term.{Term}
-use Rattle.esto_semantics.specs.Rules.{Rule, tuple, equality}
+use Rattle.esto_semantics.specs.Rules.{Rule, tuple, equality, denial}
 use Rattle.esto_semantics.specs.declared.fact.Fact.{Fact}
 use Rattle.esto_query.specs.Schemas.{names_of}
 use Rattle.esto_query.specs.declared.schema.Relation.{Relation}
@@ -32,6 +32,7 @@ edges_between body head = flat_map (λ (atom : Fact Term). edges_from atom.relat
 abbrev pub edges_of_rule : Rule → List (ℕ × ℕ)
 edges_of_rule (tuple body head) = edges_between body head
 edges_of_rule (equality body left right) = []
+edges_of_rule (denial body) = []
 
 -- The edges that the rules give.
 abbrev pub edges_of : List Rule → List (ℕ × ℕ)

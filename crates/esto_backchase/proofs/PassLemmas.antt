@@ -141,7 +141,7 @@ module _ (plan : Plan) (fragments : List FragmentDef) (expanded : List ExpandedF
           let small : number < length plan.atoms = omega (arith, beyond set number has, over, length-map plan.atoms fact_of) in
           from-chosen set expanded whole ((expands.exact whole).1 (small, (part, at.1, is))) has
 
-  module _ (query : ConjunctiveQuery) (patterns : List (List Bool))
+  module _ (query : ConjunctiveQuery) (patterns : List (List (List Bool)))
       (expand_candidates : (set : List Bool) → length set ≡ length (plan_query plan).body → (facts : List (Fact Term)) → IsPartOf expands.of set facts
       → IsExpansion (views_of fragments) (candidate (plan_query plan) set) facts)
       (mean : (other : ConjunctiveQuery) (facts : List (Fact Term)) (right : ConjunctiveQuery) → IsExpansion (views_of fragments) other facts

@@ -29,7 +29,7 @@ use esto_views::plans_are_sound;
 /// it, head to head, and onto a set of the plan's atoms that has one of the sets within it, where these are exactly the
 /// listed sets.
 pub fn listed_sets_cover_rewritings()
-    ensures { (rules : List Rule) (views : List ConjunctiveQuery) (patterns : List (List Bool)) (query plan other : ConjunctiveQuery)
+    ensures { (rules : List Rule) (views : List ConjunctiveQuery) (patterns : List (List (List Bool))) (query plan other : ConjunctiveQuery)
         (sets : List (List Bool)) → AreFlat plan.body → IsUniversalPlan rules views query plan → IsSatisfiable rules query
         → AreListed rules views patterns query plan sets → IsExecutableRewriting rules views patterns query other
         → (set : List Bool) × MapsOnto other plan set × Covers sets set }

@@ -1,6 +1,6 @@
 //! The listed sets of a plan where there are no rules and no column of a fragment is an input.
 ghost use Rattle.std.specs.Prelude.{◌≡◌, ◌↔◌, ◌<◌, ◌≤◌, ℕ, List, Bool, [], Contains, IsTrue, IfOk, OnOk, length};
-ghost use Rattle.esto_semantics.specs.Access.{IsInput};
+ghost use Rattle.esto_semantics.specs.Access.{AreOpen};
 ghost use Rattle.esto_semantics.specs.Listed.{IsListed, IsExecutableRewriting};
 ghost use Rattle.esto_semantics.specs.Plans.{IsUniversalPlan};
 ghost use Rattle.esto_semantics.specs.Queries.{ConjunctiveQuery};
@@ -101,7 +101,7 @@ impl Search<'_> {
     }
 }
 
-/// The listed sets of the plan, where there are no rules and no column of a fragment is an input: the minimal sets of
+/// The listed sets of the plan, where there are no rules and each atom has a pattern without inputs: the minimal sets of
 /// its atoms whose candidate is safe and equivalent to the query. Each query over fragments that is an executable
 /// rewriting maps onto a superset of one of them. Every set is tried, unless a set that was found covers it.
 pub fn minimal_sets_plain(
@@ -113,7 +113,7 @@ pub fn minimal_sets_plain(
     requires over { IsPlanOver plan.now fragments.now }
     requires same_length { length plan.now.head ≡ length query.now.head }
     requires universal { IsUniversalPlan [] (views_of fragments.now) (query_of query.now) (plan_query plan.now) }
-    requires no_inputs { (fragment column : ℕ) → IsInput (patterns_of fragments.now) fragment column → ⊥ }
+    requires all_open { AreOpen (patterns_of fragments.now) (plan_query plan.now).body }
     ensures count { IfOk result (λ products. products.count ≡ length plan.now.atoms) }
     ensures listed { IfOk result (λ products. (set : List Bool) → Contains products.sets set
         ↔ IsListed [] (views_of fragments.now) (patterns_of fragments.now) (query_of query.now) (plan_query plan.now) set) }

@@ -11,12 +11,14 @@ use esto_universal::universal;
 use esto_views::{FragmentDef, FragmentDefs, Plan};
 use std::alloc::Global;
 
-// The fragment, with these columns for inputs.
+// The fragment, with the one pattern that has these columns for inputs.
 fn with_inputs(alloc: Global, fragment: &FragmentDef, word: &str) -> Result<FragmentDef, Refused> {
+    let mut access = List::new(alloc);
+    access.push(columns(alloc, word)?)?;
     Ok(FragmentDef {
         name: fragment.name.copy(alloc)?,
         view: fragment.view.copy(alloc)?,
-        access: columns(alloc, word)?,
+        access,
         weight: fragment.weight,
     })
 }
@@ -25,7 +27,7 @@ fn with_inputs(alloc: Global, fragment: &FragmentDef, word: &str) -> Result<Frag
 fn fragments(alloc: Global, tables: &Catalogue) -> Result<FragmentDefs, Refused> {
     let mut fragments = List::new(alloc);
     'fragments: for fragment in tables.fragments.items() {
-        let word = if fragment.access.len() == 2 {
+        let word = if fragment.view.head.len() == 2 {
             "+-"
         } else {
             "-"

@@ -10,7 +10,7 @@ use esto_semantics::{Database, Fact, Value, accessible_part, answers_over, is_ex
 use esto_term::{Bytes, List, OutOfMemory, Replicate, Term, Terms, Values};
 use std::alloc::Global;
 
-/// Which columns of R, of S and of T are inputs, where each of them is read as a fragment.
+/// The one pattern of R, of S and of T, where each of them is read as a fragment: which columns are inputs.
 const INPUTS: &str = "+-;--;-";
 
 // The value of a constant, or of a plain term the unnamed value of its number.
@@ -79,11 +79,13 @@ pub fn put_answers(
     Ok(())
 }
 
-// Which columns are inputs, fragment by fragment.
-fn patterns(alloc: Global) -> Result<List<Values<bool>>, Refused> {
+// The patterns, fragment by fragment.
+fn patterns(alloc: Global) -> Result<List<List<Values<bool>>>, Refused> {
     let mut patterns = List::new(alloc);
     'words: for word in INPUTS.split(';') {
-        patterns.push(columns(alloc, word)?)?;
+        let mut ways = List::new(alloc);
+        ways.push(columns(alloc, word)?)?;
+        patterns.push(ways)?;
     }
     Ok(patterns)
 }

@@ -24,7 +24,7 @@ use Rattle.esto_read.specs.Words.{HasRelations, AreTables}
 use Rattle.esto_semantics.proofs.TermLemmas.{Const-apart-Plain}
 use Rattle.esto_semantics.specs.Maps.{IsConstant, IsFlat, IsVariable}
 use Rattle.esto_semantics.specs.Queries.{ConjunctiveQuery}
-use Rattle.esto_semantics.specs.Rules.{Rule, tuple, equality}
+use Rattle.esto_semantics.specs.Rules.{Rule, tuple, equality, denial}
 use Rattle.esto_semantics.specs.WellFormed.{AreOver, HaveUtf8, IsQueryOver, IsRuleOver}
 use Rattle.esto_semantics.specs.declared.fact.Fact.{Fact}
 use Rattle.esto_term.specs.declared.term.Term.{Term}
@@ -208,7 +208,7 @@ module _ (schema : List Relation) (words : List Word) (datasets : List Dataset) 
       | inr variable ↦ variable
     ];
     distinct = λ i j d before below same. refute (λ kept. (kept.fragments_are fragment inside).distinct i j d before below same);
-    columns = ∥∥₁_elim sound (Coded-set coded_ℕ _ _) (λ kept. (kept.fragments_are fragment inside).columns);
+    columns = λ pattern own. ∥∥₁_elim sound (Coded-set coded_ℕ _ _) (λ kept. (kept.fragments_are fragment inside).columns pattern own);
   } where
     flat : (view : Query) (term : Term) → Contains view.head term → IsFlat term
     flat view term at = (sound_of view.head view.body view.names view.sound).query.flat_head term at
@@ -235,6 +235,10 @@ module _ (schema : List Relation) (words : List Word) (datasets : List Dataset) 
     λ text is. utf8_known text (∥∥₁_map some (λ (k : IsRuleOver (arities_of schema) (equality body left right)). k.2 text is)),
     λ text is. utf8_known text (∥∥₁_map some (λ (k : IsRuleOver (arities_of schema) (equality body left right)). k.3 text is)),
   )
+  rule_known (denial body) some = (
+    over_known body (∥∥₁_map some (λ (k : IsRuleOver (arities_of schema) (denial body)). k.0)),
+    texts_known body (∥∥₁_map some (λ (k : IsRuleOver (arities_of schema) (denial body)). k.1)),
+  )
 
   pub catalogue_known : IsSoundCatalogue schema words datasets fragments stores rules given ranks
   catalogue_known = record {
@@ -245,7 +249,7 @@ module _ (schema : List Relation) (words : List Word) (datasets : List Dataset) 
     tables = tables_known;
     fragments_are = fragment_known;
     views = λ fragment inside. query_known (query_of fragment.view) (∥∥₁_map sound (λ (kept : Kept). kept.views fragment inside));
-    outputs = λ fragment inside input at. ∥∥₁_elim sound (Coded-set coded_bool _ _) (λ kept. kept.outputs fragment inside input at);
+    outputs = λ fragment inside. ∥∥₁_elim sound (Coded-set (coded_list (coded_list coded_bool)) _ _) (λ kept. kept.outputs fragment inside);
     stored = ∥∥₁_elim sound (Coded-set coded_ℕ _ _) (λ kept. kept.stored);
     given_are = ∥∥₁_elim sound (Coded-set coded_ℕ _ _) (λ kept. kept.given_are);
     rules_are = λ rule inside. rule_known (rule_of rule) (∥∥₁_map sound (λ (kept : Kept). kept.rules_are rule inside));

@@ -1,6 +1,5 @@
 -- What the end of the walk gives.
-use Rattle.std.proofs.Common.{◌≡◌, ◌<◌, ◌+◌, zero, suc, drop, get_or, length-append, ℕ, List, [], ◌∷◌, ◌++◌, length, Bool, false, inl, inr, refl, sym, ap, subst, ◌∙◌, arith, replicate}
-use Rattle.std.specs.Prelude.{Contains}
+use Rattle.std.proofs.Common.{◌≡◌, ◌<◌, ◌+◌, zero, suc, drop, get_or, length-append, ℕ, List, [], ◌∷◌, ◌++◌, length, false, inl, inr, refl, sym, ap, subst, ◌∙◌, arith, replicate}
 use Rattle.std.proofs.Math.ListN.{length-map}
 use Rattle.std.proofs.lemmas.List.Elements.{Contains-push_cases}
 use Rattle.esto_acyclic.specs.Graphs.{AreRanks, IsWithin}
@@ -117,10 +116,6 @@ fragments_more arities fragments stored sound one = record {
 pub no_fragments_sound : (arities : List ℕ) → AreSoundFragments arities no_fragments
 no_fragments_sound arities = record { sound = λ fragment inside. absurd (Contains-nil fragment inside); stored = refl }
 
-outputs_false : (count : ℕ) (input : Bool) → Contains (replicate count false) input → input ≡ false
-outputs_false zero input inside = absurd (Contains-nil input inside)
-outputs_false (suc count) input inside = elim (Contains-cases false (replicate count false) input inside) [ inl same ↦ sym same | inr later ↦ outputs_false count input later ]
-
 length-replicate_false : (count : ℕ) → length (replicate count false) ≡ count
 length-replicate_false zero = refl
 length-replicate_false (suc count) = ap suc (length-replicate_false count)
@@ -128,9 +123,13 @@ length-replicate_false (suc count) = ap suc (length-replicate_false count)
 -- the fragment of a view over the schema
 pub stored_sound : (arities : List ℕ) (view : NamedQuery) (file : List ℕ) (columns : List (List ℕ)) (stored : Stored) → stored ≡ stored_fragment view file columns → IsSoundView arities view → IsSoundFragment arities stored.definition
 stored_sound arities view file columns stored is (over, variables) = subst (λ (s : Stored). IsSoundFragment arities s.definition) (sym is) (record {
-  made = record { variables = variables.0; distinct = variables.1; columns = length-replicate_false (length view.query.head) };
+  made = record { variables = variables.0; distinct = variables.1; columns = λ pattern own.
+      elim (Contains-cases (replicate (length view.query.head) false) [] pattern own) [
+        | inl same ↦ ap length (sym same) ∙ length-replicate_false (length view.query.head)
+        | inr later ↦ absurd (Contains-nil pattern later)
+      ] };
   view = over;
-  outputs = outputs_false (length view.query.head);
+  outputs = refl;
 })
 
 -- what a catalogue keeps, where its graph has ranks

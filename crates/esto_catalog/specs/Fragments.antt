@@ -82,10 +82,10 @@ store_columns place view (Some _) = refuses (fault_at WrongType place (codes "co
 abbrev pub store_columns_row : Place → Query → List Field → Course CatalogueError (List (List ℕ))
 store_columns_row place view entry = store_columns place view (setting_at (codes "columns") entry)
 
--- The fragment of a view and its store: no column is an input, and one use weighs 1.
+-- The fragment of a view and its store: its one pattern has no input, and one use weighs 1.
 abbrev pub stored_fragment : NamedQuery → List ℕ → List (List ℕ) → Stored
 stored_fragment view file columns = record {
-  definition = record { name = view.name; view = view.query; access = replicate (length view.query.head) false; weight = 1 };
+  definition = record { name = view.name; view = view.query; access = replicate (length view.query.head) false ∷ []; weight = 1 };
   store = record { shape = Table columns; file = file };
 }
 

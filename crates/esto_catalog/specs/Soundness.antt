@@ -1,5 +1,5 @@
 -- What catalogues keep.
-use Rattle.std.specs.Prelude.{◌≡◌, ℕ, List, length, Contains, Bool, false}
+use Rattle.std.specs.Prelude.{◌≡◌, ℕ, List, [], ◌∷◌, length, replicate, Contains, false}
 use Rattle.esto_acyclic.specs.Graphs.{IsWithin, AreRanks}
 use Rattle.esto_acyclic.specs.Relations.{IsEdge}
 use Rattle.esto_catalog.specs.Datasets.{IsTableDataset, words_of}
@@ -24,11 +24,11 @@ use Rattle.esto_views.specs.declared.fragments.FragmentDef.{FragmentDef}
 abbrev pub IsSoundView : List ℕ → NamedQuery → Type 0
 IsSoundView schema view = IsQueryOver schema (query_of view.query) × HasVariables View view.query.head
 
--- A fragment is well made, its view is over the schema, and no column is an input.
+-- A fragment is well made, its view is over the schema, and its one pattern has no input.
 pub record IsSoundFragment (schema : List ℕ) (fragment : FragmentDef) : Type 0 where
   pub made : IsFragment fragment
   pub view : IsQueryOver schema (query_of fragment.view)
-  pub outputs : (input : Bool) → Contains fragment.access input → input ≡ false
+  pub outputs : fragment.access ≡ replicate (length fragment.view.head) false ∷ []
 
 -- Each rule is over the schema.
 abbrev pub AreSoundRules : List ℕ → List Constraint → Type 0
@@ -39,7 +39,7 @@ pub record AreSoundFragments (schema : List ℕ) (fragments : Fragments) : Type 
   pub sound : (fragment : FragmentDef) → Contains fragments.definitions fragment → IsSoundFragment schema fragment
   pub stored : length fragments.stores ≡ length fragments.definitions
 
--- The relations are those of table datasets, and the words name them; the fragments are well made, their views are over the schema, no column of theirs is an input, and each has a store; the rules are the given ones and over the schema, and the ranks are those of the relations by them.
+-- The relations are those of table datasets, and the words name them; the fragments are well made, their views are over the schema, the one pattern of each has no input, and each has a store; the rules are the given ones and over the schema, and the ranks are those of the relations by them.
 pub record IsSoundCatalogue (schema : List Relation) (words : List Word) (datasets : List Dataset) (fragments : List FragmentDef) (stores : List Store) (rules : List Constraint) (given : ℕ) (ranks : List ℕ) : Type 0 where
   pub schema_is : IsSchema schema
   pub datasets_are : (dataset : Dataset) → Contains datasets dataset → IsTableDataset schema dataset
@@ -48,7 +48,7 @@ pub record IsSoundCatalogue (schema : List Relation) (words : List Word) (datase
   pub tables : AreTables words
   pub fragments_are : AreFragments fragments
   pub views : (fragment : FragmentDef) → Contains fragments fragment → IsQueryOver (arities_of schema) (query_of fragment.view)
-  pub outputs : (fragment : FragmentDef) → Contains fragments fragment → (input : Bool) → Contains fragment.access input → input ≡ false
+  pub outputs : (fragment : FragmentDef) → Contains fragments fragment → fragment.access ≡ replicate (length fragment.view.head) false ∷ []
   pub stored : length stores ≡ length fragments
   pub given_are : given ≡ length rules
   pub rules_are : (rule : Constraint) → Contains rules rule → IsRuleOver (arities_of schema) (rule_of rule)

@@ -213,7 +213,8 @@ fn stored_fragment(
     ensures { IfOk result (λ it. it ≡ stored_fragment view file columns) }
 {
     let NamedQuery { name, query } = view;
-    let access = outputs(alloc, &query)?;
+    let mut access = List::new(alloc);
+    access.push(outputs(alloc, &query)?)?;
     Ok(Stored {
         definition: FragmentDef {
             name,

@@ -13,7 +13,7 @@ use Rattle.esto_term.specs.declared.term.Term.{Term}
 use Rattle.esto_term.specs.declared.term.Term.TheVariants.{Const, Plain}
 use Rattle.esto_semantics.specs.Facts.{image, Mentions}
 use Rattle.esto_semantics.specs.Maps.{AreFlat, IsFixedBy, Keeps, Sends, AgreeOn}
-use Rattle.esto_semantics.specs.Rules.{Rule, tuple, equality}
+use Rattle.esto_semantics.specs.Rules.{Rule, tuple, equality, denial}
 use Rattle.esto_semantics.specs.declared.fact.Fact.{Fact}
 use Rattle.esto_query.specs.Valuations.{Assignment, Extends, map_of}
 use Rattle.esto_query.specs.Matches.{IsMatch, IsBefore, IsAtMost, IsFound, IsLeastMatch, HasNoMatch}
@@ -170,6 +170,7 @@ module _ (body facts : List (Fact Term)) (start : Assignment) (Property : (Term 
 pub IsMet-holds : (facts : List (Fact Term)) (rule : Rule) → ((m : Term → Term) → Keeps Const m → Sends m (body_of rule) facts → Holds facts rule m) → IsMet facts rule
 IsMet-holds facts (tuple body head) holds = holds
 IsMet-holds facts (equality body left right) holds = holds
+IsMet-holds facts (denial body) holds = holds
 
 -- the first match under which the rule does not hold is its least active match
 pub active_here : (rule : Rule) (facts : List (Fact Term)) (start : Assignment) → start ≡ empty → (found : Found) → IsCandidate (body_of rule) facts start (Holds facts rule) found → Tells found.valuation (Holds facts rule) true → IsLeastActive rule facts found.valuation found.places

@@ -1,7 +1,7 @@
 -- The meaning of rules.
 use Rattle.std.specs.Prelude.{List, map}
 use Rattle.esto_term.specs.declared.term.Term.{Term}
-use Rattle.esto_semantics.specs.Rules.{Rule, tuple, equality}
+use Rattle.esto_semantics.specs.Rules.{Rule, tuple, equality, denial}
 use Rattle.esto_semantics.specs.declared.fact.Fact.{Fact}
 use Rattle.esto_constraint.specs.declared.rule.Constraint.{Constraint}
 use Rattle.esto_constraint.specs.declared.rule.Constraint.TheVariants.{Tuple, Equal}
@@ -19,3 +19,4 @@ rules_of rules = map rule_of rules
 abbrev pub body_of : Rule → List (Fact Term)
 body_of (tuple body head) = body
 body_of (equality body left right) = body
+body_of (denial body) = body

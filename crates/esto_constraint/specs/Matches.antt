@@ -4,7 +4,7 @@ use Rattle.std.specs.FinMap.{empty}
 use Rattle.esto_term.specs.declared.term.Term.{Term}
 use Rattle.esto_term.specs.declared.term.Term.TheVariants.{Const}
 use Rattle.esto_semantics.specs.Maps.{Keeps, Sends, AgreeOn}
-use Rattle.esto_semantics.specs.Rules.{Rule, tuple, equality, MeetsInto}
+use Rattle.esto_semantics.specs.Rules.{Rule, tuple, equality, denial, MeetsInto}
 use Rattle.esto_semantics.specs.declared.fact.Fact.{Fact}
 use Rattle.esto_query.specs.Valuations.{Assignment, Extends}
 use Rattle.esto_query.specs.Matches.{IsMatch, IsAtMost, IsFound}
@@ -15,10 +15,11 @@ abbrev pub HasExtension : List (Fact Term) → List (Fact Term) → List (Fact T
 HasExtension body head facts m =
     (more : Term → Term) × Keeps Const more × AgreeOn ◌≡◌ body m more × Sends more head facts
 
--- A tuple rule holds under a map of its body to facts when the map has an extension to the head; an equality rule when the map sends both sides to one term.
+-- A tuple rule holds under a map of its body to facts when the map has an extension to the head; an equality rule when the map sends both sides to one term; a denial never.
 abbrev pub Holds : List (Fact Term) → Rule → (Term → Term) → Type 0
 Holds facts (tuple body head) m = HasExtension body head facts m
 Holds facts (equality body left right) m = m left ≡ m right
+Holds facts (denial body) m = ⊥
 
 -- The facts, read over terms, meet the rule.
 abbrev pub IsMet : List (Fact Term) → Rule → Type 0

@@ -1,10 +1,10 @@
 -- A search for the least match, by the place of the first atom.
-use Rattle.std.proofs.Common.{◌≡◌, ℕ, ◌+◌, ◌<◌, ◌≤◌, ◌++◌, ◌⊎◌, ◌↔◌, Bool, true, false, eqb, List, [], ◌∷◌, length, Contains, Option, Some, None, refl, sym, ap, subst, ◌∙◌, inl, inr, arith}
+use Rattle.std.proofs.Common.{◌≡◌, ℕ, ◌+◌, ◌-◌, ◌<◌, ◌≤◌, ◌++◌, ◌⊎◌, ◌↔◌, Bool, true, false, eqb, List, [], ◌∷◌, length, get_or, drop, Contains, Option, Some, None, refl, sym, ap, subst, ◌∙◌, inl, inr, arith}
 use Rattle.std.specs.List.{slice_get}
 use Rattle.std.specs.Option.{IfSome, IfNone}
 use Rattle.std.proofs.lemmas.Bool.Decides.{nat_tests}
 use Rattle.std.proofs.lemmas.Option.{same_Some, slice_get_within}
-use Rattle.std.proofs.lemmas.List.{append_assoc, append-nil}
+use Rattle.std.proofs.lemmas.List.{append_assoc, append-nil, drop_more, drop_all, get_or-drop, get_or_read, length-drop}
 use Rattle.esto_term.specs.declared.term.Term.{Term}
 use Rattle.esto_term.specs.declared.term.Term.TheVariants.{Const}
 use Rattle.esto_semantics.specs.Facts.{image}
@@ -16,10 +16,12 @@ use Rattle.esto_query.specs.Trails.{with_trail, Narrows, Excludes, Tries}
 use Rattle.esto_query.specs.Searches.{IsLeastFrom, Searched, first_from, rest_from}
 use Rattle.esto_query.specs.declared.trail.Binding.{Binding}
 use Rattle.esto_query.specs.declared.matches.Found.{Found}
-use Rattle.esto_query.proofs.MapLemmas.{Contains-first, Contains-later}
+use Rattle.esto_query.specs.Indexes.{HasPlace, AreCandidates}
+use Rattle.esto_query.specs.declared.index.Entry.{Entry}
+use Rattle.esto_query.proofs.MapLemmas.{Contains-first, Contains-later, Contains-cases, Contains-nil}
 use Rattle.esto_query.proofs.ValuationLemmas.{Keeps-map_of, Extends-map_of}
 use Rattle.esto_query.proofs.TrailLemmas.{Grew-same, Grew-then}
-use Rattle.esto_query.proofs.PlaceLemmas.{IsAtMost-nil, rest_is_at_most, IsAtMost-onto, IsAtMost-least}
+use Rattle.esto_query.proofs.PlaceLemmas.{IsAtMost-nil, first_is_least, rest_is_at_most, IsAtMost-onto, IsAtMost-least}
 use Rattle.esto_query.proofs.MatchLemmas.{IsMatch-length, found_variables}
 
 -- ---- where no first place below a bound has a match
@@ -32,27 +34,7 @@ abbrev pub NoneAt : Fact Term → List (Fact Term) → List (Fact Term) → Assi
 NoneAt atom rest facts known from here =
     (m : Term → Term) (places : List ℕ) → Keeps Const m → Extends m known → IsMatch m (atom ∷ rest) facts (here ∷ places) → IsAtMost from (here ∷ places) → ⊥
 
-cases_le : (a b : ℕ) → a ≤ b → (a < b) ⊎ (a ≡ b)
-cases_le a b m = grind arith
-
 module _ (atom : Fact Term) (rest facts : List (Fact Term)) (known : Assignment) (from : List ℕ) where
-  NoneBelow-next : (here : ℕ) → NoneBelow atom rest facts known from here → NoneAt atom rest facts known from here → NoneBelow atom rest facts known from (here + 1)
-  NoneBelow-next here before none = record { at_or_after = later }
-    where
-      later : (m : Term → Term) (place : ℕ) (places : List ℕ) → Keeps Const m → Extends m known → IsMatch m (atom ∷ rest) facts (place ∷ places) → IsAtMost from (place ∷ places) → here + 1 ≤ place
-      later m place places keeps extends match after =
-          elim (cases_le here place (before.at_or_after m place places keeps extends match after)) [
-            | inl less ↦ omega arith
-            | inr same ↦ absurd (none m places keeps extends (subst (λ p. IsMatch m (atom ∷ rest) facts (p ∷ places)) (sym same) match) (subst (λ p. IsAtMost from (p ∷ places)) (sym same) after))
-          ]
-
-  HasNoMatch-end : (bound : ℕ) → NoneBelow atom rest facts known from bound → length facts ≤ bound → HasNoMatch (atom ∷ rest) facts known (IsAtMost from)
-  HasNoMatch-end bound none end m [] keeps extends match after = match
-  HasNoMatch-end bound none end m (place ∷ places) keeps extends match after =
-      let low = none.at_or_after m place places keeps extends match after in
-      let within = slice_get_within facts place _ match.0 in
-      omega arith
-
   module _ (fact : Fact Term) (here : ℕ) (at : slice_get facts here ≡ Some fact) where
     no_fact : Excludes known (λ m. image m atom ≡ fact) → NoneAt atom rest facts known from here
     no_fact none m places keeps extends match after = none m keeps extends (same_Some _ _ (sym match.0 ∙ at))
@@ -80,6 +62,56 @@ module _ (atom : Fact Term) (rest facts : List (Fact Term)) (known : Assignment)
         least_case m (q ∷ qs) keeps extends match after =
             IsAtMost-least here q places qs (none.at_or_after m q qs keeps extends match after)
             (λ same. same_place m qs keeps extends (subst (λ p. IsMatch m (atom ∷ rest) facts (p ∷ qs)) same match) (subst (λ p. IsAtMost from (p ∷ qs)) same after))
+
+-- ---- where the first places of all matches are among the candidates that are left
+
+pub record AreLeft (atom : Fact Term) (rest facts : List (Fact Term)) (known : Assignment) (from : List ℕ) (left : List Entry) : Type 0 where
+  pub among : (m : Term → Term) (place : ℕ) (places : List ℕ) → Keeps Const m → Extends m known → IsMatch m (atom ∷ rest) facts (place ∷ places) → IsAtMost from (place ∷ places) → HasPlace left place
+
+module _ (atom : Fact Term) (rest facts : List (Fact Term)) (known : Assignment) (from : List ℕ) (found : List Entry) (served : AreCandidates facts atom known found) where
+  pub AreLeft-first : AreLeft atom rest facts known from found
+  AreLeft-first = record { among = λ m place places keeps extends match after. served.complete m place keeps extends match.0 }
+
+  module _ (i : ℕ) (left : AreLeft atom rest facts known from (drop i found)) where
+    pub AreLeft-end : length found ≤ i → HasNoMatch (atom ∷ rest) facts known (IsAtMost from)
+    AreLeft-end end m [] keeps extends match after = match
+    AreLeft-end end m (place ∷ places) keeps extends match after =
+        let has = left.among m place places keeps extends match after in
+        Contains-nil has.0 (subst (λ es. Contains es has.0) (drop_all i found end) has.1)
+
+    module _ (entry : Entry) (within : i < length found) (read : entry ≡ get_or found i entry) where
+      next_left : drop i found ≡ entry ∷ drop (i + 1) found
+      next_left = drop_more found i entry within ∙ ap (λ e. e ∷ drop (i + 1) found) (sym read)
+
+      pub AreLeft-next : NoneAt atom rest facts known from entry.place → AreLeft atom rest facts known from (drop (i + 1) found)
+      AreLeft-next none = record { among = later }
+        where
+          later : (m : Term → Term) (place : ℕ) (places : List ℕ) → Keeps Const m → Extends m known → IsMatch m (atom ∷ rest) facts (place ∷ places) → IsAtMost from (place ∷ places) → HasPlace (drop (i + 1) found) place
+          later m place places keeps extends match after =
+              let has = left.among m place places keeps extends match after in
+              elim (Contains-cases entry (drop (i + 1) found) has.0 (subst (λ es. Contains es has.0) next_left has.1)) [
+                | inl same ↦
+                    let here : place ≡ entry.place = sym has.2 ∙ ap (λ (e : Entry). e.place) (sym same) in
+                    absurd (none m places keeps extends (subst (λ p. IsMatch m (atom ∷ rest) facts (p ∷ places)) here match) (subst (λ p. IsAtMost from (p ∷ places)) here after))
+                | inr more ↦ (has.0, more, has.2)
+              ]
+
+      pub AreLeft-low : NoneBelow atom rest facts known from entry.place
+      AreLeft-low = record { at_or_after = low }
+        where
+          low : (m : Term → Term) (place : ℕ) (places : List ℕ) → Keeps Const m → Extends m known → IsMatch m (atom ∷ rest) facts (place ∷ places) → IsAtMost from (place ∷ places) → entry.place ≤ place
+          low m place places keeps extends match after =
+              let has = left.among m place places keeps extends match after in
+              let at : get_or found (i + has.1.0) has.0 ≡ has.0 = sym (get_or-drop i found has.1.0 has.0) ∙ has.1.2 in
+              let long : has.1.0 < length found - i = omega (arith, has.1.1, length-drop i found) in
+              let here : get_or found i has.0 ≡ entry = sym (get_or_read found i entry within read has.0) in
+              let up = served.rising i (i + has.1.0) has.0 (omega arith) (omega (arith, long)) in
+              omega (arith, up, ap (λ (e : Entry). e.place) at, ap (λ (e : Entry). e.place) here, has.2)
+
+-- a place that is out of the range has no match
+pub NoneAt-out : (atom : Fact Term) (rest facts : List (Fact Term)) (known : Assignment) (from : List ℕ) (here : ℕ) → (here < first_from from) ⊎ (length facts ≤ here) → NoneAt atom rest facts known from here
+NoneAt-out atom rest facts known from here (inl below) m places keeps extends match after = let least = first_is_least from here places after in omega arith
+NoneAt-out atom rest facts known from here (inr out) m places keeps extends match after = let within = slice_get_within facts here _ match.0 in omega arith
 
 -- ---- what a search leaves
 
@@ -115,20 +147,19 @@ module _ (start : Assignment) (atom fact : Fact Term) (rest facts : List (Fact T
         IsLeastFrom-cons atom rest facts (with_trail start old) from fact here at (with_trail start mid) (with_trail start new) found.0 none low step.1 least,
       )
 
-  pub NoneBelow-back : (mid new : List Binding) (inner places_mid places_new : List ℕ) → inner ≡ rest_from from here → Tries start now mid true (λ m. image m atom ≡ fact) → Searched start rest facts inner mid new places_mid places_new false → NoneBelow atom rest facts (with_trail start old) from (here + 1)
-  NoneBelow-back mid new inner places_mid places_new is_inner tried missed =
+  pub NoneAt-back : (mid new : List Binding) (inner places_mid places_new : List ℕ) → inner ≡ rest_from from here → Tries start now mid true (λ m. image m atom ≡ fact) → Searched start rest facts inner mid new places_mid places_new false → NoneAt atom rest facts (with_trail start old) from here
+  NoneAt-back mid new inner places_mid places_new is_inner tried missed =
       let step = tried_first mid true tried in
       let no : HasNoMatch rest facts (with_trail start mid) (IsAtMost (rest_from from here)) = subst (λ f. HasNoMatch rest facts (with_trail start mid) (IsAtMost f)) is_inner missed.2 in
-      NoneBelow-next atom rest facts (with_trail start old) from here none (no_rest atom rest facts (with_trail start old) from fact here at (with_trail start mid) step.1 no)
+      no_rest atom rest facts (with_trail start old) from fact here at (with_trail start mid) step.1 no
 
-  pub NoneBelow-skip : (new : List Binding) → Tries start now new false (λ m. image m atom ≡ fact) → NoneBelow atom rest facts (with_trail start old) from (here + 1)
-  NoneBelow-skip new tried =
+  pub NoneAt-skip : (new : List Binding) → Tries start now new false (λ m. image m atom ≡ fact) → NoneAt atom rest facts (with_trail start old) from here
+  NoneAt-skip new tried =
       let step = tried_first new false tried in
-      NoneBelow-next atom rest facts (with_trail start old) from here none (no_fact atom rest facts (with_trail start old) from fact here at step.1)
+      no_fact atom rest facts (with_trail start old) from fact here at step.1
 
-pub Searched-none : (start : Assignment) (atom : Fact Term) (rest facts : List (Fact Term)) (from : List ℕ) (bound : ℕ) (old new : List Binding) (places_old places_new : List ℕ) → places_new ≡ places_old → new ≡ old → NoneBelow atom rest facts (with_trail start old) from bound → length facts ≤ bound → Searched start (atom ∷ rest) facts from old new places_old places_new false
-Searched-none start atom rest facts from bound old new places_old places_new same_places same none end =
-    (same_places, same, HasNoMatch-end atom rest facts (with_trail start old) from bound none end)
+pub Searched-none : (start : Assignment) (atom : Fact Term) (rest facts : List (Fact Term)) (from : List ℕ) (old new : List Binding) (places_old places_new : List ℕ) → places_new ≡ places_old → new ≡ old → HasNoMatch (atom ∷ rest) facts (with_trail start old) (IsAtMost from) → Searched start (atom ∷ rest) facts from old new places_old places_new false
+Searched-none start atom rest facts from old new places_old places_new same_places same none = (same_places, same, none)
 
 -- ---- atoms of a body
 

@@ -8,3 +8,4 @@ pub mod MatchLemmas
 pub mod LeastLemmas
 pub mod RowLemmas
 pub mod RowOrderLemmas
+pub mod IndexLemmas

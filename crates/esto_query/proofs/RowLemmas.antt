@@ -1,10 +1,13 @@
 -- The rows of a body, atom by atom and fact by fact.
-use Rattle.std.proofs.Common.{◌≡◌, ℕ, ◌+◌, ◌<◌, ◌≤◌, ◌++◌, ◌⊎◌, ◌↔◌, List, [], ◌∷◌, length, get_or, take, map, Contains, Option, Some, None, IsSome, refl, sym, ap, subst, ◌∙◌, inl, inr}
+use Rattle.std.proofs.Common.{◌≡◌, ℕ, ◌+◌, ◌<◌, ◌≤◌, ◌++◌, ◌⊎◌, ◌↔◌, Bool, true, false, List, [], ◌∷◌, length, get_or, take, map, Contains, Option, Some, None, IsSome, refl, sym, ap, subst, ◌∙◌, inl, inr, arith}
+use Rattle.std.specs.List.{slice_get}
 use Rattle.std.specs.FinMap.{get, empty, get-empty}
 use Rattle.std.specs.Ordering.{nat_cmp}
 use Rattle.std.proofs.lemmas.Bool.{false≢true}
-use Rattle.std.proofs.lemmas.Option.{none-some}
+use Rattle.std.proofs.lemmas.Option.{none-some, same_Some, slice_get_within, slice_get_read}
 use Rattle.std.proofs.lemmas.List.{take_more, take_all}
+use Rattle.std.specs.List.Sorted.{IsPermutation}
+use Rattle.std.proofs.lemmas.List.Sorted.{Contains-permutation, IsPermutation-sym}
 use Rattle.std.proofs.lemmas.List.Elements.{Contains-append_left, Contains-push, Contains-push_cases}
 use Rattle.esto_term.specs.declared.term.Term.{Term}
 use Rattle.esto_term.specs.declared.term.Term.TheVariants.{Const, Plain}
@@ -13,11 +16,16 @@ use Rattle.esto_semantics.specs.Maps.{IsConstant, IsFlat, Keeps, Sends}
 use Rattle.esto_semantics.specs.Queries.{ConjunctiveQuery, IsQuery, IsAnswerInto}
 use Rattle.esto_semantics.specs.declared.fact.Fact.{Fact}
 use Rattle.esto_query.specs.Valuations.{Assignment, Extends, map_of}
-use Rattle.esto_query.specs.Trails.{Narrows, Excludes}
-use Rattle.esto_query.specs.Rows.{IsRow, IsKnown, AreKnown, Adds}
-use Rattle.esto_query.proofs.MapLemmas.{Contains-first, Contains-later, Contains-cases, Contains-nil, map_agree, image_values}
+use Rattle.esto_query.specs.Trails.{with_trail, Narrows, Excludes}
+use Rattle.esto_query.specs.Rows.{IsRow, IsKnown, AreKnown, IsAscending, Decides, Adds}
+use Rattle.esto_query.specs.Searches.{Searched}
+use Rattle.esto_query.specs.Indexes.{HasPlace, AreCandidates}
+use Rattle.esto_query.specs.declared.index.Entry.{Entry}
+use Rattle.esto_query.specs.declared.trail.Binding.{Binding}
+use Rattle.esto_query.proofs.PlaceLemmas.{IsAtMost-nil}
+use Rattle.esto_query.proofs.MapLemmas.{Contains-at, Contains-first, Contains-later, Contains-cases, Contains-nil, map_agree, image_values}
 use Rattle.esto_query.proofs.ValuationLemmas.{Keeps-map_of, Extends-map_of}
-use Rattle.esto_query.proofs.MatchLemmas.{known_kept, known_fixed}
+use Rattle.esto_query.proofs.MatchLemmas.{known_kept, known_fixed, Sends-match, match-Sends}
 
 -- ---- with no atom left there is one row
 
@@ -41,6 +49,95 @@ IsRow-nil head facts known row all = (
   λ r. r.4 ∙ map_agree r.0 (map_of known) head (λ term inside. agree_known r.0 known term r.1 r.2 (all term inside)),
 )
 
+-- where the head is known, one match gives its one row
+pub known_adds : (head : List Term) (body facts : List (Fact Term)) (known : Assignment) (old new : List (List Term)) → AreKnown head [] known → Decides body facts known true → Adds old new (λ row. row ≡ map (map_of known) head) → Adds old new (IsRow head body facts known)
+known_adds head body facts known old new all found adds row = (
+  λ there. elim ((adds row).0 there) [
+    | inl before ↦ inl before
+    | inr is ↦ inr (found.0, found.1, found.2, found.3, is ∙ sym (map_agree found.0 (map_of known) head (λ term inside. agree_known found.0 known term found.1 found.2 (all term inside))))
+  ],
+  λ either. (adds row).1 (elim either [
+    | inl before ↦ inl before
+    | inr r ↦ inr (r.4 ∙ map_agree r.0 (map_of known) head (λ term inside. agree_known r.0 known term r.1 r.2 (all term inside)))
+  ]),
+)
+
+pub none_adds : (head : List Term) (body facts : List (Fact Term)) (known : Assignment) (old new : List (List Term)) → new ≡ old → Decides body facts known false → Adds old new (IsRow head body facts known)
+none_adds head body facts known old new same none row = (
+  λ there. inl (subst (λ rows. Contains rows row) same there),
+  λ either. elim either [
+    | inl before ↦ subst (λ rows. Contains rows row) (sym same) before
+    | inr r ↦ absurd (none r.0 r.1 r.2 r.3)
+  ],
+)
+
+-- a search decides
+pub Decides-searched : (start : Assignment) (body facts : List (Fact Term)) (old new : List Binding) (places_old places_new : List ℕ) (is_found : Bool) → Searched start body facts [] old new places_old places_new is_found → Decides body facts (with_trail start old) is_found
+Decides-searched start body facts old new places_old places_new true searched =
+    let m = map_of (with_trail start new) in
+    let both = (searched.3.matches m (Keeps-map_of (with_trail start new))).0 (Extends-map_of (with_trail start new)) in
+    (m, Keeps-map_of (with_trail start new), both.0, Sends-match m body facts searched.0 both.1)
+Decides-searched start body facts old new places_old places_new false searched = λ m keeps extends sends.
+    let match = match-Sends m body facts sends in
+    searched.2 m match.0 keeps extends match.1 (IsAtMost-nil match.0)
+
+-- one more row
+pub Adds-push : (old new : List (List Term)) (row image : List Term) → new ≡ old ++ row ∷ [] → row ≡ image → Adds old new (λ other. other ≡ image)
+Adds-push old new row image grown same other = (
+  λ there. elim (Contains-push_cases old row other (subst (λ rows. Contains rows other) grown there)) [
+    | inl before ↦ inl before
+    | inr is ↦ inr (sym is ∙ same)
+  ],
+  λ either. subst (λ rows. Contains rows other) (sym grown) (elim either [
+    | inl before ↦ Contains-append_left old (row ∷ []) other before
+    | inr is ↦ subst (Contains (old ++ row ∷ [])) (sym (is ∙ sym same)) (Contains-push old row)
+  ]),
+)
+
+-- rows that are taken from the end of a list, each into another one
+pub record AreMoved (all rest kept : List (List Term)) : Type 0 where
+  pub ascending : IsAscending kept
+  pub same : (row : List Term) → Contains all row ↔ (Contains kept row ⊎ Contains rest row)
+
+pub AreMoved-first : (all sorted : List (List Term)) → IsPermutation all sorted → AreMoved all sorted []
+AreMoved-first all sorted moved = record {
+  ascending = λ i j d less within. absurd (omega arith);
+  same = λ row. (λ there. inr (Contains-permutation all sorted row moved there), λ either. elim either [
+    | inl none ↦ absurd (Contains-nil row none)
+    | inr there ↦ Contains-permutation sorted all row (IsPermutation-sym all sorted moved) there
+  ]);
+}
+
+pub AreMoved-next : (all rest less kept more : List (List Term)) (row : List Term) → rest ≡ less ++ row ∷ [] → AreMoved all rest kept → IsAscending more → Adds kept more (λ other. other ≡ row) → AreMoved all less more
+AreMoved-next all rest less kept more row cut moved ascending adds = record {
+  ascending = ascending;
+  same = λ other. (
+    λ there. elim ((moved.same other).0 there) [
+      | inl before ↦ inl ((adds other).1 (inl before))
+      | inr in_rest ↦ elim (Contains-push_cases less row other (subst (λ rows. Contains rows other) cut in_rest)) [
+        | inl later ↦ inr later
+        | inr is ↦ inl ((adds other).1 (inr (sym is)))
+      ]
+    ],
+    λ either. (moved.same other).1 (elim either [
+      | inl in_more ↦ elim ((adds other).0 in_more) [
+        | inl before ↦ inl before
+        | inr is ↦ inr (subst (λ rows. Contains rows other) (sym cut) (subst (Contains (less ++ row ∷ [])) (sym is) (Contains-push less row)))
+      ]
+      | inr later ↦ inr (subst (λ rows. Contains rows other) (sym cut) (Contains-append_left less (row ∷ []) other later))
+    ]),
+  );
+}
+
+pub AreMoved-end : (all rest kept : List (List Term)) → rest ≡ [] → AreMoved all rest kept → (row : List Term) → Contains kept row ↔ Contains all row
+AreMoved-end all rest kept none moved row = (
+  λ there. (moved.same row).1 (inl there),
+  λ there. elim ((moved.same row).0 there) [
+    | inl kept_row ↦ kept_row
+    | inr rest_row ↦ absurd (Contains-nil row (subst (λ rows. Contains rows row) none rest_row))
+  ],
+)
+
 -- ---- what is known after an atom
 
 module _ (old new : Assignment) (atom fact : Fact Term) (rest : List (Fact Term)) (step : Narrows old new (λ m. image m atom ≡ fact)) where
@@ -62,13 +159,15 @@ module _ (old new : Assignment) (atom fact : Fact Term) (rest : List (Fact Term)
   pub AreKnown-next : (head : List Term) → AreKnown head (atom ∷ rest) old → AreKnown head rest new
   AreKnown-next head all term inside = known_next term (all term inside)
 
--- ---- the rows whose first atom goes to one of the facts seen
+-- ---- the rows whose first atom goes to the place of one of the candidates seen
 
-pub record IsRowSeen (head : List Term) (atom : Fact Term) (rest facts seen : List (Fact Term)) (known : Assignment) (row : List Term) : Type 0 where
+pub record IsRowSeen (head : List Term) (atom : Fact Term) (rest facts : List (Fact Term)) (seen : List Entry) (known : Assignment) (row : List Term) : Type 0 where
   pub m : Term → Term
   pub keeps : Keeps Const m
   pub extends : Extends m known
-  pub first : Contains seen (image m atom)
+  pub place : ℕ
+  pub among : HasPlace seen place
+  pub first : slice_get facts place ≡ Some (image m atom)
   pub others : Sends m rest facts
   pub is_image : row ≡ map m head
 
@@ -83,64 +182,73 @@ leaf_adds head facts known old new row all is adds =
     Adds-same old new (λ other. other ≡ row) (IsRow head [] facts known) (λ other. let one = IsRow-nil head facts known other all in (λ e. one.0 (e ∙ is), λ r. one.1 r ∙ sym is)) adds
 
 module _ (head : List Term) (atom : Fact Term) (rest facts : List (Fact Term)) (known : Assignment) (old : List (List Term)) where
-  abbrev pub Seen : List (Fact Term) → List Term → Type 0
+  abbrev pub Seen : List Entry → List Term → Type 0
   Seen seen row = IsRowSeen head atom rest facts seen known row
 
-  seen_more : (seen : List (Fact Term)) (fact : Fact Term) (row : List Term) → Seen seen row → Seen (seen ++ fact ∷ []) row
-  seen_more seen fact row s = record {
-    m = s.m;
-    keeps = s.keeps;
-    extends = s.extends;
-    first = Contains-append_left seen (fact ∷ []) (image s.m atom) s.first;
-    others = s.others;
-    is_image = s.is_image;
-  }
+  with_among : (seen other : List Entry) (row : List Term) (s : Seen seen row) → HasPlace other s.place → Seen other row
+  with_among seen other row s among = record { m = s.m; keeps = s.keeps; extends = s.extends; place = s.place; among = among; first = s.first; others = s.others; is_image = s.is_image }
 
-  skip : (seen : List (Fact Term)) (fact : Fact Term) (now : List (List Term)) → Excludes known (λ m. image m atom ≡ fact) → Adds old now (Seen seen) → Adds old now (Seen (seen ++ fact ∷ []))
-  skip seen fact now none = Adds-same old now (Seen seen) (Seen (seen ++ fact ∷ [])) (λ row. (
-    λ s. seen_more seen fact row s,
-    λ s. elim (Contains-push_cases seen fact (image s.m atom) s.first) [
-      | inl before ↦ record { m = s.m; keeps = s.keeps; extends = s.extends; first = before; others = s.others; is_image = s.is_image }
-      | inr same ↦ absurd (none s.m s.keeps s.extends (sym same))
+  seen_more : (seen : List Entry) (entry : Entry) (row : List Term) → Seen seen row → Seen (seen ++ entry ∷ []) row
+  seen_more seen entry row s = with_among seen (seen ++ entry ∷ []) row s (s.among.0, Contains-append_left seen (entry ∷ []) s.among.0 s.among.1, s.among.2)
+
+  -- no map that extends the known valuation sends the atom to the fact at this place
+  abbrev pub NoneHere : ℕ → Type 0
+  NoneHere place = (m : Term → Term) → Keeps Const m → Extends m known → slice_get facts place ≡ Some (image m atom) → ⊥
+
+  skip : (seen : List Entry) (entry : Entry) (now : List (List Term)) → NoneHere entry.place → Adds old now (Seen seen) → Adds old now (Seen (seen ++ entry ∷ []))
+  skip seen entry now none = Adds-same old now (Seen seen) (Seen (seen ++ entry ∷ [])) (λ row. (
+    λ s. seen_more seen entry row s,
+    λ s. elim (Contains-push_cases seen entry s.among.0 s.among.1) [
+      | inl before ↦ with_among (seen ++ entry ∷ []) seen row s (s.among.0, before, s.among.2)
+      | inr same ↦ absurd (none s.m s.keeps s.extends (ap (λ (e : Entry). slice_get facts e.place) same ∙ ap (slice_get facts) s.among.2 ∙ s.first))
     ],
   ))
 
-  next : (seen : List (Fact Term)) (fact : Fact Term) (mid : Assignment) (now new : List (List Term)) → Narrows known mid (λ m. image m atom ≡ fact) → Adds now new (IsRow head rest facts mid) → Adds old now (Seen seen) → Adds old new (Seen (seen ++ fact ∷ []))
-  next seen fact mid now new step more before row = (
+  next : (seen : List Entry) (entry : Entry) (fact : Fact Term) (mid : Assignment) (now new : List (List Term)) → slice_get facts entry.place ≡ Some fact → Narrows known mid (λ m. image m atom ≡ fact) → Adds now new (IsRow head rest facts mid) → Adds old now (Seen seen) → Adds old new (Seen (seen ++ entry ∷ []))
+  next seen entry fact mid now new at step more before row = (
     λ there. elim ((more row).0 there) [
-      | inl earlier ↦ elim ((before row).0 earlier) [ inl first ↦ inl first | inr s ↦ inr (seen_more seen fact row s) ]
+      | inl earlier ↦ elim ((before row).0 earlier) [ inl first ↦ inl first | inr s ↦ inr (seen_more seen entry row s) ]
       | inr r ↦
           let n = (step r.0 r.1).0 r.2 in
-          inr (record { m = r.0; keeps = r.1; extends = n.0; first = subst (Contains (seen ++ fact ∷ [])) (sym n.1) (Contains-push seen fact); others = r.3; is_image = r.4 })
+          inr (record { m = r.0; keeps = r.1; extends = n.0; place = entry.place; among = (entry, Contains-push seen entry, refl); first = at ∙ ap Some (sym n.1); others = r.3; is_image = r.4 })
     ],
     λ either. (more row).1 (elim either [
       | inl first ↦ inl ((before row).1 (inl first))
-      | inr s ↦ elim (Contains-push_cases seen fact (image s.m atom) s.first) [
-        | inl earlier ↦ inl ((before row).1 (inr (record { m = s.m; keeps = s.keeps; extends = s.extends; first = earlier; others = s.others; is_image = s.is_image })))
-        | inr same ↦ inr (s.m, s.keeps, (step s.m s.keeps).1 (s.extends, sym same), s.others, s.is_image)
+      | inr s ↦ elim (Contains-push_cases seen entry s.among.0 s.among.1) [
+        | inl earlier ↦ inl ((before row).1 (inr (with_among (seen ++ entry ∷ []) seen row s (s.among.0, earlier, s.among.2))))
+        | inr same ↦
+            let here : slice_get facts s.place ≡ Some fact = ap (slice_get facts) (sym s.among.2) ∙ ap (λ (e : Entry). slice_get facts e.place) (sym same) ∙ at in
+            inr (s.m, s.keeps, (step s.m s.keeps).1 (s.extends, same_Some _ _ (sym s.first ∙ here)), s.others, s.is_image)
       ]
     ]),
   )
 
-  whole : (row : List Term) → Seen facts row ↔ IsRow head (atom ∷ rest) facts known row
-  whole row = (
-    λ s. (s.m, s.keeps, s.extends, (λ a inside. elim (Contains-cases atom rest a inside) [ inl same ↦ subst (λ b. Contains facts (image s.m b)) same s.first | inr later ↦ s.others a later ]), s.is_image),
-    λ r. record { m = r.0; keeps = r.1; extends = r.2; first = r.3 atom (Contains-first atom rest); others = λ a inside. r.3 a (Contains-later atom rest a inside); is_image = r.4 },
-  )
+  module _ (found : List Entry) (served : AreCandidates facts atom known found) where
+    whole : (row : List Term) → Seen found row ↔ IsRow head (atom ∷ rest) facts known row
+    whole row = (
+      λ s. (s.m, s.keeps, s.extends, (λ a inside. elim (Contains-cases atom rest a inside) [ inl same ↦ subst (λ b. Contains facts (image s.m b)) same (Contains-at facts s.place (image s.m atom) s.first) | inr later ↦ s.others a later ]), s.is_image),
+      λ r.
+          let first = r.3 atom (Contains-first atom rest) in
+          let at : slice_get facts first.0 ≡ Some (image r.0 atom) = slice_get_read facts _ first.0 (image r.0 atom) refl first.1 (sym first.2) in
+          record { m = r.0; keeps = r.1; extends = r.2; place = first.0; among = served.complete r.0 first.0 r.1 r.2 at; first = at; others = λ a inside. r.3 a (Contains-later atom rest a inside); is_image = r.4 },
+    )
 
-  module _ (i : ℕ) where
-    seen_at : (fact : Fact Term) → i < length facts → fact ≡ get_or facts i fact → take (i + 1) facts ≡ take i facts ++ fact ∷ []
-    seen_at fact within read = take_more facts i fact within ∙ ap (λ f. take i facts ++ f ∷ []) (sym read)
+    module _ (i : ℕ) where
+      seen_at : (entry : Entry) → i < length found → entry ≡ get_or found i entry → take (i + 1) found ≡ take i found ++ entry ∷ []
+      seen_at entry within read = take_more found i entry within ∙ ap (λ e. take i found ++ e ∷ []) (sym read)
 
-    pub turn_skip : (fact : Fact Term) (now : List (List Term)) → i < length facts → fact ≡ get_or facts i fact → Excludes known (λ m. image m atom ≡ fact) → Adds old now (Seen (take i facts)) → Adds old now (Seen (take (i + 1) facts))
-    turn_skip fact now within read none seen = subst (λ fs. Adds old now (Seen fs)) (sym (seen_at fact within read)) (skip (take i facts) fact now none seen)
+      pub turn_out : (entry : Entry) (now : List (List Term)) → i < length found → entry ≡ get_or found i entry → length facts ≤ entry.place → Adds old now (Seen (take i found)) → Adds old now (Seen (take (i + 1) found))
+      turn_out entry now within read out seen = subst (λ es. Adds old now (Seen es)) (sym (seen_at entry within read)) (skip (take i found) entry now (λ m keeps extends at. let l = slice_get_within facts entry.place _ at in omega arith) seen)
 
-    pub turn_next : (fact : Fact Term) (mid : Assignment) (now new : List (List Term)) → i < length facts → fact ≡ get_or facts i fact → Narrows known mid (λ m. image m atom ≡ fact) → Adds now new (IsRow head rest facts mid) → Adds old now (Seen (take i facts)) → Adds old new (Seen (take (i + 1) facts))
-    turn_next fact mid now new within read step more seen = subst (λ fs. Adds old new (Seen fs)) (sym (seen_at fact within read)) (next (take i facts) fact mid now new step more seen)
+      pub turn_skip : (entry : Entry) (fact : Fact Term) (now : List (List Term)) → i < length found → entry ≡ get_or found i entry → slice_get facts entry.place ≡ Some fact → Excludes known (λ m. image m atom ≡ fact) → Adds old now (Seen (take i found)) → Adds old now (Seen (take (i + 1) found))
+      turn_skip entry fact now within read at none seen = subst (λ es. Adds old now (Seen es)) (sym (seen_at entry within read)) (skip (take i found) entry now (λ m keeps extends is. none m keeps extends (same_Some _ _ (sym is ∙ at))) seen)
 
-    pub end_adds : (now : List (List Term)) → length facts ≤ i → Adds old now (Seen (take i facts)) → Adds old now (IsRow head (atom ∷ rest) facts known)
-    end_adds now end seen =
-        Adds-same old now (Seen facts) (IsRow head (atom ∷ rest) facts known) whole (subst (λ fs. Adds old now (Seen fs)) (take_all i facts end) seen)
+      pub turn_next : (entry : Entry) (fact : Fact Term) (mid : Assignment) (now new : List (List Term)) → i < length found → entry ≡ get_or found i entry → slice_get facts entry.place ≡ Some fact → Narrows known mid (λ m. image m atom ≡ fact) → Adds now new (IsRow head rest facts mid) → Adds old now (Seen (take i found)) → Adds old new (Seen (take (i + 1) found))
+      turn_next entry fact mid now new within read at step more seen = subst (λ es. Adds old new (Seen es)) (sym (seen_at entry within read)) (next (take i found) entry fact mid now new at step more seen)
+
+      pub end_adds : (now : List (List Term)) → length found ≤ i → Adds old now (Seen (take i found)) → Adds old now (IsRow head (atom ∷ rest) facts known)
+      end_adds now end seen =
+          Adds-same old now (Seen found) (IsRow head (atom ∷ rest) facts known) whole (subst (λ es. Adds old now (Seen es)) (take_all i found end) seen)
 
 -- ---- the answers
 
@@ -152,12 +260,12 @@ known_at_first query start kept term inside = by (kept.flat_head term inside) (k
     by (inl constant) (inr mentioned) = inl constant
     by (inr plain) (inr mentioned) = inr (plain.0, plain.1, inr mentioned)
 
-pub answers_are : (query : ConjunctiveQuery) (facts : List (Fact Term)) (old new : List (List Term)) (start : Assignment) → old ≡ [] → start ≡ empty {R = nat_cmp} → Adds old new (IsRow query.head query.body facts start) → (row : List Term) → Contains new row ↔ IsAnswerInto Const query (Contains facts) row
-answers_are query facts old new start none nothing adds row =
+pub answers_are : (query : ConjunctiveQuery) (facts : List (Fact Term)) (old new kept : List (List Term)) (start : Assignment) → old ≡ [] → start ≡ empty {R = nat_cmp} → Adds old new (IsRow query.head query.body facts start) → ((row : List Term) → Contains kept row ↔ Contains new row) → (row : List Term) → Contains kept row ↔ IsAnswerInto Const query (Contains facts) row
+answers_are query facts old new kept start none nothing adds same row =
     let extends : (m : Term → Term) → Extends m start = λ m variable term at. absurd (none-some term (sym (get-empty nat_cmp variable) ∙ ap (λ (known : Assignment). get known variable) (sym nothing) ∙ at)) in (
-      λ there. elim ((adds row).0 there) [
+      λ there. elim ((adds row).0 ((same row).0 there)) [
         | inl before ↦ absurd (Contains-nil row (subst (λ rows. Contains rows row) none before))
         | inr r ↦ (r.0, r.1, r.3, r.4)
       ],
-      λ answer. (adds row).1 (inr (answer.0, answer.1, extends answer.0, answer.2, answer.3)),
+      λ answer. (same row).1 ((adds row).1 (inr (answer.0, answer.1, extends answer.0, answer.2, answer.3))),
     )

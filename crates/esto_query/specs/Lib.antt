@@ -7,3 +7,4 @@ pub mod Matches
 pub mod Trails
 pub mod Searches
 pub mod Rows
+pub mod Indexes

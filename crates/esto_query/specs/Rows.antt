@@ -1,5 +1,5 @@
 -- Rows of terms, and what a list of rows has.
-use Rattle.std.specs.Prelude.{◌≡◌, ◌⊎◌, ◌↔◌, ℕ, ◌<◌, ◌≤◌, List, IsSome, length, map, slice_index_or, Contains, AllPairs}
+use Rattle.std.specs.Prelude.{◌≡◌, ◌⊎◌, ◌↔◌, ℕ, Bool, true, false, ◌<◌, ◌≤◌, List, IsSome, length, map, slice_index_or, Contains, AllPairs}
 use Rattle.std.specs.FinMap.{get}
 use Rattle.std.specs.Cmp.Lexicographic.{slice_cmp}
 use Rattle.std.specs.declared.cmp.Ordering.{Ordering}
@@ -43,3 +43,8 @@ AreKnown head body known = (term : Term) → Contains head term → IsKnown body
 -- The new list has what the old one has, and what has the property.
 abbrev pub Adds : {X : Type 0} → List X → List X → (X → Type 0) → Type 0
 Adds {X} old new Property = (x : X) → Contains new x ↔ (Contains old x ⊎ Property x)
+
+-- Whether a map that keeps constants, extends the known valuation and sends the body to facts is there.
+abbrev pub Decides : List (Fact Term) → List (Fact Term) → Assignment → Bool → Type 0
+Decides body facts known true = (m : Term → Term) × Keeps Const m × Extends m known × Sends m body facts
+Decides body facts known false = (m : Term → Term) → Keeps Const m → Extends m known → ¬ (Sends m body facts)

@@ -1,6 +1,7 @@
 //! Schemas, queries, valuations, matches and answers.
 #![tactic(auto)]
 
+mod index;
 mod making;
 mod matches;
 mod query;

@@ -6,6 +6,7 @@ ghost use Rattle.esto_semantics.specs.declared.fact.Fact.{Fact};
 ghost use Rattle.esto_query.specs.Matches.{IsMatch, IsBefore, IsAtMost, IsLeastMatch, HasNoMatch};
 ghost use Rattle.esto_query.specs.Trails.{with_trail};
 
+use crate::index::index_of;
 use crate::search::search;
 use crate::trail::Binding;
 use crate::valuation::Valuation;
@@ -54,7 +55,8 @@ fn least_match(
 {
     let mut trail = Vec::new(alloc);
     let mut places = Values::new(alloc);
-    if search(start, body, facts, from, &mut trail, &mut places)? {
+    let index = index_of(alloc, facts)?;
+    if search(start, body, facts, &index, from, &mut trail, &mut places)? {
         let valuation = extended(alloc, start, &trail)?;
         Ok(Some(Found { valuation, places }))
     } else {

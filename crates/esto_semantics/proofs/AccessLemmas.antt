@@ -1,10 +1,10 @@
 -- Executable sets, accessible parts and stated orders, by the run that takes the accessible atom of least number each time.
-use Rattle.std.proofs.Common.{◌≡◌, ◌≢◌, ℕ, zero, suc, ◌<◌, ◌≤◌, Bool, true, false, List, [], ◌∷◌, ◌++◌, length, get_or, slice_set, replicate, Option, Some, None, slice_get, refl, sym, ap, ◌∙◌, subst, arith, inl, inr}
+use Rattle.std.proofs.Common.{◌≡◌, ◌≢◌, ℕ, zero, suc, ◌<◌, ◌≤◌, Bool, true, false, List, [], ◌∷◌, ◌++◌, length, get_or, slice_index_or, slice_set, replicate, Option, Some, None, slice_get, refl, sym, ap, ◌∙◌, subst, arith, inl, inr}
 use Rattle.std.specs.Prelude.{◌⊎◌, ◌↔◌, Contains, AllPairs}
 use Rattle.std.specs.declared.cmp.Ordering.{Ordering}
 use Rattle.std.specs.declared.cmp.Ordering.TheVariants.{Less, Equal, Greater}
 use Rattle.std.proofs.lemmas.Bool.{false≢true, cases_order, cases_lt, cases_eq}
-use Rattle.std.proofs.lemmas.List.{get_or-set_same, get_or-set_other, length-set, length-replicate}
+use Rattle.std.proofs.lemmas.List.{get_or_default, get_or-set_same, get_or-set_other, length-set, length-replicate}
 use Rattle.std.proofs.lemmas.List.Elements.{Contains-get_or, Contains-push_cases, Contains-append_left, Contains-push}
 use Rattle.std.proofs.lemmas.List.Quantifiers.{all_pairs_push}
 use Rattle.std.proofs.lemmas.Option.{none-some, same_Some, slice_get_within, slice_get-get_or, get_or_from_slice_get}
@@ -15,7 +15,7 @@ use Rattle.esto_term.specs.declared.term.Term.TheVariants.{outs-Const, rolls-Con
 use Rattle.esto_semantics.specs.declared.fact.Fact.{Fact}
 use Rattle.esto_semantics.specs.Maps.{IsConstant}
 use Rattle.esto_semantics.specs.Sets.{Has, Within, numbers, united}
-use Rattle.esto_semantics.specs.Access.{IsInput, IsBound, IsAccessible, IsEarlier, IsOrder, IsExecutable, IsAccessiblePart, IsStatedOrder}
+use Rattle.esto_semantics.specs.Access.{IsInput, IsBound, MeetsPattern, IsAccessible, IsEarlier, IsOrder, IsExecutable, IsAccessiblePart, IsStatedOrder}
 use Rattle.esto_semantics.specs.AccessSteps.{IsReady, IsNext, IsStuck}
 use Rattle.esto_semantics.specs.AccessLaws.{NoneIsExecutable, UnionIsExecutable, PartExists, PartIsOne, ExecutableIsOwnPart, PartRises, StatedOrderExists, StatedOrderIsOne, NumbersAreStated, RewritingsNeedNoOrder}
 use Rattle.esto_semantics.proofs.ChoiceLemmas.{Decided, decided_both, decided_either, decided_not, decided_as, decided_below, least_below, contains_none}
@@ -110,12 +110,16 @@ none_has (suc count) (suc number) h = none_has count number h
 
 -- ---- what is accessible
 
-module _ (patterns : List (List Bool)) (atoms : List (Fact Term)) where
+module _ (patterns : List (List (List Bool))) (atoms : List (Fact Term)) where
   pub accessible_more : (P Q : ℕ → Type 0) → ((number : ℕ) → P number → Q number) → (atom : Fact Term) → IsAccessible patterns atoms P atom → IsAccessible patterns atoms Q atom
-  accessible_more P Q step atom accessible column term input at = elim (accessible column term input at) [
-    | inl constant ↦ inl constant
-    | inr named ↦ inr (named.0, step named.0 named.1, named.2)
-  ]
+  accessible_more P Q step atom (pattern, has_pattern, meets) = (
+    pattern,
+    has_pattern,
+    λ column term input at. elim (meets column term input at) [
+      | inl constant ↦ inl constant
+      | inr named ↦ inr (named.0, step named.0 named.1, named.2)
+    ],
+  )
 
   pub ready_more : (P Q : ℕ → Type 0) → ((number : ℕ) → P number → Q number) → (number : ℕ) → IsReady patterns atoms P number → IsReady patterns atoms Q number
   ready_more P Q step number ready atom e = accessible_more P Q step atom (ready atom e)
@@ -187,17 +191,13 @@ decided_constant term = go (out-Term term) refl
         made : (rule variable : ℕ) (frontier : List Term) (text : List ℕ) → ◌≡◌ {A = Term-F Term} (Term-F.Made rule variable frontier) (Term-F.Const text) → ⊥
         made rule variable frontier text e = cc
 
-decided_input : (patterns : List (List Bool)) (fragment column : ℕ) → Decided (IsInput patterns fragment column)
-decided_input patterns fragment column = go (slice_get patterns fragment) refl
+decided_input : (pattern : List Bool) (column : ℕ) → Decided (IsInput pattern column)
+decided_input pattern column = go (slice_get pattern column) refl
   where
-    go : (found : Option (List Bool)) → slice_get patterns fragment ≡ found → Decided (IsInput patterns fragment column)
-    go None e = inr (λ h. none-some h.0 (sym e ∙ h.1))
-    go (Some pattern) e = at (slice_get pattern column) refl
-      where
-        at : (found : Option Bool) → slice_get pattern column ≡ found → Decided (IsInput patterns fragment column)
-        at None d = inr (λ h. none-some true (sym d ∙ ap (λ p. slice_get p column) (same_Some pattern h.0 (sym e ∙ h.1)) ∙ h.2))
-        at (Some true) d = inl (pattern, e, d)
-        at (Some false) d = inr (λ h. false≢true (same_Some false true (sym d ∙ ap (λ p. slice_get p column) (same_Some pattern h.0 (sym e ∙ h.1)) ∙ h.2)))
+    go : (found : Option Bool) → slice_get pattern column ≡ found → Decided (IsInput pattern column)
+    go None e = inr (λ input. none-some true (sym e ∙ input))
+    go (Some true) e = inl e
+    go (Some false) e = inr (λ input. false≢true (same_Some false true (sym e ∙ input)))
 
 module _ (exact : (term other : Term) → (term_cmp term other ≡ Equal) ↔ (term ≡ other)) where
   pub decided_same : (term other : Term) → Decided (term ≡ other)
@@ -217,7 +217,7 @@ module _ (exact : (term other : Term) → (term_cmp term other ≡ Equal) ↔ (t
   decided_contains : (terms : List Term) (term : Term) → Decided (Contains terms term)
   decided_contains terms term = decided_below (λ k. get_or terms k term ≡ term) (length terms) (λ k l. decided_same (get_or terms k term) term)
 
-  module _ (patterns : List (List Bool)) (atoms : List (Fact Term)) where
+  module _ (patterns : List (List (List Bool))) (atoms : List (Fact Term)) where
     decided_bound : (part : List Bool) (term : Term) → Decided (IsBound atoms (Has part) term)
     decided_bound part term = decided_either (decided_constant term) (decided_as same (decided_below Gives (length atoms) gives))
       where
@@ -234,25 +234,34 @@ module _ (exact : (term other : Term) → (term_cmp term other ≡ Equal) ↔ (t
         same : ((number : ℕ) × (number < length atoms) × Gives number) ↔ ((number : ℕ) × Has part number × ((atom : Fact Term) × (slice_get atoms number ≡ Some atom) × Contains atom.terms term))
         same = (λ h. (h.0, h.2.0, h.2.1), λ h. (h.0, slice_get_within atoms h.0 h.2.0 h.2.1, (h.1, h.2)))
 
-    decided_accessible : (part : List Bool) (atom : Fact Term) → Decided (IsAccessible patterns atoms (Has part) atom)
-    decided_accessible part atom = go (decided_below Waits (length atom.terms) waits)
+    decided_meets : (part : List Bool) (atom : Fact Term) (pattern : List Bool) → Decided (MeetsPattern atoms (Has part) atom pattern)
+    decided_meets part atom pattern = go (decided_below Waits (length atom.terms) waits)
       where
         Waits : ℕ → Type 0
-        Waits column = IsInput patterns atom.relation column × ((term : Term) × (slice_get atom.terms column ≡ Some term) × (IsBound atoms (Has part) term → ⊥))
+        Waits column = IsInput pattern column × ((term : Term) × (slice_get atom.terms column ≡ Some term) × (IsBound atoms (Has part) term → ⊥))
 
         waits : (column : ℕ) → column < length atom.terms → Decided (Waits column)
         waits column l =
             let found = item_at atom.terms column l in
-            decided_both (decided_input patterns atom.relation column) (decided_as
+            decided_both (decided_input pattern column) (decided_as
             (λ h. (found.0, found.1, h), λ h. let e : h.0 ≡ found.0 = same_Some h.0 found.0 (sym h.1 ∙ found.1) in subst (λ term. IsBound atoms (Has part) term → ⊥) e h.2)
             (decided_not (decided_bound part found.0)))
 
-        go : Decided ((column : ℕ) × (column < length atom.terms) × Waits column) → Decided (IsAccessible patterns atoms (Has part) atom)
-        go (inl found) = inr (λ accessible. found.2.1.2 (accessible found.0 found.2.1.0 found.2.0 found.2.1.1))
+        go : Decided ((column : ℕ) × (column < length atom.terms) × Waits column) → Decided (MeetsPattern atoms (Has part) atom pattern)
+        go (inl found) = inr (λ meets. found.2.1.2 (meets found.0 found.2.1.0 found.2.0 found.2.1.1))
         go (inr none) = inl (λ column term input at. elim (decided_bound part term) [
           | inl bound ↦ bound
           | inr unbound ↦ absurd (none (column, slice_get_within atom.terms column term at, (input, (term, at, unbound))))
         ])
+
+    decided_accessible : (part : List Bool) (atom : Fact Term) → Decided (IsAccessible patterns atoms (Has part) atom)
+    decided_accessible part atom = decided_as
+        (λ h. (get_or own h.0 [], Contains-get_or own h.0 [] h.1, h.2),
+         λ h. (h.1.0, h.1.1, subst (MeetsPattern atoms (Has part) atom) (sym (get_or_default own h.1.0 [] h.0 h.1.1 ∙ h.1.2)) h.2))
+        (decided_below (λ place. MeetsPattern atoms (Has part) atom (get_or own place [])) (length own) (λ place l. decided_meets part atom (get_or own place [])))
+      where
+        own : List (List Bool)
+        own = slice_index_or patterns atom.relation []
 
     decided_ready : (part : List Bool) (number : ℕ) → number < length atoms → Decided (IsReady patterns atoms (Has part) number)
     decided_ready part number l =
@@ -405,7 +414,7 @@ part_rises patterns atoms set other part part_of_other within is_part is_part' =
 
 -- ---- one stated order
 
-module _ (patterns : List (List Bool)) (atoms : List (Fact Term)) (set : List Bool) where
+module _ (patterns : List (List (List Bool))) (atoms : List (Fact Term)) (set : List Bool) where
   module _ (order other : List ℕ) (stated : IsStatedOrder patterns atoms set order) (stated' : IsStatedOrder patterns atoms set other) (place : ℕ)
       (same : (before : ℕ) → before < place → slice_get order before ≡ slice_get other before) where
     earlier_same : (number : ℕ) → IsEarlier order place number → IsEarlier other place number
@@ -460,12 +469,12 @@ stated_order_is_one patterns atoms set order other stated stated' =
 -- ---- no inputs
 
 pub numbers_are_stated : NumbersAreStated
-numbers_are_stated patterns none atoms set l = record {
+numbers_are_stated patterns atoms open_atoms set l = record {
   is_order = record {
     over = l;
     names = numbers_have set;
     once = λ i j d below inside e. let rise = numbers_rise 0 set i j d below inside in omega (arith, rise, e);
-    accessible = λ place number atom e d column term input at. absurd (none atom.relation column input);
+    accessible = λ place number atom e d. let way = open_atoms atom (contains_at atoms number atom d) in (way.0, way.1, λ column term input at. absurd (way.2 column input));
   };
   least = λ place number e lesser atom below has there accessible.
       let at = place_of (numbers set) lesser ((numbers_have set lesser).1 has) in (
@@ -490,9 +499,9 @@ numbers_are_stated patterns none atoms set l = record {
     ]
 
 pub rewritings_need_no_order : RewritingsNeedNoOrder
-rewritings_need_no_order patterns none rules views query plan set has_candidate safe equivalent = record {
+rewritings_need_no_order patterns rules views query plan open_atoms set has_candidate safe equivalent = record {
   has_candidate = has_candidate;
   safe = safe;
-  executable = (numbers set, (numbers_are_stated patterns none plan.body set has_candidate.over).is_order);
+  executable = (numbers set, (numbers_are_stated patterns plan.body open_atoms set has_candidate.over).is_order);
   equivalent = equivalent;
 }

@@ -8,7 +8,7 @@ use Rattle.esto_term.specs.declared.term.Term.TheVariants.{Const}
 use Rattle.esto_semantics.specs.Facts.{Database, Mentions}
 use Rattle.esto_semantics.specs.Instances.{MapsTo, IsFinished}
 use Rattle.esto_semantics.specs.Queries.{ConjunctiveQuery, IsAnswer, IsAnswerInto}
-use Rattle.esto_semantics.specs.Rules.{Rule, tuple, equality, AreRules, Meets}
+use Rattle.esto_semantics.specs.Rules.{Rule, tuple, equality, denial, AreRules, Meets}
 use Rattle.esto_semantics.specs.declared.fact.Fact.{Fact}
 use Rattle.esto_semantics.specs.declared.fact.Value.{Value}
 use Rattle.esto_semantics.proofs.ContainsLemmas.{Contains-flat}
@@ -47,6 +47,7 @@ Mentions-terms_of facts term (fact, inside, in_fact) = Contains-flat (λ (fact :
 every_rule_is_kept : (rule : Rule) → RuleIsKept terms_naming rule
 every_rule_is_kept (tuple body head) = λ text inside. constant_text-Const text
 every_rule_is_kept (equality body left right) = ((λ text is. constant_text-Const text), (λ text is. constant_text-Const text))
+every_rule_is_kept (denial body) = tt
 
 module _ (query : ConjunctiveQuery) where
   body_terms : (term : Term) → Mentions query.body term → Contains (query_terms query) term

@@ -52,7 +52,7 @@ tested_are_rewritings rules views patterns query plan test tells set = (
 
 -- ---- the list
 
-module _ (rules : List Rule) (views : List ConjunctiveQuery) (patterns : List (List Bool)) (query plan : ConjunctiveQuery) (family : List (List Bool))
+module _ (rules : List Rule) (views : List ConjunctiveQuery) (patterns : List (List (List Bool))) (query plan : ConjunctiveQuery) (family : List (List Bool))
     (exact : AreRewritings rules views patterns query plan family) where
   counted : HaveOneCount family
   counted set other h k = ((exact set).0 h).has_candidate.over ∙ sym ((exact other).0 k).has_candidate.over

@@ -2,7 +2,7 @@
 use Rattle.std.proofs.Common.{◌≡◌, ◌≢◌, ℕ, zero, suc, ◌+◌, ◌<◌, ◌≤◌, Bool, true, false, List, [], ◌∷◌, ◌++◌, length, get_or, replicate, Some, slice_get, slice_set, refl, sym, ap, ◌∙◌, subst, arith, add-one, inl, inr}
 use Rattle.std.specs.Prelude.{Contains, AllPairs}
 use Rattle.std.proofs.lemmas.Bool.{cases_order}
-use Rattle.std.proofs.lemmas.Option.{slice_get_within, slice_get-get_or, get_or_from_slice_get}
+use Rattle.std.proofs.lemmas.Option.{same_Some, slice_get_within, slice_get-get_or, get_or_from_slice_get}
 use Rattle.std.proofs.lemmas.List.Elements.{Contains-get_or, Contains-push, Contains-push_cases, Contains-append_left}
 use Rattle.std.proofs.lemmas.List.Quantifiers.{all_pairs_push}
 use Rattle.esto_semantics.proofs.AccessLemmas.{place_of, contains_at, item_at, missing, missing-set, has_set, none_has, order_grows, stuck_has, none_is_executable}
@@ -33,6 +33,11 @@ module _ {A : Type 0} (P : ℕ → A → Type 0) (xs : List A) where
 
   pub holds_all_in : (ys : List A) → ys ≡ xs → (count : ℕ) → length ys ≤ count → HoldsBelow count → (place : ℕ) (x : A) → slice_get xs place ≡ Some x → P place x
   holds_all_in ys same count l = holds_all count (subst (λ zs. length zs ≤ count) same l)
+
+-- where the first few items of a list have a property not, and these are all, none has it
+pub none_holds : {A : Type 0} (P : A → Type 0) (xs ys : List A) → ys ≡ xs → (count : ℕ) → length ys ≤ count → HoldsBelow (λ _ x. P x → ⊥) ys count → (x : A) → Contains xs x → P x → ⊥
+none_holds P xs ys same count l none x there =
+    let at = place_of ys x (subst (λ zs. Contains zs x) (sym same) there) in holds_all (λ _ x. P x → ⊥) ys count l none at.0 x at.1
 
 -- ---- the minimal sets of a family
 
@@ -83,9 +88,19 @@ are_minimal family count minimal l so_far = record {
 
 -- ---- the accessible part
 
-pub stuck_at_end : (patterns : List (List Bool)) (atoms : List (Fact Term)) (set part : List Bool)
+pub stuck_at_end : (patterns : List (List (List Bool))) (atoms : List (Fact Term)) (set part : List Bool)
     → ((number : ℕ) (atom : Fact Term) → slice_get atoms number ≡ Some atom → Has set number → IsAccessible patterns atoms (Has part) atom → Has part number) → IsStuck patterns atoms set part
 stuck_at_end patterns atoms set part all number l has ready = let found = item_at atoms number l in all number found.0 found.1 has (ready found.0 found.1)
+
+pub next_found : (patterns : List (List (List Bool))) (atoms items : List (Fact Term)) (set part : List Bool) (number : ℕ) (atom : Fact Term) → items ≡ atoms → number < length items → atom ≡ get_or items number atom
+    → Has set number → (Has part number → ⊥) → IsAccessible patterns atoms (Has part) atom → IsNext patterns atoms set part number
+next_found patterns atoms items set part number atom same l e has absent accessible =
+    let at : slice_get atoms number ≡ Some atom = ap (λ its. slice_get its number) (sym same) ∙ slice_get-get_or items number atom l ∙ ap Some (sym e) in record {
+      there = slice_get_within atoms number atom at;
+      chosen = has;
+      absent = absent;
+      ready = λ other at_other. subst (IsAccessible patterns atoms (Has part)) (same_Some atom other (sym at ∙ at_other)) accessible;
+    }
 
 pub replicate-push : {A : Type 0} (count : ℕ) (x : A) → replicate (count + 1) x ≡ replicate count x ++ x ∷ []
 replicate-push count x = rw (add-one count) (go count)
@@ -95,11 +110,11 @@ replicate-push count x = rw (add-one count) (go count)
     go (suc n) = ap (λ zs. x ∷ zs) (go n)
 
 -- the part of the set that the run has taken so far is executable
-pub record IsPartSoFar (patterns : List (List Bool)) (atoms : List (Fact Term)) (set part : List Bool) : Type 0 where
+pub record IsPartSoFar (patterns : List (List (List Bool))) (atoms : List (Fact Term)) (set part : List Bool) : Type 0 where
   pub within : Within part set
   pub executable : IsExecutable patterns atoms part
 
-module _ (patterns : List (List Bool)) (atoms : List (Fact Term)) (set : List Bool) where
+module _ (patterns : List (List (List Bool))) (atoms : List (Fact Term)) (set : List Bool) where
   pub part_starts : IsPartSoFar patterns atoms set (replicate (length atoms) false)
   part_starts = record { within = λ number h. absurd (none_has (length atoms) number h); executable = none_is_executable patterns atoms }
 

@@ -7,7 +7,7 @@ use Rattle.esto_term.specs.declared.term.Term.TheVariants.{Const}
 use Rattle.esto_semantics.specs.Facts.{Database, image, Mentions}
 use Rattle.esto_semantics.specs.Maps.{Keeps, Sends, IsFixedBy}
 use Rattle.esto_semantics.specs.Queries.{ConjunctiveQuery, IsAnswerInto}
-use Rattle.esto_semantics.specs.Rules.{Rule, tuple, equality, IsRule, MeetsInto, MeetsRule}
+use Rattle.esto_semantics.specs.Rules.{Rule, tuple, equality, denial, IsRule, MeetsInto, MeetsRule}
 use Rattle.esto_semantics.specs.declared.fact.Fact.{Fact}
 use Rattle.esto_semantics.specs.declared.fact.Value.{Value}
 use Rattle.esto_semantics.specs.declared.fact.Value.TheVariants.{Text, Node}
@@ -74,6 +74,7 @@ TermIsKept naming term = (text : List ℕ) → term ≡ Const text → IsKept na
 abbrev pub RuleIsKept : {V : Type 0} → Naming V → Rule → Type 0
 RuleIsKept naming (tuple body head) = AtomsAreKept naming head
 RuleIsKept naming (equality body left right) = TermIsKept naming left × TermIsKept naming right
+RuleIsKept naming (denial body) = Unit {0}
 
 module _ {V : Type 0} (naming : Naming V) (things : List V) where
   abbrev value : V → Value
@@ -184,3 +185,5 @@ module _ {V : Type 0} (naming : Naming V) (things : List V) where
         sym (at_side m keeps body sends left kept.0 shape.left_fixed)
         ∙ ap value (meets (λ term. thing (m term)) (back_keeps m keeps body sends) (back_sends m keeps body sends))
         ∙ at_side m keeps body sends right kept.1 shape.right_fixed
+    meets_there (denial body) shape kept meets = λ m keeps sends.
+        meets (λ term. thing (m term)) (back_keeps m keeps body sends) (back_sends m keeps body sends)

@@ -23,7 +23,7 @@ use Rattle.esto_semantics.proofs.FactLemmas.{Mentions-sent}
 use Rattle.esto_semantics.proofs.PlaceLemmas.{place-from_Contains, passing, length-passing, passing-Has, chosen-from_Has, Has-from_chosen}
 use Rattle.esto_semantics.proofs.ScheduleLemmas.{has_number, has_number-Decides, once_each, atom_in_order, IsOrder-moved}
 
-module _ (patterns : List (List Bool)) (other plan : ConjunctiveQuery) (m : Term → Term) (keeps : Keeps Const m) (sends : Sends m other.body plan.body) where
+module _ (patterns : List (List (List Bool))) (other plan : ConjunctiveQuery) (m : Term → Term) (keeps : Keeps Const m) (sends : Sends m other.body plan.body) where
   -- a place of the plan's atoms at which the image of the atom of a number stands
   pub place_of : (number : ℕ) → (place : ℕ) × ((atom : Fact Term) → slice_get other.body number ≡ Some atom → slice_get plan.body place ≡ Some (image m atom))
   place_of number = by (slice_get other.body number) refl
@@ -98,7 +98,7 @@ first_of : {X : Type 0} (things : List X) → things ≢ [] → (first : X) × (
 first_of [] some = absurd (some refl)
 first_of (first ∷ rest) some = (first, refl)
 
-module _ (rules : List Rule) (views : List ConjunctiveQuery) (patterns : List (List Bool)) (query plan other : ConjunctiveQuery)
+module _ (rules : List Rule) (views : List ConjunctiveQuery) (patterns : List (List (List Bool))) (query plan other : ConjunctiveQuery)
     (rewriting : IsExecutableRewriting rules views patterns query other) where
   -- over a database that gives the query a row, the heads are as long as the row
   heads_of_one_length : IsSatisfiable rules query → length other.head ≡ length query.head

@@ -8,7 +8,7 @@ use Rattle.std.proofs.lemmas.List.Elements.{Contains-get_or}
 use Rattle.std.proofs.lemmas.List.Kept.{AllPairs-cons}
 use Rattle.esto_term.specs.declared.term.Term.{Term}
 use Rattle.esto_term.specs.declared.term.Term.TheVariants.{Const}
-use Rattle.esto_semantics.specs.Access.{IsInput, IsBound, IsAccessible, IsEarlier, IsOrder}
+use Rattle.esto_semantics.specs.Access.{HasPattern, IsBound, IsAccessible, IsEarlier, IsOrder}
 use Rattle.esto_semantics.specs.Facts.{image}
 use Rattle.esto_semantics.specs.Maps.{Keeps}
 use Rattle.esto_semantics.specs.Sets.{Has}
@@ -146,14 +146,18 @@ once_each-earlier seen (first ∷ rest) place number at = by (once_each-earlier 
 
 -- ---- orders
 
-IsAccessible-more : (patterns : List (List Bool)) (atoms : List (Fact Term)) (Chosen More : ℕ → Type 0) (atom : Fact Term) → ((number : ℕ) → Chosen number → More number)
+IsAccessible-more : (patterns : List (List (List Bool))) (atoms : List (Fact Term)) (Chosen More : ℕ → Type 0) (atom : Fact Term) → ((number : ℕ) → Chosen number → More number)
     → IsAccessible patterns atoms Chosen atom → IsAccessible patterns atoms More atom
-IsAccessible-more patterns atoms Chosen More atom more accessible column term input at = elim (accessible column term input at) [
-  | inl constant ↦ inl constant
-  | inr (number, is_chosen, occurs) ↦ inr (number, more number is_chosen, occurs)
-]
+IsAccessible-more patterns atoms Chosen More atom more (pattern, has_pattern, meets) = (
+  pattern,
+  has_pattern,
+  λ column term input at. elim (meets column term input at) [
+    | inl constant ↦ inl constant
+    | inr (number, is_chosen, occurs) ↦ inr (number, more number is_chosen, occurs)
+  ],
+)
 
-IsOrder-from_schedule : (patterns : List (List Bool)) (atoms : List (Fact Term)) (set : List Bool) (numbers : List ℕ) → length set ≡ length atoms
+IsOrder-from_schedule : (patterns : List (List (List Bool))) (atoms : List (Fact Term)) (set : List Bool) (numbers : List ℕ) → length set ≡ length atoms
     → ((number : ℕ) → Contains numbers number ↔ Has set number)
     → ((place number : ℕ) (atom : Fact Term) → slice_get numbers place ≡ Some number → slice_get atoms number ≡ Some atom → IsAccessible patterns atoms (IsEarlier numbers place) atom)
     → IsOrder patterns atoms set (once_each [] numbers)
@@ -181,7 +185,7 @@ IsOrder-from_schedule patterns atoms set numbers over names accessible = record 
 
 -- ---- orders of moved atoms
 
-module _ (patterns : List (List Bool)) (atoms : List (Fact Term)) (set : List Bool) where
+module _ (patterns : List (List (List Bool))) (atoms : List (Fact Term)) (set : List Bool) where
   -- a number of an order is that of an atom
   pub atom_in_order : (order : List ℕ) → IsOrder patterns atoms set order → (number : ℕ) → Contains order number → (atom : Fact Term) × (slice_get atoms number ≡ Some atom)
   atom_in_order order is_order number inside =
@@ -189,7 +193,7 @@ module _ (patterns : List (List Bool)) (atoms : List (Fact Term)) (set : List Bo
       let over : length set ≡ length atoms = is_order.over in
       thing_at atoms number (omega arith)
 
-module _ (patterns : List (List Bool)) (atoms others : List (Fact Term)) (set : List Bool) (m : Term → Term) (keeps : Keeps Const m) (place_of : ℕ → ℕ)
+module _ (patterns : List (List (List Bool))) (atoms others : List (Fact Term)) (set : List Bool) (m : Term → Term) (keeps : Keeps Const m) (place_of : ℕ → ℕ)
     (moves : (number : ℕ) (atom : Fact Term) → Has set number → slice_get atoms number ≡ Some atom → slice_get others (place_of number) ≡ Some (image m atom))
     (order : List ℕ) (is_order : IsOrder patterns atoms set order) where
   -- what is bound in the order is bound at the places that its numbers move to
@@ -203,16 +207,20 @@ module _ (patterns : List (List Bool)) (atoms others : List (Fact Term)) (set : 
 
   accessible_moved : (place number : ℕ) (atom : Fact Term) → slice_get (map place_of order) place ≡ Some number → slice_get others number ≡ Some atom
       → IsAccessible patterns others (IsEarlier (map place_of order) place) atom
-  accessible_moved place number atom at at_atom column term input at_term =
+  accessible_moved place number atom at at_atom =
       let from = map_at-from place_of order place number at in
       let in_order = Contains-at order place from.0 from.1 in
       let own = atom_in_order patterns atoms set order is_order from.0 in_order in
       let at_place : slice_get others (place_of from.0) ≡ Some atom = ap (slice_get others) from.2 ∙ at_atom in
       let own_at : slice_get others (place_of from.0) ≡ Some (image m own.0) = moves from.0 own.0 ((is_order.names from.0).0 in_order) own.1 in
       let same : atom ≡ image m own.0 = cc in
-      let before = map_at-from m own.0.terms column term (subst (λ (it : Fact Term). slice_get it.terms column ≡ Some term) same at_term) in
-      bound_moved place before.0 term before.2
-      (is_order.accessible place from.0 own.0 from.1 own.1 column before.0 (subst (λ (it : Fact Term). IsInput patterns it.relation column) same input) before.1)
+      let way = is_order.accessible place from.0 own.0 from.1 own.1 in (
+        way.0,
+        subst (λ (it : Fact Term). HasPattern patterns it.relation way.0) (sym same) way.1,
+        λ column term input at_term.
+            let before = map_at-from m own.0.terms column term (subst (λ (it : Fact Term). slice_get it.terms column ≡ Some term) same at_term) in
+            bound_moved place before.0 term before.2 (way.2 column before.0 input before.1),
+      )
 
   -- the places that an order's numbers move to give an order of the set of these places
   pub IsOrder-moved : (other_set : List Bool) → length other_set ≡ length others → ((number : ℕ) → Contains (map place_of order) number ↔ Has other_set number)

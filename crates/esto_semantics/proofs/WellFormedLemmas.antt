@@ -16,7 +16,7 @@ use Rattle.esto_semantics.specs.Facts.{Database, image, Mentions}
 use Rattle.esto_semantics.specs.Maps.{Sends}
 use Rattle.esto_semantics.specs.Queries.{ConjunctiveQuery, IsAnswer, IsAnswerInto}
 use Rattle.esto_semantics.specs.Restriction.{is_over, has_columns, over_schema, AreRulesOver, IsSideOver, IsContainedOver, IsSatisfiableOver}
-use Rattle.esto_semantics.specs.Rules.{Rule, tuple, equality, AreRules, MeetsRule, Meets}
+use Rattle.esto_semantics.specs.Rules.{Rule, tuple, equality, denial, AreRules, MeetsRule, Meets}
 use Rattle.esto_semantics.specs.Sides.{Side, over_datasets, over_fragments, IsAnswerOf}
 use Rattle.esto_semantics.specs.Views.{IsViewRow}
 use Rattle.esto_semantics.specs.WellFormed.{AreOver, HaveUtf8, IsWellFormed, IsQueryOver, IsRuleOver}
@@ -57,11 +57,13 @@ module _ (schema : List ℕ) (database : Database) where
   rule_over (tuple body head) over meets = λ m keeps sends.
       let found = meets m keeps (sends_all m body sends) in (found.0, found.1, found.2, sends_over found.0 head over.1 found.3)
   rule_over (equality body left right) over meets = λ m keeps sends. meets m keeps (sends_all m body sends)
+  rule_over (denial body) over meets = λ m keeps sends. meets m keeps (sends_all m body sends)
 
   rule_all : (rule : Rule) → IsRuleOver schema rule → MeetsRule rule (over_schema schema database) → MeetsRule rule database
   rule_all (tuple body head) over meets = λ m keeps sends.
       let found = meets m keeps (sends_over m body over.0 sends) in (found.0, found.1, found.2, sends_all found.0 head found.3)
   rule_all (equality body left right) over meets = λ m keeps sends. meets m keeps (sends_over m body over.0 sends)
+  rule_all (denial body) over meets = λ m keeps sends. meets m keeps (sends_over m body over.0 sends)
 
   pub over_schema-Meets : (rules : List Rule) → AreRulesOver schema rules → Meets rules database ↔ Meets rules (over_schema schema database)
   over_schema-Meets rules over = (
@@ -130,6 +132,7 @@ utf8-IsKept text utf8 = ap (λ answer. text_if answer text) (is_utf8-from_IsUtf8
 rule-IsKept : (schema : List ℕ) (rule : Rule) → IsRuleOver schema rule → RuleIsKept values_naming rule
 rule-IsKept schema (tuple body head) over = λ text inside. utf8-IsKept text (over.3 text inside)
 rule-IsKept schema (equality body left right) over = ((λ text is. utf8-IsKept text (over.2 text is)), (λ text is. utf8-IsKept text (over.3 text is)))
+rule-IsKept schema (denial body) over = tt
 
 -- ---- a database over the schema with each other text renamed
 

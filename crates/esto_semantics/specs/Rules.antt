@@ -6,10 +6,11 @@ use Rattle.esto_semantics.specs.Maps.{AreFlat, IsFixedBy, Keeps, SendsInto, Agre
 use Rattle.esto_semantics.specs.declared.fact.Fact.{Fact}
 use Rattle.esto_semantics.specs.declared.fact.Value.TheVariants.{Text}
 
--- A tuple rule has a body and a head of atoms; an equality rule has a body and two sides.
+-- A tuple rule has a body and a head of atoms; an equality rule has a body and two sides; a denial has a body alone.
 pub data Rule : Type 0 where
   tuple : (body head : List (Fact Term)) → Rule
   equality : (body : List (Fact Term)) → (left right : Term) → Rule
+  denial : (body : List (Fact Term)) → Rule
 
 -- A tuple rule has a body and a head, over constants and variables.
 pub record IsTupleRule (body head : List (Fact Term)) : Type 0 where
@@ -25,22 +26,30 @@ pub record IsEqualityRule (body : List (Fact Term)) (left right : Term) : Type 0
   pub left_fixed : IsFixedBy body left
   pub right_fixed : IsFixedBy body right
 
+-- A denial has a body, over constants and variables.
+pub record IsDenial (body : List (Fact Term)) : Type 0 where
+  pub has_body : body ≢ []
+  pub flat_body : AreFlat body
+
 -- It is such a rule of its kind.
 abbrev pub IsRule : Rule → Type 0
 IsRule (tuple body head) = IsTupleRule body head
 IsRule (equality body left right) = IsEqualityRule body left right
+IsRule (denial body) = IsDenial body
 
 -- Each of them is such a rule.
 abbrev pub AreRules : List Rule → Type 0
 AreRules rules = (rule : Rule) → Contains rules rule → IsRule rule
 
--- Facts that hold meet a tuple rule when every map that sends the body to facts that hold agrees on the body with one that sends the head to facts that hold. They meet an equality rule when every such map sends both sides to one thing.
+-- Facts that hold meet a tuple rule when every map that sends the body to facts that hold agrees on the body with one that sends the head to facts that hold. They meet an equality rule when every such map sends both sides to one thing, and a denial when there is no such map.
 abbrev pub MeetsInto : {V : Type 0} → (List ℕ → V) → (V → V → Type 0) → (Fact V → Type 0) → Rule → Type 0
 MeetsInto {V} constant One Holds (tuple body head) =
     (m : Term → V) → Keeps constant m → SendsInto m body Holds
     → (more : Term → V) × Keeps constant more × AgreeOn One body m more × SendsInto more head Holds
 MeetsInto {V} constant One Holds (equality body left right) =
     (m : Term → V) → Keeps constant m → SendsInto m body Holds → One (m left) (m right)
+MeetsInto {V} constant One Holds (denial body) =
+    (m : Term → V) → Keeps constant m → SendsInto m body Holds → ⊥
 
 -- The database meets the rule.
 abbrev pub MeetsRule : Rule → Database → Type 0

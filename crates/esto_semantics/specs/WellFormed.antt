@@ -4,7 +4,7 @@ use Rattle.esto_term.specs.declared.term.Term.{Term}
 use Rattle.esto_term.specs.declared.term.Term.TheVariants.{Const}
 use Rattle.esto_semantics.specs.Facts.{Database, Mentions}
 use Rattle.esto_semantics.specs.Queries.{ConjunctiveQuery}
-use Rattle.esto_semantics.specs.Rules.{Rule, tuple, equality}
+use Rattle.esto_semantics.specs.Rules.{Rule, tuple, equality, denial}
 use Rattle.esto_semantics.specs.declared.fact.Fact.{Fact}
 use Rattle.esto_semantics.specs.declared.fact.Value.TheVariants.{Text}
 
@@ -32,3 +32,4 @@ abbrev pub IsRuleOver : List ℕ → Rule → Type 0
 IsRuleOver schema (tuple body head) = AreOver schema body × AreOver schema head × HaveUtf8 body × HaveUtf8 head
 IsRuleOver schema (equality body left right) =
     AreOver schema body × HaveUtf8 body × ((text : List ℕ) → left ≡ Const text → IsUtf8 text) × ((text : List ℕ) → right ≡ Const text → IsUtf8 text)
+IsRuleOver schema (denial body) = AreOver schema body × HaveUtf8 body

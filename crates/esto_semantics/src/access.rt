@@ -1,8 +1,8 @@
 //! Executable sets, accessible parts and stated orders: laws, and a plain program.
-ghost use Rattle.std.specs.Prelude.{◌≡◌, ◌↔◌, length, IsTrue, IfOk, MatchOption, Contains, false, replicate};
+ghost use Rattle.std.specs.Prelude.{◌≡◌, ◌↔◌, Bool, List, length, IsTrue, IfOk, MatchOption, Contains, false, replicate};
 ghost use Rattle.esto_semantics.specs.Maps.{IsConstant};
 ghost use Rattle.esto_semantics.specs.Sets.{Has};
-ghost use Rattle.esto_semantics.specs.Access.{IsInput, IsBound, IsAccessible, IsExecutable, IsAccessiblePart};
+ghost use Rattle.esto_semantics.specs.Access.{IsInput, IsBound, MeetsPattern, IsAccessible, IsExecutable, IsAccessiblePart};
 ghost use Rattle.esto_semantics.specs.AccessSteps.{IsNext, IsStuck};
 ghost use Rattle.esto_semantics.specs.AccessLaws.{NoneIsExecutable, UnionIsExecutable, PartExists, PartIsOne, ExecutableIsOwnPart, PartRises};
 ghost use Rattle.esto_semantics.specs.AccessLaws.{StatedOrderExists, StatedOrderIsOne, NumbersAreStated, RewritingsNeedNoOrder};
@@ -34,7 +34,7 @@ pub fn stated_orders_exist()
     terms_are_ordered();
 }
 
-/// A law: where no column of a fragment is an input, the stated order of any set of the atoms is the rising
+/// A law: where each of the atoms has a pattern without inputs, the stated order of any set of the atoms is the rising
 /// list of its numbers. So every set is executable, and a safe candidate that is equivalent to the query is a
 /// rewriting.
 pub fn rewritings_without_inputs()
@@ -80,36 +80,63 @@ fn is_bound(atoms: &Atoms, part: &Values<bool>, term: &Term) -> bool
     false
 }
 
-/// Whether the column of the fragment is an input.
-fn is_input(patterns: &List<Values<bool>>, fragment: usize, column: usize) -> bool
-    ensures { IsTrue result ↔ IsInput patterns.now fragment column }
+/// Whether the column is an input of the pattern.
+fn is_input(pattern: &Values<bool>, column: usize) -> bool
+    ensures { IsTrue result ↔ IsInput pattern.now column }
 {
-    fragment < patterns.len()
-        && column < patterns.item(fragment).len()
-        && patterns.item(fragment).item(column)
+    column < pattern.len() && pattern.item(column)
 }
 
-/// Whether the atom is accessible after the atoms of the part.
-fn is_accessible(
-    patterns: &List<Values<bool>>,
+/// Whether the atom meets the pattern after the atoms of the part.
+fn meets_pattern(
     atoms: &Atoms,
     part: &Values<bool>,
     atom: &Atom,
+    pattern: &Values<bool>,
 ) -> bool
-    ensures { IsTrue result ↔ IsAccessible patterns.now atoms.now (Has part.now) atom.now }
+    ensures { IsTrue result ↔ MeetsPattern atoms.now (Has part.now) atom.now pattern.now }
 {
     'columns: for (column, term) in atom.terms.items().iter().enumerate() {
-        if is_input(patterns, atom.relation, column) && !is_bound(atoms, part, term) {
+        if is_input(pattern, column) && !is_bound(atoms, part, term) {
             return false;
         }
     }
     true
 }
 
+/// Whether the atom meets one of these patterns after the atoms of the part.
+fn meets_any(
+    atoms: &Atoms,
+    part: &Values<bool>,
+    atom: &Atom,
+    patterns: &List<Values<bool>>,
+) -> bool
+    ensures { IsTrue result ↔ ((pattern : List Bool) × Contains patterns.now pattern × MeetsPattern atoms.now (Has part.now) atom.now pattern) }
+{
+    'patterns: for pattern in patterns.items() {
+        if meets_pattern(atoms, part, atom, pattern) {
+            return true;
+        }
+    }
+    false
+}
+
+/// Whether the atom is accessible after the atoms of the part.
+fn is_accessible(
+    patterns: &List<List<Values<bool>>>,
+    atoms: &Atoms,
+    part: &Values<bool>,
+    atom: &Atom,
+) -> bool
+    ensures { IsTrue result ↔ IsAccessible patterns.now atoms.now (Has part.now) atom.now }
+{
+    atom.relation < patterns.len() && meets_any(atoms, part, atom, patterns.item(atom.relation))
+}
+
 /// A number of the set that is still to come, and whose atom is accessible after the part; none where nothing is
 /// left that is accessible.
 fn next_number(
-    patterns: &List<Values<bool>>,
+    patterns: &List<List<Values<bool>>>,
     atoms: &Atoms,
     set: &Values<bool>,
     part: &Values<bool>,
@@ -139,7 +166,7 @@ fn none_of(alloc: Global, count: usize) -> Result<Values<bool>, OutOfMemory>
 /// of the set is accessible.
 pub fn accessible_part(
     alloc: Global,
-    patterns: &List<Values<bool>>,
+    patterns: &List<List<Values<bool>>>,
     atoms: &Atoms,
     set: &Values<bool>,
 ) -> Result<Values<bool>, OutOfMemory>
@@ -155,7 +182,7 @@ pub fn accessible_part(
 /// Whether the set of the atoms is executable, by its accessible part.
 pub fn is_executable(
     alloc: Global,
-    patterns: &List<Values<bool>>,
+    patterns: &List<List<Values<bool>>>,
     atoms: &Atoms,
     set: &Values<bool>,
 ) -> Result<bool, OutOfMemory>

@@ -15,7 +15,7 @@ use Rattle.esto_read.specs.declared.words.Word.{Word}
 use Rattle.esto_semantics.specs.Access.{IsStatedOrder}
 use Rattle.esto_semantics.specs.Listed.{AreListed}
 use Rattle.esto_universal.specs.Stated.{IsStatedPlan}
-use Rattle.esto_views.specs.Fragments.{views_of, patterns_of, weights_of}
+use Rattle.esto_views.specs.Fragments.{views_of, patterns_of}
 use Rattle.esto_views.specs.Plans.{plan_query}
 use Rattle.esto_views.specs.declared.plan.Plan.{Plan}
 use Rattle.esto_top.specs.Listing.{IsListing, IsListOf, HasListedSets}
@@ -62,7 +62,7 @@ module _ (catalogue other : Catalogue) (alike : AreSame catalogue other) (query 
   list_moved : (plan : Plan) (items : List Listed) → IsListOf other other_query plan items → IsListOf catalogue query plan items
   list_moved plan items list = record {
     sets = sets_moved plan items list.sets;
-    orders = subst (λ (it : List (List Bool)). All (λ (item : Listed). IsStatedOrder it (plan_query plan).body item.set item.order) items) (sym alike.patterns) list.orders;
+    orders = subst (λ (it : List (List (List Bool))). All (λ (item : Listed). IsStatedOrder it (plan_query plan).body item.set item.order) items) (sym alike.patterns) list.orders;
     weights = subst (λ (it : List ℕ). All (λ (item : Listed). item.weight ≡ set_weight it (plan_query plan).body item.set) items) (sym alike.weights) list.weights;
   }
 

@@ -29,7 +29,7 @@ first_same one other rest others same = cc
 rest_same : {A : Type 0} (one other : A) (rest others : List A) → one ∷ rest ≡ other ∷ others → rest ≡ others
 rest_same one other rest others same = cc
 
-module _ (one_order : StatedOrderIsOne) (patterns : List (List Bool)) (weights : List ℕ) (atoms : List (Fact Term)) where
+module _ (one_order : StatedOrderIsOne) (patterns : List (List (List Bool))) (weights : List ℕ) (atoms : List (Fact Term)) where
   abbrev pub HasOrder : Listed → Type 0
   HasOrder item = IsStatedOrder patterns atoms item.set item.order
 

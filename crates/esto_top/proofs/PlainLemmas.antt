@@ -1,17 +1,22 @@
 -- Catalogues without constraints and without input columns.
-use Rattle.std.proofs.Common.{◌≡◌, ℕ, Bool, true, false, List, [], ◌∷◌, length, Contains, ◌↔◌, refl, sym, ap, subst, ◌∙◌, arith}
+use Rattle.std.proofs.Common.{◌≡◌, ℕ, zero, suc, Bool, true, false, List, [], ◌∷◌, length, replicate, slice_index_or, Contains, ◌↔◌, refl, sym, ap, subst, ◌∙◌, arith}
 use Rattle.std.proofs.lemmas.Bool.{false≢true}
+use Rattle.std.proofs.lemmas.Option.{none-some, same_Some}
 use Rattle.esto_constraint.specs.Constraints.{rules_of}
 use Rattle.esto_constraint.specs.declared.rule.Constraint.{Constraint}
-use Rattle.esto_semantics.specs.Access.{IsInput}
+use Rattle.esto_term.specs.declared.term.Term.{Term}
+use Rattle.esto_semantics.specs.Access.{IsInput, HasPattern, AreOpen}
+use Rattle.esto_semantics.specs.declared.fact.Fact.{Fact}
 use Rattle.esto_semantics.specs.Listed.{IsListed, AreListed}
 use Rattle.esto_semantics.specs.Queries.{ConjunctiveQuery}
 use Rattle.esto_semantics.specs.Rules.{Rule}
 use Rattle.esto_semantics.specs.Sets.{AreInOrder}
-use Rattle.esto_semantics.proofs.ContainsLemmas.{Contains-at}
-use Rattle.esto_semantics.proofs.PlaceLemmas.{map_at-from}
+use Rattle.esto_semantics.proofs.ContainsLemmas.{Contains-at, Contains-head, Contains-map_from}
 use Rattle.esto_views.specs.Fragments.{patterns_of}
+use Rattle.esto_views.specs.Plans.{fact_of, plan_query, IsPlanOver}
 use Rattle.esto_views.specs.declared.fragments.FragmentDef.{FragmentDef}
+use Rattle.esto_views.specs.declared.plan.Plan.{Plan}
+use Rattle.esto_views.proofs.PatternLemmas.{patterns_at}
 
 no_item : {A : Type 0} (items : List A) → length items ≡ 0 → items ≡ []
 no_item [] none = refl
@@ -21,16 +26,27 @@ no_item (item ∷ items) none = absurd (omega (arith, none))
 pub no_rules : (rules : List Constraint) (given : ℕ) → given ≡ length rules → given ≡ 0 → rules_of rules ≡ []
 no_rules rules given given_are none = ap rules_of (no_item rules (sym given_are ∙ none))
 
--- where no fragment has an input column, no pattern has one
-pub no_inputs : (fragments : List FragmentDef) → ((fragment : FragmentDef) → Contains fragments fragment → (input : Bool) → Contains fragment.access input → input ≡ false)
-    → (fragment column : ℕ) → IsInput (patterns_of fragments) fragment column → ⊥
-no_inputs fragments outputs fragment column (pattern, at, is_input) =
-    let source = map_at-from (λ (it : FragmentDef). it.access) fragments fragment pattern at in
-    let inside : Contains source.0.access true = subst (λ (it : List Bool). Contains it true) (sym source.2) (Contains-at pattern column true is_input) in
-    false≢true (sym (outputs source.0 (Contains-at fragments fragment source.0 source.1) true inside))
+no_input : (count column : ℕ) → IsInput (replicate count false) column → ⊥
+no_input zero column input = none-some true input
+no_input (suc count) zero input = false≢true (same_Some false true input)
+no_input (suc count) (suc column) input = no_input count column input
+
+-- where the one pattern of each fragment has no input, each atom of a plan over the fragments has a pattern without inputs
+pub all_open : (plan : Plan) (fragments : List FragmentDef) → IsPlanOver plan fragments
+    → ((fragment : FragmentDef) → Contains fragments fragment → fragment.access ≡ replicate (length fragment.view.head) false ∷ []) → AreOpen (patterns_of fragments) (plan_query plan).body
+all_open plan fragments over outputs atom inside =
+    let from = Contains-map_from fact_of plan.atoms atom inside in
+    let own = over from.0 from.1 in
+    let access : slice_index_or (patterns_of fragments) from.0.fragment [] ≡ replicate (length own.0.view.head) false ∷ [] =
+    patterns_at fragments from.0.fragment own.0 own.1 ∙ outputs own.0 (Contains-at fragments from.0.fragment own.0 own.1) in (
+      replicate (length own.0.view.head) false,
+      subst (λ (it : Fact Term). HasPattern (patterns_of fragments) it.relation (replicate (length own.0.view.head) false)) from.2
+      (subst (λ ways. Contains ways (replicate (length own.0.view.head) false)) (sym access) (Contains-head (replicate (length own.0.view.head) false) [])),
+      no_input (length own.0.view.head),
+    )
 
 -- a list of the kept sets, in order, has the listed sets where there is no rule
-pub listed_sets : (rules : List Rule) (views : List ConjunctiveQuery) (patterns : List (List Bool)) (query plan : ConjunctiveQuery) (sets kept : List (List Bool)) → rules ≡ []
+pub listed_sets : (rules : List Rule) (views : List ConjunctiveQuery) (patterns : List (List (List Bool))) (query plan : ConjunctiveQuery) (sets kept : List (List Bool)) → rules ≡ []
     → ((set : List Bool) → Contains sets set ↔ Contains kept set) → ((set : List Bool) → Contains kept set ↔ IsListed [] views patterns query plan set) → AreInOrder sets
     → AreListed rules views patterns query plan sets
 listed_sets rules views patterns query plan sets kept none members listed ordered = subst (λ it. AreListed it views patterns query plan sets) (sym none) (record {

@@ -1,5 +1,5 @@
 -- There is one stated plan.
-use Rattle.std.proofs.Common.{◌≡◌, ◌↔◌, ◌⊎◌, inl, inr, ℕ, ◌<◌, ◌≤◌, List, [], ◌∷◌, ◌++◌, map, length, get_or, slice_get, Contains, refl, sym, ap, ◌∙◌, subst, arith}
+use Rattle.std.proofs.Common.{◌≡◌, ◌⊎◌, inl, inr, ℕ, ◌<◌, ◌≤◌, List, [], ◌∷◌, ◌++◌, map, length, get_or, slice_get, Contains, refl, sym, ap, ◌∙◌, subst, arith}
 use Rattle.std.specs.List.{AllPairs}
 use Rattle.std.specs.Cmp.{IsTotalOrder}
 use Rattle.std.specs.Cmp.Lexicographic.{slice_cmp}
@@ -9,7 +9,6 @@ use Rattle.std.proofs.lemmas.Cmp.{lists_total}
 use Rattle.std.proofs.lemmas.List.{length_push, get_or_push, get_or_append_left}
 use Rattle.esto_term.specs.Order.{term_cmp}
 use Rattle.esto_term.specs.declared.term.Term.{Term}
-use Rattle.esto_term.specs.declared.term.Term.TheVariants.{Const}
 use Rattle.esto_term.proofs.OrderLemmas.{term_cmp_total}
 use Rattle.esto_semantics.specs.Facts.{image}
 use Rattle.esto_semantics.specs.Queries.{ConjunctiveQuery}
@@ -22,7 +21,7 @@ use Rattle.esto_views.specs.declared.plan.Plan.{Plan}
 use Rattle.esto_universal.specs.Reading.{terms_read, OccursBefore}
 use Rattle.esto_universal.specs.Renamings.{name_of}
 use Rattle.esto_universal.specs.Rows.{IsRowBefore}
-use Rattle.esto_universal.specs.Stated.{IsStatedPlan}
+use Rattle.esto_universal.specs.Stated.{IsStatedPlan, IsRenamedPlan}
 use Rattle.esto_universal.proofs.PlanLemmas.{became, read_row, read_head}
 
 -- ---- lists in one order
@@ -96,46 +95,58 @@ occurs_apart terms term other (front, (back, is, without)) (other_front, (other_
 
 -- ---- the plan
 
-module _ (names : List Name) (views : List ConjunctiveQuery) (end : ConjunctiveQuery) (plan other : Plan) (stated : IsStatedPlan names views end plan) (again : IsStatedPlan names views end other) where
-  same_rows : stated.rows ≡ again.rows
-  same_rows = one_order IsRowBefore rows_apart stated.rows again.rows stated.are_rows.ordered again.are_rows.ordered
-      (λ row inside. (again.are_rows.exact row).1 ((stated.are_rows.exact row).0 inside))
-      (λ row inside. (stated.are_rows.exact row).1 ((again.are_rows.exact row).0 inside))
-
+module _ (names : List Name) (rows : List (Fact Term)) (head : List Term) (plan other : Plan) (renamed : IsRenamedPlan names rows head plan) (again : IsRenamedPlan names rows head other) where
   abbrev read : List Term
-  read = terms_read stated.rows end.head
+  read = terms_read rows head
 
-  same_read : terms_read again.rows end.head ≡ read
-  same_read = ap (λ it. terms_read it end.head) (sym same_rows)
-
-  same_seen : stated.seen ≡ again.seen
+  same_seen : renamed.seen ≡ again.seen
   same_seen =
-      let there = subst (λ it. (term : Term) → Contains again.seen term ↔ (Contains it term × ¬ ((text : List ℕ) × (term ≡ Const text)))) same_read again.are_seen.exact in
-      one_order (OccursBefore read) (occurs_apart read) stated.seen again.seen stated.are_seen.ordered (subst (λ it. AllPairs (OccursBefore it) again.seen) same_read again.are_seen.ordered)
-      (λ term inside. (there term).1 ((stated.are_seen.exact term).0 inside))
-      (λ term inside. (stated.are_seen.exact term).1 ((there term).0 inside))
+      one_order (OccursBefore read) (occurs_apart read) renamed.seen again.seen renamed.are_seen.ordered again.are_seen.ordered
+      (λ term inside. (again.are_seen.exact term).1 ((renamed.are_seen.exact term).0 inside))
+      (λ term inside. (renamed.are_seen.exact term).1 ((again.are_seen.exact term).0 inside))
 
-  same_renaming : (term : Term) → Contains read term → stated.renaming term ≡ again.renaming term
-  same_renaming term inside = elim (became read stated.seen stated.renaming term stated.are_seen stated.is_renaming inside) [
+  same_renaming : (term : Term) → Contains read term → renamed.renaming term ≡ again.renaming term
+  same_renaming term inside = elim (became read renamed.seen renamed.renaming term renamed.are_seen renamed.is_renaming inside) [
     | inl (constant, same) ↦ same ∙ constant.1 ∙ sym (again.is_renaming.keeps constant.0) ∙ ap again.renaming (sym constant.1)
     | inr (place, at, same) ↦ same ∙ sym (again.is_renaming.numbers place term (ap (λ it. slice_get it place) (sym same_seen) ∙ at))
   ]
 
   same_head : plan.head ≡ other.head
   same_head =
-      stated.head ∙ map_agree stated.renaming again.renaming end.head (λ term inside. same_renaming term (read_head stated.rows end.head term inside)) ∙ sym again.head
+      renamed.head ∙ map_agree renamed.renaming again.renaming head (λ term inside. same_renaming term (read_head rows head term inside)) ∙ sym again.head
 
   same_body : (plan_query plan).body ≡ (plan_query other).body
   same_body =
-      stated.atoms
-      ∙ map_agree (image stated.renaming) (image again.renaming) stated.rows
+      renamed.atoms
+      ∙ map_agree (image renamed.renaming) (image again.renaming) rows
       (λ row in_rows. ap (λ (it : List Term). record { relation = row.relation; terms = it })
-      (map_agree stated.renaming again.renaming row.terms (λ term inside. same_renaming term (read_row stated.rows end.head row term in_rows inside))))
-      ∙ ap (map (image again.renaming)) same_rows
+      (map_agree renamed.renaming again.renaming row.terms (λ term inside. same_renaming term (read_row rows head row term in_rows inside))))
       ∙ sym again.atoms
 
-  pub one_plan : (plan_query plan ≡ plan_query other) × (plan.names ≡ other.names)
-  one_plan = (
+  pub one_renamed : (plan_query plan ≡ plan_query other) × (plan.names ≡ other.names)
+  one_renamed = (
     (λ i. record { head = same_head i; body = same_body i }),
-    stated.names_are ∙ ap (map (name_of names)) same_seen ∙ sym again.names_are,
+    renamed.names_are ∙ ap (map (name_of names)) same_seen ∙ sym again.names_are,
   )
+
+module _ (names : List Name) (views : List ConjunctiveQuery) (end : ConjunctiveQuery) where
+  stated-renamed : (plan : Plan) (stated : IsStatedPlan names views end plan) → IsRenamedPlan names stated.rows end.head plan
+  stated-renamed plan stated = record {
+    seen = stated.seen;
+    are_seen = stated.are_seen;
+    renaming = stated.renaming;
+    is_renaming = stated.is_renaming;
+    atoms = stated.atoms;
+    head = stated.head;
+    names_are = stated.names_are;
+  }
+
+  same_rows : (plan other : Plan) (stated : IsStatedPlan names views end plan) (again : IsStatedPlan names views end other) → stated.rows ≡ again.rows
+  same_rows plan other stated again = one_order IsRowBefore rows_apart stated.rows again.rows stated.are_rows.ordered again.are_rows.ordered
+      (λ row inside. (again.are_rows.exact row).1 ((stated.are_rows.exact row).0 inside))
+      (λ row inside. (stated.are_rows.exact row).1 ((again.are_rows.exact row).0 inside))
+
+  pub one_plan : (plan other : Plan) → IsStatedPlan names views end plan → IsStatedPlan names views end other → (plan_query plan ≡ plan_query other) × (plan.names ≡ other.names)
+  one_plan plan other stated again =
+      one_renamed names stated.rows end.head plan other (stated-renamed plan stated)
+      (subst (λ rows. IsRenamedPlan names rows end.head other) (sym (same_rows plan other stated again)) (stated-renamed other again))

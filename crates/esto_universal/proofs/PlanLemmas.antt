@@ -25,7 +25,7 @@ use Rattle.esto_views.specs.declared.plan.Plan.{Plan}
 use Rattle.esto_universal.specs.Reading.{terms_read, AreFirstOccurrences}
 use Rattle.esto_universal.specs.Renamings.{IsRenaming, numbered, renamed_atom, name_of}
 use Rattle.esto_universal.specs.Rows.{AreRows}
-use Rattle.esto_universal.specs.Stated.{IsStatedPlan}
+use Rattle.esto_universal.specs.Stated.{IsStatedPlan, IsRenamedPlan}
 use Rattle.esto_universal.proofs.RenamingLemmas.{back, back-Const, back-Plain, numbered_renames}
 
 -- ---- the terms that are read
@@ -94,40 +94,50 @@ plan_over names fragments end plan are_fragments stated atom inside =
 
 -- ---- what a plan keeps, and the plan itself
 
-module _ (names : List Name) (views : List ConjunctiveQuery) (end : ConjunctiveQuery) (rows : List (Fact Term)) (seen : List Term)
-    (are_rows : AreRows views end.body rows) (are_seen : AreFirstOccurrences (terms_read rows end.head) seen) where
-  named : (term : Term) → Contains (terms_read rows end.head) term → IsNamed (map (name_of names) seen) (numbered 0 seen term)
-  named term inside = by (became (terms_read rows end.head) seen (numbered 0 seen) term are_seen (numbered_renames (terms_read rows end.head) seen are_seen) inside)
+module _ (names : List Name) (rows : List (Fact Term)) (head : List Term) (seen : List Term) (are_seen : AreFirstOccurrences (terms_read rows head) seen) where
+  named : (term : Term) → Contains (terms_read rows head) term → IsNamed (map (name_of names) seen) (numbered 0 seen term)
+  named term inside = by (became (terms_read rows head) seen (numbered 0 seen) term are_seen (numbered_renames (terms_read rows head) seen are_seen) inside)
     where
       by : (IsConstant term × (numbered 0 seen term ≡ term)) ⊎ ((place : ℕ) × (slice_get seen place ≡ Some term) × (numbered 0 seen term ≡ Plain place)) → IsNamed (map (name_of names) seen) (numbered 0 seen term)
       by (inl (constant, same)) = inl (subst IsConstant (sym same) constant)
       by (inr (place, at, same)) = inr (place, same, rw length-map (slice_get_within seen place term at))
 
-  pub keeps : end.head ≢ [] → IsSoundPlan (map (renamed_atom (numbered 0 seen)) rows) (map (numbered 0 seen) end.head) (map (name_of names) seen)
+  pub keeps : head ≢ [] → IsSoundPlan (map (renamed_atom (numbered 0 seen)) rows) (map (numbered 0 seen) head) (map (name_of names) seen)
   keeps has_head = record {
-    has_head = λ none. has_head (no_head end.head none);
+    has_head = λ none. has_head (no_head head none);
     named_atoms = λ atom in_atoms term inside.
         let row = Contains-map_from (renamed_atom (numbered 0 seen)) rows atom in_atoms in
         let source = Contains-map_from (numbered 0 seen) row.0.terms term (subst (λ (it : PlanAtom). Contains it.terms term) (sym row.2) inside) in
-        subst (IsNamed (map (name_of names) seen)) source.2 (named source.0 (read_row rows end.head row.0 source.0 row.1 source.1));
+        subst (IsNamed (map (name_of names) seen)) source.2 (named source.0 (read_row rows head row.0 source.0 row.1 source.1));
     named_head = λ term inside.
-        let source = Contains-map_from (numbered 0 seen) end.head term inside in
-        subst (IsNamed (map (name_of names) seen)) source.2 (named source.0 (read_head rows end.head source.0 source.1));
+        let source = Contains-map_from (numbered 0 seen) head term inside in
+        subst (IsNamed (map (name_of names) seen)) source.2 (named source.0 (read_head rows head source.0 source.1));
   }
     where
-      no_head : (head : List Term) → map (numbered 0 seen) head ≡ [] → head ≡ []
+      no_head : (row : List Term) → map (numbered 0 seen) row ≡ [] → row ≡ []
       no_head [] none = refl
       no_head (first ∷ rest) none = absurd (cc)
 
-  pub stated_is : (plan : Plan) → plan.atoms ≡ map (renamed_atom (numbered 0 seen)) rows → plan.head ≡ map (numbered 0 seen) end.head → plan.names ≡ map (name_of names) seen → IsStatedPlan names views end plan
-  stated_is plan atoms head names_are = record {
-    rows = rows;
-    are_rows = are_rows;
+  pub renamed_is : (plan : Plan) → plan.atoms ≡ map (renamed_atom (numbered 0 seen)) rows → plan.head ≡ map (numbered 0 seen) head → plan.names ≡ map (name_of names) seen → IsRenamedPlan names rows head plan
+  renamed_is plan atoms head_is names_are = record {
     seen = seen;
     are_seen = are_seen;
     renaming = numbered 0 seen;
-    is_renaming = numbered_renames (terms_read rows end.head) seen are_seen;
+    is_renaming = numbered_renames (terms_read rows head) seen are_seen;
     atoms = ap (map fact_of) atoms ∙ map_then (renamed_atom (numbered 0 seen)) fact_of rows;
-    head = head;
+    head = head_is;
     names_are = names_are;
   }
+
+pub stated_is : (names : List Name) (views : List ConjunctiveQuery) (end : ConjunctiveQuery) (rows : List (Fact Term)) (plan : Plan) → AreRows views end.body rows → IsRenamedPlan names rows end.head plan → IsStatedPlan names views end plan
+stated_is names views end rows plan are_rows renamed = record {
+  rows = rows;
+  are_rows = are_rows;
+  seen = renamed.seen;
+  are_seen = renamed.are_seen;
+  renaming = renamed.renaming;
+  is_renaming = renamed.is_renaming;
+  atoms = renamed.atoms;
+  head = renamed.head;
+  names_are = renamed.names_are;
+}

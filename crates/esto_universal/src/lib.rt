@@ -6,4 +6,4 @@ mod reading;
 mod renaming;
 mod rows;
 
-pub use planning::{stated_plans_are_one, stated_plans_are_universal, universal};
+pub use planning::{renamed_plan, stated_plans_are_one, stated_plans_are_universal, universal};

@@ -1,5 +1,5 @@
 //! The universal plan.
-ghost use Rattle.std.specs.Prelude.{◌≡◌, List, [], IfOk};
+ghost use Rattle.std.specs.Prelude.{◌≡◌, ◌≢◌, List, [], IfOk};
 ghost use Rattle.esto_semantics.specs.Instances.{IsUniversalFor, IsFinished};
 ghost use Rattle.esto_semantics.specs.PlanOf.{IsPlanOf};
 ghost use Rattle.esto_semantics.specs.Plans.{IsUniversalPlan};
@@ -10,18 +10,41 @@ ghost use Rattle.esto_query.specs.declared.query.Name.{Name};
 ghost use Rattle.esto_views.specs.Fragments.{views_of, AreFragments};
 ghost use Rattle.esto_views.specs.Plans.{plan_query, IsPlanOver};
 ghost use Rattle.esto_views.specs.declared.plan.Plan.{Plan};
-ghost use Rattle.esto_universal.specs.Stated.{IsStatedPlan};
+ghost use Rattle.esto_universal.specs.Stated.{IsStatedPlan, IsRenamedPlan};
 
 use crate::reading::first_occurrences;
 use crate::renaming::{names_of, rename_row, rename_rows};
 use crate::rows::view_rows;
-use esto_query::{Query, queries_are_sound};
+use esto_query::{Facts, Names, Query, queries_are_sound};
 use esto_semantics::{
     queries_are_their_own_instances, rows_of_a_universal_instance_are_a_universal_plan,
 };
-use esto_term::OutOfMemory;
+use esto_term::{OutOfMemory, Terms};
 use esto_views::{FragmentDefs, Plan};
 use std::alloc::Global;
+
+/// The plan whose atoms are the rows over fragments, and whose head is the given one, renamed: each term that is no
+/// constant becomes a variable, whose number is the place of its first occurrence among those of the others, reading the
+/// rows in order and then the head, with the name that the term's variable has.
+pub fn renamed_plan(
+    alloc: Global,
+    rows: &Facts,
+    head: &Terms,
+    names: &Names,
+) -> Result<Plan, OutOfMemory>
+    requires { head.now ≢ [] }
+    ensures { IfOk result (λ plan. IsRenamedPlan names.now rows.now head.now plan) }
+{
+    let seen = first_occurrences(alloc, rows, head)?;
+    let atoms = rename_rows(alloc, &seen, rows)?;
+    let new_head = rename_row(alloc, &seen, head.items())?;
+    let new_names = names_of(alloc, names, &seen)?;
+    Ok(Plan {
+        atoms,
+        head: new_head,
+        names: new_names,
+    })
+}
 
 /// The plan whose atoms are the rows of all views over the query's body, and whose head is the query's, renamed.
 fn stated_plan(alloc: Global, query: &Query, fragments: &FragmentDefs) -> Result<Plan, OutOfMemory>
@@ -29,11 +52,8 @@ fn stated_plan(alloc: Global, query: &Query, fragments: &FragmentDefs) -> Result
 {
     queries_are_sound();
     let rows = view_rows(alloc, &query.body, fragments)?;
-    let seen = first_occurrences(alloc, &rows, &query.head)?;
-    let atoms = rename_rows(alloc, &seen, &rows)?;
-    let head = rename_row(alloc, &seen, query.head.items())?;
-    let names = names_of(alloc, &query.names, &seen)?;
-    Ok(Plan { atoms, head, names })
+    let plan = renamed_plan(alloc, &rows, &query.head, &query.names)?;
+    Ok(plan)
 }
 
 /// The universal plan of the query, where there are no rules: the query's own body is then its universal instance.

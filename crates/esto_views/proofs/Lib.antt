@@ -2,3 +2,4 @@ pub mod SoundLemmas
 pub mod InnerLemmas
 pub mod SubstitutionLemmas
 pub mod ExpandedLemmas
+pub mod PatternLemmas

@@ -10,19 +10,19 @@ use Rattle.esto_views.specs.declared.fragments.FragmentDef.{FragmentDef}
 abbrev pub views_of : List FragmentDef → List ConjunctiveQuery
 views_of fragments = map (λ fragment. query_of fragment.view) fragments
 
--- Which columns are inputs, fragment by fragment.
-abbrev pub patterns_of : List FragmentDef → List (List Bool)
+-- The binding patterns, fragment by fragment.
+abbrev pub patterns_of : List FragmentDef → List (List (List Bool))
 patterns_of fragments = map (λ fragment. fragment.access) fragments
 
 -- What one use of each fragment weighs.
 abbrev pub weights_of : List FragmentDef → List ℕ
 weights_of fragments = map (λ fragment. fragment.weight) fragments
 
--- A fragment is well made: the head of its view is of distinct variables, and it says of as many columns whether they are inputs.
+-- A fragment is well made: the head of its view is of distinct variables, and each of its patterns says of as many columns whether they are inputs.
 pub record IsFragment (fragment : FragmentDef) : Type 0 where
   pub variables : (term : Term) → Contains fragment.view.head term → IsVariable term
   pub distinct : AllPairs ◌≢◌ fragment.view.head
-  pub columns : length fragment.access ≡ length fragment.view.head
+  pub columns : (pattern : List Bool) → Contains fragment.access pattern → length pattern ≡ length fragment.view.head
 
 -- Each of the fragments is well made.
 abbrev pub AreFragments : List FragmentDef → Type 0

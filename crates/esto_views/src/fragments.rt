@@ -12,16 +12,19 @@ use esto_query::{Facts, Query, answers};
 use esto_term::{List, OutOfMemory, Replicate, TermRows, Text, Values};
 use std::alloc::Global;
 
-/// For each column of a fragment, whether it is an input: a column that has to be given before rows are read.
+/// A way to read a fragment: for each column, whether it is an input, which has to be given before rows are read.
 pub type Access = Values<bool>;
 
-/// A fragment: its name, the view whose rows it holds, which of its columns are inputs, and what one use of it
+/// The ways in which a fragment may be read.
+pub type AccessList = List<Access>;
+
+/// A fragment: its name, the view whose rows it holds, in which ways it may be read, and what one use of it
 /// weighs.
 #[derive(Debug, Drop)]
 pub struct FragmentDef {
     pub name: Text,
     pub view: Query,
-    pub access: Access,
+    pub access: AccessList,
     pub weight: u64,
 }
 

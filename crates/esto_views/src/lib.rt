@@ -8,5 +8,5 @@ mod plan;
 mod spread;
 
 pub use expansion::{ExpandedFact, ExpandedFacts, expand, plans_fit_views};
-pub use fragments::{Access, FragmentDef, FragmentDefs, rows_of_view};
+pub use fragments::{Access, AccessList, FragmentDef, FragmentDefs, rows_of_view};
 pub use plan::{Plan, PlanAtom, PlanAtoms, plans_are_sound};

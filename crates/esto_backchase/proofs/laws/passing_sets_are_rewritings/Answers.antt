@@ -14,7 +14,7 @@ returns-clause-same c = λ plan fragments query expanded plain.
     (λ other facts right expansion. c.an_expansion_means_the_same.ensures.without_rules (views_of fragments) other facts right expansion)
     (λ set. c.candidates_contain_the_query.ensures.equivalent [] (views_of fragments) (query_of query) (plan_query plan) set
     (record { same_length = plain.same_length; has_head = sound.has_head; flat_body = plan-flat plan sound }) plain.universal)
-    (λ set. c.rewritings_without_inputs.ensures.rewritings (patterns_of fragments) plain.no_inputs [] (views_of fragments) (query_of query) (plan_query plan) set)
+    (λ set. c.rewritings_without_inputs.ensures.rewritings (patterns_of fragments) [] (views_of fragments) (query_of query) (plan_query plan) plain.all_open set)
 
 pub returns-clause-onto : goal.returns-clause-onto
 returns-clause-onto c = λ plan fragments query expanded plain other rewriting.

@@ -28,7 +28,7 @@ pub returns-in_default-clause-listed : goal.returns-in_default-clause-listed
 returns-in_default-clause-listed c = λ set.
     let none = start-missing c.in_ok-start.field-0 c.items.result.now c.items-2.result.now c.args.query.now.head c.args.plan.now.head c.items.ensures c.items-2.ensures c.in_ok-start.ensures c.in_default.is in
     let plain : IsPlainCase c.args.plan.now c.args.fragments.now c.args.query.now c.in_ok-expanded.expanded =
-    record { same_length = c.requires.same_length; universal = c.requires.universal; no_inputs = c.requires.no_inputs; expands = c.in_ok-expanded.ensures.expands } in (
+    record { same_length = c.requires.same_length; universal = c.requires.universal; all_open = c.requires.all_open; expands = c.in_ok-expanded.ensures.expands } in (
       λ inside. absurd (Contains-nil set (subst (λ sets. Contains sets set) c.new-found.ensures.empty inside)),
       λ listed.
           let passes = (c.passing_sets_are_rewritings.ensures.same c.args.plan.now c.args.fragments.now c.args.query.now c.in_ok-expanded.expanded plain set).1 listed.0 in
@@ -39,7 +39,7 @@ pub returns-in_default-clause-complete : goal.returns-in_default-clause-complete
 returns-in_default-clause-complete c = λ other rewriting.
     let none = start-missing c.in_ok-start.field-0 c.items.result.now c.items-2.result.now c.args.query.now.head c.args.plan.now.head c.items.ensures c.items-2.ensures c.in_ok-start.ensures c.in_default.is in
     let plain : IsPlainCase c.args.plan.now c.args.fragments.now c.args.query.now c.in_ok-expanded.expanded =
-    record { same_length = c.requires.same_length; universal = c.requires.universal; no_inputs = c.requires.no_inputs; expands = c.in_ok-expanded.ensures.expands } in
+    record { same_length = c.requires.same_length; universal = c.requires.universal; all_open = c.requires.all_open; expands = c.in_ok-expanded.ensures.expands } in
     let onto = c.passing_sets_are_rewritings.ensures.onto c.args.plan.now c.args.fragments.now c.args.query.now c.in_ok-expanded.expanded plain other rewriting in
     absurd (none onto.2.maps.0 onto.2.maps.1 onto.2.maps.3)
 
@@ -47,7 +47,7 @@ pub returns-clause-listed : goal.returns-clause-listed
 returns-clause-listed c = λ set.
     let Pass = Passes (query_of c.args.query.now) (plan_query c.args.plan.now) c.in_ok-expanded.expanded in
     let plain : IsPlainCase c.args.plan.now c.args.fragments.now c.args.query.now c.in_ok-expanded.expanded =
-    record { same_length = c.requires.same_length; universal = c.requires.universal; no_inputs = c.requires.no_inputs; expands = c.in_ok-expanded.ensures.expands } in
+    record { same_length = c.requires.same_length; universal = c.requires.universal; all_open = c.requires.all_open; expands = c.in_ok-expanded.ensures.expands } in
     let counted : length c.in_ok-set.set ≡ length (plan_query c.args.plan.now).body = ap length c.in_ok-set.ensures ∙ length-replicate _ _ ∙ c.len-2.ensures ∙ sym (length-map c.args.plan.now.atoms fact_of) in
     let antichain : IsAntichain c.visit.new.found.sets = subst IsAntichain (ap (λ kept. kept.sets) c.found-2.view_is) c.found-2.invariant.1 in
     let visited = subst (λ sets. Visited Pass (AgreesBelow 0 c.in_ok-set.set) sets c.visit.new.found.sets) c.new-found.ensures.empty c.in_ok-visit.ensures.visited in
@@ -62,7 +62,7 @@ returns-clause-listed c = λ set.
 pub returns-clause-complete : goal.returns-clause-complete
 returns-clause-complete c = λ other rewriting.
     let plain : IsPlainCase c.args.plan.now c.args.fragments.now c.args.query.now c.in_ok-expanded.expanded =
-    record { same_length = c.requires.same_length; universal = c.requires.universal; no_inputs = c.requires.no_inputs; expands = c.in_ok-expanded.ensures.expands } in
+    record { same_length = c.requires.same_length; universal = c.requires.universal; all_open = c.requires.all_open; expands = c.in_ok-expanded.ensures.expands } in
     let counted : length c.in_ok-set.set ≡ length (plan_query c.args.plan.now).body = ap length c.in_ok-set.ensures ∙ length-replicate _ _ ∙ c.len-2.ensures ∙ sym (length-map c.args.plan.now.atoms fact_of) in
     let onto = c.passing_sets_are_rewritings.ensures.onto c.args.plan.now c.args.fragments.now c.args.query.now c.in_ok-expanded.expanded plain other rewriting in
     (onto.0, onto.1, c.in_ok-visit.ensures.visited.covers onto.0 (agreeing-first c.in_ok-set.set onto.0 (onto.2.has_candidate.over ∙ sym counted)) onto.2)

@@ -1,58 +1,76 @@
-use Rattle.std.proofs.Common.{◌≡◌, [], ap, subst, ◌∙◌, arith, rules}
+use Rattle.std.proofs.Common.{◌≡◌, [], refl, ap, subst, ◌∙◌, arith, rules}
 use Rattle.std.proofs.lemmas.List.{nil_from_length}
+use Rattle.std.proofs.lemmas.Option.{slice_get_read}
 use Rattle.esto_semantics.specs.Maps.{AreFlat}
 use Rattle.esto_query.specs.Trails.{with_trail}
 use Rattle.esto_query.proofs.TrailLemmas.{undone}
 use Rattle.esto_query.proofs.LeastLemmas.{flat_first, flat_rest}
-use Rattle.esto_query.proofs.RowLemmas.{leaf_adds, end_adds, AreKnown-next, turn_skip, turn_next}
+use Rattle.esto_query.proofs.RowLemmas.{leaf_adds, known_adds, none_adds, end_adds, AreKnown-next, turn_out, turn_skip, turn_next}
 use Rattle.esto_query.proofs.rows.+collect.Goals as goal
 use Rattle.esto_query.proofs.rows.+collect.Goals.{then-branch+in_ok-collect, else-branch}
 
 pub returns-in_default-clause-adds : goal.returns-in_default-clause-adds
 returns-in_default-clause-adds t c =
     let empty : c.args.body.now ≡ [] = nil_from_length _ (grind arith) in
-    let row = rw c.deref.ensures.value at c.in_ok-row.ensures in
-    rw empty (leaf_adds c.args.head.now c.args.facts.now (with_trail c.args.start.now c.args.trail.now.items) _ _ c.in_ok-row.row (rw empty at c.requires.known) row c.in_ok-insert_row.ensures.adds)
+    let adds = rw c.deref.ensures.value at c.in_ok-push_image.ensures in
+    rw empty (leaf_adds c.args.head.now c.args.facts.now (with_trail c.args.start.now c.args.trail.now.items) _ _ _ (rw empty at c.requires.known) refl adds)
+
+pub returns-in_ok-push_image-2-clause-adds : goal.returns-in_ok-push_image-2-clause-adds
+returns-in_ok-push_image-2-clause-adds t c =
+    let all = rw c.deref-2.ensures.value at (c.are_known.ensures c.if-are_known.true) in
+    let found = rw c.if-is_found.true at c.in_ok-is_found.ensures.matches in
+    let adds = rw (c.deref-then-is_found.ensures.value, c.in_ok-is_found.ensures.trail) at c.in_ok-push_image-2.ensures in
+    known_adds c.args.head.now c.args.body.now c.args.facts.now (with_trail c.args.start.now c.args.trail.now.items) _ _ all found adds
+
+pub loop-entry-preserved-then-place-facts : goal.loop-entry-preserved-then-place-facts
+loop-entry-preserved-then-place-facts t c =
+    let serves = rw c.deref-3.ensures.value at c.candidates-found.ensures in
+    record {
+      split = c.loop-entry.invariant.split;
+      trail = c.loop-entry.invariant.trail;
+      adds = turn_out c.args.head.now c.in-Some.atom.now c.in-Some.rest.now c.args.facts.now (with_trail c.args.start.now c.args.trail.now.items) c.args.rows.now.items c.candidates-found.result.now (serves c.args.facts.now c.requires.index) c.loop-entry.entry-index c.entry-item.result c.loop-entry.rows.items c.loop-entry-test.true c.entry-item.is c.if-place-facts.true c.loop-entry.invariant.adds;
+    }
 
 pub bind_atom-requires : goal.bind_atom-requires
-bind_atom-requires t c = flat_first _ c.in-Some.rest.now (subst AreFlat c.loop-fact.invariant.split c.requires.flat)
+bind_atom-requires t c = flat_first _ c.in-Some.rest.now (subst AreFlat c.loop-entry.invariant.split c.requires.flat)
 
 pub collect-requires : goal.collect-requires
 collect-requires t c =
     let tried = rw c.if-branch.true at c.in_ok-bind_atom.ensures in
-    let known = rw (c.loop-fact.invariant.split, ← c.loop-fact.invariant.trail) at c.requires.known in (
+    let known = rw (c.loop-entry.invariant.split, ← c.loop-entry.invariant.trail) at c.requires.known in (
       search rules,
       (
-        flat_rest c.in-Some.atom.now _ (subst AreFlat c.loop-fact.invariant.split c.requires.flat),
+        flat_rest c.in-Some.atom.now _ (subst AreFlat c.loop-entry.invariant.split c.requires.flat),
         (
-          AreKnown-next (with_trail c.args.start.now c.loop-fact.trail.items) (with_trail c.args.start.now c.bind_atom.new.trail.items) c.in-Some.atom.now c.fact-item.result c.in-Some.rest.now tried.1 c.args.head.now known,
-          c.loop-fact.invariant.ascending,
+          c.requires.index,
+          AreKnown-next (with_trail c.args.start.now c.loop-entry.trail.items) (with_trail c.args.start.now c.bind_atom.new.trail.items) c.in-Some.atom.now c.index-facts-place.result c.in-Some.rest.now tried.1 c.args.head.now known,
         ),
       ),
     )
 
-pub loop-fact-preserved : goal.loop-fact-preserved
-loop-fact-preserved t c =
+pub loop-entry-preserved : goal.loop-entry-preserved
+loop-entry-preserved t c =
+    let serves = rw c.deref-3.ensures.value at c.candidates-found.ensures in
+    let at = slice_get_read c.args.facts.now _ c.entry-item.result.place _ refl (omega (arith, c.if-place-facts.false)) c.index-facts-place.is in
     elim c.if-branch.branch [
       | then-branch+in_ok-collect w ↦
-          let tried = rw (w.if-branch.true, c.loop-fact.invariant.trail) at c.in_ok-bind_atom.ensures in
+          let tried = rw (w.if-branch.true, c.loop-entry.invariant.trail) at c.in_ok-bind_atom.ensures in
           let grown = rw w.if-branch.true at c.in_ok-bind_atom.ensures in
           record {
-            split = c.loop-fact.invariant.split;
-            trail = ap (λ v. v.items) w.trail-is ∙ undone _ _ _ _ _ _ (omega (arith, c.args.trail.now.ok.0, c.len-mark.ensures)) c.loop-fact.invariant.trail grown.0 w.in_ok-collect.ensures.trail w.truncate.ensures.items;
-            ascending = rw w.rows-is w.in_ok-collect.ensures.ascending;
-            adds = rw w.rows-is (turn_next c.args.head.now c.in-Some.atom.now c.in-Some.rest.now c.args.facts.now (with_trail c.args.start.now c.args.trail.now.items) c.args.rows.now c.loop-fact.fact-index c.fact-item.result (with_trail c.args.start.now c.bind_atom.new.trail.items) c.loop-fact.rows _ c.loop-fact-test.true c.fact-item.is tried.1 w.in_ok-collect.ensures.adds c.loop-fact.invariant.adds);
+            split = c.loop-entry.invariant.split;
+            trail = ap (λ v. v.items) w.trail-is ∙ undone _ _ _ _ _ _ (omega (arith, c.args.trail.now.ok.0, c.len-mark.ensures)) c.loop-entry.invariant.trail grown.0 w.in_ok-collect.ensures.trail w.truncate.ensures.items;
+            adds = rw w.rows-is (turn_next c.args.head.now c.in-Some.atom.now c.in-Some.rest.now c.args.facts.now (with_trail c.args.start.now c.args.trail.now.items) c.args.rows.now.items c.candidates-found.result.now (serves c.args.facts.now c.requires.index) c.loop-entry.entry-index c.entry-item.result c.index-facts-place.result (with_trail c.args.start.now c.bind_atom.new.trail.items) c.loop-entry.rows.items _ c.loop-entry-test.true c.entry-item.is at tried.1 w.in_ok-collect.ensures.adds c.loop-entry.invariant.adds);
           }
       | else-branch w ↦
-          let tried = rw (w.if-branch.false, c.loop-fact.invariant.trail) at c.in_ok-bind_atom.ensures in
+          let tried = rw (w.if-branch.false, c.loop-entry.invariant.trail) at c.in_ok-bind_atom.ensures in
           record {
-            split = c.loop-fact.invariant.split;
+            split = c.loop-entry.invariant.split;
             trail = ap (λ v. v.items) w.trail-is ∙ tried.0;
-            ascending = rw w.rows-is c.loop-fact.invariant.ascending;
-            adds = rw w.rows-is (turn_skip c.args.head.now c.in-Some.atom.now c.in-Some.rest.now c.args.facts.now (with_trail c.args.start.now c.args.trail.now.items) c.args.rows.now c.loop-fact.fact-index c.fact-item.result c.loop-fact.rows c.loop-fact-test.true c.fact-item.is tried.1 c.loop-fact.invariant.adds);
+            adds = rw w.rows-is (turn_skip c.args.head.now c.in-Some.atom.now c.in-Some.rest.now c.args.facts.now (with_trail c.args.start.now c.args.trail.now.items) c.args.rows.now.items c.candidates-found.result.now (serves c.args.facts.now c.requires.index) c.loop-entry.entry-index c.entry-item.result c.index-facts-place.result c.loop-entry.rows.items c.loop-entry-test.true c.entry-item.is at tried.1 c.loop-entry.invariant.adds);
           }
     ]
 
 pub returns-clause-adds : goal.returns-clause-adds
 returns-clause-adds t c =
-    rw c.loop-fact.invariant.split (end_adds c.args.head.now c.in-Some.atom.now c.in-Some.rest.now c.args.facts.now (with_trail c.args.start.now c.args.trail.now.items) c.args.rows.now c.loop-fact.fact-index c.loop-fact.rows c.loop-fact-test.false c.loop-fact.invariant.adds)
+    let serves = rw c.deref-3.ensures.value at c.candidates-found.ensures in
+    rw c.loop-entry.invariant.split (end_adds c.args.head.now c.in-Some.atom.now c.in-Some.rest.now c.args.facts.now (with_trail c.args.start.now c.args.trail.now.items) c.args.rows.now.items c.candidates-found.result.now (serves c.args.facts.now c.requires.index) c.loop-entry.entry-index c.loop-entry.rows.items c.loop-entry-test.false c.loop-entry.invariant.adds)

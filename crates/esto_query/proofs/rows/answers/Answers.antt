@@ -8,14 +8,14 @@ use Rattle.esto_query.proofs.rows.answers.Goals as goal
 pub collect-requires-clause-flat : goal.collect-requires-clause-flat
 collect-requires-clause-flat c =
     let kept = sound_of c.args.query.now.head c.args.query.now.body c.args.query.now.names c.args.query.now.sound in
-    rw c.items-2.ensures kept.query.flat_body
+    rw c.items-3.ensures kept.query.flat_body
 
 pub collect-requires-clause-known : goal.collect-requires-clause-known
 collect-requires-clause-known c =
     let kept = sound_of c.args.query.now.head c.args.query.now.body c.args.query.now.names c.args.query.now.sound in
-    rw (c.items.ensures, c.items-2.ensures) (known_at_first (query_of c.args.query.now) _ kept.query)
+    rw (c.items-2.ensures, c.items-3.ensures) (known_at_first (query_of c.args.query.now) _ kept.query)
 
 pub returns-clause-rows : goal.returns-clause-rows
 returns-clause-rows c =
-    let adds = rw (c.items.ensures, c.items-2.ensures, c.items-3.ensures) at c.in_ok-collect.ensures.adds in
-    answers_are (query_of c.args.query.now) c.args.facts.now c.new-rows.result _ (with_trail c.new-start.result c.new-trail.result.items) c.new-rows.ensures (ap (with_trail c.new-start.result) c.new-trail.ensures.items ∙ c.new-start.ensures) adds
+    let adds = rw (c.items-2.ensures, c.items-3.ensures, c.items-4.ensures) at c.in_ok-collect.ensures.adds in
+    answers_are (query_of c.args.query.now) c.args.facts.now c.new-rows.result.items c.collect.new.rows.items _ (with_trail c.new-start.result c.new-trail.result.items) c.new-rows.ensures.items (ap (with_trail c.new-start.result) c.new-trail.ensures.items ∙ c.new-start.ensures) adds c.in_ok-rows.ensures.rows

@@ -1,8 +1,8 @@
 use Rattle.std.proofs.Common.{sym, ◌∙◌}
-use Rattle.std.proofs.lemmas.Bool.{false≢true}
+use Rattle.std.proofs.lemmas.Bool.{false≢true, true≢false}
 use Rattle.esto_semantics.specs.Sets.{Has}
 use Rattle.esto_semantics.specs.Access.{IsAccessible}
-use Rattle.esto_semantics.proofs.ProgramLemmas.{holds_more_in, holds_all_in, stuck_at_end}
+use Rattle.esto_semantics.proofs.ProgramLemmas.{holds_more_in, holds_all_in, next_found, stuck_at_end}
 use Rattle.esto_semantics.proofs.access.next_number.Goals.{else-has-via-then-has+then-not-has+else-is_accessible, else-has-via-then-has+else-not-has, else-has-via-else-has}
 use Rattle.esto_semantics.proofs.access.next_number.Goals as goal
 
@@ -15,6 +15,11 @@ atoms-preserved c =
       | else-has-via-then-has+else-not-has w ↦ w.has-then-has.ensures.0 w.if-not-has.false
       | else-has-via-else-has w ↦ absurd (false≢true (sym w.if-has.false ∙ c.has.ensures.1 has))
     ])
+
+pub returns-then-is_accessible : goal.returns-then-is_accessible
+returns-then-is_accessible c =
+    next_found c.args.patterns.now c.args.atoms.now _ c.args.set.now c.args.part.now c.atoms.number _ c.items-atom-items.ensures c.atoms-test.true c.atom-item.is (c.has.ensures.0 c.if-has.true)
+    (λ had. true≢false (sym (c.has-then-has.ensures.1 had) ∙ c.if-not-has.true)) (c.is_accessible.ensures.0 c.if-is_accessible.true)
 
 pub returns : goal.returns
 returns c =

@@ -2,14 +2,13 @@ use Rattle.std.proofs.Common.{Contains, refl, sym, ◌∙◌}
 use Rattle.std.proofs.lemmas.Bool.{false≢true}
 use Rattle.esto_semantics.specs.Access.{IsInput, IsBound}
 use Rattle.esto_semantics.proofs.ProgramLemmas.{holds_more_in, holds_all_in}
-use Rattle.esto_views.specs.Fragments.{patterns_of}
 use Rattle.esto_views.specs.Plans.{plan_query}
-use Rattle.esto_access.proofs.atoms.is_accessible.Goals.{else-is_input-via-then-is_input+else-not-is_bound, else-is_input-via-else-is_input}
-use Rattle.esto_access.proofs.atoms.is_accessible.Goals as goal
+use Rattle.esto_access.proofs.atoms.meets_pattern.Goals.{else-is_input-via-then-is_input+else-not-is_bound, else-is_input-via-else-is_input}
+use Rattle.esto_access.proofs.atoms.meets_pattern.Goals as goal
 
 pub columns-preserved : goal.columns-preserved
 columns-preserved c =
-    holds_more_in (λ column term. IsInput (patterns_of c.args.fragments.now) c.args.atom.now.fragment column → IsBound (plan_query c.args.plan.now).body (Contains c.args.earlier.now) term)
+    holds_more_in (λ column term. IsInput c.args.pattern.now column → IsBound (plan_query c.args.plan.now).body (Contains c.args.earlier.now) term)
     c.args.atom.now.terms _ c.items-term-items.ensures _ _ c.columns-test.true c.term-item.is c.columns.invariant
     (λ input. elim c.else-is_input.branch [
       | else-is_input-via-then-is_input+else-not-is_bound w ↦ w.is_bound.ensures.0 w.if-not-is_bound.false
@@ -19,7 +18,7 @@ columns-preserved c =
 pub returns : goal.returns
 returns c = (
   λ _ column term input at.
-      holds_all_in (λ column term. IsInput (patterns_of c.args.fragments.now) c.args.atom.now.fragment column → IsBound (plan_query c.args.plan.now).body (Contains c.args.earlier.now) term)
+      holds_all_in (λ column term. IsInput c.args.pattern.now column → IsBound (plan_query c.args.plan.now).body (Contains c.args.earlier.now) term)
       c.args.atom.now.terms _ c.items-term-items.ensures _ c.columns-test.false c.columns.invariant column term at input,
   λ _. refl,
 )

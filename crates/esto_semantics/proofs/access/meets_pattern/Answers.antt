@@ -3,12 +3,12 @@ use Rattle.std.proofs.lemmas.Bool.{false≢true}
 use Rattle.esto_semantics.specs.Sets.{Has}
 use Rattle.esto_semantics.specs.Access.{IsInput, IsBound}
 use Rattle.esto_semantics.proofs.ProgramLemmas.{holds_more_in, holds_all_in}
-use Rattle.esto_semantics.proofs.access.is_accessible.Goals.{else-is_input-via-then-is_input+else-not-is_bound, else-is_input-via-else-is_input}
-use Rattle.esto_semantics.proofs.access.is_accessible.Goals as goal
+use Rattle.esto_semantics.proofs.access.meets_pattern.Goals.{else-is_input-via-then-is_input+else-not-is_bound, else-is_input-via-else-is_input}
+use Rattle.esto_semantics.proofs.access.meets_pattern.Goals as goal
 
 pub columns-preserved : goal.columns-preserved
 columns-preserved c =
-    holds_more_in (λ column term. IsInput c.args.patterns.now c.args.atom.now.relation column → IsBound c.args.atoms.now (Has c.args.part.now) term)
+    holds_more_in (λ column term. IsInput c.args.pattern.now column → IsBound c.args.atoms.now (Has c.args.part.now) term)
     c.args.atom.now.terms _ c.items-term-items.ensures _ _ c.columns-test.true c.term-item.is c.columns.invariant
     (λ input. elim c.else-is_input.branch [
       | else-is_input-via-then-is_input+else-not-is_bound w ↦ w.is_bound.ensures.0 w.if-not-is_bound.false
@@ -18,7 +18,7 @@ columns-preserved c =
 pub returns : goal.returns
 returns c = (
   λ _ column term input at.
-      holds_all_in (λ column term. IsInput c.args.patterns.now c.args.atom.now.relation column → IsBound c.args.atoms.now (Has c.args.part.now) term)
+      holds_all_in (λ column term. IsInput c.args.pattern.now column → IsBound c.args.atoms.now (Has c.args.part.now) term)
       c.args.atom.now.terms _ c.items-term-items.ensures _ c.columns-test.false c.columns.invariant column term at input,
   λ _. refl,
 )
