@@ -7,10 +7,10 @@ use Rattle.esto_term.specs.declared.term.Term.{Term}
 use Rattle.esto_semantics.specs.declared.fact.Fact.{Fact}
 use Rattle.esto_semantics.specs.Sets.{Has}
 use Rattle.esto_semantics.specs.Access.{IsAccessible, IsEarlier}
-use Rattle.esto_semantics.proofs.PlaceLemmas.{map_at}
 use Rattle.esto_views.specs.declared.plan.PlanAtom.{PlanAtom}
 use Rattle.esto_views.specs.Plans.{fact_of}
 use Rattle.esto_access.specs.Runs.{CanFollow}
+use Rattle.esto_term.proofs.ListLemmas.{map_at}
 
 module _ (atoms : List PlanAtom) (number : ℕ) (atom : PlanAtom) (at : slice_get atoms number ≡ Some atom) where
   at_fact : slice_get (map fact_of atoms) number ≡ Some (fact_of atom)

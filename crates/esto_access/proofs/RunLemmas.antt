@@ -8,10 +8,10 @@ use Rattle.esto_semantics.specs.declared.fact.Fact.{Fact}
 use Rattle.esto_semantics.specs.Sets.{Has}
 use Rattle.esto_semantics.specs.Access.{IsAccessible, IsEarlier, IsOrder, IsExecutable, IsAccessiblePart, IsStatedOrder}
 use Rattle.esto_semantics.specs.AccessSteps.{IsStuck}
-use Rattle.esto_semantics.proofs.AccessLemmas.{contains_at, place_of, one_place, missing, missing-set, has_set, none_has, accessible_more, ready_more, order_grows, stuck_has}
-use Rattle.esto_semantics.proofs.ChoiceLemmas.{contains_none}
+use Rattle.esto_semantics.proofs.AccessLemmas.{one_place, missing, missing-set, has_set, none_has, accessible_more, ready_more, order_grows, stuck_has}
 use Rattle.esto_semantics.proofs.SetLemmas.{beyond, decided_has, within_refl, within_same}
 use Rattle.esto_access.specs.Runs.{CanFollow, NoneFollows, IsFirstFollower, IsRun}
+use Rattle.esto_term.proofs.ListLemmas.{Contains-at, Contains-nil, place-from_Contains}
 
 -- ---- earlier places
 
@@ -41,10 +41,10 @@ earlier_take order place number h =
     (h.0, omega (arith, h.1, short, within), get_or-take place order h.0 number h.1 ∙ get_or_from_slice_get order h.0 number number h.2)
 
 pub earlier_anywhere : (order : List ℕ) (place number : ℕ) → IsEarlier order place number → Contains order number
-earlier_anywhere order place number h = contains_at order h.0 number h.2
+earlier_anywhere order place number h = Contains-at order h.0 number h.2
 
 pub anywhere_earlier : (order : List ℕ) (place number : ℕ) → length order ≤ place → Contains order number → IsEarlier order place number
-anywhere_earlier order place number l h = let at = place_of order number h in let within = slice_get_within order at.0 number at.1 in (at.0, omega (arith, l, within), at.1)
+anywhere_earlier order place number l h = let at = place-from_Contains order number h in let within = slice_get_within order at.0 number at.1 in (at.0, omega (arith, l, within), at.1)
 
 earlier_kept : (order : List ℕ) (more place number : ℕ) → IsEarlier order place number → IsEarlier (order ++ more ∷ []) place number
 earlier_kept order more place number h = (h.0, h.1, kept order more h.0 number h.2)
@@ -64,7 +64,7 @@ missing_all (suc count) = ap suc (missing_all count)
 none_is_order : (patterns : List (List (List Bool))) (atoms : List (Fact Term)) → IsOrder patterns atoms (replicate (length atoms) false) []
 none_is_order patterns atoms = record {
   over = length-replicate (length atoms) false;
-  names = λ number. (λ h. absurd (contains_none number h), λ h. absurd (none_has (length atoms) number h));
+  names = λ number. (λ h. absurd (Contains-nil number h), λ h. absurd (none_has (length atoms) number h));
   once = λ i j d l m. absurd (omega (arith, m));
   accessible = λ place number atom e. absurd (none-some number e);
 }
@@ -188,7 +188,7 @@ module _ (patterns : List (List (List Bool))) (atoms : List (Fact Term)) (set : 
   pub order_from_places : (order : List ℕ) → length set ≡ length atoms → ((number : ℕ) → Has set number → Contains order number) → EachFollows order → IsOrder patterns atoms set order
   order_from_places order over all each = record {
     over = over;
-    names = λ number. (λ h. let at = place_of order number h in (each at.0 number at.1).chosen, all number);
+    names = λ number. (λ h. let at = place-from_Contains order number h in (each at.0 number at.1).chosen, all number);
     once = λ i j d less within e. (each j (get_or order j d) (slice_get-get_or order j d within)).absent
         (earlier_take order j (get_or order j d) (i, less, slice_get-get_or order i d (omega (arith, less, within)) ∙ ap Some e));
     accessible = λ place number atom at at_atom. accessible_more patterns atoms (Contains (take place order)) (IsEarlier order place) (take_earlier order place) atom ((each place number at).ready atom at_atom);
@@ -203,7 +203,7 @@ module _ (patterns : List (List (List Bool))) (atoms : List (Fact Term)) (set : 
   }
     where
       chosen : Has set number
-      chosen = (is_order.names number).0 (contains_at order place number at)
+      chosen = (is_order.names number).0 (Contains-at order place number at)
 
   pub order_by_places : (order given again : List ℕ) → given ≡ order → again ≡ order → length set ≡ length atoms → ((number : ℕ) → Has set number → Contains given number)
       → (answer : Bool) → IsTrue answer ↔ EachFollows again → IsTrue answer ↔ IsOrder patterns atoms set order

@@ -5,11 +5,10 @@ use Rattle.std.proofs.lemmas.List.Elements.{All-from_recursion}
 use Rattle.esto_term.specs.declared.term.Term.{Term}
 use Rattle.esto_semantics.specs.Rules.{Rule, tuple, equality, denial}
 use Rattle.esto_semantics.specs.declared.fact.Fact.{Fact}
-use Rattle.esto_semantics.proofs.ContainsLemmas.{Contains-flat, Contains-flat_from}
-use Rattle.esto_query.proofs.MapLemmas.{Contains-first, Contains-cases, Contains-nil}
 use Rattle.esto_acyclic.specs.Graphs.{Joins, IsWithin, IsWalk, IsLeastCycle, IsAcyclic, AreRanks}
 use Rattle.esto_acyclic.proofs.SameLemmas.{IsWithin-same, IsLeastCycle-same, AreRanks-same}
 use Rattle.esto_acyclic.specs.Relations.{HasRelation, IsEdge, edges_from, edges_of_rule, edges_of}
+use Rattle.esto_term.proofs.ListLemmas.{Contains-cases, Contains-flat, Contains-flat_from, Contains-head, Contains-nil}
 
 -- ---- membership
 
@@ -28,7 +27,7 @@ edges_from-is relation head from to inside =
 edges_from-has : (relation : ℕ) (head : List (Fact Term)) (to : ℕ) → HasRelation head to → Contains (edges_from relation head) (edge_of relation to)
 edges_from-has relation head to (atom, at, is) =
     Contains-flat (λ (other : Fact Term). edge_of relation other.relation ∷ []) head atom (edge_of relation to) at
-    (subst (λ end. Contains (edge_of relation atom.relation ∷ []) (edge_of relation end)) is (Contains-first (edge_of relation atom.relation) []))
+    (subst (λ end. Contains (edge_of relation atom.relation ∷ []) (edge_of relation end)) is (Contains-head (edge_of relation atom.relation) []))
 
 rule_joins : (rule : Rule) (from to : ℕ) → Contains (edges_of_rule rule) (edge_of from to) → (body : List (Fact Term)) × (head : List (Fact Term)) × (rule ≡ tuple body head) × HasRelation body from × HasRelation head to
 rule_joins (tuple body head) from to inside =

@@ -16,8 +16,6 @@ use Rattle.esto_semantics.specs.Queries.{ConjunctiveQuery, IsAnswer}
 use Rattle.esto_semantics.specs.Sets.{Has, IsMinimal}
 use Rattle.esto_semantics.specs.Views.{IsFragmentAnswer}
 use Rattle.esto_semantics.specs.declared.fact.Fact.{Fact}
-use Rattle.esto_semantics.proofs.AccessLemmas.{contains_at, place_of}
-use Rattle.esto_semantics.proofs.ContainsLemmas.{Contains-nil, Contains-head, Contains-rest, Contains-cases, Contains-map_from}
 use Rattle.esto_semantics.proofs.SetLemmas.{beyond}
 use Rattle.esto_views.specs.Expanded.{Expands}
 use Rattle.esto_views.specs.Fragments.{views_of}
@@ -30,6 +28,7 @@ use Rattle.esto_query.specs.Valuations.{Assignment, Extends, map_of}
 use Rattle.esto_query.specs.declared.matches.Found.{Found}
 use Rattle.esto_views.specs.Soundness.{IsSoundPlan}
 use Rattle.esto_backchase.specs.Searching.{facts_chosen, IsSearch, Passes}
+use Rattle.esto_term.proofs.ListLemmas.{Contains-at, Contains-cases, Contains-head, Contains-map_from, Contains-nil, Contains-rest, place-from_Contains}
 
 -- ---- the facts that come from atoms of a set
 
@@ -131,12 +130,12 @@ module _ (plan : Plan) (fragments : List FragmentDef) (expanded : List ExpandedF
       there inside =
           let from = chosen-from set expanded fact inside in
           let told = (expands.exact from.0).0 from.1 in
-          (from.0.atom, from.2, (told.1.0, contains_at (expands.of.view from.0.atom).body from.0.place told.1.0 told.1.1, told.1.2 ∙ from.3))
+          (from.0.atom, from.2, (told.1.0, Contains-at (expands.of.view from.0.atom).body from.0.place told.1.0 told.1.1, told.1.2 ∙ from.3))
 
       back : (number : ℕ) × Has set number × ((part : Fact Term) × Contains (expands.of.view number).body part × (image (expands.of.spread number) part ≡ fact))
           → Contains (facts_chosen set expanded) fact
       back (number, has, (part, inside, is)) =
-          let at = place_of (expands.of.view number).body part inside in
+          let at = place-from_Contains (expands.of.view number).body part inside in
           let whole : ExpandedFact = record { atom = number; place = at.0; fact = fact } in
           let small : number < length plan.atoms = omega (arith, beyond set number has, over, length-map plan.atoms fact_of) in
           from-chosen set expanded whole ((expands.exact whole).1 (small, (part, at.1, is))) has

@@ -10,9 +10,9 @@ use Rattle.esto_semantics.specs.ListedLaws.{ChosenAreNamed}
 use Rattle.esto_semantics.specs.Maps.{IsFixedBy}
 use Rattle.esto_semantics.specs.Sets.{Has}
 use Rattle.esto_semantics.specs.declared.fact.Fact.{Fact}
-use Rattle.esto_semantics.proofs.AccessLemmas.{item_at}
 use Rattle.esto_views.specs.Plans.{fact_of}
 use Rattle.esto_views.specs.declared.plan.PlanAtom.{PlanAtom}
+use Rattle.esto_term.proofs.ListLemmas.{thing_at}
 
 -- a term is bound by the chosen atoms exactly where they fix it
 pub bound-fixed : ChosenAreNamed → (set : List Bool) (atoms : List (Fact Term)) (term : Term) → IsBound atoms (Has set) term ↔ IsFixedBy (chosen set atoms) term
@@ -37,6 +37,6 @@ module _ (atoms : List PlanAtom) (set : List Bool) (term : Term) where
   pub bound-from : (number : ℕ) (fact : Fact Term) → slice_get (map fact_of atoms) number ≡ Some fact → Contains fact.terms term
       → (atom : PlanAtom) × (slice_get atoms number ≡ Some atom) × Contains atom.terms term
   bound-from number fact at inside =
-      let there = item_at atoms number (rw length-map at (slice_get_within (map fact_of atoms) number fact at)) in
+      let there = thing_at atoms number (rw length-map at (slice_get_within (map fact_of atoms) number fact at)) in
       let same : fact_of there.0 ≡ fact = same_Some (fact_of there.0) fact (sym (slice_get-map fact_of atoms number ∙ ap (option_map fact_of) there.1) ∙ at) in
       (there.0, there.1, subst (λ (it : Fact Term). Contains it.terms term) (sym same) inside)

@@ -4,11 +4,11 @@ use Rattle.std.proofs.lemmas.Bool.{cases_order}
 use Rattle.std.proofs.lemmas.List.{length-set}
 use Rattle.std.proofs.lemmas.List.Elements.{Contains-push_cases}
 use Rattle.esto_semantics.specs.Sets.{Has, Within, Covers, IsMinimal}
-use Rattle.esto_semantics.proofs.ContainsLemmas.{Contains-filter_from, Contains-nil}
 use Rattle.esto_semantics.proofs.SetLemmas.{beyond, within_refl, within_trans, within_same, numbers_tell}
 use Rattle.esto_bits.specs.Kept.{IsAntichain, CoversAlso, is_covered, is_within, with_set}
 use Rattle.esto_bits.proofs.FamilyLemmas.{antichain-same}
 use Rattle.esto_backchase.specs.Searching.{AgreesBelow, Visited}
+use Rattle.esto_term.proofs.ListLemmas.{Contains-filter_from, Contains-nil}
 
 -- what is kept after one set more was kept before, or is the set
 added : (sets : List (List Bool)) (row set : List Bool) → Contains (with_set sets row) set → Contains sets set ⊎ (set ≡ row)

@@ -1,7 +1,7 @@
 -- Texts of which no two are the same.
 use Rattle.std.proofs.Common.{◌≡◌, ◌≢◌, ℕ, List, ◌∷◌, refl, sym, subst}
 use Rattle.std.specs.Prelude.{◌↔◌, Contains, AllPairs}
-use Rattle.esto_semantics.proofs.ChoiceLemmas.{pairs_head, pairs_tail, pairs_cons}
+use Rattle.esto_term.proofs.ChoiceLemmas.{pairs_cons, pairs_head, pairs_tail}
 
 module _ (texts rest others : List (List ℕ)) (first : List ℕ) (is : rest ≡ first ∷ others) (so_far : AllPairs ◌≢◌ rest ↔ AllPairs ◌≢◌ texts) where
   -- the first is not among the others

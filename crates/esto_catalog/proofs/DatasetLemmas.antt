@@ -16,7 +16,6 @@ use Rattle.esto_read.specs.Words.{HasRelations, IsVocabulary, AreTables}
 use Rattle.esto_read.specs.declared.words.DataModel.{DataModel}
 use Rattle.esto_read.specs.declared.words.DataModel.TheVariants.{Table}
 use Rattle.esto_read.specs.declared.words.Word.{Word}
-use Rattle.esto_semantics.proofs.ContainsLemmas.{Contains-nil, Contains-cases, Contains-map_from, map_then}
 use Rattle.esto_catalog.specs.Datasets.{AreColumns, AreTableDatasets, IsTableDataset, adds_dataset, has_dataset, reads_dataset, reads_datasets, schema_of, words_of}
 use Rattle.esto_catalog.specs.Rows.{IsWant, IsAny}
 use Rattle.esto_catalog.specs.Settings.{is_same}
@@ -27,6 +26,7 @@ use Rattle.esto_catalog.specs.declared.fault.CatalogueError.{CatalogueError}
 use Rattle.esto_catalog.specs.declared.fault.Place.{Place}
 use Rattle.esto_catalog.specs.declared.fault.Section.TheVariants as section
 use Rattle.esto_catalog.specs.declared.setting.Field.{Field}
+use Rattle.esto_term.proofs.ListLemmas.{Contains-cases, Contains-map_from, Contains-nil, map_then}
 
 or_false : (a b : Bool) → (a || b) ≡ false → (a ≡ false) × (b ≡ false)
 or_false false b is = (refl, is)

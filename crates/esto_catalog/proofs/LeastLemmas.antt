@@ -7,10 +7,10 @@ use Rattle.std.proofs.lemmas.Cmp.{nat_list_cmp_total, tied_itself, upto}
 use Rattle.std.proofs.lemmas.Bool.{false≢true}
 use Rattle.std.proofs.lemmas.List.{take_more, take_all}
 use Rattle.std.proofs.lemmas.List.Elements.{Contains-append_left, Contains-push, Contains-push_cases}
-use Rattle.esto_semantics.proofs.ContainsLemmas.{Contains-nil}
 use Rattle.esto_catalog.specs.Rows.{is_known, IsUnknown, IsLeastUnknown, IsLesserOf}
 use Rattle.esto_catalog.specs.declared.fault.Section.{Section}
 use Rattle.esto_catalog.specs.declared.setting.Field.{Field}
+use Rattle.esto_term.proofs.ListLemmas.{Contains-nil}
 
 -- the key comes at or before the other, by bytes
 abbrev IsUpTo : List ℕ → List ℕ → Type 0

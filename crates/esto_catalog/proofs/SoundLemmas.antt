@@ -17,7 +17,6 @@ use Rattle.esto_query.specs.declared.schema.Relation.{Relation}
 use Rattle.esto_read.specs.declared.words.DataModel.{DataModel}
 use Rattle.esto_read.specs.declared.words.DataModel.TheVariants.{Table, Documents, Keys}
 use Rattle.esto_read.specs.declared.words.Word.{Word}
-use Rattle.esto_semantics.proofs.ContainsLemmas.{Contains-nil, Contains-head, Contains-rest, Contains-cases}
 use Rattle.esto_query.proofs.SoundLemmas.{sound_of}
 use Rattle.esto_query.specs.Making.{query_of}
 use Rattle.esto_read.specs.Words.{HasRelations, AreTables}
@@ -34,6 +33,7 @@ use Rattle.esto_catalog.specs.Datasets.{IsTableDataset, begins_plain}
 use Rattle.esto_catalog.specs.Soundness.{IsSoundCatalogue}
 use Rattle.esto_catalog.specs.declared.dataset.Dataset.{Dataset}
 use Rattle.esto_catalog.specs.declared.dataset.Store.{Store}
+use Rattle.esto_term.proofs.ListLemmas.{Contains-cases, Contains-head, Contains-nil, Contains-rest}
 
 -- ---- codes
 

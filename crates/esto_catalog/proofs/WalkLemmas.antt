@@ -10,7 +10,6 @@ use Rattle.esto_course.proofs.Steps.{Leads, first_stops, then_goes, gives_goes, 
 use Rattle.esto_course.specs.Course.{Course, Stops, gives, each}
 use Rattle.esto_query.specs.Schemas.{IsSchema, arities_of}
 use Rattle.esto_query.specs.declared.schema.Relation.{Relation}
-use Rattle.esto_semantics.proofs.ContainsLemmas.{Contains-nil, Contains-cases, Contains-map_from}
 use Rattle.esto_semantics.specs.Rules.{tuple}
 use Rattle.esto_semantics.specs.WellFormed.{AreOver, IsRuleOver}
 use Rattle.esto_semantics.specs.declared.fact.Fact.{Fact}
@@ -39,6 +38,7 @@ use Rattle.esto_read.specs.declared.read.NamedQuery.{NamedQuery}
 use Rattle.esto_read.specs.declared.words.Word.{Word}
 use Rattle.esto_text.specs.declared.fault.TextFault.{TextFault}
 use Rattle.esto_views.specs.declared.fragments.FragmentDef.{FragmentDef}
+use Rattle.esto_term.proofs.ListLemmas.{Contains-cases, Contains-map_from, Contains-nil}
 
 relation_below : (schema : List Relation) (atoms : List (Fact Term)) (relation : ℕ) → AreOver (arities_of schema) atoms → HasRelation atoms relation → relation < length schema
 relation_below schema atoms relation over (atom, there, is) =

@@ -18,7 +18,6 @@ use Rattle.esto_semantics.specs.declared.fact.Fact.{Fact}
 use Rattle.esto_query.specs.Valuations.{Assignment, Extends, map_of}
 use Rattle.esto_query.specs.Matches.{IsMatch, IsBefore, IsAtMost, IsFound, IsLeastMatch, HasNoMatch}
 use Rattle.esto_query.specs.declared.matches.Found.{Found}
-use Rattle.esto_query.proofs.MapLemmas.{each_more, each_seen}
 use Rattle.esto_query.proofs.ValuationLemmas.{Keeps-map_of, Extends-map_of}
 use Rattle.esto_query.proofs.MatchLemmas.{Sends-match, match-Sends, IsMatch-length}
 use Rattle.esto_constraint.specs.Constraints.{rule_of, rules_of, body_of}
@@ -26,6 +25,7 @@ use Rattle.esto_constraint.specs.Matches.{HasExtension, Holds, IsMet, AreMet, Is
 use Rattle.esto_constraint.specs.Tests.{IsOver, Tells}
 use Rattle.esto_constraint.specs.declared.rule.Constraint.{Constraint}
 use Rattle.esto_constraint.proofs.RankLemmas.{AllBelow, power, rank, rank-below, rank-before, same_or_before}
+use Rattle.esto_term.proofs.ListLemmas.{each_more, each_seen}
 
 -- ---- maps that extend a valuation of a body's variables
 

@@ -8,12 +8,12 @@ use Rattle.esto_semantics.specs.Rules.{IsRule}
 use Rattle.esto_semantics.specs.declared.fact.Fact.{Fact}
 use Rattle.esto_query.specs.Soundness.{AreNamed, IsSound}
 use Rattle.esto_query.specs.declared.query.Name.{Name}
-use Rattle.esto_query.proofs.MapLemmas.{Contains-first, Contains-later, Contains-cases, Contains-nil}
 use Rattle.esto_query.proofs.SoundLemmas.{sound_of}
 use Rattle.esto_constraint.specs.Soundness.{IsSoundTuple, IsSoundEquality}
 use Rattle.esto_constraint.specs.Constraints.{rule_of, body_of}
 use Rattle.esto_constraint.specs.declared.rule.Constraint.{Constraint}
 use Rattle.esto_constraint.specs.declared.rule.Constraint.TheVariants.{Tuple, Equal}
+use Rattle.esto_term.proofs.ListLemmas.{Contains-cases, Contains-head, Contains-nil, Contains-rest}
 
 -- ---- the atoms of a rule are the body of a query
 
@@ -89,8 +89,8 @@ equality_sound body left right names sound =
       rule = record {
         has_body = whole.query.has_body;
         flat_body = whole.query.flat_body;
-        left_fixed = whole.query.safe left (Contains-first left (right ∷ []));
-        right_fixed = whole.query.safe right (Contains-later left (right ∷ []) right (Contains-first right []));
+        left_fixed = whole.query.safe left (Contains-head left (right ∷ []));
+        right_fixed = whole.query.safe right (Contains-rest left (right ∷ []) right (Contains-head right []));
       };
       named = whole.named;
     }

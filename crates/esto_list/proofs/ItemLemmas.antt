@@ -9,12 +9,12 @@ use Rattle.esto_term.specs.declared.term.Term.{Term}
 use Rattle.esto_semantics.specs.declared.fact.Fact.{Fact}
 use Rattle.esto_semantics.specs.Sets.{Has}
 use Rattle.esto_semantics.specs.Listed.{chosen}
-use Rattle.esto_semantics.proofs.PlaceLemmas.{map_at}
 use Rattle.esto_semantics.proofs.SetLemmas.{beyond}
 use Rattle.esto_views.specs.declared.plan.PlanAtom.{PlanAtom}
 use Rattle.esto_views.specs.Plans.{fact_of}
 use Rattle.esto_list.specs.declared.listing.Listed.{Listed}
 use Rattle.esto_list.specs.Items.{set_weight, sets_of, totals_of}
+use Rattle.esto_term.proofs.ListLemmas.{map_at}
 
 -- ---- the pick
 

@@ -18,11 +18,11 @@ use Rattle.esto_query.specs.declared.trail.Binding.{Binding}
 use Rattle.esto_query.specs.declared.matches.Found.{Found}
 use Rattle.esto_query.specs.Indexes.{HasPlace, AreCandidates}
 use Rattle.esto_query.specs.declared.index.Entry.{Entry}
-use Rattle.esto_query.proofs.MapLemmas.{Contains-first, Contains-later, Contains-cases, Contains-nil}
 use Rattle.esto_query.proofs.ValuationLemmas.{Keeps-map_of, Extends-map_of}
 use Rattle.esto_query.proofs.TrailLemmas.{Grew-same, Grew-then}
 use Rattle.esto_query.proofs.PlaceLemmas.{IsAtMost-nil, first_is_least, rest_is_at_most, IsAtMost-onto, IsAtMost-least}
 use Rattle.esto_query.proofs.MatchLemmas.{IsMatch-length, found_variables}
+use Rattle.esto_term.proofs.ListLemmas.{Contains-cases, Contains-head, Contains-nil, Contains-rest}
 
 -- ---- where no first place below a bound has a match
 
@@ -164,10 +164,10 @@ Searched-none start atom rest facts from old new places_old places_new same_plac
 -- ---- atoms of a body
 
 pub flat_first : (atom : Fact Term) (rest : List (Fact Term)) → AreFlat (atom ∷ rest) → (term : Term) → Contains atom.terms term → IsFlat term
-flat_first atom rest flat term inside = flat term (atom, Contains-first atom rest, inside)
+flat_first atom rest flat term inside = flat term (atom, Contains-head atom rest, inside)
 
 pub flat_rest : (atom : Fact Term) (rest : List (Fact Term)) → AreFlat (atom ∷ rest) → AreFlat rest
-flat_rest atom rest flat term (other, inside, at) = flat term (other, Contains-later atom rest other inside, at)
+flat_rest atom rest flat term (other, inside, at) = flat term (other, Contains-rest atom rest other inside, at)
 
 -- ---- matches as answers
 

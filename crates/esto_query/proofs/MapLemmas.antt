@@ -1,9 +1,7 @@
 -- What lists contain, maps of terms that agree, and maps that are changed at one variable.
-use Rattle.std.proofs.Common.{◌≡◌, ◌≢◌, ◌⊎◌, ℕ, zero, suc, ◌<◌, eqb, cond, true, false, List, [], ◌∷◌, map, length, take, get_or, Contains, ◌+◌, ◌≤◌, subst, Some, None, refl, sym, ap, ◌∙◌, inl, inr, arith}
-use Rattle.std.specs.List.{slice_get}
-use Rattle.std.proofs.lemmas.List.{get_or-map, take_more, take_all}
-use Rattle.std.proofs.lemmas.List.Elements.{Contains-push_cases}
-use Rattle.std.proofs.lemmas.Option.{none-some, slice_get_within, get_or_from_slice_get}
+use Rattle.std.proofs.Common.{◌≡◌, ◌≢◌, ℕ, eqb, cond, true, false, List, map, get_or, Contains, None, sym, ap, ◌∙◌, inl, inr, arith}
+use Rattle.std.proofs.lemmas.List.{get_or-map}
+use Rattle.std.proofs.lemmas.Option.{none-some}
 use Rattle.std.proofs.lemmas.Bool.Decides.{nat_tests}
 use Rattle.std.specs.FinMap.{get}
 use Rattle.esto_term.specs.declared.term.Term.{Term, out-Term}
@@ -13,55 +11,9 @@ use Rattle.esto_semantics.specs.Facts.{image}
 use Rattle.esto_semantics.specs.Maps.{IsFlat, Keeps}
 use Rattle.esto_semantics.specs.declared.fact.Fact.{Fact}
 use Rattle.esto_query.specs.Valuations.{Assignment, Extends}
-
--- ---- what lists contain
-
-pub Contains-first : {X : Type 0} (x : X) (xs : List X) → Contains (x ∷ xs) x
-Contains-first x xs = (0, omega arith, refl)
-
-pub Contains-later : {X : Type 0} (x : X) (xs : List X) (y : X) → Contains xs y → Contains (x ∷ xs) y
-Contains-later x xs y (k, l, e) = (suc k, omega arith, e)
-
-pub Contains-cases : {X : Type 0} (x : X) (xs : List X) (y : X) → Contains (x ∷ xs) y → (x ≡ y) ⊎ Contains xs y
-Contains-cases x xs y (zero, l, e) = inl e
-Contains-cases x xs y (suc k, l, e) = inr (k, omega arith, e)
-
-pub Contains-nil : {X : Type 0} (x : X) → Contains [] x → ⊥
-Contains-nil x (k, l, e) = omega arith
-
-pub Contains-at : {X : Type 0} (xs : List X) (i : ℕ) (x : X) → slice_get xs i ≡ Some x → Contains xs x
-Contains-at xs i x e = (i, slice_get_within xs i x e, get_or_from_slice_get xs i x x e)
-
--- what a read gives is in the list
-pub Contains-read : {X : Type 0} (xs : List X) (i : ℕ) (x : X) → i < length xs → x ≡ get_or xs i x → Contains xs x
-Contains-read xs i x l e = (i, l, sym e)
-
--- a fact about the elements seen, at one more element
-pub each_more : {X : Type 0} (P : X → Type 0) (xs : List X) (i : ℕ) (x : X) → i < length xs → x ≡ get_or xs i x → P x → ((y : X) → Contains (take i xs) y → P y) → (y : X) → Contains (take (i + 1) xs) y → P y
-each_more P xs i x within read here before y inside =
-    elim (Contains-push_cases (take i xs) x y (rw (take_more xs i x within, ← read) at inside)) [
-      | inl seen ↦ before y seen
-      | inr same ↦ subst P same here
-    ]
-
-pub each_seen : {X : Type 0} (P : X → Type 0) (xs : List X) (i : ℕ) → length xs ≤ i → ((y : X) → Contains (take i xs) y → P y) → (y : X) → Contains xs y → P y
-each_seen P xs i all before y inside = before y (rw (take_all i xs all) inside)
-
-pub Contains-map_from : {X Y : Type 0} (f : X → Y) (xs : List X) (y : Y) → Contains (map f xs) y → (x : X) × Contains xs x × (f x ≡ y)
-Contains-map_from f [] y inside = absurd (Contains-nil y inside)
-Contains-map_from f (x ∷ xs) y inside = elim (Contains-cases (f x) (map f xs) y inside) [
-  | inl here ↦ (x, Contains-first x xs, here)
-  | inr rest ↦ let found = Contains-map_from f xs y rest in (found.0, Contains-later x xs found.0 found.1, found.2)
-]
+use Rattle.esto_term.proofs.ListLemmas.{map_agree}
 
 -- ---- maps that agree
-
-pub map_agree : {V : Type 0} (f g : Term → V) (row : List Term) → ((term : Term) → Contains row term → f term ≡ g term) → map f row ≡ map g row
-map_agree f g [] same = refl
-map_agree f g (t ∷ ts) same =
-    let first = same t (Contains-first t ts) in
-    let rest = map_agree f g ts (λ u inside. same u (Contains-later t ts u inside)) in
-    cc
 
 pub image_agree : {V : Type 0} (f g : Term → V) (fact : Fact Term) → ((term : Term) → Contains fact.terms term → f term ≡ g term) → image f fact ≡ image g fact
 image_agree {V} f g fact same = ap (λ (row : List V). record { relation = fact.relation; terms = row }) (map_agree f g fact.terms same)

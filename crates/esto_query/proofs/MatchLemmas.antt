@@ -14,9 +14,10 @@ use Rattle.esto_query.specs.Valuations.{Assignment, Extends, map_of}
 use Rattle.esto_query.specs.Matches.{IsMatch}
 use Rattle.esto_query.specs.Trails.{Narrows}
 use Rattle.esto_query.specs.Variables.{mentions}
-use Rattle.esto_query.proofs.MapLemmas.{Contains-first, Contains-later, Contains-nil, Contains-at, image_agree, image_values, changed, changed-here, changed-flat, Keeps-changed, Extends-changed, terms_differ}
+use Rattle.esto_query.proofs.MapLemmas.{image_agree, image_values, changed, changed-here, changed-flat, Keeps-changed, Extends-changed, terms_differ}
 use Rattle.esto_query.proofs.ValuationLemmas.{Keeps-map_of, Extends-map_of}
 use Rattle.esto_query.proofs.SoundLemmas.{mentions_is, mentions_false}
+use Rattle.esto_term.proofs.ListLemmas.{Contains-at, Contains-head, Contains-nil, Contains-rest}
 
 -- ---- by places and by membership
 
@@ -29,8 +30,8 @@ Sends-match m (a ∷ more) facts (p ∷ ps) match atom (suc k, l, e) = Sends-mat
 pub match-Sends : (m : Term → Term) (body facts : List (Fact Term)) → Sends m body facts → (places : List ℕ) × IsMatch m body facts places
 match-Sends m [] facts sends = ([], tt)
 match-Sends m (a ∷ more) facts sends =
-    let here = sends a (Contains-first a more) in
-    let rest = match-Sends m more facts (λ atom inside. sends atom (Contains-later a more atom inside)) in
+    let here = sends a (Contains-head a more) in
+    let rest = match-Sends m more facts (λ atom inside. sends atom (Contains-rest a more atom inside)) in
     (here.0 ∷ rest.0, (slice_get-get_or facts here.0 (image m a) here.1 ∙ ap Some here.2, rest.1))
 
 pub IsMatch-length : (m : Term → Term) (body facts : List (Fact Term)) (places : List ℕ) → IsMatch m body facts places → length places ≡ length body
@@ -43,7 +44,7 @@ IsMatch-agree f g [] facts [] same match = match
 IsMatch-agree f g [] facts (p ∷ ps) same match = absurd match
 IsMatch-agree f g (a ∷ more) facts [] same match = absurd match
 IsMatch-agree f g (a ∷ more) facts (p ∷ ps) same match =
-    (match.0 ∙ ap Some (same a (Contains-first a more)), IsMatch-agree f g more facts ps (λ b inside. same b (Contains-later a more b inside)) match.1)
+    (match.0 ∙ ap Some (same a (Contains-head a more)), IsMatch-agree f g more facts ps (λ b inside. same b (Contains-rest a more b inside)) match.1)
 
 -- two matches at the same places have the same images
 pub images_same : (f g : Term → Term) (body facts : List (Fact Term)) (places : List ℕ) → IsMatch f body facts places → IsMatch g body facts places → (atom : Fact Term) → Contains body atom → image f atom ≡ image g atom

@@ -23,9 +23,10 @@ use Rattle.esto_query.specs.Indexes.{HasPlace, AreCandidates}
 use Rattle.esto_query.specs.declared.index.Entry.{Entry}
 use Rattle.esto_query.specs.declared.trail.Binding.{Binding}
 use Rattle.esto_query.proofs.PlaceLemmas.{IsAtMost-nil}
-use Rattle.esto_query.proofs.MapLemmas.{Contains-at, Contains-first, Contains-later, Contains-cases, Contains-nil, map_agree, image_values}
+use Rattle.esto_query.proofs.MapLemmas.{image_values}
 use Rattle.esto_query.proofs.ValuationLemmas.{Keeps-map_of, Extends-map_of}
 use Rattle.esto_query.proofs.MatchLemmas.{known_kept, known_fixed, Sends-match, match-Sends}
+use Rattle.esto_term.proofs.ListLemmas.{Contains-at, Contains-cases, Contains-head, Contains-nil, Contains-rest, map_agree}
 
 -- ---- with no atom left there is one row
 
@@ -228,9 +229,9 @@ module _ (head : List Term) (atom : Fact Term) (rest facts : List (Fact Term)) (
     whole row = (
       λ s. (s.m, s.keeps, s.extends, (λ a inside. elim (Contains-cases atom rest a inside) [ inl same ↦ subst (λ b. Contains facts (image s.m b)) same (Contains-at facts s.place (image s.m atom) s.first) | inr later ↦ s.others a later ]), s.is_image),
       λ r.
-          let first = r.3 atom (Contains-first atom rest) in
+          let first = r.3 atom (Contains-head atom rest) in
           let at : slice_get facts first.0 ≡ Some (image r.0 atom) = slice_get_read facts _ first.0 (image r.0 atom) refl first.1 (sym first.2) in
-          record { m = r.0; keeps = r.1; extends = r.2; place = first.0; among = served.complete r.0 first.0 r.1 r.2 at; first = at; others = λ a inside. r.3 a (Contains-later atom rest a inside); is_image = r.4 },
+          record { m = r.0; keeps = r.1; extends = r.2; place = first.0; among = served.complete r.0 first.0 r.1 r.2 at; first = at; others = λ a inside. r.3 a (Contains-rest atom rest a inside); is_image = r.4 },
     )
 
     module _ (i : ℕ) where

@@ -9,7 +9,7 @@ use Rattle.std.proofs.lemmas.List.Quantifiers.{all_pairs_push}
 use Rattle.std.proofs.lemmas.Option.{slice_get-map, slice_get_within, get_or_from_slice_get}
 use Rattle.esto_query.specs.Schemas.{names_of, arities_of, IsArity, IsSchema}
 use Rattle.esto_query.specs.declared.schema.Relation.{Relation}
-use Rattle.esto_query.proofs.MapLemmas.{Contains-map_from}
+use Rattle.esto_term.proofs.ListLemmas.{Contains-map_from}
 
 pub name_missing : (schema : List Relation) (name : List ℕ) → ((relation : Relation) → Contains schema relation → relation.name ≢ name) → ¬ (Contains (names_of schema) name)
 name_missing schema name apart inside =

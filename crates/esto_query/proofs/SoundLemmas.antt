@@ -17,7 +17,7 @@ use Rattle.esto_query.specs.Soundness.{IsSafe, IsSound}
 use Rattle.esto_query.specs.Making.{IsFirstUnsafe}
 use Rattle.esto_query.specs.Variables.{is_variable_kind, is_variable, atom_mentions, mentions}
 use Rattle.esto_query.specs.declared.query.Name.{Name}
-use Rattle.esto_query.proofs.MapLemmas.{Contains-first, Contains-later}
+use Rattle.esto_term.proofs.ListLemmas.{Contains-head, Contains-rest}
 
 -- ---- the tests of variables
 
@@ -45,8 +45,8 @@ module _ {X : Type 0} (test : X → Bool) where
   any_passes (x ∷ xs) e = pick x xs (first_or_later x xs (test x) refl e) (any_passes xs)
     where
       pick : (x : X) (xs : List X) → (test x ≡ true) ⊎ (list_any test xs ≡ true) → (list_any test xs ≡ true → (y : X) × Contains xs y × (test y ≡ true)) → (y : X) × Contains (x ∷ xs) y × (test y ≡ true)
-      pick x xs (inl here) later = (x, Contains-first x xs, here)
-      pick x xs (inr rest) later = let found = later rest in (found.0, Contains-later x xs found.0 found.1, found.2)
+      pick x xs (inl here) later = (x, Contains-head x xs, here)
+      pick x xs (inr rest) later = let found = later rest in (found.0, Contains-rest x xs found.0 found.1, found.2)
 
   passes_any : (xs : List X) (x : X) → Contains xs x → test x ≡ true → list_any test xs ≡ true
   passes_any xs x (k, l, e) passes = list_any_at test xs k x l (ap test e ∙ passes)

@@ -7,7 +7,7 @@ use Rattle.std.proofs.lemmas.Bool.{false≢true, cases_order, cases_lt, cases_eq
 use Rattle.std.proofs.lemmas.List.{get_or_default, get_or-set_same, get_or-set_other, length-set, length-replicate}
 use Rattle.std.proofs.lemmas.List.Elements.{Contains-get_or, Contains-push_cases, Contains-append_left, Contains-push}
 use Rattle.std.proofs.lemmas.List.Quantifiers.{all_pairs_push}
-use Rattle.std.proofs.lemmas.Option.{none-some, same_Some, slice_get_within, slice_get-get_or, get_or_from_slice_get}
+use Rattle.std.proofs.lemmas.Option.{none-some, same_Some, slice_get_within, get_or_from_slice_get}
 use Rattle.esto_term.specs.Order.{term_cmp}
 use Rattle.esto_term.specs.declared.term.Term.{Term, out-Term, roll-Term, roll-out-Term}
 use Rattle.esto_term.specs.declared.term.Term.TheOpen.{Term-F}
@@ -18,21 +18,11 @@ use Rattle.esto_semantics.specs.Sets.{Has, Within, numbers, united}
 use Rattle.esto_semantics.specs.Access.{IsInput, IsBound, MeetsPattern, IsAccessible, IsEarlier, IsOrder, IsExecutable, IsAccessiblePart, IsStatedOrder}
 use Rattle.esto_semantics.specs.AccessSteps.{IsReady, IsNext, IsStuck}
 use Rattle.esto_semantics.specs.AccessLaws.{NoneIsExecutable, UnionIsExecutable, PartExists, PartIsOne, ExecutableIsOwnPart, PartRises, StatedOrderExists, StatedOrderIsOne, NumbersAreStated, RewritingsNeedNoOrder}
-use Rattle.esto_semantics.proofs.ChoiceLemmas.{Decided, decided_both, decided_either, decided_not, decided_as, decided_below, least_below, contains_none}
 use Rattle.esto_semantics.proofs.SetLemmas.{beyond, decided_has, within_refl, within_trans, within_same, has_united, length-united, numbers_have, numbers_rise}
+use Rattle.esto_term.proofs.ChoiceLemmas.{Decided, decided_as, decided_below, decided_both, decided_either, decided_not, least_below}
+use Rattle.esto_term.proofs.ListLemmas.{Contains-at, Contains-nil, place-from_Contains, thing_at}
 
 -- ---- places of a list
-
-pub contains_at : {A : Type 0} (xs : List A) (place : ℕ) (x : A) → slice_get xs place ≡ Some x → Contains xs x
-contains_at xs place x e = (place, slice_get_within xs place x e, get_or_from_slice_get xs place x x e)
-
-pub place_of : {A : Type 0} (xs : List A) (x : A) → Contains xs x → (place : ℕ) × (slice_get xs place ≡ Some x)
-place_of xs x h = (h.0, slice_get-get_or xs h.0 x h.1 ∙ ap Some h.2)
-
-pub item_at : {A : Type 0} (xs : List A) (place : ℕ) → place < length xs → (x : A) × (slice_get xs place ≡ Some x)
-item_at [] place l = absurd (omega (arith, l))
-item_at (x ∷ xs) zero l = (x, refl)
-item_at (x ∷ xs) (suc place) l = item_at xs place (omega (arith, l))
 
 push_split : {A : Type 0} (xs : List A) (x : A) (place : ℕ) (z : A) → slice_get (xs ++ x ∷ []) place ≡ Some z → (slice_get xs place ≡ Some z) ⊎ ((place ≡ length xs) × (x ≡ z))
 push_split [] x zero z e = inr (refl, same_Some x z e)
@@ -63,10 +53,10 @@ same_places (x ∷ xs) (y ∷ ys) same = ap (λ z. z ∷ xs) (same_Some x y (sam
 -- ---- earlier numbers
 
 earlier_contains : (order : List ℕ) (place number : ℕ) → IsEarlier order place number → Contains order number
-earlier_contains order place number h = contains_at order h.0 number h.2
+earlier_contains order place number h = Contains-at order h.0 number h.2
 
 contains_earlier : (order : List ℕ) (number : ℕ) → Contains order number → IsEarlier order (length order) number
-contains_earlier order number h = let at = place_of order number h in (at.0, slice_get_within order at.0 number at.1, at.1)
+contains_earlier order number h = let at = place-from_Contains order number h in (at.0, slice_get_within order at.0 number at.1, at.1)
 
 earlier_push : (order : List ℕ) (x place number : ℕ) → IsEarlier order place number → IsEarlier (order ++ x ∷ []) place number
 earlier_push order x place number h = (h.0, h.1, push_left order x h.0 number h.2)
@@ -152,7 +142,7 @@ module _ (patterns : List (List (List Bool))) (atoms : List (Fact Term)) where
   none_is_order : IsOrder patterns atoms (replicate (length atoms) false) []
   none_is_order = record {
     over = length-replicate (length atoms) false;
-    names = λ number. (λ h. absurd (contains_none number h), λ h. absurd (none_has (length atoms) number h));
+    names = λ number. (λ h. absurd (Contains-nil number h), λ h. absurd (none_has (length atoms) number h));
     once = λ i j d l m. absurd (omega (arith, m));
     accessible = λ place number atom e. absurd (none-some number e);
   }
@@ -160,7 +150,7 @@ module _ (patterns : List (List (List Bool))) (atoms : List (Fact Term)) where
   -- a part that is stuck has each executable subset of the set
   pub stuck_has : (set part other : List Bool) → IsStuck patterns atoms set part → IsExecutable patterns atoms other → Within other set → Within other part
   stuck_has set part other stuck executable within number h =
-      let at = place_of order number ((is_order.names number).1 h) in each (suc at.0) at.0 (omega arith) number at.1
+      let at = place-from_Contains order number ((is_order.names number).1 h) in each (suc at.0) at.0 (omega arith) number at.1
     where
       order : List ℕ
       order = executable.0
@@ -171,7 +161,7 @@ module _ (patterns : List (List (List Bool))) (atoms : List (Fact Term)) where
       each : (bound place : ℕ) → place < bound → (at : ℕ) → slice_get executable.0 place ≡ Some at → Has part at
       each zero place l at e = absurd (omega (arith, l))
       each (suc bound) place l at e =
-          let there : Has other at = (is_order.names at).0 (contains_at executable.0 place at e) in
+          let there : Has other at = (is_order.names at).0 (Contains-at executable.0 place at e) in
           stuck at (subst (λ n. at < n) is_order.over (beyond other at there)) (within at there)
           (λ atom d. accessible_more (IsEarlier executable.0 place) (Has part) (λ earlier h. each bound h.0 (omega (arith, h.1, l)) earlier h.2) atom (is_order.accessible place at atom e d))
 
@@ -226,7 +216,7 @@ module _ (exact : (term other : Term) → (term_cmp term other ≡ Equal) ↔ (t
 
         gives : (number : ℕ) → number < length atoms → Decided (Gives number)
         gives number l =
-            let found = item_at atoms number l in
+            let found = thing_at atoms number l in
             decided_both (decided_has part number) (decided_as
             (λ h. (found.0, found.1, h), λ h. let e : h.0 ≡ found.0 = same_Some h.0 found.0 (sym h.1 ∙ found.1) in subst (λ atom. Contains atom.terms term) e h.2)
             (decided_contains (found.0).terms term))
@@ -242,7 +232,7 @@ module _ (exact : (term other : Term) → (term_cmp term other ≡ Equal) ↔ (t
 
         waits : (column : ℕ) → column < length atom.terms → Decided (Waits column)
         waits column l =
-            let found = item_at atom.terms column l in
+            let found = thing_at atom.terms column l in
             decided_both (decided_input pattern column) (decided_as
             (λ h. (found.0, found.1, h), λ h. let e : h.0 ≡ found.0 = same_Some h.0 found.0 (sym h.1 ∙ found.1) in subst (λ term. IsBound atoms (Has part) term → ⊥) e h.2)
             (decided_not (decided_bound part found.0)))
@@ -265,7 +255,7 @@ module _ (exact : (term other : Term) → (term_cmp term other ≡ Equal) ↔ (t
 
     decided_ready : (part : List Bool) (number : ℕ) → number < length atoms → Decided (IsReady patterns atoms (Has part) number)
     decided_ready part number l =
-        let found = item_at atoms number l in
+        let found = thing_at atoms number l in
         decided_as
         (λ h atom e. subst (IsAccessible patterns atoms (Has part)) (same_Some found.0 atom (sym found.1 ∙ e)) h, λ ready. ready found.0 found.1)
         (decided_accessible part found.0)
@@ -426,14 +416,14 @@ module _ (patterns : List (List (List Bool))) (atoms : List (Fact Term)) (set : 
 
     not_below : (number number' : ℕ) → slice_get order place ≡ Some number → slice_get other place ≡ Some number' → number < number' → ⊥
     not_below number number' e d below =
-        let has : Has set number = ((stated.is_order).names number).0 (contains_at order place number e) in
-        let found = item_at atoms number (subst (λ n. number < n) (stated.is_order).over (beyond set number has)) in
+        let has : Has set number = ((stated.is_order).names number).0 (Contains-at order place number e) in
+        let found = thing_at atoms number (subst (λ n. number < n) (stated.is_order).over (beyond set number has)) in
         not_earlier number e (stated'.least place number' d number found.0 below has found.1
         (accessible_more patterns atoms _ _ earlier_same found.0 ((stated.is_order).accessible place number found.0 e found.1)))
 
     not_ended : (number : ℕ) → slice_get order place ≡ Some number → slice_get other place ≡ None → ⊥
     not_ended number e d =
-        let at = place_of other number (((stated'.is_order).names number).1 (((stated.is_order).names number).0 (contains_at order place number e))) in
+        let at = place-from_Contains other number (((stated'.is_order).names number).1 (((stated.is_order).names number).0 (Contains-at order place number e))) in
         elim (cases_lt at.0 place) [
           | inl before ↦ not_earlier number e (at.0, before, at.1)
           | inr after ↦ beyond_end at.0 number at.1 after
@@ -441,7 +431,7 @@ module _ (patterns : List (List (List Bool))) (atoms : List (Fact Term)) (set : 
       where
         beyond_end : (at number : ℕ) → slice_get other at ≡ Some number → place ≤ at → ⊥
         beyond_end at number f after = let within = slice_get_within other at number f in
-            let found = item_at other place (omega (arith, within, after)) in none-some found.0 (sym d ∙ found.1)
+            let found = thing_at other place (omega (arith, within, after)) in none-some found.0 (sym d ∙ found.1)
 
   same_so_far : (order other : List ℕ) → IsStatedOrder patterns atoms set order → IsStatedOrder patterns atoms set other
       → (bound place : ℕ) → place < bound → slice_get order place ≡ slice_get other place
@@ -474,10 +464,10 @@ numbers_are_stated patterns atoms open_atoms set l = record {
     over = l;
     names = numbers_have set;
     once = λ i j d below inside e. let rise = numbers_rise 0 set i j d below inside in omega (arith, rise, e);
-    accessible = λ place number atom e d. let way = open_atoms atom (contains_at atoms number atom d) in (way.0, way.1, λ column term input at. absurd (way.2 column input));
+    accessible = λ place number atom e d. let way = open_atoms atom (Contains-at atoms number atom d) in (way.0, way.1, λ column term input at. absurd (way.2 column input));
   };
   least = λ place number e lesser atom below has there accessible.
-      let at = place_of (numbers set) lesser ((numbers_have set lesser).1 has) in (
+      let at = place-from_Contains (numbers set) lesser ((numbers_have set lesser).1 has) in (
         at.0,
         elim (cases_lt at.0 place) [
           | inl before ↦ before

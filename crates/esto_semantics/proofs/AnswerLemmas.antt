@@ -13,8 +13,8 @@ use Rattle.esto_semantics.specs.Views.{IsViewRow, IsFragmentAnswer}
 use Rattle.esto_semantics.specs.declared.fact.Fact.{Fact}
 use Rattle.esto_semantics.specs.declared.fact.Value.{Value}
 use Rattle.esto_semantics.specs.declared.fact.Value.TheVariants.{Text}
-use Rattle.esto_semantics.proofs.ContainsLemmas.{map_then}
 use Rattle.esto_semantics.proofs.FactLemmas.{SendsInto-then}
+use Rattle.esto_term.proofs.ListLemmas.{map_then}
 
 -- a map that takes what holds to what holds takes answers to answers
 pub IsAnswerInto-then : {V W : Type 0} (constant : List ℕ → V) (other_constant : List ℕ → W) (query : ConjunctiveQuery) (Holds : Fact V → Type 0) (Others : Fact W → Type 0) (next : V → W) (row : List V)

@@ -14,7 +14,7 @@ use Rattle.esto_semantics.specs.declared.answers.Binding.{Binding}
 use Rattle.esto_semantics.specs.declared.fact.Fact.{Fact}
 use Rattle.esto_semantics.specs.declared.fact.Value.{Value}
 use Rattle.esto_semantics.specs.declared.fact.Value.TheVariants.{Node}
-use Rattle.esto_semantics.proofs.ContainsLemmas.{Contains-at, Contains-nil, Contains-head, Contains-cases, Contains-map, Contains-map_from, map_agree, agree-from_map}
+use Rattle.esto_term.proofs.ListLemmas.{Contains-at, Contains-cases, Contains-head, Contains-map, Contains-map_from, Contains-nil, agree-from_map, map_agree}
 
 -- ---- one variable
 

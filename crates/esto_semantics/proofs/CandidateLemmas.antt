@@ -16,10 +16,10 @@ use Rattle.esto_semantics.specs.Rules.{Rule}
 use Rattle.esto_semantics.specs.Sets.{Has}
 use Rattle.esto_semantics.specs.Views.{IsFragmentAnswer}
 use Rattle.esto_semantics.specs.declared.fact.Fact.{Fact}
-use Rattle.esto_semantics.proofs.ContainsLemmas.{Contains-nil, Contains-at, Contains-map, Contains-map_from, map_itself}
 use Rattle.esto_semantics.proofs.FactLemmas.{image_itself, Mentions-among}
-use Rattle.esto_semantics.proofs.PlaceLemmas.{thing_at, Has-within, chosen-from_Has, Has-from_chosen, rank, chosen_at-rank, number_at, number_at-chosen}
+use Rattle.esto_semantics.proofs.PlaceLemmas.{Has-within, chosen-from_Has, Has-from_chosen, rank, chosen_at-rank, number_at, number_at-chosen}
 use Rattle.esto_semantics.proofs.ScheduleLemmas.{once_each, atom_in_order, IsOrder-moved}
+use Rattle.esto_term.proofs.ListLemmas.{Contains-at, Contains-map, Contains-map_from, Contains-nil, map_itself, thing_at}
 
 module _ (plan : ConjunctiveQuery) (set : List Bool) where
   pub chosen-among : (atom : Fact Term) → Contains (chosen set plan.body) atom → Contains plan.body atom

@@ -11,9 +11,9 @@ use Rattle.esto_semantics.specs.Queries.{ConjunctiveQuery, IsAnswer, IsAnswerInt
 use Rattle.esto_semantics.specs.Rules.{Rule, tuple, equality, denial, AreRules, Meets}
 use Rattle.esto_semantics.specs.declared.fact.Fact.{Fact}
 use Rattle.esto_semantics.specs.declared.fact.Value.{Value}
-use Rattle.esto_semantics.proofs.ContainsLemmas.{Contains-flat}
 use Rattle.esto_semantics.proofs.TermLemmas.{same_term, same_term-Decides, constant_text, constant_text-told, constant_text-Const}
 use Rattle.esto_semantics.proofs.RenamingLemmas.{Naming, RuleIsKept, value_of, thing_of, renamed, map-thing_of-value_of, answer_there, answer_back, fact_there, fact_back, meets_there}
+use Rattle.esto_term.proofs.ListLemmas.{Contains-flat}
 
 abbrev pub terms_naming : Naming Term
 terms_naming = record {

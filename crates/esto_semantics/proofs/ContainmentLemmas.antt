@@ -10,9 +10,9 @@ use Rattle.esto_semantics.specs.Views.{IsViewRow}
 use Rattle.esto_semantics.specs.declared.fact.Fact.{Fact}
 use Rattle.esto_semantics.specs.declared.fact.Value.{Value}
 use Rattle.esto_semantics.specs.declared.fact.Value.TheVariants.{Text}
-use Rattle.esto_semantics.proofs.ContainsLemmas.{Contains-nil, map_then, map_itself}
 use Rattle.esto_semantics.proofs.FactLemmas.{Sends-then, Sends-itself}
 use Rattle.esto_semantics.proofs.CanonicalLemmas.{canonical_value, canonical_database, canonical_database-Meets, answer-from_map, map-from_answer}
+use Rattle.esto_term.proofs.ListLemmas.{Contains-nil, map_itself, map_then}
 
 -- ---- universal instances
 

@@ -16,11 +16,10 @@ use Rattle.esto_semantics.specs.declared.fact.Value.{Value}
 use Rattle.esto_semantics.specs.declared.fact.Value.TheVariants.{Text}
 use Rattle.esto_semantics.proofs.CanonicalLemmas.{terms_of, Mentions-terms_of}
 use Rattle.esto_semantics.proofs.ContainmentLemmas.{universal_instances_decide}
-use Rattle.esto_semantics.proofs.ContainsLemmas.{Contains-at, Contains-map, Contains-flat_from, map_agree, agree-from_map, map_then}
 use Rattle.esto_semantics.proofs.FactLemmas.{image_agree, image_then}
 use Rattle.esto_semantics.proofs.JoinLemmas.{Contains-decided, joined, joined-spread, joined-given}
-use Rattle.esto_semantics.proofs.PlaceLemmas.{place-from_Contains, thing_at}
 use Rattle.esto_semantics.proofs.TermLemmas.{Const-apart-Plain, constant_text, constant_text-told, constant_text-Const}
+use Rattle.esto_term.proofs.ListLemmas.{Contains-at, Contains-flat_from, Contains-map, agree-from_map, map_agree, map_then, place-from_Contains, thing_at}
 
 module _ (views : List ConjunctiveQuery) (query : ConjunctiveQuery) (expansion : List (Fact Term)) (is_expansion : IsExpansion views query expansion) where
   abbrev view : ℕ → ConjunctiveQuery

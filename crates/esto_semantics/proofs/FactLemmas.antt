@@ -4,7 +4,7 @@ use Rattle.std.proofs.lemmas.List.Elements.{Contains-append_cases}
 use Rattle.esto_semantics.specs.Facts.{image, Mentions}
 use Rattle.esto_semantics.specs.Maps.{SendsInto, Sends}
 use Rattle.esto_semantics.specs.declared.fact.Fact.{Fact}
-use Rattle.esto_semantics.proofs.ContainsLemmas.{Contains-map, Contains-map_from, map_agree, map_then, map_itself}
+use Rattle.esto_term.proofs.ListLemmas.{Contains-map, Contains-map_from, map_agree, map_itself, map_then}
 
 -- ---- the image of a fact
 

@@ -1,4 +1,3 @@
-pub mod ContainsLemmas
 pub mod FactLemmas
 pub mod TermLemmas
 pub mod RenamingLemmas
@@ -17,7 +16,6 @@ pub mod RewritingLemmas
 pub mod WeightLemmas
 pub mod PartLemmas
 pub mod SpreadLemmas
-pub mod ChoiceLemmas
 pub mod SetLemmas
 pub mod AccessLemmas
 pub mod ListedLemmas

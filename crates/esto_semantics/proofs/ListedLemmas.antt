@@ -1,5 +1,5 @@
 -- Listed sets, weights and the pick.
-use Rattle.std.proofs.Common.{◌≡◌, ◌≢◌, ℕ, zero, suc, ◌+◌, ◌<◌, ◌≤◌, Bool, true, false, cond, List, [], ◌∷◌, length, get_or, map, Some, slice_get, slice_index_or, sum, filter, refl, sym, ap, ◌∙◌, subst, arith, inl, inr}
+use Rattle.std.proofs.Common.{◌≡◌, ◌≢◌, ℕ, zero, suc, ◌+◌, ◌<◌, ◌≤◌, Bool, true, false, List, [], ◌∷◌, length, get_or, map, Some, slice_get, slice_index_or, sum, refl, sym, ap, ◌∙◌, subst, arith, inl, inr}
 use Rattle.std.specs.Prelude.{◌⊎◌, ◌↔◌, Contains, AllPairs}
 use Rattle.std.specs.List.{AllZip, sum_by}
 use Rattle.std.specs.declared.cmp.Ordering.TheVariants.{Equal}
@@ -14,40 +14,16 @@ use Rattle.esto_semantics.specs.Rules.{Rule}
 use Rattle.esto_semantics.specs.Sets.{Has, Within, IsMinimal, AreMinimal, HaveOneCount, AreInOrder, all_sets}
 use Rattle.esto_semantics.specs.Listed.{chosen, IsRewriting, IsListed, AreListed, IsWeight}
 use Rattle.esto_semantics.specs.ListedLaws.{AreRewritings, TestedAreRewritings, ListedAreMinimal, ListedExist, ListedIsOne, ListedCover, NoneIsListed, ChosenAreNamed, WeightExists, WeightRises, WeightIsOne, WeightIsSum, PickExists, PickIsOne, PickWeighsLeast}
-use Rattle.esto_semantics.proofs.ChoiceLemmas.{Decided, decided_below, contains_none, contains_head, contains_tail, contains_split, pairs_head, pairs_tail, pairs_cons}
 use Rattle.esto_semantics.proofs.SetLemmas.{in_order_once, order_is_one, minimal_within, minimal_exist, all_sets_are_listed}
-use Rattle.esto_semantics.proofs.AccessLemmas.{decided_same, contains_at, place_of}
-
--- ---- what passes a test
-
-pub contains_filter : {A : Type 0} (test : A → Bool) (xs : List A) (z : A) → Contains (filter test xs) z ↔ (Contains xs z × (test z ≡ true))
-contains_filter test [] z = (λ h. absurd (contains_none z h), λ h. h.0)
-contains_filter {A} test (x ∷ xs) z = go (contains_filter test xs z) (test x) refl
-  where
-    go : (Contains (filter test xs) z ↔ (Contains xs z × (test z ≡ true))) → (passes : Bool) → test x ≡ passes → Contains (cond passes (x ∷ filter test xs) (filter test xs)) z ↔ (Contains (x ∷ xs) z × (test z ≡ true))
-    go rest true e = (
-      λ h. elim (contains_split x (filter test xs) z h) [
-        | inl same ↦ (subst (Contains (x ∷ xs)) same (contains_head x xs), ap test (sym same) ∙ e)
-        | inr later ↦ (contains_tail x xs z (rest.0 later).0, (rest.0 later).1)
-      ],
-      λ h. elim (contains_split x xs z h.0) [
-        | inl same ↦ subst (Contains (x ∷ filter test xs)) same (contains_head x (filter test xs))
-        | inr later ↦ contains_tail x (filter test xs) z (rest.1 (later, h.1))
-      ],
-    )
-    go rest false e = (
-      λ h. (contains_tail x xs z (rest.0 h).0, (rest.0 h).1),
-      λ h. elim (contains_split x xs z h.0) [
-        | inl same ↦ absurd (false≢true (sym e ∙ ap test same ∙ h.1))
-        | inr later ↦ rest.1 (later, h.1)
-      ],
-    )
+use Rattle.esto_semantics.proofs.AccessLemmas.{decided_same}
+use Rattle.esto_term.proofs.ChoiceLemmas.{Decided, decided_below, pairs_cons, pairs_head, pairs_tail}
+use Rattle.esto_term.proofs.ListLemmas.{Contains-at, Contains-cases, Contains-head, Contains-nil, Contains-rest, place-from_Contains, Contains-filter, Contains-filter_from}
 
 pub tested_are_rewritings : TestedAreRewritings
 tested_are_rewritings rules views patterns query plan test tells set = (
-  λ h. let both = (contains_filter test (all_sets (length plan.body)) set).0 h in (tells set (((all_sets_are_listed (length plan.body)).0 set).0 both.0)).0 both.1,
+  λ h. let both = Contains-filter_from test (all_sets (length plan.body)) set h in (tells set (((all_sets_are_listed (length plan.body)).0 set).0 both.0)).0 both.1,
   λ rewriting. let l = rewriting.has_candidate.over in
-      (contains_filter test (all_sets (length plan.body)) set).1 (((all_sets_are_listed (length plan.body)).0 set).1 l, (tells set l).1 rewriting),
+      Contains-filter test (all_sets (length plan.body)) set (((all_sets_are_listed (length plan.body)).0 set).1 l) ((tells set l).1 rewriting),
 )
 
 -- ---- the list
@@ -101,28 +77,28 @@ listed_is_one rules views patterns query plan sets others listed listed' =
 pub none_is_listed : NoneIsListed
 none_is_listed rules views patterns query plan family sets exact listed = (
   λ e set rewriting. let found = listed_cover rules views patterns query plan family exact set rewriting in
-      contains_none found.0 (subst (λ zs. Contains zs found.0) e ((listed.exact found.0).1 found.1)),
+      Contains-nil found.0 (subst (λ zs. Contains zs found.0) e ((listed.exact found.0).1 found.1)),
   λ none. go sets (λ set h. none set ((listed.exact set).0 h).0),
 )
   where
     go : (zs : List (List Bool)) → ((set : List Bool) → Contains zs set → ⊥) → zs ≡ []
     go [] none = refl
-    go (z ∷ zs) none = absurd (none z (contains_head z zs))
+    go (z ∷ zs) none = absurd (none z (Contains-head z zs))
 
 -- ---- chosen atoms
 
 pub chosen_there : (set : List Bool) (atoms : List (Fact Term)) (atom : Fact Term) (number : ℕ) → Has set number → slice_get atoms number ≡ Some atom → Contains (chosen set atoms) atom
 chosen_there [] atoms atom number h e = absurd (false≢true h)
 chosen_there (is_in ∷ set) [] atom number h e = absurd (none-some atom e)
-chosen_there (true ∷ set) (first ∷ atoms) atom zero h e = subst (Contains (first ∷ chosen set atoms)) (same_Some first atom e) (contains_head first (chosen set atoms))
+chosen_there (true ∷ set) (first ∷ atoms) atom zero h e = subst (Contains (first ∷ chosen set atoms)) (same_Some first atom e) (Contains-head first (chosen set atoms))
 chosen_there (false ∷ set) (first ∷ atoms) atom zero h e = absurd (false≢true h)
-chosen_there (true ∷ set) (first ∷ atoms) atom (suc number) h e = contains_tail first (chosen set atoms) atom (chosen_there set atoms atom number h e)
+chosen_there (true ∷ set) (first ∷ atoms) atom (suc number) h e = Contains-rest first (chosen set atoms) atom (chosen_there set atoms atom number h e)
 chosen_there (false ∷ set) (first ∷ atoms) atom (suc number) h e = chosen_there set atoms atom number h e
 
 pub chosen_back : (set : List Bool) (atoms : List (Fact Term)) (atom : Fact Term) → Contains (chosen set atoms) atom → (number : ℕ) × Has set number × (slice_get atoms number ≡ Some atom)
-chosen_back [] atoms atom h = absurd (contains_none atom h)
-chosen_back (is_in ∷ set) [] atom h = absurd (contains_none atom h)
-chosen_back (true ∷ set) (first ∷ atoms) atom h = go (contains_split first (chosen set atoms) atom h) (chosen_back set atoms atom)
+chosen_back [] atoms atom h = absurd (Contains-nil atom h)
+chosen_back (is_in ∷ set) [] atom h = absurd (Contains-nil atom h)
+chosen_back (true ∷ set) (first ∷ atoms) atom h = go (Contains-cases first (chosen set atoms) atom h) (chosen_back set atoms atom)
   where
     go : (first ≡ atom) ⊎ Contains (chosen set atoms) atom → (Contains (chosen set atoms) atom → (number : ℕ) × Has set number × (slice_get atoms number ≡ Some atom))
         → (number : ℕ) × Has (true ∷ set) number × (slice_get (first ∷ atoms) number ≡ Some atom)
@@ -140,7 +116,7 @@ chosen_once : (set : List Bool) (atoms : List (Fact Term)) → AllPairs ◌≢�
 chosen_once [] atoms once = λ i j d l m. absurd (omega (arith, m))
 chosen_once (is_in ∷ set) [] once = λ i j d l m. absurd (omega (arith, m))
 chosen_once (true ∷ set) (first ∷ atoms) once =
-    pairs_cons ◌≢◌ first (chosen set atoms) (λ atom h. let back = chosen_back set atoms atom h in pairs_head ◌≢◌ first atoms once atom (contains_at atoms back.0 atom back.2))
+    pairs_cons ◌≢◌ first (chosen set atoms) (λ atom h. let back = chosen_back set atoms atom h in pairs_head ◌≢◌ first atoms once atom (Contains-at atoms back.0 atom back.2))
     (chosen_once set atoms (pairs_tail ◌≢◌ first atoms once))
 chosen_once (false ∷ set) (first ∷ atoms) once = chosen_once set atoms (pairs_tail ◌≢◌ first atoms once)
 
@@ -149,24 +125,24 @@ chosen_once (false ∷ set) (first ∷ atoms) once = chosen_once set atoms (pair
 module _ {A : Type 0} (f : A → ℕ) where
   -- one item taken out of a list
   taken_out : (ys : List A) (x : A) → Contains ys x → (rest : List A) × (sum_by f ys ≡ f x + sum_by f rest) × ((z : A) → Contains ys z → (x ≡ z → ⊥) → Contains rest z)
-  taken_out [] x h = absurd (contains_none x h)
-  taken_out (y ∷ ys) x h = go (contains_split y ys x h) (taken_out ys x)
+  taken_out [] x h = absurd (Contains-nil x h)
+  taken_out (y ∷ ys) x h = go (Contains-cases y ys x h) (taken_out ys x)
     where
       go : (y ≡ x) ⊎ Contains ys x → (Contains ys x → (rest : List A) × (sum_by f ys ≡ f x + sum_by f rest) × ((z : A) → Contains ys z → (x ≡ z → ⊥) → Contains rest z))
           → (rest : List A) × (sum_by f (y ∷ ys) ≡ f x + sum_by f rest) × ((z : A) → Contains (y ∷ ys) z → (x ≡ z → ⊥) → Contains rest z)
-      go (inl e) more = (ys, sum_by-cons f y ys ∙ ap (λ z. f z + sum_by f ys) e, λ z there apart. elim (contains_split y ys z there) [ inl d ↦ absurd (apart (sym e ∙ d)) | inr later ↦ later ])
+      go (inl e) more = (ys, sum_by-cons f y ys ∙ ap (λ z. f z + sum_by f ys) e, λ z there apart. elim (Contains-cases y ys z there) [ inl d ↦ absurd (apart (sym e ∙ d)) | inr later ↦ later ])
       go (inr later) more =
           let out = more later in (
             y ∷ out.0,
             omega (arith, sum_by-cons f y ys, sum_by-cons f y out.0, out.1),
-            λ z there apart. elim (contains_split y ys z there) [ inl d ↦ subst (Contains (y ∷ out.0)) d (contains_head y out.0) | inr after ↦ contains_tail y out.0 z (out.2 z after apart) ],
+            λ z there apart. elim (Contains-cases y ys z there) [ inl d ↦ subst (Contains (y ∷ out.0)) d (Contains-head y out.0) | inr after ↦ Contains-rest y out.0 z (out.2 z after apart) ],
           )
 
   pub sum_among : (xs ys : List A) → AllPairs ◌≢◌ xs → ((z : A) → Contains xs z → Contains ys z) → sum_by f xs ≤ sum_by f ys
   sum_among [] ys once among = omega arith
   sum_among (x ∷ xs) ys once among =
-      let out = taken_out ys x (among x (contains_head x xs)) in
-      let rest = sum_among xs out.0 (pairs_tail ◌≢◌ x xs once) (λ z h. out.2 z (among z (contains_tail x xs z h)) (pairs_head ◌≢◌ x xs once z h)) in
+      let out = taken_out ys x (among x (Contains-head x xs)) in
+      let rest = sum_among xs out.0 (pairs_tail ◌≢◌ x xs once) (λ z h. out.2 z (among z (Contains-rest x xs z h)) (pairs_head ◌≢◌ x xs once z h)) in
       omega (arith, sum_by-cons f x xs, out.1, rest)
 
 -- the items of a list, each once
@@ -182,16 +158,16 @@ distinct_of {A} same (x ∷ xs) = go (distinct_of same xs)
           rest.0,
           rest.1,
           λ z. (
-            λ h. contains_tail x xs z ((rest.2 z).0 h),
-            λ h. elim (contains_split x xs z h) [ inl e ↦ subst (Contains rest.0) e there | inr later ↦ (rest.2 z).1 later ],
+            λ h. Contains-rest x xs z ((rest.2 z).0 h),
+            λ h. elim (Contains-cases x xs z h) [ inl e ↦ subst (Contains rest.0) e there | inr later ↦ (rest.2 z).1 later ],
           ),
         )
         at (inr absent) = (
           x ∷ rest.0,
           pairs_cons ◌≢◌ x rest.0 (λ z h e. absent (subst (Contains rest.0) (sym e) h)) rest.1,
           λ z. (
-            λ h. elim (contains_split x rest.0 z h) [ inl e ↦ subst (Contains (x ∷ xs)) e (contains_head x xs) | inr later ↦ contains_tail x xs z ((rest.2 z).0 later) ],
-            λ h. elim (contains_split x xs z h) [ inl e ↦ subst (Contains (x ∷ rest.0)) e (contains_head x rest.0) | inr later ↦ contains_tail x rest.0 z ((rest.2 z).1 later) ],
+            λ h. elim (Contains-cases x rest.0 z h) [ inl e ↦ subst (Contains (x ∷ xs)) e (Contains-head x xs) | inr later ↦ Contains-rest x xs z ((rest.2 z).0 later) ],
+            λ h. elim (Contains-cases x xs z h) [ inl e ↦ subst (Contains (x ∷ rest.0)) e (Contains-head x rest.0) | inr later ↦ Contains-rest x rest.0 z ((rest.2 z).1 later) ],
           ),
         )
 
@@ -319,7 +295,7 @@ zip_at R (a ∷ xs) (b ∷ ys) all (suc place) x d e = let rest = zip_at R xs ys
 pub pick_weighs_least : PickWeighsLeast
 pick_weighs_least rules views patterns query plan family sets weights totals exact listed zip place pick set weight rewriting is_weight =
     let found = listed_cover rules views patterns query plan family exact set rewriting in
-    let at = place_of sets found.0 ((listed.exact found.0).1 found.1) in
+    let at = place-from_Contains sets found.0 ((listed.exact found.0).1 found.1) in
     let total = zip_at (λ set total. IsWeight weights (chosen set plan.body) total) sets totals zip at.0 found.0 0 at.1 in
     let below = weight_rises weights (chosen found.0 plan.body) (chosen set plan.body) (get_or totals at.0 0) weight (chosen_within found.0 set plan.body found.2) total.1 is_weight in
     let least = pick.least at.0 total.0 in

@@ -10,7 +10,8 @@ use Rattle.esto_semantics.specs.Sets.{Has}
 use Rattle.esto_semantics.specs.declared.fact.Fact.{Fact}
 use Rattle.esto_semantics.proofs.CandidateLemmas.{chosen-among}
 use Rattle.esto_semantics.proofs.FactLemmas.{Mentions-among}
-use Rattle.esto_semantics.proofs.PlaceLemmas.{thing_at, Has-within, rank, chosen_at-rank, number_at, number_at-rank, number_at-chosen}
+use Rattle.esto_semantics.proofs.PlaceLemmas.{Has-within, rank, chosen_at-rank, number_at, number_at-rank, number_at-chosen}
+use Rattle.esto_term.proofs.ListLemmas.{thing_at}
 
 module _ (views : List ConjunctiveQuery) (plan : ConjunctiveQuery) (expansion : List (Fact Term)) (is_expansion : IsExpansion views plan expansion)
     (set : List Bool) (over : length set ≡ length plan.body) (facts : List (Fact Term)) (is_part : IsPartOf is_expansion set facts) where

@@ -1,33 +1,10 @@
 -- Places of lists, sets of numbers, and the atoms that a set chooses.
-use Rattle.std.proofs.Common.{◌≡◌, ◌↔◌, inl, inr, zero, suc, ℕ, ◌<◌, Bool, true, false, List, [], ◌∷◌, map, length, slice_get, Contains, Some, refl, ap, ◌∙◌, subst, arith}
-use Rattle.std.proofs.lemmas.Option.{slice_get-get_or, slice_get_cases}
+use Rattle.std.proofs.Common.{◌≡◌, ◌↔◌, inl, inr, zero, suc, ℕ, ◌<◌, Bool, true, false, List, [], ◌∷◌, length, slice_get, Contains, Some, refl, ap, subst, arith}
 use Rattle.esto_term.specs.declared.term.Term.{Term}
 use Rattle.esto_semantics.specs.Listed.{chosen}
 use Rattle.esto_semantics.specs.Sets.{Has}
 use Rattle.esto_semantics.specs.declared.fact.Fact.{Fact}
-use Rattle.esto_semantics.proofs.ContainsLemmas.{Contains-nil, Contains-head, Contains-rest, Contains-cases}
-
--- ---- places
-
-pub place-from_Contains : {X : Type 0} (things : List X) (thing : X) → Contains things thing → (place : ℕ) × (slice_get things place ≡ Some thing)
-place-from_Contains things thing (place, within, is) = (place, slice_get-get_or things place thing within ∙ ap Some is)
-
-pub thing_at : {X : Type 0} (things : List X) (place : ℕ) → place < length things → (thing : X) × (slice_get things place ≡ Some thing)
-thing_at things place within = elim (slice_get_cases things place).1 [
-  | inl (thing, inside, found, is) ↦ (thing, found)
-  | inr (past, none) ↦ absurd (omega arith)
-]
-
-module _ {X Y : Type 0} (m : X → Y) where
-  pub map_at : (things : List X) (place : ℕ) (thing : X) → slice_get things place ≡ Some thing → slice_get (map m things) place ≡ Some (m thing)
-  map_at [] place thing at = absurd (cc)
-  map_at (first ∷ rest) zero thing at = let is : first ≡ thing = cc in ap (λ it. Some (m it)) is
-  map_at (first ∷ rest) (suc place) thing at = map_at rest place thing at
-
-  pub map_at-from : (things : List X) (place : ℕ) (other : Y) → slice_get (map m things) place ≡ Some other → (thing : X) × (slice_get things place ≡ Some thing) × (m thing ≡ other)
-  map_at-from [] place other at = absurd (cc)
-  map_at-from (first ∷ rest) zero other at = (first, refl, cc)
-  map_at-from (first ∷ rest) (suc place) other at = map_at-from rest place other at
+use Rattle.esto_term.proofs.ListLemmas.{Contains-cases, Contains-head, Contains-nil, Contains-rest}
 
 -- ---- sets of numbers
 

@@ -15,9 +15,9 @@ use Rattle.esto_semantics.specs.declared.fact.Value.{Value}
 use Rattle.esto_semantics.specs.declared.fact.Value.TheVariants.{Text}
 use Rattle.esto_semantics.proofs.AnswerLemmas.{IsAnswerInto-then, IsViewRow-sent}
 use Rattle.esto_semantics.proofs.CanonicalLemmas.{terms_naming, terms_of, query_terms, canonical_value, canonical_term, canonical_database, Mentions-terms_of, canonical_database-Meets, answer-from_map}
-use Rattle.esto_semantics.proofs.ContainsLemmas.{map_then, map_agree, map_itself}
 use Rattle.esto_semantics.proofs.FactLemmas.{image_agree, image_then, image_itself}
 use Rattle.esto_semantics.proofs.RenamingLemmas.{answer_back, fact_back, map-thing_of-value_of}
+use Rattle.esto_term.proofs.ListLemmas.{map_agree, map_itself, map_then}
 
 -- ---- over the canonical database
 

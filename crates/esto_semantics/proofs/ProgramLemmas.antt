@@ -1,43 +1,17 @@
 -- The plain programs: a turn of each of their loops.
 use Rattle.std.proofs.Common.{◌≡◌, ◌≢◌, ℕ, zero, suc, ◌+◌, ◌<◌, ◌≤◌, Bool, true, false, List, [], ◌∷◌, ◌++◌, length, get_or, replicate, Some, slice_get, slice_set, refl, sym, ap, ◌∙◌, subst, arith, add-one, inl, inr}
 use Rattle.std.specs.Prelude.{Contains, AllPairs}
-use Rattle.std.proofs.lemmas.Bool.{cases_order}
-use Rattle.std.proofs.lemmas.Option.{same_Some, slice_get_within, slice_get-get_or, get_or_from_slice_get}
+use Rattle.std.proofs.lemmas.Option.{same_Some, slice_get_within, slice_get-get_or}
 use Rattle.std.proofs.lemmas.List.Elements.{Contains-get_or, Contains-push, Contains-push_cases, Contains-append_left}
 use Rattle.std.proofs.lemmas.List.Quantifiers.{all_pairs_push}
-use Rattle.esto_semantics.proofs.AccessLemmas.{place_of, contains_at, item_at, missing, missing-set, has_set, none_has, order_grows, stuck_has, none_is_executable}
+use Rattle.esto_semantics.proofs.AccessLemmas.{missing, missing-set, has_set, none_has, order_grows, stuck_has, none_is_executable}
 use Rattle.esto_semantics.proofs.SetLemmas.{within_refl, within_same}
 use Rattle.esto_term.specs.declared.term.Term.{Term}
 use Rattle.esto_semantics.specs.declared.fact.Fact.{Fact}
 use Rattle.esto_semantics.specs.Access.{IsAccessible, IsExecutable, IsAccessiblePart}
 use Rattle.esto_semantics.specs.AccessSteps.{IsNext, IsStuck}
 use Rattle.esto_semantics.specs.Sets.{Has, Within, IsMinimal, AreMinimal, HaveOneCount, HasNoSmaller, Covers}
-
--- what holds of the first few items, at their places, holds of one more, and at the end of all
-module _ {A : Type 0} (P : ℕ → A → Type 0) (xs : List A) where
-  abbrev pub HoldsBelow : ℕ → Type 0
-  HoldsBelow count = (place : ℕ) (x : A) → place < count → slice_get xs place ≡ Some x → P place x
-
-  pub holds_more : (count : ℕ) (x : A) → count < length xs → x ≡ get_or xs count x → HoldsBelow count → P count x → HoldsBelow (count + 1)
-  holds_more count x l e before now place y m d = elim (cases_order place count) [
-    | inl same ↦ subst (λ n. P n y) (sym same) (subst (P count) (e ∙ get_or_from_slice_get xs count y x (ap (slice_get xs) (sym same) ∙ d)) now)
-    | inr apart ↦ elim apart [ inl below ↦ before place y below d | inr above ↦ absurd (omega (arith, above, m)) ]
-  ]
-
-  pub holds_all : (count : ℕ) → length xs ≤ count → HoldsBelow count → (place : ℕ) (x : A) → slice_get xs place ≡ Some x → P place x
-  holds_all count l below place x e = below place x (omega (arith, slice_get_within xs place x e, l)) e
-
-  -- the same, where a loop goes over a list that is this one
-  pub holds_more_in : (ys : List A) → ys ≡ xs → (count : ℕ) (x : A) → count < length ys → x ≡ get_or ys count x → HoldsBelow count → P count x → HoldsBelow (count + 1)
-  holds_more_in ys same count x l e = holds_more count x (subst (λ zs. count < length zs) same l) (subst (λ zs. x ≡ get_or zs count x) same e)
-
-  pub holds_all_in : (ys : List A) → ys ≡ xs → (count : ℕ) → length ys ≤ count → HoldsBelow count → (place : ℕ) (x : A) → slice_get xs place ≡ Some x → P place x
-  holds_all_in ys same count l = holds_all count (subst (λ zs. length zs ≤ count) same l)
-
--- where the first few items of a list have a property not, and these are all, none has it
-pub none_holds : {A : Type 0} (P : A → Type 0) (xs ys : List A) → ys ≡ xs → (count : ℕ) → length ys ≤ count → HoldsBelow (λ _ x. P x → ⊥) ys count → (x : A) → Contains xs x → P x → ⊥
-none_holds P xs ys same count l none x there =
-    let at = place_of ys x (subst (λ zs. Contains zs x) (sym same) there) in holds_all (λ _ x. P x → ⊥) ys count l none at.0 x at.1
+use Rattle.esto_term.proofs.ListLemmas.{Contains-at, HoldsBelow, holds_all, holds_more, place-from_Contains, thing_at}
 
 -- ---- the minimal sets of a family
 
@@ -50,7 +24,7 @@ pub record AreMinimalSoFar (family : List (List Bool)) (count : ℕ) (minimal : 
 module _ (family : List (List Bool)) (one : HaveOneCount family) (count : ℕ) (minimal : List (List Bool)) (set : List Bool) (l : count < length family) (e : set ≡ get_or family count set)
     (so_far : AreMinimalSoFar family count minimal) where
   there : Contains family set
-  there = contains_at family count set (slice_get-get_or family count set l ∙ ap Some (sym e))
+  there = Contains-at family count set (slice_get-get_or family count set l ∙ ap Some (sym e))
 
   pub takes_minimal : HasNoSmaller family set → (Covers minimal set → ⊥) → AreMinimalSoFar family (count + 1) (minimal ++ set ∷ [])
   takes_minimal no_smaller uncovered = record {
@@ -82,7 +56,7 @@ module _ (family : List (List Bool)) (one : HaveOneCount family) (count : ℕ) (
 
 pub are_minimal : (family : List (List Bool)) (count : ℕ) (minimal : List (List Bool)) → length family ≤ count → AreMinimalSoFar family count minimal → AreMinimal family minimal
 are_minimal family count minimal l so_far = record {
-  exact = λ set. (so_far.sound set, λ is_minimal. let at = place_of family set is_minimal.0 in holds_all (λ _ other. IsMinimal (Contains family) other → Contains minimal other) family count l so_far.complete at.0 set at.1 is_minimal);
+  exact = λ set. (so_far.sound set, λ is_minimal. let at = place-from_Contains family set is_minimal.0 in holds_all (λ _ other. IsMinimal (Contains family) other → Contains minimal other) family count l so_far.complete at.0 set at.1 is_minimal);
   once = so_far.once;
 }
 
@@ -90,7 +64,7 @@ are_minimal family count minimal l so_far = record {
 
 pub stuck_at_end : (patterns : List (List (List Bool))) (atoms : List (Fact Term)) (set part : List Bool)
     → ((number : ℕ) (atom : Fact Term) → slice_get atoms number ≡ Some atom → Has set number → IsAccessible patterns atoms (Has part) atom → Has part number) → IsStuck patterns atoms set part
-stuck_at_end patterns atoms set part all number l has ready = let found = item_at atoms number l in all number found.0 found.1 has (ready found.0 found.1)
+stuck_at_end patterns atoms set part all number l has ready = let found = thing_at atoms number l in all number found.0 found.1 has (ready found.0 found.1)
 
 pub next_found : (patterns : List (List (List Bool))) (atoms items : List (Fact Term)) (set part : List Bool) (number : ℕ) (atom : Fact Term) → items ≡ atoms → number < length items → atom ≡ get_or items number atom
     → Has set number → (Has part number → ⊥) → IsAccessible patterns atoms (Has part) atom → IsNext patterns atoms set part number

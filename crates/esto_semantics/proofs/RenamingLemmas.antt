@@ -11,9 +11,9 @@ use Rattle.esto_semantics.specs.Rules.{Rule, tuple, equality, denial, IsRule, Me
 use Rattle.esto_semantics.specs.declared.fact.Fact.{Fact}
 use Rattle.esto_semantics.specs.declared.fact.Value.{Value}
 use Rattle.esto_semantics.specs.declared.fact.Value.TheVariants.{Text, Node}
-use Rattle.esto_semantics.proofs.ContainsLemmas.{Contains-nil, Contains-cases, Contains-map_from, map_then, map_agree, map_itself}
 use Rattle.esto_semantics.proofs.FactLemmas.{image_agree, image_then, image_itself, SendsInto-then, SendsInto-agree, Sends-then, Sends-images, Mentions-images, Mentions-sent}
 use Rattle.esto_semantics.proofs.TermLemmas.{mended, mended-Keeps, mended-same}
+use Rattle.esto_term.proofs.ListLemmas.{Contains-cases, Contains-map_from, Contains-nil, map_agree, map_itself, map_then}
 
 -- How things have texts: what a text stands for, which text a thing is named by, and a test of equality.
 pub record Naming (V : Type 0) : Type 0 where

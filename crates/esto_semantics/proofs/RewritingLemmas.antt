@@ -18,10 +18,10 @@ use Rattle.esto_semantics.specs.Sets.{Has}
 use Rattle.esto_semantics.specs.declared.fact.Fact.{Fact}
 use Rattle.esto_semantics.proofs.AnswerLemmas.{contained-in_mapped}
 use Rattle.esto_semantics.proofs.CandidateLemmas.{candidate-equivalent}
-use Rattle.esto_semantics.proofs.ContainsLemmas.{Contains-at, Contains-map, Contains-map_from}
 use Rattle.esto_semantics.proofs.FactLemmas.{Mentions-sent}
-use Rattle.esto_semantics.proofs.PlaceLemmas.{place-from_Contains, passing, length-passing, passing-Has, chosen-from_Has, Has-from_chosen}
+use Rattle.esto_semantics.proofs.PlaceLemmas.{passing, length-passing, passing-Has, chosen-from_Has, Has-from_chosen}
 use Rattle.esto_semantics.proofs.ScheduleLemmas.{has_number, has_number-Decides, once_each, atom_in_order, IsOrder-moved}
+use Rattle.esto_term.proofs.ListLemmas.{Contains-at, Contains-map, Contains-map_from, place-from_Contains}
 
 module _ (patterns : List (List (List Bool))) (other plan : ConjunctiveQuery) (m : Term → Term) (keeps : Keeps Const m) (sends : Sends m other.body plan.body) where
   -- a place of the plan's atoms at which the image of the atom of a number stands

@@ -13,8 +13,8 @@ use Rattle.esto_semantics.specs.Facts.{image}
 use Rattle.esto_semantics.specs.Maps.{Keeps}
 use Rattle.esto_semantics.specs.Sets.{Has}
 use Rattle.esto_semantics.specs.declared.fact.Fact.{Fact}
-use Rattle.esto_semantics.proofs.ContainsLemmas.{Contains-nil, Contains-head, Contains-rest, Contains-cases, Contains-at, Contains-map}
-use Rattle.esto_semantics.proofs.PlaceLemmas.{thing_at, map_at, map_at-from, Has-within}
+use Rattle.esto_semantics.proofs.PlaceLemmas.{Has-within}
+use Rattle.esto_term.proofs.ListLemmas.{Contains-at, Contains-cases, Contains-head, Contains-map, Contains-nil, Contains-rest, map_at, map_at-from, thing_at}
 
 -- ---- whether a list has a number
 

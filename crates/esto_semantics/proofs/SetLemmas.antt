@@ -12,7 +12,8 @@ use Rattle.std.proofs.lemmas.List.Elements.{Contains-append_left, Contains-appen
 use Rattle.std.proofs.lemmas.Map.Lookups.{exact_bytes}
 use Rattle.esto_semantics.specs.Sets.{Has, Within, numbers_from, numbers, set_cmp, IsMinimal, united, HaveOneCount, AreInOrder, all_sets}
 use Rattle.esto_semantics.specs.SetLaws.{EqualIsSame, NumbersTellSets, WithinBothWays, OrderIsOne, AllSetsAreListed, MinimalAreApart, MinimalCover, MinimalExist, MinimalAreOne}
-use Rattle.esto_semantics.proofs.ChoiceLemmas.{Decided, decided_both, decided_not, decided_below, contains_none, contains_head, contains_tail, contains_split, contains_map, map_contains, kept, pairs_append, pairs_map, pairs_cons, not_less_itself, one_list, in_order}
+use Rattle.esto_term.proofs.ChoiceLemmas.{Decided, decided_below, decided_both, decided_not, in_order, kept, not_less_itself, one_list, pairs_append, pairs_cons, pairs_map}
+use Rattle.esto_term.proofs.ListLemmas.{Contains-cases, Contains-head, Contains-map, Contains-map_from, Contains-nil, Contains-rest}
 
 -- ---- numbers of a set
 
@@ -61,18 +62,18 @@ numbers_tell set other e same = within_same set other e (λ k. (same k).0) (λ k
 
 pub number_there : (from : ℕ) (set : List Bool) (k : ℕ) → Has set k → Contains (numbers_from from set) (from + k)
 number_there from [] k h = absurd (false≢true h)
-number_there from (true ∷ set) zero h = let e : from ≡ from + 0 = omega arith in subst (Contains (from ∷ numbers_from (from + 1) set)) e (contains_head from _)
+number_there from (true ∷ set) zero h = let e : from ≡ from + 0 = omega arith in subst (Contains (from ∷ numbers_from (from + 1) set)) e (Contains-head from _)
 number_there from (false ∷ set) zero h = absurd (false≢true h)
 number_there from (true ∷ set) (suc k) h =
     let e : from + 1 + k ≡ from + suc k = omega arith in
-    subst (Contains (from ∷ numbers_from (from + 1) set)) e (contains_tail from _ _ (number_there (from + 1) set k h))
+    subst (Contains (from ∷ numbers_from (from + 1) set)) e (Contains-rest from _ _ (number_there (from + 1) set k h))
 number_there from (false ∷ set) (suc k) h =
     let e : from + 1 + k ≡ from + suc k = omega arith in
     subst (Contains (numbers_from (from + 1) set)) e (number_there (from + 1) set k h)
 
 pub number_back : (from : ℕ) (set : List Bool) (number : ℕ) → Contains (numbers_from from set) number → (k : ℕ) × (number ≡ from + k) × Has set k
-number_back from [] number h = absurd (contains_none number h)
-number_back from (true ∷ set) number h = elim (contains_split from _ number h) [
+number_back from [] number h = absurd (Contains-nil number h)
+number_back from (true ∷ set) number h = elim (Contains-cases from _ number h) [
   | inl e ↦ (0, omega (arith, e), refl)
   | inr later ↦ (let rest = number_back (from + 1) set number later in (suc rest.0, omega (arith, rest.1), rest.2))
 ]
@@ -137,17 +138,17 @@ length-united (x ∷ set) (y ∷ others) e = ap suc (length-united set others (o
 -- ---- all sets of a count
 
 sets_have : (count : ℕ) (set : List Bool) → length set ≡ count → Contains (all_sets count) set
-sets_have zero [] e = contains_head [] []
+sets_have zero [] e = Contains-head [] []
 sets_have zero (x ∷ set) e = absurd (omega (arith, e))
 sets_have (suc count) [] e = absurd (omega (arith, e))
-sets_have (suc count) (true ∷ set) e = Contains-append_left _ _ _ (contains_map (λ zs. true ∷ zs) (all_sets count) set (sets_have count set (omega (arith, e))))
-sets_have (suc count) (false ∷ set) e = Contains-append_right _ _ _ (contains_map (λ zs. false ∷ zs) (all_sets count) set (sets_have count set (omega (arith, e))))
+sets_have (suc count) (true ∷ set) e = Contains-append_left _ _ _ (Contains-map (λ zs. true ∷ zs) (all_sets count) set (sets_have count set (omega (arith, e))))
+sets_have (suc count) (false ∷ set) e = Contains-append_right _ _ _ (Contains-map (λ zs. false ∷ zs) (all_sets count) set (sets_have count set (omega (arith, e))))
 
 pub sets_count : (count : ℕ) (set : List Bool) → Contains (all_sets count) set → length set ≡ count
-sets_count zero set h = elim (contains_split [] [] set h) [ inl e ↦ sym (ap length e) | inr none ↦ absurd (contains_none set none) ]
+sets_count zero set h = elim (Contains-cases [] [] set h) [ inl e ↦ sym (ap length e) | inr none ↦ absurd (Contains-nil set none) ]
 sets_count (suc count) set h = elim (Contains-append_cases (map (λ zs. true ∷ zs) (all_sets count)) (map (λ zs. false ∷ zs) (all_sets count)) set h) [
-  | inl left ↦ (let back = map_contains (λ zs. true ∷ zs) (all_sets count) set left in sym (ap length back.2) ∙ ap suc (sets_count count back.0 back.1))
-  | inr right ↦ (let back = map_contains (λ zs. false ∷ zs) (all_sets count) set right in sym (ap length back.2) ∙ ap suc (sets_count count back.0 back.1))
+  | inl left ↦ (let back = Contains-map_from (λ zs. true ∷ zs) (all_sets count) set left in sym (ap length back.2) ∙ ap suc (sets_count count back.0 back.1))
+  | inr right ↦ (let back = Contains-map_from (λ zs. false ∷ zs) (all_sets count) set right in sym (ap length back.2) ∙ ap suc (sets_count count back.0 back.1))
 ]
 
 abbrev first_of_set : List Bool → Bool
@@ -164,8 +165,8 @@ sets_once (suc count) =
     (pairs_map (λ zs. true ∷ zs) ◌≢◌ ◌≢◌ (λ x y apart e. apart (ap rest_of_set e)) (all_sets count) (sets_once count))
     (pairs_map (λ zs. false ∷ zs) ◌≢◌ ◌≢◌ (λ x y apart e. apart (ap rest_of_set e)) (all_sets count) (sets_once count))
     (λ x y h k e.
-    let left = map_contains (λ zs. true ∷ zs) (all_sets count) x h in
-    let right = map_contains (λ zs. false ∷ zs) (all_sets count) y k in
+    let left = Contains-map_from (λ zs. true ∷ zs) (all_sets count) x h in
+    let right = Contains-map_from (λ zs. false ∷ zs) (all_sets count) y k in
     false≢true (ap first_of_set (right.2 ∙ sym e ∙ sym left.2)))
 
 pub all_sets_are_listed : AllSetsAreListed
@@ -201,7 +202,7 @@ record IsLow (sets : List (List Bool)) (start low : List Bool) : Type 0 where
   least : (set : List Bool) → Contains sets set → Within set low → Within low set
 
 lowest : (sets : List (List Bool)) (start : List Bool) → (low : List Bool) × IsLow sets start low
-lowest [] start = (start, record { within = within_refl start; there = contains_head start []; least = λ set h. absurd (contains_none set h) })
+lowest [] start = (start, record { within = within_refl start; there = Contains-head start []; least = λ set h. absurd (Contains-nil set h) })
 lowest (set ∷ sets) start = go (decided_within set start) (lowest sets set) (lowest sets start)
   where
     go : Decided (Within set start) → ((low : List Bool) × IsLow sets set low) → ((low : List Bool) × IsLow sets start low) → (low : List Bool) × IsLow (set ∷ sets) start low
@@ -209,19 +210,19 @@ lowest (set ∷ sets) start = go (decided_within set start) (lowest sets set) (l
       rest.0,
       record {
         within = within_trans rest.0 set start (rest.1).within w;
-        there = contains_tail start (set ∷ sets) rest.0 (rest.1).there;
-        least = λ z h v. elim (contains_split set sets z h) [ inl e ↦ subst (Within rest.0) e (rest.1).within | inr later ↦ (rest.1).least z later v ];
+        there = Contains-rest start (set ∷ sets) rest.0 (rest.1).there;
+        least = λ z h v. elim (Contains-cases set sets z h) [ inl e ↦ subst (Within rest.0) e (rest.1).within | inr later ↦ (rest.1).least z later v ];
       },
     )
     go (inr apart) other rest = (
       rest.0,
       record {
         within = (rest.1).within;
-        there = elim (contains_split start sets rest.0 (rest.1).there) [
-          | inl e ↦ subst (Contains (start ∷ set ∷ sets)) e (contains_head start (set ∷ sets))
-          | inr later ↦ contains_tail start (set ∷ sets) rest.0 (contains_tail set sets rest.0 later)
+        there = elim (Contains-cases start sets rest.0 (rest.1).there) [
+          | inl e ↦ subst (Contains (start ∷ set ∷ sets)) e (Contains-head start (set ∷ sets))
+          | inr later ↦ Contains-rest start (set ∷ sets) rest.0 (Contains-rest set sets rest.0 later)
         ];
-        least = λ z h v. elim (contains_split set sets z h) [
+        least = λ z h v. elim (Contains-cases set sets z h) [
           | inl e ↦ absurd (apart (subst (λ a. Within a start) (sym e) (within_trans z rest.0 start v (rest.1).within)))
           | inr later ↦ (rest.1).least z later v
         ];
@@ -232,7 +233,7 @@ lowest (set ∷ sets) start = go (decided_within set start) (lowest sets set) (l
 pub minimal_within : (family : List (List Bool)) → HaveOneCount family → (set : List Bool) → Contains family set → (low : List Bool) × IsMinimal (Contains family) low × Within low set
 minimal_within family counted set there =
     let found = lowest family set in
-    let in_family : Contains family found.0 = elim (contains_split set family found.0 (found.1).there) [ inl e ↦ subst (Contains family) e there | inr h ↦ h ] in
+    let in_family : Contains family found.0 = elim (Contains-cases set family found.0 (found.1).there) [ inl e ↦ subst (Contains family) e there | inr h ↦ h ] in
     (found.0, (in_family, λ other h w. within_same other found.0 (counted other found.0 h in_family) w ((found.1).least other h w)), (found.1).within)
 
 pub minimal_cover : MinimalCover

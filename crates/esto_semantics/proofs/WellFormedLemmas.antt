@@ -23,10 +23,10 @@ use Rattle.esto_semantics.specs.WellFormed.{AreOver, HaveUtf8, IsWellFormed, IsQ
 use Rattle.esto_semantics.specs.declared.fact.Fact.{Fact}
 use Rattle.esto_semantics.specs.declared.fact.Value.{Value}
 use Rattle.esto_semantics.specs.declared.fact.Value.TheVariants.{Text, Node}
-use Rattle.esto_semantics.proofs.ContainsLemmas.{Contains-at, Contains-flat, Contains-filter, Contains-filter_from, Contains-map_from}
 use Rattle.esto_semantics.proofs.FactLemmas.{Mentions-images}
 use Rattle.esto_semantics.proofs.RenamingLemmas.{Naming, RuleIsKept, value_of, thing_of, renamed, value_of-Text, map-thing_of-value_of, answer_there, answer_back, fact_there, fact_back, meets_there}
 use Rattle.esto_semantics.proofs.ContainmentLemmas.{IsAnswerOf-grows, IsAnswerInto-grows}
+use Rattle.esto_term.proofs.ListLemmas.{Contains-at, Contains-filter, Contains-filter_from, Contains-flat, Contains-map_from}
 
 -- ---- the facts over a schema
 

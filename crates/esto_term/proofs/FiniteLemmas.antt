@@ -7,8 +7,20 @@ use Rattle.esto_term.specs.Finite.IsMadeOf.{constant, plain, made}
 use Rattle.esto_term.specs.Nesting.{nesting, nesting_above, greatest_u64}
 use Rattle.esto_term.specs.declared.term.Term.{Term}
 use Rattle.esto_term.specs.declared.term.Term.TheVariants.{Const, Plain, Made}
-use Rattle.esto_term.proofs.ContainsLemmas.{Contains-first, Contains-map, Contains-flat_map, Contains-lists_within}
 use Rattle.esto_term.proofs.NestingLemmas.{nesting-Made, one_deeper-part}
+use Rattle.esto_term.proofs.ListLemmas.{Contains-flat, Contains-head, Contains-map, Contains-rest}
+
+-- a list of at most so many of the items is among all such lists
+pub Contains-lists_within : {A : Type 0} (items chosen : List A) (width : ℕ) → length chosen ≤ width → ((item : A) → Contains chosen item → Contains items item)
+    → Contains (lists_within items width) chosen
+Contains-lists_within items [] zero short all = Contains-head [] []
+Contains-lists_within items (first ∷ rest) zero short all = absurd (omega arith)
+Contains-lists_within items [] (suc width) short all = Contains-head [] _
+Contains-lists_within items (first ∷ rest) (suc width) short all =
+    Contains-rest [] _ (first ∷ rest)
+    (Contains-flat (λ item. map (λ others. item ∷ others) (lists_within items width)) items first (first ∷ rest) (all first (Contains-head first rest))
+    (Contains-map (λ others. first ∷ others) (lists_within items width) rest
+    (Contains-lists_within items rest width (omega arith) (λ item has. all item (Contains-rest first rest item has)))))
 
 module _ (stock : Stock) (width : ℕ) where
   -- ---- one level of the list
@@ -16,8 +28,8 @@ module _ (stock : Stock) (width : ℕ) where
   pub Contains-made_terms : (rule variable : ℕ) (frontier : List Term) (frontiers : List (List Term))
       → Contains stock.rules rule → Contains stock.variables variable → Contains frontiers frontier → Contains (made_terms stock frontiers) (Made rule variable frontier)
   Contains-made_terms rule variable frontier frontiers has_rule has_variable has_frontier =
-      Contains-flat_map (λ r. flat_map (λ v. map (Made r v) frontiers) stock.variables) stock.rules rule (Made rule variable frontier) has_rule
-      (Contains-flat_map (λ v. map (Made rule v) frontiers) stock.variables variable (Made rule variable frontier) has_variable
+      Contains-flat (λ r. flat_map (λ v. map (Made r v) frontiers) stock.variables) stock.rules rule (Made rule variable frontier) has_rule
+      (Contains-flat (λ v. map (Made rule v) frontiers) stock.variables variable (Made rule variable frontier) has_variable
       (Contains-map (Made rule variable) frontiers frontier has_frontier))
 
   -- a constant or a plain term of the stock stands in each level
@@ -30,7 +42,7 @@ module _ (stock : Stock) (width : ℕ) where
   bare_within : (rule variable : ℕ) → Contains stock.rules rule → Contains stock.variables variable → Contains (terms_within stock width 0) (Made rule variable [])
   unfolding terms_within
   bare_within rule variable has_rule has_variable =
-      Contains-append_right (unmade_terms stock) _ _ (Contains-made_terms rule variable [] ([] ∷ []) has_rule has_variable (Contains-first [] []))
+      Contains-append_right (unmade_terms stock) _ _ (Contains-made_terms rule variable [] ([] ∷ []) has_rule has_variable (Contains-head [] []))
 
   -- a made term stands one level above its frontier terms
   made_within : (depth rule variable : ℕ) (frontier : List Term) → Contains stock.rules rule → Contains stock.variables variable → length frontier ≤ width

@@ -27,7 +27,6 @@ use Rattle.esto_semantics.specs.Rewritings.{MapsOnto}
 use Rattle.esto_semantics.specs.Rules.{Rule, AreRules}
 use Rattle.esto_semantics.specs.Sets.{Covers}
 use Rattle.esto_semantics.specs.declared.fact.Fact.{Fact}
-use Rattle.esto_semantics.proofs.ContainsLemmas.{Contains-nil, Contains-map_from}
 use Rattle.esto_universal.specs.Stated.{IsStatedPlan}
 use Rattle.esto_views.specs.Fragments.{views_of, patterns_of}
 use Rattle.esto_views.specs.Plans.{fact_of, plan_query}
@@ -48,6 +47,7 @@ use Rattle.esto_top.specs.declared.status.Status.TheVariants as status
 use Rattle.esto_top.proofs.AlikeLemmas.{same_reading, listing_moved}
 use Rattle.esto_top.proofs.LeadLemmas.{Leads, then-leads, gives-leads, judges-leads, fetches-leads, says-leads}
 use Rattle.esto_top.proofs.PlainLemmas.{no_rules}
+use Rattle.esto_term.proofs.ListLemmas.{Contains-map_from, Contains-nil}
 
 -- each catalogue keeps what a catalogue keeps
 abbrev pub AreSound : Type 0

@@ -11,12 +11,12 @@ use Rattle.esto_semantics.specs.Listed.{IsListed, AreListed}
 use Rattle.esto_semantics.specs.Queries.{ConjunctiveQuery}
 use Rattle.esto_semantics.specs.Rules.{Rule}
 use Rattle.esto_semantics.specs.Sets.{AreInOrder}
-use Rattle.esto_semantics.proofs.ContainsLemmas.{Contains-at, Contains-head, Contains-map_from}
 use Rattle.esto_views.specs.Fragments.{patterns_of}
 use Rattle.esto_views.specs.Plans.{fact_of, plan_query, IsPlanOver}
 use Rattle.esto_views.specs.declared.fragments.FragmentDef.{FragmentDef}
 use Rattle.esto_views.specs.declared.plan.Plan.{Plan}
 use Rattle.esto_views.proofs.PatternLemmas.{patterns_at}
+use Rattle.esto_term.proofs.ListLemmas.{Contains-at, Contains-head, Contains-map_from}
 
 no_item : {A : Type 0} (items : List A) → length items ≡ 0 → items ≡ []
 no_item [] none = refl

@@ -13,8 +13,6 @@ use Rattle.esto_term.proofs.OrderLemmas.{term_cmp_total}
 use Rattle.esto_semantics.specs.Facts.{image}
 use Rattle.esto_semantics.specs.Queries.{ConjunctiveQuery}
 use Rattle.esto_semantics.specs.declared.fact.Fact.{Fact}
-use Rattle.esto_semantics.proofs.ChoiceLemmas.{pairs_head, pairs_tail}
-use Rattle.esto_semantics.proofs.ContainsLemmas.{Contains-nil, Contains-head, Contains-rest, Contains-cases, map_agree}
 use Rattle.esto_query.specs.declared.query.Name.{Name}
 use Rattle.esto_views.specs.Plans.{plan_query}
 use Rattle.esto_views.specs.declared.plan.Plan.{Plan}
@@ -23,6 +21,8 @@ use Rattle.esto_universal.specs.Renamings.{name_of}
 use Rattle.esto_universal.specs.Rows.{IsRowBefore}
 use Rattle.esto_universal.specs.Stated.{IsStatedPlan, IsRenamedPlan}
 use Rattle.esto_universal.proofs.PlanLemmas.{became, read_row, read_head}
+use Rattle.esto_term.proofs.ChoiceLemmas.{pairs_head, pairs_tail}
+use Rattle.esto_term.proofs.ListLemmas.{Contains-cases, Contains-head, Contains-nil, Contains-rest, map_agree}
 
 -- ---- lists in one order
 

@@ -11,8 +11,6 @@ use Rattle.esto_semantics.specs.Maps.{IsConstant}
 use Rattle.esto_semantics.specs.PlanOf.{IsOfRows, IsPlanOf}
 use Rattle.esto_semantics.specs.Queries.{ConjunctiveQuery}
 use Rattle.esto_semantics.specs.declared.fact.Fact.{Fact}
-use Rattle.esto_semantics.proofs.ContainsLemmas.{Contains-at, Contains-map, Contains-map_from, Contains-flat, map_then}
-use Rattle.esto_semantics.proofs.PlaceLemmas.{place-from_Contains, map_at-from}
 use Rattle.esto_semantics.proofs.TermLemmas.{term_cases, Const-apart-Plain, Const-apart-Made}
 use Rattle.esto_query.specs.Making.{query_of}
 use Rattle.esto_query.specs.declared.query.Name.{Name}
@@ -27,6 +25,7 @@ use Rattle.esto_universal.specs.Renamings.{IsRenaming, numbered, renamed_atom, n
 use Rattle.esto_universal.specs.Rows.{AreRows}
 use Rattle.esto_universal.specs.Stated.{IsStatedPlan, IsRenamedPlan}
 use Rattle.esto_universal.proofs.RenamingLemmas.{back, back-Const, back-Plain, numbered_renames}
+use Rattle.esto_term.proofs.ListLemmas.{Contains-at, Contains-flat, Contains-map, Contains-map_from, map_at-from, map_then, place-from_Contains}
 
 -- ---- the terms that are read
 

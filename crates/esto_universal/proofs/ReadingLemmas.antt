@@ -8,8 +8,8 @@ use Rattle.std.proofs.lemmas.List.Quantifiers.{all_pairs_push}
 use Rattle.esto_term.specs.declared.term.Term.{Term}
 use Rattle.esto_semantics.specs.Maps.{IsConstant}
 use Rattle.esto_semantics.specs.declared.fact.Fact.{Fact}
-use Rattle.esto_semantics.proofs.ContainsLemmas.{Contains-nil}
 use Rattle.esto_universal.specs.Reading.{OccursBefore, AreFirstOccurrences}
+use Rattle.esto_term.proofs.ListLemmas.{Contains-nil}
 
 pub seen_none : AreFirstOccurrences [] []
 seen_none = record {

@@ -13,9 +13,9 @@ use Rattle.esto_term.specs.declared.term.Term.TheVariants.{Const}
 use Rattle.esto_semantics.specs.PlanOf.{IsTermRow}
 use Rattle.esto_semantics.specs.Queries.{ConjunctiveQuery, IsAnswerInto}
 use Rattle.esto_semantics.specs.declared.fact.Fact.{Fact}
-use Rattle.esto_semantics.proofs.ChoiceLemmas.{pairs_append}
-use Rattle.esto_semantics.proofs.ContainsLemmas.{Contains-nil, Contains-map, Contains-map_from}
 use Rattle.esto_universal.specs.Rows.{over, IsRowBefore, AreRows}
+use Rattle.esto_term.proofs.ChoiceLemmas.{pairs_append}
+use Rattle.esto_term.proofs.ListLemmas.{Contains-map, Contains-map_from, Contains-nil}
 
 -- the rows of the views before a number
 pub record AreRowsBelow (views : List ConjunctiveQuery) (facts : List (Fact Term)) (number : ℕ) (rows : List (Fact Term)) : Type 0 where

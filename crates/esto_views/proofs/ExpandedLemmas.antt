@@ -11,13 +11,10 @@ use Rattle.esto_semantics.specs.Facts.{image}
 use Rattle.esto_semantics.specs.Maps.{IsFlat, Keeps}
 use Rattle.esto_semantics.specs.Queries.{ConjunctiveQuery}
 use Rattle.esto_semantics.specs.declared.fact.Fact.{Fact}
-use Rattle.esto_semantics.proofs.ContainsLemmas.{Contains-nil, Contains-head, Contains-rest, Contains-cases, Contains-at, Contains-map, Contains-map_from}
-use Rattle.esto_semantics.proofs.PlaceLemmas.{place-from_Contains, map_at, map_at-from}
 use Rattle.esto_semantics.proofs.TermLemmas.{Plain-same}
 use Rattle.esto_query.specs.Making.{query_of}
 use Rattle.esto_query.specs.Soundness.{IsSound}
 use Rattle.esto_query.specs.declared.query.Query.{Query}
-use Rattle.esto_query.proofs.MapLemmas.{Contains-read}
 use Rattle.esto_views.specs.Expanded.{placed, AreExpanded, facts_of, Expands}
 use Rattle.esto_views.specs.Fragments.{views_of, IsFragment}
 use Rattle.esto_views.specs.Plans.{fact_of, plan_query, IsPlanOver}
@@ -28,6 +25,7 @@ use Rattle.esto_views.specs.declared.fragments.FragmentDef.{FragmentDef}
 use Rattle.esto_views.specs.declared.plan.PlanAtom.{PlanAtom}
 use Rattle.esto_views.specs.declared.plan.Plan.{Plan}
 use Rattle.esto_views.proofs.SoundLemmas.{named-Plain}
+use Rattle.esto_term.proofs.ListLemmas.{Contains-at, Contains-cases, Contains-head, Contains-map, Contains-map_from, Contains-nil, Contains-read, Contains-rest, map_at, map_at-from, place-from_Contains}
 
 -- ---- the fragment of an atom
 

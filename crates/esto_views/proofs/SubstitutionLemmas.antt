@@ -9,37 +9,11 @@ use Rattle.esto_term.specs.declared.term.Term.{Term}
 use Rattle.esto_term.specs.declared.term.Term.TheVariants.{Const, Plain}
 use Rattle.esto_semantics.specs.Maps.{IsVariable}
 use Rattle.esto_semantics.specs.Queries.{ConjunctiveQuery}
-use Rattle.esto_semantics.proofs.ChoiceLemmas.{pairs_append}
-use Rattle.esto_semantics.proofs.ContainsLemmas.{Contains-at, Contains-map_from}
-use Rattle.esto_semantics.proofs.PlaceLemmas.{map_at}
 use Rattle.esto_semantics.proofs.TermLemmas.{same_term, same_term-Decides, Const-apart-Plain, Plain-same}
 use Rattle.esto_semantics.proofs.WeightLemmas.{distinct_head, distinct_rest}
 use Rattle.esto_views.specs.Spreads.{AreInner, IsSpread, substituted}
-
--- ---- places of joined lists
-
-pub at_left : {X : Type 0} (xs ys : List X) (place : ℕ) (x : X) → slice_get xs place ≡ Some x → slice_get (xs ++ ys) place ≡ Some x
-at_left [] ys place x at = absurd (cc)
-at_left (first ∷ xs) ys zero x at = at
-at_left (first ∷ xs) ys (suc place) x at = at_left xs ys place x at
-
-pub at_right : {X : Type 0} (xs ys : List X) (place : ℕ) (x : X) → slice_get ys place ≡ Some x → slice_get (xs ++ ys) (length xs + place) ≡ Some x
-at_right [] ys place x at = let same : 0 + place ≡ place = omega arith in rw same at
-at_right (first ∷ xs) ys place x at = let same : length (first ∷ xs) + place ≡ suc (length xs + place) = omega arith in rw same (at_right xs ys place x at)
-
-pub map_by_places : {X Y : Type 0} (m : X → Y) (xs : List X) (ys : List Y) → length xs ≡ length ys
-    → ((place : ℕ) (x : X) (y : Y) → slice_get xs place ≡ Some x → slice_get ys place ≡ Some y → m x ≡ y) → map m xs ≡ ys
-map_by_places m [] [] lengths each = refl
-map_by_places m [] (y ∷ ys) lengths each = absurd (omega arith)
-map_by_places m (x ∷ xs) [] lengths each = absurd (omega arith)
-map_by_places m (x ∷ xs) (y ∷ ys) lengths each =
-    let first : m x ≡ y = each 0 x y refl refl in
-    let rest : map m xs ≡ ys = map_by_places m xs ys (omega arith) (λ place other target at goes. each (suc place) other target at goes) in
-    λ i. first i ∷ rest i
-
-pub range_at : (first count place : ℕ) → place < count → slice_get (range_with_len first count) place ≡ Some (first + place)
-range_at first count place within =
-    slice_get-get_or (range_with_len first count) place 0 (rw (length-range_with_len first count) within) ∙ ap Some (get_or-range_with_len first count place 0 within)
+use Rattle.esto_term.proofs.ChoiceLemmas.{pairs_append}
+use Rattle.esto_term.proofs.ListLemmas.{Contains-at, Contains-map_from, at_left, at_right, map_at, map_by_places, range_at}
 
 -- ---- what stands for a term
 

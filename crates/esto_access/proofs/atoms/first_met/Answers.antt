@@ -1,10 +1,9 @@
 use Rattle.std.proofs.Common.{Contains, sym, ◌∙◌}
 use Rattle.std.proofs.lemmas.Bool.{false≢true}
 use Rattle.esto_semantics.specs.Access.{MeetsPattern}
-use Rattle.esto_semantics.proofs.ProgramLemmas.{holds_more_in, holds_all_in}
-use Rattle.esto_semantics.proofs.AccessLemmas.{place_of}
 use Rattle.esto_views.specs.Plans.{fact_of, plan_query}
 use Rattle.esto_access.proofs.atoms.first_met.Goals as goal
+use Rattle.esto_term.proofs.ListLemmas.{holds_all_in, holds_more_in, place-from_Contains}
 
 pub patterns-preserved : goal.patterns-preserved
 patterns-preserved c =
@@ -14,6 +13,6 @@ patterns-preserved c =
 
 pub returns : goal.returns
 returns c = λ pattern inside.
-    let at = place_of c.args.patterns.now pattern inside in
+    let at = place-from_Contains c.args.patterns.now pattern inside in
     holds_all_in (λ _ it. MeetsPattern (plan_query c.args.plan.now).body (Contains c.args.earlier.now) (fact_of c.args.atom.now) it → ⊥)
     c.args.patterns.now _ c.items-pattern-items.ensures _ c.patterns-test.false c.patterns.invariant at.0 pattern at.1

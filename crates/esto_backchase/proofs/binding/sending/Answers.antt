@@ -1,7 +1,7 @@
 use Rattle.std.proofs.Common.{arith}
-use Rattle.esto_query.proofs.MapLemmas.{Contains-read}
 use Rattle.esto_backchase.proofs.BindingLemmas.{start-none, start-next, start-fails, start-whole}
 use Rattle.esto_backchase.proofs.binding.sending.Goals as goal
+use Rattle.esto_term.proofs.ListLemmas.{Contains-read}
 
 pub terms-init : goal.terms-init
 terms-init c = start-none c.args.terms.now c.args.targets.now c.new-valuation.result c.new-valuation.ensures

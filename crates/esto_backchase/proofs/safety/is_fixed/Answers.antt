@@ -1,10 +1,10 @@
 use Rattle.std.proofs.Common.{Contains, sym, ◌∙◌, inl, inr}
 use Rattle.std.proofs.lemmas.Bool.{false≢true}
 use Rattle.esto_semantics.specs.Sets.{Has}
-use Rattle.esto_semantics.proofs.ProgramLemmas.{holds_more, holds_all}
 use Rattle.esto_backchase.proofs.SafetyLemmas.{bound-here, bound-from}
 use Rattle.esto_backchase.proofs.safety.is_fixed.Goals.{else-has-via-then-has+else-contains, else-has-via-else-has}
 use Rattle.esto_backchase.proofs.safety.is_fixed.Goals as goal
+use Rattle.esto_term.proofs.ListLemmas.{holds_all, holds_more}
 
 pub returns-then-contains : goal.returns-then-contains
 returns-then-contains c = (

@@ -2,12 +2,11 @@ use Rattle.std.proofs.Common.{map, Contains, refl, sym, subst, ◌∙◌}
 use Rattle.std.proofs.lemmas.Bool.{false≢true}
 use Rattle.esto_semantics.specs.Access.{IsBound}
 use Rattle.esto_semantics.specs.Sets.{Has}
-use Rattle.esto_semantics.proofs.AccessLemmas.{place_of}
 use Rattle.esto_semantics.proofs.BindingLemmas.{item-Contains}
-use Rattle.esto_semantics.proofs.ProgramLemmas.{holds_more, holds_all}
 use Rattle.esto_views.specs.Plans.{fact_of}
 use Rattle.esto_backchase.proofs.SafetyLemmas.{bound-fixed}
 use Rattle.esto_backchase.proofs.safety.is_safe.Goals as goal
+use Rattle.esto_term.proofs.ListLemmas.{holds_all, holds_more, place-from_Contains}
 
 pub returns-then-not-is_fixed : goal.returns-then-not-is_fixed
 returns-then-not-is_fixed c = (
@@ -28,7 +27,7 @@ head-preserved c =
 pub returns : goal.returns
 returns c = (
   λ _ term inside.
-      let at = place_of c.items-term-items.result.now term (subst (λ terms. Contains terms term) (sym c.items-term-items.ensures) inside) in
+      let at = place-from_Contains c.items-term-items.result.now term (subst (λ terms. Contains terms term) (sym c.items-term-items.ensures) inside) in
       (bound-fixed c.chosen_atoms_are_named.ensures c.args.set.now (map fact_of c.args.plan.now.atoms) term).0
       (holds_all (λ _ other. IsBound (map fact_of c.args.plan.now.atoms) (Has c.args.set.now) other) c.items-term-items.result.now c.head.term-index
       c.head-test.false c.head.invariant at.0 term at.1),

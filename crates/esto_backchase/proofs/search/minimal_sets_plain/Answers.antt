@@ -1,7 +1,6 @@
 use Rattle.std.proofs.Common.{◌≡◌, ◌<◌, [], length, Contains, sym, ap, subst, ◌∙◌}
 use Rattle.std.proofs.lemmas.List.{length-map, length-replicate}
 use Rattle.esto_semantics.specs.Listed.{IsRewriting}
-use Rattle.esto_semantics.proofs.ContainsLemmas.{Contains-nil}
 use Rattle.esto_query.specs.Making.{query_of}
 use Rattle.esto_views.specs.Fragments.{views_of, patterns_of}
 use Rattle.esto_views.specs.Plans.{fact_of, plan_query}
@@ -12,6 +11,7 @@ use Rattle.esto_backchase.proofs.BindingLemmas.{start-found, start-missing}
 use Rattle.esto_backchase.proofs.PassLemmas.{minimal-same}
 use Rattle.esto_backchase.proofs.VisitLemmas.{agreeing-first, visited-minimal}
 use Rattle.esto_backchase.proofs.search.minimal_sets_plain.Goals as goal
+use Rattle.esto_term.proofs.ListLemmas.{Contains-nil}
 
 pub sending-requires : goal.sending-requires
 sending-requires c = λ term inside. (c.queries_are_sound.ensures c.args.query.now).query.flat_head term (subst (λ terms. Contains terms term) c.items.ensures inside)

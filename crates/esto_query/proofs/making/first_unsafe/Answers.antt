@@ -1,7 +1,7 @@
 use Rattle.esto_semantics.specs.Maps.{IsFixedBy}
-use Rattle.esto_query.proofs.MapLemmas.{Contains-read, each_more, each_seen}
 use Rattle.esto_query.proofs.SoundLemmas.{unsafe_at}
 use Rattle.esto_query.proofs.making.first_unsafe.Goals as goal
+use Rattle.esto_term.proofs.ListLemmas.{Contains-read, each_more, each_seen}
 
 pub missing_variable-requires : goal.missing_variable-requires
 missing_variable-requires c = c.requires _ (Contains-read _ _ _ c.loop-term-test.true c.term-item.is)

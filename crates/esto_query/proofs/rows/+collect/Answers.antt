@@ -5,7 +5,7 @@ use Rattle.esto_semantics.specs.Maps.{AreFlat}
 use Rattle.esto_query.specs.Trails.{with_trail}
 use Rattle.esto_query.proofs.TrailLemmas.{undone}
 use Rattle.esto_query.proofs.LeastLemmas.{flat_first, flat_rest}
-use Rattle.esto_query.proofs.RowLemmas.{leaf_adds, known_adds, none_adds, end_adds, AreKnown-next, turn_out, turn_skip, turn_next}
+use Rattle.esto_query.proofs.RowLemmas.{leaf_adds, known_adds, end_adds, AreKnown-next, turn_out, turn_skip, turn_next}
 use Rattle.esto_query.proofs.rows.+collect.Goals as goal
 use Rattle.esto_query.proofs.rows.+collect.Goals.{then-branch+in_ok-collect, else-branch}
 

@@ -1,7 +1,7 @@
 use Rattle.std.proofs.Common.{ap, ◌∙◌, take, arith}
-use Rattle.esto_query.proofs.MapLemmas.{Contains-read}
 use Rattle.esto_query.proofs.TrailLemmas.{Narrows-row, Excludes-row, Narrows-whole, Grew-then, Grew-take}
 use Rattle.esto_query.proofs.trail.bind_row.Goals as goal
+use Rattle.esto_term.proofs.ListLemmas.{Contains-read}
 
 pub bind_term-requires : goal.bind_term-requires
 bind_term-requires c = c.requires _ (Contains-read _ _ _ c.loop-at-test.true c.index-terms-at.is)

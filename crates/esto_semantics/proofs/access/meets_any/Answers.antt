@@ -2,8 +2,8 @@ use Rattle.std.proofs.Common.{sym, ◌∙◌}
 use Rattle.std.proofs.lemmas.Bool.{false≢true}
 use Rattle.esto_semantics.specs.Sets.{Has}
 use Rattle.esto_semantics.specs.Access.{MeetsPattern}
-use Rattle.esto_semantics.proofs.ProgramLemmas.{holds_more, none_holds}
 use Rattle.esto_semantics.proofs.access.meets_any.Goals as goal
+use Rattle.esto_term.proofs.ListLemmas.{holds_more, none_holds}
 
 pub patterns-preserved : goal.patterns-preserved
 patterns-preserved c =

@@ -2,9 +2,9 @@ use Rattle.std.proofs.Common.{refl, sym, ◌∙◌}
 use Rattle.std.proofs.lemmas.Bool.{false≢true}
 use Rattle.esto_semantics.specs.Sets.{Has}
 use Rattle.esto_semantics.specs.Access.{IsInput, IsBound}
-use Rattle.esto_semantics.proofs.ProgramLemmas.{holds_more_in, holds_all_in}
 use Rattle.esto_semantics.proofs.access.meets_pattern.Goals.{else-is_input-via-then-is_input+else-not-is_bound, else-is_input-via-else-is_input}
 use Rattle.esto_semantics.proofs.access.meets_pattern.Goals as goal
+use Rattle.esto_term.proofs.ListLemmas.{holds_all_in, holds_more_in}
 
 pub columns-preserved : goal.columns-preserved
 columns-preserved c =

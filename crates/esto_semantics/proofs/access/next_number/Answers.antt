@@ -2,9 +2,10 @@ use Rattle.std.proofs.Common.{sym, ◌∙◌}
 use Rattle.std.proofs.lemmas.Bool.{false≢true, true≢false}
 use Rattle.esto_semantics.specs.Sets.{Has}
 use Rattle.esto_semantics.specs.Access.{IsAccessible}
-use Rattle.esto_semantics.proofs.ProgramLemmas.{holds_more_in, holds_all_in, next_found, stuck_at_end}
+use Rattle.esto_semantics.proofs.ProgramLemmas.{next_found, stuck_at_end}
 use Rattle.esto_semantics.proofs.access.next_number.Goals.{else-has-via-then-has+then-not-has+else-is_accessible, else-has-via-then-has+else-not-has, else-has-via-else-has}
 use Rattle.esto_semantics.proofs.access.next_number.Goals as goal
+use Rattle.esto_term.proofs.ListLemmas.{holds_all_in, holds_more_in}
 
 pub atoms-preserved : goal.atoms-preserved
 atoms-preserved c =

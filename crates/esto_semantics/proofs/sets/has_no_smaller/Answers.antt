@@ -1,10 +1,9 @@
 use Rattle.std.proofs.Common.{refl, sym, ◌∙◌, subst, Contains}
 use Rattle.std.proofs.lemmas.Bool.{false≢true}
 use Rattle.esto_semantics.specs.Sets.{Within}
-use Rattle.esto_semantics.proofs.AccessLemmas.{place_of}
-use Rattle.esto_semantics.proofs.ProgramLemmas.{holds_more, holds_all}
 use Rattle.esto_semantics.proofs.sets.has_no_smaller.Goals.{else-is_within-via-then-is_within+else-not-is_within, else-is_within-via-else-is_within}
 use Rattle.esto_semantics.proofs.sets.has_no_smaller.Goals as goal
+use Rattle.esto_term.proofs.ListLemmas.{holds_all, holds_more, place-from_Contains}
 
 pub sets-preserved : goal.sets-preserved
 sets-preserved c =
@@ -17,7 +16,7 @@ sets-preserved c =
 pub returns : goal.returns
 returns c = (
   λ _ other there.
-      let at = place_of c.items-other-items.result.now other (subst (λ family. Contains family other) (sym c.items-other-items.ensures) there) in
+      let at = place-from_Contains c.items-other-items.result.now other (subst (λ family. Contains family other) (sym c.items-other-items.ensures) there) in
       holds_all (λ _ other. Within other c.args.set.now → Within c.args.set.now other) _ _ c.sets-test.false c.sets.invariant at.0 other at.1,
   λ _. refl,
 )

@@ -2,9 +2,9 @@ use Rattle.std.proofs.Common.{[]}
 use Rattle.esto_query.specs.Making.{query_of}
 use Rattle.esto_views.specs.Fragments.{views_of}
 use Rattle.esto_views.specs.Plans.{plan_query}
-use Rattle.esto_semantics.proofs.ContainsLemmas.{Contains-nil}
 use Rattle.esto_universal.proofs.PlanLemmas.{plan_of, plan_over}
 use Rattle.esto_universal.proofs.planning.universal.Goals as goal
+use Rattle.esto_term.proofs.ListLemmas.{Contains-nil}
 
 pub returns-clause-rows : goal.returns-clause-rows
 returns-clause-rows c = plan_of c.args.query.now.names (views_of c.args.fragments.now) (query_of c.args.query.now) c.in_ok-plan.plan c.in_ok-plan.ensures

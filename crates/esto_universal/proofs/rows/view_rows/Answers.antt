@@ -1,11 +1,11 @@
 use Rattle.std.proofs.Common.{refl}
 use Rattle.std.proofs.lemmas.List.{length-map}
 use Rattle.std.proofs.lemmas.Option.{slice_get_read}
-use Rattle.esto_semantics.proofs.PlaceLemmas.{map_at}
 use Rattle.esto_query.specs.Making.{query_of}
 use Rattle.esto_views.specs.Fragments.{views_of}
 use Rattle.esto_universal.proofs.RowLemmas.{rows_joined, rows_all}
 use Rattle.esto_universal.proofs.rows.view_rows.Goals as goal
+use Rattle.esto_term.proofs.ListLemmas.{map_at}
 
 pub fragments-preserved : goal.fragments-preserved
 fragments-preserved c =

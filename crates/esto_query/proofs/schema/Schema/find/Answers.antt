@@ -1,9 +1,9 @@
 use Rattle.std.proofs.Common.{◌≢◌, sym, ◌∙◌}
 use Rattle.std.proofs.lemmas.Bool.{false≢true}
 use Rattle.esto_query.specs.declared.schema.Relation.{Relation}
-use Rattle.esto_query.proofs.MapLemmas.{each_more, each_seen}
 use Rattle.esto_query.proofs.SchemaLemmas.{name_missing}
 use Rattle.esto_query.proofs.schema.Schema.find.Goals as goal
+use Rattle.esto_term.proofs.ListLemmas.{each_more, each_seen}
 
 pub loop-number-preserved : goal.loop-number-preserved
 loop-number-preserved c =

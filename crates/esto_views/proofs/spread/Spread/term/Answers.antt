@@ -1,8 +1,8 @@
 use Rattle.std.proofs.Common.{sym, ◌∙◌, arith}
 use Rattle.std.proofs.lemmas.Result.{IfOk-weaker}
-use Rattle.esto_semantics.proofs.PlaceLemmas.{thing_at}
 use Rattle.esto_views.proofs.SubstitutionLemmas.{substituted_here, substituted_later}
 use Rattle.esto_views.proofs.spread.Spread.term.Goals as goal
+use Rattle.esto_term.proofs.ListLemmas.{thing_at}
 
 pub returns-then-is_eq : goal.returns-then-is_eq
 returns-then-is_eq c =

@@ -1,5 +1,5 @@
 -- Choices among finitely many things, and lists by what they contain.
-use Rattle.std.proofs.Common.{◌≡◌, ℕ, zero, suc, ◌<◌, List, [], ◌∷◌, ◌++◌, map, length, get_or, refl, sym, ap, ◌∙◌, subst, arith, inl, inr}
+use Rattle.std.proofs.Common.{◌≡◌, ℕ, zero, suc, ◌<◌, List, [], ◌∷◌, ◌++◌, map, get_or, refl, sym, ap, ◌∙◌, subst, arith, inl, inr}
 use Rattle.std.specs.Prelude.{◌⊎◌, ◌↔◌, Contains, AllPairs}
 use Rattle.std.specs.Cmp.{IsTotalOrder}
 use Rattle.std.specs.Ordering.{ordering_reverse}
@@ -9,6 +9,7 @@ use Rattle.std.proofs.lemmas.Bool.{cases_order}
 use Rattle.std.proofs.lemmas.Cmp.{tied_itself}
 use Rattle.std.proofs.lemmas.List.Elements.{Contains-get_or, Contains-append_cases}
 use Rattle.std.proofs.lemmas.List.Kept.{AllPairs-cons}
+use Rattle.esto_term.proofs.ListLemmas.{Contains-cases, Contains-head, Contains-map_from, Contains-nil, Contains-rest}
 
 -- ---- what is decided
 
@@ -57,52 +58,36 @@ decided_below P bound decide = elim (least_below P bound decide) [
 -- ---- what a list contains
 
 module _ {A : Type 0} where
-  pub contains_none : (z : A) → Contains [] z → ⊥
-  contains_none z h = omega (arith, h.1)
-
-  pub contains_head : (x : A) (xs : List A) → Contains (x ∷ xs) x
-  contains_head x xs = (0, omega arith, refl)
-
-  pub contains_tail : (x : A) (xs : List A) (z : A) → Contains xs z → Contains (x ∷ xs) z
-  contains_tail x xs z h = (suc h.0, omega (arith, h.1), h.2)
-
-  pub contains_split : (x : A) (xs : List A) (z : A) → Contains (x ∷ xs) z → (x ≡ z) ⊎ Contains xs z
-  contains_split x xs z h = go h.0 h.1 h.2
-    where
-      go : (k : ℕ) → k < length (x ∷ xs) → get_or (x ∷ xs) k z ≡ z → (x ≡ z) ⊎ Contains xs z
-      go zero l e = inl e
-      go (suc k) l e = inr (k, omega (arith, l), e)
-
   pub contains_more : (x : A) (xs ys : List A) → ((z : A) → Contains xs z ↔ Contains ys z) → (z : A) → Contains (x ∷ xs) z → Contains (x ∷ ys) z
-  contains_more x xs ys same z h = elim (contains_split x xs z h) [
-    | inl e ↦ subst (Contains (x ∷ ys)) e (contains_head x ys)
-    | inr later ↦ contains_tail x ys z ((same z).0 later)
+  contains_more x xs ys same z h = elim (Contains-cases x xs z h) [
+    | inl e ↦ subst (Contains (x ∷ ys)) e (Contains-head x ys)
+    | inr later ↦ Contains-rest x ys z ((same z).0 later)
   ]
 
   -- the items of a list that have a property which is decided at each
   pub kept : (P : A → Type 0) (xs : List A) → ((x : A) → Contains xs x → Decided (P x)) → (ys : List A) × ((z : A) → Contains ys z ↔ (Contains xs z × P z))
-  kept P [] decide = ([], λ z. (λ h. absurd (contains_none z h), λ h. h.0))
-  kept P (x ∷ xs) decide = go (kept P xs (λ z h. decide z (contains_tail x xs z h))) (decide x (contains_head x xs))
+  kept P [] decide = ([], λ z. (λ h. absurd (Contains-nil z h), λ h. h.0))
+  kept P (x ∷ xs) decide = go (kept P xs (λ z h. decide z (Contains-rest x xs z h))) (decide x (Contains-head x xs))
     where
       go : ((ys : List A) × ((z : A) → Contains ys z ↔ (Contains xs z × P z))) → Decided (P x) → (ys : List A) × ((z : A) → Contains ys z ↔ (Contains (x ∷ xs) z × P z))
       go rest (inl p) = (
         x ∷ rest.0,
         λ z. (
-          λ h. elim (contains_split x rest.0 z h) [
-            | inl e ↦ (subst (Contains (x ∷ xs)) e (contains_head x xs), subst P e p)
-            | inr later ↦ (contains_tail x xs z ((rest.1 z).0 later).0, ((rest.1 z).0 later).1)
+          λ h. elim (Contains-cases x rest.0 z h) [
+            | inl e ↦ (subst (Contains (x ∷ xs)) e (Contains-head x xs), subst P e p)
+            | inr later ↦ (Contains-rest x xs z ((rest.1 z).0 later).0, ((rest.1 z).0 later).1)
           ],
-          λ h. elim (contains_split x xs z h.0) [
-            | inl e ↦ subst (Contains (x ∷ rest.0)) e (contains_head x rest.0)
-            | inr later ↦ contains_tail x rest.0 z ((rest.1 z).1 (later, h.1))
+          λ h. elim (Contains-cases x xs z h.0) [
+            | inl e ↦ subst (Contains (x ∷ rest.0)) e (Contains-head x rest.0)
+            | inr later ↦ Contains-rest x rest.0 z ((rest.1 z).1 (later, h.1))
           ],
         ),
       )
       go rest (inr no_p) = (
         rest.0,
         λ z. (
-          λ h. (contains_tail x xs z ((rest.1 z).0 h).0, ((rest.1 z).0 h).1),
-          λ h. elim (contains_split x xs z h.0) [
+          λ h. (Contains-rest x xs z ((rest.1 z).0 h).0, ((rest.1 z).0 h).1),
+          λ h. elim (Contains-cases x xs z h.0) [
             | inl e ↦ absurd (no_p (subst P (sym e) h.1))
             | inr later ↦ (rest.1 z).1 (later, h.1)
           ],
@@ -124,30 +109,15 @@ module _ {A : Type 0} where
   pairs_append R [] ys left right across = right
   pairs_append R (x ∷ xs) ys left right across =
       pairs_cons R x (xs ++ ys)
-      (λ z h. elim (Contains-append_cases xs ys z h) [ inl there ↦ pairs_head R x xs left z there | inr there ↦ across x z (contains_head x xs) there ])
-      (pairs_append R xs ys (pairs_tail R x xs left) right (λ a b h k. across a b (contains_tail x xs a h) k))
+      (λ z h. elim (Contains-append_cases xs ys z h) [ inl there ↦ pairs_head R x xs left z there | inr there ↦ across x z (Contains-head x xs) there ])
+      (pairs_append R xs ys (pairs_tail R x xs left) right (λ a b h k. across a b (Contains-rest x xs a h) k))
 
 module _ {A B : Type 0} (f : A → B) where
-  pub contains_map : (xs : List A) (x : A) → Contains xs x → Contains (map f xs) (f x)
-  contains_map [] x h = absurd (contains_none x h)
-  contains_map (a ∷ xs) x h = elim (contains_split a xs x h) [
-    | inl e ↦ subst (Contains (map f (a ∷ xs))) (ap f e) (contains_head (f a) (map f xs))
-    | inr later ↦ contains_tail (f a) (map f xs) (f x) (contains_map xs x later)
-  ]
-
-  pub map_contains : (xs : List A) (z : B) → Contains (map f xs) z → (x : A) × Contains xs x × (f x ≡ z)
-  map_contains [] z h = absurd (contains_none z h)
-  map_contains (a ∷ xs) z h = go (contains_split (f a) (map f xs) z h) (map_contains xs z)
-    where
-      go : (f a ≡ z) ⊎ Contains (map f xs) z → (Contains (map f xs) z → (x : A) × Contains xs x × (f x ≡ z)) → (x : A) × Contains (a ∷ xs) x × (f x ≡ z)
-      go (inl e) rest = (a, contains_head a xs, e)
-      go (inr later) rest = let found = rest later in (found.0, contains_tail a xs found.0 found.1, found.2)
-
   pub pairs_map : (R : A → A → Type 0) (S : B → B → Type 0) → ((x y : A) → R x y → S (f x) (f y)) → (xs : List A) → AllPairs R xs → AllPairs S (map f xs)
   pairs_map R S step [] = λ pairs i j d l m. absurd (omega (arith, m))
   pairs_map R S step (x ∷ xs) = λ pairs.
       pairs_cons S (f x) (map f xs)
-      (λ z h. let back = map_contains xs z h in subst (S (f x)) back.2 (step x back.0 (pairs_head R x xs pairs back.0 back.1)))
+      (λ z h. let back = Contains-map_from f xs z h in subst (S (f x)) back.2 (step x back.0 (pairs_head R x xs pairs back.0 back.1)))
       (pairs_map R S step xs (pairs_tail R x xs pairs))
 
 -- ---- lists that rise in a total order
@@ -168,8 +138,8 @@ module _ {A : Type 0} (cmp : A → A → Ordering) (total : IsTotalOrder cmp) wh
   -- two rising lists with the same items are one list
   pub one_list : (xs ys : List A) → Rises xs → Rises ys → ((z : A) → Contains xs z ↔ Contains ys z) → xs ≡ ys
   one_list [] [] rises rises' same = refl
-  one_list [] (y ∷ ys) rises rises' same = absurd (contains_none y ((same y).1 (contains_head y ys)))
-  one_list (x ∷ xs) [] rises rises' same = absurd (contains_none x ((same x).0 (contains_head x xs)))
+  one_list [] (y ∷ ys) rises rises' same = absurd (Contains-nil y ((same y).1 (Contains-head y ys)))
+  one_list (x ∷ xs) [] rises rises' same = absurd (Contains-nil x ((same x).0 (Contains-head x xs)))
   one_list (x ∷ xs) (y ∷ ys) rises rises' same =
       ap (λ z. z ∷ xs) heads ∙ ap (λ zs. y ∷ zs) (one_list xs ys (pairs_tail IsBelow x xs rises) (pairs_tail IsBelow y ys rises') tails)
     where
@@ -180,9 +150,9 @@ module _ {A : Type 0} (cmp : A → A → Ordering) (total : IsTotalOrder cmp) wh
       below' = pairs_head IsBelow y ys rises'
 
       heads : x ≡ y
-      heads = elim (contains_split y ys x ((same x).0 (contains_head x xs))) [
+      heads = elim (Contains-cases y ys x ((same x).0 (Contains-head x xs))) [
         | inl e ↦ sym e
-        | inr later ↦ elim (contains_split x xs y ((same y).1 (contains_head y ys))) [
+        | inr later ↦ elim (Contains-cases x xs y ((same y).1 (Contains-head y ys))) [
           | inl e ↦ e
           | inr later' ↦ absurd (not_less_both x y (below y later') (below' x later))
         ]
@@ -190,11 +160,11 @@ module _ {A : Type 0} (cmp : A → A → Ordering) (total : IsTotalOrder cmp) wh
 
       tails : (z : A) → Contains xs z ↔ Contains ys z
       tails z = (
-        λ h. elim (contains_split y ys z ((same z).0 (contains_tail x xs z h))) [
+        λ h. elim (Contains-cases y ys z ((same z).0 (Contains-rest x xs z h))) [
           | inl e ↦ absurd (not_less_itself z (subst (λ a. cmp a z ≡ Less) (heads ∙ e) (below z h)))
           | inr later ↦ later
         ],
-        λ h. elim (contains_split x xs z ((same z).1 (contains_tail y ys z h))) [
+        λ h. elim (Contains-cases x xs z ((same z).1 (Contains-rest y ys z h))) [
           | inl e ↦ absurd (not_less_itself z (subst (λ a. cmp a z ≡ Less) (sym heads ∙ e) (below' z h)))
           | inr later ↦ later
         ],
@@ -204,8 +174,8 @@ module _ {A : Type 0} (cmp : A → A → Ordering) (total : IsTotalOrder cmp) wh
   put_in : (x : A) (ys : List A) → ((z : A) → Contains ys z → cmp x z ≡ Equal → x ≡ z) → Rises ys
       → (zs : List A) × ((z : A) → Contains zs z ↔ ((x ≡ z) ⊎ Contains ys z)) × Rises zs
   put_in x [] exact rises =
-      (x ∷ [], λ z. (contains_split x [] z, λ h. elim h [ inl e ↦ subst (Contains (x ∷ [])) e (contains_head x []) | inr none ↦ absurd (contains_none z none) ]), pairs_cons IsBelow x [] (λ z h. absurd (contains_none z h)) rises)
-  put_in x (y ∷ ys) exact rises = go (cmp x y) refl (put_in x ys (λ z h. exact z (contains_tail y ys z h)) (pairs_tail IsBelow y ys rises))
+      (x ∷ [], λ z. (Contains-cases x [] z, λ h. elim h [ inl e ↦ subst (Contains (x ∷ [])) e (Contains-head x []) | inr none ↦ absurd (Contains-nil z none) ]), pairs_cons IsBelow x [] (λ z h. absurd (Contains-nil z h)) rises)
+  put_in x (y ∷ ys) exact rises = go (cmp x y) refl (put_in x ys (λ z h. exact z (Contains-rest y ys z h)) (pairs_tail IsBelow y ys rises))
     where
       below : (z : A) → Contains ys z → cmp y z ≡ Less
       below = pairs_head IsBelow y ys rises
@@ -214,23 +184,23 @@ module _ {A : Type 0} (cmp : A → A → Ordering) (total : IsTotalOrder cmp) wh
           → (zs : List A) × ((z : A) → Contains zs z ↔ ((x ≡ z) ⊎ Contains (y ∷ ys) z)) × Rises zs
       go Less e rest = (
         x ∷ y ∷ ys,
-        λ z. (contains_split x (y ∷ ys) z, λ h. elim h [ inl d ↦ subst (Contains (x ∷ y ∷ ys)) d (contains_head x (y ∷ ys)) | inr later ↦ contains_tail x (y ∷ ys) z later ]),
-        pairs_cons IsBelow x (y ∷ ys) (λ z h. elim (contains_split y ys z h) [ inl d ↦ subst (λ a. cmp x a ≡ Less) d e | inr later ↦ total.trans x y z e (below z later) ]) rises,
+        λ z. (Contains-cases x (y ∷ ys) z, λ h. elim h [ inl d ↦ subst (Contains (x ∷ y ∷ ys)) d (Contains-head x (y ∷ ys)) | inr later ↦ Contains-rest x (y ∷ ys) z later ]),
+        pairs_cons IsBelow x (y ∷ ys) (λ z h. elim (Contains-cases y ys z h) [ inl d ↦ subst (λ a. cmp x a ≡ Less) d e | inr later ↦ total.trans x y z e (below z later) ]) rises,
       )
       go Equal e rest =
-          (y ∷ ys, λ z. (inr, λ h. elim h [ inl d ↦ subst (Contains (y ∷ ys)) (sym (exact y (contains_head y ys) e) ∙ d) (contains_head y ys) | inr there ↦ there ]), rises)
+          (y ∷ ys, λ z. (inr, λ h. elim h [ inl d ↦ subst (Contains (y ∷ ys)) (sym (exact y (Contains-head y ys) e) ∙ d) (Contains-head y ys) | inr there ↦ there ]), rises)
       go Greater e rest = (
         y ∷ rest.0,
         λ z. (
-          λ h. elim (contains_split y rest.0 z h) [
-            | inl d ↦ inr (subst (Contains (y ∷ ys)) d (contains_head y ys))
-            | inr later ↦ elim ((rest.1 z).0 later) [ inl d ↦ inl d | inr there ↦ inr (contains_tail y ys z there) ]
+          λ h. elim (Contains-cases y rest.0 z h) [
+            | inl d ↦ inr (subst (Contains (y ∷ ys)) d (Contains-head y ys))
+            | inr later ↦ elim ((rest.1 z).0 later) [ inl d ↦ inl d | inr there ↦ inr (Contains-rest y ys z there) ]
           ],
           λ h. elim h [
-            | inl d ↦ contains_tail y rest.0 z ((rest.1 z).1 (inl d))
-            | inr there ↦ elim (contains_split y ys z there) [
-              | inl d ↦ subst (Contains (y ∷ rest.0)) d (contains_head y rest.0)
-              | inr later ↦ contains_tail y rest.0 z ((rest.1 z).1 (inr later))
+            | inl d ↦ Contains-rest y rest.0 z ((rest.1 z).1 (inl d))
+            | inr there ↦ elim (Contains-cases y ys z there) [
+              | inl d ↦ subst (Contains (y ∷ rest.0)) d (Contains-head y rest.0)
+              | inr later ↦ Contains-rest y rest.0 z ((rest.1 z).1 (inr later))
             ]
           ],
         ),
@@ -244,14 +214,14 @@ module _ {A : Type 0} (cmp : A → A → Ordering) (total : IsTotalOrder cmp) wh
   pub in_order : (xs : List A) → ((x z : A) → Contains xs x → Contains xs z → cmp x z ≡ Equal → x ≡ z)
       → (ys : List A) × ((z : A) → Contains ys z ↔ Contains xs z) × Rises ys
   in_order [] exact = ([], λ z. (λ h. h, λ h. h), λ i j d l m. absurd (omega (arith, m)))
-  in_order (x ∷ xs) exact = go (in_order xs (λ a z h k. exact a z (contains_tail x xs a h) (contains_tail x xs z k)))
+  in_order (x ∷ xs) exact = go (in_order xs (λ a z h k. exact a z (Contains-rest x xs a h) (Contains-rest x xs z k)))
     where
       go : ((ys : List A) × ((z : A) → Contains ys z ↔ Contains xs z) × Rises ys) → (ys : List A) × ((z : A) → Contains ys z ↔ Contains (x ∷ xs) z) × Rises ys
-      go rest = let all = put_in x rest.0 (λ z h. exact x z (contains_head x xs) (contains_tail x xs z ((rest.1 z).0 h))) rest.2 in (
+      go rest = let all = put_in x rest.0 (λ z h. exact x z (Contains-head x xs) (Contains-rest x xs z ((rest.1 z).0 h))) rest.2 in (
         all.0,
         λ z. (
-          λ h. elim ((all.1 z).0 h) [ inl e ↦ subst (Contains (x ∷ xs)) e (contains_head x xs) | inr there ↦ contains_tail x xs z ((rest.1 z).0 there) ],
-          λ h. elim (contains_split x xs z h) [ inl e ↦ (all.1 z).1 (inl e) | inr later ↦ (all.1 z).1 (inr ((rest.1 z).1 later)) ],
+          λ h. elim ((all.1 z).0 h) [ inl e ↦ subst (Contains (x ∷ xs)) e (Contains-head x xs) | inr there ↦ Contains-rest x xs z ((rest.1 z).0 there) ],
+          λ h. elim (Contains-cases x xs z h) [ inl e ↦ (all.1 z).1 (inl e) | inr later ↦ (all.1 z).1 (inr ((rest.1 z).1 later)) ],
         ),
         all.2,
       )
