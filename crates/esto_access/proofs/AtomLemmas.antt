@@ -6,7 +6,7 @@ use Rattle.std.proofs.lemmas.Option.{same_Some, slice_get_within, slice_get-get_
 use Rattle.esto_term.specs.declared.term.Term.{Term}
 use Rattle.esto_semantics.specs.declared.fact.Fact.{Fact}
 use Rattle.esto_semantics.specs.Sets.{Has}
-use Rattle.esto_semantics.specs.Access.{IsAccessible, IsEarlier}
+use Rattle.esto_semantics.specs.Access.{Patterns, IsAccessible, IsEarlier}
 use Rattle.esto_views.specs.declared.plan.PlanAtom.{PlanAtom}
 use Rattle.esto_views.specs.Plans.{fact_of}
 use Rattle.esto_access.specs.Runs.{CanFollow}
@@ -26,7 +26,7 @@ module _ (atoms : List PlanAtom) (number : ℕ) (atom : PlanAtom) (at : slice_ge
     λ found. told.1 (subst (λ (it : Fact Term). Contains it.terms term) (sym (one_fact found.0 found.1)) found.2),
   )
 
-  pub follows : (patterns : List (List (List Bool))) (set : List Bool) (earlier : List ℕ) (answer : Bool) → Has set number → ¬ (Contains earlier number)
+  pub follows : (patterns : Patterns) (set : List Bool) (earlier : List ℕ) (answer : Bool) → Has set number → ¬ (Contains earlier number)
       → IsTrue answer ↔ IsAccessible patterns (map fact_of atoms) (Contains earlier) (fact_of atom)
       → IsTrue answer ↔ CanFollow patterns (map fact_of atoms) set earlier number
   follows patterns set earlier answer has absent told = (

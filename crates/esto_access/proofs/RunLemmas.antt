@@ -6,7 +6,7 @@ use Rattle.std.proofs.lemmas.Option.{none-some, same_Some, slice_get_within, sli
 use Rattle.esto_term.specs.declared.term.Term.{Term}
 use Rattle.esto_semantics.specs.declared.fact.Fact.{Fact}
 use Rattle.esto_semantics.specs.Sets.{Has}
-use Rattle.esto_semantics.specs.Access.{IsAccessible, IsEarlier, IsOrder, IsExecutable, IsAccessiblePart, IsStatedOrder}
+use Rattle.esto_semantics.specs.Access.{Patterns, IsAccessible, IsEarlier, IsOrder, IsExecutable, IsAccessiblePart, IsStatedOrder}
 use Rattle.esto_semantics.specs.AccessSteps.{IsStuck}
 use Rattle.esto_semantics.proofs.AccessLemmas.{one_place, missing, missing-set, has_set, none_has, accessible_more, ready_more, order_grows, stuck_has}
 use Rattle.esto_semantics.proofs.SetLemmas.{beyond, decided_has, within_refl, within_same}
@@ -61,7 +61,7 @@ missing_all : (count : ℕ) → missing (replicate count false) ≡ count
 missing_all zero = refl
 missing_all (suc count) = ap suc (missing_all count)
 
-none_is_order : (patterns : List (List (List Bool))) (atoms : List (Fact Term)) → IsOrder patterns atoms (replicate (length atoms) false) []
+none_is_order : (patterns : Patterns) (atoms : List (Fact Term)) → IsOrder patterns atoms (replicate (length atoms) false) []
 none_is_order patterns atoms = record {
   over = length-replicate (length atoms) false;
   names = λ number. (λ h. absurd (Contains-nil number h), λ h. absurd (none_has (length atoms) number h));
@@ -69,7 +69,7 @@ none_is_order patterns atoms = record {
   accessible = λ place number atom e. absurd (none-some number e);
 }
 
-module _ (patterns : List (List (List Bool))) (atoms : List (Fact Term)) (set : List Bool) where
+module _ (patterns : Patterns) (atoms : List (Fact Term)) (set : List Bool) where
   -- a run so far: what it hasn't taken yet is what is left of the atoms
   abbrev pub RunsSoFar : List ℕ → Type 0
   RunsSoFar order = (part : List Bool) × IsRun patterns atoms set part order × (length order + missing part ≡ length atoms)

@@ -23,12 +23,14 @@ use Rattle.esto_views.specs.Plans.{plan_query, fact_of}
 use Rattle.esto_views.specs.declared.expansion.ExpandedFact.{ExpandedFact}
 use Rattle.esto_views.specs.declared.fragments.FragmentDef.{FragmentDef}
 use Rattle.esto_views.specs.declared.plan.Plan.{Plan}
-use Rattle.esto_query.specs.Matches.{IsMatch, IsLeastMatch, HasNoMatch}
+use Rattle.esto_query.specs.Matches.{IsLeastMatch, HasNoMatch}
+use Rattle.esto_semantics.specs.Matches.{IsMatch}
 use Rattle.esto_query.specs.Valuations.{Assignment, Extends, map_of}
 use Rattle.esto_query.specs.declared.matches.Found.{Found}
 use Rattle.esto_views.specs.Soundness.{IsSoundPlan}
 use Rattle.esto_backchase.specs.Searching.{facts_chosen, IsSearch, Passes}
 use Rattle.esto_term.proofs.ListLemmas.{Contains-at, Contains-cases, Contains-head, Contains-map_from, Contains-nil, Contains-rest, place-from_Contains}
+use Rattle.esto_semantics.specs.Access.{Patterns}
 
 -- ---- the facts that come from atoms of a set
 
@@ -140,7 +142,7 @@ module _ (plan : Plan) (fragments : List FragmentDef) (expanded : List ExpandedF
           let small : number < length plan.atoms = omega (arith, beyond set number has, over, length-map plan.atoms fact_of) in
           from-chosen set expanded whole ((expands.exact whole).1 (small, (part, at.1, is))) has
 
-  module _ (query : ConjunctiveQuery) (patterns : List (List (List Bool)))
+  module _ (query : ConjunctiveQuery) (patterns : Patterns)
       (expand_candidates : (set : List Bool) → length set ≡ length (plan_query plan).body → (facts : List (Fact Term)) → IsPartOf expands.of set facts
       → IsExpansion (views_of fragments) (candidate (plan_query plan) set) facts)
       (mean : (other : ConjunctiveQuery) (facts : List (Fact Term)) (right : ConjunctiveQuery) → IsExpansion (views_of fragments) other facts

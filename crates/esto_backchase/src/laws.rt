@@ -17,6 +17,7 @@ ghost use Rattle.esto_views.specs.declared.fragments.FragmentDef.{FragmentDef};
 ghost use Rattle.esto_views.specs.declared.plan.Plan.{Plan};
 ghost use Rattle.esto_backchase.specs.Plain.{IsPlainCase};
 ghost use Rattle.esto_backchase.specs.Searching.{Passes};
+ghost use Rattle.esto_semantics.specs.Access.{Patterns};
 
 use esto_semantics::{
     an_expansion_means_the_same, an_expansion_of_a_plan_expands_its_candidates,
@@ -29,7 +30,7 @@ use esto_views::plans_are_sound;
 /// it, head to head, and onto a set of the plan's atoms that has one of the sets within it, where these are exactly the
 /// listed sets.
 pub fn listed_sets_cover_rewritings()
-    ensures { (rules : List Rule) (views : List ConjunctiveQuery) (patterns : List (List (List Bool))) (query plan other : ConjunctiveQuery)
+    ensures { (rules : List Rule) (views : List ConjunctiveQuery) (patterns : Patterns) (query plan other : ConjunctiveQuery)
         (sets : List (List Bool)) → AreFlat plan.body → IsUniversalPlan rules views query plan → IsSatisfiable rules query
         → AreListed rules views patterns query plan sets → IsExecutableRewriting rules views patterns query other
         → (set : List Bool) × MapsOnto other plan set × Covers sets set }

@@ -16,11 +16,13 @@ use Rattle.esto_semantics.specs.Maps.{AreFlat, IsFixedBy, Keeps, Sends, AgreeOn}
 use Rattle.esto_semantics.specs.Rules.{Rule, tuple, equality, denial}
 use Rattle.esto_semantics.specs.declared.fact.Fact.{Fact}
 use Rattle.esto_query.specs.Valuations.{Assignment, Extends, map_of}
-use Rattle.esto_query.specs.Matches.{IsMatch, IsBefore, IsAtMost, IsFound, IsLeastMatch, HasNoMatch}
+use Rattle.esto_query.specs.Matches.{IsFound, IsLeastMatch, HasNoMatch}
+use Rattle.esto_semantics.specs.Matches.{IsMatch, IsBefore, IsAtMost}
 use Rattle.esto_query.specs.declared.matches.Found.{Found}
 use Rattle.esto_query.proofs.ValuationLemmas.{Keeps-map_of, Extends-map_of}
 use Rattle.esto_query.proofs.MatchLemmas.{Sends-match, match-Sends, IsMatch-length}
-use Rattle.esto_constraint.specs.Constraints.{rule_of, rules_of, body_of}
+use Rattle.esto_constraint.specs.Constraints.{rule_of, rules_of}
+use Rattle.esto_semantics.specs.Rules.{body_of}
 use Rattle.esto_constraint.specs.Matches.{HasExtension, Holds, IsMet, AreMet, IsLeastActive, IsFirstBroken}
 use Rattle.esto_constraint.specs.Tests.{IsOver, Tells}
 use Rattle.esto_constraint.specs.declared.rule.Constraint.{Constraint}

@@ -6,7 +6,7 @@ use Rattle.std.specs.Cmp.Lexicographic.{slice_cmp}
 use Rattle.std.specs.declared.cmp.Ordering.{Ordering}
 use Rattle.std.specs.declared.cmp.Ordering.TheVariants.{Less, Equal, Greater}
 use Rattle.std.proofs.lemmas.Map.Lookups.{exact_bytes}
-use Rattle.esto_query.specs.Matches.{IsBefore, IsAtMost}
+use Rattle.esto_semantics.specs.Matches.{IsBefore, IsAtMost}
 use Rattle.esto_query.proofs.PlaceLemmas.{IsBefore-cons}
 
 abbrev pub power : ℕ → ℕ → ℕ

@@ -10,7 +10,8 @@ use Rattle.esto_query.specs.Soundness.{AreNamed, IsSound}
 use Rattle.esto_query.specs.declared.query.Name.{Name}
 use Rattle.esto_query.proofs.SoundLemmas.{sound_of}
 use Rattle.esto_constraint.specs.Soundness.{IsSoundTuple, IsSoundEquality}
-use Rattle.esto_constraint.specs.Constraints.{rule_of, body_of}
+use Rattle.esto_constraint.specs.Constraints.{rule_of}
+use Rattle.esto_semantics.specs.Rules.{body_of}
 use Rattle.esto_constraint.specs.declared.rule.Constraint.{Constraint}
 use Rattle.esto_constraint.specs.declared.rule.Constraint.TheVariants.{Tuple, Equal}
 use Rattle.esto_term.proofs.ListLemmas.{Contains-cases, Contains-head, Contains-nil, Contains-rest}

@@ -1,8 +1,6 @@
 -- The meaning of rules.
 use Rattle.std.specs.Prelude.{List, map}
-use Rattle.esto_term.specs.declared.term.Term.{Term}
-use Rattle.esto_semantics.specs.Rules.{Rule, tuple, equality, denial}
-use Rattle.esto_semantics.specs.declared.fact.Fact.{Fact}
+use Rattle.esto_semantics.specs.Rules.{Rule, tuple, equality}
 use Rattle.esto_constraint.specs.declared.rule.Constraint.{Constraint}
 use Rattle.esto_constraint.specs.declared.rule.Constraint.TheVariants.{Tuple, Equal}
 
@@ -14,9 +12,3 @@ rule_of (Equal rule) = equality rule.body rule.left rule.right
 -- The rules, in order.
 abbrev pub rules_of : List Constraint → List Rule
 rules_of rules = map rule_of rules
-
--- The rule's body.
-abbrev pub body_of : Rule → List (Fact Term)
-body_of (tuple body head) = body
-body_of (equality body left right) = body
-body_of (denial body) = body

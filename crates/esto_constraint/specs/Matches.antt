@@ -3,23 +3,20 @@ use Rattle.std.specs.Prelude.{◌≡◌, ℕ, List, Some, take, slice_get, Conta
 use Rattle.std.specs.FinMap.{empty}
 use Rattle.esto_term.specs.declared.term.Term.{Term}
 use Rattle.esto_term.specs.declared.term.Term.TheVariants.{Const}
-use Rattle.esto_semantics.specs.Maps.{Keeps, Sends, AgreeOn}
-use Rattle.esto_semantics.specs.Rules.{Rule, tuple, equality, denial, MeetsInto}
+use Rattle.esto_semantics.specs.Maps.{Keeps}
+use Rattle.esto_semantics.specs.Matches.{IsMatch, IsAtMost}
+use Rattle.esto_semantics.specs.Rules.{Rule, tuple, body_of, Concludes, MeetsInto}
 use Rattle.esto_semantics.specs.declared.fact.Fact.{Fact}
 use Rattle.esto_query.specs.Valuations.{Assignment, Extends}
-use Rattle.esto_query.specs.Matches.{IsMatch, IsAtMost, IsFound}
-use Rattle.esto_constraint.specs.Constraints.{body_of}
+use Rattle.esto_query.specs.Matches.{IsFound}
 
--- Some map that keeps constants agrees with this one on the body, and sends the head to facts.
-abbrev pub HasExtension : List (Fact Term) → List (Fact Term) → List (Fact Term) → (Term → Term) → Type 0
-HasExtension body head facts m =
-    (more : Term → Term) × Keeps Const more × AgreeOn ◌≡◌ body m more × Sends more head facts
-
--- A tuple rule holds under a map of its body to facts when the map has an extension to the head; an equality rule when the map sends both sides to one term; a denial never.
+-- Under a map that sends the rule's body to facts, read over terms, the rule's conclusion is so.
 abbrev pub Holds : List (Fact Term) → Rule → (Term → Term) → Type 0
-Holds facts (tuple body head) m = HasExtension body head facts m
-Holds facts (equality body left right) m = m left ≡ m right
-Holds facts (denial body) m = ⊥
+Holds facts rule m = Concludes Const ◌≡◌ (Contains facts) rule m
+
+-- The map of the body to facts has an extension to the head: some map that agrees with it on the body sends the head to facts.
+abbrev pub HasExtension : List (Fact Term) → List (Fact Term) → List (Fact Term) → (Term → Term) → Type 0
+HasExtension body head facts m = Holds facts (tuple body head) m
 
 -- The facts, read over terms, meet the rule.
 abbrev pub IsMet : List (Fact Term) → Rule → Type 0

@@ -2,7 +2,8 @@
 ghost use Rattle.std.specs.Prelude.{◌≡◌, IfOk, MatchOption};
 ghost use Rattle.std.specs.FinMap as map;
 ghost use Rattle.esto_query.specs.Valuations.{map_of};
-ghost use Rattle.esto_constraint.specs.Constraints.{rule_of, rules_of, body_of};
+ghost use Rattle.esto_constraint.specs.Constraints.{rule_of, rules_of};
+ghost use Rattle.esto_semantics.specs.Rules.{body_of};
 ghost use Rattle.esto_constraint.specs.Matches.{HasExtension, Holds, IsMet, AreMet, IsLeastActive, IsFirstBroken};
 ghost use Rattle.esto_constraint.specs.Tests.{IsOver, Tells};
 

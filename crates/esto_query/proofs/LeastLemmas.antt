@@ -11,7 +11,8 @@ use Rattle.esto_semantics.specs.Facts.{image}
 use Rattle.esto_semantics.specs.Maps.{IsFlat, AreFlat, Keeps}
 use Rattle.esto_semantics.specs.declared.fact.Fact.{Fact}
 use Rattle.esto_query.specs.Valuations.{Assignment, Extends, map_of}
-use Rattle.esto_query.specs.Matches.{IsMatch, IsAtMost, IsLeastMatch, HasNoMatch}
+use Rattle.esto_query.specs.Matches.{IsLeastMatch, HasNoMatch}
+use Rattle.esto_semantics.specs.Matches.{IsMatch, IsAtMost}
 use Rattle.esto_query.specs.Trails.{with_trail, Narrows, Excludes, Tries}
 use Rattle.esto_query.specs.Searches.{IsLeastFrom, Searched, first_from, rest_from}
 use Rattle.esto_query.specs.declared.trail.Binding.{Binding}

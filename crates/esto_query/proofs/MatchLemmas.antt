@@ -11,7 +11,7 @@ use Rattle.esto_semantics.specs.Facts.{image, Mentions}
 use Rattle.esto_semantics.specs.Maps.{AreFlat, Keeps, Sends}
 use Rattle.esto_semantics.specs.declared.fact.Fact.{Fact}
 use Rattle.esto_query.specs.Valuations.{Assignment, Extends, map_of}
-use Rattle.esto_query.specs.Matches.{IsMatch}
+use Rattle.esto_semantics.specs.Matches.{IsMatch}
 use Rattle.esto_query.specs.Trails.{Narrows}
 use Rattle.esto_query.specs.Variables.{mentions}
 use Rattle.esto_query.proofs.MapLemmas.{image_agree, image_values, changed, changed-here, changed-flat, Keeps-changed, Extends-changed, terms_differ}

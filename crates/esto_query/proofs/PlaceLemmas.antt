@@ -8,7 +8,7 @@ use Rattle.std.specs.Cmp.Lexicographic.{slice_cmp}
 use Rattle.std.proofs.lemmas.Cmp.{ranked, by_ranked}
 use Rattle.std.proofs.lemmas.Bool.Decides.{nat_tests}
 use Rattle.std.proofs.lemmas.Option.{same_Some, slice_get_within}
-use Rattle.esto_query.specs.Matches.{IsBefore, IsAtMost}
+use Rattle.esto_semantics.specs.Matches.{IsBefore, IsAtMost}
 use Rattle.esto_query.specs.Searches.{first_from, rest_from}
 
 -- ---- one place and the rest

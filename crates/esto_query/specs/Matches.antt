@@ -1,28 +1,13 @@
--- Matches of a body in a list of facts.
-use Rattle.std.specs.Prelude.{◌≡◌, ◌≢◌, ◌⊎◌, ◌↔◌, ℕ, List, Some, IsSome, slice_get}
-use Rattle.std.specs.List.{AllZip}
+-- Least matches of a body in a list of facts.
+use Rattle.std.specs.Prelude.{◌⊎◌, ◌↔◌, ℕ, List, IsSome}
 use Rattle.std.specs.FinMap.{get}
-use Rattle.std.specs.Ordering.{nat_cmp}
-use Rattle.std.specs.Cmp.Lexicographic.{slice_cmp}
-use Rattle.std.specs.declared.cmp.Ordering.TheVariants.{Less, Greater}
 use Rattle.esto_term.specs.declared.term.Term.{Term}
 use Rattle.esto_term.specs.declared.term.Term.TheVariants.{Const, Plain}
-use Rattle.esto_semantics.specs.Facts.{image, Mentions}
+use Rattle.esto_semantics.specs.Facts.{Mentions}
 use Rattle.esto_semantics.specs.Maps.{Keeps}
+use Rattle.esto_semantics.specs.Matches.{IsMatch, IsAtMost}
 use Rattle.esto_semantics.specs.declared.fact.Fact.{Fact}
 use Rattle.esto_query.specs.Valuations.{Assignment, Extends}
-
--- The map sends each atom to the fact at its place.
-abbrev pub IsMatch : (Term → Term) → List (Fact Term) → List (Fact Term) → List ℕ → Type 0
-IsMatch m body facts places = AllZip (λ atom place. slice_get facts place ≡ Some (image m atom)) body places
-
--- The one list of places comes before the other, place by place.
-abbrev pub IsBefore : List ℕ → List ℕ → Type 0
-IsBefore places others = slice_cmp nat_cmp places others ≡ Less
-
--- It comes before the other, or is the same.
-abbrev pub IsAtMost : List ℕ → List ℕ → Type 0
-IsAtMost places others = slice_cmp nat_cmp places others ≢ Greater
 
 -- The found valuation is the start with a term for each variable of the body, and with no other variable; and the maps that extend it are exactly those that extend the start and send each atom to the fact at its place.
 pub record IsFound (body facts : List (Fact Term)) (start found : Assignment) (places : List ℕ) : Type 0 where

@@ -3,7 +3,8 @@ ghost use Rattle.std.specs.Prelude.{◌≡◌, ◌<◌, ◌↔◌, ℕ, List, le
 ghost use Rattle.esto_term.specs.declared.term.Term.{Term};
 ghost use Rattle.esto_semantics.specs.Maps.{AreFlat, Sends};
 ghost use Rattle.esto_semantics.specs.declared.fact.Fact.{Fact};
-ghost use Rattle.esto_query.specs.Matches.{IsMatch, IsBefore, IsAtMost, IsLeastMatch, HasNoMatch};
+ghost use Rattle.esto_query.specs.Matches.{IsLeastMatch, HasNoMatch};
+ghost use Rattle.esto_semantics.specs.Matches.{IsMatch, IsBefore, IsAtMost};
 ghost use Rattle.esto_query.specs.Trails.{with_trail};
 
 use crate::index::index_of;

@@ -15,7 +15,7 @@ use Rattle.esto_term.specs.declared.term.Term.TheVariants.{outs-Const, rolls-Con
 use Rattle.esto_semantics.specs.declared.fact.Fact.{Fact}
 use Rattle.esto_semantics.specs.Maps.{IsConstant}
 use Rattle.esto_semantics.specs.Sets.{Has, Within, numbers, united}
-use Rattle.esto_semantics.specs.Access.{IsInput, IsBound, MeetsPattern, IsAccessible, IsEarlier, IsOrder, IsExecutable, IsAccessiblePart, IsStatedOrder}
+use Rattle.esto_semantics.specs.Access.{Patterns, IsInput, IsBound, MeetsPattern, IsAccessible, IsEarlier, IsOrder, IsExecutable, IsAccessiblePart, IsStatedOrder}
 use Rattle.esto_semantics.specs.AccessSteps.{IsReady, IsNext, IsStuck}
 use Rattle.esto_semantics.specs.AccessLaws.{NoneIsExecutable, UnionIsExecutable, PartExists, PartIsOne, ExecutableIsOwnPart, PartRises, StatedOrderExists, StatedOrderIsOne, NumbersAreStated, RewritingsNeedNoOrder}
 use Rattle.esto_semantics.proofs.SetLemmas.{beyond, decided_has, within_refl, within_trans, within_same, has_united, length-united, numbers_have, numbers_rise}
@@ -100,7 +100,7 @@ none_has (suc count) (suc number) h = none_has count number h
 
 -- ---- what is accessible
 
-module _ (patterns : List (List (List Bool))) (atoms : List (Fact Term)) where
+module _ (patterns : Patterns) (atoms : List (Fact Term)) where
   pub accessible_more : (P Q : ℕ → Type 0) → ((number : ℕ) → P number → Q number) → (atom : Fact Term) → IsAccessible patterns atoms P atom → IsAccessible patterns atoms Q atom
   accessible_more P Q step atom (pattern, has_pattern, meets) = (
     pattern,
@@ -207,7 +207,7 @@ module _ (exact : (term other : Term) → (term_cmp term other ≡ Equal) ↔ (t
   decided_contains : (terms : List Term) (term : Term) → Decided (Contains terms term)
   decided_contains terms term = decided_below (λ k. get_or terms k term ≡ term) (length terms) (λ k l. decided_same (get_or terms k term) term)
 
-  module _ (patterns : List (List (List Bool))) (atoms : List (Fact Term)) where
+  module _ (patterns : Patterns) (atoms : List (Fact Term)) where
     decided_bound : (part : List Bool) (term : Term) → Decided (IsBound atoms (Has part) term)
     decided_bound part term = decided_either (decided_constant term) (decided_as same (decided_below Gives (length atoms) gives))
       where
@@ -404,7 +404,7 @@ part_rises patterns atoms set other part part_of_other within is_part is_part' =
 
 -- ---- one stated order
 
-module _ (patterns : List (List (List Bool))) (atoms : List (Fact Term)) (set : List Bool) where
+module _ (patterns : Patterns) (atoms : List (Fact Term)) (set : List Bool) where
   module _ (order other : List ℕ) (stated : IsStatedOrder patterns atoms set order) (stated' : IsStatedOrder patterns atoms set other) (place : ℕ)
       (same : (before : ℕ) → before < place → slice_get order before ≡ slice_get other before) where
     earlier_same : (number : ℕ) → IsEarlier order place number → IsEarlier other place number

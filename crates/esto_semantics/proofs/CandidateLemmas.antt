@@ -3,7 +3,7 @@ use Rattle.std.proofs.Common.{◌≡◌, ◌≢◌, ◌↔◌, inl, inr, ℕ, �
 use Rattle.std.proofs.lemmas.List.{get_or-replicate, length-replicate}
 use Rattle.std.proofs.lemmas.Option.{slice_get_within}
 use Rattle.esto_term.specs.declared.term.Term.{Term}
-use Rattle.esto_semantics.specs.Access.{IsOrder, IsExecutableQuery}
+use Rattle.esto_semantics.specs.Access.{Patterns, IsOrder, IsExecutableQuery}
 use Rattle.esto_semantics.specs.Containment.{IsContained, IsEquivalent}
 use Rattle.esto_semantics.specs.Facts.{image, Mentions}
 use Rattle.esto_semantics.specs.Instances.{MapsTo}
@@ -66,7 +66,7 @@ module _ (plan : ConjunctiveQuery) (set : List Bool) where
 
 -- ---- executable candidates
 
-module _ (patterns : List (List (List Bool))) (plan : ConjunctiveQuery) (set : List Bool) (order : List ℕ) (is_order : IsOrder patterns plan.body set order) where
+module _ (patterns : Patterns) (plan : ConjunctiveQuery) (set : List Bool) (order : List ℕ) (is_order : IsOrder patterns plan.body set order) where
   abbrev all : List Bool
   all = replicate (length (chosen set plan.body)) true
 
@@ -96,7 +96,7 @@ module _ (patterns : List (List (List Bool))) (plan : ConjunctiveQuery) (set : L
   )
 
 -- a set that is a rewriting has an executable rewriting as its candidate
-pub candidate-IsExecutableRewriting : (rules : List Rule) (views : List ConjunctiveQuery) (patterns : List (List (List Bool))) (query plan : ConjunctiveQuery) (set : List Bool)
+pub candidate-IsExecutableRewriting : (rules : List Rule) (views : List ConjunctiveQuery) (patterns : Patterns) (query plan : ConjunctiveQuery) (set : List Bool)
     → IsPlanFor query plan → IsRewriting rules views patterns query plan set → IsExecutableRewriting rules views patterns query (candidate plan set)
 candidate-IsExecutableRewriting rules views patterns query plan set form rewriting = record {
   is_query = candidate-IsQuery plan set query form rewriting.has_candidate rewriting.safe;

@@ -18,6 +18,7 @@ use Rattle.esto_semantics.proofs.SetLemmas.{in_order_once, order_is_one, minimal
 use Rattle.esto_semantics.proofs.AccessLemmas.{decided_same}
 use Rattle.esto_term.proofs.ChoiceLemmas.{Decided, decided_below, pairs_cons, pairs_head, pairs_tail}
 use Rattle.esto_term.proofs.ListLemmas.{Contains-at, Contains-cases, Contains-head, Contains-nil, Contains-rest, place-from_Contains, Contains-filter, Contains-filter_from}
+use Rattle.esto_semantics.specs.Access.{Patterns}
 
 pub tested_are_rewritings : TestedAreRewritings
 tested_are_rewritings rules views patterns query plan test tells set = (
@@ -28,7 +29,7 @@ tested_are_rewritings rules views patterns query plan test tells set = (
 
 -- ---- the list
 
-module _ (rules : List Rule) (views : List ConjunctiveQuery) (patterns : List (List (List Bool))) (query plan : ConjunctiveQuery) (family : List (List Bool))
+module _ (rules : List Rule) (views : List ConjunctiveQuery) (patterns : Patterns) (query plan : ConjunctiveQuery) (family : List (List Bool))
     (exact : AreRewritings rules views patterns query plan family) where
   counted : HaveOneCount family
   counted set other h k = ((exact set).0 h).has_candidate.over ∙ sym ((exact other).0 k).has_candidate.over

@@ -8,7 +8,7 @@ use Rattle.esto_semantics.proofs.AccessLemmas.{missing, missing-set, has_set, no
 use Rattle.esto_semantics.proofs.SetLemmas.{within_refl, within_same}
 use Rattle.esto_term.specs.declared.term.Term.{Term}
 use Rattle.esto_semantics.specs.declared.fact.Fact.{Fact}
-use Rattle.esto_semantics.specs.Access.{IsAccessible, IsExecutable, IsAccessiblePart}
+use Rattle.esto_semantics.specs.Access.{Patterns, IsAccessible, IsExecutable, IsAccessiblePart}
 use Rattle.esto_semantics.specs.AccessSteps.{IsNext, IsStuck}
 use Rattle.esto_semantics.specs.Sets.{Has, Within, IsMinimal, AreMinimal, HaveOneCount, HasNoSmaller, Covers}
 use Rattle.esto_term.proofs.ListLemmas.{Contains-at, HoldsBelow, holds_all, holds_more, place-from_Contains, thing_at}
@@ -62,11 +62,11 @@ are_minimal family count minimal l so_far = record {
 
 -- ---- the accessible part
 
-pub stuck_at_end : (patterns : List (List (List Bool))) (atoms : List (Fact Term)) (set part : List Bool)
+pub stuck_at_end : (patterns : Patterns) (atoms : List (Fact Term)) (set part : List Bool)
     → ((number : ℕ) (atom : Fact Term) → slice_get atoms number ≡ Some atom → Has set number → IsAccessible patterns atoms (Has part) atom → Has part number) → IsStuck patterns atoms set part
 stuck_at_end patterns atoms set part all number l has ready = let found = thing_at atoms number l in all number found.0 found.1 has (ready found.0 found.1)
 
-pub next_found : (patterns : List (List (List Bool))) (atoms items : List (Fact Term)) (set part : List Bool) (number : ℕ) (atom : Fact Term) → items ≡ atoms → number < length items → atom ≡ get_or items number atom
+pub next_found : (patterns : Patterns) (atoms items : List (Fact Term)) (set part : List Bool) (number : ℕ) (atom : Fact Term) → items ≡ atoms → number < length items → atom ≡ get_or items number atom
     → Has set number → (Has part number → ⊥) → IsAccessible patterns atoms (Has part) atom → IsNext patterns atoms set part number
 next_found patterns atoms items set part number atom same l e has absent accessible =
     let at : slice_get atoms number ≡ Some atom = ap (λ its. slice_get its number) (sym same) ∙ slice_get-get_or items number atom l ∙ ap Some (sym e) in record {
@@ -84,11 +84,11 @@ replicate-push count x = rw (add-one count) (go count)
     go (suc n) = ap (λ zs. x ∷ zs) (go n)
 
 -- the part of the set that the run has taken so far is executable
-pub record IsPartSoFar (patterns : List (List (List Bool))) (atoms : List (Fact Term)) (set part : List Bool) : Type 0 where
+pub record IsPartSoFar (patterns : Patterns) (atoms : List (Fact Term)) (set part : List Bool) : Type 0 where
   pub within : Within part set
   pub executable : IsExecutable patterns atoms part
 
-module _ (patterns : List (List (List Bool))) (atoms : List (Fact Term)) (set : List Bool) where
+module _ (patterns : Patterns) (atoms : List (Fact Term)) (set : List Bool) where
   pub part_starts : IsPartSoFar patterns atoms set (replicate (length atoms) false)
   part_starts = record { within = λ number h. absurd (none_has (length atoms) number h); executable = none_is_executable patterns atoms }
 

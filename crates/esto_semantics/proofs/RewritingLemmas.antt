@@ -4,7 +4,7 @@ use Rattle.std.proofs.lemmas.List.{get_or-replicate, length-map}
 use Rattle.std.proofs.lemmas.Option.{slice_get_within}
 use Rattle.esto_term.specs.declared.term.Term.{Term}
 use Rattle.esto_term.specs.declared.term.Term.TheVariants.{Const}
-use Rattle.esto_semantics.specs.Access.{IsOrder, IsExecutable}
+use Rattle.esto_semantics.specs.Access.{Patterns, IsOrder, IsExecutable}
 use Rattle.esto_semantics.specs.Containment.{IsSatisfiable}
 use Rattle.esto_semantics.specs.Facts.{image, Mentions}
 use Rattle.esto_semantics.specs.Instances.{MapsTo}
@@ -23,7 +23,7 @@ use Rattle.esto_semantics.proofs.PlaceLemmas.{passing, length-passing, passing-H
 use Rattle.esto_semantics.proofs.ScheduleLemmas.{has_number, has_number-Decides, once_each, atom_in_order, IsOrder-moved}
 use Rattle.esto_term.proofs.ListLemmas.{Contains-at, Contains-map, Contains-map_from, place-from_Contains}
 
-module _ (patterns : List (List (List Bool))) (other plan : ConjunctiveQuery) (m : Term → Term) (keeps : Keeps Const m) (sends : Sends m other.body plan.body) where
+module _ (patterns : Patterns) (other plan : ConjunctiveQuery) (m : Term → Term) (keeps : Keeps Const m) (sends : Sends m other.body plan.body) where
   -- a place of the plan's atoms at which the image of the atom of a number stands
   pub place_of : (number : ℕ) → (place : ℕ) × ((atom : Fact Term) → slice_get other.body number ≡ Some atom → slice_get plan.body place ≡ Some (image m atom))
   place_of number = by (slice_get other.body number) refl
@@ -98,7 +98,7 @@ first_of : {X : Type 0} (things : List X) → things ≢ [] → (first : X) × (
 first_of [] some = absurd (some refl)
 first_of (first ∷ rest) some = (first, refl)
 
-module _ (rules : List Rule) (views : List ConjunctiveQuery) (patterns : List (List (List Bool))) (query plan other : ConjunctiveQuery)
+module _ (rules : List Rule) (views : List ConjunctiveQuery) (patterns : Patterns) (query plan other : ConjunctiveQuery)
     (rewriting : IsExecutableRewriting rules views patterns query other) where
   -- over a database that gives the query a row, the heads are as long as the row
   heads_of_one_length : IsSatisfiable rules query → length other.head ≡ length query.head

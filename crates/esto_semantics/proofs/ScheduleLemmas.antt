@@ -8,7 +8,7 @@ use Rattle.std.proofs.lemmas.List.Elements.{Contains-get_or}
 use Rattle.std.proofs.lemmas.List.Kept.{AllPairs-cons}
 use Rattle.esto_term.specs.declared.term.Term.{Term}
 use Rattle.esto_term.specs.declared.term.Term.TheVariants.{Const}
-use Rattle.esto_semantics.specs.Access.{HasPattern, IsBound, IsAccessible, IsEarlier, IsOrder}
+use Rattle.esto_semantics.specs.Access.{Patterns, HasPattern, IsBound, IsAccessible, IsEarlier, IsOrder}
 use Rattle.esto_semantics.specs.Facts.{image}
 use Rattle.esto_semantics.specs.Maps.{Keeps}
 use Rattle.esto_semantics.specs.Sets.{Has}
@@ -146,7 +146,7 @@ once_each-earlier seen (first ∷ rest) place number at = by (once_each-earlier 
 
 -- ---- orders
 
-IsAccessible-more : (patterns : List (List (List Bool))) (atoms : List (Fact Term)) (Chosen More : ℕ → Type 0) (atom : Fact Term) → ((number : ℕ) → Chosen number → More number)
+IsAccessible-more : (patterns : Patterns) (atoms : List (Fact Term)) (Chosen More : ℕ → Type 0) (atom : Fact Term) → ((number : ℕ) → Chosen number → More number)
     → IsAccessible patterns atoms Chosen atom → IsAccessible patterns atoms More atom
 IsAccessible-more patterns atoms Chosen More atom more (pattern, has_pattern, meets) = (
   pattern,
@@ -157,7 +157,7 @@ IsAccessible-more patterns atoms Chosen More atom more (pattern, has_pattern, me
   ],
 )
 
-IsOrder-from_schedule : (patterns : List (List (List Bool))) (atoms : List (Fact Term)) (set : List Bool) (numbers : List ℕ) → length set ≡ length atoms
+IsOrder-from_schedule : (patterns : Patterns) (atoms : List (Fact Term)) (set : List Bool) (numbers : List ℕ) → length set ≡ length atoms
     → ((number : ℕ) → Contains numbers number ↔ Has set number)
     → ((place number : ℕ) (atom : Fact Term) → slice_get numbers place ≡ Some number → slice_get atoms number ≡ Some atom → IsAccessible patterns atoms (IsEarlier numbers place) atom)
     → IsOrder patterns atoms set (once_each [] numbers)
@@ -185,7 +185,7 @@ IsOrder-from_schedule patterns atoms set numbers over names accessible = record 
 
 -- ---- orders of moved atoms
 
-module _ (patterns : List (List (List Bool))) (atoms : List (Fact Term)) (set : List Bool) where
+module _ (patterns : Patterns) (atoms : List (Fact Term)) (set : List Bool) where
   -- a number of an order is that of an atom
   pub atom_in_order : (order : List ℕ) → IsOrder patterns atoms set order → (number : ℕ) → Contains order number → (atom : Fact Term) × (slice_get atoms number ≡ Some atom)
   atom_in_order order is_order number inside =
@@ -193,7 +193,7 @@ module _ (patterns : List (List (List Bool))) (atoms : List (Fact Term)) (set : 
       let over : length set ≡ length atoms = is_order.over in
       thing_at atoms number (omega arith)
 
-module _ (patterns : List (List (List Bool))) (atoms others : List (Fact Term)) (set : List Bool) (m : Term → Term) (keeps : Keeps Const m) (place_of : ℕ → ℕ)
+module _ (patterns : Patterns) (atoms others : List (Fact Term)) (set : List Bool) (m : Term → Term) (keeps : Keeps Const m) (place_of : ℕ → ℕ)
     (moves : (number : ℕ) (atom : Fact Term) → Has set number → slice_get atoms number ≡ Some atom → slice_get others (place_of number) ≡ Some (image m atom))
     (order : List ℕ) (is_order : IsOrder patterns atoms set order) where
   -- what is bound in the order is bound at the places that its numbers move to

@@ -2,7 +2,7 @@
 use Rattle.std.specs.Prelude.{◌≡◌, ◌↔◌, ℕ, Bool, false, List, length, replicate}
 use Rattle.esto_term.specs.declared.term.Term.{Term}
 use Rattle.esto_semantics.specs.Sets.{Within, numbers, united}
-use Rattle.esto_semantics.specs.Access.{AreOpen, IsExecutable, IsAccessiblePart, IsStatedOrder}
+use Rattle.esto_semantics.specs.Access.{Patterns, AreOpen, IsExecutable, IsAccessiblePart, IsStatedOrder}
 use Rattle.esto_semantics.specs.Queries.{ConjunctiveQuery, IsAnswer}
 use Rattle.esto_semantics.specs.Rules.{Rule}
 use Rattle.esto_semantics.specs.Containment.{IsEquivalent}
@@ -12,58 +12,58 @@ use Rattle.esto_semantics.specs.declared.fact.Fact.{Fact}
 
 -- The set of no atoms is executable.
 abbrev pub NoneIsExecutable : Type 0
-NoneIsExecutable = (patterns : List (List (List Bool))) (atoms : List (Fact Term)) → IsExecutable patterns atoms (replicate (length atoms) false)
+NoneIsExecutable = (patterns : Patterns) (atoms : List (Fact Term)) → IsExecutable patterns atoms (replicate (length atoms) false)
 
 -- The union of two executable sets is executable.
 abbrev pub UnionIsExecutable : Type 0
 UnionIsExecutable =
-    (patterns : List (List (List Bool))) (atoms : List (Fact Term)) (set other : List Bool)
+    (patterns : Patterns) (atoms : List (Fact Term)) (set other : List Bool)
     → IsExecutable patterns atoms set → IsExecutable patterns atoms other → IsExecutable patterns atoms (united set other)
 
 -- Every set has an accessible part.
 abbrev pub PartExists : Type 0
 PartExists =
-    (patterns : List (List (List Bool))) (atoms : List (Fact Term)) (set : List Bool) → (part : List Bool) × IsAccessiblePart patterns atoms set part
+    (patterns : Patterns) (atoms : List (Fact Term)) (set : List Bool) → (part : List Bool) × IsAccessiblePart patterns atoms set part
 
 -- A set has one accessible part.
 abbrev pub PartIsOne : Type 0
 PartIsOne =
-    (patterns : List (List (List Bool))) (atoms : List (Fact Term)) (set part other : List Bool)
+    (patterns : Patterns) (atoms : List (Fact Term)) (set part other : List Bool)
     → IsAccessiblePart patterns atoms set part → IsAccessiblePart patterns atoms set other → part ≡ other
 
 -- A set is executable exactly where it is its own accessible part.
 abbrev pub ExecutableIsOwnPart : Type 0
 ExecutableIsOwnPart =
-    (patterns : List (List (List Bool))) (atoms : List (Fact Term)) (set : List Bool)
+    (patterns : Patterns) (atoms : List (Fact Term)) (set : List Bool)
     → IsExecutable patterns atoms set ↔ IsAccessiblePart patterns atoms set set
 
 -- The accessible part of a subset is a subset of the accessible part.
 abbrev pub PartRises : Type 0
 PartRises =
-    (patterns : List (List (List Bool))) (atoms : List (Fact Term)) (set other part part_of_other : List Bool)
+    (patterns : Patterns) (atoms : List (Fact Term)) (set other part part_of_other : List Bool)
     → Within set other → IsAccessiblePart patterns atoms set part → IsAccessiblePart patterns atoms other part_of_other → Within part part_of_other
 
 -- Every executable set has a stated order.
 abbrev pub StatedOrderExists : Type 0
 StatedOrderExists =
-    (patterns : List (List (List Bool))) (atoms : List (Fact Term)) (set : List Bool)
+    (patterns : Patterns) (atoms : List (Fact Term)) (set : List Bool)
     → IsExecutable patterns atoms set → (order : List ℕ) × IsStatedOrder patterns atoms set order
 
 -- A set has one stated order.
 abbrev pub StatedOrderIsOne : Type 0
 StatedOrderIsOne =
-    (patterns : List (List (List Bool))) (atoms : List (Fact Term)) (set : List Bool) (order other : List ℕ)
+    (patterns : Patterns) (atoms : List (Fact Term)) (set : List Bool) (order other : List ℕ)
     → IsStatedOrder patterns atoms set order → IsStatedOrder patterns atoms set other → order ≡ other
 
 -- Where each of the atoms has a pattern without inputs, the stated order of any set of the atoms is the rising list of its numbers, so it is executable.
 abbrev pub NumbersAreStated : Type 0
 NumbersAreStated =
-    (patterns : List (List (List Bool))) (atoms : List (Fact Term)) → AreOpen patterns atoms
+    (patterns : Patterns) (atoms : List (Fact Term)) → AreOpen patterns atoms
     → (set : List Bool) → length set ≡ length atoms → IsStatedOrder patterns atoms set (numbers set)
 
 -- Where each of the plan's atoms has a pattern without inputs, a set whose candidate is safe and equivalent to the query is a rewriting.
 abbrev pub RewritingsNeedNoOrder : Type 0
 RewritingsNeedNoOrder =
-    (patterns : List (List (List Bool))) (rules : List Rule) (views : List ConjunctiveQuery) (query plan : ConjunctiveQuery) → AreOpen patterns plan.body
+    (patterns : Patterns) (rules : List Rule) (views : List ConjunctiveQuery) (query plan : ConjunctiveQuery) → AreOpen patterns plan.body
     → (set : List Bool) → HasCandidate plan set → IsSafe plan set
     → IsEquivalent rules (IsFragmentAnswer views (candidate plan set)) (IsAnswer query) → IsRewriting rules views patterns query plan set

@@ -2,6 +2,7 @@ pub mod Facts
 pub mod Maps
 pub mod Queries
 pub mod Rules
+pub mod Matches
 pub mod Containment
 pub mod Views
 pub mod Instances

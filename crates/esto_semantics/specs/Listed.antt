@@ -8,7 +8,7 @@ use Rattle.esto_semantics.specs.Rules.{Rule}
 use Rattle.esto_semantics.specs.Containment.{IsEquivalent}
 use Rattle.esto_semantics.specs.Views.{IsFragmentAnswer}
 use Rattle.esto_semantics.specs.Sets.{Has, IsMinimal, set_cmp}
-use Rattle.esto_semantics.specs.Access.{IsExecutable, IsExecutableQuery}
+use Rattle.esto_semantics.specs.Access.{Patterns, IsExecutable, IsExecutableQuery}
 use Rattle.esto_semantics.specs.declared.fact.Fact.{Fact}
 
 -- The atoms of a plan that a set names, in order.
@@ -31,23 +31,23 @@ abbrev pub IsSafe : ConjunctiveQuery → List Bool → Type 0
 IsSafe plan set = (term : Term) → Contains plan.head term → IsFixedBy (chosen set plan.body) term
 
 -- The set is a rewriting: it has a candidate, which is equivalent to the query, and it is safe and executable.
-pub record IsRewriting (rules : List Rule) (views : List ConjunctiveQuery) (patterns : List (List (List Bool))) (query plan : ConjunctiveQuery) (set : List Bool) : Type 0 where
+pub record IsRewriting (rules : List Rule) (views : List ConjunctiveQuery) (patterns : Patterns) (query plan : ConjunctiveQuery) (set : List Bool) : Type 0 where
   pub has_candidate : HasCandidate plan set
   pub safe : IsSafe plan set
   pub executable : IsExecutable patterns plan.body set
   pub equivalent : IsEquivalent rules (IsFragmentAnswer views (candidate plan set)) (IsAnswer query)
 
 -- The set is listed: it is minimal among the rewritings.
-abbrev pub IsListed : List Rule → List ConjunctiveQuery → List (List (List Bool)) → ConjunctiveQuery → ConjunctiveQuery → List Bool → Type 0
+abbrev pub IsListed : List Rule → List ConjunctiveQuery → Patterns → ConjunctiveQuery → ConjunctiveQuery → List Bool → Type 0
 IsListed rules views patterns query plan set = IsMinimal (IsRewriting rules views patterns query plan) set
 
 -- These are exactly the listed sets, each once, by size and then by their rising lists of numbers.
-pub record AreListed (rules : List Rule) (views : List ConjunctiveQuery) (patterns : List (List (List Bool))) (query plan : ConjunctiveQuery) (sets : List (List Bool)) : Type 0 where
+pub record AreListed (rules : List Rule) (views : List ConjunctiveQuery) (patterns : Patterns) (query plan : ConjunctiveQuery) (sets : List (List Bool)) : Type 0 where
   pub exact : (set : List Bool) → Contains sets set ↔ IsListed rules views patterns query plan set
   pub ordered : AllPairs (λ set other. set_cmp set other ≡ Less) sets
 
 -- A query over fragments is an executable rewriting of the query: it is executable, and equivalent to it.
-pub record IsExecutableRewriting (rules : List Rule) (views : List ConjunctiveQuery) (patterns : List (List (List Bool))) (query other : ConjunctiveQuery) : Type 0 where
+pub record IsExecutableRewriting (rules : List Rule) (views : List ConjunctiveQuery) (patterns : Patterns) (query other : ConjunctiveQuery) : Type 0 where
   pub is_query : IsQuery other
   pub executable : IsExecutableQuery patterns other
   pub equivalent : IsEquivalent rules (IsFragmentAnswer views other) (IsAnswer query)

@@ -7,45 +7,46 @@ use Rattle.esto_semantics.specs.Rules.{Rule}
 use Rattle.esto_semantics.specs.Sets.{Has, Within, AreMinimal, AreInOrder, all_sets}
 use Rattle.esto_semantics.specs.Listed.{chosen, IsRewriting, IsListed, AreListed, IsWeight, IsPick}
 use Rattle.esto_semantics.specs.declared.fact.Fact.{Fact}
+use Rattle.esto_semantics.specs.Access.{Patterns}
 
 -- The family has exactly the rewritings.
-abbrev pub AreRewritings : List Rule → List ConjunctiveQuery → List (List (List Bool)) → ConjunctiveQuery → ConjunctiveQuery → List (List Bool) → Type 0
+abbrev pub AreRewritings : List Rule → List ConjunctiveQuery → Patterns → ConjunctiveQuery → ConjunctiveQuery → List (List Bool) → Type 0
 AreRewritings rules views patterns query plan family = (set : List Bool) → Contains family set ↔ IsRewriting rules views patterns query plan set
 
 -- The test tells the rewritings among the sets of the plan's atoms.
-abbrev pub TellsRewritings : List Rule → List ConjunctiveQuery → List (List (List Bool)) → ConjunctiveQuery → ConjunctiveQuery → (List Bool → Bool) → Type 0
+abbrev pub TellsRewritings : List Rule → List ConjunctiveQuery → Patterns → ConjunctiveQuery → ConjunctiveQuery → (List Bool → Bool) → Type 0
 TellsRewritings rules views patterns query plan test =
     (set : List Bool) → length set ≡ length plan.body → IsTrue (test set) ↔ IsRewriting rules views patterns query plan set
 
 -- The sets that pass a test which tells the rewritings are the rewritings.
 abbrev pub TestedAreRewritings : Type 0
 TestedAreRewritings =
-    (rules : List Rule) (views : List ConjunctiveQuery) (patterns : List (List (List Bool))) (query plan : ConjunctiveQuery) (test : List Bool → Bool)
+    (rules : List Rule) (views : List ConjunctiveQuery) (patterns : Patterns) (query plan : ConjunctiveQuery) (test : List Bool → Bool)
     → TellsRewritings rules views patterns query plan test → AreRewritings rules views patterns query plan (filter test (all_sets (length plan.body)))
 
 -- A list has the listed sets, in order, exactly where it is in order and has the minimal sets of the family of rewritings.
 abbrev pub ListedAreMinimal : Type 0
 ListedAreMinimal =
-    (rules : List Rule) (views : List ConjunctiveQuery) (patterns : List (List (List Bool))) (query plan : ConjunctiveQuery) (family sets : List (List Bool))
+    (rules : List Rule) (views : List ConjunctiveQuery) (patterns : Patterns) (query plan : ConjunctiveQuery) (family sets : List (List Bool))
     → AreRewritings rules views patterns query plan family
     → AreListed rules views patterns query plan sets ↔ (AreMinimal family sets × AreInOrder sets)
 
 -- Where the family of rewritings is given, the list of the listed sets exists.
 abbrev pub ListedExist : Type 0
 ListedExist =
-    (rules : List Rule) (views : List ConjunctiveQuery) (patterns : List (List (List Bool))) (query plan : ConjunctiveQuery) (family : List (List Bool))
+    (rules : List Rule) (views : List ConjunctiveQuery) (patterns : Patterns) (query plan : ConjunctiveQuery) (family : List (List Bool))
     → AreRewritings rules views patterns query plan family → (sets : List (List Bool)) × AreListed rules views patterns query plan sets
 
 -- There is one list of the listed sets.
 abbrev pub ListedIsOne : Type 0
 ListedIsOne =
-    (rules : List Rule) (views : List ConjunctiveQuery) (patterns : List (List (List Bool))) (query plan : ConjunctiveQuery) (sets others : List (List Bool))
+    (rules : List Rule) (views : List ConjunctiveQuery) (patterns : Patterns) (query plan : ConjunctiveQuery) (sets others : List (List Bool))
     → AreListed rules views patterns query plan sets → AreListed rules views patterns query plan others → sets ≡ others
 
 -- Where the family of rewritings is given, each rewriting has a listed set within it.
 abbrev pub ListedCover : Type 0
 ListedCover =
-    (rules : List Rule) (views : List ConjunctiveQuery) (patterns : List (List (List Bool))) (query plan : ConjunctiveQuery) (family : List (List Bool))
+    (rules : List Rule) (views : List ConjunctiveQuery) (patterns : Patterns) (query plan : ConjunctiveQuery) (family : List (List Bool))
     → AreRewritings rules views patterns query plan family
     → (set : List Bool) → IsRewriting rules views patterns query plan set
     → (listed : List Bool) × IsListed rules views patterns query plan listed × Within listed set
@@ -53,7 +54,7 @@ ListedCover =
 -- Where the family of rewritings is given, the list is empty exactly where there is no rewriting.
 abbrev pub NoneIsListed : Type 0
 NoneIsListed =
-    (rules : List Rule) (views : List ConjunctiveQuery) (patterns : List (List (List Bool))) (query plan : ConjunctiveQuery) (family sets : List (List Bool))
+    (rules : List Rule) (views : List ConjunctiveQuery) (patterns : Patterns) (query plan : ConjunctiveQuery) (family sets : List (List Bool))
     → AreRewritings rules views patterns query plan family → AreListed rules views patterns query plan sets
     → (sets ≡ []) ↔ ((set : List Bool) → IsRewriting rules views patterns query plan set → ⊥)
 
@@ -95,7 +96,7 @@ PickIsOne = (weights : List ℕ) (place other : ℕ) → IsPick weights place �
 -- Where the totals are the weights of the listed sets, no rewriting weighs less than the pick.
 abbrev pub PickWeighsLeast : Type 0
 PickWeighsLeast =
-    (rules : List Rule) (views : List ConjunctiveQuery) (patterns : List (List (List Bool))) (query plan : ConjunctiveQuery) (family sets : List (List Bool)) (weights totals : List ℕ)
+    (rules : List Rule) (views : List ConjunctiveQuery) (patterns : Patterns) (query plan : ConjunctiveQuery) (family sets : List (List Bool)) (weights totals : List ℕ)
     → AreRewritings rules views patterns query plan family → AreListed rules views patterns query plan sets
     → AllZip (λ set total. IsWeight weights (chosen set plan.body) total) sets totals → (place : ℕ) → IsPick totals place
     → (set : List Bool) (weight : ℕ) → IsRewriting rules views patterns query plan set → IsWeight weights (chosen set plan.body) weight

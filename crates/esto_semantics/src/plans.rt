@@ -10,6 +10,7 @@ ghost use Rattle.esto_semantics.specs.Queries.{ConjunctiveQuery, IsAnswer};
 ghost use Rattle.esto_semantics.specs.Rewritings.{IsPlanFor, MapsOnto};
 ghost use Rattle.esto_semantics.specs.Rules.{Rule, AreRules};
 ghost use Rattle.esto_semantics.specs.Views.{IsFragmentAnswer};
+ghost use Rattle.esto_semantics.specs.Access.{Patterns};
 
 /// A law: where an instance is universal for a query under the rules, and meets the rules itself, the rows of all
 /// views over it, with its head, are a universal plan for the query, under whatever names for the terms.
@@ -40,7 +41,7 @@ pub fn candidates_contain_the_query()
 /// A law: each query over fragments that is an executable rewriting of a satisfiable query maps to a universal plan of
 /// it, head to head, and onto a set of the plan's atoms that is a rewriting: safe, executable and equivalent to the query.
 pub fn rewritings_map_onto_sets()
-    ensures { (rules : List Rule) (views : List ConjunctiveQuery) (patterns : List (List (List Bool))) (query plan other : ConjunctiveQuery)
+    ensures { (rules : List Rule) (views : List ConjunctiveQuery) (patterns : Patterns) (query plan other : ConjunctiveQuery)
         → AreFlat plan.body → IsUniversalPlan rules views query plan → IsSatisfiable rules query
         → IsExecutableRewriting rules views patterns query other
         → (set : List Bool) × IsRewriting rules views patterns query plan set × MapsOnto other plan set }
@@ -49,7 +50,7 @@ pub fn rewritings_map_onto_sets()
 /// A law: where a set of a plan's atoms is a rewriting of the query, its candidate is a query over fragments that is an
 /// executable rewriting.
 pub fn candidates_of_rewritings_are_executable_rewritings()
-    ensures { (rules : List Rule) (views : List ConjunctiveQuery) (patterns : List (List (List Bool))) (query plan : ConjunctiveQuery)
+    ensures { (rules : List Rule) (views : List ConjunctiveQuery) (patterns : Patterns) (query plan : ConjunctiveQuery)
         (set : List Bool) → IsPlanFor query plan → IsRewriting rules views patterns query plan set
         → IsExecutableRewriting rules views patterns query (candidate plan set) }
 {}

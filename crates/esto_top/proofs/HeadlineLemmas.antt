@@ -48,6 +48,7 @@ use Rattle.esto_top.proofs.AlikeLemmas.{same_reading, listing_moved}
 use Rattle.esto_top.proofs.LeadLemmas.{Leads, then-leads, gives-leads, judges-leads, fetches-leads, says-leads}
 use Rattle.esto_top.proofs.PlainLemmas.{no_rules}
 use Rattle.esto_term.proofs.ListLemmas.{Contains-map_from, Contains-nil}
+use Rattle.esto_semantics.specs.Access.{Patterns}
 
 -- each catalogue keeps what a catalogue keeps
 abbrev pub AreSound : Type 0
@@ -64,7 +65,7 @@ pub record PlanLaws : Type 0 where
   pub universal : (rules : List Rule) (names : List Name) (views : List ConjunctiveQuery) (query end : ConjunctiveQuery) (plan : Plan)
       → AreRules rules → IsUniversalFor rules query end → IsFinished rules end → IsStatedPlan names views end plan
       → IsUniversalPlan rules views query (plan_query plan)
-  pub covers : (rules : List Rule) (views : List ConjunctiveQuery) (patterns : List (List (List Bool))) (query plan other : ConjunctiveQuery)
+  pub covers : (rules : List Rule) (views : List ConjunctiveQuery) (patterns : Patterns) (query plan other : ConjunctiveQuery)
       (sets : List (List Bool)) → AreFlat plan.body → IsUniversalPlan rules views query plan → IsSatisfiable rules query
       → AreListed rules views patterns query plan sets → IsExecutableRewriting rules views patterns query other
       → (set : List Bool) × MapsOnto other plan set × Covers sets set

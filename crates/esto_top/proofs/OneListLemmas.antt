@@ -9,7 +9,7 @@ use Rattle.esto_list.specs.Names.{met_atoms, met_terms}
 use Rattle.esto_list.specs.Text.{each_from, fragment_name, atom_line, terms_text, count_line, item_line, pick_line, list_text}
 use Rattle.esto_list.specs.declared.listing.Listed.{Listed}
 use Rattle.esto_query.specs.declared.query.Name.{Name}
-use Rattle.esto_semantics.specs.Access.{IsStatedOrder}
+use Rattle.esto_semantics.specs.Access.{Patterns, IsStatedOrder}
 use Rattle.esto_semantics.specs.AccessLaws.{StatedOrderIsOne}
 use Rattle.esto_semantics.specs.ListedLaws.{PickIsOne}
 use Rattle.esto_semantics.specs.declared.fact.Fact.{Fact}
@@ -29,7 +29,7 @@ first_same one other rest others same = cc
 rest_same : {A : Type 0} (one other : A) (rest others : List A) → one ∷ rest ≡ other ∷ others → rest ≡ others
 rest_same one other rest others same = cc
 
-module _ (one_order : StatedOrderIsOne) (patterns : List (List (List Bool))) (weights : List ℕ) (atoms : List (Fact Term)) where
+module _ (one_order : StatedOrderIsOne) (patterns : Patterns) (weights : List ℕ) (atoms : List (Fact Term)) where
   abbrev pub HasOrder : Listed → Type 0
   HasOrder item = IsStatedOrder patterns atoms item.set item.order
 

@@ -5,7 +5,7 @@ use Rattle.std.proofs.lemmas.Option.{none-some, same_Some}
 use Rattle.esto_constraint.specs.Constraints.{rules_of}
 use Rattle.esto_constraint.specs.declared.rule.Constraint.{Constraint}
 use Rattle.esto_term.specs.declared.term.Term.{Term}
-use Rattle.esto_semantics.specs.Access.{IsInput, HasPattern, AreOpen}
+use Rattle.esto_semantics.specs.Access.{Patterns, IsInput, HasPattern, AreOpen}
 use Rattle.esto_semantics.specs.declared.fact.Fact.{Fact}
 use Rattle.esto_semantics.specs.Listed.{IsListed, AreListed}
 use Rattle.esto_semantics.specs.Queries.{ConjunctiveQuery}
@@ -46,7 +46,7 @@ all_open plan fragments over outputs atom inside =
     )
 
 -- a list of the kept sets, in order, has the listed sets where there is no rule
-pub listed_sets : (rules : List Rule) (views : List ConjunctiveQuery) (patterns : List (List (List Bool))) (query plan : ConjunctiveQuery) (sets kept : List (List Bool)) → rules ≡ []
+pub listed_sets : (rules : List Rule) (views : List ConjunctiveQuery) (patterns : Patterns) (query plan : ConjunctiveQuery) (sets kept : List (List Bool)) → rules ≡ []
     → ((set : List Bool) → Contains sets set ↔ Contains kept set) → ((set : List Bool) → Contains kept set ↔ IsListed [] views patterns query plan set) → AreInOrder sets
     → AreListed rules views patterns query plan sets
 listed_sets rules views patterns query plan sets kept none members listed ordered = subst (λ it. AreListed it views patterns query plan sets) (sym none) (record {

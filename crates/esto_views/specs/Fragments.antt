@@ -5,13 +5,14 @@ use Rattle.esto_semantics.specs.Maps.{IsVariable}
 use Rattle.esto_semantics.specs.Queries.{ConjunctiveQuery}
 use Rattle.esto_query.specs.Making.{query_of}
 use Rattle.esto_views.specs.declared.fragments.FragmentDef.{FragmentDef}
+use Rattle.esto_semantics.specs.Access.{Patterns}
 
 -- The views of the fragments, in order.
 abbrev pub views_of : List FragmentDef → List ConjunctiveQuery
 views_of fragments = map (λ fragment. query_of fragment.view) fragments
 
 -- The binding patterns, fragment by fragment.
-abbrev pub patterns_of : List FragmentDef → List (List (List Bool))
+abbrev pub patterns_of : List FragmentDef → Patterns
 patterns_of fragments = map (λ fragment. fragment.access) fragments
 
 -- What one use of each fragment weighs.

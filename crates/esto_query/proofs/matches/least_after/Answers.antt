@@ -1,5 +1,5 @@
 use Rattle.std.proofs.Common.{sym, ◌∙◌, length}
-use Rattle.esto_query.specs.Matches.{IsAtMost, IsBefore}
+use Rattle.esto_semantics.specs.Matches.{IsAtMost, IsBefore}
 use Rattle.esto_query.proofs.PlaceLemmas.{next_range}
 use Rattle.esto_query.proofs.LeastLemmas.{if_least, if_none}
 use Rattle.esto_query.proofs.matches.least_after.Goals as goal
