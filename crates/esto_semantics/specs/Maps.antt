@@ -1,21 +1,10 @@
 -- Maps of terms. A valuation is a map of terms to values that keeps constants; a homomorphism is one to terms that sends facts to facts.
 use Rattle.std.specs.Prelude.{◌≡◌, ◌⊎◌, ℕ, List, Contains}
 use Rattle.esto_term.specs.declared.term.Term.{Term}
-use Rattle.esto_term.specs.declared.term.Term.TheVariants.{Const, Plain}
+use Rattle.esto_term.specs.declared.term.Term.TheVariants.{Const}
+pub use Rattle.esto_term.specs.Kinds.{IsConstant, IsVariable, IsFlat}
 use Rattle.esto_semantics.specs.Facts.{image, Mentions}
 use Rattle.esto_semantics.specs.declared.fact.Fact.{Fact}
-
--- The term is a constant.
-abbrev pub IsConstant : Term → Type 0
-IsConstant term = (text : List ℕ) × (term ≡ Const text)
-
--- The term is a variable.
-abbrev pub IsVariable : Term → Type 0
-IsVariable term = (number : ℕ) × (term ≡ Plain number)
-
--- The term is a constant or a variable, and no made term.
-abbrev pub IsFlat : Term → Type 0
-IsFlat term = IsConstant term ⊎ IsVariable term
 
 -- Each term of the facts is a constant or a variable.
 abbrev pub AreFlat : List (Fact Term) → Type 0

@@ -1,5 +1,6 @@
 pub mod formers
 pub mod TextFaults
+pub mod Kinds
 pub mod Nesting
 pub mod Order
 pub mod Finite

@@ -8,6 +8,8 @@ mod text;
 mod values;
 
 pub use list::{List, OutOfMemory, Replicate};
-pub use term::{Term, TermRows, Terms, compare_terms, terms_are_finite, terms_are_ordered};
+pub use term::{
+    Term, TermRows, Terms, compare_terms, has_term, terms_are_finite, terms_are_ordered,
+};
 pub use text::{Bytes, Text, TextError, TextRow, TextRows};
 pub use values::{Places, Values};

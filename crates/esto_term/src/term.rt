@@ -1,10 +1,11 @@
 //! Terms: constants, plain terms and made terms.
-ghost use Rattle.std.specs.Prelude.{◌≡◌, ◌↔◌, IsTrue, IfOk};
+ghost use Rattle.std.specs.Prelude.{◌≡◌, ◌↔◌, Contains, IsTrue, IfOk};
 ghost use Rattle.std.specs.Cmp.{IsTotalOrder};
 ghost use Rattle.std.specs.Cmp.Lexicographic.{slice_cmp};
 ghost use Rattle.esto_term.specs.Nesting.{nesting};
 ghost use Rattle.esto_term.specs.Finite.{AreFinite};
-ghost use Rattle.esto_term.specs.Order.{term_cmp};
+ghost use Rattle.esto_term.specs.Kinds.{IsConstant};
+ghost use Rattle.esto_term.specs.Order.{replaced, term_cmp};
 ghost use Rattle.esto_term.specs.declared.term.Term.{Term};
 
 use crate::list::{List, OutOfMemory, Replicate};
@@ -81,12 +82,83 @@ impl Term {
     }
 
     /// Whether both are the same tree.
-    #[tactic(auto, using(crate::proofs::CompareLemmas::equal_tested))]
+    #[cycle(equal)]
     pub fn equal(&self, other: &Term) -> bool
         ensures { IsTrue result ↔ (self.now ≡ other.now) }
     {
-        self.compare(other).is_eq()
+        match self {
+            Term::Const(text) => match other {
+                Term::Const(text_b) => text.bytes() == text_b.bytes(),
+                Term::Plain(_) => false,
+                Term::Made(_, _, _) => false,
+            },
+            Term::Plain(number) => match other {
+                Term::Const(_) => false,
+                Term::Plain(number_b) => number == number_b,
+                Term::Made(_, _, _) => false,
+            },
+            Term::Made(rule, variable, frontier) => match other {
+                Term::Const(_) => false,
+                Term::Plain(_) => false,
+                Term::Made(rule_b, variable_b, frontier_b) => {
+                    rule == rule_b
+                        && variable == variable_b
+                        && equal_terms(frontier.items(), frontier_b.items())
+                }
+            },
+        }
     }
+
+    /// Whether the term is a constant.
+    pub fn is_constant(&self) -> bool
+        ensures { IsTrue result ↔ IsConstant self.now }
+    {
+        match self {
+            Term::Const(_) => true,
+            Term::Plain(_) => false,
+            Term::Made(_, _, _) => false,
+        }
+    }
+
+    /// A copy of `to` where this term is `from`, and else a copy of this term. A made term is a name: nothing
+    /// is replaced inside it.
+    pub fn substitute(&self, alloc: Global, from: &Term, to: &Term) -> Result<Term, OutOfMemory>
+        ensures { IfOk result (λ it. it ≡ replaced from.now to.now self.now) }
+    {
+        if self.equal(from) {
+            to.copy(alloc)
+        } else {
+            self.copy(alloc)
+        }
+    }
+}
+
+/// Whether both are the same terms in the same order.
+#[cycle(equal)]
+fn equal_terms(terms: &[Term], others: &[Term]) -> bool
+    ensures { IsTrue result ↔ (terms.now ≡ others.now) }
+{
+    if terms.len() != others.len() {
+        return false;
+    }
+    'terms: for (place, term) in terms.iter().enumerate() {
+        if !term.equal(&others[place]) {
+            return false;
+        }
+    }
+    true
+}
+
+/// Whether one of the terms is this one.
+pub fn has_term(terms: &[Term], term: &Term) -> bool
+    ensures { IsTrue result ↔ Contains terms.now term.now }
+{
+    'terms: for other in terms {
+        if other.equal(term) {
+            return true;
+        }
+    }
+    false
 }
 
 /// Compares the terms one by one, and then the lengths.

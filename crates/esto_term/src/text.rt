@@ -1,5 +1,5 @@
 //! Texts, which are UTF-8, and bytes.
-ghost use Rattle.std.specs.Prelude.{◌≡◌, [], ◌++◌, IfOk, OnOk, OnErr, IsUtf8};
+ghost use Rattle.std.specs.Prelude.{◌≡◌, [], ◌++◌, IfOk, OnOk, OnErr, IsUtf8, string_bytes};
 ghost use Rattle.esto_term.specs.TextFaults.{ReadsText};
 
 use crate::list::{List, OutOfMemory, Replicate};
@@ -40,6 +40,25 @@ pub type TextRow = List<Text>;
 pub type TextRows = List<TextRow>;
 
 impl Text {
+    /// The empty text, which takes no memory.
+    pub fn new(alloc: Global) -> Text
+        ensures { result ≡ [] }
+    {
+        Text {
+            text: String::new(alloc),
+        }
+    }
+
+    /// The text of this piece of Rust's own.
+    pub fn from_str(alloc: Global, text: &str) -> Result<Text, OutOfMemory>
+        ensures { IfOk result (λ it. it ≡ text.now) }
+    {
+        match String::from_str(alloc, text) {
+            Ok(text) => Ok(Text { text }),
+            Err(_) => Err(OutOfMemory),
+        }
+    }
+
     /// The text of these bytes. `NotUtf8` comes exactly where they are not UTF-8.
     pub fn from_bytes(alloc: Global, bytes: &[u8]) -> Result<Text, TextError>
         ensures { ReadsText bytes.now result }
@@ -71,10 +90,7 @@ impl Text {
 
 impl Replicate for Text {
     fn copy(&self, alloc: Global) -> Result<Text, OutOfMemory> {
-        match String::from_str(alloc, self.text.as_str()) {
-            Ok(text) => Ok(Text { text }),
-            Err(_) => Err(OutOfMemory),
-        }
+        Text::from_str(alloc, self.text.as_str())
     }
 }
 
@@ -113,11 +129,28 @@ impl Bytes {
         }
     }
 
+    /// Puts the bytes of a text at the end.
+    pub fn append_str(&mut self, text: &str) -> Result<(), OutOfMemory>
+        ensures ok { OnOk result (self.new ≡ self.old ++ text.now) }
+        ensures err { OnErr result (self.new ≡ self.old) }
+    {
+        self.append(text.as_bytes())
+    }
+
     /// All the bytes, in order.
     pub fn bytes(&self) -> &[u8]
         ensures { result.now ≡ self.now }
     {
         self.bytes.as_slice()
+    }
+
+    /// The bytes of a string, which is moved and not copied.
+    pub fn from_string(text: String) -> Bytes
+        ensures { result ≡ string_bytes text }
+    {
+        Bytes {
+            bytes: text.into_bytes(),
+        }
     }
 
     /// A copy of these bytes.
