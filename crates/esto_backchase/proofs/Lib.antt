@@ -2,4 +2,3 @@ pub mod BindingLemmas
 pub mod SafetyLemmas
 pub mod PassLemmas
 pub mod VisitLemmas
-pub mod CoverLemmas

@@ -21,8 +21,8 @@ ghost use Rattle.esto_semantics.specs.Access.{Patterns};
 
 use esto_semantics::{
     an_expansion_means_the_same, an_expansion_of_a_plan_expands_its_candidates,
-    candidates_contain_the_query, rewritings_map_onto_sets, rewritings_without_inputs,
-    universal_instances_satisfy_queries,
+    candidates_contain_the_query, listed_sets_are_minimal, rewritings_map_onto_sets,
+    rewritings_without_inputs, universal_instances_satisfy_queries,
 };
 use esto_views::plans_are_sound;
 
@@ -36,6 +36,7 @@ pub fn listed_sets_cover_rewritings()
         → (set : List Bool) × MapsOnto other plan set × Covers sets set }
 {
     rewritings_map_onto_sets();
+    listed_sets_are_minimal();
 }
 
 /// A law: without rules and inputs, the sets that pass are the rewritings, and each query over fragments that is an

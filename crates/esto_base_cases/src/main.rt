@@ -3,7 +3,6 @@
 #![tactic(auto)]
 
 mod orders;
-mod plain;
 mod printing;
 mod reading;
 mod script;

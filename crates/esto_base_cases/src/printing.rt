@@ -1,7 +1,7 @@
 //! How places and rows are printed.
 
 use esto_bits::RowBits;
-use esto_term::{Bytes, OutOfMemory, Places, Term, TermRows, Terms, Values};
+use esto_term::{Bytes, OutOfMemory, Places, Term, TermRows, Terms};
 use std::alloc::Global;
 
 /// A place, and a blank.
@@ -23,16 +23,6 @@ pub fn put_set(alloc: Global, out: &mut Bytes, set: &RowBits) -> Result<(), OutO
     'numbers: for number in 0..set.count() {
         if set.has(number) {
             put_place(alloc, out, number)?;
-        }
-    }
-    out.append(b"\n")
-}
-
-/// A line of the places of the flags that are true.
-pub fn put_flags(alloc: Global, out: &mut Bytes, flags: &Values<bool>) -> Result<(), OutOfMemory> {
-    'places: for (place, flag) in flags.items().iter().enumerate() {
-        if *flag {
-            put_place(alloc, out, place)?;
         }
     }
     out.append(b"\n")

@@ -4,7 +4,6 @@ ghost use Rattle.std.specs.Prelude.{◌≡◌, nat_lt};
 ghost use Rattle.std.specs.List.{list_all};
 
 use crate::orders::put_orders;
-use crate::plain::{put_access, put_answers};
 use crate::printing::{put_place, put_places, put_rows};
 use crate::reading::{facts, query, rule, term};
 use crate::sets::put_products;
@@ -100,12 +99,6 @@ impl Script {
         Ok(())
     }
 
-    fn rows_over(&self, alloc: Global, text: &str, out: &mut Bytes) -> Result<(), Refused> {
-        let query = query(alloc, &self.tables, text)?;
-        put_answers(alloc, out, &query, &self.facts)?;
-        Ok(())
-    }
-
     // The places of a rule's least active match, or that it is met.
     fn active(&self, alloc: Global, text: &str, out: &mut Bytes) -> Result<(), Refused> {
         let rule = rule(alloc, &self.tables, text)?;
@@ -155,8 +148,6 @@ impl Script {
             "meets" => self.meets(alloc, out)?,
             "products" => put_products(alloc, out, rest)?,
             "orders" => put_orders(alloc, out, &self.tables, rest)?,
-            "answers_over" => self.rows_over(alloc, rest, out)?,
-            "access" => put_access(alloc, out, &self.tables, rest)?,
             _ => return Err(Refused),
         }
         Ok(())

@@ -4,7 +4,7 @@ use crate::printing::{put_either, put_place, put_set};
 use crate::reading::numbers;
 use crate::script::Refused;
 use esto_bits::{Products, RowBits};
-use esto_term::{Bytes, Values};
+use esto_term::Bytes;
 use std::alloc::Global;
 
 /// What each number of a set is below.
@@ -20,15 +20,6 @@ pub fn set_of(alloc: Global, numbers: &[usize], count: usize) -> Result<RowBits,
         set.insert(*number);
     }
     Ok(set)
-}
-
-/// For each number below the count, whether it is one of these.
-pub fn flags_of(alloc: Global, numbers: &[usize], count: usize) -> Result<Values<bool>, Refused> {
-    let mut flags = Values::new(alloc);
-    'places: for place in 0..count {
-        flags.push(numbers.contains(&place))?;
-    }
-    Ok(flags)
 }
 
 // Whether a set is covered, whether it is then added, and how many are kept.

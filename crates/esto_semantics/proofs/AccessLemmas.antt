@@ -245,9 +245,10 @@ module _ (exact : (term other : Term) → (term_cmp term other ≡ Equal) ↔ (t
         ])
 
     decided_accessible : (part : List Bool) (atom : Fact Term) → Decided (IsAccessible patterns atoms (Has part) atom)
-    decided_accessible part atom = decided_as
-        (λ h. (get_or own h.0 [], Contains-get_or own h.0 [] h.1, h.2),
-         λ h. (h.1.0, h.1.1, subst (MeetsPattern atoms (Has part) atom) (sym (get_or_default own h.1.0 [] h.0 h.1.1 ∙ h.1.2)) h.2))
+    decided_accessible part atom = decided_as (
+      λ h. (get_or own h.0 [], Contains-get_or own h.0 [] h.1, h.2),
+      λ h. (h.1.0, h.1.1, subst (MeetsPattern atoms (Has part) atom) (sym (get_or_default own h.1.0 [] h.0 h.1.1 ∙ h.1.2)) h.2),
+    )
         (decided_below (λ place. MeetsPattern atoms (Has part) atom (get_or own place [])) (length own) (λ place l. decided_meets part atom (get_or own place [])))
       where
         own : List (List Bool)

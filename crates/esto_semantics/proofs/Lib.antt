@@ -3,8 +3,8 @@ pub mod TermLemmas
 pub mod RenamingLemmas
 pub mod CanonicalLemmas
 pub mod ContainmentLemmas
+pub mod FollowedLemmas
 pub mod WellFormedLemmas
-pub mod BindingLemmas
 pub mod AnswerLemmas
 pub mod PlanLemmas
 pub mod JoinLemmas
@@ -18,5 +18,6 @@ pub mod PartLemmas
 pub mod SpreadLemmas
 pub mod SetLemmas
 pub mod AccessLemmas
+pub mod CoverLemmas
 pub mod ListedLemmas
-pub mod ProgramLemmas
+pub mod PickLemmas

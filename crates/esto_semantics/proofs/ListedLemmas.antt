@@ -1,9 +1,9 @@
--- Listed sets, weights and the pick.
-use Rattle.std.proofs.Common.{◌≡◌, ◌≢◌, ℕ, zero, suc, ◌+◌, ◌<◌, ◌≤◌, Bool, true, false, List, [], ◌∷◌, length, get_or, map, Some, slice_get, slice_index_or, sum, refl, sym, ap, ◌∙◌, subst, arith, inl, inr}
+-- Listed sets and weights.
+use Rattle.std.proofs.Common.{◌≡◌, ◌≢◌, ℕ, zero, suc, ◌+◌, ◌≤◌, Bool, true, false, List, [], ◌∷◌, length, get_or, map, Some, slice_get, slice_index_or, sum, refl, sym, ap, ◌∙◌, subst, arith, inl, inr}
 use Rattle.std.specs.Prelude.{◌⊎◌, ◌↔◌, Contains, AllPairs}
-use Rattle.std.specs.List.{AllZip, sum_by}
+use Rattle.std.specs.List.{sum_by}
 use Rattle.std.specs.declared.cmp.Ordering.TheVariants.{Equal}
-use Rattle.std.proofs.lemmas.Bool.{false≢true, cases_order, cases_lt, cases_eq}
+use Rattle.std.proofs.lemmas.Bool.{false≢true, cases_eq}
 use Rattle.std.proofs.lemmas.List.Sums.{sum-map, sum_by-cons}
 use Rattle.std.proofs.lemmas.Option.{none-some, same_Some}
 use Rattle.esto_term.specs.Order.{term_cmp}
@@ -11,13 +11,14 @@ use Rattle.esto_term.specs.declared.term.Term.{Term}
 use Rattle.esto_semantics.specs.declared.fact.Fact.{Fact}
 use Rattle.esto_semantics.specs.Queries.{ConjunctiveQuery}
 use Rattle.esto_semantics.specs.Rules.{Rule}
-use Rattle.esto_semantics.specs.Sets.{Has, Within, IsMinimal, AreMinimal, HaveOneCount, AreInOrder, all_sets}
+use Rattle.esto_semantics.specs.Sets.{Has, Within, IsMinimal, AreMinimal, HaveCount, HaveOneCount, AreInOrder, all_sets}
 use Rattle.esto_semantics.specs.Listed.{chosen, IsRewriting, IsListed, AreListed, IsWeight}
-use Rattle.esto_semantics.specs.ListedLaws.{AreRewritings, TestedAreRewritings, ListedAreMinimal, ListedExist, ListedIsOne, ListedCover, NoneIsListed, ChosenAreNamed, WeightExists, WeightRises, WeightIsOne, WeightIsSum, PickExists, PickIsOne, PickWeighsLeast}
-use Rattle.esto_semantics.proofs.SetLemmas.{in_order_once, order_is_one, minimal_within, minimal_exist, all_sets_are_listed}
+use Rattle.esto_semantics.specs.ListedLaws.{AreRewritings, TestedAreRewritings, ListedAreMinimal, ListedExist, ListedIsOne, ListedCover, NoneIsListed, ChosenAreNamed, WeightExists, WeightRises, WeightIsOne, WeightIsSum}
+use Rattle.esto_semantics.proofs.CoverLemmas.{minimal-cover, listed_by_is_one, none_is_listed_by}
+use Rattle.esto_semantics.proofs.SetLemmas.{in_order_once, minimal_exist, all_sets_are_listed}
 use Rattle.esto_semantics.proofs.AccessLemmas.{decided_same}
 use Rattle.esto_term.proofs.ChoiceLemmas.{Decided, decided_below, pairs_cons, pairs_head, pairs_tail}
-use Rattle.esto_term.proofs.ListLemmas.{Contains-at, Contains-cases, Contains-head, Contains-nil, Contains-rest, place-from_Contains, Contains-filter, Contains-filter_from}
+use Rattle.esto_term.proofs.ListLemmas.{Contains-at, Contains-cases, Contains-head, Contains-nil, Contains-rest, Contains-filter, Contains-filter_from}
 use Rattle.esto_semantics.specs.Access.{Patterns}
 
 pub tested_are_rewritings : TestedAreRewritings
@@ -58,33 +59,26 @@ module _ (rules : List Rule) (views : List ConjunctiveQuery) (patterns : Pattern
   list_exists : (sets : List (List Bool)) × AreListed rules views patterns query plan sets
   list_exists = let found = minimal_exist family counted in (found.0, (listed_minimal found.0).1 (found.1, found.2))
 
-  covered : (set : List Bool) → IsRewriting rules views patterns query plan set → (listed : List Bool) × IsListed rules views patterns query plan listed × Within listed set
-  covered set rewriting = let found = minimal_within family counted set ((exact set).1 rewriting) in (found.0, (minimal_listed found.0).0 found.1, found.2)
-
 pub listed_are_minimal : ListedAreMinimal
 listed_are_minimal rules views patterns query plan family sets exact = listed_minimal rules views patterns query plan family exact sets
 
 pub listed_exist : ListedExist
 listed_exist = list_exists
 
-pub listed_cover : ListedCover
-listed_cover = covered
+rewritings_count : (rules : List Rule) (views : List ConjunctiveQuery) (patterns : Patterns) (query plan : ConjunctiveQuery)
+    → HaveCount (length plan.body) (IsRewriting rules views patterns query plan)
+rewritings_count rules views patterns query plan set rewriting = rewriting.has_candidate.over
 
 pub listed_is_one : ListedIsOne
-listed_is_one rules views patterns query plan sets others listed listed' =
-    order_is_one sets others listed.ordered listed'.ordered
-    (λ set. (λ h. (listed'.exact set).1 ((listed.exact set).0 h), λ h. (listed.exact set).1 ((listed'.exact set).0 h)))
+listed_is_one rules views patterns query plan sets others = listed_by_is_one (IsRewriting rules views patterns query plan) sets others
+
+pub listed_cover : ListedCover
+listed_cover rules views patterns query plan sets listed =
+    minimal-cover (IsRewriting rules views patterns query plan) (length plan.body) (rewritings_count rules views patterns query plan) sets listed.exact
 
 pub none_is_listed : NoneIsListed
-none_is_listed rules views patterns query plan family sets exact listed = (
-  λ e set rewriting. let found = listed_cover rules views patterns query plan family exact set rewriting in
-      Contains-nil found.0 (subst (λ zs. Contains zs found.0) e ((listed.exact found.0).1 found.1)),
-  λ none. go sets (λ set h. none set ((listed.exact set).0 h).0),
-)
-  where
-    go : (zs : List (List Bool)) → ((set : List Bool) → Contains zs set → ⊥) → zs ≡ []
-    go [] none = refl
-    go (z ∷ zs) none = absurd (none z (Contains-head z zs))
+none_is_listed rules views patterns query plan sets =
+    none_is_listed_by (IsRewriting rules views patterns query plan) (length plan.body) (rewritings_count rules views patterns query plan) sets
 
 -- ---- chosen atoms
 
@@ -110,7 +104,7 @@ chosen_back (false ∷ set) (first ∷ atoms) atom h = let back = chosen_back se
 pub chosen_are_named : ChosenAreNamed
 chosen_are_named set atoms atom = (chosen_back set atoms atom, λ h. chosen_there set atoms atom h.0 h.1 h.2)
 
-chosen_within : (set other : List Bool) (atoms : List (Fact Term)) → Within set other → (atom : Fact Term) → Contains (chosen set atoms) atom → Contains (chosen other atoms) atom
+pub chosen_within : (set other : List Bool) (atoms : List (Fact Term)) → Within set other → (atom : Fact Term) → Contains (chosen set atoms) atom → Contains (chosen other atoms) atom
 chosen_within set other atoms within atom h = let back = chosen_back set atoms atom h in chosen_there other atoms atom back.0 (within back.0 back.1) back.2
 
 chosen_once : (set : List Bool) (atoms : List (Fact Term)) → AllPairs ◌≢◌ atoms → AllPairs ◌≢◌ (chosen set atoms)
@@ -221,83 +215,3 @@ module _ (exact : (term other : Term) → (term_cmp term other ≡ Equal) ↔ (t
   weight_exists weights atoms =
       let found = distinct_of same_facts atoms in
       (sum (map (λ atom. slice_index_or weights atom.relation 0) found.0), (found.0, found.1, found.2, refl))
-
--- ---- the pick
-
--- the first place of least weight among the first few
-record IsBest (weights : List ℕ) (count place : ℕ) : Type 0 where
-  there : place < count
-  least : (other : ℕ) → other < count → get_or weights place 0 ≤ get_or weights other 0
-  first : (other : ℕ) → other < place → get_or weights place 0 < get_or weights other 0
-
-best_of : (weights : List ℕ) (count : ℕ) → (place : ℕ) × IsBest weights (suc count) place
-best_of weights zero = (
-  0,
-  record {
-    there = omega arith;
-    least = λ other l. (let e : 0 ≡ other = omega (arith, l) in let d = ap (λ k. get_or weights k 0) e in omega (arith, d));
-    first = λ other l. absurd (omega (arith, l));
-  },
-)
-best_of weights (suc count) = go (best_of weights count) (cases_lt (get_or weights (suc count) 0) (get_or weights (best_of weights count).0 0))
-  where
-    go : (best : (place : ℕ) × IsBest weights (suc count) place)
-        → (get_or weights (suc count) 0 < get_or weights best.0 0) ⊎ (get_or weights best.0 0 ≤ get_or weights (suc count) 0) → (place : ℕ) × IsBest weights (suc (suc count)) place
-    go best (inl less) = (
-      suc count,
-      record {
-        there = omega arith;
-        least = λ other l. elim (cases_order other (suc count)) [
-          | inl e ↦ (let d = ap (λ k. get_or weights k 0) e in omega (arith, d))
-          | inr apart ↦ elim apart [
-            | inl below ↦ (let low = (best.1).least other below in omega (arith, low, less))
-            | inr above ↦ absurd (omega (arith, above, l))
-          ]
-        ];
-        first = λ other l. let low = (best.1).least other l in omega (arith, low, less);
-      },
-    )
-    go best (inr most) = (
-      best.0,
-      record {
-        there = omega (arith, (best.1).there);
-        least = λ other l. elim (cases_order other (suc count)) [
-          | inl e ↦ (let d = ap (λ k. get_or weights k 0) e in omega (arith, d, most))
-          | inr apart ↦ elim apart [
-            | inl below ↦ (best.1).least other below
-            | inr above ↦ absurd (omega (arith, above, l))
-          ]
-        ];
-        first = (best.1).first;
-      },
-    )
-
-pub pick_exists : PickExists
-pick_exists [] some = absurd (some refl)
-pick_exists (weight ∷ weights) some =
-    let best = best_of (weight ∷ weights) (length weights) in
-    (best.0, record { there = (best.1).there; least = (best.1).least; first = (best.1).first })
-
-pub pick_is_one : PickIsOne
-pick_is_one weights place other pick pick' = elim (cases_order place other) [
-  | inl e ↦ e
-  | inr apart ↦ elim apart [
-    | inl below ↦ (let first = pick'.first place below in let least = pick.least other pick'.there in absurd (omega (arith, first, least)))
-    | inr above ↦ (let first = pick.first other above in let least = pick'.least place pick.there in absurd (omega (arith, first, least)))
-  ]
-]
-
-zip_at : {A B : Type 0} (R : A → B → Type 0) (xs : List A) (ys : List B) → AllZip R xs ys → (place : ℕ) (x : A) (d : B) → slice_get xs place ≡ Some x → (place < length ys) × R x (get_or ys place d)
-zip_at R [] ys all place x d e = absurd (none-some x e)
-zip_at R (a ∷ xs) [] all place x d e = absurd all
-zip_at R (a ∷ xs) (b ∷ ys) all zero x d e = (omega arith, subst (λ z. R z b) (same_Some a x e) all.0)
-zip_at R (a ∷ xs) (b ∷ ys) all (suc place) x d e = let rest = zip_at R xs ys all.1 place x d e in (omega (arith, rest.0), rest.1)
-
-pub pick_weighs_least : PickWeighsLeast
-pick_weighs_least rules views patterns query plan family sets weights totals exact listed zip place pick set weight rewriting is_weight =
-    let found = listed_cover rules views patterns query plan family exact set rewriting in
-    let at = place-from_Contains sets found.0 ((listed.exact found.0).1 found.1) in
-    let total = zip_at (λ set total. IsWeight weights (chosen set plan.body) total) sets totals zip at.0 found.0 0 at.1 in
-    let below = weight_rises weights (chosen found.0 plan.body) (chosen set plan.body) (get_or totals at.0 0) weight (chosen_within found.0 set plan.body found.2) total.1 is_weight in
-    let least = pick.least at.0 total.0 in
-    omega (arith, below, least)

@@ -59,6 +59,17 @@ pub record IsAccessiblePart (patterns : Patterns) (atoms : List (Fact Term)) (se
   pub executable : IsExecutable patterns atoms part
   pub greatest : (other : List Bool) → IsExecutable patterns atoms other → Within other set → Within other part
 
+-- P holds of the set, which is executable.
+abbrev pub HoldsExecutably : Patterns → List (Fact Term) → (List Bool → Type 0) → List Bool → Type 0
+HoldsExecutably patterns atoms P set = IsExecutable patterns atoms set × P set
+
+-- P holds of the accessible part of the set, which is one of the atoms.
+pub record HoldsOfPart (patterns : Patterns) (atoms : List (Fact Term)) (P : List Bool → Type 0) (set : List Bool) : Type 0 where
+  pub over : length set ≡ length atoms
+  pub part : List Bool
+  pub is_part : IsAccessiblePart patterns atoms set part
+  pub holds : P part
+
 -- The stated order takes the accessible atom of least number each time: no lesser number of the set that is still to come is accessible at that place.
 pub record IsStatedOrder (patterns : Patterns) (atoms : List (Fact Term)) (set : List Bool) (order : List ℕ) : Type 0 where
   pub is_order : IsOrder patterns atoms set order

@@ -6,6 +6,7 @@ pub mod Matches
 pub mod Containment
 pub mod Views
 pub mod Instances
+pub mod Followed
 pub mod Plans
 pub mod Sets
 pub mod Access
@@ -13,7 +14,6 @@ pub mod Listed
 pub mod WellFormed
 pub mod Sides
 pub mod Restriction
-pub mod Bindings
 pub mod PlanOf
 pub mod Expansions
 pub mod Rewritings

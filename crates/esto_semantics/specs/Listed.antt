@@ -1,13 +1,12 @@
 -- Candidates, and the listed sets of a plan. Source: minimal reformulations of chase and backchase (Deutsch, Popa and Tannen; Ileana, Cautis, Deutsch and Katsis 2014), with minimality asked among executable sets.
 use Rattle.std.specs.Prelude.{◌≡◌, ◌≢◌, ◌↔◌, ℕ, ◌≤◌, ◌<◌, Bool, cond, List, [], ◌∷◌, length, sum, map, slice_index_or, Contains, AllPairs}
-use Rattle.std.specs.declared.cmp.Ordering.TheVariants.{Less}
 use Rattle.esto_term.specs.declared.term.Term.{Term}
 use Rattle.esto_semantics.specs.Maps.{IsFixedBy}
 use Rattle.esto_semantics.specs.Queries.{ConjunctiveQuery, IsQuery, IsAnswer}
 use Rattle.esto_semantics.specs.Rules.{Rule}
 use Rattle.esto_semantics.specs.Containment.{IsEquivalent}
 use Rattle.esto_semantics.specs.Views.{IsFragmentAnswer}
-use Rattle.esto_semantics.specs.Sets.{Has, IsMinimal, set_cmp}
+use Rattle.esto_semantics.specs.Sets.{Has, IsMinimal, AreListedBy}
 use Rattle.esto_semantics.specs.Access.{Patterns, IsExecutable, IsExecutableQuery}
 use Rattle.esto_semantics.specs.declared.fact.Fact.{Fact}
 
@@ -30,6 +29,12 @@ pub record HasCandidate (plan : ConjunctiveQuery) (set : List Bool) : Type 0 whe
 abbrev pub IsSafe : ConjunctiveQuery → List Bool → Type 0
 IsSafe plan set = (term : Term) → Contains plan.head term → IsFixedBy (chosen set plan.body) term
 
+-- The set answers the query: it has a candidate, which is equivalent to the query, and it is safe.
+pub record AnswersQuery (rules : List Rule) (views : List ConjunctiveQuery) (query plan : ConjunctiveQuery) (set : List Bool) : Type 0 where
+  pub has_candidate : HasCandidate plan set
+  pub safe : IsSafe plan set
+  pub equivalent : IsEquivalent rules (IsFragmentAnswer views (candidate plan set)) (IsAnswer query)
+
 -- The set is a rewriting: it has a candidate, which is equivalent to the query, and it is safe and executable.
 pub record IsRewriting (rules : List Rule) (views : List ConjunctiveQuery) (patterns : Patterns) (query plan : ConjunctiveQuery) (set : List Bool) : Type 0 where
   pub has_candidate : HasCandidate plan set
@@ -42,9 +47,8 @@ abbrev pub IsListed : List Rule → List ConjunctiveQuery → Patterns → Conju
 IsListed rules views patterns query plan set = IsMinimal (IsRewriting rules views patterns query plan) set
 
 -- These are exactly the listed sets, each once, by size and then by their rising lists of numbers.
-pub record AreListed (rules : List Rule) (views : List ConjunctiveQuery) (patterns : Patterns) (query plan : ConjunctiveQuery) (sets : List (List Bool)) : Type 0 where
-  pub exact : (set : List Bool) → Contains sets set ↔ IsListed rules views patterns query plan set
-  pub ordered : AllPairs (λ set other. set_cmp set other ≡ Less) sets
+abbrev pub AreListed : List Rule → List ConjunctiveQuery → Patterns → ConjunctiveQuery → ConjunctiveQuery → List (List Bool) → Type 0
+AreListed rules views patterns query plan sets = AreListedBy (IsRewriting rules views patterns query plan) sets
 
 -- A query over fragments is an executable rewriting of the query: it is executable, and equivalent to it.
 pub record IsExecutableRewriting (rules : List Rule) (views : List ConjunctiveQuery) (patterns : Patterns) (query other : ConjunctiveQuery) : Type 0 where

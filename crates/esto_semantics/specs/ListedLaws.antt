@@ -4,10 +4,14 @@ use Rattle.std.specs.List.{AllZip}
 use Rattle.esto_term.specs.declared.term.Term.{Term}
 use Rattle.esto_semantics.specs.Queries.{ConjunctiveQuery}
 use Rattle.esto_semantics.specs.Rules.{Rule}
-use Rattle.esto_semantics.specs.Sets.{Has, Within, AreMinimal, AreInOrder, all_sets}
-use Rattle.esto_semantics.specs.Listed.{chosen, IsRewriting, IsListed, AreListed, IsWeight, IsPick}
+use Rattle.esto_semantics.specs.Sets.{Has, Covers, AreMinimal, AreInOrder, all_sets}
+use Rattle.esto_semantics.specs.Listed.{chosen, IsRewriting, IsExecutableRewriting, AreListed, IsWeight, IsPick}
 use Rattle.esto_semantics.specs.declared.fact.Fact.{Fact}
 use Rattle.esto_semantics.specs.Access.{Patterns}
+use Rattle.esto_semantics.specs.Containment.{IsSatisfiable}
+use Rattle.esto_semantics.specs.Maps.{AreFlat}
+use Rattle.esto_semantics.specs.Plans.{IsUniversalPlan}
+use Rattle.esto_semantics.specs.Rewritings.{IsPlanFor}
 
 -- The family has exactly the rewritings.
 abbrev pub AreRewritings : List Rule → List ConjunctiveQuery → Patterns → ConjunctiveQuery → ConjunctiveQuery → List (List Bool) → Type 0
@@ -43,20 +47,25 @@ ListedIsOne =
     (rules : List Rule) (views : List ConjunctiveQuery) (patterns : Patterns) (query plan : ConjunctiveQuery) (sets others : List (List Bool))
     → AreListed rules views patterns query plan sets → AreListed rules views patterns query plan others → sets ≡ others
 
--- Where the family of rewritings is given, each rewriting has a listed set within it.
+-- Each rewriting has one of the listed sets within it.
 abbrev pub ListedCover : Type 0
 ListedCover =
-    (rules : List Rule) (views : List ConjunctiveQuery) (patterns : Patterns) (query plan : ConjunctiveQuery) (family : List (List Bool))
-    → AreRewritings rules views patterns query plan family
-    → (set : List Bool) → IsRewriting rules views patterns query plan set
-    → (listed : List Bool) × IsListed rules views patterns query plan listed × Within listed set
+    (rules : List Rule) (views : List ConjunctiveQuery) (patterns : Patterns) (query plan : ConjunctiveQuery) (sets : List (List Bool))
+    → AreListed rules views patterns query plan sets → (set : List Bool) → IsRewriting rules views patterns query plan set → Covers sets set
 
--- Where the family of rewritings is given, the list is empty exactly where there is no rewriting.
+-- The list is empty exactly where no set of the plan's atoms is a rewriting.
 abbrev pub NoneIsListed : Type 0
 NoneIsListed =
-    (rules : List Rule) (views : List ConjunctiveQuery) (patterns : Patterns) (query plan : ConjunctiveQuery) (family sets : List (List Bool))
-    → AreRewritings rules views patterns query plan family → AreListed rules views patterns query plan sets
+    (rules : List Rule) (views : List ConjunctiveQuery) (patterns : Patterns) (query plan : ConjunctiveQuery) (sets : List (List Bool))
+    → AreListed rules views patterns query plan sets
     → (sets ≡ []) ↔ ((set : List Bool) → IsRewriting rules views patterns query plan set → ⊥)
+
+-- The list of a satisfiable query's universal plan is empty exactly where the query has no executable rewriting at all.
+abbrev pub NoRewritingExists : Type 0
+NoRewritingExists =
+    (rules : List Rule) (views : List ConjunctiveQuery) (patterns : Patterns) (query plan : ConjunctiveQuery) (sets : List (List Bool))
+    → IsPlanFor query plan → IsUniversalPlan rules views query plan → IsSatisfiable rules query → AreListed rules views patterns query plan sets
+    → (sets ≡ []) ↔ ((other : ConjunctiveQuery) → IsExecutableRewriting rules views patterns query other → ⊥)
 
 -- The atoms that a set chooses are those at its numbers.
 abbrev pub ChosenAreNamed : Type 0
@@ -93,11 +102,24 @@ PickExists = (weights : List ℕ) → weights ≢ [] → (place : ℕ) × IsPick
 abbrev pub PickIsOne : Type 0
 PickIsOne = (weights : List ℕ) (place other : ℕ) → IsPick weights place → IsPick weights other → place ≡ other
 
--- Where the totals are the weights of the listed sets, no rewriting weighs less than the pick.
+-- The totals are the weights of the sets of a plan's atoms, in order.
+abbrev pub AreWeights : List ℕ → ConjunctiveQuery → List (List Bool) → List ℕ → Type 0
+AreWeights weights plan sets totals = AllZip (λ set total. IsWeight weights (chosen set plan.body) total) sets totals
+
+-- Where the totals are the weights of the listed sets, no rewriting among the sets of the plan's atoms weighs less than the pick.
 abbrev pub PickWeighsLeast : Type 0
 PickWeighsLeast =
-    (rules : List Rule) (views : List ConjunctiveQuery) (patterns : Patterns) (query plan : ConjunctiveQuery) (family sets : List (List Bool)) (weights totals : List ℕ)
-    → AreRewritings rules views patterns query plan family → AreListed rules views patterns query plan sets
-    → AllZip (λ set total. IsWeight weights (chosen set plan.body) total) sets totals → (place : ℕ) → IsPick totals place
+    (rules : List Rule) (views : List ConjunctiveQuery) (patterns : Patterns) (query plan : ConjunctiveQuery) (sets : List (List Bool))
+    (weights totals : List ℕ) → AreListed rules views patterns query plan sets → AreWeights weights plan sets totals → (place : ℕ) → IsPick totals place
     → (set : List Bool) (weight : ℕ) → IsRewriting rules views patterns query plan set → IsWeight weights (chosen set plan.body) weight
+    → slice_index_or totals place 0 ≤ weight
+
+-- Where the totals are the weights of the listed sets of a satisfiable query's universal plan, no executable rewriting of the query weighs less than the
+-- pick, whatever its variables and its size.
+abbrev pub PickWeighsLeastOfAll : Type 0
+PickWeighsLeastOfAll =
+    (rules : List Rule) (views : List ConjunctiveQuery) (patterns : Patterns) (query plan : ConjunctiveQuery) (sets : List (List Bool))
+    (weights totals : List ℕ) → AreFlat plan.body → IsUniversalPlan rules views query plan → IsSatisfiable rules query
+    → AreListed rules views patterns query plan sets → AreWeights weights plan sets totals → (place : ℕ) → IsPick totals place
+    → (other : ConjunctiveQuery) (weight : ℕ) → IsExecutableRewriting rules views patterns query other → IsWeight weights other.body weight
     → slice_index_or totals place 0 ≤ weight

@@ -31,6 +31,15 @@ set_cmp set other =
 abbrev pub IsMinimal : (List Bool → Type 0) → List Bool → Type 0
 IsMinimal P set = P set × ((other : List Bool) → P other → Within other set → other ≡ set)
 
+-- These are exactly the minimal sets that P holds of, in the order of the list, each once.
+pub record AreListedBy (P : List Bool → Type 0) (sets : List (List Bool)) : Type 0 where
+  pub exact : (set : List Bool) → Contains sets set ↔ IsMinimal P set
+  pub ordered : AllPairs (λ set other. set_cmp set other ≡ Less) sets
+
+-- Each set that P holds of has this count.
+abbrev pub HaveCount : ℕ → (List Bool → Type 0) → Type 0
+HaveCount count P = (set : List Bool) → P set → length set ≡ count
+
 -- These are the minimal sets of the family, each once.
 pub record AreMinimal (family minimal : List (List Bool)) : Type 0 where
   pub exact : (set : List Bool) → Contains minimal set ↔ IsMinimal (Contains family) set
@@ -46,10 +55,6 @@ united (is_in ∷ rest) (is_in_other ∷ others) = (is_in || is_in_other) ∷ un
 abbrev pub HaveOneCount : List (List Bool) → Type 0
 HaveOneCount family = (set other : List Bool) → Contains family set → Contains family other → length set ≡ length other
 
--- No set of the family is a proper subset of the set.
-abbrev pub HasNoSmaller : List (List Bool) → List Bool → Type 0
-HasNoSmaller family set = (other : List Bool) → Contains family other → Within other set → Within set other
-
 -- Some set of the family is a subset of the set.
 abbrev pub Covers : List (List Bool) → List Bool → Type 0
 Covers family set = (other : List Bool) × Contains family other × Within other set
@@ -62,3 +67,11 @@ AreInOrder sets = AllPairs (λ set other. set_cmp set other ≡ Less) sets
 abbrev pub all_sets : ℕ → List (List Bool)
 all_sets zero = [] ∷ []
 all_sets (suc count) = map (λ set. true ∷ set) (all_sets count) ++ map (λ set. false ∷ set) (all_sets count)
+
+-- The sets tell where P holds: of the sets of this count that have one of them as a subset.
+abbrev pub TellHolds : ℕ → (List Bool → Type 0) → List (List Bool) → Type 0
+TellHolds count P sets = (set : List Bool) → length set ≡ count → Covers sets set ↔ P set
+
+-- What passes the test passes it in every greater set of the count.
+abbrev pub Rises : ℕ → (List Bool → Bool) → Type 0
+Rises count test = (set other : List Bool) → length set ≡ count → length other ≡ count → Within set other → test set ≡ true → test other ≡ true

@@ -1,13 +1,14 @@
 //! Laws of listed sets, of weights and of the pick.
-ghost use Rattle.esto_semantics.specs.ListedLaws.{TestedAreRewritings, ListedAreMinimal, ListedExist, ListedIsOne, ListedCover, NoneIsListed};
+ghost use Rattle.esto_semantics.specs.ListedLaws.{TestedAreRewritings, ListedAreMinimal, ListedExist, ListedIsOne, ListedCover, NoneIsListed, NoRewritingExists};
 ghost use Rattle.esto_semantics.specs.ListedLaws.{ChosenAreNamed, WeightExists, WeightRises, WeightIsOne, WeightIsSum};
-ghost use Rattle.esto_semantics.specs.ListedLaws.{PickExists, PickIsOne, PickWeighsLeast};
+ghost use Rattle.esto_semantics.specs.ListedLaws.{PickExists, PickIsOne, PickWeighsLeast, PickWeighsLeastOfAll};
 
 use esto_term::terms_are_ordered;
 
-/// A law: where a family has exactly the rewritings, a list is that of the listed sets exactly where it is in
-/// order and has the minimal sets of the family. Such a list exists, there is no other, each rewriting has a
-/// listed set within it, and the list is empty exactly where there is no rewriting. The sets of the plan's
+/// A law: there is one list of the listed sets, each rewriting has one of them within it, and it is empty exactly where
+/// no set of the plan's atoms is a rewriting. For a satisfiable query's universal plan that is so exactly where the query
+/// has no executable rewriting at all. Where a family has exactly the rewritings, a list is that of the listed sets
+/// exactly where it is in order and has the minimal sets of the family, and such a list exists. The sets of the plan's
 /// atoms that pass a test which tells the rewritings are such a family.
 pub fn listed_sets_are_minimal()
     ensures tested { TestedAreRewritings }
@@ -16,6 +17,7 @@ pub fn listed_sets_are_minimal()
     ensures one { ListedIsOne }
     ensures cover { ListedCover }
     ensures none { NoneIsListed }
+    ensures no_rewriting { NoRewritingExists }
 {}
 
 /// A law: the atoms that a set chooses are those at its numbers.
@@ -35,9 +37,13 @@ pub fn weights_exist()
 }
 
 /// A law: a list of weights that isn't empty has a pick, and only one. Among the weights of the listed sets, no
-/// rewriting weighs less than the pick.
+/// rewriting among the sets of the plan's atoms weighs less than the pick; and for a satisfiable query's universal plan no
+/// executable rewriting of the query does, whatever its variables and its size.
 pub fn picks_exist()
     ensures exist { PickExists }
     ensures one { PickIsOne }
     ensures least { PickWeighsLeast }
-{}
+    ensures least_of_all { PickWeighsLeastOfAll }
+{
+    weights_exist();
+}
