@@ -1,17 +1,17 @@
 -- The canonical database of a query: its body with each constant as its text, and every other term as the unnamed value of its
 -- first place among the query's terms.
 use Rattle.std.proofs.Common.{List, ◌++◌, map, Contains, sym, ◌∙◌}
-use Rattle.std.specs.List.{flat_map}
 use Rattle.std.proofs.lemmas.List.Elements.{Contains-append_left, Contains-append_right}
 use Rattle.esto_term.specs.declared.term.Term.{Term}
 use Rattle.esto_term.specs.declared.term.Term.TheVariants.{Const}
-use Rattle.esto_semantics.specs.Facts.{Database, Mentions}
+use Rattle.esto_semantics.specs.Facts.{Database, Mentions, terms_of}
 use Rattle.esto_semantics.specs.Instances.{MapsTo, IsFinished}
 use Rattle.esto_semantics.specs.Queries.{ConjunctiveQuery, IsAnswer, IsAnswerInto}
 use Rattle.esto_semantics.specs.Rules.{Rule, tuple, equality, denial, AreRules, Meets}
 use Rattle.esto_semantics.specs.declared.fact.Fact.{Fact}
 use Rattle.esto_semantics.specs.declared.fact.Value.{Value}
-use Rattle.esto_semantics.proofs.TermLemmas.{same_term, same_term-Decides, constant_text, constant_text-told, constant_text-Const}
+use Rattle.esto_term.specs.Order.{same_term}
+use Rattle.esto_semantics.proofs.TermLemmas.{same_term-Decides, constant_text, constant_text-told, constant_text-Const}
 use Rattle.esto_semantics.proofs.RenamingLemmas.{Naming, RuleIsKept, value_of, thing_of, renamed, map-thing_of-value_of, answer_there, answer_back, fact_there, fact_back, meets_there}
 use Rattle.esto_term.proofs.ListLemmas.{Contains-flat}
 
@@ -23,10 +23,6 @@ terms_naming = record {
   told = constant_text-told;
   decides = same_term-Decides;
 }
-
--- the terms of some facts, in order
-abbrev pub terms_of : List (Fact Term) → List Term
-terms_of facts = flat_map (λ (fact : Fact Term). fact.terms) facts
 
 module _ (query : ConjunctiveQuery) where
   abbrev pub query_terms : List Term

@@ -5,7 +5,7 @@ use Rattle.esto_term.specs.declared.term.Term.{Term}
 use Rattle.esto_term.specs.declared.term.Term.TheVariants.{Const}
 use Rattle.esto_semantics.specs.Containment.{IsContained}
 use Rattle.esto_semantics.specs.Expansions.{IsInner, IsOfQuery, IsExpansion}
-use Rattle.esto_semantics.specs.Facts.{Database, image}
+use Rattle.esto_semantics.specs.Facts.{Database, image, terms_of}
 use Rattle.esto_semantics.specs.Instances.{MapsTo, IsUniversalFor, IsFinished}
 use Rattle.esto_semantics.specs.Maps.{IsConstant, Keeps, SendsInto, Sends}
 use Rattle.esto_semantics.specs.Queries.{ConjunctiveQuery, IsAnswer}
@@ -14,7 +14,7 @@ use Rattle.esto_semantics.specs.Views.{IsViewRow, IsFragmentAnswer}
 use Rattle.esto_semantics.specs.declared.fact.Fact.{Fact}
 use Rattle.esto_semantics.specs.declared.fact.Value.{Value}
 use Rattle.esto_semantics.specs.declared.fact.Value.TheVariants.{Text}
-use Rattle.esto_semantics.proofs.CanonicalLemmas.{terms_of, Mentions-terms_of}
+use Rattle.esto_semantics.proofs.CanonicalLemmas.{Mentions-terms_of}
 use Rattle.esto_semantics.proofs.ContainmentLemmas.{universal_instances_decide}
 use Rattle.esto_semantics.proofs.FactLemmas.{image_agree, image_then}
 use Rattle.esto_semantics.proofs.JoinLemmas.{Contains-decided, joined, joined-spread, joined-given}

@@ -1,7 +1,8 @@
 -- Maps of several lists of terms, each spread by a map of its own, joined to one map of what the terms are spread to.
 use Rattle.std.proofs.Common.{◌≡◌, ◌⊎◌, inl, inr, zero, suc, ℕ, ◌<◌, Bool, true, false, cond, List, [], ◌∷◌, Contains, refl, sym, ap, ◌∙◌, subst, arith}
 use Rattle.esto_term.specs.declared.term.Term.{Term}
-use Rattle.esto_semantics.proofs.TermLemmas.{same_term, same_term-Decides}
+use Rattle.esto_term.specs.Order.{same_term}
+use Rattle.esto_semantics.proofs.TermLemmas.{same_term-Decides}
 use Rattle.esto_term.proofs.ListLemmas.{Contains-cases, Contains-head, Contains-nil, Contains-rest}
 
 -- whether a list has a term

@@ -4,7 +4,7 @@ use Rattle.std.proofs.lemmas.List.Elements.{Contains-append_left, Contains-appen
 use Rattle.esto_term.specs.declared.term.Term.{Term}
 use Rattle.esto_term.specs.declared.term.Term.TheVariants.{Const}
 use Rattle.esto_semantics.specs.Containment.{IsContained}
-use Rattle.esto_semantics.specs.Facts.{image}
+use Rattle.esto_semantics.specs.Facts.{image, terms_of}
 use Rattle.esto_semantics.specs.Instances.{MapsTo, IsUniversalFor, IsFollowed, IsFinished}
 use Rattle.esto_semantics.specs.PlanOf.{IsTermRow, IsPlanOf}
 use Rattle.esto_semantics.specs.Queries.{ConjunctiveQuery, IsAnswer, IsAnswerInto}
@@ -14,7 +14,7 @@ use Rattle.esto_semantics.specs.declared.fact.Fact.{Fact}
 use Rattle.esto_semantics.specs.declared.fact.Value.{Value}
 use Rattle.esto_semantics.specs.declared.fact.Value.TheVariants.{Text}
 use Rattle.esto_semantics.proofs.AnswerLemmas.{IsAnswerInto-then, IsViewRow-sent}
-use Rattle.esto_semantics.proofs.CanonicalLemmas.{terms_naming, terms_of, query_terms, canonical_value, canonical_term, canonical_database, Mentions-terms_of, canonical_database-Meets, answer-from_map}
+use Rattle.esto_semantics.proofs.CanonicalLemmas.{terms_naming, query_terms, canonical_value, canonical_term, canonical_database, Mentions-terms_of, canonical_database-Meets, answer-from_map}
 use Rattle.esto_semantics.proofs.FactLemmas.{image_agree, image_then, image_itself}
 use Rattle.esto_semantics.proofs.RenamingLemmas.{answer_back, fact_back, map-thing_of-value_of}
 use Rattle.esto_term.proofs.ListLemmas.{map_agree, map_itself, map_then}

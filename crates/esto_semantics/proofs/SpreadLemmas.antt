@@ -9,13 +9,14 @@ use Rattle.esto_term.specs.declared.term.Term.{Term, out-Term}
 use Rattle.esto_term.specs.declared.term.Term.TheOpen.{Term-F}
 use Rattle.esto_term.specs.declared.term.Term.TheVariants.{Const, Plain, outs-Plain}
 use Rattle.esto_semantics.specs.Expansions.{IsInner, IsOfQuery, IsExpansion, IsViewFor, FitsViews}
-use Rattle.esto_semantics.specs.Facts.{image}
+use Rattle.esto_semantics.specs.Facts.{image, terms_of}
 use Rattle.esto_semantics.specs.Maps.{IsConstant}
 use Rattle.esto_semantics.specs.Queries.{ConjunctiveQuery}
 use Rattle.esto_semantics.specs.declared.fact.Fact.{Fact}
-use Rattle.esto_semantics.proofs.CanonicalLemmas.{terms_of, query_terms, Mentions-terms_of}
+use Rattle.esto_semantics.proofs.CanonicalLemmas.{query_terms, Mentions-terms_of}
 use Rattle.esto_semantics.proofs.JoinLemmas.{below_cases}
-use Rattle.esto_semantics.proofs.TermLemmas.{Const-apart-Plain, Plain-same, same_term, same_term-Decides, constant_text, constant_text-told, constant_text-Const}
+use Rattle.esto_term.specs.Order.{same_term}
+use Rattle.esto_semantics.proofs.TermLemmas.{Const-apart-Plain, Plain-same, same_term-Decides, constant_text, constant_text-told, constant_text-Const}
 use Rattle.esto_semantics.proofs.WeightLemmas.{distinct_head, distinct_rest}
 use Rattle.esto_term.proofs.ListLemmas.{Contains-at, Contains-cases, Contains-head, Contains-map, Contains-map_from, Contains-nil, Contains-rest, map_agree}
 

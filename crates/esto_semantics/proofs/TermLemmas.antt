@@ -1,11 +1,10 @@
 -- Terms: their kinds, the test of equality, and maps that are mended at the constants.
 use Rattle.std.proofs.Common.{◌≡◌, ◌≢◌, ◌⊎◌, inl, inr, ℕ, Bool, true, false, cond, List, Some, None, Option, refl, sym, ap, subst, ◌∙◌}
 use Rattle.std.specs.Bool.{Decides}
-use Rattle.std.specs.Ordering.{is_eq}
 use Rattle.esto_term.specs.declared.term.Term.{Term, out-Term, roll-Term, roll-out-Term}
 use Rattle.esto_term.specs.declared.term.Term.TheVariants.{Const, Plain, Made, outs-Const, outs-Plain, outs-Made, rolls-Const, rolls-Plain, rolls-Made}
 use Rattle.esto_term.specs.declared.term.Term.TheOpen.{Term-F}
-use Rattle.esto_term.specs.Order.{term_cmp, replaced}
+use Rattle.esto_term.specs.Order.{replaced, same_term}
 use Rattle.esto_term.proofs.CompareLemmas.{equal_tested}
 use Rattle.esto_semantics.specs.Maps.{IsFlat, Keeps}
 
@@ -52,9 +51,6 @@ Made-same rule variable frontier other_rule other_variable other_frontier is =
     sym (outs-Made rule variable frontier) ∙ ap out-Term is ∙ outs-Made other_rule other_variable other_frontier in (cc, cc, cc)
 
 -- ---- the test of equality, and a replacement
-
-abbrev pub same_term : Term → Term → Bool
-same_term term other = is_eq (term_cmp term other)
 
 pub same_term-Decides : (term other : Term) → Decides (same_term term other) (term ≡ other)
 same_term-Decides term other = let both = equal_tested term other (same_term term other) refl in (both.0, both.1)

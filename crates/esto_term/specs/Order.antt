@@ -1,6 +1,6 @@
 -- The order of terms. Constants come first, then plain terms, then made terms. Constants compare by their bytes,
 -- plain terms by their numbers, and made terms by nesting, then rule, then variable, then frontier, as lists.
-use Rattle.std.specs.Prelude.{ℕ, List, [], map, cond}
+use Rattle.std.specs.Prelude.{ℕ, Bool, List, [], map, cond}
 use Rattle.std.specs.Cmp.Lexicographic.{slice_cmp}
 use Rattle.std.specs.Ordering.{ordering_then, nat_cmp, is_eq}
 use Rattle.std.specs.declared.cmp.Ordering.{Ordering}
@@ -64,6 +64,10 @@ term_cmp =
     para-Term (Term → Ordering)
     (λ level other. level_cmp (λ part. nesting part.0) nesting (λ part frontier_term. part.1 frontier_term) level (out-Term other))
 
+-- Whether the terms are one.
+abbrev pub same_term : Term → Term → Bool
+same_term term other = is_eq (term_cmp term other)
+
 -- Where a term is `from` it becomes `to`; every other term stays, and nothing is replaced inside a made term.
 abbrev pub replaced : Term → Term → Term → Term
-replaced from to term = cond (is_eq (term_cmp term from)) to term
+replaced from to term = cond (same_term term from) to term

@@ -9,7 +9,8 @@ use Rattle.esto_term.specs.declared.term.Term.{Term}
 use Rattle.esto_term.specs.declared.term.Term.TheVariants.{Const, Plain}
 use Rattle.esto_semantics.specs.Maps.{IsVariable}
 use Rattle.esto_semantics.specs.Queries.{ConjunctiveQuery}
-use Rattle.esto_semantics.proofs.TermLemmas.{same_term, same_term-Decides, Const-apart-Plain, Plain-same}
+use Rattle.esto_term.specs.Order.{same_term}
+use Rattle.esto_semantics.proofs.TermLemmas.{same_term-Decides, Const-apart-Plain, Plain-same}
 use Rattle.esto_semantics.proofs.WeightLemmas.{distinct_head, distinct_rest}
 use Rattle.esto_views.specs.Spreads.{AreInner, IsSpread, substituted}
 use Rattle.esto_term.proofs.ChoiceLemmas.{pairs_append}
