@@ -17,7 +17,7 @@ use Rattle.esto_semantics.proofs.CanonicalLemmas.{query_terms, Mentions-terms_of
 use Rattle.esto_semantics.proofs.JoinLemmas.{below_cases}
 use Rattle.esto_term.specs.Order.{same_term}
 use Rattle.esto_semantics.proofs.TermLemmas.{Const-apart-Plain, Plain-same, same_term-Decides, constant_text, constant_text-told, constant_text-Const}
-use Rattle.esto_semantics.proofs.WeightLemmas.{distinct_head, distinct_rest}
+use Rattle.esto_term.proofs.DistinctLemmas.{distinct_head, distinct_rest}
 use Rattle.esto_term.proofs.ListLemmas.{Contains-at, Contains-cases, Contains-head, Contains-map, Contains-map_from, Contains-nil, Contains-rest, map_agree}
 
 -- ---- a number above all variables of a list

@@ -1,5 +1,5 @@
 -- A list of distinct things, each of which comes from one of another list by a map that keeps weights, weighs no more than the other.
-use Rattle.std.proofs.Common.{◌≡◌, ◌≢◌, inl, inr, suc, ℕ, ◌+◌, ◌≤◌, Bool, List, [], ◌∷◌, ◌++◌, slice_index_or, Contains, refl, sym, ap, ◌∙◌, subst, arith}
+use Rattle.std.proofs.Common.{◌≡◌, ◌≢◌, inl, inr, ℕ, ◌+◌, ◌≤◌, Bool, List, [], ◌∷◌, ◌++◌, slice_index_or, Contains, refl, sym, ap, ◌∙◌, subst, arith}
 use Rattle.std.specs.List.{AllPairs, sum_by}
 use Rattle.std.proofs.lemmas.List.Elements.{Contains-append_cases, Contains-append_left, Contains-append_right}
 use Rattle.std.proofs.lemmas.List.Sums.{sum-map, sum_by-append, sum_by-cons}
@@ -9,23 +9,10 @@ use Rattle.esto_semantics.specs.Queries.{ConjunctiveQuery}
 use Rattle.esto_semantics.specs.Rewritings.{MapsOnto}
 use Rattle.esto_semantics.specs.declared.fact.Fact.{Fact}
 use Rattle.esto_term.specs.declared.term.Term.{Term}
-use Rattle.esto_term.proofs.ListLemmas.{Contains-cases, Contains-head, Contains-map_from, Contains-nil, Contains-rest}
+use Rattle.esto_term.proofs.ListLemmas.{Contains-cases, Contains-head, Contains-map_from, Contains-rest}
+use Rattle.esto_term.proofs.DistinctLemmas.{distinct_head, distinct_rest, split}
 
 module _ {X : Type 0} where
-  -- what a list contains stands between the rest of it
-  split : (things : List X) (thing : X) → Contains things thing → (front : List X) × (back : List X) × (things ≡ front ++ thing ∷ back)
-  split [] thing inside = absurd (Contains-nil thing inside)
-  split (first ∷ rest) thing inside = elim (Contains-cases first rest thing inside) [
-    | inl is ↦ ([], rest, ap (λ it. it ∷ rest) is)
-    | inr later ↦ let found = split rest thing later in (first ∷ found.0, found.1, ap (λ others. first ∷ others) found.2)
-  ]
-
-  pub distinct_head : (first : X) (rest : List X) (thing : X) → AllPairs {X = X} ◌≢◌ (first ∷ rest) → Contains rest thing → first ≡ thing → ⊥
-  distinct_head first rest thing distinct (place, within, at) is = distinct 0 (suc place) thing (omega arith) (omega arith) (is ∙ sym at)
-
-  pub distinct_rest : (first : X) (rest : List X) → AllPairs {X = X} ◌≢◌ (first ∷ rest) → AllPairs {X = X} ◌≢◌ rest
-  distinct_rest first rest distinct i j d less within = distinct (suc i) (suc j) d (omega arith) (omega arith)
-
   module _ (weight : X → ℕ) (g : X → X) (kept : (thing : X) → weight (g thing) ≡ weight thing) where
     weighs_no_more : (things others : List X) → AllPairs {X = X} ◌≢◌ things → ((thing : X) → Contains things thing → (other : X) × Contains others other × (g other ≡ thing))
         → sum_by weight things ≤ sum_by weight others

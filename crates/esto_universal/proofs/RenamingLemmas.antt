@@ -10,7 +10,7 @@ use Rattle.esto_term.specs.declared.term.Term.TheOpen.{Term-F}
 use Rattle.esto_term.specs.declared.term.Term.TheVariants.{Const, Plain, outs-Const, outs-Plain}
 use Rattle.esto_term.specs.Order.{same_term}
 use Rattle.esto_semantics.proofs.TermLemmas.{same_term-Decides}
-use Rattle.esto_semantics.proofs.WeightLemmas.{distinct_head, distinct_rest}
+use Rattle.esto_term.proofs.DistinctLemmas.{distinct_head, distinct_rest}
 use Rattle.esto_universal.specs.Reading.{OccursBefore, AreFirstOccurrences}
 use Rattle.esto_universal.specs.Renamings.{IsRenaming, numbered}
 use Rattle.esto_term.proofs.ListLemmas.{Contains-at}
