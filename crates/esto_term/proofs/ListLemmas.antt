@@ -1,11 +1,15 @@
 -- Lists: what they contain, what stands at a place of them, and what a map, a test and a joining make of them.
-use Rattle.std.proofs.Common.{◌≡◌, ◌⊎◌, inl, inr, zero, suc, ℕ, ◌<◌, ◌≤◌, ◌+◌, Bool, true, false, cond, List, [], ◌∷◌, ◌++◌, map, length, take, get_or, Contains, slice_get, Some, refl, sym, ap, ◌∙◌, subst, arith}
+use Rattle.std.proofs.Common.{◌≡◌, ◌≢◌, ◌↔◌, ◌⊎◌, inl, inr, zero, suc, ℕ, ◌<◌, ◌≤◌, ◌+◌, ◌==◌, Bool, true, false, cond, List, [], ◌∷◌, ◌++◌, map, length, take, set, swap, get_or, Contains, AllPairs, slice_get, Some, refl, sym, ap, ◌∙◌, subst, arith}
 use Rattle.std.specs.List.{filter, flat_map, range_with_len}
+use Rattle.std.specs.List.Sorted.{IsPermutation}
 use Rattle.std.proofs.lemmas.Bool.{cases_order}
-use Rattle.std.proofs.lemmas.List.{get_or-map, length-map, take_more, take_all}
+use Rattle.std.proofs.lemmas.Bool.Decides.{nat_tests}
+use Rattle.std.proofs.lemmas.List.{get_or-map, get_or-set_other, get_or-set_same, length-map, length-set, take_more, take_all}
+use Rattle.std.proofs.lemmas.List.Edits.{length-swap, swap_is}
 use Rattle.std.proofs.lemmas.List.Elements.{Contains-append_cases, Contains-append_left, Contains-append_right, Contains-push_cases}
 use Rattle.std.proofs.lemmas.List.FromFn.{length-range_with_len, get_or-range_with_len}
-use Rattle.std.proofs.lemmas.Option.{slice_get_within, slice_get-get_or, slice_get_cases, get_or_from_slice_get}
+use Rattle.std.proofs.lemmas.List.Sorted.{IsPermutation-keeps}
+use Rattle.std.proofs.lemmas.Option.{same_Some, slice_get_within, slice_get-get_or, slice_get_cases, get_or_from_slice_get}
 
 -- ---- what a list contains
 
@@ -184,7 +188,101 @@ module _ {A : Type 0} (P : ℕ → A → Type 0) (xs : List A) where
   pub holds_all_in : (ys : List A) → ys ≡ xs → (count : ℕ) → length ys ≤ count → HoldsBelow count → (place : ℕ) (x : A) → slice_get xs place ≡ Some x → P place x
   holds_all_in ys same count l = holds_all count (subst (λ zs. length zs ≤ count) same l)
 
+-- the same as equivalences: what holds of one of the first few items, or of each, before and after one item more, and at the end
+module _ {A : Type 0} (P : ℕ → A → Type 0) (xs : List A) where
+  abbrev pub SomeBelow : ℕ → Type 0
+  SomeBelow count = (place : ℕ) × (place < count) × ((x : A) × (slice_get xs place ≡ Some x) × P place x)
+
+  pub some_none : SomeBelow 0 → ⊥
+  some_none (place, below, found) = omega (arith, below)
+
+  pub some_step : (count : ℕ) (x : A) → slice_get xs count ≡ Some x → SomeBelow (count + 1) ↔ (SomeBelow count ⊎ P count x)
+  some_step count x at = (
+    λ (place, below, (y, at_y, holds)). elim (cases_order place count) [
+      | inl same ↦ (let is : y ≡ x = same_Some y x (sym at_y ∙ ap (slice_get xs) same ∙ at) in inr (subst (λ n. P n x) same (subst (P place) is holds)))
+      | inr apart ↦ elim apart [ inl before ↦ inl (place, before, (y, at_y, holds)) | inr after ↦ absurd (omega (arith, below, after)) ]
+    ],
+    λ h. elim h [ inl (place, below, found) ↦ (place, omega (arith, below), found) | inr holds ↦ (count, omega arith, (x, at, holds)) ],
+  )
+
+  pub each_none : HoldsBelow P xs 0
+  each_none place x below at = absurd (omega (arith, below))
+
+  pub each_step : (count : ℕ) (x : A) → slice_get xs count ≡ Some x → HoldsBelow P xs (count + 1) ↔ (HoldsBelow P xs count × P count x)
+  each_step count x at = (
+    λ each. (λ place y below at_y. each place y (omega (arith, below)) at_y, each count x (omega arith) at),
+    λ (before, now) place y below at_y. elim (cases_order place count) [
+      | inl same ↦ (let is : x ≡ y = same_Some x y (sym at ∙ ap (slice_get xs) (sym same) ∙ at_y) in subst (λ n. P n y) (sym same) (subst (P count) is now))
+      | inr apart ↦ elim apart [ inl earlier ↦ before place y earlier at_y | inr later ↦ absurd (omega (arith, below, later)) ]
+    ],
+  )
+
+  pub each_all : (count : ℕ) → length xs ≤ count → HoldsBelow P xs count ↔ ((place : ℕ) (x : A) → slice_get xs place ≡ Some x → P place x)
+  each_all count l = (holds_all P xs count l, λ each place x below at. each place x at)
+
+pub some_contained : {A : Type 0} (P : A → Type 0) (xs : List A) (count : ℕ) → length xs ≤ count → SomeBelow (λ _ x. P x) xs count ↔ ((x : A) × Contains xs x × P x)
+some_contained P xs count l = (
+  λ (place, below, (x, at, holds)). (x, Contains-at xs place x at, holds),
+  λ (x, inside, holds). let at = place-from_Contains xs x inside in (at.0, omega (arith, slice_get_within xs at.0 x at.1, l), (x, at.1, holds)),
+)
+
 -- where the first few items of a list have a property not, and these are all, none has it
 pub none_holds : {A : Type 0} (P : A → Type 0) (xs ys : List A) → ys ≡ xs → (count : ℕ) → length ys ≤ count → HoldsBelow (λ _ x. P x → ⊥) ys count → (x : A) → Contains xs x → P x → ⊥
 none_holds P xs ys same count l none x there =
     let at = place-from_Contains ys x (subst (λ zs. Contains zs x) (sym same) there) in holds_all (λ _ x. P x → ⊥) ys count l none at.0 x at.1
+
+-- ---- lists with the same items in another order
+
+module _ {A : Type 0} (R : A → A → Type 0) (turned : (x y : A) → R x y → R y x) where
+  -- it holds of the items at each two places
+  abbrev AtTwo : List A → Type 0
+  AtTwo xs = (i j : ℕ) (d : A) → i ≢ j → i < length xs → j < length xs → R (get_or xs i d) (get_or xs j d)
+
+  two_from_pairs : (xs : List A) → AllPairs R xs → AtTwo xs
+  two_from_pairs xs pairs i j d apart l m = elim (cases_order i j) [
+    | inl same ↦ absurd (apart same)
+    | inr order ↦ elim order [ inl less ↦ pairs i j d less m | inr more ↦ turned (get_or xs j d) (get_or xs i d) (pairs j i d more l) ]
+  ]
+
+  -- where the item at a place comes from, when two items change their places
+  module _ (xs : List A) (a b : ℕ) (within_a : a < length xs) (within_b : b < length xs) where
+    from_place : ℕ → ℕ
+    from_place k = cond (k == b) a (cond (k == a) b k)
+
+    from_apart : (i j : ℕ) → i ≢ j → from_place i ≢ from_place j
+    unfolding from_place
+    from_apart i j apart = grind (arith, nat_tests)
+
+    from_within : (k : ℕ) → k < length xs → from_place k < length xs
+    unfolding from_place
+    from_within k within = grind (arith, nat_tests)
+
+    at_from : (k : ℕ) (d : A) → get_or (swap xs a b) k d ≡ get_or xs (from_place k) d
+    unfolding from_place
+    at_from k d = ap (λ ys. get_or ys k d) (sym (swap_is xs a b d within_a within_b)) ∙ elim (cases_order k b) [
+      | inl same ↦
+          let from : cond (k == b) a (cond (k == a) b k) ≡ a = grind (arith, nat_tests) in
+          ap (λ n. get_or (set (set xs a (get_or xs b d)) b (get_or xs a d)) n d) same
+          ∙ get_or-set_same (set xs a (get_or xs b d)) b (get_or xs a d) d (subst (λ n. b < n) (sym (length-set xs a (get_or xs b d))) within_b)
+          ∙ ap (λ n. get_or xs n d) (sym from)
+      | inr order ↦
+          let apart : k ≢ b = elim order [ inl less ↦ omega (arith, less) | inr more ↦ omega (arith, more) ] in
+          get_or-set_other (set xs a (get_or xs b d)) b k (get_or xs a d) d apart ∙ elim (cases_order k a) [
+            | inl same ↦
+                let from : cond (k == b) a (cond (k == a) b k) ≡ b = grind (arith, nat_tests) in
+                ap (λ n. get_or (set xs a (get_or xs b d)) n d) same ∙ get_or-set_same xs a (get_or xs b d) d within_a ∙ ap (λ n. get_or xs n d) (sym from)
+            | inr other ↦
+                let away : k ≢ a = elim other [ inl less ↦ omega (arith, less) | inr more ↦ omega (arith, more) ] in
+                let from : cond (k == b) a (cond (k == a) b k) ≡ k = grind (arith, nat_tests) in
+                get_or-set_other xs a k (get_or xs b d) d away ∙ ap (λ n. get_or xs n d) (sym from)
+          ]
+    ]
+
+    two_swapped : AtTwo xs → AtTwo (swap xs a b)
+    two_swapped two i j d apart l m =
+        subst (λ x. R x (get_or (swap xs a b) j d)) (sym (at_from i d)) (subst (R (get_or xs (from_place i) d)) (sym (at_from j d))
+        (two (from_place i) (from_place j) d (from_apart i j apart) (from_within i (subst (λ n. i < n) (length-swap xs a b) l)) (from_within j (subst (λ n. j < n) (length-swap xs a b) m))))
+
+  pub pairs_permuted : (xs ys : List A) → AllPairs R xs → IsPermutation xs ys → AllPairs R ys
+  pairs_permuted xs ys pairs moved i j d less within =
+      IsPermutation-keeps xs AtTwo (two_from_pairs xs pairs) (λ zs a b l m. two_swapped zs a b l m) ys moved i j d (omega arith) (omega arith) within

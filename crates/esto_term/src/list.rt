@@ -48,6 +48,13 @@ impl<T> List<T> {
         }
     }
 
+    /// The list of the items of a vector, which is moved and not copied.
+    pub fn from_vec(items: Vec<T>) -> List<T>
+        ensures { result ≡ items.items }
+    {
+        List { items }
+    }
+
     /// How many items the list has.
     pub fn len(&self) -> usize
         ensures { result ≡ length self.now }
