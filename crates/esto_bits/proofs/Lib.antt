@@ -1,5 +1,6 @@
 pub mod SetLemmas
+pub mod FamilyLemmas
 pub mod WordLemmas
 pub mod NumberLemmas
-pub mod FamilyLemmas
+pub mod CountLemmas
 pub mod SortLemmas

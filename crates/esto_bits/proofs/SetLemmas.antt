@@ -29,6 +29,12 @@ other_true true other differ is = absurd (false-not_true (sym is))
 other_true false true differ is = refl
 other_true false false differ is = differ
 
+pub same_answers : (one other : Bool) → not (beq one other) ≡ false → one ≡ other
+same_answers true true alike = refl
+same_answers true false alike = absurd (false-not_true (sym alike))
+same_answers false true alike = absurd (false-not_true (sym alike))
+same_answers false false alike = refl
+
 both-first : (one other : Bool) → one && other ≡ true → one ≡ true
 both-first true other e = refl
 both-first false other e = e

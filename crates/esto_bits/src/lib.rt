@@ -5,5 +5,5 @@ mod products;
 mod row_bits;
 mod words;
 
-pub use products::{Products, SetList, kept_sets_are_minimal};
+pub use products::{Products, SetList, kept_sets_are_minimal, products_are_antichains};
 pub use row_bits::RowBits;

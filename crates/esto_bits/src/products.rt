@@ -1,12 +1,11 @@
 //! Antichains: families of sets of which none is a subset of another.
-ghost use Rattle.std.specs.Prelude.{◌≡◌, ◌↔◌, ◌<◌, ◌≤◌, List, Bool, [], false, filter, length, take, slice_get, IsTrue, IfOk, IfSome, OnOk, OnErr, All, Contains};
-ghost use Rattle.esto_semantics.specs.Sets.{AreInOrder, Covers, set_cmp, united};
+ghost use Rattle.std.specs.Prelude.{◌≡◌, ◌↔◌, ◌<◌, List, Bool, [], false, filter, length, slice_get, IsTrue, IfOk, IfSome, OnOk, OnErr, Contains};
+ghost use Rattle.esto_semantics.specs.Sets.{AreInOrder, Covers, united};
 ghost use Rattle.esto_bits.specs.Kept.{AreOver, IsAntichain, is_covered, is_left_by, with_set, CoversAlso, OneMoreIsMinimal, KeptAreMinimal};
 
 use crate::row_bits::RowBits;
 use esto_term::{List, OutOfMemory, Replicate};
 use std::alloc::Global;
-use std::cmp::Ordering;
 use std::marker::Model;
 
 /// A list of sets.
@@ -48,11 +47,9 @@ impl Products {
         self.count
     }
 
-    /// How many sets are kept. Each has the count, and none is a subset of another.
+    /// How many sets are kept.
     pub fn len(&self) -> usize
-        ensures value { result ≡ length self.now.sets }
-        ensures over { AreOver self.now.count self.now.sets }
-        ensures antichain { IsAntichain self.now.sets }
+        ensures { result ≡ length self.now.sets }
     {
         self.sets.len()
     }
@@ -62,6 +59,13 @@ impl Products {
         ensures { IsTrue result ↔ (length self.now.sets ≡ 0) }
     {
         self.sets.is_empty()
+    }
+
+    /// The kept sets, in the order in which they came.
+    pub fn items(&self) -> &[RowBits]
+        ensures { result.now ≡ self.now.sets }
+    {
+        self.sets.as_slice()
     }
 
     /// Whether some kept set is a subset of this one.
@@ -109,13 +113,24 @@ impl Products {
         ensures members { IfOk result (λ it. (set : List Bool) → Contains it set ↔ Contains self.now.sets set) }
         ensures in_order { IfOk result AreInOrder }
     {
-        let mut sorted = List::new(alloc);
-        'sets: for set in self.sets.as_slice() {
-            let place = place_among(sorted.items(), set);
-            sorted.insert(place, set.copy(alloc)?)?;
-        }
-        Ok(sorted)
+        let mut sets = copied(alloc, self.sets.as_slice())?;
+        sets.sort_by(|set, other| set.compare(other))?;
+        Ok(List::from_vec(sets))
     }
+}
+
+/// Copies of the sets, in their order.
+fn copied(alloc: Global, sets: &[RowBits]) -> Result<Vec<RowBits>, OutOfMemory>
+    ensures { IfOk result (λ it. it.items ≡ sets.now) }
+{
+    let mut copied = Vec::new(alloc);
+    'sets: for set in sets {
+        match copied.push(set.copy(alloc)?) {
+            Ok(()) => {}
+            Err(_) => return Err(OutOfMemory),
+        }
+    }
+    Ok(copied)
 }
 
 /// Whether some set of the list is a subset of this one.
@@ -154,19 +169,12 @@ fn stays(set: &RowBits, row: &RowBits) -> bool
     !row.within(set) || set.within(row)
 }
 
-/// The place of the first set of the list that does not come before this one.
-fn place_among(sorted: &[RowBits], set: &RowBits) -> usize
-    requires { AreOver (length set.now) sorted.now }
-    ensures bound { result ≤ length sorted.now }
-    ensures before { All (λ other. set_cmp other set.now ≡ Ordering.Less) (take result sorted.now) }
-    ensures here { IfSome (slice_get sorted.now result) (λ other. ¬ (set_cmp other set.now ≡ Ordering.Less)) }
+/// A law: each kept set has the count, and none is a subset of another.
+pub fn products_are_antichains(products: &Products)
+    ensures over { AreOver products.now.count products.now.sets }
+    ensures antichain { IsAntichain products.now.sets }
 {
-    'sets: for (place, other) in sorted.iter().enumerate() {
-        if !other.compare(set).is_lt() {
-            return place;
-        }
-    }
-    sorted.len()
+    let _count = products.count;
 }
 
 /// A law: after a list of sets of one count is added to new products, what is kept are exactly the minimal ones of

@@ -1,9 +1,9 @@
 //! Sets of atom numbers below a count.
-ghost use Rattle.std.specs.Prelude.{ℕ, ◌≡◌, ◌↔◌, ◌⊎◌, ◌<◌, false, true, length, replicate, slice_set, IsTrue, IfOk};
+ghost use Rattle.std.specs.Prelude.{ℕ, ◌≡◌, ◌↔◌, ◌⊎◌, ◌<◌, false, true, length, replicate, slice_set, All, Contains, IsTrue, IfOk};
 ghost use Rattle.esto_semantics.specs.Sets.{Has, Within, numbers, set_cmp, united};
 
-use crate::words::{add_bits, row_within};
-use esto_term::{OutOfMemory, Replicate};
+use crate::words::{add_bits, bits_in, row_within};
+use esto_term::{OutOfMemory, Places, Replicate, Values};
 use std::alloc::Global;
 use std::cmp::Ordering;
 use std::marker::Model;
@@ -41,6 +41,17 @@ impl RowBits {
         }
     }
 
+    /// The set of these numbers below `atoms`.
+    pub fn of(alloc: Global, atoms: usize, numbers: &[usize]) -> Result<RowBits, OutOfMemory>
+        requires { All (λ number. number < atoms) numbers.now }
+        ensures count { IfOk result (λ it. length it ≡ atoms) }
+        ensures has { IfOk result (λ it. (number : ℕ) → Has it number ↔ Contains numbers.now number) }
+    {
+        let mut set = RowBits::new(alloc, atoms)?;
+        set.insert_all(numbers);
+        Ok(set)
+    }
+
     /// The count that each number of the set is below.
     pub fn count(&self) -> usize
         ensures { result ≡ length self.now }
@@ -52,13 +63,9 @@ impl RowBits {
     pub fn size(&self) -> usize
         ensures { result ≡ length (numbers self.now) }
     {
-        let mut size: usize = 0;
-        'numbers: for number in 0..self.count() {
-            if self.has(number) {
-                size += 1;
-            }
-        }
-        size
+        // the count is read so that it is known to fit
+        let _count = self.count;
+        bits_in(self.words.as_slice())
     }
 
     /// Whether the set has the number.
@@ -96,18 +103,18 @@ impl RowBits {
         add_bits(&mut self.words, other.words.as_slice());
     }
 
-    /// The order of two sets of one count: by size, then by their rising lists of numbers, compared as lists.
+    /// The order of sets: by size, then by their rising lists of numbers, compared as lists. Of sets of one count only
+    /// equal ones are `Equal`.
     pub fn compare(&self, other: &RowBits) -> Ordering
-        requires { length self.now ≡ length other.now }
         ensures { result ≡ set_cmp self.now other.now }
     {
         let order = self.size().cmp(&other.size());
         if order.is_ne() {
             return order;
         }
-        'numbers: for number in 0..self.count() {
-            let here = self.has(number);
-            if here != other.has(number) {
+        'numbers: for number in 0..self.count().max(other.count()) {
+            let here = self.has_at(number);
+            if here != other.has_at(number) {
                 return if here {
                     Ordering::Less
                 } else {
@@ -116,6 +123,37 @@ impl RowBits {
             }
         }
         Ordering::Equal
+    }
+
+    /// The numbers of the set, rising.
+    pub fn numbers(&self, alloc: Global) -> Result<Places, OutOfMemory>
+        ensures { IfOk result (λ it. it ≡ numbers self.now) }
+    {
+        let mut numbers = Values::new(alloc);
+        'numbers: for number in 0..self.count() {
+            if self.has(number) {
+                numbers.push(number)?;
+            }
+        }
+        Ok(numbers)
+    }
+
+    /// Puts numbers into the set.
+    fn insert_all(&mut self, numbers: &[usize])
+        requires { All (λ number. number < length self.old) numbers.now }
+        ensures count { length self.new ≡ length self.old }
+        ensures has { (number : ℕ) → Has self.new number ↔ (Contains numbers.now number ⊎ Has self.old number) }
+    {
+        'numbers: for number in numbers {
+            self.insert(*number);
+        }
+    }
+
+    /// Whether the set has the number, which may be beyond the count.
+    fn has_at(&self, number: usize) -> bool
+        ensures { IsTrue result ↔ Has self.now number }
+    {
+        number < self.count() && self.has(number)
     }
 }
 

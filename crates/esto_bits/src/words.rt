@@ -1,5 +1,5 @@
 //! Plain loops over 64-bit words.
-ghost use Rattle.std.specs.Prelude.{ℕ, ◌≡◌, ◌↔◌, ◌<◌, ◌^◌, length, slice_index_or, IsTrue};
+ghost use Rattle.std.specs.Prelude.{ℕ, ◌≡◌, ◌↔◌, ◌<◌, ◌^◌, count_ones, length, min, slice_index_or, sum_by, IsTrue};
 ghost use Rattle.esto_bits.specs.Words.{LackNoBit, HaveBitsOf};
 
 /// Whether no word of `small` has a bit that the same word of `large` lacks.
@@ -25,4 +25,16 @@ pub fn add_bits(words: &mut Vec<u64>, other: &[u64])
     'words: for place in 0..other.len() {
         words[place] |= other[place];
     }
+}
+
+/// How many bits of the words are 1, or the greatest `usize` where there are more.
+pub fn bits_in(words: &[u64]) -> usize
+    ensures fits { (place : ℕ) → slice_index_or words.now place 0 < 2 ^ 64 }
+    ensures value { result ≡ min (sum_by count_ones words.now) usize.MAX }
+{
+    let mut bits: usize = 0;
+    'words: for word in words {
+        bits = bits.saturating_add(word.count_ones() as usize);
+    }
+    bits
 }
