@@ -1,12 +1,12 @@
 -- A set has as many numbers as its words have bits that are 1.
-use Rattle.std.proofs.Common.{◌≡◌, ◌≢◌, ℕ, zero, suc, ◌+◌, ◌*◌, ◌/◌, ◌%◌, ◌^◌, ◌<◌, ◌≤◌, Bool, true, false, List, [], ◌∷◌, length, drop, slice_index_or, count_ones, sum_by, add_comm, refl, sym, ap, ◌∙◌, subst, inl, inr, arith}
+use Rattle.std.proofs.Common.{◌≡◌, ◌≢◌, ℕ, zero, suc, ◌+◌, ◌*◌, ◌/◌, ◌%◌, ◌^◌, ◌<◌, ◌≤◌, Bool, true, false, List, [], ◌∷◌, length, drop, slice_index_or, count_ones, sum_by, add_comm, refl, sym, ap, ◌∙◌, inl, inr, arith}
 use Rattle.std.proofs.Math.ListN.{drop_of_length-le}
 use Rattle.std.proofs.lemmas.Bool.{cases_lt}
 use Rattle.std.proofs.lemmas.List.Sums.{sum_by-drop_more}
 use Rattle.std.proofs.lemmas.Nat.{div-add-mod', ones_cat, ones_le_self, shr-shr, zero_from_ones}
 use Rattle.std.proofs.lemmas.Nat.Bits.{bit_at-lt}
 use Rattle.std.specs.Int.{bit_at}
-use Rattle.esto_semantics.specs.Sets.{Has, numbers, numbers_from}
+use Rattle.esto_semantics.specs.Sets.{numbers, numbers_from}
 use Rattle.esto_bits.specs.Words.{bit_of}
 use Rattle.esto_bits.proofs.NumberLemmas.{later_numbers, later_numbers-has, later_numbers-lacks, later_numbers-end}
 use Rattle.esto_bits.proofs.SetLemmas.{false-not_true}

@@ -3,47 +3,14 @@ use Rattle.std.proofs.Common.{◌≡◌, ◌↔◌, ◌⊎◌, ℕ, zero, suc, �
 use Rattle.std.proofs.Math.Seq.{drop-cons}
 use Rattle.std.proofs.lemmas.Bool.{cases_lt}
 use Rattle.std.proofs.lemmas.List.{get_or_default, take-append-drop}
-use Rattle.std.proofs.lemmas.List.Elements.{All-filter, All-push, All-contains, All-contains_itself, All-nil, All-head, All-tail, All-cons, All-append, All-take, All-drop, All-more, filter_passes, filter-append, Contains-append_left, Contains-append_cases, Contains-push, Contains-push_cases}
+use Rattle.std.proofs.lemmas.List.Elements.{All-filter, All-push, All-contains, All-nil, All-head, All-tail, All-append, All-take, All-drop, All-more, filter-append, Contains-append_left, Contains-push, Contains-push_cases}
 use Rattle.std.proofs.lemmas.List.Kept.{AllPairs-filter}
 use Rattle.std.proofs.lemmas.List.Quantifiers.{all_pairs_push}
-use Rattle.std.proofs.lemmas.List.Sorted.{IsPermutation-filter_both, Contains-permutation}
-use Rattle.esto_semantics.specs.Sets.{Has, Within, Covers, IsMinimal, AreMinimal}
+use Rattle.esto_term.proofs.ListLemmas.{Contains-cases, Contains-filter, Contains-filter_from, Contains-nil}
+use Rattle.esto_semantics.specs.Sets.{Has, Within, Covers, HaveCount, IsMinimal, AreMinimal, TellHolds}
 use Rattle.esto_bits.specs.Kept.{is_within, AreOver, IsAntichain, is_covered, is_left_by, with_set, with_sets, OneMoreIsMinimal, KeptAreMinimal}
 use Rattle.esto_semantics.proofs.SetLemmas.{within_refl, within_trans, within_same}
 use Rattle.esto_bits.proofs.SetLemmas.{false-not_true, Within-from_test, test_from_Within}
-
--- ---- lists
-
-Contains-none : {A : Type 0} (item : A) → Contains [] item → ⊥
-Contains-none item (place, within, is) = omega arith
-
-Contains-cases : {A : Type 0} (first : A) (rest : List A) (item : A) → Contains (first ∷ rest) item → (first ≡ item) ⊎ Contains rest item
-Contains-cases first rest item (zero, within, is) = inl is
-Contains-cases first rest item (suc place, within, is) = inr (place, omega arith, is)
-
--- what holds of each item that the list contains
-from_each : {A : Type 0} (P : A → Type 0) (items : List A) → ((item : A) → Contains items item → P item) → All P items
-from_each P [] each = All-nil P
-from_each P (first ∷ rest) each = All-cons P first rest (each first (0, omega arith, refl)) (from_each P rest (λ item has. each item (suc has.0, omega (arith, has.1), has.2)))
-
--- the items that a filter keeps are those that pass
-Contains-from_filter : {A : Type 0} (test : A → Bool) (items : List A) (item : A) → Contains (filter test items) item → Contains items item × (test item ≡ true)
-Contains-from_filter test items item has = (
-  All-contains (Contains items) (filter test items) item (All-filter test (Contains items) items (All-contains_itself items)) has,
-  All-contains (λ x. test x ≡ true) (filter test items) item (filter_passes test items) has,
-)
-
-Contains-filter : {A : Type 0} (test : A → Bool) (items : List A) (item : A) → Contains items item → test item ≡ true → Contains (filter test items) item
-Contains-filter test items item has passes =
-    let moved = Contains-permutation items (filter test items ++ filter (λ x. not (test x)) items) item (IsPermutation-filter_both test (λ x. not (test x)) (λ x. refl) items) has in
-    elim (Contains-append_cases (filter test items) (filter (λ x. not (test x)) items) item moved) [
-      | inl kept ↦ kept
-      | inr dropped ↦ absurd (both_ways (test item) passes (Contains-from_filter (λ x. not (test x)) items item dropped).1)
-    ]
-  where
-    both_ways : (answer : Bool) → answer ≡ true → not answer ≡ true → ⊥
-    both_ways true passed failed = false-not_true failed
-    both_ways false passed failed = false-not_true passed
 
 -- ---- truth values
 
@@ -71,7 +38,7 @@ module _ (set : List Bool) where
       go false is either later = let found = later either in (found.0, (suc found.1.0, omega (arith, found.1.1), found.1.2), found.2)
 
   pub test_from_covered : (family : List (List Bool)) → Covers family set → is_covered family set ≡ true
-  test_from_covered [] covered = absurd (Contains-none covered.0 covered.1)
+  test_from_covered [] covered = absurd (Contains-nil covered.0 covered.1)
   test_from_covered (first ∷ rest) covered = elim (Contains-cases first rest covered.0 covered.1) [
     | inl is ↦ ap (λ test. test || is_covered rest set) (test_from_Within first set (subst (λ member. Within member set) (sym is) covered.2))
     | inr later ↦ or_second (is_within first set) (is_covered rest set) (test_from_covered rest (covered.0, later, covered.2))
@@ -139,7 +106,7 @@ module _ (sets : List (List Bool)) (row : List Bool) where
   Contains-with_set set =
       by_cases (λ kept. Contains kept set → Contains sets set ⊎ (set ≡ row)) (is_covered sets row) sets (others ++ row ∷ [])
       (λ covered has. inl has)
-      (λ uncovered has. elim (Contains-push_cases others row set has) [ inl kept ↦ inl (Contains-from_filter (λ s. not (is_within row s)) sets set kept).0 | inr is ↦ inr (sym is) ])
+      (λ uncovered has. elim (Contains-push_cases others row set has) [ inl kept ↦ inl (Contains-filter_from (λ s. not (is_within row s)) sets set kept).0 | inr is ↦ inr (sym is) ])
 
   -- a set is covered afterwards exactly where it was, or where the new set covers it
   pub covered-with_set : (set : List Bool) → Covers (with_set sets row) set ↔ (Covers sets set ⊎ Within row set)
@@ -178,7 +145,7 @@ module _ (sets : List (List Bool)) (row : List Bool) where
 
       apart : is_covered sets row ≡ false → (set : List Bool) → Contains others set → (¬ (Within set row)) × (¬ (Within row set))
       apart fails set has =
-          let kept = Contains-from_filter (λ s. not (is_within row s)) sets set has in (
+          let kept = Contains-filter_from (λ s. not (is_within row s)) sets set has in (
             λ within. false-not_true (sym fails ∙ test_from_covered row sets (set, kept.0, within)),
             λ within. false-not_true (sym (not-true _ kept.1) ∙ test_from_Within row set within),
           )
@@ -202,7 +169,7 @@ keeps-none count = record {
   over = All-nil (λ set. length set ≡ count);
   antichain = λ i j d less within. absurd (omega arith);
   within = λ set has. has;
-  covers = λ set has. absurd (Contains-none set has);
+  covers = λ set has. absurd (Contains-nil set has);
 }
 
 keeps-one_more : (count : ℕ) (family sets : List (List Bool)) (row : List Bool) → length row ≡ count → KeepsOf count family sets → KeepsOf count (family ++ row ∷ []) (with_set sets row)
@@ -348,3 +315,29 @@ added count sets pushed left row holds fails is pushed_is left_is = (now, subst 
   where
     now : left ≡ with_set sets row
     now = left_is ∙ ap (filter (is_left_by row)) pushed_is ∙ with_set-left_by sets row fails
+
+-- ---- an antichain that tells where something holds has the minimal sets in which it holds
+
+module _ (count : ℕ) (P : List Bool → Type 0) (counted : HaveCount count P) (sets : List (List Bool)) (over : AreOver count sets) (tell : TellHolds count P sets) where
+  pub told_itself : (set : List Bool) → Contains sets set → P set
+  told_itself set inside = (tell set (All-contains (λ it. length it ≡ count) sets set over inside)).0 (set, inside, within_refl set)
+
+  pub told_are_minimal : (set : List Bool) → IsMinimal P set ↔ IsMinimal (Contains sets) set
+  told_are_minimal set = (
+    λ (holds, least).
+        let low = (tell set (counted set holds)).1 holds in
+        (subst (Contains sets) (least low.0 (told_itself low.0 low.1) low.2) low.1, λ other inside within. least other (told_itself other inside) within),
+    λ (inside, least). (
+      told_itself set inside,
+      λ other holds within.
+          let low = (tell other (counted other holds)).1 holds in
+          let same : low.0 ≡ set = least low.0 low.1 (within_trans low.0 other set low.2 within) in
+          within_same other set (counted other holds ∙ sym (counted set (told_itself set inside))) within (subst (λ it. Within it other) same low.2),
+    ),
+  )
+
+  pub antichain_is_minimal : IsAntichain sets → (set : List Bool) → Contains sets set ↔ IsMinimal P set
+  antichain_is_minimal antichain set = (
+    λ inside. (told_are_minimal set).1 (inside, λ other there within. antichain-same sets antichain other set there inside within),
+    λ minimal. ((told_are_minimal set).0 minimal).0,
+  )

@@ -4,3 +4,4 @@ pub mod WordLemmas
 pub mod NumberLemmas
 pub mod CountLemmas
 pub mod SortLemmas
+pub mod JoinLemmas

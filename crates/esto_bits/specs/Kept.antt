@@ -1,7 +1,7 @@
 -- Antichains of sets, and what stays of a family when only minimal sets are kept.
-use Rattle.std.specs.Prelude.{◌≡◌, ◌↔◌, ◌⊎◌, ℕ, Bool, true, cond, not, ◌||◌, ◌&&◌, List, [], ◌∷◌, ◌++◌, length, filter, All, AllPairs}
+use Rattle.std.specs.Prelude.{◌≡◌, ◌↔◌, ◌⊎◌, ℕ, Bool, true, cond, not, ◌||◌, ◌&&◌, List, [], ◌∷◌, ◌++◌, length, map, take, filter, All, AllPairs}
 use Rattle.std.specs.List.{list_any}
-use Rattle.esto_semantics.specs.Sets.{Within, Covers, AreMinimal}
+use Rattle.esto_semantics.specs.Sets.{Within, Covers, AreMinimal, united}
 
 -- What products keep: the count that numbers are below, and the sets.
 pub record Kept : Type 0 where
@@ -34,6 +34,14 @@ is_covered family set = list_any (λ member. is_within member set) family
 abbrev pub CoversAlso : List (List Bool) → List Bool → List (List Bool) → Type 0
 CoversAlso earlier row later = (set : List Bool) → Covers later set ↔ (Covers earlier set ⊎ Within row set)
 
+-- The later family covers just what the earlier one and the others do.
+abbrev pub CoversEither : List (List Bool) → List (List Bool) → List (List Bool) → Type 0
+CoversEither earlier others later = (set : List Bool) → Covers later set ↔ (Covers earlier set ⊎ Covers others set)
+
+-- The joined family covers just what both families cover.
+abbrev pub CoversBoth : List (List Bool) → List (List Bool) → List (List Bool) → Type 0
+CoversBoth one other joined = (set : List Bool) → Covers joined set ↔ (Covers one set × Covers other set)
+
 -- The set stays where `row` comes in: it isn't a proper superset of it.
 abbrev pub is_left_by : List Bool → List Bool → Bool
 is_left_by row set = not (is_within row set) || is_within set row
@@ -46,6 +54,15 @@ with_set sets row = cond (is_covered sets row) sets (filter (λ set. not (is_wit
 abbrev pub with_sets : List (List Bool) → List (List Bool) → List (List Bool)
 with_sets sets [] = sets
 with_sets sets (row ∷ rows) = with_sets (with_set sets row) rows
+
+-- What is kept after the first few of these sets more: where memory is wanting the others aren't added.
+abbrev pub HasFirst : List (List Bool) → List (List Bool) → List (List Bool) → Type 0
+HasFirst sets rows later = (count : ℕ) × (later ≡ with_sets sets (take count rows))
+
+-- The unions of a set of the one family with a set of the other, in every combination.
+abbrev pub unions : List (List Bool) → List (List Bool) → List (List Bool)
+unions [] others = []
+unions (set ∷ sets) others = map (united set) others ++ unions sets others
 
 -- Where the kept sets are the minimal ones of a family of sets of one count, they still are after one set more.
 abbrev pub OneMoreIsMinimal : Type 0

@@ -1,6 +1,7 @@
 //! Sets of atom numbers, kept as 64-bit words, and products: families of such sets of which none is a subset of another.
 #![tactic(auto)]
 
+mod joins;
 mod products;
 mod row_bits;
 mod words;

@@ -1,4 +1,4 @@
-use Rattle.std.proofs.Common.{◌≡◌, ◌↔◌, ◌∙◌, Bool, List, Contains, ap, rules, subst, sym}
+use Rattle.std.proofs.Common.{◌≡◌, ◌↔◌, ◌∙◌, Bool, List, Contains, rules, subst, sym}
 use Rattle.std.specs.List.Sorted.{IsPermutation}
 use Rattle.esto_semantics.specs.Sets.{AreInOrder}
 use Rattle.esto_bits.proofs.SortLemmas.{in_order_from_sort_by, sorted_members}
