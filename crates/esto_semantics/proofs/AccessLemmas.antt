@@ -15,9 +15,9 @@ use Rattle.esto_term.specs.declared.term.Term.TheVariants.{outs-Const, rolls-Con
 use Rattle.esto_semantics.specs.declared.fact.Fact.{Fact}
 use Rattle.esto_semantics.specs.Maps.{IsConstant}
 use Rattle.esto_semantics.specs.Sets.{Has, Within, numbers, united}
-use Rattle.esto_semantics.specs.Access.{Patterns, IsInput, IsBound, MeetsPattern, IsAccessible, IsEarlier, IsOrder, IsExecutable, IsAccessiblePart, IsStatedOrder}
+use Rattle.esto_semantics.specs.Access.{Patterns, IsInput, IsBound, MeetsPattern, IsAccessible, IsEarlier, IsOrder, IsExecutable, IsAccessiblePart, IsStatedOrder, HoldsExecutably, HoldsOfPart}
 use Rattle.esto_semantics.specs.AccessSteps.{IsReady, IsNext, IsStuck}
-use Rattle.esto_semantics.specs.AccessLaws.{NoneIsExecutable, UnionIsExecutable, PartExists, PartIsOne, ExecutableIsOwnPart, PartRises, StatedOrderExists, StatedOrderIsOne, NumbersAreStated, RewritingsNeedNoOrder}
+use Rattle.esto_semantics.specs.AccessLaws.{NoneIsExecutable, UnionIsExecutable, PartExists, PartIsOne, ExecutableIsOwnPart, PartRises, StatedOrderExists, StatedOrderIsOne, NumbersAreStated, RewritingsNeedNoOrder, MinimalOfParts}
 use Rattle.esto_semantics.proofs.SetLemmas.{beyond, decided_has, within_refl, within_trans, within_same, has_united, length-united, numbers_have, numbers_rise}
 use Rattle.esto_term.proofs.ChoiceLemmas.{Decided, decided_as, decided_below, decided_both, decided_either, decided_not, least_below}
 use Rattle.esto_term.proofs.ListLemmas.{Contains-at, Contains-nil, place-from_Contains, thing_at}
@@ -402,6 +402,28 @@ executable_is_own_part patterns atoms set = (
 pub part_rises : PartRises
 part_rises patterns atoms set other part part_of_other within is_part is_part' =
     is_part'.greatest part is_part.executable (within_trans part set other is_part.within within)
+
+-- ---- what holds of accessible parts
+
+module _ (patterns : Patterns) (atoms : List (Fact Term)) (P : List Bool → Type 0) where
+  own_part : (set : List Bool) → HoldsExecutably patterns atoms P set → HoldsOfPart patterns atoms P set
+  own_part set (executable, holds) =
+      record { over = (executable.1).over; part = set; is_part = (executable_is_own_part patterns atoms set).0 executable; holds = holds }
+
+  pub minimal_of_parts : MinimalOfParts patterns atoms P
+  minimal_of_parts set = (
+    (λ (holds, least). (
+      own_part set holds,
+      λ other of_part within.
+          let part_within : Within of_part.part set = within_trans of_part.part other set (of_part.is_part).within within in
+          let same : of_part.part ≡ set = least of_part.part ((of_part.is_part).executable, of_part.holds) part_within in
+          within_same other set (of_part.over ∙ sym (own_part set holds).over) within (subst (λ it. Within it other) same (of_part.is_part).within),
+    )),
+    (λ (of_part, least).
+        let executable = (of_part.is_part).executable in
+        let same : of_part.part ≡ set = least of_part.part (own_part of_part.part (executable, of_part.holds)) (of_part.is_part).within in
+        (subst (HoldsExecutably patterns atoms P) same (executable, of_part.holds), λ other holds within. least other (own_part other holds) within)),
+  )
 
 -- ---- one stated order
 

@@ -21,3 +21,4 @@ pub mod AccessLemmas
 pub mod CoverLemmas
 pub mod ListedLemmas
 pub mod PickLemmas
+pub mod AnsweringLemmas

@@ -1,20 +1,22 @@
--- Every executable rewriting maps onto a set of the plan's atoms that is a rewriting.
+-- Executable queries map onto executable sets of a plan's atoms, and executable rewritings onto sets that are rewritings.
 use Rattle.std.proofs.Common.{◌≡◌, ◌≢◌, ◌↔◌, inl, inr, ℕ, ◌<◌, Bool, true, false, List, [], ◌∷◌, map, length, replicate, slice_get, Contains, Option, Some, None, refl, sym, ap, ◌∙◌, subst}
 use Rattle.std.proofs.lemmas.List.{get_or-replicate, length-map}
 use Rattle.std.proofs.lemmas.Option.{slice_get_within}
 use Rattle.esto_term.specs.declared.term.Term.{Term}
 use Rattle.esto_term.specs.declared.term.Term.TheVariants.{Const}
 use Rattle.esto_semantics.specs.Access.{Patterns, IsOrder, IsExecutable}
-use Rattle.esto_semantics.specs.Containment.{IsSatisfiable}
+use Rattle.esto_semantics.specs.Containment.{IsContained, IsSatisfiable}
 use Rattle.esto_semantics.specs.Facts.{image, Mentions}
 use Rattle.esto_semantics.specs.Instances.{MapsTo}
 use Rattle.esto_semantics.specs.Listed.{chosen, candidate, HasCandidate, IsSafe, IsRewriting, IsExecutableRewriting}
 use Rattle.esto_semantics.specs.Maps.{AreFlat, Keeps, Sends}
 use Rattle.esto_semantics.specs.Plans.{IsUniversalPlan}
-use Rattle.esto_semantics.specs.Queries.{ConjunctiveQuery}
+use Rattle.esto_semantics.specs.PlanLaws.{QueriesMapOntoExecutableSets}
+use Rattle.esto_semantics.specs.Queries.{ConjunctiveQuery, IsQuery}
 use Rattle.esto_semantics.specs.Rewritings.{IsPlanFor, MapsOnto}
 use Rattle.esto_semantics.specs.Rules.{Rule}
 use Rattle.esto_semantics.specs.Sets.{Has}
+use Rattle.esto_semantics.specs.Views.{IsFragmentAnswer}
 use Rattle.esto_semantics.specs.declared.fact.Fact.{Fact}
 use Rattle.esto_semantics.proofs.AnswerLemmas.{contained-in_mapped}
 use Rattle.esto_semantics.proofs.CandidateLemmas.{candidate-equivalent}
@@ -98,6 +100,70 @@ first_of : {X : Type 0} (things : List X) → things ≢ [] → (first : X) × (
 first_of [] some = absurd (some refl)
 first_of (first ∷ rest) some = (first, refl)
 
+-- ---- an executable query that maps to a plan
+
+module _ (patterns : Patterns) (plan other : ConjunctiveQuery) (is_query : IsQuery other) (order : List ℕ)
+    (is_order : IsOrder patterns other.body (replicate (length other.body) true) order) (maps : MapsTo other plan) where
+  abbrev set : List Bool
+  set = image_set patterns other plan maps.0 maps.1 maps.2 order is_order
+
+  set-onto : (atom : Fact Term) → Contains (chosen set plan.body) atom ↔ Contains (map (image maps.0) other.body) atom
+  set-onto = image_set-onto patterns other plan maps.0 maps.1 maps.2 order is_order
+
+  sends_to_set : Sends maps.0 other.body (chosen set plan.body)
+  sends_to_set atom inside = (set-onto (image maps.0 atom)).1 (Contains-map (image maps.0) other.body atom inside)
+
+  set-HasCandidate : HasCandidate plan set
+  set-HasCandidate =
+      let first = first_of other.body is_query.has_body in record {
+        over = length-passing _ (length plan.body);
+        some = (_, image_set-has patterns other plan maps.0 maps.1 maps.2 order is_order 0 first.0 first.1);
+      }
+
+  set-IsSafe : IsSafe plan set
+  set-IsSafe term inside =
+      let from = Contains-map_from maps.0 other.head term (subst (λ head. Contains head term) (sym maps.3) inside) in
+      elim (is_query.safe from.0 from.1) [
+        | inl (text, is) ↦ inl (text, sym from.2 ∙ ap maps.0 is ∙ maps.1 text)
+        | inr mentioned ↦ inr (subst (Mentions (chosen set plan.body)) from.2
+            (Mentions-sent maps.0 other.body (chosen set plan.body) from.0 sends_to_set mentioned))
+      ]
+
+  pub maps_onto_executable : (set : List Bool) × MapsOnto other plan set × HasCandidate plan set × IsSafe plan set × IsExecutable patterns plan.body set
+  maps_onto_executable = (
+    set,
+    record { m = maps.0; keeps = maps.1; head = maps.3; onto = set-onto },
+    set-HasCandidate,
+    set-IsSafe,
+    image_set-IsExecutable patterns other plan maps.0 maps.1 maps.2 order is_order,
+  )
+
+-- the candidate of a set that a query maps onto is contained in the query
+pub onto-contained : (rules : List Rule) (views : List ConjunctiveQuery) (other plan : ConjunctiveQuery) (set : List Bool) → MapsOnto other plan set
+    → IsContained rules (IsFragmentAnswer views (candidate plan set)) (IsFragmentAnswer views other)
+onto-contained rules views other plan set onto =
+    contained-in_mapped rules views other (candidate plan set) (
+      onto.m,
+      onto.keeps,
+      (λ atom inside. (onto.onto (image onto.m atom)).1 (Contains-map (image onto.m) other.body atom inside)),
+      onto.head,
+    )
+
+pub queries_map_onto : QueriesMapOntoExecutableSets
+queries_map_onto rules views patterns plan other is_query executable maps =
+    let onto = maps_onto_executable patterns plan other is_query executable.0 executable.1 maps in (
+      onto.0,
+      record {
+        onto = onto.1;
+        has_candidate = onto.2;
+        safe = onto.3;
+        executable = onto.4;
+        contained = onto-contained rules views other plan onto.0 onto.1;
+      },
+    )
+
+-- ---- an executable rewriting
+
 module _ (rules : List Rule) (views : List ConjunctiveQuery) (patterns : Patterns) (query plan other : ConjunctiveQuery)
     (rewriting : IsExecutableRewriting rules views patterns query other) where
   -- over a database that gives the query a row, the heads are as long as the row
@@ -117,40 +183,17 @@ module _ (rules : List Rule) (views : List ConjunctiveQuery) (patterns : Pattern
       flat_body = flat;
     }
 
-    abbrev set : List Bool
-    set = image_set patterns other plan maps.0 maps.1 maps.2 rewriting.executable.0 rewriting.executable.1
-
-    set-onto : (atom : Fact Term) → Contains (chosen set plan.body) atom ↔ Contains (map (image maps.0) other.body) atom
-    set-onto = image_set-onto patterns other plan maps.0 maps.1 maps.2 rewriting.executable.0 rewriting.executable.1
-
-    sends_to_set : Sends maps.0 other.body (chosen set plan.body)
-    sends_to_set atom inside = (set-onto (image maps.0 atom)).1 (Contains-map (image maps.0) other.body atom inside)
-
-    set-HasCandidate : HasCandidate plan set
-    set-HasCandidate =
-        let first = first_of other.body rewriting.is_query.has_body in record {
-          over = length-passing _ (length plan.body);
-          some = (_, image_set-has patterns other plan maps.0 maps.1 maps.2 rewriting.executable.0 rewriting.executable.1 0 first.0 first.1);
-        }
-
-    set-IsSafe : IsSafe plan set
-    set-IsSafe term inside =
-        let from = Contains-map_from maps.0 other.head term (subst (λ head. Contains head term) (sym maps.3) inside) in
-        elim (rewriting.is_query.safe from.0 from.1) [
-          | inl (text, is) ↦ inl (text, sym from.2 ∙ ap maps.0 is ∙ maps.1 text)
-          | inr mentioned ↦ inr (subst (Mentions (chosen set plan.body)) from.2 (Mentions-sent maps.0 other.body (chosen set plan.body) from.0 sends_to_set mentioned))
-        ]
-
     pub maps_onto_rewriting : (set : List Bool) × IsRewriting rules views patterns query plan set × MapsOnto other plan set
-    maps_onto_rewriting = (
-      set,
-      record {
-        has_candidate = set-HasCandidate;
-        safe = set-IsSafe;
-        executable = image_set-IsExecutable patterns other plan maps.0 maps.1 maps.2 rewriting.executable.0 rewriting.executable.1;
-        equivalent = (candidate-equivalent plan set query plan_form set-HasCandidate set-IsSafe rules views universal).1
-            (λ database meets row answer. rewriting.equivalent.0 database meets row
-            (contained-in_mapped rules views other (candidate plan set) (maps.0, maps.1, sends_to_set, maps.3) database meets row answer));
-      },
-      record { m = maps.0; keeps = maps.1; head = maps.3; onto = set-onto },
-    )
+    maps_onto_rewriting =
+        let found = queries_map_onto rules views patterns plan other rewriting.is_query rewriting.executable maps in
+        let is = found.1 in (
+          found.0,
+          record {
+            has_candidate = is.has_candidate;
+            safe = is.safe;
+            executable = is.executable;
+            equivalent = (candidate-equivalent plan found.0 query plan_form is.has_candidate is.safe rules views universal).1
+                (λ database meets row answer. rewriting.equivalent.0 database meets row (is.contained database meets row answer));
+          },
+          is.onto,
+        )

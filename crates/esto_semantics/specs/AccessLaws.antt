@@ -1,8 +1,8 @@
 -- Laws of executable sets, accessible parts and stated orders.
 use Rattle.std.specs.Prelude.{◌≡◌, ◌↔◌, ℕ, Bool, false, List, length, replicate}
 use Rattle.esto_term.specs.declared.term.Term.{Term}
-use Rattle.esto_semantics.specs.Sets.{Within, numbers, united}
-use Rattle.esto_semantics.specs.Access.{Patterns, AreOpen, IsExecutable, IsAccessiblePart, IsStatedOrder}
+use Rattle.esto_semantics.specs.Sets.{Within, IsMinimal, numbers, united}
+use Rattle.esto_semantics.specs.Access.{Patterns, AreOpen, IsExecutable, IsAccessiblePart, IsStatedOrder, HoldsExecutably, HoldsOfPart}
 use Rattle.esto_semantics.specs.Queries.{ConjunctiveQuery, IsAnswer}
 use Rattle.esto_semantics.specs.Rules.{Rule}
 use Rattle.esto_semantics.specs.Containment.{IsEquivalent}
@@ -67,3 +67,8 @@ RewritingsNeedNoOrder =
     (patterns : Patterns) (rules : List Rule) (views : List ConjunctiveQuery) (query plan : ConjunctiveQuery) → AreOpen patterns plan.body
     → (set : List Bool) → HasCandidate plan set → IsSafe plan set
     → IsEquivalent rules (IsFragmentAnswer views (candidate plan set)) (IsAnswer query) → IsRewriting rules views patterns query plan set
+
+-- The minimal executable sets that P holds of are the minimal sets of whose accessible part P holds.
+abbrev pub MinimalOfParts : Patterns → List (Fact Term) → (List Bool → Type 0) → Type 0
+MinimalOfParts patterns atoms P =
+    (set : List Bool) → IsMinimal (HoldsExecutably patterns atoms P) set ↔ IsMinimal (HoldsOfPart patterns atoms P) set

@@ -21,3 +21,4 @@ pub mod SetLaws
 pub mod AccessSteps
 pub mod AccessLaws
 pub mod ListedLaws
+pub mod PlanLaws

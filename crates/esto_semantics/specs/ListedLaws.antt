@@ -4,10 +4,10 @@ use Rattle.std.specs.List.{AllZip}
 use Rattle.esto_term.specs.declared.term.Term.{Term}
 use Rattle.esto_semantics.specs.Queries.{ConjunctiveQuery}
 use Rattle.esto_semantics.specs.Rules.{Rule}
-use Rattle.esto_semantics.specs.Sets.{Has, Covers, AreMinimal, AreInOrder, all_sets}
-use Rattle.esto_semantics.specs.Listed.{chosen, IsRewriting, IsExecutableRewriting, AreListed, IsWeight, IsPick}
+use Rattle.esto_semantics.specs.Sets.{Has, IsMinimal, AreMinimal, Covers, AreInOrder, Rises, TellHolds, all_sets}
+use Rattle.esto_semantics.specs.Listed.{chosen, AnswersQuery, IsRewriting, IsListed, AreListed, IsExecutableRewriting, IsWeight, IsPick}
 use Rattle.esto_semantics.specs.declared.fact.Fact.{Fact}
-use Rattle.esto_semantics.specs.Access.{Patterns}
+use Rattle.esto_semantics.specs.Access.{Patterns, HoldsExecutably, HoldsOfPart}
 use Rattle.esto_semantics.specs.Containment.{IsSatisfiable}
 use Rattle.esto_semantics.specs.Maps.{AreFlat}
 use Rattle.esto_semantics.specs.Plans.{IsUniversalPlan}
@@ -66,6 +66,25 @@ NoRewritingExists =
     (rules : List Rule) (views : List ConjunctiveQuery) (patterns : Patterns) (query plan : ConjunctiveQuery) (sets : List (List Bool))
     → IsPlanFor query plan → IsUniversalPlan rules views query plan → IsSatisfiable rules query → AreListed rules views patterns query plan sets
     → (sets ≡ []) ↔ ((other : ConjunctiveQuery) → IsExecutableRewriting rules views patterns query other → ⊥)
+
+-- Where sets tell which sets answer the query, the listed sets are the minimal executable sets that have one of them as a subset.
+abbrev pub ListedAreExecutable : Type 0
+ListedAreExecutable =
+    (rules : List Rule) (views : List ConjunctiveQuery) (patterns : Patterns) (query plan : ConjunctiveQuery) (sets : List (List Bool))
+    → TellHolds (length plan.body) (AnswersQuery rules views query plan) sets
+    → (set : List Bool) → IsListed rules views patterns query plan set ↔ IsMinimal (HoldsExecutably patterns plan.body (Covers sets)) set
+
+-- The listed sets are the minimal sets whose accessible part answers the query.
+abbrev pub ListedAreOfParts : Type 0
+ListedAreOfParts =
+    (rules : List Rule) (views : List ConjunctiveQuery) (patterns : Patterns) (query plan : ConjunctiveQuery) (set : List Bool)
+    → IsListed rules views patterns query plan set ↔ IsMinimal (HoldsOfPart patterns plan.body (AnswersQuery rules views query plan)) set
+
+-- A set of a universal plan's atoms that has a set within it which answers the query answers it too.
+abbrev pub AnsweringRises : Type 0
+AnsweringRises =
+    (rules : List Rule) (views : List ConjunctiveQuery) (query plan : ConjunctiveQuery) → IsPlanFor query plan → IsUniversalPlan rules views query plan
+    → Rises (length plan.body) (AnswersQuery rules views query plan)
 
 -- The atoms that a set chooses are those at its numbers.
 abbrev pub ChosenAreNamed : Type 0

@@ -1,7 +1,7 @@
 -- Laws of sets, their order, and the minimal sets of a family.
 use Rattle.std.specs.Prelude.{◌≡◌, ◌≢◌, ◌↔◌, ℕ, Bool, List, length, Contains, AllPairs}
 use Rattle.std.specs.declared.cmp.Ordering.TheVariants.{Equal}
-use Rattle.esto_semantics.specs.Sets.{Has, Within, set_cmp, AreMinimal, HaveOneCount, AreInOrder, all_sets}
+use Rattle.esto_semantics.specs.Sets.{Has, Within, set_cmp, IsMinimal, AreMinimal, HaveOneCount, AreInOrder, Rises, TellHolds, all_sets}
 
 -- Two sets of one count compare Equal exactly where they are one set.
 abbrev pub EqualIsSame : Type 0
@@ -44,3 +44,9 @@ abbrev pub MinimalAreOne : Type 0
 MinimalAreOne =
     (family minimal others : List (List Bool)) → AreMinimal family minimal → AreMinimal family others
     → (set : List Bool) → Contains minimal set ↔ Contains others set
+
+-- Where P rises, the minimal sets of the count that P holds of tell where P holds.
+abbrev pub MinimalTell : ℕ → (List Bool → Type 0) → Type 0
+MinimalTell count P =
+    Rises count P → (sets : List (List Bool)) → ((set : List Bool) → Contains sets set ↔ IsMinimal (λ it. (length it ≡ count) × P it) set)
+    → TellHolds count P sets

@@ -72,6 +72,6 @@ all_sets (suc count) = map (λ set. true ∷ set) (all_sets count) ++ map (λ se
 abbrev pub TellHolds : ℕ → (List Bool → Type 0) → List (List Bool) → Type 0
 TellHolds count P sets = (set : List Bool) → length set ≡ count → Covers sets set ↔ P set
 
--- What passes the test passes it in every greater set of the count.
-abbrev pub Rises : ℕ → (List Bool → Bool) → Type 0
-Rises count test = (set other : List Bool) → length set ≡ count → length other ≡ count → Within set other → test set ≡ true → test other ≡ true
+-- What P holds of, it holds of every greater set of the count.
+abbrev pub Rises : ℕ → (List Bool → Type 0) → Type 0
+Rises count P = (set other : List Bool) → length set ≡ count → length other ≡ count → Within set other → P set → P other

@@ -1,6 +1,10 @@
 //! Laws of executable sets, accessible parts and stated orders.
+ghost use Rattle.std.specs.Prelude.{Bool, IsTrue, List};
+ghost use Rattle.esto_term.specs.declared.term.Term.{Term};
+ghost use Rattle.esto_semantics.specs.Access.{Patterns};
+ghost use Rattle.esto_semantics.specs.declared.fact.Fact.{Fact};
 ghost use Rattle.esto_semantics.specs.AccessLaws.{NoneIsExecutable, UnionIsExecutable, PartExists, PartIsOne, ExecutableIsOwnPart, PartRises};
-ghost use Rattle.esto_semantics.specs.AccessLaws.{StatedOrderExists, StatedOrderIsOne, NumbersAreStated, RewritingsNeedNoOrder};
+ghost use Rattle.esto_semantics.specs.AccessLaws.{StatedOrderExists, StatedOrderIsOne, NumbersAreStated, RewritingsNeedNoOrder, MinimalOfParts};
 
 use esto_term::terms_are_ordered;
 
@@ -25,6 +29,12 @@ pub fn stated_orders_exist()
 {
     terms_are_ordered();
 }
+
+/// A law: the minimal executable sets that pass a test are the minimal sets whose accessible part passes it.
+pub fn minimal_executable_sets_are_told_by_parts()
+    ensures { (patterns : Patterns) (atoms : List (Fact Term)) (test : List Bool → Bool)
+        → MinimalOfParts patterns atoms (λ set. IsTrue (test set)) }
+{}
 
 /// A law: where each of the atoms has a pattern without inputs, the stated order of any set of the atoms is the rising
 /// list of its numbers. So every set is executable, and a safe candidate that is equivalent to the query is a

@@ -13,7 +13,10 @@ mod plans;
 mod sets;
 mod well_formed;
 
-pub use access::{executable_sets_unite, rewritings_without_inputs, stated_orders_exist};
+pub use access::{
+    executable_sets_unite, minimal_executable_sets_are_told_by_parts, rewritings_without_inputs,
+    stated_orders_exist,
+};
 pub use containment::{
     answers_grow_with_the_database, containment_is_a_preorder, queries_are_their_own_instances,
     universal_instances_decide_containment, universal_instances_satisfy_queries,
@@ -24,11 +27,14 @@ pub use expansions::{
 };
 pub use fact::{Atom, Atoms, Database, Fact, Facts, Value};
 pub use followed::what_follows_the_facts_follows_the_query;
-pub use listed::{chosen_atoms_are_named, listed_sets_are_minimal, picks_exist, weights_exist};
+pub use listed::{
+    chosen_atoms_are_named, listed_sets_are_executable, listed_sets_are_minimal, picks_exist,
+    weights_exist,
+};
 pub use plans::{
     candidates_contain_the_query, candidates_of_rewritings_are_executable_rewritings,
-    queries_contain_what_they_map_to, rewritings_map_onto_sets,
+    queries_contain_what_they_map_to, queries_map_onto_executable_sets, rewritings_map_onto_sets,
     rows_of_a_universal_instance_are_a_universal_plan, sets_weigh_no_more_than_what_maps_onto_them,
 };
-pub use sets::{all_sets_are_listed, minimal_sets_cover, sets_are_ordered};
+pub use sets::{all_sets_are_listed, minimal_sets_cover, minimal_sets_tell, sets_are_ordered};
 pub use well_formed::{facts_outside_a_schema_do_not_count, well_formed_databases_suffice};

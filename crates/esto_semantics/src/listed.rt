@@ -1,5 +1,6 @@
 //! Laws of listed sets, of weights and of the pick.
 ghost use Rattle.esto_semantics.specs.ListedLaws.{TestedAreRewritings, ListedAreMinimal, ListedExist, ListedIsOne, ListedCover, NoneIsListed, NoRewritingExists};
+ghost use Rattle.esto_semantics.specs.ListedLaws.{ListedAreExecutable, ListedAreOfParts, AnsweringRises};
 ghost use Rattle.esto_semantics.specs.ListedLaws.{ChosenAreNamed, WeightExists, WeightRises, WeightIsOne, WeightIsSum};
 ghost use Rattle.esto_semantics.specs.ListedLaws.{PickExists, PickIsOne, PickWeighsLeast, PickWeighsLeastOfAll};
 
@@ -18,6 +19,16 @@ pub fn listed_sets_are_minimal()
     ensures cover { ListedCover }
     ensures none { NoneIsListed }
     ensures no_rewriting { NoRewritingExists }
+{}
+
+/// A law: the listed sets are the minimal sets of the plan's atoms whose accessible part answers the query. Where sets
+/// tell which sets answer the query, executable or not, they are the minimal executable sets that have one of these as a
+/// subset. What answers the query does so with more atoms of a universal plan, so the minimal sets that answer it tell
+/// which do.
+pub fn listed_sets_are_executable()
+    ensures executable { ListedAreExecutable }
+    ensures parts { ListedAreOfParts }
+    ensures rises { AnsweringRises }
 {}
 
 /// A law: the atoms that a set chooses are those at its numbers.

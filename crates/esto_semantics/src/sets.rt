@@ -1,8 +1,9 @@
 //! Laws of sets, of their order, and of the minimal sets of a family.
+ghost use Rattle.std.specs.Prelude.{ℕ, Bool, IsTrue, List};
 ghost use Rattle.std.specs.Cmp.{IsTotalOrder};
 ghost use Rattle.esto_semantics.specs.Sets.{set_cmp};
 ghost use Rattle.esto_semantics.specs.SetLaws.{EqualIsSame, NumbersTellSets, WithinBothWays, OrderIsOne, AllSetsAreListed};
-ghost use Rattle.esto_semantics.specs.SetLaws.{MinimalAreApart, MinimalCover, MinimalExist, MinimalAreOne};
+ghost use Rattle.esto_semantics.specs.SetLaws.{MinimalAreApart, MinimalCover, MinimalExist, MinimalAreOne, MinimalTell};
 
 /// A law: the order of sets is total, and two sets of one count compare Equal exactly where they are one set.
 /// Two sets of one count are one where they have the same numbers, or are subsets of each other. Two lists of
@@ -27,4 +28,10 @@ pub fn minimal_sets_cover()
     ensures cover { MinimalCover }
     ensures exist { MinimalExist }
     ensures one { MinimalAreOne }
+{}
+
+/// A law: where what passes a test passes it in every greater set of a count, the minimal sets of the count that pass it
+/// tell which sets pass it: those that have one of them as a subset.
+pub fn minimal_sets_tell()
+    ensures { (count : ℕ) (test : List Bool → Bool) → MinimalTell count (λ set. IsTrue (test set)) }
 {}
