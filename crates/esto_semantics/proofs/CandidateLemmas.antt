@@ -25,7 +25,7 @@ module _ (plan : ConjunctiveQuery) (set : List Bool) where
   pub chosen-among : (atom : Fact Term) → Contains (chosen set plan.body) atom → Contains plan.body atom
   chosen-among atom inside = let found = Has-from_chosen set plan.body atom inside in Contains-at plan.body found.0 atom found.2
 
-  candidate-MapsTo : MapsTo (candidate plan set) plan
+  pub candidate-MapsTo : MapsTo (candidate plan set) plan
   candidate-MapsTo = (
     (λ term. term),
     (λ text. refl),

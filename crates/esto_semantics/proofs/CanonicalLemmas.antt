@@ -1,18 +1,22 @@
 -- The canonical database of a query: its body with each constant as its text, and every other term as the unnamed value of its
 -- first place among the query's terms.
-use Rattle.std.proofs.Common.{List, ◌++◌, map, Contains, sym, ◌∙◌}
+use Rattle.std.proofs.Common.{◌≡◌, ◌⊎◌, inl, inr, ℕ, List, ◌++◌, map, Contains, refl, sym, ap, ◌∙◌}
 use Rattle.std.proofs.lemmas.List.Elements.{Contains-append_left, Contains-append_right}
 use Rattle.esto_term.specs.declared.term.Term.{Term}
 use Rattle.esto_term.specs.declared.term.Term.TheVariants.{Const}
+use Rattle.esto_term.specs.Kinds.{IsConstant}
+use Rattle.esto_semantics.specs.Expansions.{IsOfQuery}
 use Rattle.esto_semantics.specs.Facts.{Database, Mentions, terms_of}
 use Rattle.esto_semantics.specs.Instances.{MapsTo, IsFinished}
 use Rattle.esto_semantics.specs.Queries.{ConjunctiveQuery, IsAnswer, IsAnswerInto}
 use Rattle.esto_semantics.specs.Rules.{Rule, tuple, equality, denial, AreRules, Meets}
+use Rattle.esto_semantics.specs.Standing.{AreValuesOf}
 use Rattle.esto_semantics.specs.declared.fact.Fact.{Fact}
 use Rattle.esto_semantics.specs.declared.fact.Value.{Value}
+use Rattle.esto_semantics.specs.declared.fact.Value.TheVariants.{Text, Node}
 use Rattle.esto_term.specs.Order.{same_term}
 use Rattle.esto_semantics.proofs.TermLemmas.{same_term-Decides, constant_text, constant_text-told, constant_text-Const}
-use Rattle.esto_semantics.proofs.RenamingLemmas.{Naming, RuleIsKept, value_of, thing_of, renamed, map-thing_of-value_of, answer_there, answer_back, fact_there, fact_back, meets_there}
+use Rattle.esto_semantics.proofs.RenamingLemmas.{Naming, RuleIsKept, value_of, thing_of, renamed, value_of-kept, value_of-Text, thing_of-value_of, map-thing_of-value_of, answer_there, answer_back, fact_there, fact_back, meets_there}
 use Rattle.esto_term.proofs.ListLemmas.{Contains-flat}
 
 abbrev pub terms_naming : Naming Term
@@ -72,3 +76,27 @@ module _ (query : ConjunctiveQuery) where
         back.2,
         sym back.3 ∙ map-thing_of-value_of terms_naming (query_terms query) query.head (λ term inside. Contains-append_right (terms_of query.body) query.head term inside),
       )
+
+-- ---- the values of the query's terms
+
+module _ (query : ConjunctiveQuery) where
+  in_terms : (term : Term) → IsOfQuery query term → Contains (query_terms query) term
+  in_terms term (inl mentioned) = body_terms query term mentioned
+  in_terms term (inr in_head) = Contains-append_right (terms_of query.body) query.head term in_head
+
+  back_there : (term : Term) → IsOfQuery query term → canonical_term query (canonical_value query term) ≡ term
+  back_there term of_query = thing_of-value_of terms_naming (query_terms query) term (in_terms term of_query)
+
+  unnamed_or_constant : (term : Term) → IsConstant term ⊎ ((node : ℕ) × (canonical_value query term ≡ Node node))
+  unnamed_or_constant term = by (canonical_value query term) refl
+    where
+      by : (value : Value) → canonical_value query term ≡ value → IsConstant term ⊎ ((node : ℕ) × (canonical_value query term ≡ Node node))
+      by (Text text) is = inl (text, sym (constant_text-told term text (value_of-Text terms_naming (query_terms query) term text is)))
+      by (Node node) is = inr (node, is)
+
+  pub canonical-AreValuesOf : AreValuesOf (IsOfQuery query) (canonical_value query)
+  canonical-AreValuesOf = record {
+    keeps = λ text. value_of-kept terms_naming (query_terms query) text (constant_text-Const text);
+    unnamed = λ term of_query. unnamed_or_constant term;
+    apart = λ term other of_query other_of_query same. sym (back_there term of_query) ∙ ap (canonical_term query) same ∙ back_there other other_of_query;
+  }

@@ -5,8 +5,9 @@ use Rattle.esto_semantics.specs.Facts.{Database}
 use Rattle.esto_semantics.specs.Instances.{MapsTo, IsFollowed, IsUniversalFor, IsFinished}
 use Rattle.esto_semantics.specs.Queries.{ConjunctiveQuery, IsAnswer, IsAnswerInto}
 use Rattle.esto_semantics.specs.Rules.{Rule, AreRules}
-use Rattle.esto_semantics.specs.Sides.{Side, over_datasets, over_fragments, IsAnswerOf}
-use Rattle.esto_semantics.specs.Views.{IsViewRow}
+use Rattle.esto_semantics.specs.ContainmentLaws.{UnionsAreDecided, AnswersGrow}
+use Rattle.esto_semantics.specs.Sides.{over_datasets, over_fragments, union_over_datasets, union_over_fragments}
+use Rattle.esto_semantics.specs.Views.{IsViewRow, IsFragmentAnswer}
 use Rattle.esto_semantics.specs.declared.fact.Fact.{Fact}
 use Rattle.esto_semantics.specs.declared.fact.Value.{Value}
 use Rattle.esto_semantics.specs.declared.fact.Value.TheVariants.{Text}
@@ -35,6 +36,15 @@ pub universal_instances_decide : (rules : List Rule) (start end right : Conjunct
     → IsContained rules (IsAnswer start) (IsAnswer right) ↔ MapsTo right end
 universal_instances_decide rules start end right are_rules universal finished =
     (map-from_contained rules start end right are_rules universal.maps finished, contained-from_map rules start end right universal.followed)
+
+pub unions_are_decided : UnionsAreDecided
+unions_are_decided rules start end queries are_rules universal finished = (
+  (λ contained.
+      let meets = canonical_database-Meets end rules are_rules finished in
+      let answer = contained (canonical_database end) meets (map (canonical_value end) end.head) (answer-from_map end start universal.maps) in
+      (answer.0, answer.1, map-from_answer end answer.0 answer.2)),
+  (λ one database meets row answer. (one.0, one.1, contained-from_map rules start end one.0 universal.followed one.2 database meets row answer)),
+)
 
 pub universal_instances_satisfy : (rules : List Rule) (start end : ConjunctiveQuery) → AreRules rules → IsUniversalFor rules start end → IsFinished rules end → IsSatisfiable rules start
 universal_instances_satisfy rules start end are_rules universal finished =
@@ -65,8 +75,16 @@ pub IsViewRow-grows : (views : List ConjunctiveQuery) (database larger : Databas
     → (fact : Fact Value) → IsViewRow views database fact → IsViewRow views larger fact
 IsViewRow-grows views database larger grows fact (view, found, answer) = (view, found, IsAnswerInto-grows Text view (Contains database) (Contains larger) fact.terms grows answer)
 
-pub IsAnswerOf-grows : (side : Side) (database larger : Database) → ((fact : Fact Value) → Contains database fact → Contains larger fact)
-    → (row : List Value) → IsAnswerOf side database row → IsAnswerOf side larger row
-IsAnswerOf-grows (over_datasets query) database larger grows row answer = IsAnswerInto-grows Text query (Contains database) (Contains larger) row grows answer
-IsAnswerOf-grows (over_fragments views query) database larger grows row answer =
+IsFragmentAnswer-grows : (views : List ConjunctiveQuery) (query : ConjunctiveQuery) (database larger : Database)
+    → ((fact : Fact Value) → Contains database fact → Contains larger fact)
+    → (row : List Value) → IsFragmentAnswer views query database row → IsFragmentAnswer views query larger row
+IsFragmentAnswer-grows views query database larger grows row answer =
     IsAnswerInto-grows Text query (IsViewRow views database) (IsViewRow views larger) row (IsViewRow-grows views database larger grows) answer
+
+pub IsAnswerOf-grows : AnswersGrow
+IsAnswerOf-grows (over_datasets query) database larger grows row answer = IsAnswerInto-grows Text query (Contains database) (Contains larger) row grows answer
+IsAnswerOf-grows (over_fragments views query) database larger grows row answer = IsFragmentAnswer-grows views query database larger grows row answer
+IsAnswerOf-grows (union_over_datasets queries) database larger grows row (query, inside, answer) =
+    (query, inside, IsAnswerInto-grows Text query (Contains database) (Contains larger) row grows answer)
+IsAnswerOf-grows (union_over_fragments views queries) database larger grows row (query, inside, answer) =
+    (query, inside, IsFragmentAnswer-grows views query database larger grows row answer)

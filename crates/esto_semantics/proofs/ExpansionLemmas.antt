@@ -4,6 +4,7 @@ use Rattle.std.proofs.lemmas.Option.{slice_get_within}
 use Rattle.esto_term.specs.declared.term.Term.{Term}
 use Rattle.esto_term.specs.declared.term.Term.TheVariants.{Const}
 use Rattle.esto_semantics.specs.Containment.{IsContained}
+use Rattle.esto_semantics.specs.ExpansionLaws.{ExpansionIsContainedInUnion}
 use Rattle.esto_semantics.specs.Expansions.{IsInner, IsOfQuery, IsExpansion}
 use Rattle.esto_semantics.specs.Facts.{Database, image, terms_of}
 use Rattle.esto_semantics.specs.Instances.{MapsTo, IsUniversalFor, IsFinished}
@@ -15,7 +16,7 @@ use Rattle.esto_semantics.specs.declared.fact.Fact.{Fact}
 use Rattle.esto_semantics.specs.declared.fact.Value.{Value}
 use Rattle.esto_semantics.specs.declared.fact.Value.TheVariants.{Text}
 use Rattle.esto_semantics.proofs.CanonicalLemmas.{Mentions-terms_of}
-use Rattle.esto_semantics.proofs.ContainmentLemmas.{universal_instances_decide}
+use Rattle.esto_semantics.proofs.ContainmentLemmas.{unions_are_decided, universal_instances_decide}
 use Rattle.esto_semantics.proofs.FactLemmas.{image_agree, image_then}
 use Rattle.esto_semantics.proofs.JoinLemmas.{Contains-decided, joined, joined-spread, joined-given}
 use Rattle.esto_semantics.proofs.TermLemmas.{Const-apart-Plain, constant_text, constant_text-told, constant_text-Const}
@@ -183,4 +184,12 @@ expansion_decides rules views query expansion end right are_rules is_expansion u
     let decided = universal_instances_decide rules (record { head = query.head; body = expansion }) end right are_rules universal finished in (
       (λ contained. decided.0 (λ database meets row answer. contained database meets row (answer-from_expansion views query expansion is_expansion database row answer))),
       (λ maps database meets row answer. decided.1 maps database meets row (answer-to_expansion views query expansion is_expansion database row answer)),
+    )
+
+pub expansion_decides_union : ExpansionIsContainedInUnion
+expansion_decides_union rules views query expansion end queries are_rules is_expansion universal finished =
+    let decided = unions_are_decided rules (record { head = query.head; body = expansion }) end queries are_rules universal finished in (
+      (λ contained. decided.0
+          (λ database meets row answer. contained database meets row (answer-from_expansion views query expansion is_expansion database row answer))),
+      (λ one database meets row answer. decided.1 one database meets row (answer-to_expansion views query expansion is_expansion database row answer)),
     )

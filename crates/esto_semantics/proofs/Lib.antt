@@ -6,11 +6,13 @@ pub mod ContainmentLemmas
 pub mod FollowedLemmas
 pub mod WellFormedLemmas
 pub mod AnswerLemmas
+pub mod StandingLemmas
 pub mod PlanLemmas
 pub mod JoinLemmas
 pub mod ExpansionLemmas
 pub mod PlaceLemmas
 pub mod CandidateLemmas
+pub mod ShownLemmas
 pub mod ScheduleLemmas
 pub mod RewritingLemmas
 pub mod WeightLemmas

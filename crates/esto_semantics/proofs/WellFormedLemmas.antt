@@ -15,10 +15,10 @@ use Rattle.esto_semantics.specs.Containment.{IsContained, IsSatisfiable}
 use Rattle.esto_semantics.specs.Facts.{Database, image, Mentions}
 use Rattle.esto_semantics.specs.Maps.{Sends}
 use Rattle.esto_semantics.specs.Queries.{ConjunctiveQuery, IsAnswer, IsAnswerInto}
-use Rattle.esto_semantics.specs.Restriction.{is_over, has_columns, over_schema, AreRulesOver, IsSideOver, IsContainedOver, IsSatisfiableOver}
+use Rattle.esto_semantics.specs.Restriction.{is_over, has_columns, over_schema, AreRulesOver, HasUtf8, AreQueriesOver, IsSideOver, IsContainedOver, IsSatisfiableOver}
 use Rattle.esto_semantics.specs.Rules.{Rule, tuple, equality, denial, AreRules, MeetsRule, Meets}
-use Rattle.esto_semantics.specs.Sides.{Side, over_datasets, over_fragments, IsAnswerOf}
-use Rattle.esto_semantics.specs.Views.{IsViewRow}
+use Rattle.esto_semantics.specs.Sides.{Side, over_datasets, over_fragments, union_over_datasets, union_over_fragments, IsAnswerOf}
+use Rattle.esto_semantics.specs.Views.{IsViewRow, IsFragmentAnswer}
 use Rattle.esto_semantics.specs.WellFormed.{AreOver, HaveUtf8, IsWellFormed, IsQueryOver, IsRuleOver}
 use Rattle.esto_semantics.specs.declared.fact.Fact.{Fact}
 use Rattle.esto_semantics.specs.declared.fact.Value.{Value}
@@ -74,14 +74,20 @@ module _ (schema : List ℕ) (database : Database) where
   query_over : (query : ConjunctiveQuery) (row : List Value) → AreOver schema query.body → IsAnswer query database row → IsAnswer query (over_schema schema database) row
   query_over query row over (m, keeps, sends, is) = (m, keeps, sends_over m query.body over sends, is)
 
-  view_over : (views : List ConjunctiveQuery) → ((view : ConjunctiveQuery) → Contains views view → IsQueryOver schema view)
+  view_over : (views : List ConjunctiveQuery) → AreQueriesOver schema views
       → (fact : Fact Value) → IsViewRow views database fact → IsViewRow views (over_schema schema database) fact
   view_over views over fact (view, found, answer) = (view, found, query_over view fact.terms (over view (Contains-at views fact.relation view found)).over answer)
 
+  fragments_over : (views : List ConjunctiveQuery) (query : ConjunctiveQuery) (row : List Value) → AreQueriesOver schema views
+      → IsFragmentAnswer views query database row → IsFragmentAnswer views query (over_schema schema database) row
+  fragments_over views query row over answer =
+      IsAnswerInto-grows Text query (IsViewRow views database) (IsViewRow views (over_schema schema database)) row (view_over views over) answer
+
   side_over : (side : Side) (row : List Value) → IsSideOver schema side → IsAnswerOf side database row → IsAnswerOf side (over_schema schema database) row
   side_over (over_datasets query) row over answer = query_over query row over.over answer
-  side_over (over_fragments views query) row over answer =
-      IsAnswerInto-grows Text query (IsViewRow views database) (IsViewRow views (over_schema schema database)) row (view_over views over.0) answer
+  side_over (over_fragments views query) row over answer = fragments_over views query row over.0 answer
+  side_over (union_over_datasets queries) row over (query, inside, answer) = (query, inside, query_over query row (over query inside).over answer)
+  side_over (union_over_fragments views queries) row over (query, inside, answer) = (query, inside, fragments_over views query row over.0 answer)
 
   pub over_schema-IsAnswerOf : (side : Side) (row : List Value) → IsSideOver schema side → IsAnswerOf side database row ↔ IsAnswerOf side (over_schema schema database) row
   over_schema-IsAnswerOf side row over = (side_over side row over, IsAnswerOf-grows side (over_schema schema database) database over_schema-among row)
@@ -182,17 +188,31 @@ module _ (schema : List ℕ) (database : Database) (over : AreOver schema databa
   query_back : (query : ConjunctiveQuery) (own : List Value) → IsAnswer query clean own → IsAnswer query database (map back own)
   query_back query own answer = answer_back values_naming things query (Contains database) (Contains clean) own (fact_back values_naming things database in_database) answer
 
+  fragments_there : (views : List ConjunctiveQuery) (query : ConjunctiveQuery) (own : List Value) → AreQueriesOver schema views → HasUtf8 query
+      → IsFragmentAnswer views query database own → IsFragmentAnswer views query clean (map there own)
+  fragments_there views query own are_over utf8 answer =
+      into_there query (IsViewRow views database) (IsViewRow views clean) own utf8.body_texts utf8.head_texts
+      (λ fact (view, found, view_answer). (view, found, query_there view fact.terms (are_over view (Contains-at views fact.relation view found)) view_answer))
+      answer
+
   side_there : (side : Side) (own : List Value) → IsSideOver schema side → IsAnswerOf side database own → IsAnswerOf side clean (map there own)
   side_there (over_datasets query) own is_over answer = query_there query own is_over answer
-  side_there (over_fragments views query) own is_over answer =
-      into_there query (IsViewRow views database) (IsViewRow views clean) own is_over.1 is_over.2
-      (λ fact (view, found, view_answer). (view, found, query_there view fact.terms (is_over.0 view (Contains-at views fact.relation view found)) view_answer)) answer
+  side_there (over_fragments views query) own is_over answer = fragments_there views query own is_over.0 is_over.1 answer
+  side_there (union_over_datasets queries) own is_over (query, inside, answer) = (query, inside, query_there query own (is_over query inside) answer)
+  side_there (union_over_fragments views queries) own is_over (query, inside, answer) =
+      (query, inside, fragments_there views query own is_over.0 (is_over.1 query inside) answer)
+
+  fragments_back : (views : List ConjunctiveQuery) (query : ConjunctiveQuery) (own : List Value) → IsFragmentAnswer views query clean own
+      → IsFragmentAnswer views query database (map back own)
+  fragments_back views query own answer =
+      answer_back values_naming things query (IsViewRow views database) (IsViewRow views clean) own
+      (λ fact (view, found, view_answer). (view, found, query_back view fact.terms view_answer)) answer
 
   side_back : (side : Side) (own : List Value) → IsAnswerOf side clean own → IsAnswerOf side database (map back own)
   side_back (over_datasets query) own answer = query_back query own answer
-  side_back (over_fragments views query) own answer =
-      answer_back values_naming things query (IsViewRow views database) (IsViewRow views clean) own
-      (λ fact (view, found, view_answer). (view, found, query_back view fact.terms view_answer)) answer
+  side_back (over_fragments views query) own answer = fragments_back views query own answer
+  side_back (union_over_datasets queries) own (query, inside, answer) = (query, inside, query_back query own answer)
+  side_back (union_over_fragments views queries) own (query, inside, answer) = (query, inside, fragments_back views query own answer)
 
   row_back : map back (map there row) ≡ row
   row_back = map-thing_of-value_of values_naming things row (λ value inside. Contains-append_right _ row value inside)

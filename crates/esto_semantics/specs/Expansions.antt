@@ -34,6 +34,10 @@ pub record IsExpansion (views : List ConjunctiveQuery) (query : ConjunctiveQuery
       ↔ ((number : ℕ) × (number < length query.body)
       × ((part : Fact Term) × Contains (view number).body part × (image (spread number) part ≡ fact)))
 
+-- What a query over fragments asks of the datasets: its head over its expansion.
+abbrev pub expanded : ConjunctiveQuery → List (Fact Term) → ConjunctiveQuery
+expanded query expansion = record { head = query.head; body = expansion }
+
 -- The facts, read as a set, are those that the expansion has for the numbers of the set.
 abbrev pub IsPartOf : {views : List ConjunctiveQuery} → {query : ConjunctiveQuery} → {expansion : List (Fact Term)}
     → IsExpansion views query expansion → List Bool → List (Fact Term) → Type 0

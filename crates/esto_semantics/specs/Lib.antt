@@ -12,11 +12,16 @@ pub mod Sets
 pub mod Access
 pub mod Listed
 pub mod WellFormed
+pub mod Unions
 pub mod Sides
 pub mod Restriction
 pub mod PlanOf
 pub mod Expansions
+pub mod Standing
+pub mod Shown
 pub mod Rewritings
+pub mod ContainmentLaws
+pub mod ExpansionLaws
 pub mod SetLaws
 pub mod AccessSteps
 pub mod AccessLaws

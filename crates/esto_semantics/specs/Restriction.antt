@@ -4,7 +4,7 @@ use Rattle.esto_term.specs.declared.term.Term.TheVariants.{Const}
 use Rattle.esto_semantics.specs.Facts.{Database}
 use Rattle.esto_semantics.specs.Queries.{ConjunctiveQuery, IsAnswer}
 use Rattle.esto_semantics.specs.Rules.{Rule, Meets}
-use Rattle.esto_semantics.specs.Sides.{Side, over_datasets, over_fragments}
+use Rattle.esto_semantics.specs.Sides.{Side, over_datasets, over_fragments, union_over_datasets, union_over_fragments}
 use Rattle.esto_semantics.specs.WellFormed.{HaveUtf8, IsWellFormed, IsQueryOver, IsRuleOver}
 use Rattle.esto_semantics.specs.declared.fact.Fact.{Fact}
 use Rattle.esto_semantics.specs.declared.fact.Value.{Value}
@@ -26,12 +26,22 @@ over_schema schema database = filter (is_over schema) database
 abbrev pub AreRulesOver : List ℕ → List Rule → Type 0
 AreRulesOver schema rules = (rule : Rule) → Contains rules rule → IsRuleOver schema rule
 
--- The side is over the schema: its query over the datasets, or each of its views; and its constants are UTF-8.
+-- The constants of the query are UTF-8.
+pub record HasUtf8 (query : ConjunctiveQuery) : Type 0 where
+  pub body_texts : HaveUtf8 query.body
+  pub head_texts : (text : List ℕ) → Contains query.head (Const text) → IsUtf8 text
+
+-- Each of the queries is over the schema, and its constants are UTF-8.
+abbrev pub AreQueriesOver : List ℕ → List ConjunctiveQuery → Type 0
+AreQueriesOver schema queries = (query : ConjunctiveQuery) → Contains queries query → IsQueryOver schema query
+
+-- The side is over the schema: its queries over the datasets, or each of its views; and its constants are UTF-8.
 abbrev pub IsSideOver : List ℕ → Side → Type 0
 IsSideOver schema (over_datasets query) = IsQueryOver schema query
-IsSideOver schema (over_fragments views query) =
-    ((view : ConjunctiveQuery) → Contains views view → IsQueryOver schema view)
-    × HaveUtf8 query.body × ((text : List ℕ) → Contains query.head (Const text) → IsUtf8 text)
+IsSideOver schema (over_fragments views query) = AreQueriesOver schema views × HasUtf8 query
+IsSideOver schema (union_over_datasets queries) = AreQueriesOver schema queries
+IsSideOver schema (union_over_fragments views queries) =
+    AreQueriesOver schema views × ((query : ConjunctiveQuery) → Contains queries query → HasUtf8 query)
 
 -- Over every well-formed database that meets the rules, each answer of the left is one of the right.
 abbrev pub IsContainedOver : List ℕ → List Rule → (Database → List Value → Type 0) → (Database → List Value → Type 0) → Type 0

@@ -11,6 +11,7 @@ mod followed;
 mod listed;
 mod plans;
 mod sets;
+mod standing;
 mod well_formed;
 
 pub use access::{
@@ -18,8 +19,10 @@ pub use access::{
     stated_orders_exist,
 };
 pub use containment::{
-    answers_grow_with_the_database, containment_is_a_preorder, queries_are_their_own_instances,
+    answers_grow_with_the_database, containment_is_a_preorder,
+    parts_of_an_instance_contain_the_query, queries_are_their_own_instances,
     universal_instances_decide_containment, universal_instances_satisfy_queries,
+    universal_instances_show_what_is_not_contained,
 };
 pub use expansions::{
     an_expansion_means_the_same, an_expansion_of_a_plan_expands_its_candidates,
@@ -37,4 +40,5 @@ pub use plans::{
     rows_of_a_universal_instance_are_a_universal_plan, sets_weigh_no_more_than_what_maps_onto_them,
 };
 pub use sets::{all_sets_are_listed, minimal_sets_cover, minimal_sets_tell, sets_are_ordered};
+pub use standing::databases_stand_for_facts;
 pub use well_formed::{facts_outside_a_schema_do_not_count, well_formed_databases_suffice};
