@@ -1,5 +1,5 @@
 -- There is one stated plan.
-use Rattle.std.proofs.Common.{◌≡◌, ◌⊎◌, inl, inr, ℕ, ◌<◌, ◌≤◌, List, [], ◌∷◌, ◌++◌, map, length, get_or, slice_get, Contains, refl, sym, ap, ◌∙◌, subst, arith}
+use Rattle.std.proofs.Common.{◌≡◌, ◌≢◌, ◌⊎◌, inl, inr, ℕ, ◌<◌, ◌≤◌, List, [], ◌∷◌, ◌++◌, map, length, get_or, slice_get, Contains, refl, sym, ap, ◌∙◌, subst, arith}
 use Rattle.std.specs.List.{AllPairs}
 use Rattle.std.specs.Cmp.{IsTotalOrder}
 use Rattle.std.specs.Cmp.Lexicographic.{slice_cmp}
@@ -20,7 +20,7 @@ use Rattle.esto_universal.specs.Reading.{terms_read, OccursBefore}
 use Rattle.esto_universal.specs.Renamings.{name_of}
 use Rattle.esto_universal.specs.Rows.{IsRowBefore}
 use Rattle.esto_universal.specs.Stated.{IsStatedPlan, IsRenamedPlan}
-use Rattle.esto_universal.proofs.PlanLemmas.{became, read_row, read_head}
+use Rattle.esto_universal.proofs.PlanLemmas.{became, read_row, read_head, atoms_distinct}
 use Rattle.esto_term.proofs.ChoiceLemmas.{pairs_head, pairs_tail}
 use Rattle.esto_term.proofs.ListLemmas.{Contains-cases, Contains-head, Contains-nil, Contains-rest, map_agree}
 
@@ -28,7 +28,8 @@ use Rattle.esto_term.proofs.ListLemmas.{Contains-cases, Contains-head, Contains-
 
 module _ {X : Type 0} (R : X → X → Type 0) (apart : (x y : X) → R x y → R y x → ⊥) where
   -- a thing of the one list is in the rest of the other, where they have the same things and begin with one thing
-  rest_has : (x y : X) (xs ys : List X) → x ≡ y → AllPairs R (x ∷ xs) → ((z : X) → Contains (x ∷ xs) z → Contains (y ∷ ys) z) → (z : X) → Contains xs z → Contains ys z
+  rest_has : (x y : X) (xs ys : List X) → x ≡ y → AllPairs R (x ∷ xs) → ((z : X) → Contains (x ∷ xs) z → Contains (y ∷ ys) z) → (z : X) → Contains xs z
+      → Contains ys z
   rest_has x y xs ys same pairs has z inside = elim (Contains-cases y ys z (has z (Contains-rest x xs z inside))) [
     | inl first ↦ let before = subst (R x) (sym (same ∙ first)) (pairs_head R x xs pairs z inside) in absurd (apart x x before before)
     | inr later ↦ later
@@ -43,13 +44,15 @@ module _ {X : Type 0} (R : X → X → Type 0) (apart : (x y : X) → R x y → 
     ]
   ]
 
-  pub one_order : (xs ys : List X) → AllPairs R xs → AllPairs R ys → ((z : X) → Contains xs z → Contains ys z) → ((z : X) → Contains ys z → Contains xs z) → xs ≡ ys
+  pub one_order : (xs ys : List X) → AllPairs R xs → AllPairs R ys → ((z : X) → Contains xs z → Contains ys z) → ((z : X) → Contains ys z → Contains xs z)
+      → xs ≡ ys
   one_order [] [] pairs other_pairs there here = refl
   one_order [] (y ∷ ys) pairs other_pairs there here = absurd (Contains-nil y (here y (Contains-head y ys)))
   one_order (x ∷ xs) [] pairs other_pairs there here = absurd (Contains-nil x (there x (Contains-head x xs)))
   one_order (x ∷ xs) (y ∷ ys) pairs other_pairs there here =
       let first = firsts x y xs ys pairs other_pairs (there x (Contains-head x xs)) (here y (Contains-head y ys)) in
-      let rest = one_order xs ys (pairs_tail R x xs pairs) (pairs_tail R y ys other_pairs) (rest_has x y xs ys first pairs there) (rest_has y x ys xs (sym first) other_pairs here) in
+      let rest = one_order xs ys (pairs_tail R x xs pairs) (pairs_tail R y ys other_pairs) (rest_has x y xs ys first pairs there)
+      (rest_has y x ys xs (sym first) other_pairs here) in
       λ i. first i ∷ rest i
 
 -- ---- the order of rows, and that of first occurrences
@@ -67,7 +70,8 @@ rows_apart row other (inr (same, less)) (inl more) = omega arith
 rows_apart row other (inr (same, less)) (inr (is, back)) = less_apart row.terms other.terms less back
 
 -- of two fronts of one list, the longer one has the last term of the other
-front_has : (terms front back other_front other_back : List Term) (term : Term) → terms ≡ (front ++ term ∷ []) ++ back → terms ≡ other_front ++ other_back → length front < length other_front
+front_has : (terms front back other_front other_back : List Term) (term : Term) → terms ≡ (front ++ term ∷ []) ++ back → terms ≡ other_front ++ other_back
+    → length front < length other_front
     → Contains other_front term
 front_has terms front back other_front other_back term is other_is less =
     let within : length front < length (front ++ term ∷ []) = omega (arith, length_push front term) in (
@@ -80,7 +84,8 @@ front_has terms front back other_front other_back term is other_is less =
     )
 
 occurs_apart : (terms : List Term) (term other : Term) → OccursBefore terms term other → OccursBefore terms other term → ⊥
-occurs_apart terms term other (front, (back, is, without)) (other_front, (other_back, other_is, other_without)) = by (cases_le (length front) (length other_front))
+occurs_apart terms term other (front, (back, is, without)) (other_front, (other_back, other_is, other_without)) =
+    by (cases_le (length front) (length other_front))
   where
     cases_le : (a b : ℕ) → (a ≤ b) ⊎ (b ≤ a)
     cases_le a b = grind arith
@@ -95,7 +100,8 @@ occurs_apart terms term other (front, (back, is, without)) (other_front, (other_
 
 -- ---- the plan
 
-module _ (names : List Name) (rows : List (Fact Term)) (head : List Term) (plan other : Plan) (renamed : IsRenamedPlan names rows head plan) (again : IsRenamedPlan names rows head other) where
+module _ (names : List Name) (rows : List (Fact Term)) (head : List Term) (plan other : Plan) (renamed : IsRenamedPlan names rows head plan)
+    (again : IsRenamedPlan names rows head other) where
   abbrev read : List Term
   read = terms_read rows head
 
@@ -130,23 +136,21 @@ module _ (names : List Name) (rows : List (Fact Term)) (head : List Term) (plan 
   )
 
 module _ (names : List Name) (views : List ConjunctiveQuery) (end : ConjunctiveQuery) where
-  stated-renamed : (plan : Plan) (stated : IsStatedPlan names views end plan) → IsRenamedPlan names stated.rows end.head plan
-  stated-renamed plan stated = record {
-    seen = stated.seen;
-    are_seen = stated.are_seen;
-    renaming = stated.renaming;
-    is_renaming = stated.is_renaming;
-    atoms = stated.atoms;
-    head = stated.head;
-    names_are = stated.names_are;
-  }
-
   same_rows : (plan other : Plan) (stated : IsStatedPlan names views end plan) (again : IsStatedPlan names views end other) → stated.rows ≡ again.rows
   same_rows plan other stated again = one_order IsRowBefore rows_apart stated.rows again.rows stated.are_rows.ordered again.are_rows.ordered
       (λ row inside. (again.are_rows.exact row).1 ((stated.are_rows.exact row).0 inside))
       (λ row inside. (stated.are_rows.exact row).1 ((again.are_rows.exact row).0 inside))
 
-  pub one_plan : (plan other : Plan) → IsStatedPlan names views end plan → IsStatedPlan names views end other → (plan_query plan ≡ plan_query other) × (plan.names ≡ other.names)
+  pub one_plan : (plan other : Plan) → IsStatedPlan names views end plan → IsStatedPlan names views end other
+      → (plan_query plan ≡ plan_query other) × (plan.names ≡ other.names)
   one_plan plan other stated again =
-      one_renamed names stated.rows end.head plan other (stated-renamed plan stated)
-      (subst (λ rows. IsRenamedPlan names rows end.head other) (sym (same_rows plan other stated again)) (stated-renamed other again))
+      one_renamed names stated.rows end.head plan other stated.renamed
+      (subst (λ rows. IsRenamedPlan names rows end.head other) (sym (same_rows plan other stated again)) again.renamed)
+
+-- the atoms of a stated plan are distinct
+pub stated_distinct : (names : List Name) (views : List ConjunctiveQuery) (end : ConjunctiveQuery) (plan : Plan) → IsStatedPlan names views end plan
+    → AllPairs ◌≢◌ (plan_query plan).body
+stated_distinct names views end plan stated =
+    atoms_distinct names stated.rows end.head plan stated.renamed
+    (λ i j d less within same. let before = stated.are_rows.ordered i j d less within in rows_apart _ _ before
+    (subst (λ it. IsRowBefore it (get_or stated.rows i d)) same (subst (IsRowBefore (get_or stated.rows i d)) (sym same) before)))

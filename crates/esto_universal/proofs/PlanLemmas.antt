@@ -1,8 +1,8 @@
 -- The stated plan is a plan of its end, is over the fragments, and keeps what a plan keeps.
-use Rattle.std.proofs.Common.{◌≡◌, ◌≢◌, ◌⊎◌, inl, inr, ℕ, List, [], ◌∷◌, map, length, slice_get, Contains, Some, refl, sym, ap, ◌∙◌, subst}
-use Rattle.std.specs.List.{flat_map}
-use Rattle.std.proofs.lemmas.List.{length-map}
-use Rattle.std.proofs.lemmas.List.Elements.{Contains-append_left, Contains-append_right}
+use Rattle.std.proofs.Common.{◌≡◌, ◌≢◌, ◌⊎◌, ◌<◌, inl, inr, ℕ, List, [], ◌∷◌, map, length, get_or, slice_get, Contains, Some, refl, sym, ap, ◌∙◌, subst, arith}
+use Rattle.std.specs.List.{flat_map, AllPairs}
+use Rattle.std.proofs.lemmas.List.{length-map, get_or-map}
+use Rattle.std.proofs.lemmas.List.Elements.{Contains-append_left, Contains-append_right, Contains-get_or}
 use Rattle.std.proofs.lemmas.Option.{slice_get_within}
 use Rattle.esto_term.specs.declared.term.Term.{Term}
 use Rattle.esto_term.specs.declared.term.Term.TheVariants.{Plain}
@@ -22,10 +22,9 @@ use Rattle.esto_views.specs.declared.plan.PlanAtom.{PlanAtom}
 use Rattle.esto_views.specs.declared.plan.Plan.{Plan}
 use Rattle.esto_universal.specs.Reading.{terms_read, AreFirstOccurrences}
 use Rattle.esto_universal.specs.Renamings.{IsRenaming, numbered, renamed_atom, name_of}
-use Rattle.esto_universal.specs.Rows.{AreRows}
 use Rattle.esto_universal.specs.Stated.{IsStatedPlan, IsRenamedPlan}
 use Rattle.esto_universal.proofs.RenamingLemmas.{back, back-Const, back-Plain, numbered_renames}
-use Rattle.esto_term.proofs.ListLemmas.{Contains-at, Contains-flat, Contains-map, Contains-map_from, map_at-from, map_then, place-from_Contains}
+use Rattle.esto_term.proofs.ListLemmas.{Contains-at, Contains-flat, Contains-map, Contains-map_from, map_agree, map_at-from, map_itself, map_then, place-from_Contains}
 
 -- ---- the terms that are read
 
@@ -40,17 +39,54 @@ pub became : (terms seen : List Term) (m : Term → Term) (term : Term) → AreF
     → (IsConstant term × (m term ≡ term)) ⊎ ((place : ℕ) × (slice_get seen place ≡ Some term) × (m term ≡ Plain place))
 became terms seen m term are_seen is_renaming inside = by (constant_or_not term)
   where
-    by : IsConstant term ⊎ ¬ (IsConstant term) → (IsConstant term × (m term ≡ term)) ⊎ ((place : ℕ) × (slice_get seen place ≡ Some term) × (m term ≡ Plain place))
+    by : IsConstant term ⊎ ¬ (IsConstant term) → (IsConstant term × (m term ≡ term))
+        ⊎ ((place : ℕ) × (slice_get seen place ≡ Some term) × (m term ≡ Plain place))
     by (inl (text, is)) = inl ((text, is), ap m is ∙ is_renaming.keeps text ∙ sym is)
     by (inr no_constant) =
         let at = place-from_Contains seen term ((are_seen.exact term).1 (inside, no_constant)) in
         inr (at.0, at.1, is_renaming.numbers at.0 term at.1)
 
-pub read_row : (rows : List (Fact Term)) (head : List Term) (row : Fact Term) (term : Term) → Contains rows row → Contains row.terms term → Contains (terms_read rows head) term
+pub read_row : (rows : List (Fact Term)) (head : List Term) (row : Fact Term) (term : Term) → Contains rows row → Contains row.terms term
+    → Contains (terms_read rows head) term
 read_row rows head row term inside at = Contains-append_left (flat_map (λ it. it.terms) rows) head term (Contains-flat (λ it. it.terms) rows row term inside at)
 
 pub read_head : (rows : List (Fact Term)) (head : List Term) (term : Term) → Contains head term → Contains (terms_read rows head) term
 read_head rows head term inside = Contains-append_right (flat_map (λ it. it.terms) rows) head term inside
+
+-- ---- the way back
+
+module _ (names : List Name) (rows : List (Fact Term)) (head : List Term) (plan : Plan) (renamed : IsRenamedPlan names rows head plan) where
+  pub term_undone : (term : Term) → Contains (terms_read rows head) term → back renamed.seen (renamed.renaming term) ≡ term
+  term_undone term inside = by (became (terms_read rows head) renamed.seen renamed.renaming term renamed.are_seen renamed.is_renaming inside)
+    where
+      by : (IsConstant term × (renamed.renaming term ≡ term)) ⊎ ((place : ℕ) × (slice_get renamed.seen place ≡ Some term)
+          × (renamed.renaming term ≡ Plain place)) → back renamed.seen (renamed.renaming term) ≡ term
+      by (inl ((text, is), same)) = ap (back renamed.seen) (same ∙ is) ∙ back-Const renamed.seen text ∙ sym is
+      by (inr (place, at, same)) = ap (back renamed.seen) same ∙ back-Plain renamed.seen place term at
+
+  row_undone : (row : Fact Term) → Contains rows row → image (back renamed.seen) (image renamed.renaming row) ≡ row
+  row_undone row inside =
+      let terms : map (back renamed.seen) (map renamed.renaming row.terms) ≡ row.terms =
+      map_then renamed.renaming (back renamed.seen) row.terms
+      ∙ map_agree (λ term. back renamed.seen (renamed.renaming term)) (λ term. term) row.terms
+      (λ term at. term_undone term (read_row rows head row term inside at))
+      ∙ map_itself row.terms in
+      λ i. record { relation = row.relation; terms = terms i }
+
+  -- rows that are distinct stay so
+  pub atoms_distinct : AllPairs ◌≢◌ rows → AllPairs ◌≢◌ (plan_query plan).body
+  atoms_distinct distinct = subst (AllPairs ◌≢◌) (sym renamed.atoms) mapped
+    where
+      same_row : (row other : Fact Term) → Contains rows row → Contains rows other → image renamed.renaming row ≡ image renamed.renaming other → row ≡ other
+      same_row row other inside other_inside same = sym (row_undone row inside) ∙ ap (image (back renamed.seen)) same ∙ row_undone other other_inside
+
+      mapped : AllPairs ◌≢◌ (map (image renamed.renaming) rows)
+      mapped i j d less within same =
+          let short : j < length rows = rw (length-map rows (image renamed.renaming)) at within in
+          let early : i < length rows = omega arith in
+          distinct i j d less short
+          (same_row (get_or rows i d) (get_or rows j d) (Contains-get_or rows i d early) (Contains-get_or rows j d short)
+          (sym (get_or-map (image renamed.renaming) rows i d d early) ∙ same ∙ get_or-map (image renamed.renaming) rows j d d short))
 
 -- ---- a plan of its end
 
@@ -59,35 +95,32 @@ module _ (names : List Name) (views : List ConjunctiveQuery) (end : ConjunctiveQ
   of_rows term (inl (row, is_row, inside)) = read_row stated.rows end.head row term ((stated.are_rows.exact row).1 is_row) inside
   of_rows term (inr in_head) = read_head stated.rows end.head term in_head
 
-  undone : (term : Term) → IsOfRows views end term → back stated.seen (stated.renaming term) ≡ term
-  undone term inside = by (became (terms_read stated.rows end.head) stated.seen stated.renaming term stated.are_seen stated.is_renaming (of_rows term inside))
-    where
-      by : (IsConstant term × (stated.renaming term ≡ term)) ⊎ ((place : ℕ) × (slice_get stated.seen place ≡ Some term) × (stated.renaming term ≡ Plain place)) → back stated.seen (stated.renaming term) ≡ term
-      by (inl ((text, is), same)) = ap (back stated.seen) (same ∙ is) ∙ back-Const stated.seen text ∙ sym is
-      by (inr (place, at, same)) = ap (back stated.seen) same ∙ back-Plain stated.seen place term at
-
   pub plan_of : IsPlanOf views end (plan_query plan)
   plan_of = record {
-    renaming = stated.renaming;
-    back = back stated.seen;
-    keeps = stated.is_renaming.keeps;
-    back_keeps = back-Const stated.seen;
-    undone = undone;
-    rows = λ row is_row. subst (λ it. Contains it (image stated.renaming row)) (sym stated.atoms) (Contains-map (image stated.renaming) stated.rows row ((stated.are_rows.exact row).1 is_row));
+    renaming = stated.renamed.renaming;
+    back = back stated.renamed.seen;
+    keeps = stated.renamed.is_renaming.keeps;
+    back_keeps = back-Const stated.renamed.seen;
+    undone = λ term inside. term_undone names stated.rows end.head plan stated.renamed term (of_rows term inside);
+    rows = λ row is_row. subst (λ it. Contains it (image stated.renamed.renaming row)) (sym stated.renamed.atoms)
+        (Contains-map (image stated.renamed.renaming) stated.rows row ((stated.are_rows.exact row).1 is_row));
     only_rows = λ atom inside.
-        let found = Contains-map_from (image stated.renaming) stated.rows atom (subst (λ it. Contains it atom) stated.atoms inside) in
+        let found = Contains-map_from (image stated.renamed.renaming) stated.rows atom (subst (λ it. Contains it atom) stated.renamed.atoms inside) in
         (found.0, (stated.are_rows.exact found.0).0 found.1, found.2);
-    head = stated.head;
+    head = stated.renamed.head;
   }
 
-pub plan_over : (names : List Name) (fragments : List FragmentDef) (end : ConjunctiveQuery) (plan : Plan) → AreFragments fragments → IsStatedPlan names (views_of fragments) end plan → IsPlanOver plan fragments
+pub plan_over : (names : List Name) (fragments : List FragmentDef) (end : ConjunctiveQuery) (plan : Plan) → AreFragments fragments
+    → IsStatedPlan names (views_of fragments) end plan → IsPlanOver plan fragments
 plan_over names fragments end plan are_fragments stated atom inside =
-    let found = Contains-map_from (image stated.renaming) stated.rows (fact_of atom) (subst (λ it. Contains it (fact_of atom)) stated.atoms (Contains-map fact_of plan.atoms atom inside)) in
+    let found = Contains-map_from (image stated.renamed.renaming) stated.rows (fact_of atom)
+    (subst (λ it. Contains it (fact_of atom)) stated.renamed.atoms (Contains-map fact_of plan.atoms atom inside)) in
     let row = (stated.are_rows.exact found.0).0 found.1 in
     let source = map_at-from (λ (it : FragmentDef). query_of it.view) fragments found.0.relation row.0 row.1 in
     let relation : found.0.relation ≡ atom.fragment = ap (λ (it : Fact Term). it.relation) found.2 in
     let lengths : length atom.terms ≡ length source.0.view.head =
-    ap (λ (it : Fact Term). length it.terms) (sym found.2) ∙ length-map found.0.terms stated.renaming ∙ ap length row.2.3 ∙ length-map row.0.head row.2.0
+    ap (λ (it : Fact Term). length it.terms) (sym found.2) ∙ length-map found.0.terms stated.renamed.renaming ∙ ap length row.2.3
+    ∙ length-map row.0.head row.2.0
     ∙ ap (λ (it : ConjunctiveQuery). length it.head) (sym source.2) in
     (source.0, ap (slice_get fragments) (sym relation) ∙ source.1, are_fragments source.0 (Contains-at fragments found.0.relation source.0 source.1), lengths)
 
@@ -97,7 +130,8 @@ module _ (names : List Name) (rows : List (Fact Term)) (head : List Term) (seen 
   named : (term : Term) → Contains (terms_read rows head) term → IsNamed (map (name_of names) seen) (numbered 0 seen term)
   named term inside = by (became (terms_read rows head) seen (numbered 0 seen) term are_seen (numbered_renames (terms_read rows head) seen are_seen) inside)
     where
-      by : (IsConstant term × (numbered 0 seen term ≡ term)) ⊎ ((place : ℕ) × (slice_get seen place ≡ Some term) × (numbered 0 seen term ≡ Plain place)) → IsNamed (map (name_of names) seen) (numbered 0 seen term)
+      by : (IsConstant term × (numbered 0 seen term ≡ term)) ⊎ ((place : ℕ) × (slice_get seen place ≡ Some term) × (numbered 0 seen term ≡ Plain place))
+          → IsNamed (map (name_of names) seen) (numbered 0 seen term)
       by (inl (constant, same)) = inl (subst IsConstant (sym same) constant)
       by (inr (place, at, same)) = inr (place, same, rw length-map (slice_get_within seen place term at))
 
@@ -117,7 +151,8 @@ module _ (names : List Name) (rows : List (Fact Term)) (head : List Term) (seen 
       no_head [] none = refl
       no_head (first ∷ rest) none = absurd (cc)
 
-  pub renamed_is : (plan : Plan) → plan.atoms ≡ map (renamed_atom (numbered 0 seen)) rows → plan.head ≡ map (numbered 0 seen) head → plan.names ≡ map (name_of names) seen → IsRenamedPlan names rows head plan
+  pub renamed_is : (plan : Plan) → plan.atoms ≡ map (renamed_atom (numbered 0 seen)) rows → plan.head ≡ map (numbered 0 seen) head
+      → plan.names ≡ map (name_of names) seen → IsRenamedPlan names rows head plan
   renamed_is plan atoms head_is names_are = record {
     seen = seen;
     are_seen = are_seen;
@@ -127,16 +162,3 @@ module _ (names : List Name) (rows : List (Fact Term)) (head : List Term) (seen 
     head = head_is;
     names_are = names_are;
   }
-
-pub stated_is : (names : List Name) (views : List ConjunctiveQuery) (end : ConjunctiveQuery) (rows : List (Fact Term)) (plan : Plan) → AreRows views end.body rows → IsRenamedPlan names rows end.head plan → IsStatedPlan names views end plan
-stated_is names views end rows plan are_rows renamed = record {
-  rows = rows;
-  are_rows = are_rows;
-  seen = renamed.seen;
-  are_seen = renamed.are_seen;
-  renaming = renamed.renaming;
-  is_renaming = renamed.is_renaming;
-  atoms = renamed.atoms;
-  head = renamed.head;
-  names_are = renamed.names_are;
-}

@@ -28,7 +28,8 @@ occurs_at terms term (place, within, is) = (
   take place terms,
   (
     drop (place + 1) terms,
-    sym (take-append-drop (place + 1) terms) ∙ ap (λ it. it ++ drop (place + 1) terms) (take_more terms place term within ∙ ap (λ it. take place terms ++ it ∷ []) is),
+    sym (take-append-drop (place + 1) terms) ∙ ap (λ it. it ++ drop (place + 1) terms)
+        (take_more terms place term within ∙ ap (λ it. take place terms ++ it ∷ []) is),
   ),
 )
 

@@ -25,7 +25,8 @@ apart_told term other apart = by (same_term term other) refl
     by true told = absurd (apart ((same_term-Decides term other).0 told))
     by false told = refl
 
-numbered-at : (number : ℕ) (seen : List Term) (place : ℕ) (term : Term) → AllPairs {X = Term} ◌≢◌ seen → slice_get seen place ≡ Some term → numbered number seen term ≡ Plain (number + place)
+numbered-at : (number : ℕ) (seen : List Term) (place : ℕ) (term : Term) → AllPairs {X = Term} ◌≢◌ seen → slice_get seen place ≡ Some term
+    → numbered number seen term ≡ Plain (number + place)
 numbered-at number [] place term distinct at = absurd (cc)
 numbered-at number (first ∷ seen) zero term distinct at =
     let is : term ≡ first = cc in
@@ -33,7 +34,8 @@ numbered-at number (first ∷ seen) zero term distinct at =
     cond_is (same_term term first) true (Plain number) (numbered (number + 1) seen term) ((same_term-Decides term first).1 is) ∙ ap Plain same
 numbered-at number (first ∷ seen) (suc place) term distinct at =
     let same : number + 1 + place ≡ number + suc place = omega arith in
-    cond_is (same_term term first) false (Plain number) (numbered (number + 1) seen term) (apart_told term first (λ is. distinct_head first seen term distinct (Contains-at seen place term at) (sym is)))
+    cond_is (same_term term first) false (Plain number) (numbered (number + 1) seen term)
+    (apart_told term first (λ is. distinct_head first seen term distinct (Contains-at seen place term at) (sym is)))
     ∙ numbered-at (number + 1) seen place term (distinct_rest first seen distinct) at ∙ ap Plain same
 
 numbered-outside : (number : ℕ) (seen : List Term) (term : Term) → (Contains seen term → ⊥) → numbered number seen term ≡ term
@@ -44,11 +46,14 @@ numbered-outside number (first ∷ seen) term outside =
 
 -- ---- the search
 
-module _ (seen : List Term) (place : ℕ) (term first : Term) (answer : Bool) (at : slice_get seen place ≡ Some first) (told : answer ≡ same_term term first) where
+module _ (seen : List Term) (place : ℕ) (term first : Term) (answer : Bool) (at : slice_get seen place ≡ Some first)
+    (told : answer ≡ same_term term first) where
   one_step : numbered place (drop place seen) term ≡ cond answer (Plain place) (numbered (place + 1) (drop (place + 1) seen) term)
   one_step =
-      let left : drop place seen ≡ first ∷ drop (place + 1) seen = drop_more seen place first (slice_get_within seen place first at) ∙ ap (λ it. it ∷ drop (place + 1) seen) (get_or_from_slice_get seen place first first at) in
-      ap (λ it. numbered place it term) left ∙ cond_is (same_term term first) answer (Plain place) (numbered (place + 1) (drop (place + 1) seen) term) (sym told)
+      let left : drop place seen ≡ first ∷ drop (place + 1) seen = drop_more seen place first (slice_get_within seen place first at)
+      ∙ ap (λ it. it ∷ drop (place + 1) seen) (get_or_from_slice_get seen place first first at) in
+      ap (λ it. numbered place it term) left ∙ cond_is (same_term term first) answer (Plain place) (numbered (place + 1) (drop (place + 1) seen) term)
+      (sym told)
 
   pub numbered_here : answer ≡ true → numbered place (drop place seen) term ≡ Plain place
   numbered_here is = one_step ∙ cond_is answer true (Plain place) (numbered (place + 1) (drop (place + 1) seen) term) is

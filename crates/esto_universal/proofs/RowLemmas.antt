@@ -29,12 +29,15 @@ rows_none views facts = record {
 }
 
 before_moved : (row other row_now other_now : Fact Term) → row_now ≡ row → other_now ≡ other → IsRowBefore row other → IsRowBefore row_now other_now
-before_moved row other row_now other_now row_is other_is before = subst (λ it. IsRowBefore it other_now) (sym row_is) (subst (IsRowBefore row) (sym other_is) before)
+before_moved row other row_now other_now row_is other_is before = subst (λ it. IsRowBefore it other_now) (sym row_is)
+    (subst (IsRowBefore row) (sym other_is) before)
 
-over-ordered : (number : ℕ) (rows : List (List Term)) → AllPairs (λ row other. slice_cmp term_cmp row other ≡ Less) rows → AllPairs IsRowBefore (map (over number) rows)
+over-ordered : (number : ℕ) (rows : List (List Term)) → AllPairs (λ row other. slice_cmp term_cmp row other ≡ Less) rows
+    → AllPairs IsRowBefore (map (over number) rows)
 over-ordered number rows ascending i j d less within =
     let short : j < length rows = rw (length-map rows (over number)) at within in
-    before_moved (over number (get_or rows i [])) (over number (get_or rows j [])) _ _ (get_or-map (over number) rows i [] d (omega arith)) (get_or-map (over number) rows j [] d short)
+    before_moved (over number (get_or rows i [])) (over number (get_or rows j [])) _ _ (get_or-map (over number) rows i [] d (omega arith))
+    (get_or-map (over number) rows j [] d short)
     (inr (refl, ascending i j [] less short))
 
 module _ (views : List ConjunctiveQuery) (facts : List (Fact Term)) (number : ℕ) (view : ConjunctiveQuery) (rows : List (Fact Term)) (own : List (List Term))
@@ -72,14 +75,16 @@ module _ (views : List ConjunctiveQuery) (facts : List (Fact Term)) (number : �
   }
 
 -- one view more, where the rows so far are joined with its own
-pub rows_joined : (views : List ConjunctiveQuery) (facts : List (Fact Term)) (number : ℕ) (view : ConjunctiveQuery) (rows more : List (Fact Term)) (own : List (List Term))
+pub rows_joined : (views : List ConjunctiveQuery) (facts : List (Fact Term)) (number : ℕ) (view : ConjunctiveQuery) (rows more : List (Fact Term))
+    (own : List (List Term))
     → slice_get views number ≡ Some view → ((row : List Term) → Contains own row ↔ IsAnswerInto Const view (Contains facts) row)
     → AllPairs (λ row other. slice_cmp term_cmp row other ≡ Less) own → more ≡ rows ++ map (over number) own
     → AreRowsBelow views facts number rows → AreRowsBelow views facts (number + 1) more
 rows_joined views facts number view rows more own at are_own ascending is so_far =
     subst (AreRowsBelow views facts (number + 1)) (sym is) (rows_more views facts number view rows own at are_own ascending so_far)
 
-pub rows_all : (views : List ConjunctiveQuery) (facts : List (Fact Term)) (number : ℕ) (rows : List (Fact Term)) → length views ≤ number → AreRowsBelow views facts number rows → AreRows views facts rows
+pub rows_all : (views : List ConjunctiveQuery) (facts : List (Fact Term)) (number : ℕ) (rows : List (Fact Term)) → length views ≤ number
+    → AreRowsBelow views facts number rows → AreRows views facts rows
 rows_all views facts number rows past below = record {
   exact = λ row. (
     (λ inside. ((below.exact row).0 inside).1),

@@ -2,3 +2,4 @@ pub mod Rows
 pub mod Reading
 pub mod Renamings
 pub mod Stated
+pub mod StatedLaws

@@ -6,4 +6,7 @@ mod reading;
 mod renaming;
 mod rows;
 
-pub use planning::{renamed_plan, stated_plans_are_one, stated_plans_are_universal, universal};
+pub use planning::{
+    renamed_plan, stated_plans_are_one, stated_plans_are_universal,
+    stated_plans_have_distinct_atoms, universal,
+};

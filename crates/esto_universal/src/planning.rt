@@ -1,16 +1,12 @@
 //! The universal plan.
-ghost use Rattle.std.specs.Prelude.{◌≡◌, ◌≢◌, List, [], IfOk};
-ghost use Rattle.esto_semantics.specs.Instances.{IsUniversalFor, IsFinished};
+ghost use Rattle.std.specs.Prelude.{◌≢◌, [], IfOk};
 ghost use Rattle.esto_semantics.specs.PlanOf.{IsPlanOf};
 ghost use Rattle.esto_semantics.specs.Plans.{IsUniversalPlan};
-ghost use Rattle.esto_semantics.specs.Queries.{ConjunctiveQuery};
-ghost use Rattle.esto_semantics.specs.Rules.{Rule, AreRules};
 ghost use Rattle.esto_query.specs.Making.{query_of};
-ghost use Rattle.esto_query.specs.declared.query.Name.{Name};
 ghost use Rattle.esto_views.specs.Fragments.{views_of, AreFragments};
 ghost use Rattle.esto_views.specs.Plans.{plan_query, IsPlanOver};
-ghost use Rattle.esto_views.specs.declared.plan.Plan.{Plan};
 ghost use Rattle.esto_universal.specs.Stated.{IsStatedPlan, IsRenamedPlan};
+ghost use Rattle.esto_universal.specs.StatedLaws.{StatedPlanIsOne, StatedAtomsAreDistinct, StatedPlanIsUniversal};
 
 use crate::reading::first_occurrences;
 use crate::renaming::{names_of, rename_row, rename_rows};
@@ -48,7 +44,8 @@ pub fn renamed_plan(
 
 /// The plan whose atoms are the rows of all views over the query's body, and whose head is the query's, renamed.
 fn stated_plan(alloc: Global, query: &Query, fragments: &FragmentDefs) -> Result<Plan, OutOfMemory>
-    ensures { IfOk result (λ plan. IsStatedPlan query.now.names (views_of fragments.now) (query_of query.now) plan) }
+    ensures { IfOk result
+        (IsStatedPlan query.now.names (views_of fragments.now) (query_of query.now)) }
 {
     queries_are_sound();
     let rows = view_rows(alloc, &query.body, fragments)?;
@@ -67,10 +64,13 @@ pub fn universal(
     fragments: &FragmentDefs,
 ) -> Result<Plan, OutOfMemory>
     requires { AreFragments fragments.now }
-    ensures stated { IfOk result (λ plan. IsStatedPlan query.now.names (views_of fragments.now) (query_of query.now) plan) }
-    ensures rows { IfOk result (λ plan. IsPlanOf (views_of fragments.now) (query_of query.now) (plan_query plan)) }
+    ensures stated { IfOk result
+        (IsStatedPlan query.now.names (views_of fragments.now) (query_of query.now)) }
+    ensures rows { IfOk result (λ plan.
+        IsPlanOf (views_of fragments.now) (query_of query.now) (plan_query plan)) }
     ensures over { IfOk result (λ plan. IsPlanOver plan fragments.now) }
-    ensures universal { IfOk result (λ plan. IsUniversalPlan [] (views_of fragments.now) (query_of query.now) (plan_query plan)) }
+    ensures universal { IfOk result (λ plan.
+        IsUniversalPlan [] (views_of fragments.now) (query_of query.now) (plan_query plan)) }
 {
     queries_are_their_own_instances();
     rows_of_a_universal_instance_are_a_universal_plan();
@@ -80,17 +80,18 @@ pub fn universal(
 
 /// A law: there is one stated plan.
 pub fn stated_plans_are_one()
-    ensures { (names : List Name) (views : List ConjunctiveQuery) (end : ConjunctiveQuery) (plan other : Plan)
-        → IsStatedPlan names views end plan → IsStatedPlan names views end other
-        → (plan_query plan ≡ plan_query other) × (plan.names ≡ other.names) }
+    ensures { StatedPlanIsOne }
+{}
+
+/// A law: the atoms of a stated plan are distinct.
+pub fn stated_plans_have_distinct_atoms()
+    ensures { StatedAtomsAreDistinct }
 {}
 
 /// A law: where an instance is universal for a query under the rules, and meets the rules itself, the plan that is
 /// stated for it is universal for the query.
 pub fn stated_plans_are_universal()
-    ensures { (rules : List Rule) (names : List Name) (views : List ConjunctiveQuery) (query end : ConjunctiveQuery) (plan : Plan)
-        → AreRules rules → IsUniversalFor rules query end → IsFinished rules end → IsStatedPlan names views end plan
-        → IsUniversalPlan rules views query (plan_query plan) }
+    ensures { StatedPlanIsUniversal }
 {
     rows_of_a_universal_instance_are_a_universal_plan();
 }

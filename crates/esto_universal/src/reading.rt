@@ -1,41 +1,18 @@
 //! The terms of rows and a head, by first occurrence.
-ghost use Rattle.std.specs.Prelude.{◌≡◌, ◌⊎◌, ◌↔◌, List, [], ◌∷◌, ◌++◌, Contains, IsTrue, IfOk, OnOk};
+ghost use Rattle.std.specs.Prelude.{List, [], ◌∷◌, ◌++◌, IfOk, OnOk};
 ghost use Rattle.esto_term.specs.declared.term.Term.{Term};
-ghost use Rattle.esto_semantics.specs.Maps.{IsConstant};
 ghost use Rattle.esto_universal.specs.Reading.{terms_read, AreFirstOccurrences};
 
 use esto_query::Facts;
-use esto_term::{List, OutOfMemory, Replicate, Term, Terms};
+use esto_term::{List, OutOfMemory, Replicate, Term, Terms, has_term};
 use std::alloc::Global;
-
-/// Whether the term is one of these.
-fn contains(terms: &Terms, term: &Term) -> bool
-    ensures { IsTrue result ↔ Contains terms.now term.now }
-{
-    'terms: for other in terms.items() {
-        if other.equal(term) {
-            return true;
-        }
-    }
-    false
-}
-
-/// Whether the term is a constant.
-fn is_constant(term: &Term) -> bool
-    ensures { IsTrue result ↔ IsConstant term.now }
-{
-    match term {
-        Term::Const(_) => true,
-        Term::Plain(_) => false,
-        Term::Made(_, _, _) => false,
-    }
-}
 
 /// Reads one more term.
 fn read_term(alloc: Global, seen: &mut Terms, term: &Term) -> Result<(), OutOfMemory>
-    ensures { OnOk result ((read : List Term) → AreFirstOccurrences read seen.old → AreFirstOccurrences (read ++ term.now ∷ []) seen.new) }
+    ensures { OnOk result ((read : List Term) → AreFirstOccurrences read seen.old
+        → AreFirstOccurrences (read ++ term.now ∷ []) seen.new) }
 {
-    if is_constant(term) || contains(seen, term) {
+    if term.is_constant() || has_term(seen.items(), term) {
         return Ok(());
     }
     seen.push(term.copy(alloc)?)?;
@@ -44,7 +21,8 @@ fn read_term(alloc: Global, seen: &mut Terms, term: &Term) -> Result<(), OutOfMe
 
 /// Reads the terms of a row.
 fn read_row(alloc: Global, seen: &mut Terms, row: &[Term]) -> Result<(), OutOfMemory>
-    ensures { OnOk result ((read : List Term) → AreFirstOccurrences read seen.old → AreFirstOccurrences (read ++ row.now) seen.new) }
+    ensures { OnOk result ((read : List Term) → AreFirstOccurrences read seen.old
+        → AreFirstOccurrences (read ++ row.now) seen.new) }
 {
     'terms: for term in row {
         read_term(alloc, seen, term)?;

@@ -4,4 +4,5 @@ use Rattle.esto_universal.proofs.planning.stated_plans_are_universal.Goals as go
 
 pub returns : goal.returns
 returns c = λ rules names views query end plan are_rules universal finished stated.
-    c.rows_of_a_universal_instance_are_a_universal_plan.ensures rules views query end (plan_query plan) are_rules universal finished (plan_of names views end plan stated)
+    c.rows_of_a_universal_instance_are_a_universal_plan.ensures rules views query end (plan_query plan) are_rules universal finished
+    (plan_of names views end plan stated)

@@ -14,7 +14,8 @@ returns-clause-over c = plan_over c.args.query.now.names c.args.fragments.now (q
 
 pub returns-clause-universal : goal.returns-clause-universal
 returns-clause-universal c =
-    c.rows_of_a_universal_instance_are_a_universal_plan.ensures [] (views_of c.args.fragments.now) (query_of c.args.query.now) (query_of c.args.query.now) (plan_query c.in_ok-plan.plan)
+    c.rows_of_a_universal_instance_are_a_universal_plan.ensures [] (views_of c.args.fragments.now) (query_of c.args.query.now) (query_of c.args.query.now)
+    (plan_query c.in_ok-plan.plan)
     (λ rule inside. absurd (Contains-nil rule inside))
     (c.queries_are_their_own_instances.ensures.universal (query_of c.args.query.now))
     (c.queries_are_their_own_instances.ensures.finished (query_of c.args.query.now))

@@ -6,7 +6,8 @@ use Rattle.esto_universal.proofs.reading.read_row.Goals as goal
 
 pub terms-preserved : goal.terms-preserved
 terms-preserved c =
-    row_more c.args.row.now c.terms.seen c.args.seen.now _ c.terms.term-index c.term-item.result c.terms-test.true c.term-item.is c.terms.invariant c.in_ok-read_term.ensures
+    row_more c.args.row.now c.terms.seen c.args.seen.now _ c.terms.term-index c.term-item.result
+    c.terms-test.true c.term-item.is c.terms.invariant c.in_ok-read_term.ensures
 
 pub returns : goal.returns
 returns c read so_far =
