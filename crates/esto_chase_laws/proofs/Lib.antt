@@ -1,0 +1,12 @@
+pub mod JoinedLemmas
+pub mod ReplacementLemmas
+pub mod MakingLemmas
+pub mod KeptLemmas
+pub mod ReceivedLemmas
+pub mod LowLemmas
+pub mod StockLemmas
+pub mod NextLemmas
+pub mod RunLemmas
+pub mod StateLemmas
+pub mod EndLemmas
+pub mod GoingLemmas

@@ -1,0 +1,6 @@
+use Rattle.std.proofs.Common.{sym}
+use Rattle.esto_chase_laws.proofs.StateLemmas.{ran}
+use Rattle.esto_chase_laws.proofs.runs.heads_go_along.Goals as goal
+
+pub returns : goal.returns
+returns c rules start are_rules is_start trace now run = sym (ran rules start are_rules is_start.flat_body trace now run).kept.heads
