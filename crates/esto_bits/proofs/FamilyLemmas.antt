@@ -195,6 +195,7 @@ keeps-all count (row ∷ rows) family sets over keeps =
 
 minimal_from_keeps : (count : ℕ) (family sets : List (List Bool)) → KeepsOf count family sets → AreMinimal family sets
 minimal_from_keeps count family sets keeps = record {
+  counted = λ set other has has'. count_of set has ∙ sym (count_of other has');
   exact = λ set. (there set, back set);
   once = λ i j d less within same. (keeps.antichain i j d less within).0 (subst (Within (slice_index_or sets i d)) same (within_refl (slice_index_or sets i d)));
 }

@@ -1,5 +1,6 @@
 -- Executable sets, accessible parts and stated orders, by the run that takes the accessible atom of least number each time.
-use Rattle.std.proofs.Common.{◌≡◌, ◌≢◌, ℕ, zero, suc, ◌<◌, ◌≤◌, Bool, true, false, List, [], ◌∷◌, ◌++◌, length, get_or, slice_index_or, slice_set, replicate, Option, Some, None, slice_get, refl, sym, ap, ◌∙◌, subst, arith, inl, inr}
+use Rattle.std.proofs.Common.{◌≡◌, ◌≢◌, ℕ, zero, suc, ◌<◌, ◌≤◌, Bool, true, false, List, [], ◌∷◌, ◌++◌, length, get_or, slice_index_or, slice_set, replicate}
+use Rattle.std.proofs.Common.{Option, Some, None, slice_get, refl, sym, ap, ◌∙◌, subst, arith, inl, inr}
 use Rattle.std.specs.Prelude.{◌⊎◌, ◌↔◌, Contains, AllPairs}
 use Rattle.std.specs.declared.cmp.Ordering.{Ordering}
 use Rattle.std.specs.declared.cmp.Ordering.TheVariants.{Less, Equal, Greater}
@@ -15,16 +16,19 @@ use Rattle.esto_term.specs.declared.term.Term.TheVariants.{outs-Const, rolls-Con
 use Rattle.esto_semantics.specs.declared.fact.Fact.{Fact}
 use Rattle.esto_semantics.specs.Maps.{IsConstant}
 use Rattle.esto_semantics.specs.Sets.{Has, Within, numbers, united}
-use Rattle.esto_semantics.specs.Access.{Patterns, IsInput, IsBound, MeetsPattern, IsAccessible, IsEarlier, IsOrder, IsExecutable, IsAccessiblePart, IsStatedOrder, HoldsExecutably, HoldsOfPart}
+use Rattle.esto_semantics.specs.Access.{Patterns, IsInput, IsBound, MeetsPattern, IsAccessible, IsEarlier, IsOrder, IsExecutable, IsAccessiblePart}
+use Rattle.esto_semantics.specs.Access.{IsStatedOrder, HoldsExecutably, HoldsOfPart}
 use Rattle.esto_semantics.specs.AccessSteps.{IsReady, IsNext, IsStuck}
-use Rattle.esto_semantics.specs.AccessLaws.{NoneIsExecutable, UnionIsExecutable, PartExists, PartIsOne, ExecutableIsOwnPart, PartRises, StatedOrderExists, StatedOrderIsOne, NumbersAreStated, RewritingsNeedNoOrder, MinimalOfParts}
+use Rattle.esto_semantics.specs.AccessLaws.{NoneIsExecutable, UnionIsExecutable, PartExists, PartIsOne, ExecutableIsOwnPart, PartRises, StatedOrderExists}
+use Rattle.esto_semantics.specs.AccessLaws.{StatedOrderIsOne, NumbersAreStated, RewritingsNeedNoOrder, MinimalOfParts}
 use Rattle.esto_semantics.proofs.SetLemmas.{beyond, decided_has, within_refl, within_trans, within_same, has_united, length-united, numbers_have, numbers_rise}
 use Rattle.esto_term.proofs.ChoiceLemmas.{Decided, decided_as, decided_below, decided_both, decided_either, decided_not, least_below}
 use Rattle.esto_term.proofs.ListLemmas.{Contains-at, Contains-nil, place-from_Contains, thing_at}
 
 -- ---- places of a list
 
-push_split : {A : Type 0} (xs : List A) (x : A) (place : ℕ) (z : A) → slice_get (xs ++ x ∷ []) place ≡ Some z → (slice_get xs place ≡ Some z) ⊎ ((place ≡ length xs) × (x ≡ z))
+push_split : {A : Type 0} (xs : List A) (x : A) (place : ℕ) (z : A) → slice_get (xs ++ x ∷ []) place ≡ Some z
+    → (slice_get xs place ≡ Some z) ⊎ ((place ≡ length xs) × (x ≡ z))
 push_split [] x zero z e = inr (refl, same_Some x z e)
 push_split [] x (suc place) z e = absurd (none-some z e)
 push_split (y ∷ xs) x zero z e = inl e
@@ -35,12 +39,15 @@ push_left [] x place z e = absurd (none-some z e)
 push_left (y ∷ xs) x zero z e = e
 push_left (y ∷ xs) x (suc place) z e = push_left xs x place z e
 
-pub one_place : {A : Type 0} (xs : List A) → AllPairs ◌≢◌ xs → (place other : ℕ) (x : A) → slice_get xs place ≡ Some x → slice_get xs other ≡ Some x → place ≡ other
+pub one_place : {A : Type 0} (xs : List A) → AllPairs ◌≢◌ xs → (place other : ℕ) (x : A) → slice_get xs place ≡ Some x → slice_get xs other ≡ Some x
+    → place ≡ other
 one_place xs once place other x e d = elim (cases_order place other) [
   | inl same ↦ same
   | inr apart ↦ elim apart [
-    | inl below ↦ absurd (once place other x below (slice_get_within xs other x d) (get_or_from_slice_get xs place x x e ∙ sym (get_or_from_slice_get xs other x x d)))
-    | inr above ↦ absurd (once other place x above (slice_get_within xs place x e) (get_or_from_slice_get xs other x x d ∙ sym (get_or_from_slice_get xs place x x e)))
+    | inl below ↦ absurd
+        (once place other x below (slice_get_within xs other x d) (get_or_from_slice_get xs place x x e ∙ sym (get_or_from_slice_get xs other x x d)))
+    | inr above ↦ absurd
+        (once other place x above (slice_get_within xs place x e) (get_or_from_slice_get xs other x x d ∙ sym (get_or_from_slice_get xs place x x e)))
   ]
 ]
 
@@ -81,7 +88,8 @@ missing-set (false ∷ part) zero l absent = refl
 missing-set (true ∷ part) (suc number) l absent = missing-set part number (omega (arith, l)) absent
 missing-set (false ∷ part) (suc number) l absent = ap suc (missing-set part number (omega (arith, l)) absent)
 
-pub has_set : (part : List Bool) (number : ℕ) → number < length part → (other : ℕ) → Has (slice_set part number true) other ↔ ((number ≡ other) ⊎ Has part other)
+pub has_set : (part : List Bool) (number : ℕ) → number < length part → (other : ℕ)
+    → Has (slice_set part number true) other ↔ ((number ≡ other) ⊎ Has part other)
 has_set part number l other = (
   λ h. elim (cases_eq number other) [
     | inl e ↦ inl e
@@ -101,7 +109,8 @@ none_has (suc count) (suc number) h = none_has count number h
 -- ---- what is accessible
 
 module _ (patterns : Patterns) (atoms : List (Fact Term)) where
-  pub accessible_more : (P Q : ℕ → Type 0) → ((number : ℕ) → P number → Q number) → (atom : Fact Term) → IsAccessible patterns atoms P atom → IsAccessible patterns atoms Q atom
+  pub accessible_more : (P Q : ℕ → Type 0) → ((number : ℕ) → P number → Q number) → (atom : Fact Term) → IsAccessible patterns atoms P atom
+      → IsAccessible patterns atoms Q atom
   accessible_more P Q step atom (pattern, has_pattern, meets) = (
     pattern,
     has_pattern,
@@ -115,18 +124,21 @@ module _ (patterns : Patterns) (atoms : List (Fact Term)) where
   ready_more P Q step number ready atom e = accessible_more P Q step atom (ready atom e)
 
   -- an order of a part, and one more number
-  pub order_grows : (part : List Bool) (order : List ℕ) (number : ℕ) → IsOrder patterns atoms part order → number < length atoms → (Has part number → ⊥) → IsReady patterns atoms (Has part) number
+  pub order_grows : (part : List Bool) (order : List ℕ) (number : ℕ) → IsOrder patterns atoms part order → number < length atoms → (Has part number → ⊥)
+      → IsReady patterns atoms (Has part) number
       → IsOrder patterns atoms (slice_set part number true) (order ++ number ∷ [])
   order_grows part order number is_order l absent ready = record {
     over = length-set part number true ∙ is_order.over;
     names = λ other. (
-      λ h. (has_set part number inside other).1 (elim (Contains-push_cases order number other h) [ inl there ↦ inr ((is_order.names other).0 there) | inr e ↦ inl e ]),
+      λ h. (has_set part number inside other).1
+          (elim (Contains-push_cases order number other h) [ inl there ↦ inr ((is_order.names other).0 there) | inr e ↦ inl e ]),
       λ h. elim ((has_set part number inside other).0 h) [
         | inl e ↦ subst (Contains (order ++ number ∷ [])) e (Contains-push order number)
         | inr there ↦ Contains-append_left order (number ∷ []) other ((is_order.names other).1 there)
       ],
     );
-    once = all_pairs_push ◌≢◌ order number is_order.once (λ k d m e. absent (subst (Has part) e ((is_order.names (get_or order k d)).0 (Contains-get_or order k d m))));
+    once = all_pairs_push ◌≢◌ order number is_order.once
+        (λ k d m e. absent (subst (Has part) e ((is_order.names (get_or order k d)).0 (Contains-get_or order k d m))));
     accessible = λ place at atom e d. elim (push_split order number place at e) [
       | inl there ↦ accessible_more _ _ (earlier_push order number place) atom (is_order.accessible place at atom there d)
       | inr last ↦ accessible_more (Has part) _ (λ other h. now place other last.0 h) atom (ready atom (ap (slice_get atoms) last.1 ∙ d))
@@ -137,7 +149,8 @@ module _ (patterns : Patterns) (atoms : List (Fact Term)) where
       inside = omega (arith, l, is_order.over)
 
       now : (place other : ℕ) → place ≡ length order → Has part other → IsEarlier (order ++ number ∷ []) place other
-      now place other e h = earlier_push order number place other (subst (λ p. IsEarlier order p other) (sym e) (contains_earlier order other ((is_order.names other).1 h)))
+      now place other e h =
+          earlier_push order number place other (subst (λ p. IsEarlier order p other) (sym e) (contains_earlier order other ((is_order.names other).1 h)))
 
   none_is_order : IsOrder patterns atoms (replicate (length atoms) false) []
   none_is_order = record {
@@ -163,7 +176,8 @@ module _ (patterns : Patterns) (atoms : List (Fact Term)) where
       each (suc bound) place l at e =
           let there : Has other at = (is_order.names at).0 (Contains-at executable.0 place at e) in
           stuck at (subst (λ n. at < n) is_order.over (beyond other at there)) (within at there)
-          (λ atom d. accessible_more (IsEarlier executable.0 place) (Has part) (λ earlier h. each bound h.0 (omega (arith, h.1, l)) earlier h.2) atom (is_order.accessible place at atom e d))
+          (λ atom d. accessible_more (IsEarlier executable.0 place) (Has part) (λ earlier h. each bound h.0 (omega (arith, h.1, l)) earlier h.2) atom
+          (is_order.accessible place at atom e d))
 
 -- ---- the run, where equality of terms is decided by their order
 
@@ -217,11 +231,15 @@ module _ (exact : (term other : Term) → (term_cmp term other ≡ Equal) ↔ (t
         gives : (number : ℕ) → number < length atoms → Decided (Gives number)
         gives number l =
             let found = thing_at atoms number l in
-            decided_both (decided_has part number) (decided_as
-            (λ h. (found.0, found.1, h), λ h. let e : h.0 ≡ found.0 = same_Some h.0 found.0 (sym h.1 ∙ found.1) in subst (λ atom. Contains atom.terms term) e h.2)
+            decided_both (decided_has part number) (decided_as (
+              λ h. (found.0, found.1, h),
+              λ h. let e : h.0 ≡ found.0 = same_Some h.0 found.0 (sym h.1 ∙ found.1) in
+                  subst (λ atom. Contains atom.terms term) e h.2,
+            )
             (decided_contains (found.0).terms term))
 
-        same : ((number : ℕ) × (number < length atoms) × Gives number) ↔ ((number : ℕ) × Has part number × ((atom : Fact Term) × (slice_get atoms number ≡ Some atom) × Contains atom.terms term))
+        same : ((number : ℕ) × (number < length atoms) × Gives number)
+            ↔ ((number : ℕ) × Has part number × ((atom : Fact Term) × (slice_get atoms number ≡ Some atom) × Contains atom.terms term))
         same = (λ h. (h.0, h.2.0, h.2.1), λ h. (h.0, slice_get_within atoms h.0 h.2.0 h.2.1, (h.1, h.2)))
 
     decided_meets : (part : List Bool) (atom : Fact Term) (pattern : List Bool) → Decided (MeetsPattern atoms (Has part) atom pattern)
@@ -233,8 +251,11 @@ module _ (exact : (term other : Term) → (term_cmp term other ≡ Equal) ↔ (t
         waits : (column : ℕ) → column < length atom.terms → Decided (Waits column)
         waits column l =
             let found = thing_at atom.terms column l in
-            decided_both (decided_input pattern column) (decided_as
-            (λ h. (found.0, found.1, h), λ h. let e : h.0 ≡ found.0 = same_Some h.0 found.0 (sym h.1 ∙ found.1) in subst (λ term. IsBound atoms (Has part) term → ⊥) e h.2)
+            decided_both (decided_input pattern column) (decided_as (
+              λ h. (found.0, found.1, h),
+              λ h. let e : h.0 ≡ found.0 = same_Some h.0 found.0 (sym h.1 ∙ found.1) in
+                  subst (λ term. IsBound atoms (Has part) term → ⊥) e h.2,
+            )
             (decided_not (decided_bound part found.0)))
 
         go : Decided ((column : ℕ) × (column < length atom.terms) × Waits column) → Decided (MeetsPattern atoms (Has part) atom pattern)
@@ -249,7 +270,8 @@ module _ (exact : (term other : Term) → (term_cmp term other ≡ Equal) ↔ (t
       λ h. (get_or own h.0 [], Contains-get_or own h.0 [] h.1, h.2),
       λ h. (h.1.0, h.1.1, subst (MeetsPattern atoms (Has part) atom) (sym (get_or_default own h.1.0 [] h.0 h.1.1 ∙ h.1.2)) h.2),
     )
-        (decided_below (λ place. MeetsPattern atoms (Has part) atom (get_or own place [])) (length own) (λ place l. decided_meets part atom (get_or own place [])))
+        (decided_below (λ place. MeetsPattern atoms (Has part) atom (get_or own place [])) (length own)
+        (λ place l. decided_meets part atom (get_or own place [])))
       where
         own : List (List Bool)
         own = slice_index_or patterns atom.relation []
@@ -282,8 +304,10 @@ module _ (exact : (term other : Term) → (term_cmp term other ≡ Equal) ↔ (t
       is_order = order_grows patterns atoms part order number run.is_order next.there next.absent next.ready;
       least = λ place at e lesser atom below has there accessible. elim (push_split order number place at e) [
         | inl old ↦ earlier_push order number place lesser (run.least place at old lesser atom below has there
-            (accessible_more patterns atoms _ _ (λ other h. push_earlier order number place other (omega (arith, slice_get_within order place at old)) h) atom accessible))
-        | inr last ↦ earlier_push order number place lesser (subst (λ p. IsEarlier order p lesser) (sym last.0) (contains_earlier order lesser ((run.is_order.names lesser).1
+            (accessible_more patterns atoms _ _
+            (λ other h. push_earlier order number place other (omega (arith, slice_get_within order place at old)) h) atom accessible))
+        | inr last ↦ earlier_push order number place lesser
+            (subst (λ p. IsEarlier order p lesser) (sym last.0) (contains_earlier order lesser ((run.is_order.names lesser).1
             (elim (decided_has part lesser) [
               | inl chosen ↦ chosen
               | inr absent ↦ absurd (first lesser (subst (λ n. lesser < n) (sym last.1) below) (record {
@@ -292,7 +316,9 @@ module _ (exact : (term other : Term) → (term_cmp term other ≡ Equal) ↔ (t
                 absent = absent;
                 ready = λ other d.
                     subst (IsAccessible patterns atoms (Has part)) (same_Some atom other (sym there ∙ d))
-                    (accessible_more patterns atoms _ _ (λ earlier h. (run.is_order.names earlier).0 (earlier_contains order place earlier (push_earlier order number place earlier (omega (arith, last.0)) h))) atom accessible);
+                    (accessible_more patterns atoms _ _
+                    (λ earlier h. (run.is_order.names earlier).0
+                    (earlier_contains order place earlier (push_earlier order number place earlier (omega (arith, last.0)) h))) atom accessible);
               }))
             ]))))
       ];
@@ -319,9 +345,11 @@ module _ (exact : (term other : Term) → (term_cmp term other ≡ Equal) ↔ (t
         (λ number next first. run_ends steps set (slice_set part number true) (order ++ number ∷ [])
         (omega (arith, l, missing-set part number (omega (arith, next.there, run.is_order.over)) next.absent)) (run_grows set part order number run next first))
       where
-        go : ((number : ℕ) × (number < length atoms) × IsNext patterns atoms set part number × ((lesser : ℕ) → lesser < number → IsNext patterns atoms set part lesser → ⊥))
+        go : ((number : ℕ) × (number < length atoms) × IsNext patterns atoms set part number
+            × ((lesser : ℕ) → lesser < number → IsNext patterns atoms set part lesser → ⊥))
             ⊎ ((number : ℕ) → number < length atoms → IsNext patterns atoms set part number → ⊥)
-            → ((number : ℕ) → IsNext patterns atoms set part number → ((lesser : ℕ) → lesser < number → IsNext patterns atoms set part lesser → ⊥) → Finished set) → Finished set
+            → ((number : ℕ) → IsNext patterns atoms set part number → ((lesser : ℕ) → lesser < number → IsNext patterns atoms set part lesser → ⊥)
+            → Finished set) → Finished set
         go (inl found) on = on found.0 found.2 found.3
         go (inr none) on = (
           part,
@@ -357,14 +385,16 @@ module _ (exact : (term other : Term) → (term_cmp term other ≡ Equal) ↔ (t
     -- the run of an executable set takes all of it
     all_taken : (set : List Bool) → IsExecutable patterns atoms set → (all : Finished set) → all.0 ≡ set
     all_taken set executable all =
-        within_same all.0 set ((all.2).is_order.over ∙ sym (executable.1).over) (all.2).within (stuck_has patterns atoms set all.0 set all.3 executable (within_refl set))
+        within_same all.0 set ((all.2).is_order.over ∙ sym (executable.1).over) (all.2).within
+        (stuck_has patterns atoms set all.0 set all.3 executable (within_refl set))
 
     stated_order_of : (set : List Bool) → IsExecutable patterns atoms set → (order : List ℕ) × IsStatedOrder patterns atoms set order
     stated_order_of set executable =
         let all = finished set in
         (all.1, record { is_order = subst (λ part. IsOrder patterns atoms part all.1) (all_taken set executable all) (all.2).is_order; least = (all.2).least })
 
-    united_executable : (set other : List Bool) → IsExecutable patterns atoms set → IsExecutable patterns atoms other → IsExecutable patterns atoms (united set other)
+    united_executable : (set other : List Bool) → IsExecutable patterns atoms set → IsExecutable patterns atoms other
+        → IsExecutable patterns atoms (united set other)
     united_executable set other executable executable' =
         let found = part_of (united set other) in
         let part : List Bool = found.0 in
@@ -372,7 +402,8 @@ module _ (exact : (term other : Term) → (term_cmp term other ≡ Equal) ↔ (t
         let l : length (united set other) ≡ length atoms = length-united set other ((executable.1).over ∙ sym (executable'.1).over) ∙ (executable.1).over in
         let left : Within set part = (found.1).greatest set executable (λ number h. (has_united set other number).1 (inl h)) in
         let right : Within other part = (found.1).greatest other executable' (λ number h. (has_united set other number).1 (inr h)) in
-        let all : Within (united set other) part = λ number h. elim ((has_united set other number).0 h) [ inl there ↦ left number there | inr there ↦ right number there ] in
+        let all : Within (united set other) part =
+        λ number h. elim ((has_united set other number).0 h) [ inl there ↦ left number there | inr there ↦ right number there ] in
         subst (IsExecutable patterns atoms) (within_same part (united set other) ((order.1).over ∙ sym l) (found.1).within all) order
 
   pub part_exists : PartExists
@@ -391,7 +422,8 @@ none_is_executable patterns atoms = ([], none_is_order patterns atoms)
 
 pub part_is_one : PartIsOne
 part_is_one patterns atoms set part other is_part is_part' =
-    within_same part other (((is_part.executable).1).over ∙ sym ((is_part'.executable).1).over) (is_part'.greatest part is_part.executable is_part.within) (is_part.greatest other is_part'.executable is_part'.within)
+    within_same part other (((is_part.executable).1).over ∙ sym ((is_part'.executable).1).over) (is_part'.greatest part is_part.executable is_part.within)
+    (is_part.greatest other is_part'.executable is_part'.within)
 
 pub executable_is_own_part : ExecutableIsOwnPart
 executable_is_own_part patterns atoms set = (
@@ -446,7 +478,8 @@ module _ (patterns : Patterns) (atoms : List (Fact Term)) (set : List Bool) wher
 
     not_ended : (number : ℕ) → slice_get order place ≡ Some number → slice_get other place ≡ None → ⊥
     not_ended number e d =
-        let at = place-from_Contains other number (((stated'.is_order).names number).1 (((stated.is_order).names number).0 (Contains-at order place number e))) in
+        let at = place-from_Contains other number
+        (((stated'.is_order).names number).1 (((stated.is_order).names number).0 (Contains-at order place number e))) in
         elim (cases_lt at.0 place) [
           | inl before ↦ not_earlier number e (at.0, before, at.1)
           | inr after ↦ beyond_end at.0 number at.1 after
@@ -462,7 +495,8 @@ module _ (patterns : Patterns) (atoms : List (Fact Term)) (set : List Bool) wher
   same_so_far order other stated stated' (suc bound) place l =
       go (λ before m. same_so_far order other stated stated' bound before (omega (arith, m, l))) (slice_get order place) (slice_get other place) refl refl
     where
-      go : ((before : ℕ) → before < place → slice_get order before ≡ slice_get other before) → (found found' : Option ℕ) → slice_get order place ≡ found → slice_get other place ≡ found'
+      go : ((before : ℕ) → before < place → slice_get order before ≡ slice_get other before) → (found found' : Option ℕ) → slice_get order place ≡ found
+          → slice_get other place ≡ found'
           → slice_get order place ≡ slice_get other place
       go same None None e d = e ∙ sym d
       go same None (Some number) e d = absurd (not_ended other order stated' stated place (λ before m. sym (same before m)) number d e)
@@ -487,7 +521,8 @@ numbers_are_stated patterns atoms open_atoms set l = record {
     over = l;
     names = numbers_have set;
     once = λ i j d below inside e. let rise = numbers_rise 0 set i j d below inside in omega (arith, rise, e);
-    accessible = λ place number atom e d. let way = open_atoms atom (Contains-at atoms number atom d) in (way.0, way.1, λ column term input at. absurd (way.2 column input));
+    accessible = λ place number atom e d. let way = open_atoms atom (Contains-at atoms number atom d) in
+        (way.0, way.1, λ column term input at. absurd (way.2 column input));
   };
   least = λ place number e lesser atom below has there accessible.
       let at = place-from_Contains (numbers set) lesser ((numbers_have set lesser).1 has) in (
@@ -500,7 +535,8 @@ numbers_are_stated patterns atoms open_atoms set l = record {
       );
 }
   where
-    late : (at place lesser number : ℕ) → slice_get (numbers set) at ≡ Some lesser → slice_get (numbers set) place ≡ Some number → lesser < number → place ≤ at → ⊥
+    late : (at place lesser number : ℕ) → slice_get (numbers set) at ≡ Some lesser → slice_get (numbers set) place ≡ Some number → lesser < number → place ≤ at
+        → ⊥
     late at place lesser number e d below after = elim (cases_order place at) [
       | inl same ↦ (let one = same_Some number lesser (sym d ∙ ap (slice_get (numbers set)) same ∙ e) in omega (arith, one, below))
       | inr apart ↦ elim apart [

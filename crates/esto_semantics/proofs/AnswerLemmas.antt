@@ -17,7 +17,8 @@ use Rattle.esto_semantics.proofs.FactLemmas.{SendsInto-then}
 use Rattle.esto_term.proofs.ListLemmas.{map_then}
 
 -- a map that takes what holds to what holds takes answers to answers
-pub IsAnswerInto-then : {V W : Type 0} (constant : List ℕ → V) (other_constant : List ℕ → W) (query : ConjunctiveQuery) (Holds : Fact V → Type 0) (Others : Fact W → Type 0) (next : V → W) (row : List V)
+pub IsAnswerInto-then : {V W : Type 0} (constant : List ℕ → V) (other_constant : List ℕ → W) (query : ConjunctiveQuery) (Holds : Fact V → Type 0)
+    (Others : Fact W → Type 0) (next : V → W) (row : List V)
     → ((text : List ℕ) → next (constant text) ≡ other_constant text) → ((fact : Fact V) → Holds fact → Others (image next fact))
     → IsAnswerInto constant query Holds row → IsAnswerInto other_constant query Others (map next row)
 IsAnswerInto-then constant other_constant query Holds Others next row kept carried (m, keeps, sends, is) = (

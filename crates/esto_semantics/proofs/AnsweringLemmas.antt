@@ -60,7 +60,8 @@ greater-MapsTo plan set other within = (
 
 pub answering_rises : AnsweringRises
 answering_rises rules views query plan form universal set other over other_over within answers =
-    let has_candidate : HasCandidate plan other = record { over = other_over; some = (answers.has_candidate.some.0, within answers.has_candidate.some.0 answers.has_candidate.some.1) } in
+    let has_candidate : HasCandidate plan other =
+    record { over = other_over; some = (answers.has_candidate.some.0, within answers.has_candidate.some.0 answers.has_candidate.some.1) } in
     let safe : IsSafe plan other = λ term inside. elim (answers.safe term inside) [
       | inl constant ↦ inl constant
       | inr mentioned ↦ inr (Mentions-among (chosen set plan.body) (chosen other plan.body) term (chosen_within set other plan.body within) mentioned)

@@ -1,5 +1,6 @@
 -- Candidates of a plan: they contain the query, and those of rewritings are executable rewritings.
-use Rattle.std.proofs.Common.{◌≡◌, ◌≢◌, ◌↔◌, inl, inr, ℕ, ◌<◌, Bool, true, false, List, [], map, length, replicate, slice_get, Some, Contains, refl, sym, ap, ◌∙◌, subst, arith}
+use Rattle.std.proofs.Common.{◌≡◌, ◌≢◌, ◌↔◌, inl, inr, ℕ, ◌<◌, Bool, true, false, List, [], map, length, replicate, slice_get, Some, Contains, refl, sym, ap}
+use Rattle.std.proofs.Common.{◌∙◌, subst, arith}
 use Rattle.std.proofs.lemmas.List.{get_or-replicate, length-replicate}
 use Rattle.std.proofs.lemmas.Option.{slice_get_within}
 use Rattle.esto_term.specs.declared.term.Term.{Term}
@@ -57,11 +58,13 @@ module _ (plan : ConjunctiveQuery) (set : List Bool) where
       safe = safe;
     }
 
-    pub candidate-contains : (rules : List Rule) (views : List ConjunctiveQuery) → IsUniversalPlan rules views query plan → IsContained rules (IsAnswer query) (IsFragmentAnswer views (candidate plan set))
+    pub candidate-contains : (rules : List Rule) (views : List ConjunctiveQuery) → IsUniversalPlan rules views query plan
+        → IsContained rules (IsAnswer query) (IsFragmentAnswer views (candidate plan set))
     candidate-contains rules views universal = (universal (candidate plan set) candidate-IsQuery form.same_length).1 candidate-MapsTo
 
     pub candidate-equivalent : (rules : List Rule) (views : List ConjunctiveQuery) → IsUniversalPlan rules views query plan
-        → IsEquivalent rules (IsFragmentAnswer views (candidate plan set)) (IsAnswer query) ↔ IsContained rules (IsFragmentAnswer views (candidate plan set)) (IsAnswer query)
+        → IsEquivalent rules (IsFragmentAnswer views (candidate plan set)) (IsAnswer query)
+        ↔ IsContained rules (IsFragmentAnswer views (candidate plan set)) (IsAnswer query)
     candidate-equivalent rules views universal = ((λ both. both.0), (λ contained. (contained, candidate-contains rules views universal)))
 
 -- ---- executable candidates
@@ -70,7 +73,8 @@ module _ (patterns : Patterns) (plan : ConjunctiveQuery) (set : List Bool) (orde
   abbrev all : List Bool
   all = replicate (length (chosen set plan.body)) true
 
-  moves : (number : ℕ) (atom : Fact Term) → Has set number → slice_get plan.body number ≡ Some atom → slice_get (chosen set plan.body) (rank set number) ≡ Some (image (λ term. term) atom)
+  moves : (number : ℕ) (atom : Fact Term) → Has set number → slice_get plan.body number ≡ Some atom
+      → slice_get (chosen set plan.body) (rank set number) ≡ Some (image (λ term. term) atom)
   moves number atom has at = chosen_at-rank set plan.body number atom has at ∙ ap Some (sym (image_itself atom))
 
   ranks_are : (place : ℕ) → Contains (map (rank set) order) place ↔ Has all place
@@ -79,7 +83,9 @@ module _ (patterns : Patterns) (plan : ConjunctiveQuery) (set : List Bool) (orde
         let from = Contains-map_from (rank set) order place inside in
         let at = atom_in_order patterns plan.body set order is_order from.0 from.1 in
         let ranked = chosen_at-rank set plan.body from.0 at.0 ((is_order.names from.0).0 from.1) at.1 in
-        subst (Has all) from.2 (get_or-replicate (length (chosen set plan.body)) (rank set from.0) true false (slice_get_within (chosen set plan.body) (rank set from.0) at.0 ranked))),
+        subst (Has all) from.2
+        (get_or-replicate (length (chosen set plan.body)) (rank set from.0) true false
+        (slice_get_within (chosen set plan.body) (rank set from.0) at.0 ranked))),
     (λ has.
         let below = Has-within all place has in
         let count : length all ≡ length (chosen set plan.body) = length-replicate (length (chosen set plan.body)) true in
@@ -96,7 +102,8 @@ module _ (patterns : Patterns) (plan : ConjunctiveQuery) (set : List Bool) (orde
   )
 
 -- a set that is a rewriting has an executable rewriting as its candidate
-pub candidate-IsExecutableRewriting : (rules : List Rule) (views : List ConjunctiveQuery) (patterns : Patterns) (query plan : ConjunctiveQuery) (set : List Bool)
+pub candidate-IsExecutableRewriting : (rules : List Rule) (views : List ConjunctiveQuery) (patterns : Patterns) (query plan : ConjunctiveQuery)
+    (set : List Bool)
     → IsPlanFor query plan → IsRewriting rules views patterns query plan set → IsExecutableRewriting rules views patterns query (candidate plan set)
 candidate-IsExecutableRewriting rules views patterns query plan set form rewriting = record {
   is_query = candidate-IsQuery plan set query form rewriting.has_candidate rewriting.safe;

@@ -16,7 +16,8 @@ use Rattle.esto_semantics.specs.declared.fact.Value.{Value}
 use Rattle.esto_semantics.specs.declared.fact.Value.TheVariants.{Text, Node}
 use Rattle.esto_term.specs.Order.{same_term}
 use Rattle.esto_semantics.proofs.TermLemmas.{same_term-Decides, constant_text, constant_text-told, constant_text-Const}
-use Rattle.esto_semantics.proofs.RenamingLemmas.{Naming, RuleIsKept, value_of, thing_of, renamed, value_of-kept, value_of-Text, thing_of-value_of, map-thing_of-value_of, answer_there, answer_back, fact_there, fact_back, meets_there}
+use Rattle.esto_semantics.proofs.RenamingLemmas.{Naming, RuleIsKept, value_of, thing_of, renamed, value_of-kept, value_of-Text, thing_of-value_of}
+use Rattle.esto_semantics.proofs.RenamingLemmas.{map-thing_of-value_of, answer_there, answer_back, fact_there, fact_back, meets_there}
 use Rattle.esto_term.proofs.ListLemmas.{Contains-flat}
 
 abbrev pub terms_naming : Naming Term
@@ -74,7 +75,8 @@ module _ (query : ConjunctiveQuery) where
         back.0,
         back.1,
         back.2,
-        sym back.3 ∙ map-thing_of-value_of terms_naming (query_terms query) query.head (λ term inside. Contains-append_right (terms_of query.body) query.head term inside),
+        sym back.3 ∙ map-thing_of-value_of terms_naming (query_terms query) query.head
+            (λ term inside. Contains-append_right (terms_of query.body) query.head term inside),
       )
 
 -- ---- the values of the query's terms

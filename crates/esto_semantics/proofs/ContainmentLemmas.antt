@@ -17,7 +17,8 @@ use Rattle.esto_term.proofs.ListLemmas.{Contains-nil, map_itself, map_then}
 
 -- ---- universal instances
 
-pub contained-from_map : (rules : List Rule) (start end right : ConjunctiveQuery) → IsFollowed rules start end → MapsTo right end → IsContained rules (IsAnswer start) (IsAnswer right)
+pub contained-from_map : (rules : List Rule) (start end right : ConjunctiveQuery) → IsFollowed rules start end → MapsTo right end
+    → IsContained rules (IsAnswer start) (IsAnswer right)
 contained-from_map rules start end right followed (m, keeps, sends, heads) database meets row (valuation, valued, into, is) =
     let after = followed database meets valuation valued into in (
       (λ term. after.0 (m term)),
@@ -30,9 +31,11 @@ pub map-from_contained : (rules : List Rule) (start end right : ConjunctiveQuery
     → IsContained rules (IsAnswer start) (IsAnswer right) → MapsTo right end
 map-from_contained rules start end right are_rules maps finished contained =
     map-from_answer end right
-    (contained (canonical_database end) (canonical_database-Meets end rules are_rules finished) (map (canonical_value end) end.head) (answer-from_map end start maps))
+    (contained (canonical_database end) (canonical_database-Meets end rules are_rules finished) (map (canonical_value end) end.head)
+    (answer-from_map end start maps))
 
-pub universal_instances_decide : (rules : List Rule) (start end right : ConjunctiveQuery) → AreRules rules → IsUniversalFor rules start end → IsFinished rules end
+pub universal_instances_decide : (rules : List Rule) (start end right : ConjunctiveQuery) → AreRules rules → IsUniversalFor rules start end
+    → IsFinished rules end
     → IsContained rules (IsAnswer start) (IsAnswer right) ↔ MapsTo right end
 universal_instances_decide rules start end right are_rules universal finished =
     (map-from_contained rules start end right are_rules universal.maps finished, contained-from_map rules start end right universal.followed)
@@ -46,9 +49,13 @@ unions_are_decided rules start end queries are_rules universal finished = (
   (λ one database meets row answer. (one.0, one.1, contained-from_map rules start end one.0 universal.followed one.2 database meets row answer)),
 )
 
-pub universal_instances_satisfy : (rules : List Rule) (start end : ConjunctiveQuery) → AreRules rules → IsUniversalFor rules start end → IsFinished rules end → IsSatisfiable rules start
-universal_instances_satisfy rules start end are_rules universal finished =
-    (canonical_database end, canonical_database-Meets end rules are_rules finished, (map (canonical_value end) end.head, answer-from_map end start universal.maps))
+pub universal_instances_satisfy : (rules : List Rule) (start end : ConjunctiveQuery) → AreRules rules → IsUniversalFor rules start end → IsFinished rules end
+    → IsSatisfiable rules start
+universal_instances_satisfy rules start end are_rules universal finished = (
+  canonical_database end,
+  canonical_database-Meets end rules are_rules finished,
+  (map (canonical_value end) end.head, answer-from_map end start universal.maps),
+)
 
 -- ---- without rules
 
@@ -73,7 +80,8 @@ IsAnswerInto-grows constant query Holds More row grows (m, keeps, sends, is) = (
 
 pub IsViewRow-grows : (views : List ConjunctiveQuery) (database larger : Database) → ((fact : Fact Value) → Contains database fact → Contains larger fact)
     → (fact : Fact Value) → IsViewRow views database fact → IsViewRow views larger fact
-IsViewRow-grows views database larger grows fact (view, found, answer) = (view, found, IsAnswerInto-grows Text view (Contains database) (Contains larger) fact.terms grows answer)
+IsViewRow-grows views database larger grows fact (view, found, answer) =
+    (view, found, IsAnswerInto-grows Text view (Contains database) (Contains larger) fact.terms grows answer)
 
 IsFragmentAnswer-grows : (views : List ConjunctiveQuery) (query : ConjunctiveQuery) (database larger : Database)
     → ((fact : Fact Value) → Contains database fact → Contains larger fact)

@@ -47,7 +47,8 @@ module _ (views : List ConjunctiveQuery) (query : ConjunctiveQuery) (expansion :
       (λ term. m (spread number term)),
       (λ text. ap m (is_expansion.keeps number text) ∙ keeps text),
       (λ part inside. subst (Contains database) (image_then (spread number) m part)
-          (sends (image (spread number) part) ((is_expansion.facts (image (spread number) part)).1 (number, slice_get_within query.body number atom at, (part, inside, refl))))),
+          (sends (image (spread number) part)
+          ((is_expansion.facts (image (spread number) part)).1 (number, slice_get_within query.body number atom at, (part, inside, refl))))),
       ap (map m) (sym (is_expansion.head number atom at)) ∙ map_then (spread number) m (view number).head,
     ),
   )
@@ -110,7 +111,11 @@ module _ (views : List ConjunctiveQuery) (query : ConjunctiveQuery) (expansion :
             let chosen = (choice number).1 at.0 at.1 in
             let heads = is_expansion.head number at.0 at.1 in
             inl (
-              inr (inl (at.0, Contains-at query.body number at.0 at.1, subst (λ it. Contains it (spread number term)) heads (Contains-map (spread number) (view number).head term in_head))),
+              inr (inl (
+                at.0,
+                Contains-at query.body number at.0 at.1,
+                subst (λ it. Contains it (spread number term)) heads (Contains-map (spread number) (view number).head term in_head),
+              )),
               agree-from_map (local number) (λ it. m (spread number it)) (view number).head term
                   (sym chosen.2 ∙ ap (map m) (sym heads) ∙ map_then (spread number) m (view number).head) in_head,
             )
@@ -177,12 +182,14 @@ module _ (views : List ConjunctiveQuery) (query : ConjunctiveQuery) (expansion :
 
 -- ---- containment
 
-pub expansion_decides : (rules : List Rule) (views : List ConjunctiveQuery) (query : ConjunctiveQuery) (expansion : List (Fact Term)) (end right : ConjunctiveQuery)
+pub expansion_decides : (rules : List Rule) (views : List ConjunctiveQuery) (query : ConjunctiveQuery) (expansion : List (Fact Term))
+    (end right : ConjunctiveQuery)
     → AreRules rules → IsExpansion views query expansion → IsUniversalFor rules (record { head = query.head; body = expansion }) end → IsFinished rules end
     → IsContained rules (IsFragmentAnswer views query) (IsAnswer right) ↔ MapsTo right end
 expansion_decides rules views query expansion end right are_rules is_expansion universal finished =
     let decided = universal_instances_decide rules (record { head = query.head; body = expansion }) end right are_rules universal finished in (
-      (λ contained. decided.0 (λ database meets row answer. contained database meets row (answer-from_expansion views query expansion is_expansion database row answer))),
+      (λ contained. decided.0
+          (λ database meets row answer. contained database meets row (answer-from_expansion views query expansion is_expansion database row answer))),
       (λ maps database meets row answer. decided.1 maps database meets row (answer-to_expansion views query expansion is_expansion database row answer)),
     )
 

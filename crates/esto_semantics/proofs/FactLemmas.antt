@@ -8,7 +8,8 @@ use Rattle.esto_term.proofs.ListLemmas.{Contains-map, Contains-map_from, map_agr
 
 -- ---- the image of a fact
 
-pub image_agree : {V W : Type 0} (m other : V → W) (fact : Fact V) → ((thing : V) → Contains fact.terms thing → m thing ≡ other thing) → image m fact ≡ image other fact
+pub image_agree : {V W : Type 0} (m other : V → W) (fact : Fact V) → ((thing : V) → Contains fact.terms thing → m thing ≡ other thing)
+    → image m fact ≡ image other fact
 image_agree {W = W} m other fact agree = ap (λ (row : List W). record { relation = fact.relation; terms = row }) (map_agree m other fact.terms agree)
 
 pub image_then : {V W U : Type 0} (m : V → W) (next : W → U) (fact : Fact V) → image next (image m fact) ≡ image (λ thing. next (m thing)) fact
@@ -29,7 +30,8 @@ module _ {V W U : Type 0} (m : V → W) (next : W → U) (facts : List (Fact V))
   Sends-then others last sends sends_on = SendsInto-then (Contains others) (Contains last) sends_on sends
 
 -- a map that agrees on what the facts mention sends them to the same
-pub SendsInto-agree : {V W : Type 0} (m other : V → W) (facts : List (Fact V)) (Holds : Fact W → Type 0) → ((thing : V) → Mentions facts thing → m thing ≡ other thing)
+pub SendsInto-agree : {V W : Type 0} (m other : V → W) (facts : List (Fact V)) (Holds : Fact W → Type 0)
+    → ((thing : V) → Mentions facts thing → m thing ≡ other thing)
     → SendsInto m facts Holds → SendsInto other facts Holds
 SendsInto-agree m other facts Holds agree sends fact inside =
     subst Holds (image_agree m other fact (λ thing in_fact. agree thing (fact, inside, in_fact))) (sends fact inside)
@@ -42,16 +44,19 @@ Sends-itself facts fact inside = subst (Contains facts) (sym (image_itself fact)
 
 -- ---- what facts mention
 
-pub Mentions-images : {V W : Type 0} (m : V → W) (facts : List (Fact V)) (other : W) → Mentions (map (image m) facts) other → (thing : V) × Mentions facts thing × (m thing ≡ other)
+pub Mentions-images : {V W : Type 0} (m : V → W) (facts : List (Fact V)) (other : W) → Mentions (map (image m) facts) other
+    → (thing : V) × Mentions facts thing × (m thing ≡ other)
 Mentions-images m facts other (image_fact, inside, in_image) =
     let found = Contains-map_from (image m) facts image_fact inside in
     let at = Contains-map_from m found.0.terms other (subst (λ (fact : Fact _). Contains fact.terms other) (sym found.2) in_image) in
     (at.0, (found.0, found.1, at.1), at.2)
 
-pub Mentions-sent : {V W : Type 0} (m : V → W) (facts : List (Fact V)) (others : List (Fact W)) (thing : V) → Sends m facts others → Mentions facts thing → Mentions others (m thing)
+pub Mentions-sent : {V W : Type 0} (m : V → W) (facts : List (Fact V)) (others : List (Fact W)) (thing : V) → Sends m facts others → Mentions facts thing
+    → Mentions others (m thing)
 Mentions-sent m facts others thing sends (fact, inside, in_fact) = (image m fact, sends fact inside, Contains-map m fact.terms thing in_fact)
 
-pub Mentions-among : {V : Type 0} (facts others : List (Fact V)) (thing : V) → ((fact : Fact V) → Contains facts fact → Contains others fact) → Mentions facts thing → Mentions others thing
+pub Mentions-among : {V : Type 0} (facts others : List (Fact V)) (thing : V) → ((fact : Fact V) → Contains facts fact → Contains others fact)
+    → Mentions facts thing → Mentions others thing
 Mentions-among facts others thing among (fact, inside, in_fact) = (fact, among fact inside, in_fact)
 
 pub Mentions-append : {V : Type 0} (facts others : List (Fact V)) (thing : V) → Mentions (facts ++ others) thing → Mentions facts thing ⊎ Mentions others thing

@@ -10,7 +10,8 @@ pub Contains-decided : (things : List Term) (term : Term) → Contains things te
 Contains-decided [] term = inr (Contains-nil term)
 Contains-decided (first ∷ rest) term = by (Contains-decided rest term) (same_term first term) refl
   where
-    by : Contains rest term ⊎ (Contains rest term → ⊥) → (answer : Bool) → same_term first term ≡ answer → Contains (first ∷ rest) term ⊎ (Contains (first ∷ rest) term → ⊥)
+    by : Contains rest term ⊎ (Contains rest term → ⊥) → (answer : Bool) → same_term first term ≡ answer
+        → Contains (first ∷ rest) term ⊎ (Contains (first ∷ rest) term → ⊥)
     by later true told = inl (subst (Contains (first ∷ rest)) ((same_term-Decides first term).0 told) (Contains-head first rest))
     by (inl inside) false told = inl (Contains-rest first rest term inside)
     by (inr outside) false told = inr (λ inside. elim (Contains-cases first rest term inside) [
@@ -47,8 +48,10 @@ module _ {V : Type 0} (spread : ℕ → Term → Term) (local : ℕ → Term →
       by : ((inner : Term) × Contains rest inner × (spread number inner ≡ term) × (joined_over rest number term otherwise ≡ local number inner))
           ⊎ ((joined_over rest number term otherwise ≡ otherwise) × ((inner : Term) → Contains rest inner → spread number inner ≡ term → ⊥))
           → (answer : Bool) → same_term (spread number first) term ≡ answer
-          → ((inner : Term) × Contains (first ∷ rest) inner × (spread number inner ≡ term) × (cond answer (local number first) (joined_over rest number term otherwise) ≡ local number inner))
-          ⊎ ((cond answer (local number first) (joined_over rest number term otherwise) ≡ otherwise) × ((inner : Term) → Contains (first ∷ rest) inner → spread number inner ≡ term → ⊥))
+          → ((inner : Term) × Contains (first ∷ rest) inner × (spread number inner ≡ term)
+          × (cond answer (local number first) (joined_over rest number term otherwise) ≡ local number inner))
+          ⊎ ((cond answer (local number first) (joined_over rest number term otherwise) ≡ otherwise)
+          × ((inner : Term) → Contains (first ∷ rest) inner → spread number inner ≡ term → ⊥))
       by later true told = inl (first, Contains-head first rest, (same_term-Decides (spread number first) term).0 told, refl)
       by (inl (inner, inside, is, goes)) false told = inl (inner, Contains-rest first rest inner inside, is, goes)
       by (inr (goes, none)) false told = inr (
@@ -60,7 +63,8 @@ module _ {V : Type 0} (spread : ℕ → Term → Term) (local : ℕ → Term →
       )
 
   joined-cases : (count : ℕ) (term : Term)
-      → ((number : ℕ) × (inner : Term) × (number < count) × Contains (terms number) inner × (spread number inner ≡ term) × (joined count term ≡ local number inner))
+      → ((number : ℕ) × (inner : Term) × (number < count) × Contains (terms number) inner × (spread number inner ≡ term)
+      × (joined count term ≡ local number inner))
       ⊎ ((joined count term ≡ m term) × ((number : ℕ) (inner : Term) → number < count → Contains (terms number) inner → spread number inner ≡ term → ⊥))
   joined-cases zero term = inr (refl, λ number inner below inside is. omega arith)
   joined-cases (suc count) term = elim (joined_over-cases (terms count) count term (joined count term)) [
@@ -79,7 +83,8 @@ module _ {V : Type 0} (spread : ℕ → Term → Term) (local : ℕ → Term →
 
   module _ (count : ℕ) where
     -- where two terms that are spread to one go to one
-    pub joined-spread : ((number other : ℕ) (inner other_inner : Term) → number < count → other < count → Contains (terms number) inner → Contains (terms other) other_inner
+    pub joined-spread : ((number other : ℕ) (inner other_inner : Term) → number < count → other < count → Contains (terms number) inner
+        → Contains (terms other) other_inner
         → spread number inner ≡ spread other other_inner → local number inner ≡ local other other_inner)
         → (number : ℕ) (inner : Term) → number < count → Contains (terms number) inner → joined count (spread number inner) ≡ local number inner
     joined-spread one number inner below inside = elim (joined-cases count (spread number inner)) [
@@ -88,7 +93,8 @@ module _ {V : Type 0} (spread : ℕ → Term → Term) (local : ℕ → Term →
     ]
 
     -- and where what is spread to a term goes where the given map sends it
-    pub joined-given : (term : Term) → ((number : ℕ) (inner : Term) → number < count → Contains (terms number) inner → spread number inner ≡ term → local number inner ≡ m term)
+    pub joined-given : (term : Term)
+        → ((number : ℕ) (inner : Term) → number < count → Contains (terms number) inner → spread number inner ≡ term → local number inner ≡ m term)
         → joined count term ≡ m term
     joined-given term one = elim (joined-cases count term) [
       | inl (number, inner, below, inside, is, goes) ↦ goes ∙ one number inner below inside is

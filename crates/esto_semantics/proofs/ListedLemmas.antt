@@ -1,5 +1,6 @@
 -- Listed sets and weights.
-use Rattle.std.proofs.Common.{◌≡◌, ◌≢◌, ℕ, zero, suc, ◌+◌, ◌≤◌, Bool, true, false, List, [], ◌∷◌, length, get_or, map, Some, slice_get, slice_index_or, sum, refl, sym, ap, ◌∙◌, subst, arith, inl, inr}
+use Rattle.std.proofs.Common.{◌≡◌, ◌≢◌, ℕ, zero, suc, ◌+◌, ◌≤◌, Bool, true, false, List, [], ◌∷◌, length, get_or, map, Some, slice_get, slice_index_or, sum}
+use Rattle.std.proofs.Common.{refl, sym, ap, ◌∙◌, subst, arith, inl, inr}
 use Rattle.std.specs.Prelude.{◌⊎◌, ◌↔◌, Contains, AllPairs}
 use Rattle.std.specs.List.{sum_by}
 use Rattle.std.specs.declared.cmp.Ordering.TheVariants.{Equal}
@@ -13,7 +14,8 @@ use Rattle.esto_semantics.specs.Queries.{ConjunctiveQuery}
 use Rattle.esto_semantics.specs.Rules.{Rule}
 use Rattle.esto_semantics.specs.Sets.{Has, Within, IsMinimal, AreMinimal, HaveCount, HaveOneCount, AreInOrder, all_sets}
 use Rattle.esto_semantics.specs.Listed.{chosen, IsRewriting, IsListed, AreListed, IsWeight}
-use Rattle.esto_semantics.specs.ListedLaws.{AreRewritings, TestedAreRewritings, ListedAreMinimal, ListedExist, ListedIsOne, ListedCover, NoneIsListed, ChosenAreNamed, WeightExists, WeightRises, WeightIsOne, WeightIsSum}
+use Rattle.esto_semantics.specs.ListedLaws.{AreRewritings, TestedAreRewritings, ListedAreMinimal, ListedExist, ListedIsOne, ListedCover, NoneIsListed}
+use Rattle.esto_semantics.specs.ListedLaws.{ChosenAreNamed, WeightExists, WeightRises, WeightIsOne, WeightIsSum}
 use Rattle.esto_semantics.proofs.CoverLemmas.{minimal-cover, listed_by_is_one, none_is_listed_by}
 use Rattle.esto_semantics.proofs.SetLemmas.{in_order_once, minimal_exist, all_sets_are_listed}
 use Rattle.esto_semantics.proofs.AccessLemmas.{decided_same}
@@ -23,7 +25,8 @@ use Rattle.esto_semantics.specs.Access.{Patterns}
 
 pub tested_are_rewritings : TestedAreRewritings
 tested_are_rewritings rules views patterns query plan test tells set = (
-  λ h. let both = Contains-filter_from test (all_sets (length plan.body)) set h in (tells set (((all_sets_are_listed (length plan.body)).0 set).0 both.0)).0 both.1,
+  λ h. let both = Contains-filter_from test (all_sets (length plan.body)) set h in
+      (tells set (((all_sets_are_listed (length plan.body)).0 set).0 both.0)).0 both.1,
   λ rewriting. let l = rewriting.has_candidate.over in
       Contains-filter test (all_sets (length plan.body)) set (((all_sets_are_listed (length plan.body)).0 set).1 l) ((tells set l).1 rewriting),
 )
@@ -45,6 +48,7 @@ module _ (rules : List Rule) (views : List ConjunctiveQuery) (patterns : Pattern
   listed_minimal sets = (
     λ listed. (
       record {
+        counted = counted;
         exact = λ set. (λ h. (minimal_listed set).1 ((listed.exact set).0 h), λ h. (listed.exact set).1 ((minimal_listed set).0 h));
         once = in_order_once sets listed.ordered;
       },
@@ -82,20 +86,24 @@ none_is_listed rules views patterns query plan sets =
 
 -- ---- chosen atoms
 
-pub chosen_there : (set : List Bool) (atoms : List (Fact Term)) (atom : Fact Term) (number : ℕ) → Has set number → slice_get atoms number ≡ Some atom → Contains (chosen set atoms) atom
+pub chosen_there : (set : List Bool) (atoms : List (Fact Term)) (atom : Fact Term) (number : ℕ) → Has set number → slice_get atoms number ≡ Some atom
+    → Contains (chosen set atoms) atom
 chosen_there [] atoms atom number h e = absurd (false≢true h)
 chosen_there (is_in ∷ set) [] atom number h e = absurd (none-some atom e)
-chosen_there (true ∷ set) (first ∷ atoms) atom zero h e = subst (Contains (first ∷ chosen set atoms)) (same_Some first atom e) (Contains-head first (chosen set atoms))
+chosen_there (true ∷ set) (first ∷ atoms) atom zero h e =
+    subst (Contains (first ∷ chosen set atoms)) (same_Some first atom e) (Contains-head first (chosen set atoms))
 chosen_there (false ∷ set) (first ∷ atoms) atom zero h e = absurd (false≢true h)
 chosen_there (true ∷ set) (first ∷ atoms) atom (suc number) h e = Contains-rest first (chosen set atoms) atom (chosen_there set atoms atom number h e)
 chosen_there (false ∷ set) (first ∷ atoms) atom (suc number) h e = chosen_there set atoms atom number h e
 
-pub chosen_back : (set : List Bool) (atoms : List (Fact Term)) (atom : Fact Term) → Contains (chosen set atoms) atom → (number : ℕ) × Has set number × (slice_get atoms number ≡ Some atom)
+pub chosen_back : (set : List Bool) (atoms : List (Fact Term)) (atom : Fact Term) → Contains (chosen set atoms) atom
+    → (number : ℕ) × Has set number × (slice_get atoms number ≡ Some atom)
 chosen_back [] atoms atom h = absurd (Contains-nil atom h)
 chosen_back (is_in ∷ set) [] atom h = absurd (Contains-nil atom h)
 chosen_back (true ∷ set) (first ∷ atoms) atom h = go (Contains-cases first (chosen set atoms) atom h) (chosen_back set atoms atom)
   where
-    go : (first ≡ atom) ⊎ Contains (chosen set atoms) atom → (Contains (chosen set atoms) atom → (number : ℕ) × Has set number × (slice_get atoms number ≡ Some atom))
+    go : (first ≡ atom) ⊎ Contains (chosen set atoms) atom
+        → (Contains (chosen set atoms) atom → (number : ℕ) × Has set number × (slice_get atoms number ≡ Some atom))
         → (number : ℕ) × Has (true ∷ set) number × (slice_get (first ∷ atoms) number ≡ Some atom)
     go (inl e) rest = (0, refl, ap Some e)
     go (inr later) rest = let back = rest later in (suc back.0, back.1, back.2)
@@ -104,14 +112,16 @@ chosen_back (false ∷ set) (first ∷ atoms) atom h = let back = chosen_back se
 pub chosen_are_named : ChosenAreNamed
 chosen_are_named set atoms atom = (chosen_back set atoms atom, λ h. chosen_there set atoms atom h.0 h.1 h.2)
 
-pub chosen_within : (set other : List Bool) (atoms : List (Fact Term)) → Within set other → (atom : Fact Term) → Contains (chosen set atoms) atom → Contains (chosen other atoms) atom
+pub chosen_within : (set other : List Bool) (atoms : List (Fact Term)) → Within set other → (atom : Fact Term) → Contains (chosen set atoms) atom
+    → Contains (chosen other atoms) atom
 chosen_within set other atoms within atom h = let back = chosen_back set atoms atom h in chosen_there other atoms atom back.0 (within back.0 back.1) back.2
 
 chosen_once : (set : List Bool) (atoms : List (Fact Term)) → AllPairs ◌≢◌ atoms → AllPairs ◌≢◌ (chosen set atoms)
 chosen_once [] atoms once = λ i j d l m. absurd (omega (arith, m))
 chosen_once (is_in ∷ set) [] once = λ i j d l m. absurd (omega (arith, m))
 chosen_once (true ∷ set) (first ∷ atoms) once =
-    pairs_cons ◌≢◌ first (chosen set atoms) (λ atom h. let back = chosen_back set atoms atom h in pairs_head ◌≢◌ first atoms once atom (Contains-at atoms back.0 atom back.2))
+    pairs_cons ◌≢◌ first (chosen set atoms)
+    (λ atom h. let back = chosen_back set atoms atom h in pairs_head ◌≢◌ first atoms once atom (Contains-at atoms back.0 atom back.2))
     (chosen_once set atoms (pairs_tail ◌≢◌ first atoms once))
 chosen_once (false ∷ set) (first ∷ atoms) once = chosen_once set atoms (pairs_tail ◌≢◌ first atoms once)
 
@@ -119,18 +129,26 @@ chosen_once (false ∷ set) (first ∷ atoms) once = chosen_once set atoms (pair
 
 module _ {A : Type 0} (f : A → ℕ) where
   -- one item taken out of a list
-  taken_out : (ys : List A) (x : A) → Contains ys x → (rest : List A) × (sum_by f ys ≡ f x + sum_by f rest) × ((z : A) → Contains ys z → (x ≡ z → ⊥) → Contains rest z)
+  taken_out : (ys : List A) (x : A) → Contains ys x
+      → (rest : List A) × (sum_by f ys ≡ f x + sum_by f rest) × ((z : A) → Contains ys z → (x ≡ z → ⊥) → Contains rest z)
   taken_out [] x h = absurd (Contains-nil x h)
   taken_out (y ∷ ys) x h = go (Contains-cases y ys x h) (taken_out ys x)
     where
-      go : (y ≡ x) ⊎ Contains ys x → (Contains ys x → (rest : List A) × (sum_by f ys ≡ f x + sum_by f rest) × ((z : A) → Contains ys z → (x ≡ z → ⊥) → Contains rest z))
+      go : (y ≡ x) ⊎ Contains ys x
+          → (Contains ys x → (rest : List A) × (sum_by f ys ≡ f x + sum_by f rest) × ((z : A) → Contains ys z → (x ≡ z → ⊥) → Contains rest z))
           → (rest : List A) × (sum_by f (y ∷ ys) ≡ f x + sum_by f rest) × ((z : A) → Contains (y ∷ ys) z → (x ≡ z → ⊥) → Contains rest z)
-      go (inl e) more = (ys, sum_by-cons f y ys ∙ ap (λ z. f z + sum_by f ys) e, λ z there apart. elim (Contains-cases y ys z there) [ inl d ↦ absurd (apart (sym e ∙ d)) | inr later ↦ later ])
+      go (inl e) more = (
+        ys,
+        sum_by-cons f y ys ∙ ap (λ z. f z + sum_by f ys) e,
+        λ z there apart. elim (Contains-cases y ys z there) [ inl d ↦ absurd (apart (sym e ∙ d)) | inr later ↦ later ],
+      )
       go (inr later) more =
           let out = more later in (
             y ∷ out.0,
             omega (arith, sum_by-cons f y ys, sum_by-cons f y out.0, out.1),
-            λ z there apart. elim (Contains-cases y ys z there) [ inl d ↦ subst (Contains (y ∷ out.0)) d (Contains-head y out.0) | inr after ↦ Contains-rest y out.0 z (out.2 z after apart) ],
+            λ z there apart. elim
+                (Contains-cases y ys z there)
+                [ inl d ↦ subst (Contains (y ∷ out.0)) d (Contains-head y out.0) | inr after ↦ Contains-rest y out.0 z (out.2 z after apart) ],
           )
 
   pub sum_among : (xs ys : List A) → AllPairs ◌≢◌ xs → ((z : A) → Contains xs z → Contains ys z) → sum_by f xs ≤ sum_by f ys
@@ -141,11 +159,13 @@ module _ {A : Type 0} (f : A → ℕ) where
       omega (arith, sum_by-cons f x xs, out.1, rest)
 
 -- the items of a list, each once
-distinct_of : {A : Type 0} → ((x z : A) → Decided (x ≡ z)) → (xs : List A) → (distinct : List A) × AllPairs ◌≢◌ distinct × ((z : A) → Contains distinct z ↔ Contains xs z)
+distinct_of : {A : Type 0} → ((x z : A) → Decided (x ≡ z)) → (xs : List A)
+    → (distinct : List A) × AllPairs ◌≢◌ distinct × ((z : A) → Contains distinct z ↔ Contains xs z)
 distinct_of same [] = ([], λ i j d l m. absurd (omega (arith, m)), λ z. (λ h. h, λ h. h))
 distinct_of {A} same (x ∷ xs) = go (distinct_of same xs)
   where
-    go : ((distinct : List A) × AllPairs ◌≢◌ distinct × ((z : A) → Contains distinct z ↔ Contains xs z)) → (distinct : List A) × AllPairs ◌≢◌ distinct × ((z : A) → Contains distinct z ↔ Contains (x ∷ xs) z)
+    go : ((distinct : List A) × AllPairs ◌≢◌ distinct × ((z : A) → Contains distinct z ↔ Contains xs z))
+        → (distinct : List A) × AllPairs ◌≢◌ distinct × ((z : A) → Contains distinct z ↔ Contains (x ∷ xs) z)
     go rest = at (decided_below (λ k. get_or rest.0 k x ≡ x) (length rest.0) (λ k l. same (get_or rest.0 k x) x))
       where
         at : Decided (Contains rest.0 x) → (distinct : List A) × AllPairs ◌≢◌ distinct × ((z : A) → Contains distinct z ↔ Contains (x ∷ xs) z)
@@ -161,8 +181,10 @@ distinct_of {A} same (x ∷ xs) = go (distinct_of same xs)
           x ∷ rest.0,
           pairs_cons ◌≢◌ x rest.0 (λ z h e. absent (subst (Contains rest.0) (sym e) h)) rest.1,
           λ z. (
-            λ h. elim (Contains-cases x rest.0 z h) [ inl e ↦ subst (Contains (x ∷ xs)) e (Contains-head x xs) | inr later ↦ Contains-rest x xs z ((rest.2 z).0 later) ],
-            λ h. elim (Contains-cases x xs z h) [ inl e ↦ subst (Contains (x ∷ rest.0)) e (Contains-head x rest.0) | inr later ↦ Contains-rest x rest.0 z ((rest.2 z).1 later) ],
+            λ h. elim (Contains-cases x rest.0 z h)
+                [ inl e ↦ subst (Contains (x ∷ xs)) e (Contains-head x xs) | inr later ↦ Contains-rest x xs z ((rest.2 z).0 later) ],
+            λ h. elim (Contains-cases x xs z h)
+                [ inl e ↦ subst (Contains (x ∷ rest.0)) e (Contains-head x rest.0) | inr later ↦ Contains-rest x rest.0 z ((rest.2 z).1 later) ],
           ),
         )
 

@@ -45,7 +45,8 @@ module _ (views : List ConjunctiveQuery) (plan : ConjunctiveQuery) (expansion : 
     variable = λ place term below inner. is_expansion.variable (number_at set place) term (at_place place below).0 inner;
     outside = λ place term below inner of_query. is_expansion.outside (number_at set place) term (at_place place below).0 inner (IsOfQuery-among _ of_query);
     apart = λ place other term other_term below other_below inner other_inner same.
-        let both = is_expansion.apart (number_at set place) (number_at set other) term other_term (at_place place below).0 (at_place other other_below).0 inner other_inner same in
+        let both = is_expansion.apart (number_at set place) (number_at set other) term other_term (at_place place below).0
+        (at_place other other_below).0 inner other_inner same in
         (sym (at_place place below).2 ∙ ap (rank set) both.0 ∙ (at_place other other_below).2, both.1);
     facts = λ fact. (
       (λ inside.

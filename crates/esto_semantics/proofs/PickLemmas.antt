@@ -32,7 +32,8 @@ best_of weights zero = (
 best_of weights (suc count) = go (best_of weights count) (cases_lt (get_or weights (suc count) 0) (get_or weights (best_of weights count).0 0))
   where
     go : (best : (place : ℕ) × IsBest weights (suc count) place)
-        → (get_or weights (suc count) 0 < get_or weights best.0 0) ⊎ (get_or weights best.0 0 ≤ get_or weights (suc count) 0) → (place : ℕ) × IsBest weights (suc (suc count)) place
+        → (get_or weights (suc count) 0 < get_or weights best.0 0) ⊎ (get_or weights best.0 0 ≤ get_or weights (suc count) 0)
+        → (place : ℕ) × IsBest weights (suc (suc count)) place
     go best (inl less) = (
       suc count,
       record {
@@ -77,7 +78,8 @@ pick_is_one weights place other pick pick' = elim (cases_order place other) [
   ]
 ]
 
-zip_at : {A B : Type 0} (R : A → B → Type 0) (xs : List A) (ys : List B) → AllZip R xs ys → (place : ℕ) (x : A) (d : B) → slice_get xs place ≡ Some x → (place < length ys) × R x (get_or ys place d)
+zip_at : {A B : Type 0} (R : A → B → Type 0) (xs : List A) (ys : List B) → AllZip R xs ys → (place : ℕ) (x : A) (d : B) → slice_get xs place ≡ Some x
+    → (place < length ys) × R x (get_or ys place d)
 zip_at R [] ys all place x d e = absurd (none-some x e)
 zip_at R (a ∷ xs) [] all place x d e = absurd all
 zip_at R (a ∷ xs) (b ∷ ys) all zero x d e = (omega arith, subst (λ z. R z b) (same_Some a x e) all.0)
@@ -100,7 +102,8 @@ pick_weighs_least rules views patterns query plan sets weights totals listed are
     pick_below weights plan sets totals are_weights place pick set weight (listed_cover rules views patterns query plan sets listed set rewriting)
 
 pub pick_weighs_least_of_all : WeightExists → PickWeighsLeastOfAll
-pick_weighs_least_of_all exist rules views patterns query plan sets weights totals flat universal satisfiable listed are_weights place pick other weight rewriting is_weight =
+pick_weighs_least_of_all exist rules views patterns query plan sets weights totals flat universal satisfiable listed are_weights place pick other weight
+    rewriting is_weight =
     let onto = maps_onto_rewriting rules views patterns query plan other rewriting flat universal satisfiable in
     let own = exist weights (chosen onto.0 plan.body) in
     let first = pick_weighs_least rules views patterns query plan sets weights totals listed are_weights place pick onto.0 own.0 onto.1 own.1 in

@@ -1,5 +1,6 @@
 -- Places of lists, sets of numbers, and the atoms that a set chooses.
-use Rattle.std.proofs.Common.{◌≡◌, ◌↔◌, inl, inr, zero, suc, ℕ, ◌<◌, Bool, true, false, List, [], ◌∷◌, length, slice_get, Contains, Some, refl, ap, subst, arith}
+use Rattle.std.proofs.Common.{◌≡◌, ◌↔◌, inl, inr, zero, suc, ℕ, ◌<◌, Bool, true, false, List, [], ◌∷◌, length, slice_get, Contains, Some, refl, ap, subst}
+use Rattle.std.proofs.Common.{arith}
 use Rattle.esto_term.specs.declared.term.Term.{Term}
 use Rattle.esto_semantics.specs.Listed.{chosen}
 use Rattle.esto_semantics.specs.Sets.{Has}
@@ -33,15 +34,19 @@ Has-within (first ∷ rest) (suc number) has = let below = Has-within rest numbe
 
 -- ---- what a set chooses
 
-pub chosen-from_Has : (set : List Bool) (atoms : List (Fact Term)) (number : ℕ) (atom : Fact Term) → Has set number → slice_get atoms number ≡ Some atom → Contains (chosen set atoms) atom
+pub chosen-from_Has : (set : List Bool) (atoms : List (Fact Term)) (number : ℕ) (atom : Fact Term) → Has set number → slice_get atoms number ≡ Some atom
+    → Contains (chosen set atoms) atom
 chosen-from_Has [] atoms number atom has at = absurd (cc)
 chosen-from_Has (is_in ∷ rest) [] number atom has at = absurd (cc)
-chosen-from_Has (true ∷ rest) (first ∷ others) zero atom has at = let is : first ≡ atom = cc in subst (Contains (first ∷ chosen rest others)) is (Contains-head first (chosen rest others))
+chosen-from_Has (true ∷ rest) (first ∷ others) zero atom has at = let is : first ≡ atom = cc in
+    subst (Contains (first ∷ chosen rest others)) is (Contains-head first (chosen rest others))
 chosen-from_Has (false ∷ rest) (first ∷ others) zero atom has at = absurd (cc)
-chosen-from_Has (true ∷ rest) (first ∷ others) (suc number) atom has at = Contains-rest first (chosen rest others) atom (chosen-from_Has rest others number atom has at)
+chosen-from_Has (true ∷ rest) (first ∷ others) (suc number) atom has at =
+    Contains-rest first (chosen rest others) atom (chosen-from_Has rest others number atom has at)
 chosen-from_Has (false ∷ rest) (first ∷ others) (suc number) atom has at = chosen-from_Has rest others number atom has at
 
-pub Has-from_chosen : (set : List Bool) (atoms : List (Fact Term)) (atom : Fact Term) → Contains (chosen set atoms) atom → (number : ℕ) × Has set number × (slice_get atoms number ≡ Some atom)
+pub Has-from_chosen : (set : List Bool) (atoms : List (Fact Term)) (atom : Fact Term) → Contains (chosen set atoms) atom
+    → (number : ℕ) × Has set number × (slice_get atoms number ≡ Some atom)
 Has-from_chosen [] atoms atom inside = absurd (Contains-nil atom inside)
 Has-from_chosen (is_in ∷ rest) [] atom inside = absurd (Contains-nil atom inside)
 Has-from_chosen (true ∷ rest) (first ∷ others) atom inside = elim (Contains-cases first (chosen rest others) atom inside) [
@@ -57,7 +62,8 @@ rank (is_in ∷ rest) zero = 0
 rank (true ∷ rest) (suc number) = suc (rank rest number)
 rank (false ∷ rest) (suc number) = rank rest number
 
-pub chosen_at-rank : (set : List Bool) (atoms : List (Fact Term)) (number : ℕ) (atom : Fact Term) → Has set number → slice_get atoms number ≡ Some atom → slice_get (chosen set atoms) (rank set number) ≡ Some atom
+pub chosen_at-rank : (set : List Bool) (atoms : List (Fact Term)) (number : ℕ) (atom : Fact Term) → Has set number → slice_get atoms number ≡ Some atom
+    → slice_get (chosen set atoms) (rank set number) ≡ Some atom
 chosen_at-rank [] atoms number atom has at = absurd (cc)
 chosen_at-rank (is_in ∷ rest) [] number atom has at = absurd (cc)
 chosen_at-rank (true ∷ rest) (first ∷ others) zero atom has at = at
@@ -84,5 +90,6 @@ pub number_at-chosen : (set : List Bool) (atoms : List (Fact Term)) (place : ℕ
 number_at-chosen [] atoms place atom at = absurd (cc)
 number_at-chosen (is_in ∷ rest) [] place atom at = absurd (cc)
 number_at-chosen (true ∷ rest) (first ∷ others) zero atom at = (refl, at, refl)
-number_at-chosen (true ∷ rest) (first ∷ others) (suc place) atom at = let found = number_at-chosen rest others place atom at in (found.0, found.1, ap suc found.2)
+number_at-chosen (true ∷ rest) (first ∷ others) (suc place) atom at = let found = number_at-chosen rest others place atom at in
+    (found.0, found.1, ap suc found.2)
 number_at-chosen (false ∷ rest) (first ∷ others) place atom at = number_at-chosen rest others place atom at

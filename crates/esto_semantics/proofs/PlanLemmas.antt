@@ -14,7 +14,8 @@ use Rattle.esto_semantics.specs.declared.fact.Fact.{Fact}
 use Rattle.esto_semantics.specs.declared.fact.Value.{Value}
 use Rattle.esto_semantics.specs.declared.fact.Value.TheVariants.{Text}
 use Rattle.esto_semantics.proofs.AnswerLemmas.{IsAnswerInto-then, IsViewRow-sent}
-use Rattle.esto_semantics.proofs.CanonicalLemmas.{terms_naming, query_terms, canonical_value, canonical_term, canonical_database, Mentions-terms_of, canonical_database-Meets, answer-from_map}
+use Rattle.esto_semantics.proofs.CanonicalLemmas.{terms_naming, query_terms, canonical_value, canonical_term, canonical_database, Mentions-terms_of}
+use Rattle.esto_semantics.proofs.CanonicalLemmas.{canonical_database-Meets, answer-from_map}
 use Rattle.esto_semantics.proofs.FactLemmas.{image_agree, image_then, image_itself}
 use Rattle.esto_semantics.proofs.RenamingLemmas.{answer_back, fact_back, map-thing_of-value_of}
 use Rattle.esto_term.proofs.ListLemmas.{map_agree, map_itself, map_then}
@@ -28,7 +29,8 @@ module _ (views : List ConjunctiveQuery) (end : ConjunctiveQuery) where
     view,
     found,
     answer_back terms_naming (query_terms end) view (Contains end.body) (Contains (canonical_database end)) fact.terms
-        (fact_back terms_naming (query_terms end) end.body (λ term inside. Contains-append_left (terms_of end.body) end.head term (Mentions-terms_of end.body term inside))) answer,
+        (fact_back terms_naming (query_terms end) end.body
+        (λ term inside. Contains-append_left (terms_of end.body) end.head term (Mentions-terms_of end.body term inside))) answer,
   )
 
   rows_answer-from_canonical : (other : ConjunctiveQuery) → IsFragmentAnswer views other (canonical_database end) (map (canonical_value end) end.head)
@@ -36,21 +38,24 @@ module _ (views : List ConjunctiveQuery) (end : ConjunctiveQuery) where
   rows_answer-from_canonical other answer =
       subst (IsAnswerInto Const other (IsTermRow views end.body))
       (map-thing_of-value_of terms_naming (query_terms end) end.head (λ term inside. Contains-append_right (terms_of end.body) end.head term inside))
-      (answer_back terms_naming (query_terms end) other (IsTermRow views end.body) (IsViewRow views (canonical_database end)) (map (canonical_value end) end.head) IsTermRow-from_IsViewRow answer)
+      (answer_back terms_naming (query_terms end) other (IsTermRow views end.body) (IsViewRow views (canonical_database end))
+      (map (canonical_value end) end.head) IsTermRow-from_IsViewRow answer)
 
   -- the query is contained in another over fragments exactly where the end's head is an answer of the other over the rows
   rows_answer-from_contained : (rules : List Rule) (query other : ConjunctiveQuery) → AreRules rules → MapsTo query end → IsFinished rules end
       → IsContained rules (IsAnswer query) (IsFragmentAnswer views other) → IsAnswerInto Const other (IsTermRow views end.body) end.head
   rows_answer-from_contained rules query other are_rules maps finished contained =
       rows_answer-from_canonical other
-      (contained (canonical_database end) (canonical_database-Meets end rules are_rules finished) (map (canonical_value end) end.head) (answer-from_map end query maps))
+      (contained (canonical_database end) (canonical_database-Meets end rules are_rules finished) (map (canonical_value end) end.head)
+      (answer-from_map end query maps))
 
   contained-from_rows_answer : (rules : List Rule) (query other : ConjunctiveQuery) → IsFollowed rules query end
       → IsAnswerInto Const other (IsTermRow views end.body) end.head → IsContained rules (IsAnswer query) (IsFragmentAnswer views other)
   contained-from_rows_answer rules query other followed answer database meets row (m, keeps, sends, is) =
       let after = followed database meets m keeps sends in
       subst (IsFragmentAnswer views other database) (after.3 ∙ sym is)
-      (IsAnswerInto-then Const Text other (IsTermRow views end.body) (IsViewRow views database) after.0 end.head after.1 (IsViewRow-sent views end.body database after.0 after.1 after.2) answer)
+      (IsAnswerInto-then Const Text other (IsTermRow views end.body) (IsViewRow views database) after.0 end.head after.1
+      (IsViewRow-sent views end.body database after.0 after.1 after.2) answer)
 
 -- ---- the renaming
 
@@ -73,13 +78,15 @@ module _ (views : List ConjunctiveQuery) (end plan : ConjunctiveQuery) (is_plan 
 
   map-from_rows_answer : (other : ConjunctiveQuery) → IsAnswerInto Const other (IsTermRow views end.body) end.head → MapsTo other plan
   map-from_rows_answer other answer =
-      let renamed = IsAnswerInto-then Const Const other (IsTermRow views end.body) (Contains plan.body) is_plan.renaming end.head is_plan.keeps is_plan.rows answer in
+      let renamed = IsAnswerInto-then Const Const other (IsTermRow views end.body)
+      (Contains plan.body) is_plan.renaming end.head is_plan.keeps is_plan.rows answer in
       (renamed.0, renamed.1, renamed.2, sym renamed.3 ∙ sym is_plan.head)
 
   rows_answer-from_map : (other : ConjunctiveQuery) → MapsTo other plan → IsAnswerInto Const other (IsTermRow views end.body) end.head
   rows_answer-from_map other (m, keeps, sends, heads) =
       subst (IsAnswerInto Const other (IsTermRow views end.body)) head_back
-      (IsAnswerInto-then Const Const other (Contains plan.body) (IsTermRow views end.body) is_plan.back plan.head is_plan.back_keeps row-from_atom (m, keeps, sends, sym heads))
+      (IsAnswerInto-then Const Const other (Contains plan.body) (IsTermRow views end.body) is_plan.back plan.head is_plan.back_keeps row-from_atom
+      (m, keeps, sends, sym heads))
 
   pub plan_is_universal : (rules : List Rule) (query other : ConjunctiveQuery) → AreRules rules → IsUniversalFor rules query end → IsFinished rules end
       → IsContained rules (IsAnswer query) (IsFragmentAnswer views other) ↔ MapsTo other plan

@@ -1,6 +1,7 @@
 -- Things named by values: each that has a text by that text, and every other by its first place in a list. What facts say of the
 -- things, the facts over the values say of the values.
-use Rattle.std.proofs.Common.{◌≡◌, inl, inr, suc, ℕ, Bool, true, false, cond, List, [], ◌∷◌, map, Contains, slice_index_or, get_or, Some, None, Option, refl, sym, ap, ◌∙◌, subst}
+use Rattle.std.proofs.Common.{◌≡◌, inl, inr, suc, ℕ, Bool, true, false, cond, List, [], ◌∷◌, map, Contains, slice_index_or, get_or, Some, None, Option, refl}
+use Rattle.std.proofs.Common.{sym, ap, ◌∙◌, subst}
 use Rattle.std.specs.Bool.{Decides}
 use Rattle.esto_term.specs.declared.term.Term.{Term}
 use Rattle.esto_term.specs.declared.term.Term.TheVariants.{Const}
@@ -11,7 +12,8 @@ use Rattle.esto_semantics.specs.Rules.{Rule, tuple, equality, denial, IsRule, Me
 use Rattle.esto_semantics.specs.declared.fact.Fact.{Fact}
 use Rattle.esto_semantics.specs.declared.fact.Value.{Value}
 use Rattle.esto_semantics.specs.declared.fact.Value.TheVariants.{Text, Node}
-use Rattle.esto_semantics.proofs.FactLemmas.{image_agree, image_then, image_itself, SendsInto-then, SendsInto-agree, Sends-then, Sends-images, Mentions-images, Mentions-sent}
+use Rattle.esto_semantics.proofs.FactLemmas.{image_agree, image_then, image_itself, SendsInto-then, SendsInto-agree, Sends-then, Sends-images, Mentions-images}
+use Rattle.esto_semantics.proofs.FactLemmas.{Mentions-sent}
 use Rattle.esto_semantics.proofs.TermLemmas.{mended, mended-Keeps, mended-same}
 use Rattle.esto_term.proofs.ListLemmas.{Contains-cases, Contains-map_from, Contains-nil, map_agree, map_itself, map_then}
 
@@ -103,7 +105,8 @@ module _ {V : Type 0} (naming : Naming V) (things : List V) where
       by None told = at_place naming.same naming.decides things it (naming.constant []) inside
 
   pub map-thing_of-value_of : (row : List V) → ((it : V) → Contains row it → Contains things it) → map thing (map value row) ≡ row
-  map-thing_of-value_of row inside = map_then value thing row ∙ map_agree (λ it. thing (value it)) (λ it. it) row (λ it in_row. thing_of-value_of it (inside it in_row)) ∙ map_itself row
+  map-thing_of-value_of row inside = map_then value thing row
+      ∙ map_agree (λ it. thing (value it)) (λ it. it) row (λ it in_row. thing_of-value_of it (inside it in_row)) ∙ map_itself row
 
   -- ---- answers go there, where their constants are kept, and back
 
@@ -113,13 +116,15 @@ module _ {V : Type 0} (naming : Naming V) (things : List V) where
       → IsAnswerInto naming.constant query Holds row → IsAnswerInto Text query Named (map value row)
   answer_there query Holds Named row body_kept head_kept carried (m, keeps, sends, is) =
       let right : (term : Term) → TermIsKept naming term → value (m term) ≡ mended Text (λ it. value (m it)) term = λ term kept.
-      mended-same Text (λ it. value (m it)) term (λ text is_text. ap (λ it. value (m it)) is_text ∙ ap value (keeps text) ∙ value_of-kept text (kept text is_text)) in (
+      mended-same Text (λ it. value (m it)) term
+      (λ text is_text. ap (λ it. value (m it)) is_text ∙ ap value (keeps text) ∙ value_of-kept text (kept text is_text)) in (
         mended Text (λ it. value (m it)),
         mended-Keeps Text (λ it. value (m it)),
         SendsInto-agree (λ it. value (m it)) (mended Text (λ it. value (m it))) query.body Named
             (λ term inside. right term (λ text is_text. body_kept text (subst (Mentions query.body) is_text inside)))
             (SendsInto-then m value query.body Holds Named carried sends),
-        ap (map value) is ∙ map_then m value query.head ∙ map_agree (λ it. value (m it)) (mended Text (λ it. value (m it))) query.head (λ term inside. right term (head_kept term inside)),
+        ap (map value) is ∙ map_then m value query.head
+            ∙ map_agree (λ it. value (m it)) (mended Text (λ it. value (m it))) query.head (λ term inside. right term (head_kept term inside)),
       )
 
   pub answer_back : (query : ConjunctiveQuery) (Holds : Fact V → Type 0) (Named : Fact Value → Type 0) (row : List Value)
@@ -140,7 +145,8 @@ module _ {V : Type 0} (naming : Naming V) (things : List V) where
     fact_back fact inside =
         let found = Contains-map_from (image value) facts fact inside in
         let is : found.0 ≡ image thing fact =
-        sym (image_itself found.0) ∙ sym (image_agree (λ it. thing (value it)) (λ it. it) found.0 (λ it in_fact. thing_of-value_of it (all it (found.0, found.1, in_fact))))
+        sym (image_itself found.0)
+        ∙ sym (image_agree (λ it. thing (value it)) (λ it. it) found.0 (λ it in_fact. thing_of-value_of it (all it (found.0, found.1, in_fact))))
         ∙ sym (image_then value thing found.0) ∙ ap (image thing) found.2 in
         subst (Contains facts) is found.1
 
@@ -168,11 +174,13 @@ module _ {V : Type 0} (naming : Naming V) (things : List V) where
       at_side term kept (inr inside) = at_body term inside
 
     -- the facts there meet each rule that the facts meet
-    pub meets_there : (rule : Rule) → IsRule rule → RuleIsKept naming rule → MeetsInto naming.constant ◌≡◌ (Contains facts) rule → MeetsRule rule (renamed naming things facts)
+    pub meets_there : (rule : Rule) → IsRule rule → RuleIsKept naming rule → MeetsInto naming.constant ◌≡◌ (Contains facts) rule
+        → MeetsRule rule (renamed naming things facts)
     meets_there (tuple body head) shape kept meets = λ m keeps sends.
         let found = meets (λ term. thing (m term)) (back_keeps m keeps body sends) (back_sends m keeps body sends) in
         let there : Term → Value = λ term. value (found.0 term) in
-        let at : (term : Term) → Mentions body term → m term ≡ there term = λ term inside. sym (at_body m keeps body sends term inside) ∙ ap value (found.2 term inside) in (
+        let at : (term : Term) → Mentions body term → m term ≡ there term = λ term inside. sym (at_body m keeps body sends term inside)
+        ∙ ap value (found.2 term inside) in (
           mended Text there,
           mended-Keeps Text there,
           (λ term inside. at term inside ∙ mended-same Text there term (λ text is. sym (at term inside) ∙ ap m is ∙ keeps text)),

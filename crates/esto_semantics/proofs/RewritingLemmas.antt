@@ -1,5 +1,6 @@
 -- Executable queries map onto executable sets of a plan's atoms, and executable rewritings onto sets that are rewritings.
-use Rattle.std.proofs.Common.{◌≡◌, ◌≢◌, ◌↔◌, inl, inr, ℕ, ◌<◌, Bool, true, false, List, [], ◌∷◌, map, length, replicate, slice_get, Contains, Option, Some, None, refl, sym, ap, ◌∙◌, subst}
+use Rattle.std.proofs.Common.{◌≡◌, ◌≢◌, ◌↔◌, inl, inr, ℕ, ◌<◌, Bool, true, false, List, [], ◌∷◌, map, length, replicate, slice_get, Contains, Option, Some}
+use Rattle.std.proofs.Common.{None, refl, sym, ap, ◌∙◌, subst}
 use Rattle.std.proofs.lemmas.List.{get_or-replicate, length-map}
 use Rattle.std.proofs.lemmas.Option.{slice_get_within}
 use Rattle.esto_term.specs.declared.term.Term.{Term}
@@ -30,7 +31,8 @@ module _ (patterns : Patterns) (other plan : ConjunctiveQuery) (m : Term → Ter
   pub place_of : (number : ℕ) → (place : ℕ) × ((atom : Fact Term) → slice_get other.body number ≡ Some atom → slice_get plan.body place ≡ Some (image m atom))
   place_of number = by (slice_get other.body number) refl
     where
-      by : (found : Option (Fact Term)) → slice_get other.body number ≡ found → (place : ℕ) × ((atom : Fact Term) → slice_get other.body number ≡ Some atom → slice_get plan.body place ≡ Some (image m atom))
+      by : (found : Option (Fact Term)) → slice_get other.body number ≡ found
+          → (place : ℕ) × ((atom : Fact Term) → slice_get other.body number ≡ Some atom → slice_get plan.body place ≡ Some (image m atom))
       by (Some atom) told =
           let at = place-from_Contains plan.body (image m atom) (sends atom (Contains-at other.body number atom told)) in
           (at.0, λ same same_told. let is : atom ≡ same = cc in at.1 ∙ ap (λ (it : Fact Term). Some (image m it)) is)
@@ -49,7 +51,8 @@ module _ (patterns : Patterns) (other plan : ConjunctiveQuery) (m : Term → Ter
 
     image_at : (number : ℕ) → Contains order number
         → (atom : Fact Term) × (slice_get other.body number ≡ Some atom) × (slice_get plan.body (place_of number).0 ≡ Some (image m atom))
-    image_at number inside = let at = atom_in_order patterns other.body (replicate (length other.body) true) order is_order number inside in (at.0, at.1, (place_of number).1 at.0 at.1)
+    image_at number inside = let at = atom_in_order patterns other.body (replicate (length other.body) true) order is_order number inside in
+        (at.0, at.1, (place_of number).1 at.0 at.1)
 
     -- the set has exactly these places
     places_are : (number : ℕ) → Contains places number ↔ Has image_set number
@@ -58,7 +61,8 @@ module _ (patterns : Patterns) (other plan : ConjunctiveQuery) (m : Term → Ter
           let from = Contains-map_from (λ it. (place_of it).0) order number inside in
           let at = image_at from.0 from.1 in
           let below : (place_of from.0).0 < length plan.body = slice_get_within plan.body (place_of from.0).0 (image m at.0) at.2 in
-          (passing-Has (has_number places) (length plan.body) number).1 (subst (λ it. it < length plan.body) from.2 below, (has_number-Decides places number).1 inside)),
+          (passing-Has (has_number places) (length plan.body) number).1
+          (subst (λ it. it < length plan.body) from.2 below, (has_number-Decides places number).1 inside)),
       (λ has. (has_number-Decides places number).0 ((passing-Has (has_number places) (length plan.body) number).0 has).1),
     )
 
@@ -84,7 +88,8 @@ module _ (patterns : Patterns) (other plan : ConjunctiveQuery) (m : Term → Ter
     image_set-IsExecutable : IsExecutable patterns plan.body image_set
     image_set-IsExecutable = (
       once_each [] places,
-      IsOrder-moved patterns other.body plan.body (replicate (length other.body) true) m keeps (λ number. (place_of number).0) (λ number atom has at. (place_of number).1 atom at) order is_order
+      IsOrder-moved patterns other.body plan.body (replicate (length other.body) true) m keeps (λ number. (place_of number).0)
+          (λ number atom has at. (place_of number).1 atom at) order is_order
           image_set (length-passing (has_number places) (length plan.body)) places_are,
     )
 

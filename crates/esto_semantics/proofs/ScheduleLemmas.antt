@@ -1,6 +1,7 @@
 -- Orders from lists that may name a number more than once: where each is accessible after the earlier ones, taking each number
 -- once, where it first stands, gives an order.
-use Rattle.std.proofs.Common.{◌≡◌, ◌≢◌, ◌⊎◌, ◌↔◌, inl, inr, zero, suc, ℕ, ◌==◌, Bool, true, false, cond, List, [], ◌∷◌, map, length, get_or, slice_get, Contains, Some, refl, sym, ap, ◌∙◌, subst, arith}
+use Rattle.std.proofs.Common.{◌≡◌, ◌≢◌, ◌⊎◌, ◌↔◌, inl, inr, zero, suc, ℕ, ◌==◌, Bool, true, false, cond, List, [], ◌∷◌, map, length, get_or, slice_get}
+use Rattle.std.proofs.Common.{Contains, Some, refl, sym, ap, ◌∙◌, subst, arith}
 use Rattle.std.specs.Bool.{Decides}
 use Rattle.std.specs.List.{AllPairs}
 use Rattle.std.proofs.lemmas.Bool.Decides.{Decides-eqb}
@@ -26,7 +27,8 @@ pub has_number-Decides : (numbers : List ℕ) (number : ℕ) → Decides (has_nu
 has_number-Decides [] number = ((λ told. absurd (cc)), (λ inside. absurd (Contains-nil number inside)))
 has_number-Decides (first ∷ rest) number = by (has_number-Decides rest number) (first == number) refl
   where
-    by : Decides (has_number rest number) (Contains rest number) → (answer : Bool) → (first == number) ≡ answer → Decides (cond answer true (has_number rest number)) (Contains (first ∷ rest) number)
+    by : Decides (has_number rest number) (Contains rest number) → (answer : Bool) → (first == number) ≡ answer
+        → Decides (cond answer true (has_number rest number)) (Contains (first ∷ rest) number)
     by later true told = ((λ _. subst (Contains (first ∷ rest)) ((Decides-eqb first number).0 told) (Contains-head first rest)), (λ _. refl))
     by later false told = (
       (λ found. Contains-rest first rest number (later.0 found)),
@@ -57,7 +59,8 @@ once_each seen (first ∷ rest) = cond (has_number seen first) (once_each seen r
 
 once_each-from : (seen numbers : List ℕ) (number : ℕ) → Contains (once_each seen numbers) number → Contains numbers number × (Contains seen number → ⊥)
 once_each-from seen [] number inside = absurd (Contains-nil number inside)
-once_each-from seen (first ∷ rest) number inside = by (once_each-from seen rest number) (once_each-from (first ∷ seen) rest number) (has_number seen first) refl inside
+once_each-from seen (first ∷ rest) number inside =
+    by (once_each-from seen rest number) (once_each-from (first ∷ seen) rest number) (has_number seen first) refl inside
   where
     by : (Contains (once_each seen rest) number → Contains rest number × (Contains seen number → ⊥))
         → (Contains (once_each (first ∷ seen) rest) number → Contains rest number × (Contains (first ∷ seen) number → ⊥))
@@ -78,7 +81,8 @@ once_each-has seen (first ∷ rest) number inside = by (once_each-has seen rest 
   where
     by : (Contains rest number → Contains seen number ⊎ Contains (once_each seen rest) number)
         → (Contains rest number → Contains (first ∷ seen) number ⊎ Contains (once_each (first ∷ seen) rest) number)
-        → (answer : Bool) → has_number seen first ≡ answer → Contains seen number ⊎ Contains (cond answer (once_each seen rest) (first ∷ once_each (first ∷ seen) rest)) number
+        → (answer : Bool) → has_number seen first ≡ answer
+        → Contains seen number ⊎ Contains (cond answer (once_each seen rest) (first ∷ once_each (first ∷ seen) rest)) number
     by old new true told = elim (Contains-cases first rest number inside) [
       | inl is ↦ inl (subst (Contains seen) is ((has_number-Decides seen first).0 told))
       | inr later ↦ old later
@@ -102,7 +106,8 @@ once_each-once seen (first ∷ rest) = by (once_each-once seen rest) (once_each-
         → AllPairs {X = ℕ} ◌≢◌ (cond answer (once_each seen rest) (first ∷ once_each (first ∷ seen) rest))
     by old new true = old
     by old new false = AllPairs-cons ◌≢◌ first (once_each (first ∷ seen) rest)
-        (λ k d within is. (once_each-from (first ∷ seen) rest (get_or (once_each (first ∷ seen) rest) k d) (Contains-get_or (once_each (first ∷ seen) rest) k d within)).1
+        (λ k d within is. (once_each-from (first ∷ seen) rest (get_or (once_each (first ∷ seen) rest) k d)
+        (Contains-get_or (once_each (first ∷ seen) rest) k d within)).1
         (subst (Contains (first ∷ seen)) is (Contains-head first seen))) new
 
 -- the number at a place stands in the given list where all earlier numbers have been seen or come earlier
@@ -110,13 +115,17 @@ abbrev StandsSo : List ℕ → List ℕ → List ℕ → ℕ → ℕ → Type 0
 StandsSo seen numbers once place number =
     (at : ℕ) × (slice_get numbers at ≡ Some number) × ((other : ℕ) → IsEarlier numbers at other → Contains seen other ⊎ IsEarlier once place other)
 
-once_each-earlier : (seen numbers : List ℕ) (place number : ℕ) → slice_get (once_each seen numbers) place ≡ Some number → StandsSo seen numbers (once_each seen numbers) place number
+once_each-earlier : (seen numbers : List ℕ) (place number : ℕ) → slice_get (once_each seen numbers) place ≡ Some number
+    → StandsSo seen numbers (once_each seen numbers) place number
 once_each-earlier seen [] place number at = absurd (cc)
-once_each-earlier seen (first ∷ rest) place number at = by (once_each-earlier seen rest) (once_each-earlier (first ∷ seen) rest) (has_number seen first) refl place at
+once_each-earlier seen (first ∷ rest) place number at =
+    by (once_each-earlier seen rest) (once_each-earlier (first ∷ seen) rest) (has_number seen first) refl place at
   where
     by : ((place number : ℕ) → slice_get (once_each seen rest) place ≡ Some number → StandsSo seen rest (once_each seen rest) place number)
-        → ((place number : ℕ) → slice_get (once_each (first ∷ seen) rest) place ≡ Some number → StandsSo (first ∷ seen) rest (once_each (first ∷ seen) rest) place number)
-        → (answer : Bool) → has_number seen first ≡ answer → (place : ℕ) → slice_get (cond answer (once_each seen rest) (first ∷ once_each (first ∷ seen) rest)) place ≡ Some number
+        → ((place number : ℕ) → slice_get (once_each (first ∷ seen) rest) place ≡ Some number
+        → StandsSo (first ∷ seen) rest (once_each (first ∷ seen) rest) place number)
+        → (answer : Bool) → has_number seen first ≡ answer → (place : ℕ)
+        → slice_get (cond answer (once_each seen rest) (first ∷ once_each (first ∷ seen) rest)) place ≡ Some number
         → StandsSo seen (first ∷ rest) (cond answer (once_each seen rest) (first ∷ once_each (first ∷ seen) rest)) place number
     by old new true told place at =
         let found = old place number at in (
@@ -146,7 +155,8 @@ once_each-earlier seen (first ∷ rest) place number at = by (once_each-earlier 
 
 -- ---- orders
 
-IsAccessible-more : (patterns : Patterns) (atoms : List (Fact Term)) (Chosen More : ℕ → Type 0) (atom : Fact Term) → ((number : ℕ) → Chosen number → More number)
+IsAccessible-more : (patterns : Patterns) (atoms : List (Fact Term)) (Chosen More : ℕ → Type 0) (atom : Fact Term)
+    → ((number : ℕ) → Chosen number → More number)
     → IsAccessible patterns atoms Chosen atom → IsAccessible patterns atoms More atom
 IsAccessible-more patterns atoms Chosen More atom more (pattern, has_pattern, meets) = (
   pattern,
@@ -159,7 +169,8 @@ IsAccessible-more patterns atoms Chosen More atom more (pattern, has_pattern, me
 
 IsOrder-from_schedule : (patterns : Patterns) (atoms : List (Fact Term)) (set : List Bool) (numbers : List ℕ) → length set ≡ length atoms
     → ((number : ℕ) → Contains numbers number ↔ Has set number)
-    → ((place number : ℕ) (atom : Fact Term) → slice_get numbers place ≡ Some number → slice_get atoms number ≡ Some atom → IsAccessible patterns atoms (IsEarlier numbers place) atom)
+    → ((place number : ℕ) (atom : Fact Term) → slice_get numbers place ≡ Some number → slice_get atoms number ≡ Some atom
+    → IsAccessible patterns atoms (IsEarlier numbers place) atom)
     → IsOrder patterns atoms set (once_each [] numbers)
 IsOrder-from_schedule patterns atoms set numbers over names accessible = record {
   over = over;
@@ -187,7 +198,8 @@ IsOrder-from_schedule patterns atoms set numbers over names accessible = record 
 
 module _ (patterns : Patterns) (atoms : List (Fact Term)) (set : List Bool) where
   -- a number of an order is that of an atom
-  pub atom_in_order : (order : List ℕ) → IsOrder patterns atoms set order → (number : ℕ) → Contains order number → (atom : Fact Term) × (slice_get atoms number ≡ Some atom)
+  pub atom_in_order : (order : List ℕ) → IsOrder patterns atoms set order → (number : ℕ) → Contains order number
+      → (atom : Fact Term) × (slice_get atoms number ≡ Some atom)
   atom_in_order order is_order number inside =
       let below = Has-within set number ((is_order.names number).0 inside) in
       let over : length set ≡ length atoms = is_order.over in
@@ -197,12 +209,17 @@ module _ (patterns : Patterns) (atoms others : List (Fact Term)) (set : List Boo
     (moves : (number : ℕ) (atom : Fact Term) → Has set number → slice_get atoms number ≡ Some atom → slice_get others (place_of number) ≡ Some (image m atom))
     (order : List ℕ) (is_order : IsOrder patterns atoms set order) where
   -- what is bound in the order is bound at the places that its numbers move to
-  bound_moved : (place : ℕ) (term goes : Term) → m term ≡ goes → IsBound atoms (IsEarlier order place) term → IsBound others (IsEarlier (map place_of order) place) goes
+  bound_moved : (place : ℕ) (term goes : Term) → m term ≡ goes → IsBound atoms (IsEarlier order place) term
+      → IsBound others (IsEarlier (map place_of order) place) goes
   bound_moved place term goes there (inl (text, is)) = inl (text, sym there ∙ ap m is ∙ keeps text)
   bound_moved place term goes there (inr (number, (earlier, below, at), (atom, at_atom, occurs))) = inr (
     place_of number,
     (earlier, below, map_at place_of order earlier number at),
-    (image m atom, moves number atom ((is_order.names number).0 (Contains-at order earlier number at)) at_atom, subst (Contains (map m atom.terms)) there (Contains-map m atom.terms term occurs)),
+    (
+      image m atom,
+      moves number atom ((is_order.names number).0 (Contains-at order earlier number at)) at_atom,
+      subst (Contains (map m atom.terms)) there (Contains-map m atom.terms term occurs),
+    ),
   )
 
   accessible_moved : (place number : ℕ) (atom : Fact Term) → slice_get (map place_of order) place ≡ Some number → slice_get others number ≡ Some atom

@@ -1,5 +1,6 @@
 -- Sets, their order, and the minimal sets of a family.
-use Rattle.std.proofs.Common.{◌≡◌, ◌≢◌, ℕ, zero, suc, ◌+◌, ◌<◌, Bool, true, false, List, [], ◌∷◌, map, length, get_or, refl, sym, ap, ◌∙◌, subst, arith, inl, inr}
+use Rattle.std.proofs.Common.{◌≡◌, ◌≢◌, ℕ, zero, suc, ◌+◌, ◌<◌, Bool, true, false, List, [], ◌∷◌, map, length, get_or, refl, sym, ap, ◌∙◌, subst, arith, inl}
+use Rattle.std.proofs.Common.{inr}
 use Rattle.std.specs.Prelude.{◌⊎◌, ◌↔◌, Contains, AllPairs}
 use Rattle.std.specs.Cmp.{IsTotalOrder}
 use Rattle.std.specs.Ordering.{ordering_then, nat_cmp}
@@ -11,8 +12,10 @@ use Rattle.std.proofs.lemmas.List.{get_or_default}
 use Rattle.std.proofs.lemmas.List.Elements.{Contains-append_left, Contains-append_right, Contains-append_cases}
 use Rattle.std.proofs.lemmas.Map.Lookups.{exact_bytes}
 use Rattle.esto_semantics.specs.Sets.{Has, Within, numbers_from, numbers, set_cmp, IsMinimal, united, HaveOneCount, AreInOrder, all_sets}
-use Rattle.esto_semantics.specs.SetLaws.{EqualIsSame, NumbersTellSets, WithinBothWays, OrderIsOne, AllSetsAreListed, MinimalAreApart, MinimalCover, MinimalExist, MinimalAreOne}
-use Rattle.esto_term.proofs.ChoiceLemmas.{Decided, decided_below, decided_both, decided_not, in_order, kept, not_less_itself, one_list, pairs_append, pairs_cons, pairs_map}
+use Rattle.esto_semantics.specs.SetLaws.{EqualIsSame, NumbersTellSets, WithinBothWays, OrderIsOne, AllSetsAreListed, MinimalAreApart, MinimalCover}
+use Rattle.esto_semantics.specs.SetLaws.{MinimalExist, MinimalAreOne}
+use Rattle.esto_term.proofs.ChoiceLemmas.{Decided, decided_below, decided_both, decided_not, in_order, kept, not_less_itself, one_list, pairs_append}
+use Rattle.esto_term.proofs.ChoiceLemmas.{pairs_cons, pairs_map}
 use Rattle.esto_term.proofs.ListLemmas.{Contains-cases, Contains-head, Contains-map, Contains-map_from, Contains-nil, Contains-rest}
 
 -- ---- numbers of a set
@@ -142,7 +145,8 @@ sets_have zero [] e = Contains-head [] []
 sets_have zero (x ∷ set) e = absurd (omega (arith, e))
 sets_have (suc count) [] e = absurd (omega (arith, e))
 sets_have (suc count) (true ∷ set) e = Contains-append_left _ _ _ (Contains-map (λ zs. true ∷ zs) (all_sets count) set (sets_have count set (omega (arith, e))))
-sets_have (suc count) (false ∷ set) e = Contains-append_right _ _ _ (Contains-map (λ zs. false ∷ zs) (all_sets count) set (sets_have count set (omega (arith, e))))
+sets_have (suc count) (false ∷ set) e =
+    Contains-append_right _ _ _ (Contains-map (λ zs. false ∷ zs) (all_sets count) set (sets_have count set (omega (arith, e))))
 
 pub sets_count : (count : ℕ) (set : List Bool) → Contains (all_sets count) set → length set ≡ count
 sets_count zero set h = elim (Contains-cases [] [] set h) [ inl e ↦ sym (ap length e) | inr none ↦ absurd (Contains-nil set none) ]
@@ -176,7 +180,8 @@ all_sets_are_listed count = (λ set. (sets_count count set, sets_have count set)
 
 pub decided_minimal : (family : List (List Bool)) → HaveOneCount family → (set : List Bool) → Contains family set → Decided (IsMinimal (Contains family) set)
 decided_minimal family counted set there =
-    elim (decided_below Smaller (length family) (λ k l. decided_both (decided_within (get_or family k []) set) (decided_not (decided_within set (get_or family k []))))) [
+    elim (decided_below Smaller (length family)
+    (λ k l. decided_both (decided_within (get_or family k []) set) (decided_not (decided_within set (get_or family k []))))) [
       | inl found ↦ inr (λ is_minimal. found.2.1 (
           let at : List Bool = get_or family found.0 [] in
           let e : at ≡ set = is_minimal.1 at (found.0, found.1, get_or_default family found.0 at [] found.1) found.2.0 in
@@ -205,7 +210,8 @@ lowest : (sets : List (List Bool)) (start : List Bool) → (low : List Bool) × 
 lowest [] start = (start, record { within = within_refl start; there = Contains-head start []; least = λ set h. absurd (Contains-nil set h) })
 lowest (set ∷ sets) start = go (decided_within set start) (lowest sets set) (lowest sets start)
   where
-    go : Decided (Within set start) → ((low : List Bool) × IsLow sets set low) → ((low : List Bool) × IsLow sets start low) → (low : List Bool) × IsLow (set ∷ sets) start low
+    go : Decided (Within set start) → ((low : List Bool) × IsLow sets set low) → ((low : List Bool) × IsLow sets start low)
+        → (low : List Bool) × IsLow (set ∷ sets) start low
     go (inl w) rest other = (
       rest.0,
       record {
@@ -230,15 +236,17 @@ lowest (set ∷ sets) start = go (decided_within set start) (lowest sets set) (l
     )
 
 -- each set of the family has a minimal one within it
-pub minimal_within : (family : List (List Bool)) → HaveOneCount family → (set : List Bool) → Contains family set → (low : List Bool) × IsMinimal (Contains family) low × Within low set
+pub minimal_within : (family : List (List Bool)) → HaveOneCount family → (set : List Bool) → Contains family set
+    → (low : List Bool) × IsMinimal (Contains family) low × Within low set
 minimal_within family counted set there =
     let found = lowest family set in
-    let in_family : Contains family found.0 = elim (Contains-cases set family found.0 (found.1).there) [ inl e ↦ subst (Contains family) e there | inr h ↦ h ] in
+    let in_family : Contains family found.0 =
+    elim (Contains-cases set family found.0 (found.1).there) [ inl e ↦ subst (Contains family) e there | inr h ↦ h ] in
     (found.0, (in_family, λ other h w. within_same other found.0 (counted other found.0 h in_family) w ((found.1).least other h w)), (found.1).within)
 
 pub minimal_cover : MinimalCover
-minimal_cover family minimal counted are set there =
-    let found = minimal_within family counted set there in
+minimal_cover family minimal are set there =
+    let found = minimal_within family are.counted set there in
     (found.0, (are.exact found.0).1 found.1, found.2)
 
 pub minimal_are_apart : MinimalAreApart
@@ -250,9 +258,11 @@ minimal_are_one family minimal others are are' set = (λ h. (are'.exact set).1 (
 pub minimal_exist : MinimalExist
 minimal_exist family counted =
     let some = kept (IsMinimal (Contains family)) family (decided_minimal family counted) in
-    let ordered = in_order set_cmp set_cmp_total some.0 (λ set other h k. equal_sets set other (counted set other ((some.1 set).0 h).0 ((some.1 other).0 k).0)) in (
+    let ordered = in_order set_cmp set_cmp_total some.0
+    (λ set other h k. equal_sets set other (counted set other ((some.1 set).0 h).0 ((some.1 other).0 k).0)) in (
       ordered.0,
       record {
+        counted = counted;
         exact = λ set. (λ h. ((some.1 set).0 ((ordered.1 set).0 h)).1, λ is_minimal. (ordered.1 set).1 ((some.1 set).1 (is_minimal.0, is_minimal)));
         once = in_order_once ordered.0 ordered.2;
       },

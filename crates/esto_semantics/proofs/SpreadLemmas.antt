@@ -1,6 +1,7 @@
 -- An expansion of a query over fragments that fits the views: each inner term of a view goes to a variable of its own, above all
 -- variables of the query.
-use Rattle.std.proofs.Common.{◌≡◌, ◌≢◌, inl, inr, zero, suc, ℕ, ◌<◌, ◌≤◌, ◌+◌, Bool, true, false, cond, List, [], ◌∷◌, ◌++◌, map, length, slice_get, Contains, Option, Some, None, refl, sym, ap, ◌∙◌, subst, arith}
+use Rattle.std.proofs.Common.{◌≡◌, ◌≢◌, inl, inr, zero, suc, ℕ, ◌<◌, ◌≤◌, ◌+◌, Bool, true, false, cond, List, [], ◌∷◌, ◌++◌, map, length, slice_get, Contains}
+use Rattle.std.proofs.Common.{Option, Some, None, refl, sym, ap, ◌∙◌, subst, arith}
 use Rattle.std.specs.List.{AllPairs}
 use Rattle.std.proofs.lemmas.Bool.{cases_order}
 use Rattle.std.proofs.lemmas.List.Elements.{Contains-append_cases, Contains-append_left, Contains-append_right}
@@ -84,12 +85,14 @@ module _ (base : ℕ) (terms : ℕ → List Term) where
       let rises = start-rises number other less in
       omega arith
 
-  code-same : (number other : ℕ) (term other_term : Term) → Contains (terms number) term → Contains (terms other) other_term → code number term ≡ code other other_term → (number ≡ other) × (term ≡ other_term)
+  code-same : (number other : ℕ) (term other_term : Term) → Contains (terms number) term → Contains (terms other) other_term
+      → code number term ≡ code other other_term → (number ≡ other) × (term ≡ other_term)
   code-same number other term other_term inside other_inside same = elim (cases_order number other) [
     | inl is ↦
         let start_same : start number ≡ start other = ap start is in
         let places : place_in (terms number) term ≡ place_in (terms other) other_term = omega arith in
-        let found : ◌≡◌ {A = Option Term} (slice_get (terms number) (place_in (terms number) term)) (slice_get (terms other) (place_in (terms other) other_term)) =
+        let found : ◌≡◌ {A = Option Term} (slice_get (terms number) (place_in (terms number) term))
+        (slice_get (terms other) (place_in (terms other) other_term)) =
         λ i. slice_get (terms (is i)) (places i) in
         let both : Some term ≡ Some other_term = sym (place_in-at (terms number) term inside) ∙ found ∙ place_in-at (terms other) other_term other_inside in
         (is, cc)
@@ -120,7 +123,8 @@ head_or-outside (first ∷ rest) (goes ∷ others) term otherwise outside =
     cond_apart first term goes (head_or rest others term otherwise) (λ is. outside (subst (Contains (first ∷ rest)) is (Contains-head first rest)))
     ∙ head_or-outside rest others term otherwise (λ inside. outside (Contains-rest first rest term inside))
 
-head_or-map : (head row : List Term) (otherwise : Term → Term) → AllPairs {X = Term} ◌≢◌ head → length head ≡ length row → map (λ term. head_or head row term (otherwise term)) head ≡ row
+head_or-map : (head row : List Term) (otherwise : Term → Term) → AllPairs {X = Term} ◌≢◌ head → length head ≡ length row
+    → map (λ term. head_or head row term (otherwise term)) head ≡ row
 head_or-map [] [] otherwise distinct lengths = refl
 head_or-map [] (goes ∷ others) otherwise distinct lengths = absurd (omega arith)
 head_or-map (first ∷ rest) [] otherwise distinct lengths = absurd (omega arith)
@@ -153,7 +157,8 @@ module _ (views : List ConjunctiveQuery) (query : ConjunctiveQuery) (fits : Fits
   fragment : (number : ℕ) → (view : ConjunctiveQuery) × ((atom : Fact Term) → slice_get query.body number ≡ Some atom → IsFragmentOf atom view)
   fragment number = by (slice_get query.body number) refl
     where
-      by : (found : Option (Fact Term)) → slice_get query.body number ≡ found → (view : ConjunctiveQuery) × ((atom : Fact Term) → slice_get query.body number ≡ Some atom → IsFragmentOf atom view)
+      by : (found : Option (Fact Term)) → slice_get query.body number ≡ found
+          → (view : ConjunctiveQuery) × ((atom : Fact Term) → slice_get query.body number ≡ Some atom → IsFragmentOf atom view)
       by (Some atom) told =
           let found = fits atom (Contains-at query.body number atom told) in
           (found.0, λ same at. let is : atom ≡ same = cc in subst (λ it. IsFragmentOf it found.0) is (found.1, found.2))
@@ -180,9 +185,12 @@ module _ (views : List ConjunctiveQuery) (query : ConjunctiveQuery) (fits : Fits
   spread-head number atom at =
       let is_view = ((fragment number).1 atom at).1 in
       let row : terms_of_row (slice_get query.body number) ≡ atom.terms = ap terms_of_row at in
-      map_agree (spread number) (λ term. head_or (view number).head (terms_of_row (slice_get query.body number)) term (Plain (code base terms number term))) (view number).head
-      (λ term inside. ap (spread_step number term) (no_text term (λ (text, is). let plain = is_view.variables term inside in Const-apart-Plain text plain.0 (sym is ∙ plain.1))))
-      ∙ head_or-map (view number).head (terms_of_row (slice_get query.body number)) (λ term. Plain (code base terms number term)) is_view.distinct (is_view.same_length ∙ ap length (sym row))
+      map_agree (spread number) (λ term. head_or (view number).head (terms_of_row (slice_get query.body number)) term (Plain (code base terms number term)))
+      (view number).head
+      (λ term inside. ap (spread_step number term)
+      (no_text term (λ (text, is). let plain = is_view.variables term inside in Const-apart-Plain text plain.0 (sym is ∙ plain.1))))
+      ∙ head_or-map (view number).head (terms_of_row (slice_get query.body number)) (λ term. Plain (code base terms number term)) is_view.distinct
+      (is_view.same_length ∙ ap length (sym row))
       ∙ row
 
   spread-inner : (number : ℕ) (term : Term) → IsInner (view number) term → spread number term ≡ Plain (code base terms number term)
@@ -191,8 +199,11 @@ module _ (views : List ConjunctiveQuery) (query : ConjunctiveQuery) (fits : Fits
       ∙ head_or-outside (view number).head (terms_of_row (slice_get query.body number)) term (Plain (code base terms number term)) inner.not_in_head
 
   of_query-below : (number : ℕ) → IsOfQuery query (Plain number) → number < base
-  of_query-below number (inl mentioned) = above_all-Contains (query_terms query) number (Contains-append_left (terms_of query.body) query.head (Plain number) (Mentions-terms_of query.body (Plain number) mentioned))
-  of_query-below number (inr in_head) = above_all-Contains (query_terms query) number (Contains-append_right (terms_of query.body) query.head (Plain number) in_head)
+  of_query-below number (inl mentioned) =
+      above_all-Contains (query_terms query) number
+      (Contains-append_left (terms_of query.body) query.head (Plain number) (Mentions-terms_of query.body (Plain number) mentioned))
+  of_query-below number (inr in_head) =
+      above_all-Contains (query_terms query) number (Contains-append_right (terms_of query.body) query.head (Plain number) in_head)
 
   spread-outside : (number : ℕ) (term : Term) → IsInner (view number) term → IsOfQuery query (spread number term) → ⊥
   spread-outside number term inner of_query =
@@ -200,11 +211,14 @@ module _ (views : List ConjunctiveQuery) (query : ConjunctiveQuery) (fits : Fits
       let above = start-above base terms number in
       omega arith
 
-  spread-apart : (number other : ℕ) (term other_term : Term) → IsInner (view number) term → IsInner (view other) other_term → spread number term ≡ spread other other_term
+  spread-apart : (number other : ℕ) (term other_term : Term) → IsInner (view number) term → IsInner (view other) other_term
+      → spread number term ≡ spread other other_term
       → (number ≡ other) × (term ≡ other_term)
   spread-apart number other term other_term inner other_inner same =
-      code-same base terms number other term other_term (Mentions-terms_of (view number).body term inner.in_body) (Mentions-terms_of (view other).body other_term other_inner.in_body)
-      (Plain-same (code base terms number term) (code base terms other other_term) (sym (spread-inner number term inner) ∙ same ∙ spread-inner other other_term other_inner))
+      code-same base terms number other term other_term (Mentions-terms_of (view number).body term inner.in_body)
+      (Mentions-terms_of (view other).body other_term other_inner.in_body)
+      (Plain-same (code base terms number term) (code base terms other other_term)
+      (sym (spread-inner number term inner) ∙ same ∙ spread-inner other other_term other_inner))
 
   abbrev facts_below : ℕ → List (Fact Term)
   facts_below zero = []
@@ -226,7 +240,8 @@ module _ (views : List ConjunctiveQuery) (query : ConjunctiveQuery) (fits : Fits
     | inl last ↦ Contains-append_right (facts_below count) (map (image (spread count)) (view count).body) fact
         (subst (λ it. Contains (map (image (spread it)) (view it).body) fact) last
         (subst (Contains (map (image (spread number)) (view number).body)) is (Contains-map (image (spread number)) (view number).body part inside)))
-    | inr earlier ↦ Contains-append_left (facts_below count) (map (image (spread count)) (view count).body) fact (facts_below-has count fact (number, earlier, (part, inside, is)))
+    | inr earlier ↦ Contains-append_left (facts_below count) (map (image (spread count)) (view count).body) fact
+        (facts_below-has count fact (number, earlier, (part, inside, is)))
   ]
 
   pub an_expansion : (expansion : List (Fact Term)) × IsExpansion views query expansion

@@ -8,7 +8,8 @@ use Rattle.esto_semantics.specs.Maps.{IsFixedBy, Keeps, Sends}
 use Rattle.esto_semantics.specs.PlanOf.{IsTermRow}
 use Rattle.esto_semantics.specs.Queries.{ConjunctiveQuery, IsQuery, IsAnswerInto}
 use Rattle.esto_semantics.specs.Rules.{Rule, tuple, equality, denial, IsRule, MeetsInto, MeetsRule}
-use Rattle.esto_semantics.specs.Standing.{Stands, RowsStand, AreQueries, StandingExists, RulesStand, FinishedStands, AnswersStand, ViewRowsStand, FragmentAnswersStand}
+use Rattle.esto_semantics.specs.Standing.{Stands, RowsStand, AreQueries, StandingExists, RulesStand, FinishedStands, AnswersStand, ViewRowsStand}
+use Rattle.esto_semantics.specs.Standing.{FragmentAnswersStand}
 use Rattle.esto_semantics.specs.Views.{IsViewRow}
 use Rattle.esto_semantics.specs.declared.fact.Fact.{Fact}
 use Rattle.esto_semantics.specs.declared.fact.Value.{Value}
@@ -16,7 +17,8 @@ use Rattle.esto_semantics.specs.declared.fact.Value.TheVariants.{Text, Node}
 use Rattle.esto_semantics.proofs.AnswerLemmas.{IsAnswerInto-then}
 use Rattle.esto_semantics.proofs.CanonicalLemmas.{Mentions-terms_of, canonical_value, canonical_database, canonical-AreValuesOf}
 use Rattle.esto_semantics.proofs.FactLemmas.{image_agree, image_then, image_itself, SendsInto-then, Mentions-images, Mentions-sent}
-use Rattle.esto_term.proofs.ListLemmas.{Contains-at, Contains-cases, Contains-flat_from, Contains-head, Contains-map, Contains-map_from, Contains-nil, Contains-rest, agree-from_map, map_agree, map_itself, map_then}
+use Rattle.esto_term.proofs.ListLemmas.{Contains-at, Contains-cases, Contains-flat_from, Contains-head, Contains-map, Contains-map_from, Contains-nil}
+use Rattle.esto_term.proofs.ListLemmas.{Contains-rest, agree-from_map, map_agree, map_itself, map_then}
 
 -- ---- a term by its value
 
@@ -158,7 +160,8 @@ module _ (facts : List (Fact Term)) (value : Term → Value) (database : Databas
     fixed : (fact : Fact Term) → Holds fact → (term : Term) → Contains fact.terms term → IsFixedBy facts term
     own : (fact : Fact Value) → Named fact → (it : Value) → Contains fact.terms it → value (thing it) ≡ it
 
-  module _ (query : ConjunctiveQuery) (is_query : IsQuery query) (Holds : Fact Term → Type 0) (Named : Fact Value → Type 0) (alike : HoldAlike Holds Named) where
+  module _ (query : ConjunctiveQuery) (is_query : IsQuery query) (Holds : Fact Term → Type 0) (Named : Fact Value → Type 0)
+      (alike : HoldAlike Holds Named) where
     row_fixed : (row : List Term) → IsAnswerInto Const query Holds row → (term : Term) → Contains row term → IsFixedBy facts term
     row_fixed row (m, keeps, sends, is) term inside =
         let from = Contains-map_from m query.head term (subst (λ it. Contains it term) is inside) in
@@ -202,20 +205,24 @@ module _ (facts : List (Fact Term)) (value : Term → Value) (database : Databas
   module _ (views : List ConjunctiveQuery) (are_queries : AreQueries views) where
     view_stands : (fragment : ℕ) (view : ConjunctiveQuery) → slice_get views fragment ≡ Some view
         → RowsStand value (IsAnswerInto Const view (Contains facts)) (IsAnswerInto Text view (Contains database))
-    view_stands fragment view found = rows_stand view (are_queries view (Contains-at views fragment view found)) (Contains facts) (Contains database) facts_alike
+    view_stands fragment view found =
+        rows_stand view (are_queries view (Contains-at views fragment view found)) (Contains facts) (Contains database) facts_alike
 
     views_alike : HoldAlike (IsTermRow views facts) (IsViewRow views database)
     views_alike = record {
       there = λ fact (view, found, answer). (view, found, (view_stands fact.relation view found).there fact.terms answer);
-      back = λ fact (view, found, answer). (view, found, IsAnswerInto-then Text Const view (Contains database) (Contains facts) thing fact.terms (λ text. refl) fact_back answer);
-      fixed = λ fact (view, found, answer). row_fixed view (are_queries view (Contains-at views fact.relation view found)) (Contains facts) (Contains database) facts_alike fact.terms answer;
+      back = λ fact (view, found, answer).
+          (view, found, IsAnswerInto-then Text Const view (Contains database) (Contains facts) thing fact.terms (λ text. refl) fact_back answer);
+      fixed = λ fact (view, found, answer). row_fixed view (are_queries view (Contains-at views fact.relation view found)) (Contains facts)
+          (Contains database) facts_alike fact.terms answer;
       own = λ fact (view, found, answer) it inside.
           let is_query = are_queries view (Contains-at views fact.relation view found) in
           agree_at fact.terms (row_own view is_query (Contains facts) (Contains database) facts_alike fact.terms answer) it inside;
     }
       where
         agree_at : (row : List Value) → map value (map thing row) ≡ row → (it : Value) → Contains row it → value (thing it) ≡ it
-        agree_at row same it inside = agree-from_map (λ x. value (thing x)) (λ x. x) row it (sym (map_then thing value row) ∙ same ∙ sym (map_itself row)) inside
+        agree_at row same it inside =
+            agree-from_map (λ x. value (thing x)) (λ x. x) row it (sym (map_then thing value row) ∙ same ∙ sym (map_itself row)) inside
 
     term_rows_apart : (fragment : ℕ) (row other : List Term) → IsTermRow views facts (record { relation = fragment; terms = row })
         → IsTermRow views facts (record { relation = fragment; terms = other }) → map value row ≡ map value other → row ≡ other
@@ -251,7 +258,8 @@ view_rows_are_standing facts value database views fragment stands are_queries = 
 
 pub fragment_answers_stand : FragmentAnswersStand
 fragment_answers_stand facts value database views query stands are_queries is_query =
-    rows_stand facts value database stands query is_query (IsTermRow views facts) (IsViewRow views database) (views_alike facts value database stands views are_queries)
+    rows_stand facts value database stands query is_query (IsTermRow views facts) (IsViewRow views database)
+    (views_alike facts value database stands views are_queries)
 
 -- ---- a database that stands for facts
 

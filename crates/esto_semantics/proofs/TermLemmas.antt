@@ -11,7 +11,8 @@ use Rattle.esto_semantics.specs.Maps.{IsFlat, Keeps}
 -- ---- the kinds of a term
 
 -- what holds of each kind of term holds of every term
-pub term_cases : (P : Term → Type 0) → ((text : List ℕ) → P (Const text)) → ((number : ℕ) → P (Plain number)) → ((rule variable : ℕ) (frontier : List Term) → P (Made rule variable frontier)) → (term : Term) → P term
+pub term_cases : (P : Term → Type 0) → ((text : List ℕ) → P (Const text)) → ((number : ℕ) → P (Plain number))
+    → ((rule variable : ℕ) (frontier : List Term) → P (Made rule variable frontier)) → (term : Term) → P term
 term_cases P constant plain made term = subst P (roll-out-Term term) (by (out-Term term))
   where
     by : (level : Term-F Term) → P (roll-Term level)
@@ -39,12 +40,15 @@ flat-apart-Made term rule variable frontier flat is = elim flat [
 -- ---- equal terms have equal parts
 
 pub Const-same : (text other : List ℕ) → Const text ≡ Const other → text ≡ other
-Const-same text other is = let levels : ◌≡◌ {A = Term-F Term} (Term-F.Const text) (Term-F.Const other) = sym (outs-Const text) ∙ ap out-Term is ∙ outs-Const other in cc
+Const-same text other is = let levels : ◌≡◌ {A = Term-F Term} (Term-F.Const text) (Term-F.Const other) = sym (outs-Const text) ∙ ap out-Term is
+    ∙ outs-Const other in cc
 
 pub Plain-same : (number other : ℕ) → Plain number ≡ Plain other → number ≡ other
-Plain-same number other is = let levels : ◌≡◌ {A = Term-F Term} (Term-F.Plain number) (Term-F.Plain other) = sym (outs-Plain number) ∙ ap out-Term is ∙ outs-Plain other in cc
+Plain-same number other is = let levels : ◌≡◌ {A = Term-F Term} (Term-F.Plain number) (Term-F.Plain other) = sym (outs-Plain number) ∙ ap out-Term is
+    ∙ outs-Plain other in cc
 
-pub Made-same : (rule variable : ℕ) (frontier : List Term) (other_rule other_variable : ℕ) (other_frontier : List Term) → Made rule variable frontier ≡ Made other_rule other_variable other_frontier
+pub Made-same : (rule variable : ℕ) (frontier : List Term) (other_rule other_variable : ℕ) (other_frontier : List Term)
+    → Made rule variable frontier ≡ Made other_rule other_variable other_frontier
     → (rule ≡ other_rule) × (variable ≡ other_variable) × (frontier ≡ other_frontier)
 Made-same rule variable frontier other_rule other_variable other_frontier is =
     let levels : Term-F.Made rule variable frontier ≡ Term-F.Made other_rule other_variable other_frontier =
@@ -94,7 +98,8 @@ module _ {V : Type 0} where
   mended-Keeps constant m text = ap (mended_step constant (m (Const text))) (constant_text-Const text)
 
   -- where the map is right already
-  pub mended-same : (constant : List ℕ → V) (m : Term → V) (term : Term) → ((text : List ℕ) → term ≡ Const text → m term ≡ constant text) → m term ≡ mended constant m term
+  pub mended-same : (constant : List ℕ → V) (m : Term → V) (term : Term) → ((text : List ℕ) → term ≡ Const text → m term ≡ constant text)
+      → m term ≡ mended constant m term
   mended-same constant m term right = by (constant_text term) refl
     where
       by : (found : Option (List ℕ)) → constant_text term ≡ found → m term ≡ mended_step constant (m term) found

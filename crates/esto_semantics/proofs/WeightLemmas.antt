@@ -14,14 +14,17 @@ use Rattle.esto_term.proofs.DistinctLemmas.{distinct_head, distinct_rest, split}
 
 module _ {X : Type 0} where
   module _ (weight : X → ℕ) (g : X → X) (kept : (thing : X) → weight (g thing) ≡ weight thing) where
-    weighs_no_more : (things others : List X) → AllPairs {X = X} ◌≢◌ things → ((thing : X) → Contains things thing → (other : X) × Contains others other × (g other ≡ thing))
+    weighs_no_more : (things others : List X) → AllPairs {X = X} ◌≢◌ things
+        → ((thing : X) → Contains things thing → (other : X) × Contains others other × (g other ≡ thing))
         → sum_by weight things ≤ sum_by weight others
     weighs_no_more [] others distinct from = omega arith
     weighs_no_more (first ∷ rest) others distinct from =
         let source = from first (Contains-head first rest) in
         let parts = split others source.0 source.1 in
-        let further = weighs_no_more rest (parts.0 ++ parts.1) (distinct_rest first rest distinct) (λ thing inside. left_over thing inside source.0 source.2 parts.0 parts.1 parts.2) in
-        let total : sum_by weight others ≡ sum_by weight parts.0 + sum_by weight (source.0 ∷ parts.1) = ap (sum_by weight) parts.2 ∙ sum_by-append weight parts.0 (source.0 ∷ parts.1) in
+        let further = weighs_no_more rest (parts.0 ++ parts.1) (distinct_rest first rest distinct)
+        (λ thing inside. left_over thing inside source.0 source.2 parts.0 parts.1 parts.2) in
+        let total : sum_by weight others ≡ sum_by weight parts.0 + sum_by weight (source.0 ∷ parts.1) = ap (sum_by weight) parts.2
+        ∙ sum_by-append weight parts.0 (source.0 ∷ parts.1) in
         let one : sum_by weight (source.0 ∷ parts.1) ≡ weight source.0 + sum_by weight parts.1 = sum_by-cons weight source.0 parts.1 in
         let both : sum_by weight (parts.0 ++ parts.1) ≡ sum_by weight parts.0 + sum_by weight parts.1 = sum_by-append weight parts.0 parts.1 in
         let own : sum_by weight (first ∷ rest) ≡ weight first + sum_by weight rest = sum_by-cons weight first rest in

@@ -1,6 +1,7 @@
 -- A database without the facts that aren't over a schema, and with each text that isn't UTF-8 renamed to an unnamed value, meets the
 -- same rules and gives the same answers.
-use Rattle.std.proofs.Common.{◌≡◌, ◌↔◌, ◌==◌, ℕ, Bool, true, false, Option, Some, None, List, ◌++◌, length, map, Contains, slice_get, IsUtf8, refl, sym, ap, ◌∙◌, subst}
+use Rattle.std.proofs.Common.{◌≡◌, ◌↔◌, ◌==◌, ℕ, Bool, true, false, Option, Some, None, List, ◌++◌, length, map, Contains, slice_get, IsUtf8, refl, sym, ap}
+use Rattle.std.proofs.Common.{◌∙◌, subst}
 use Rattle.std.specs.Bool.{Decides}
 use Rattle.std.specs.List.{flat_map}
 use Rattle.std.specs.Str.{bytes_eq, is_utf8}
@@ -15,7 +16,8 @@ use Rattle.esto_semantics.specs.Containment.{IsContained, IsSatisfiable}
 use Rattle.esto_semantics.specs.Facts.{Database, image, Mentions}
 use Rattle.esto_semantics.specs.Maps.{Sends}
 use Rattle.esto_semantics.specs.Queries.{ConjunctiveQuery, IsAnswer, IsAnswerInto}
-use Rattle.esto_semantics.specs.Restriction.{is_over, has_columns, over_schema, AreRulesOver, HasUtf8, AreQueriesOver, IsSideOver, IsContainedOver, IsSatisfiableOver}
+use Rattle.esto_semantics.specs.Restriction.{is_over, has_columns, over_schema, AreRulesOver, HasUtf8, AreQueriesOver, IsSideOver, IsContainedOver}
+use Rattle.esto_semantics.specs.Restriction.{IsSatisfiableOver}
 use Rattle.esto_semantics.specs.Rules.{Rule, tuple, equality, denial, AreRules, MeetsRule, Meets}
 use Rattle.esto_semantics.specs.Sides.{Side, over_datasets, over_fragments, union_over_datasets, union_over_fragments, IsAnswerOf}
 use Rattle.esto_semantics.specs.Views.{IsViewRow, IsFragmentAnswer}
@@ -24,7 +26,8 @@ use Rattle.esto_semantics.specs.declared.fact.Fact.{Fact}
 use Rattle.esto_semantics.specs.declared.fact.Value.{Value}
 use Rattle.esto_semantics.specs.declared.fact.Value.TheVariants.{Text, Node}
 use Rattle.esto_semantics.proofs.FactLemmas.{Mentions-images}
-use Rattle.esto_semantics.proofs.RenamingLemmas.{Naming, RuleIsKept, value_of, thing_of, renamed, value_of-Text, map-thing_of-value_of, answer_there, answer_back, fact_there, fact_back, meets_there}
+use Rattle.esto_semantics.proofs.RenamingLemmas.{Naming, RuleIsKept, value_of, thing_of, renamed, value_of-Text, map-thing_of-value_of, answer_there}
+use Rattle.esto_semantics.proofs.RenamingLemmas.{answer_back, fact_there, fact_back, meets_there}
 use Rattle.esto_semantics.proofs.ContainmentLemmas.{IsAnswerOf-grows, IsAnswerInto-grows}
 use Rattle.esto_term.proofs.ListLemmas.{Contains-at, Contains-filter, Contains-filter_from, Contains-flat, Contains-map_from}
 
@@ -71,12 +74,14 @@ module _ (schema : List ℕ) (database : Database) where
     (λ meets rule inside. rule_all rule (over rule inside) (meets rule inside)),
   )
 
-  query_over : (query : ConjunctiveQuery) (row : List Value) → AreOver schema query.body → IsAnswer query database row → IsAnswer query (over_schema schema database) row
+  query_over : (query : ConjunctiveQuery) (row : List Value) → AreOver schema query.body → IsAnswer query database row
+      → IsAnswer query (over_schema schema database) row
   query_over query row over (m, keeps, sends, is) = (m, keeps, sends_over m query.body over sends, is)
 
   view_over : (views : List ConjunctiveQuery) → AreQueriesOver schema views
       → (fact : Fact Value) → IsViewRow views database fact → IsViewRow views (over_schema schema database) fact
-  view_over views over fact (view, found, answer) = (view, found, query_over view fact.terms (over view (Contains-at views fact.relation view found)).over answer)
+  view_over views over fact (view, found, answer) =
+      (view, found, query_over view fact.terms (over view (Contains-at views fact.relation view found)).over answer)
 
   fragments_over : (views : List ConjunctiveQuery) (query : ConjunctiveQuery) (row : List Value) → AreQueriesOver schema views
       → IsFragmentAnswer views query database row → IsFragmentAnswer views query (over_schema schema database) row
@@ -89,7 +94,8 @@ module _ (schema : List ℕ) (database : Database) where
   side_over (union_over_datasets queries) row over (query, inside, answer) = (query, inside, query_over query row (over query inside).over answer)
   side_over (union_over_fragments views queries) row over (query, inside, answer) = (query, inside, fragments_over views query row over.0 answer)
 
-  pub over_schema-IsAnswerOf : (side : Side) (row : List Value) → IsSideOver schema side → IsAnswerOf side database row ↔ IsAnswerOf side (over_schema schema database) row
+  pub over_schema-IsAnswerOf : (side : Side) (row : List Value) → IsSideOver schema side
+      → IsAnswerOf side database row ↔ IsAnswerOf side (over_schema schema database) row
   over_schema-IsAnswerOf side row over = (side_over side row over, IsAnswerOf-grows side (over_schema schema database) database over_schema-among row)
 
 -- ---- values, named by their texts where these are UTF-8
@@ -156,7 +162,8 @@ module _ (schema : List ℕ) (database : Database) (over : AreOver schema databa
   clean = renamed values_naming things database
 
   in_database : (value : Value) → Mentions database value → Contains things value
-  in_database value (fact, inside, in_fact) = Contains-append_left _ row value (Contains-flat (λ (fact : Fact Value). fact.terms) database fact value inside in_fact)
+  in_database value (fact, inside, in_fact) =
+      Contains-append_left _ row value (Contains-flat (λ (fact : Fact Value). fact.terms) database fact value inside in_fact)
 
   clean_text : (text : List ℕ) (value : Value) → there value ≡ Text text → IsUtf8 text
   clean_text text value is = let own = value_of-Text values_naming things value text is in IsUtf8-from_is_utf8 text (utf8_text-told value text own).1
@@ -165,7 +172,8 @@ module _ (schema : List ℕ) (database : Database) (over : AreOver schema databa
   clean-IsWellFormed = record {
     over = λ fact inside.
         let found = Contains-map_from (image there) database fact inside in
-        subst (λ (it : Fact Value). slice_get schema it.relation ≡ Some (length it.terms)) found.2 (over found.0 found.1 ∙ ap Some (sym (length-map found.0.terms there)));
+        subst (λ (it : Fact Value). slice_get schema it.relation ≡ Some (length it.terms)) found.2
+        (over found.0 found.1 ∙ ap Some (sym (length-map found.0.terms there)));
     texts = λ text inside. let from = Mentions-images there database (Text text) inside in clean_text text from.0 from.2;
   }
 
@@ -175,7 +183,8 @@ module _ (schema : List ℕ) (database : Database) (over : AreOver schema databa
 
   -- ---- answers go there and back
 
-  into_there : (query : ConjunctiveQuery) (Holds Named : Fact Value → Type 0) (own : List Value) → HaveUtf8 query.body → ((text : List ℕ) → Contains query.head (Const text) → IsUtf8 text)
+  into_there : (query : ConjunctiveQuery) (Holds Named : Fact Value → Type 0) (own : List Value) → HaveUtf8 query.body
+      → ((text : List ℕ) → Contains query.head (Const text) → IsUtf8 text)
       → ((fact : Fact Value) → Holds fact → Named (image there fact)) → IsAnswerInto Text query Holds own → IsAnswerInto Text query Named (map there own)
   into_there query Holds Named own body_utf8 head_utf8 carried answer =
       answer_there values_naming things query Holds Named own (λ text inside. utf8-IsKept text (body_utf8 text inside))
@@ -183,10 +192,12 @@ module _ (schema : List ℕ) (database : Database) (over : AreOver schema databa
 
   query_there : (query : ConjunctiveQuery) (own : List Value) → IsQueryOver schema query → IsAnswer query database own → IsAnswer query clean (map there own)
   query_there query own query_over answer =
-      into_there query (Contains database) (Contains clean) own query_over.body_texts query_over.head_texts (fact_there values_naming things database in_database) answer
+      into_there query (Contains database) (Contains clean) own query_over.body_texts query_over.head_texts
+      (fact_there values_naming things database in_database) answer
 
   query_back : (query : ConjunctiveQuery) (own : List Value) → IsAnswer query clean own → IsAnswer query database (map back own)
-  query_back query own answer = answer_back values_naming things query (Contains database) (Contains clean) own (fact_back values_naming things database in_database) answer
+  query_back query own answer =
+      answer_back values_naming things query (Contains database) (Contains clean) own (fact_back values_naming things database in_database) answer
 
   fragments_there : (views : List ConjunctiveQuery) (query : ConjunctiveQuery) (own : List Value) → AreQueriesOver schema views → HasUtf8 query
       → IsFragmentAnswer views query database own → IsFragmentAnswer views query clean (map there own)
@@ -221,11 +232,13 @@ module _ (schema : List ℕ) (database : Database) (over : AreOver schema databa
       → IsContainedOver schema rules (IsAnswerOf left) (IsAnswerOf right) → Meets rules database → IsAnswerOf left database row → IsAnswerOf right database row
   contained_here rules left right are_rules rules_over left_over contained meets answer =
       subst (IsAnswerOf right database) row_back
-      (side_back right (map there row) (contained clean clean-IsWellFormed (clean-Meets rules are_rules rules_over meets) (map there row) (side_there left row left_over answer)))
+      (side_back right (map there row)
+      (contained clean clean-IsWellFormed (clean-Meets rules are_rules rules_over meets) (map there row) (side_there left row left_over answer)))
 
 -- ---- the law
 
-pub contained-from_well_formed : (schema : List ℕ) (rules : List Rule) (left right : Side) → AreRules rules → AreRulesOver schema rules → IsSideOver schema left → IsSideOver schema right
+pub contained-from_well_formed : (schema : List ℕ) (rules : List Rule) (left right : Side) → AreRules rules → AreRulesOver schema rules
+    → IsSideOver schema left → IsSideOver schema right
     → IsContainedOver schema rules (IsAnswerOf left) (IsAnswerOf right) → IsContained rules (IsAnswerOf left) (IsAnswerOf right)
 contained-from_well_formed schema rules left right are_rules rules_over left_over right_over contained database meets row answer =
     (over_schema-IsAnswerOf schema database right row right_over).1
@@ -233,7 +246,8 @@ contained-from_well_formed schema rules left right are_rules rules_over left_ove
     ((over_schema-Meets schema database rules rules_over).0 meets)
     ((over_schema-IsAnswerOf schema database left row left_over).0 answer))
 
-pub satisfiable_well_formed : (schema : List ℕ) (rules : List Rule) (query : ConjunctiveQuery) → AreRules rules → AreRulesOver schema rules → IsQueryOver schema query
+pub satisfiable_well_formed : (schema : List ℕ) (rules : List Rule) (query : ConjunctiveQuery) → AreRules rules → AreRulesOver schema rules
+    → IsQueryOver schema query
     → IsSatisfiable rules query → IsSatisfiableOver schema rules query
 satisfiable_well_formed schema rules query are_rules rules_over query_over (database, meets, (row, answer)) =
     let within : Database = over_schema schema database in
@@ -241,5 +255,8 @@ satisfiable_well_formed schema rules query are_rules rules_over query_over (data
       clean schema within is_over row,
       clean-IsWellFormed schema within is_over row,
       clean-Meets schema within is_over row rules are_rules rules_over ((over_schema-Meets schema database rules rules_over).0 meets),
-      (map (there schema within is_over row) row, query_there schema within is_over row query row query_over ((over_schema-IsAnswerOf schema database (over_datasets query) row query_over).0 answer)),
+      (
+        map (there schema within is_over row) row,
+        query_there schema within is_over row query row query_over ((over_schema-IsAnswerOf schema database (over_datasets query) row query_over).0 answer),
+      ),
     )

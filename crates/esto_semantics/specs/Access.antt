@@ -1,4 +1,5 @@
--- Binding patterns: which sets of fragment atoms can be executed, and in which orders. Source: access limitations by binding patterns.
+-- Binding patterns: which sets of fragment atoms can be executed, and in which orders. Source: access limitations by binding patterns (Rajaraman, Sagiv and
+-- Ullman 1995; Li and Chang 2000).
 use Rattle.std.specs.Prelude.{◌≡◌, ◌≢◌, ◌⊎◌, ◌↔◌, ℕ, ◌<◌, Bool, true, List, [], Some, length, replicate, slice_get, slice_index_or, Contains, AllPairs}
 use Rattle.esto_term.specs.declared.term.Term.{Term}
 use Rattle.esto_semantics.specs.Maps.{IsConstant}

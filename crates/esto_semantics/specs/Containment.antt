@@ -1,11 +1,12 @@
--- Containment, equivalence and satisfiability under rules.
+-- Containment, equivalence and satisfiability under rules. Source: containment under dependencies (Johnson and Klug 1984).
 use Rattle.std.specs.Prelude.{List}
 use Rattle.esto_semantics.specs.Facts.{Database}
 use Rattle.esto_semantics.specs.Queries.{ConjunctiveQuery, IsAnswer}
 use Rattle.esto_semantics.specs.Rules.{Rule, Meets}
 use Rattle.esto_semantics.specs.declared.fact.Value.{Value}
 
--- Over every database that meets the rules, each answer of the left is one of the right. Either side may be the answers of a query over datasets or over fragments.
+-- Over every database that meets the rules, each answer of the left is one of the right. Either side may be the answers of a query over datasets or over
+-- fragments.
 abbrev pub IsContained : List Rule → (Database → List Value → Type 0) → (Database → List Value → Type 0) → Type 0
 IsContained rules left right = (database : Database) → Meets rules database → (row : List Value) → left database row → right database row
 

@@ -1,4 +1,4 @@
--- Expansions: what a query over fragments asks of the datasets.
+-- Expansions: what a query over fragments asks of the datasets. Source: answering queries using views (Levy, Mendelzon, Sagiv and Srivastava 1995).
 use Rattle.std.specs.Prelude.{◌≡◌, ◌≢◌, ◌⊎◌, ◌↔◌, ℕ, ◌<◌, Bool, List, Some, length, map, slice_get, Contains, AllPairs}
 use Rattle.esto_term.specs.declared.term.Term.{Term}
 use Rattle.esto_term.specs.declared.term.Term.TheVariants.{Const}
@@ -18,7 +18,9 @@ pub record IsInner (view : ConjunctiveQuery) (term : Term) : Type 0 where
 abbrev pub IsOfQuery : ConjunctiveQuery → Term → Type 0
 IsOfQuery query term = Mentions query.body term ⊎ Contains query.head term
 
--- The facts, read as a set, are an expansion of the query over fragments: for each atom, by its number, they are the body of its fragment's view under a map that keeps constants, sends the view's head to the atom's terms, and sends each inner term of the view to a variable that does not stand in the query and that no other inner term, of this atom or of another, is sent to. So each atom's fragment has a view, with a head as long as the atom's row.
+-- The facts, read as a set, are an expansion of the query over fragments: for each atom, by its number, they are the body of its fragment's view under a map
+-- that keeps constants, sends the view's head to the atom's terms, and sends each inner term of the view to a variable that does not stand in the query and
+-- that no other inner term, of this atom or of another, is sent to. So each atom's fragment has a view, with a head as long as the atom's row.
 pub record IsExpansion (views : List ConjunctiveQuery) (query : ConjunctiveQuery) (expansion : List (Fact Term)) : Type 0 where
   pub view : ℕ → ConjunctiveQuery
   pub spread : ℕ → Term → Term

@@ -1,9 +1,11 @@
 -- Followed in the strong form: what a chase makes of its start's facts, as every database that meets the rules receives it. Source: the chase with
 -- dependencies (Fagin, Kolaitis, Miller and Popa 2005).
-use Rattle.std.specs.Prelude.{◌≡◌, List, Contains}
+use Rattle.std.specs.Prelude.{◌≡◌, List, map, Contains}
 use Rattle.esto_term.specs.declared.term.Term.{Term}
 use Rattle.esto_semantics.specs.Facts.{Database, image, Mentions}
-use Rattle.esto_semantics.specs.Maps.{Keeps, Sends}
+use Rattle.esto_semantics.specs.Instances.{IsFollowed}
+use Rattle.esto_semantics.specs.Maps.{IsFixedBy, Keeps, Sends}
+use Rattle.esto_semantics.specs.Queries.{ConjunctiveQuery}
 use Rattle.esto_semantics.specs.Rules.{Rule, Meets}
 use Rattle.esto_semantics.specs.declared.fact.Fact.{Fact}
 use Rattle.esto_semantics.specs.declared.fact.Value.{Value}
@@ -24,3 +26,12 @@ pub record IsFollowedInto (start : List (Fact Term)) (Holds : Fact Term → Type
 abbrev pub IsFollowedBy : List Rule → List (Fact Term) → (Fact Term → Type 0) → (Term → Term → Type 0) → Type 0
 IsFollowedBy rules start Holds One =
     (database : Database) → Meets rules database → (m : Term → Value) → Keeps Text m → Sends m start database → IsFollowedInto start Holds One m database
+
+-- Let a start's facts be followed by the facts of an end, with each term one with what a map makes of it. Where each head term of the start is a constant or
+-- stands in its facts, and the map makes the end's head of the start's head, the end as a query follows the start.
+abbrev pub QueryIsFollowed : Type 0
+QueryIsFollowed =
+    (rules : List Rule) (start end : ConjunctiveQuery) (went : Term → Term)
+    → IsFollowedBy rules start.body (Contains end.body) (λ term other. went term ≡ other)
+    → ((term : Term) → Contains start.head term → IsFixedBy start.body term) → map went start.head ≡ end.head
+    → IsFollowed rules start end

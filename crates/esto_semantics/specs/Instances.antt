@@ -13,13 +13,15 @@ use Rattle.esto_semantics.specs.declared.fact.Value.TheVariants.{Text}
 abbrev pub MapsTo : ConjunctiveQuery → ConjunctiveQuery → Type 0
 MapsTo query other = (m : Term → Term) × Keeps Const m × Sends m query.body other.body × (map m query.head ≡ other.head)
 
--- Each valuation that sends the start's body into a database which meets the rules is matched by one that sends the end's body into it and gives the end's head what the first gave the start's head.
+-- Each valuation that sends the start's body into a database which meets the rules is matched by one that sends the end's body into it and gives the end's head
+-- what the first gave the start's head.
 abbrev pub IsFollowed : List Rule → ConjunctiveQuery → ConjunctiveQuery → Type 0
 IsFollowed rules start end =
     (database : Database) → Meets rules database → (m : Term → Value) → Keeps Text m → Sends m start.body database
     → (after : Term → Value) × Keeps Text after × Sends after end.body database × (map after end.head ≡ map m start.head)
 
--- The end is universal for the start under the rules: the start maps to it, and it is followed into every database that meets the rules. It is a universal instance where it is finished too.
+-- The end is universal for the start under the rules: the start maps to it, and it is followed into every database that meets the rules. It is a universal
+-- instance where it is finished too.
 pub record IsUniversalFor (rules : List Rule) (start end : ConjunctiveQuery) : Type 0 where
   pub maps : MapsTo start end
   pub followed : IsFollowed rules start end

@@ -22,6 +22,7 @@ pub mod Shown
 pub mod Rewritings
 pub mod ContainmentLaws
 pub mod ExpansionLaws
+pub mod WellFormedLaws
 pub mod SetLaws
 pub mod AccessSteps
 pub mod AccessLaws

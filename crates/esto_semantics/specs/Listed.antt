@@ -1,4 +1,5 @@
--- Candidates, and the listed sets of a plan. Source: minimal reformulations of chase and backchase (Deutsch, Popa and Tannen; Ileana, Cautis, Deutsch and Katsis 2014), with minimality asked among executable sets.
+-- Candidates, and the listed sets of a plan. Source: minimal reformulations of chase and backchase (Deutsch, Popa and Tannen; Ileana, Cautis, Deutsch and
+-- Katsis 2014), with minimality asked among executable sets.
 use Rattle.std.specs.Prelude.{◌≡◌, ◌≢◌, ◌↔◌, ℕ, ◌≤◌, ◌<◌, Bool, cond, List, [], ◌∷◌, length, sum, map, slice_index_or, Contains, AllPairs}
 use Rattle.esto_term.specs.declared.term.Term.{Term}
 use Rattle.esto_semantics.specs.Maps.{IsFixedBy}
@@ -36,7 +37,8 @@ pub record AnswersQuery (rules : List Rule) (views : List ConjunctiveQuery) (que
   pub equivalent : IsEquivalent rules (IsFragmentAnswer views (candidate plan set)) (IsAnswer query)
 
 -- The set is a rewriting: it has a candidate, which is equivalent to the query, and it is safe and executable.
-pub record IsRewriting (rules : List Rule) (views : List ConjunctiveQuery) (patterns : Patterns) (query plan : ConjunctiveQuery) (set : List Bool) : Type 0 where
+pub record IsRewriting (rules : List Rule) (views : List ConjunctiveQuery) (patterns : Patterns) (query plan : ConjunctiveQuery)
+    (set : List Bool) : Type 0 where
   pub has_candidate : HasCandidate plan set
   pub safe : IsSafe plan set
   pub executable : IsExecutable patterns plan.body set

@@ -17,7 +17,8 @@ abbrev pub IsOfRows : List ConjunctiveQuery → ConjunctiveQuery → Term → Ty
 IsOfRows views end term =
     ((row : Fact Term) × IsTermRow views end.body row × Contains row.terms term) ⊎ Contains end.head term
 
--- The plan is the end's: its atoms are exactly the rows of all views over the end's facts, and its head is the end's head, all under one renaming of terms. The renaming keeps constants, and another map that keeps constants undoes it on the terms of the rows and of the head.
+-- The plan is the end's: its atoms are exactly the rows of all views over the end's facts, and its head is the end's head, all under one renaming of terms. The
+-- renaming keeps constants, and another map that keeps constants undoes it on the terms of the rows and of the head.
 pub record IsPlanOf (views : List ConjunctiveQuery) (end plan : ConjunctiveQuery) : Type 0 where
   pub renaming : Term → Term
   pub back : Term → Term

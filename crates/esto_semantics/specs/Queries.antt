@@ -1,4 +1,4 @@
--- Conjunctive queries and their answers, under set meaning.
+-- Conjunctive queries and their answers, under set meaning. Source: conjunctive queries (Chandra and Merlin 1977).
 use Rattle.std.specs.Prelude.{◌≡◌, ◌≢◌, ℕ, List, [], map, Contains}
 use Rattle.esto_term.specs.declared.term.Term.{Term}
 use Rattle.esto_semantics.specs.Facts.{Database}
@@ -7,7 +7,8 @@ use Rattle.esto_semantics.specs.declared.fact.Fact.{Fact}
 use Rattle.esto_semantics.specs.declared.fact.Value.{Value}
 use Rattle.esto_semantics.specs.declared.fact.Value.TheVariants.{Text}
 
--- A conjunctive query is a head of terms over a body of atoms. In a query over the datasets the relation of an atom is the number of a relation of the schema; in a query over fragments, such as a plan or a candidate, it is the number of a fragment. Which of the two is meant is said by the kind of its answers.
+-- A conjunctive query is a head of terms over a body of atoms. In a query over the datasets the relation of an atom is the number of a relation of the schema;
+-- in a query over fragments, such as a plan or a candidate, it is the number of a fragment. Which of the two is meant is said by the kind of its answers.
 pub record ConjunctiveQuery : Type 0 where
   pub head : List Term
   pub body : List (Fact Term)

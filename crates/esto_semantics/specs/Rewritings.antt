@@ -1,4 +1,4 @@
--- Plans for a query, and queries over fragments that map onto sets of a plan's atoms.
+-- Plans for a query, and queries over fragments that map onto sets of a plan's atoms. Source: chase and backchase (Deutsch, Popa and Tannen 1999).
 use Rattle.std.specs.Prelude.{◌≡◌, ◌≢◌, ◌↔◌, Bool, List, [], length, map, Contains}
 use Rattle.esto_term.specs.declared.term.Term.{Term}
 use Rattle.esto_term.specs.declared.term.Term.TheVariants.{Const}
@@ -18,7 +18,8 @@ pub record IsPlanFor (query plan : ConjunctiveQuery) : Type 0 where
   pub has_head : plan.head ≢ []
   pub flat_body : AreFlat plan.body
 
--- The query over fragments maps onto the set of the plan's atoms: some map of terms that keeps constants sends its head, term by term, to the plan's head, and the images of its atoms are exactly the atoms of the set.
+-- The query over fragments maps onto the set of the plan's atoms: some map of terms that keeps constants sends its head, term by term, to the plan's head, and
+-- the images of its atoms are exactly the atoms of the set.
 pub record MapsOnto (other plan : ConjunctiveQuery) (set : List Bool) : Type 0 where
   pub m : Term → Term
   pub keeps : Keeps Const m

@@ -47,14 +47,16 @@ body_of (tuple body head) = body
 body_of (equality body left right) = body
 body_of (denial body) = body
 
--- What a rule concludes from a map that sends its body to facts that hold. A tuple rule concludes that some map which agrees with this one on the body sends the head to facts that hold; an equality rule that its two sides are one thing; a denial concludes what never is.
+-- What a rule concludes from a map that sends its body to facts that hold. A tuple rule concludes that some map which agrees with this one on the body sends
+-- the head to facts that hold; an equality rule that its two sides are one thing; a denial concludes what never is.
 abbrev pub Concludes : {V : Type 0} → (List ℕ → V) → (V → V → Type 0) → (Fact V → Type 0) → Rule → (Term → V) → Type 0
 Concludes {V} constant One Holds (tuple body head) m =
     (more : Term → V) × Keeps constant more × AgreeOn One body m more × SendsInto more head Holds
 Concludes {V} constant One Holds (equality body left right) m = One (m left) (m right)
 Concludes {V} constant One Holds (denial body) m = ⊥
 
--- Facts that hold meet a rule when for every map that keeps constants and sends the body to facts that hold the rule's conclusion is so. So they meet a denial when there is no such map.
+-- Facts that hold meet a rule when for every map that keeps constants and sends the body to facts that hold the rule's conclusion is so. So they meet a denial
+-- when there is no such map.
 abbrev pub MeetsInto : {V : Type 0} → (List ℕ → V) → (V → V → Type 0) → (Fact V → Type 0) → Rule → Type 0
 MeetsInto {V} constant One Holds rule =
     (m : Term → V) → Keeps constant m → SendsInto m (body_of rule) Holds → Concludes constant One Holds rule m

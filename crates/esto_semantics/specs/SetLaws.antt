@@ -17,7 +17,8 @@ WithinBothWays = (set other : List Bool) → length set ≡ length other → Wit
 
 -- Two lists in order with the same sets are one list.
 abbrev pub OrderIsOne : Type 0
-OrderIsOne = (sets others : List (List Bool)) → AreInOrder sets → AreInOrder others → ((set : List Bool) → Contains sets set ↔ Contains others set) → sets ≡ others
+OrderIsOne = (sets others : List (List Bool)) → AreInOrder sets → AreInOrder others → ((set : List Bool) → Contains sets set ↔ Contains others set)
+    → sets ≡ others
 
 -- The list of all sets of a count has each set of that count, once, and no other.
 abbrev pub AllSetsAreListed : Type 0
@@ -29,10 +30,10 @@ MinimalAreApart =
     (family minimal : List (List Bool)) → AreMinimal family minimal
     → (set other : List Bool) → Contains minimal set → Contains minimal other → Within set other → set ≡ other
 
--- Each set of a family of one count has a minimal one within it.
+-- Each set of a family has a minimal one within it.
 abbrev pub MinimalCover : Type 0
 MinimalCover =
-    (family minimal : List (List Bool)) → HaveOneCount family → AreMinimal family minimal
+    (family minimal : List (List Bool)) → AreMinimal family minimal
     → (set : List Bool) → Contains family set → (kept : List Bool) × Contains minimal kept × Within kept set
 
 -- Each family of one count has its minimal sets, in order.

@@ -1,5 +1,7 @@
--- Sets of numbers below a count. A set is the list of the answers to "is it in?", one for each number; so two sets of one count are equal exactly where they have the same numbers.
-use Rattle.std.specs.Prelude.{◌≡◌, ◌≢◌, ◌↔◌, ℕ, zero, suc, ◌+◌, Bool, true, false, cond, ◌||◌, List, [], ◌∷◌, ◌++◌, map, length, slice_index_or, Contains, AllPairs}
+-- Sets of numbers below a count. A set is the list of the answers to "is it in?", one for each number; so two sets of one count are equal exactly where they
+-- have the same numbers.
+use Rattle.std.specs.Prelude.{◌≡◌, ◌≢◌, ◌↔◌, ℕ, zero, suc, ◌+◌, Bool, true, false, cond, ◌||◌, List, [], ◌∷◌, ◌++◌, map, length, slice_index_or, Contains}
+use Rattle.std.specs.Prelude.{AllPairs}
 use Rattle.std.specs.declared.cmp.Ordering.{Ordering}
 use Rattle.std.specs.declared.cmp.Ordering.TheVariants.{Less}
 use Rattle.std.specs.Ordering.{ordering_then, nat_cmp}
@@ -27,21 +29,31 @@ abbrev pub set_cmp : List Bool → List Bool → Ordering
 set_cmp set other =
     ordering_then (nat_cmp (length (numbers set)) (length (numbers other))) (slice_cmp nat_cmp (numbers set) (numbers other))
 
--- The set is minimal among those that P holds of, which are sets of one count: no proper subset of it is one of them.
+-- The set is minimal among those that P holds of, which are sets of one count: no proper subset of it is one of them. Of one count, a subset is the set
+-- itself exactly where it is no proper one.
 abbrev pub IsMinimal : (List Bool → Type 0) → List Bool → Type 0
 IsMinimal P set = P set × ((other : List Bool) → P other → Within other set → other ≡ set)
+
+-- The sets stand in the order of the list, each once.
+abbrev pub AreInOrder : List (List Bool) → Type 0
+AreInOrder sets = AllPairs (λ set other. set_cmp set other ≡ Less) sets
 
 -- These are exactly the minimal sets that P holds of, in the order of the list, each once.
 pub record AreListedBy (P : List Bool → Type 0) (sets : List (List Bool)) : Type 0 where
   pub exact : (set : List Bool) → Contains sets set ↔ IsMinimal P set
-  pub ordered : AllPairs (λ set other. set_cmp set other ≡ Less) sets
+  pub ordered : AreInOrder sets
 
 -- Each set that P holds of has this count.
 abbrev pub HaveCount : ℕ → (List Bool → Type 0) → Type 0
 HaveCount count P = (set : List Bool) → P set → length set ≡ count
 
--- These are the minimal sets of the family, each once.
+-- The sets of the family are of one count.
+abbrev pub HaveOneCount : List (List Bool) → Type 0
+HaveOneCount family = (set other : List Bool) → Contains family set → Contains family other → length set ≡ length other
+
+-- The family has sets of one count, and these are the minimal ones of them, each once.
 pub record AreMinimal (family minimal : List (List Bool)) : Type 0 where
+  pub counted : HaveOneCount family
   pub exact : (set : List Bool) → Contains minimal set ↔ IsMinimal (Contains family) set
   pub once : AllPairs ◌≢◌ minimal
 
@@ -51,17 +63,9 @@ united [] other = other
 united (is_in ∷ rest) [] = is_in ∷ rest
 united (is_in ∷ rest) (is_in_other ∷ others) = (is_in || is_in_other) ∷ united rest others
 
--- The sets of the family are of one count.
-abbrev pub HaveOneCount : List (List Bool) → Type 0
-HaveOneCount family = (set other : List Bool) → Contains family set → Contains family other → length set ≡ length other
-
 -- Some set of the family is a subset of the set.
 abbrev pub Covers : List (List Bool) → List Bool → Type 0
 Covers family set = (other : List Bool) × Contains family other × Within other set
-
--- The sets stand in the order of the list, each once.
-abbrev pub AreInOrder : List (List Bool) → Type 0
-AreInOrder sets = AllPairs (λ set other. set_cmp set other ≡ Less) sets
 
 -- All sets of numbers below the count.
 abbrev pub all_sets : ℕ → List (List Bool)

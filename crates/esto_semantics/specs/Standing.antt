@@ -1,4 +1,5 @@
--- Databases that stand for facts over terms: what the facts say of the terms, the database says of their values.
+-- Databases that stand for facts over terms: what the facts say of the terms, the database says of their values. Source: canonical databases (Chandra and
+-- Merlin 1977).
 use Rattle.std.specs.Prelude.{◌≡◌, ◌⊎◌, ◌↔◌, ℕ, List, map, Contains}
 use Rattle.esto_term.specs.Kinds.{IsConstant}
 use Rattle.esto_term.specs.declared.term.Term.{Term}

@@ -1,4 +1,5 @@
--- Views, and queries over fragments. A fragment holds the rows of the view of its number, and an atom over fragments has that number as its relation.
+-- Views, and queries over fragments. Source: answering queries using views (Levy, Mendelzon, Sagiv and Srivastava 1995). A fragment holds the rows of the view
+-- of its number, and an atom over fragments has that number as its relation.
 use Rattle.std.specs.Prelude.{◌≡◌, List, Some, slice_get}
 use Rattle.esto_semantics.specs.Facts.{Database}
 use Rattle.esto_semantics.specs.Queries.{ConjunctiveQuery, IsAnswerInto, IsAnswer}

@@ -14,9 +14,9 @@ pub fn universal_instances_decide_containment()
     ensures query { QueriesAreDecided }
 {}
 
-/// A law: the facts of such an instance, under some values for its terms, are a database that meets the rules, with a row
-/// of the query that is a row of no query that does not map to the instance. So they show that the query is not contained
-/// in another query, or in a union.
+/// A law: the facts of such an instance, under some values for its terms, are a database that meets the rules, with a
+/// row of the query that is a row of no query that does not map to the instance. So they show that the query is not
+/// contained in another query, or in a union.
 pub fn universal_instances_show_what_is_not_contained()
     ensures { InstanceShows }
 {}

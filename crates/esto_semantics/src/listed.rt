@@ -7,10 +7,10 @@ ghost use Rattle.esto_semantics.specs.ListedLaws.{PickExists, PickIsOne, PickWei
 use esto_term::terms_are_ordered;
 
 /// A law: there is one list of the listed sets, each rewriting has one of them within it, and it is empty exactly where
-/// no set of the plan's atoms is a rewriting. For a satisfiable query's universal plan that is so exactly where the query
-/// has no executable rewriting at all. Where a family has exactly the rewritings, a list is that of the listed sets
-/// exactly where it is in order and has the minimal sets of the family, and such a list exists. The sets of the plan's
-/// atoms that pass a test which tells the rewritings are such a family.
+/// no set of the plan's atoms is a rewriting. For a satisfiable query's universal plan that is so exactly where the
+/// query has no executable rewriting at all. Where a family has exactly the rewritings, a list is that of the listed
+/// sets exactly where it is in order and has the minimal sets of the family, and such a list exists. The sets of the
+/// plan's atoms that pass a test which tells the rewritings are such a family.
 pub fn listed_sets_are_minimal()
     ensures tested { TestedAreRewritings }
     ensures minimal { ListedAreMinimal }
@@ -22,9 +22,9 @@ pub fn listed_sets_are_minimal()
 {}
 
 /// A law: the listed sets are the minimal sets of the plan's atoms whose accessible part answers the query. Where sets
-/// tell which sets answer the query, executable or not, they are the minimal executable sets that have one of these as a
-/// subset. What answers the query does so with more atoms of a universal plan, so the minimal sets that answer it tell
-/// which do.
+/// tell which sets answer the query, executable or not, they are the minimal executable sets that have one of these as
+/// a subset. What answers the query does so with more atoms of a universal plan, so the minimal sets that answer it
+/// tell which do.
 pub fn listed_sets_are_executable()
     ensures executable { ListedAreExecutable }
     ensures parts { ListedAreOfParts }
@@ -48,8 +48,8 @@ pub fn weights_exist()
 }
 
 /// A law: a list of weights that isn't empty has a pick, and only one. Among the weights of the listed sets, no
-/// rewriting among the sets of the plan's atoms weighs less than the pick; and for a satisfiable query's universal plan no
-/// executable rewriting of the query does, whatever its variables and its size.
+/// rewriting among the sets of the plan's atoms weighs less than the pick; and for a satisfiable query's universal plan
+/// no executable rewriting of the query does, whatever its variables and its size.
 pub fn picks_exist()
     ensures exist { PickExists }
     ensures one { PickIsOne }

@@ -20,14 +20,15 @@ pub fn candidates_contain_the_query()
     ensures equivalent { ContainedCandidateIsEquivalent }
 {}
 
-/// A law: an executable query over fragments that maps to a plan, head to head, maps onto a set of the plan's atoms that
-/// is safe and executable, and whose candidate is contained in the query, and so in whatever contains the query.
+/// A law: an executable query over fragments that maps to a plan, head to head, maps onto a set of the plan's atoms
+/// that is safe and executable, and whose candidate is contained in the query, and so in whatever contains the query.
 pub fn queries_map_onto_executable_sets()
     ensures { QueriesMapOntoExecutableSets }
 {}
 
 /// A law: each query over fragments that is an executable rewriting of a satisfiable query maps to a universal plan of
-/// it, head to head, and onto a set of the plan's atoms that is a rewriting: safe, executable and equivalent to the query.
+/// it, head to head, and onto a set of the plan's atoms that is a rewriting: safe, executable and equivalent to the
+/// query.
 pub fn rewritings_map_onto_sets()
     ensures { RewritingsMapOntoSets }
 {}

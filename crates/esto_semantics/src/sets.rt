@@ -30,8 +30,8 @@ pub fn minimal_sets_cover()
     ensures one { MinimalAreOne }
 {}
 
-/// A law: where what passes a test passes it in every greater set of a count, the minimal sets of the count that pass it
-/// tell which sets pass it: those that have one of them as a subset.
+/// A law: where what passes a test passes it in every greater set of a count, the minimal sets of the count that pass
+/// it tell which sets pass it: those that have one of them as a subset.
 pub fn minimal_sets_tell()
     ensures { (count : ℕ) (test : List Bool → Bool) → MinimalTell count (λ set. IsTrue (test set)) }
 {}

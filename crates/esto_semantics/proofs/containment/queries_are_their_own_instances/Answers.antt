@@ -6,4 +6,5 @@ pub returns-clause-universal : goal.returns-clause-universal
 returns-clause-universal c = own_instance-IsUniversalFor []
 
 pub returns-clause-contained : goal.returns-clause-contained
-returns-clause-contained c left right = universal_instances_decide [] left left right no_rules-AreRules (own_instance-IsUniversalFor [] left) (own_instance-IsFinished left)
+returns-clause-contained c left right =
+    universal_instances_decide [] left left right no_rules-AreRules (own_instance-IsUniversalFor [] left) (own_instance-IsFinished left)

@@ -6,4 +6,5 @@ pub returns-clause-under_rules : goal.returns-clause-under_rules
 returns-clause-under_rules c = universal_instances_satisfy
 
 pub returns-clause-without_rules : goal.returns-clause-without_rules
-returns-clause-without_rules c query = universal_instances_satisfy [] query query no_rules-AreRules (own_instance-IsUniversalFor [] query) (own_instance-IsFinished query)
+returns-clause-without_rules c query =
+    universal_instances_satisfy [] query query no_rules-AreRules (own_instance-IsUniversalFor [] query) (own_instance-IsFinished query)
