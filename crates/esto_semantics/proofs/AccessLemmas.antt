@@ -23,7 +23,7 @@ use Rattle.esto_semantics.specs.AccessLaws.{NoneIsExecutable, UnionIsExecutable,
 use Rattle.esto_semantics.specs.AccessLaws.{StatedOrderIsOne, NumbersAreStated, RewritingsNeedNoOrder, MinimalOfParts}
 use Rattle.esto_semantics.proofs.SetLemmas.{beyond, decided_has, within_refl, within_trans, within_same, has_united, length-united, numbers_have, numbers_rise}
 use Rattle.esto_term.proofs.ChoiceLemmas.{Decided, decided_as, decided_below, decided_both, decided_either, decided_not, least_below}
-use Rattle.esto_term.proofs.ListLemmas.{Contains-at, Contains-nil, place-from_Contains, thing_at}
+use Rattle.esto_term.proofs.ListLemmas.{at_left, Contains-at, Contains-nil, place-from_Contains, thing_at}
 
 -- ---- places of a list
 
@@ -33,11 +33,6 @@ push_split [] x zero z e = inr (refl, same_Some x z e)
 push_split [] x (suc place) z e = absurd (none-some z e)
 push_split (y ∷ xs) x zero z e = inl e
 push_split (y ∷ xs) x (suc place) z e = elim (push_split xs x place z e) [ inl h ↦ inl h | inr h ↦ inr (ap suc h.0, h.1) ]
-
-push_left : {A : Type 0} (xs : List A) (x : A) (place : ℕ) (z : A) → slice_get xs place ≡ Some z → slice_get (xs ++ x ∷ []) place ≡ Some z
-push_left [] x place z e = absurd (none-some z e)
-push_left (y ∷ xs) x zero z e = e
-push_left (y ∷ xs) x (suc place) z e = push_left xs x place z e
 
 pub one_place : {A : Type 0} (xs : List A) → AllPairs ◌≢◌ xs → (place other : ℕ) (x : A) → slice_get xs place ≡ Some x → slice_get xs other ≡ Some x
     → place ≡ other
@@ -66,7 +61,7 @@ contains_earlier : (order : List ℕ) (number : ℕ) → Contains order number �
 contains_earlier order number h = let at = place-from_Contains order number h in (at.0, slice_get_within order at.0 number at.1, at.1)
 
 earlier_push : (order : List ℕ) (x place number : ℕ) → IsEarlier order place number → IsEarlier (order ++ x ∷ []) place number
-earlier_push order x place number h = (h.0, h.1, push_left order x h.0 number h.2)
+earlier_push order x place number h = (h.0, h.1, at_left order (x ∷ []) h.0 number h.2)
 
 push_earlier : (order : List ℕ) (x place number : ℕ) → place ≤ length order → IsEarlier (order ++ x ∷ []) place number → IsEarlier order place number
 push_earlier order x place number l h = elim (push_split order x h.0 number h.2) [

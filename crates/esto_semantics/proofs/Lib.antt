@@ -15,12 +15,12 @@ pub mod CandidateLemmas
 pub mod ShownLemmas
 pub mod ScheduleLemmas
 pub mod RewritingLemmas
-pub mod WeightLemmas
 pub mod PartLemmas
 pub mod SpreadLemmas
 pub mod SetLemmas
 pub mod AccessLemmas
 pub mod CoverLemmas
 pub mod ListedLemmas
+pub mod WeightLemmas
 pub mod PickLemmas
 pub mod AnsweringLemmas

@@ -10,9 +10,9 @@ use Rattle.esto_semantics.specs.ListedLaws.{AreWeights, NoRewritingExists, PickE
 use Rattle.esto_semantics.specs.Queries.{ConjunctiveQuery}
 use Rattle.esto_semantics.specs.Sets.{Covers}
 use Rattle.esto_semantics.proofs.CandidateLemmas.{candidate-IsExecutableRewriting}
-use Rattle.esto_semantics.proofs.ListedLemmas.{chosen_within, listed_cover, none_is_listed, weight_rises}
+use Rattle.esto_semantics.proofs.ListedLemmas.{chosen_within, listed_cover, none_is_listed}
 use Rattle.esto_semantics.proofs.RewritingLemmas.{maps_onto_rewriting}
-use Rattle.esto_semantics.proofs.WeightLemmas.{MapsOnto-weight}
+use Rattle.esto_semantics.proofs.WeightLemmas.{MapsOnto-weight, weight_rises}
 
 -- the first place of least weight among the first few
 record IsBest (weights : List ℕ) (count place : ℕ) : Type 0 where
@@ -107,7 +107,7 @@ pick_weighs_least_of_all exist rules views patterns query plan sets weights tota
     let onto = maps_onto_rewriting rules views patterns query plan other rewriting flat universal satisfiable in
     let own = exist weights (chosen onto.0 plan.body) in
     let first = pick_weighs_least rules views patterns query plan sets weights totals listed are_weights place pick onto.0 own.0 onto.1 own.1 in
-    let second = MapsOnto-weight weights other plan onto.0 own.0 weight onto.2 own.1 is_weight in
+    let second = MapsOnto-weight weights plan other onto.0 own.0 weight onto.2 own.1 is_weight in
     omega (arith, first, second)
 
 pub no_rewriting_exists : NoRewritingExists

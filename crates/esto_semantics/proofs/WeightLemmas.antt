@@ -1,16 +1,23 @@
--- A list of distinct things, each of which comes from one of another list by a map that keeps weights, weighs no more than the other.
-use Rattle.std.proofs.Common.{◌≡◌, ◌≢◌, inl, inr, ℕ, ◌+◌, ◌≤◌, Bool, List, [], ◌∷◌, ◌++◌, slice_index_or, Contains, refl, sym, ap, ◌∙◌, subst, arith}
+-- Weights of atoms: over distinct things, each of which comes from one of another list by a map that keeps weights.
+use Rattle.std.proofs.Common.{◌≡◌, ◌≢◌, ◌⊎◌, ◌↔◌, inl, inr, ℕ, ◌+◌, ◌≤◌, List, [], ◌∷◌, ◌++◌, length, get_or, map, slice_index_or, sum, Contains}
+use Rattle.std.proofs.Common.{refl, sym, ap, ◌∙◌, subst, arith}
 use Rattle.std.specs.List.{AllPairs, sum_by}
+use Rattle.std.specs.declared.cmp.Ordering.TheVariants.{Equal}
+use Rattle.std.proofs.lemmas.Bool.{cases_eq}
 use Rattle.std.proofs.lemmas.List.Elements.{Contains-append_cases, Contains-append_left, Contains-append_right}
 use Rattle.std.proofs.lemmas.List.Sums.{sum-map, sum_by-append, sum_by-cons}
 use Rattle.esto_semantics.specs.Facts.{image}
 use Rattle.esto_semantics.specs.Listed.{chosen, IsWeight}
-use Rattle.esto_semantics.specs.Queries.{ConjunctiveQuery}
-use Rattle.esto_semantics.specs.Rewritings.{MapsOnto}
+use Rattle.esto_semantics.specs.ListedLaws.{WeightExists, WeightRises, WeightIsOne, WeightIsSum}
+use Rattle.esto_semantics.specs.PlanLaws.{OntoWeighsNoMore}
 use Rattle.esto_semantics.specs.declared.fact.Fact.{Fact}
+use Rattle.esto_term.specs.Order.{term_cmp}
 use Rattle.esto_term.specs.declared.term.Term.{Term}
-use Rattle.esto_term.proofs.ListLemmas.{Contains-cases, Contains-head, Contains-map_from, Contains-rest}
+use Rattle.esto_semantics.proofs.AccessLemmas.{decided_same}
+use Rattle.esto_semantics.proofs.ListedLemmas.{chosen_once}
+use Rattle.esto_term.proofs.ChoiceLemmas.{Decided, decided_below, pairs_cons}
 use Rattle.esto_term.proofs.DistinctLemmas.{distinct_head, distinct_rest, split}
+use Rattle.esto_term.proofs.ListLemmas.{Contains-cases, Contains-head, Contains-map_from, Contains-rest}
 
 module _ {X : Type 0} where
   module _ (weight : X → ℕ) (g : X → X) (kept : (thing : X) → weight (g thing) ≡ weight thing) where
@@ -43,13 +50,93 @@ module _ {X : Type 0} where
               ]
             ]
 
-pub MapsOnto-weight : (weights : List ℕ) (other plan : ConjunctiveQuery) (set : List Bool) (weight other_weight : ℕ) → MapsOnto other plan set
-    → IsWeight weights (chosen set plan.body) weight → IsWeight weights other.body other_weight → weight ≤ other_weight
-MapsOnto-weight weights other plan set weight other_weight onto (distinct, once, exact, is) (other_distinct, other_once, other_exact, other_is) =
-    let atom_weight : Fact Term → ℕ = λ atom. slice_index_or weights atom.relation 0 in
-    let less = weighs_no_more atom_weight (image onto.m) (λ atom. refl) distinct other_distinct once (λ atom inside.
-    let from = Contains-map_from (image onto.m) other.body atom ((onto.onto atom).0 ((exact atom).0 inside)) in
-    (from.0, (other_exact from.0).1 from.1, from.2)) in
-    let sum_is : weight ≡ sum_by atom_weight distinct = is ∙ sum-map atom_weight distinct in
-    let other_sum_is : other_weight ≡ sum_by atom_weight other_distinct = other_is ∙ sum-map atom_weight other_distinct in
-    omega arith
+-- ---- weights of atoms
+
+module _ (weights : List ℕ) where
+  -- atoms, each of which is made of one of the others by a map that keeps relations, weigh no more than those
+  made_weigh_no_more : (made : Fact Term → Fact Term) → ((atom : Fact Term) → (made atom).relation ≡ atom.relation)
+      → (atoms others : List (Fact Term)) (weight other : ℕ)
+      → ((atom : Fact Term) → Contains atoms atom → (source : Fact Term) × Contains others source × (made source ≡ atom))
+      → IsWeight weights atoms weight → IsWeight weights others other → weight ≤ other
+  made_weigh_no_more made kept atoms others weight other from (distinct, once, exact, is) (other_distinct, other_once, other_exact, other_is) =
+      let atom_weight : Fact Term → ℕ = λ atom. slice_index_or weights atom.relation 0 in
+      let less = weighs_no_more atom_weight made (λ atom. ap (λ relation. slice_index_or weights relation 0) (kept atom)) distinct other_distinct once
+      (λ atom inside. let source = from atom ((exact atom).0 inside) in (source.0, (other_exact source.0).1 source.1, source.2)) in
+      let sum_is : weight ≡ sum_by atom_weight distinct = is ∙ sum-map atom_weight distinct in
+      let other_sum_is : other ≡ sum_by atom_weight other_distinct = other_is ∙ sum-map atom_weight other_distinct in
+      omega arith
+
+pub MapsOnto-weight : OntoWeighsNoMore
+MapsOnto-weight weights plan other set weight other_weight onto =
+    made_weigh_no_more weights (image onto.m) (λ atom. refl) (chosen set plan.body) other.body weight other_weight
+    (λ atom inside. Contains-map_from (image onto.m) other.body atom ((onto.onto atom).0 inside))
+
+pub weight_rises : WeightRises
+weight_rises weights atoms others weight other among =
+    made_weigh_no_more weights (λ atom. atom) (λ atom. refl) atoms others weight other (λ atom inside. (atom, among atom inside, refl))
+
+pub weight_is_one : WeightIsOne
+weight_is_one weights atoms weight other is is' =
+    let up = weight_rises weights atoms atoms weight other (λ atom h. h) is is' in
+    let down = weight_rises weights atoms atoms other weight (λ atom h. h) is' is in
+    omega (arith, up, down)
+
+pub weight_is_sum : WeightIsSum
+weight_is_sum weights atoms set once = (chosen set atoms, chosen_once set atoms once, λ atom. (λ h. h, λ h. h), refl)
+
+-- ---- a weight exists
+
+-- the items of a list, each once
+distinct_of : {A : Type 0} → ((x z : A) → Decided (x ≡ z)) → (xs : List A)
+    → (distinct : List A) × AllPairs ◌≢◌ distinct × ((z : A) → Contains distinct z ↔ Contains xs z)
+distinct_of same [] = ([], λ i j d l m. absurd (omega (arith, m)), λ z. (λ h. h, λ h. h))
+distinct_of {A} same (x ∷ xs) = go (distinct_of same xs)
+  where
+    go : ((distinct : List A) × AllPairs ◌≢◌ distinct × ((z : A) → Contains distinct z ↔ Contains xs z))
+        → (distinct : List A) × AllPairs ◌≢◌ distinct × ((z : A) → Contains distinct z ↔ Contains (x ∷ xs) z)
+    go rest = at (decided_below (λ k. get_or rest.0 k x ≡ x) (length rest.0) (λ k l. same (get_or rest.0 k x) x))
+      where
+        at : Decided (Contains rest.0 x) → (distinct : List A) × AllPairs ◌≢◌ distinct × ((z : A) → Contains distinct z ↔ Contains (x ∷ xs) z)
+        at (inl there) = (
+          rest.0,
+          rest.1,
+          λ z. (
+            λ h. Contains-rest x xs z ((rest.2 z).0 h),
+            λ h. elim (Contains-cases x xs z h) [ inl e ↦ subst (Contains rest.0) e there | inr later ↦ (rest.2 z).1 later ],
+          ),
+        )
+        at (inr absent) = (
+          x ∷ rest.0,
+          pairs_cons ◌≢◌ x rest.0 (λ z h e. absent (subst (Contains rest.0) (sym e) h)) rest.1,
+          λ z. (
+            λ h. elim (Contains-cases x rest.0 z h)
+                [ inl e ↦ subst (Contains (x ∷ xs)) e (Contains-head x xs) | inr later ↦ Contains-rest x xs z ((rest.2 z).0 later) ],
+            λ h. elim (Contains-cases x xs z h)
+                [ inl e ↦ subst (Contains (x ∷ rest.0)) e (Contains-head x rest.0) | inr later ↦ Contains-rest x rest.0 z ((rest.2 z).1 later) ],
+          ),
+        )
+
+same_lists : {A : Type 0} → ((x z : A) → Decided (x ≡ z)) → (xs ys : List A) → Decided (xs ≡ ys)
+same_lists same [] [] = inl refl
+same_lists same [] (y ∷ ys) = inr (λ e. let l = ap length e in omega (arith, l))
+same_lists same (x ∷ xs) [] = inr (λ e. let l = ap length e in omega (arith, l))
+same_lists {A} same (x ∷ xs) (y ∷ ys) = go (same x y) (same_lists same xs ys)
+  where
+    go : Decided (x ≡ y) → Decided (xs ≡ ys) → Decided (x ∷ xs ≡ y ∷ ys)
+    go (inl e) (inl d) = inl (λ i. e i ∷ d i)
+    go (inl e) (inr apart) = inr (λ d. apart cc)
+    go (inr apart) d = inr (λ e. apart cc)
+
+module _ (exact : (term other : Term) → (term_cmp term other ≡ Equal) ↔ (term ≡ other)) where
+  same_facts : (fact other : Fact Term) → Decided (fact ≡ other)
+  same_facts fact other = go (cases_eq fact.relation other.relation) (same_lists (decided_same exact) fact.terms other.terms)
+    where
+      go : (fact.relation ≡ other.relation) ⊎ (fact.relation ≡ other.relation → ⊥) → Decided (fact.terms ≡ other.terms) → Decided (fact ≡ other)
+      go (inl e) (inl d) = inl (λ i. record { relation = e i; terms = d i })
+      go (inl e) (inr apart) = inr (λ same. apart (ap (λ f. f.terms) same))
+      go (inr apart) d = inr (λ same. apart (ap (λ f. f.relation) same))
+
+  pub weight_exists : WeightExists
+  weight_exists weights atoms =
+      let found = distinct_of same_facts atoms in
+      (sum (map (λ atom. slice_index_or weights atom.relation 0) found.0), (found.0, found.1, found.2, refl))

@@ -1,6 +1,7 @@
 //! What the words of the field mean: facts, databases, queries and their answers, rules, containment, views,
 //! universal plans, binding patterns and listed sets. The definitions stand in `specs/`; laws about them are
-//! the contracts of public functions here.
+//! the contracts of public functions here. Begin with `universal_instances_decide_containment`,
+//! `rewritings_map_onto_sets` and `listed_sets_are_minimal`.
 #![tactic(auto)]
 
 mod access;

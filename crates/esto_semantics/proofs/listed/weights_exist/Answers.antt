@@ -1,4 +1,4 @@
-use Rattle.esto_semantics.proofs.ListedLemmas.{weight_exists, weight_is_one, weight_rises, weight_is_sum}
+use Rattle.esto_semantics.proofs.WeightLemmas.{weight_exists, weight_is_one, weight_rises, weight_is_sum}
 use Rattle.esto_semantics.proofs.listed.weights_exist.Goals as goal
 
 pub returns : goal.returns
