@@ -1,9 +1,11 @@
 -- Facts under maps: images, what maps send where, and what facts mention.
-use Rattle.std.proofs.Common.{◌≡◌, ◌⊎◌, inl, inr, List, ◌++◌, map, Contains, sym, ap, subst}
+use Rattle.std.proofs.Common.{◌≡◌, ◌⊎◌, inl, inr, List, [], ◌∷◌, ◌++◌, map, length, Contains, refl, sym, ap, subst, arith}
+use Rattle.std.proofs.lemmas.Bool.{cases_eq}
 use Rattle.std.proofs.lemmas.List.Elements.{Contains-append_cases}
 use Rattle.esto_semantics.specs.Facts.{image, Mentions}
 use Rattle.esto_semantics.specs.Maps.{SendsInto, Sends}
 use Rattle.esto_semantics.specs.declared.fact.Fact.{Fact}
+use Rattle.esto_term.proofs.ChoiceLemmas.{Decided}
 use Rattle.esto_term.proofs.ListLemmas.{Contains-map, Contains-map_from, map_agree, map_itself, map_then}
 
 -- ---- the image of a fact
@@ -64,3 +66,25 @@ Mentions-append facts others thing (fact, inside, in_fact) = elim (Contains-appe
   | inl left ↦ inl (fact, left, in_fact)
   | inr right ↦ inr (fact, right, in_fact)
 ]
+
+-- ---- whether facts are equal, where that is told of the things that stand in them
+
+module _ {V : Type 0} (decide : (thing other : V) → Decided (thing ≡ other)) where
+  decided_row : (row other : List V) → Decided (row ≡ other)
+  decided_row [] [] = inl refl
+  decided_row [] (thing ∷ rest) = inr (λ is. let count = ap length is in omega (arith, count))
+  decided_row (thing ∷ rest) [] = inr (λ is. let count = ap length is in omega (arith, count))
+  decided_row (thing ∷ rest) (other ∷ others) = by (decide thing other) (decided_row rest others)
+    where
+      by : Decided (thing ≡ other) → Decided (rest ≡ others) → Decided (thing ∷ rest ≡ other ∷ others)
+      by (inl is) (inl same) = inl (λ i. is i ∷ same i)
+      by (inl is) (inr apart) = inr (λ same. apart cc)
+      by (inr apart) same = inr (λ is. apart cc)
+
+  pub decided_fact : (fact other : Fact V) → Decided (fact ≡ other)
+  decided_fact fact other = by (cases_eq fact.relation other.relation) (decided_row fact.terms other.terms)
+    where
+      by : (fact.relation ≡ other.relation) ⊎ (fact.relation ≡ other.relation → ⊥) → Decided (fact.terms ≡ other.terms) → Decided (fact ≡ other)
+      by (inl is) (inl same) = inl (λ i. record { relation = is i; terms = same i })
+      by (inl is) (inr apart) = inr (λ same. apart (ap (λ (it : Fact V). it.terms) same))
+      by (inr apart) same = inr (λ is. apart (ap (λ (it : Fact V). it.relation) is))

@@ -33,7 +33,7 @@ module _ (views : List ConjunctiveQuery) (end : ConjunctiveQuery) where
         (λ term inside. Contains-append_left (terms_of end.body) end.head term (Mentions-terms_of end.body term inside))) answer,
   )
 
-  rows_answer-from_canonical : (other : ConjunctiveQuery) → IsFragmentAnswer views other (canonical_database end) (map (canonical_value end) end.head)
+  pub rows_answer-from_canonical : (other : ConjunctiveQuery) → IsFragmentAnswer views other (canonical_database end) (map (canonical_value end) end.head)
       → IsAnswerInto Const other (IsTermRow views end.body) end.head
   rows_answer-from_canonical other answer =
       subst (IsAnswerInto Const other (IsTermRow views end.body))
@@ -76,7 +76,7 @@ module _ (views : List ConjunctiveQuery) (end plan : ConjunctiveQuery) (is_plan 
       ap (map is_plan.back) is_plan.head ∙ map_then is_plan.renaming is_plan.back end.head
       ∙ map_agree there_and_back (λ term. term) end.head (λ term inside. is_plan.undone term (inr inside)) ∙ map_itself end.head
 
-  map-from_rows_answer : (other : ConjunctiveQuery) → IsAnswerInto Const other (IsTermRow views end.body) end.head → MapsTo other plan
+  pub map-from_rows_answer : (other : ConjunctiveQuery) → IsAnswerInto Const other (IsTermRow views end.body) end.head → MapsTo other plan
   map-from_rows_answer other answer =
       let renamed = IsAnswerInto-then Const Const other (IsTermRow views end.body)
       (Contains plan.body) is_plan.renaming end.head is_plan.keeps is_plan.rows answer in

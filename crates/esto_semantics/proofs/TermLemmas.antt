@@ -5,6 +5,7 @@ use Rattle.esto_term.specs.declared.term.Term.{Term, out-Term, roll-Term, roll-o
 use Rattle.esto_term.specs.declared.term.Term.TheVariants.{Const, Plain, Made, outs-Const, outs-Plain, outs-Made, rolls-Const, rolls-Plain, rolls-Made}
 use Rattle.esto_term.specs.declared.term.Term.TheOpen.{Term-F}
 use Rattle.esto_term.specs.Order.{replaced, same_term}
+use Rattle.esto_term.proofs.ChoiceLemmas.{Decided}
 use Rattle.esto_term.proofs.CompareLemmas.{equal_tested}
 use Rattle.esto_semantics.specs.Maps.{IsFlat, Keeps}
 
@@ -58,6 +59,13 @@ Made-same rule variable frontier other_rule other_variable other_frontier is =
 
 pub same_term-Decides : (term other : Term) → Decides (same_term term other) (term ≡ other)
 same_term-Decides term other = let both = equal_tested term other (same_term term other) refl in (both.0, both.1)
+
+pub decided_term : (term other : Term) → Decided (term ≡ other)
+decided_term term other = by (same_term term other) refl
+  where
+    by : (answer : Bool) → same_term term other ≡ answer → Decided (term ≡ other)
+    by true told = inl ((same_term-Decides term other).0 told)
+    by false told = inr (λ is. let wrong : true ≡ false = sym ((same_term-Decides term other).1 is) ∙ told in cc)
 
 pub replaced_cases : (from to term : Term) → ((term ≡ from) × (replaced from to term ≡ to)) ⊎ ((term ≢ from) × (replaced from to term ≡ term))
 replaced_cases from to term = by (same_term term from) refl

@@ -1,0 +1,4 @@
+pub mod MapsToLemmas
+pub mod LeftLemmas
+pub mod CoreLemmas
+pub mod UnionLemmas

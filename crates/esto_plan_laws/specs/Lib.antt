@@ -1,0 +1,4 @@
+pub mod Cores
+pub mod CoreLaws
+pub mod UnionSets
+pub mod UnionLaws
