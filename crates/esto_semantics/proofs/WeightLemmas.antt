@@ -1,9 +1,7 @@
 -- Weights of atoms: over distinct things, each of which comes from one of another list by a map that keeps weights.
-use Rattle.std.proofs.Common.{◌≡◌, ◌≢◌, ◌⊎◌, ◌↔◌, inl, inr, ℕ, ◌+◌, ◌≤◌, List, [], ◌∷◌, ◌++◌, length, get_or, map, slice_index_or, sum, Contains}
+use Rattle.std.proofs.Common.{◌≡◌, ◌≢◌, ◌↔◌, inl, inr, ℕ, ◌+◌, ◌≤◌, List, [], ◌∷◌, ◌++◌, length, get_or, map, slice_index_or, sum, Contains}
 use Rattle.std.proofs.Common.{refl, sym, ap, ◌∙◌, subst, arith}
 use Rattle.std.specs.List.{AllPairs, sum_by}
-use Rattle.std.specs.declared.cmp.Ordering.TheVariants.{Equal}
-use Rattle.std.proofs.lemmas.Bool.{cases_eq}
 use Rattle.std.proofs.lemmas.List.Elements.{Contains-append_cases, Contains-append_left, Contains-append_right}
 use Rattle.std.proofs.lemmas.List.Sums.{sum-map, sum_by-append, sum_by-cons}
 use Rattle.esto_semantics.specs.Facts.{image}
@@ -11,9 +9,9 @@ use Rattle.esto_semantics.specs.Listed.{chosen, IsWeight}
 use Rattle.esto_semantics.specs.ListedLaws.{WeightExists, WeightRises, WeightIsOne, WeightIsSum}
 use Rattle.esto_semantics.specs.PlanLaws.{OntoWeighsNoMore}
 use Rattle.esto_semantics.specs.declared.fact.Fact.{Fact}
-use Rattle.esto_term.specs.Order.{term_cmp}
 use Rattle.esto_term.specs.declared.term.Term.{Term}
-use Rattle.esto_semantics.proofs.AccessLemmas.{decided_same}
+use Rattle.esto_semantics.proofs.FactLemmas.{decided_fact}
+use Rattle.esto_semantics.proofs.TermLemmas.{decided_term}
 use Rattle.esto_semantics.proofs.ListedLemmas.{chosen_once}
 use Rattle.esto_term.proofs.ChoiceLemmas.{Decided, decided_below, pairs_cons}
 use Rattle.esto_term.proofs.DistinctLemmas.{distinct_head, distinct_rest, split}
@@ -116,27 +114,7 @@ distinct_of {A} same (x ∷ xs) = go (distinct_of same xs)
           ),
         )
 
-same_lists : {A : Type 0} → ((x z : A) → Decided (x ≡ z)) → (xs ys : List A) → Decided (xs ≡ ys)
-same_lists same [] [] = inl refl
-same_lists same [] (y ∷ ys) = inr (λ e. let l = ap length e in omega (arith, l))
-same_lists same (x ∷ xs) [] = inr (λ e. let l = ap length e in omega (arith, l))
-same_lists {A} same (x ∷ xs) (y ∷ ys) = go (same x y) (same_lists same xs ys)
-  where
-    go : Decided (x ≡ y) → Decided (xs ≡ ys) → Decided (x ∷ xs ≡ y ∷ ys)
-    go (inl e) (inl d) = inl (λ i. e i ∷ d i)
-    go (inl e) (inr apart) = inr (λ d. apart cc)
-    go (inr apart) d = inr (λ e. apart cc)
-
-module _ (exact : (term other : Term) → (term_cmp term other ≡ Equal) ↔ (term ≡ other)) where
-  same_facts : (fact other : Fact Term) → Decided (fact ≡ other)
-  same_facts fact other = go (cases_eq fact.relation other.relation) (same_lists (decided_same exact) fact.terms other.terms)
-    where
-      go : (fact.relation ≡ other.relation) ⊎ (fact.relation ≡ other.relation → ⊥) → Decided (fact.terms ≡ other.terms) → Decided (fact ≡ other)
-      go (inl e) (inl d) = inl (λ i. record { relation = e i; terms = d i })
-      go (inl e) (inr apart) = inr (λ same. apart (ap (λ f. f.terms) same))
-      go (inr apart) d = inr (λ same. apart (ap (λ f. f.relation) same))
-
-  pub weight_exists : WeightExists
-  weight_exists weights atoms =
-      let found = distinct_of same_facts atoms in
-      (sum (map (λ atom. slice_index_or weights atom.relation 0) found.0), (found.0, found.1, found.2, refl))
+pub weight_exists : WeightExists
+weight_exists weights atoms =
+    let found = distinct_of (decided_fact decided_term) atoms in
+    (sum (map (λ atom. slice_index_or weights atom.relation 0) found.0), (found.0, found.1, found.2, refl))

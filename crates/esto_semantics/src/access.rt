@@ -6,8 +6,6 @@ ghost use Rattle.esto_semantics.specs.declared.fact.Fact.{Fact};
 ghost use Rattle.esto_semantics.specs.AccessLaws.{NoneIsExecutable, UnionIsExecutable, PartExists, PartIsOne, ExecutableIsOwnPart, PartRises};
 ghost use Rattle.esto_semantics.specs.AccessLaws.{StatedOrderExists, StatedOrderIsOne, NumbersAreStated, RewritingsNeedNoOrder, MinimalOfParts};
 
-use esto_term::terms_are_ordered;
-
 /// A law: the set of no atoms is executable, and so is the union of two executable sets. So every set has an
 /// accessible part, and only one. It is the set itself exactly where the set is executable, and it grows with
 /// the set.
@@ -18,17 +16,13 @@ pub fn executable_sets_unite()
     ensures one { PartIsOne }
     ensures own { ExecutableIsOwnPart }
     ensures rises { PartRises }
-{
-    terms_are_ordered();
-}
+{}
 
 /// A law: every executable set has a stated order, and no set has two.
 pub fn stated_orders_exist()
     ensures exist { StatedOrderExists }
     ensures one { StatedOrderIsOne }
-{
-    terms_are_ordered();
-}
+{}
 
 /// A law: the minimal executable sets that pass a test are the minimal sets whose accessible part passes it.
 pub fn minimal_executable_sets_are_told_by_parts()

@@ -4,8 +4,6 @@ ghost use Rattle.esto_semantics.specs.ListedLaws.{ListedAreExecutable, ListedAre
 ghost use Rattle.esto_semantics.specs.ListedLaws.{ChosenAreNamed, WeightExists, WeightRises, WeightIsOne, WeightIsSum};
 ghost use Rattle.esto_semantics.specs.ListedLaws.{PickExists, PickIsOne, PickWeighsLeast, PickWeighsLeastOfAll};
 
-use esto_term::terms_are_ordered;
-
 /// A law: there is one list of the listed sets, each rewriting has one of them within it, and it is empty exactly where
 /// no set of the plan's atoms is a rewriting. For a satisfiable query's universal plan that is so exactly where the
 /// query has no executable rewriting at all. Where a family has exactly the rewritings, a list is that of the listed
@@ -43,9 +41,7 @@ pub fn weights_exist()
     ensures one { WeightIsOne }
     ensures rise { WeightRises }
     ensures sum { WeightIsSum }
-{
-    terms_are_ordered();
-}
+{}
 
 /// A law: a list of weights that isn't empty has a pick, and only one. Among the weights of the listed sets, no
 /// rewriting among the sets of the plan's atoms weighs less than the pick; and for a satisfiable query's universal plan

@@ -4,8 +4,8 @@ use Rattle.esto_semantics.proofs.access.executable_sets_unite.Goals as goal
 pub returns : goal.returns
 returns c = record {
   none = none_is_executable;
-  union = union_is_executable c.terms_are_ordered.ensures.exact;
-  part = part_exists c.terms_are_ordered.ensures.exact;
+  union = union_is_executable;
+  part = part_exists;
   one = part_is_one;
   own = executable_is_own_part;
   rises = part_rises;

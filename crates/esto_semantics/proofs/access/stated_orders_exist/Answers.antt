@@ -2,4 +2,4 @@ use Rattle.esto_semantics.proofs.AccessLemmas.{stated_order_exists, stated_order
 use Rattle.esto_semantics.proofs.access.stated_orders_exist.Goals as goal
 
 pub returns : goal.returns
-returns c = record { exist = stated_order_exists c.terms_are_ordered.ensures.exact; one = stated_order_is_one }
+returns c = record { exist = stated_order_exists; one = stated_order_is_one }

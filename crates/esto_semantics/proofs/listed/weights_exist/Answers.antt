@@ -2,4 +2,4 @@ use Rattle.esto_semantics.proofs.WeightLemmas.{weight_exists, weight_is_one, wei
 use Rattle.esto_semantics.proofs.listed.weights_exist.Goals as goal
 
 pub returns : goal.returns
-returns c = record { exist = weight_exists c.terms_are_ordered.ensures.exact; one = weight_is_one; rise = weight_rises; sum = weight_is_sum }
+returns c = record { exist = weight_exists; one = weight_is_one; rise = weight_rises; sum = weight_is_sum }
