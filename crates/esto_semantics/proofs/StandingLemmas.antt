@@ -1,14 +1,18 @@
 -- Databases that stand for facts over terms: rules, answers and rows of views go there and back.
-use Rattle.std.proofs.Common.{◌≡◌, ◌==◌, inl, inr, ℕ, Bool, true, false, cond, List, [], ◌∷◌, map, Some, slice_get, Contains, refl, sym, ap, ◌∙◌, subst, arith}
+use Rattle.std.proofs.Common.{◌≡◌, ◌⊎◌, ◌==◌, inl, inr, ℕ, Bool, true, false, cond, List, [], ◌∷◌, map, Some, slice_get, Contains, refl, sym, ap, ◌∙◌, subst}
+use Rattle.std.proofs.Common.{arith}
 use Rattle.std.proofs.lemmas.Bool.Decides.{nat_tests}
-use Rattle.esto_term.specs.declared.term.Term.{Term}
-use Rattle.esto_term.specs.declared.term.Term.TheVariants.{Const}
+use Rattle.esto_term.specs.Kinds.{IsConstant}
+use Rattle.esto_term.specs.declared.term.Term.{Term, out-Term}
+use Rattle.esto_term.specs.declared.term.Term.TheOpen.{Term-F}
+use Rattle.esto_term.specs.declared.term.Term.TheVariants.{Const, Plain, outs-Const, outs-Plain}
 use Rattle.esto_semantics.specs.Facts.{Database, image, Mentions, terms_of}
 use Rattle.esto_semantics.specs.Maps.{IsFixedBy, Keeps, Sends}
 use Rattle.esto_semantics.specs.PlanOf.{IsTermRow}
 use Rattle.esto_semantics.specs.Queries.{ConjunctiveQuery, IsQuery, IsAnswerInto}
 use Rattle.esto_semantics.specs.Rules.{Rule, tuple, equality, denial, IsRule, MeetsInto, MeetsRule}
-use Rattle.esto_semantics.specs.Standing.{Stands, RowsStand, AreQueries, StandingExists, RulesStand, FinishedStands, AnswersStand, ViewRowsStand}
+use Rattle.esto_semantics.specs.Standing.{Stands, RowsStand, AreQueries, StandingExists, StandingFactsExist, RulesStand, FinishedStands, AnswersStand}
+use Rattle.esto_semantics.specs.Standing.{ViewRowsStand}
 use Rattle.esto_semantics.specs.Standing.{FragmentAnswersStand}
 use Rattle.esto_semantics.specs.Views.{IsViewRow}
 use Rattle.esto_semantics.specs.declared.fact.Fact.{Fact}
@@ -279,3 +283,60 @@ standing_exists facts = (
   where
     end : ConjunctiveQuery
     end = record { head = []; body = facts }
+
+-- ---- facts that a database stands for
+
+abbrev term_of : Value → Term
+term_of (Text text) = Const text
+term_of (Node node) = Plain node
+
+abbrev own_step : Term-F Term → Value
+own_step (Term-F.Const text) = Text text
+own_step (Term-F.Plain node) = Node node
+own_step (Term-F.Made _ _ _) = Node 0
+
+abbrev own_value : Term → Value
+own_value term = own_step (out-Term term)
+
+own_value-term_of : (value : Value) → own_value (term_of value) ≡ value
+own_value-term_of (Text text) = ap own_step (outs-Const text)
+own_value-term_of (Node node) = ap own_step (outs-Plain node)
+
+unnamed-term_of : (value : Value) → IsConstant (term_of value) ⊎ ((node : ℕ) × (own_value (term_of value) ≡ Node node))
+unnamed-term_of (Text text) = inl (text, refl)
+unnamed-term_of (Node node) = inr (node, own_value-term_of (Node node))
+
+own_image : (fact : Fact Value) → image own_value (image term_of fact) ≡ fact
+own_image fact =
+    image_then term_of own_value fact ∙ image_agree (λ it. own_value (term_of it)) (λ it. it) fact (λ it inside. own_value-term_of it) ∙ image_itself fact
+
+pub standing_facts_exist : StandingFactsExist
+standing_facts_exist database = (
+  facts,
+  own_value,
+  record {
+    values = record {
+      keeps = λ text. ap own_step (outs-Const text);
+      unnamed = λ term mentioned.
+          let from = Mentions-images term_of database term mentioned in
+          subst (λ it. IsConstant it ⊎ ((node : ℕ) × (own_value it ≡ Node node))) from.2 (unnamed-term_of from.0);
+      apart = λ term other mentioned other_mentioned same.
+          let from = Mentions-images term_of database term mentioned in
+          let from_other = Mentions-images term_of database other other_mentioned in
+          let values : from.0 ≡ from_other.0 = sym (own_value-term_of from.0) ∙ ap own_value from.2 ∙ same ∙ ap own_value (sym from_other.2)
+          ∙ own_value-term_of from_other.0 in
+          sym from.2 ∙ ap term_of values ∙ from_other.2;
+    };
+    images = λ fact. (
+      (λ inside. subst (Contains (map (image own_value) facts)) (own_image fact)
+          (Contains-map (image own_value) facts (image term_of fact) (Contains-map (image term_of) database fact inside))),
+      (λ inside.
+          let own = Contains-map_from (image own_value) facts fact inside in
+          let from = Contains-map_from (image term_of) database own.0 own.1 in
+          subst (Contains database) (sym (own_image from.0) ∙ ap (image own_value) from.2 ∙ own.2) from.1),
+    );
+  },
+)
+  where
+    facts : List (Fact Term)
+    facts = map (image term_of) database

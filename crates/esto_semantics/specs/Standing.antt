@@ -36,6 +36,10 @@ pub record RowsStand (value : Term → Value) (Rows : List Term → Type 0) (Oth
 abbrev pub StandingExists : Type 0
 StandingExists = (facts : List (Fact Term)) → (value : Term → Value) × (database : Database) × Stands facts value database
 
+-- Each database stands for some facts.
+abbrev pub StandingFactsExist : Type 0
+StandingFactsExist = (database : Database) → (facts : List (Fact Term)) × (value : Term → Value) × Stands facts value database
+
 -- The facts, read over terms, meet a rule exactly where a database that stands for them meets it.
 abbrev pub RulesStand : Type 0
 RulesStand =
