@@ -11,7 +11,7 @@ use Rattle.std.specs.Fn.{Mut, Called, ComparesAs}
 use Rattle.std.proofs.lemmas.Fn.{always_returns_same}
 use Rattle.std.proofs.lemmas.Bool.{false≢true}
 use Rattle.std.proofs.lemmas.Bool.Decides.{nat_tests}
-use Rattle.std.proofs.lemmas.List.{length-take-le, length-drop, length-map, get_or-take, get_or-drop}
+use Rattle.std.proofs.lemmas.List.{get_or_default, length-take-le, length-drop, length-map, get_or-take, get_or-drop}
 use Rattle.std.proofs.lemmas.List.Sorted.{ranks_by, sorted_far, Contains-permutation}
 use Rattle.std.proofs.lemmas.List.Elements.{Contains-append_left, Contains-push}
 use Rattle.std.proofs.lemmas.Option.{same_Some, slice_get_within}
@@ -23,8 +23,8 @@ use Rattle.esto_semantics.specs.Maps.{Keeps}
 use Rattle.esto_semantics.specs.declared.fact.Fact.{Fact}
 use Rattle.esto_query.specs.Valuations.{Assignment, Extends}
 use Rattle.esto_query.specs.Rows.{row_cmp}
-use Rattle.esto_query.specs.Indexes.{key_cmp, entry_cmp, key_terms, IsEntry, AddsEntries, AreListed, IsInOrder, IsIndex, HasPlace, IsRangeOf, IsRange, Serves}
-use Rattle.esto_query.specs.declared.index.Key.{Key}
+use Rattle.esto_query.specs.Keys.{FactKey, key_cmp, key_at, entry_cmp, key_terms, terms_in}
+use Rattle.esto_query.specs.Indexes.{IsEntry, AddsEntries, AreListed, IsInOrder, IsIndex, HasPlace, IsRangeOf, AreCandidates}
 use Rattle.esto_query.specs.declared.index.Entry.{Entry}
 
 -- ---- total orders
@@ -54,13 +54,15 @@ module _ {K : Type 0} (R : K → K → Ordering) (total : IsTotalOrder R) where
 -- ---- the orders of keys and entries
 
 key_cmp_total : IsTotalOrder key_cmp
-key_cmp_total = then_total (then_total (on_total (λ (key : Key). key.relation) nat_cmp_total) (on_total (λ (key : Key). key.column) nat_cmp_total)) (on_total (λ (key : Key). key.terms.now) (lists_total term_cmp_total))
+key_cmp_total =
+    then_total (then_total (on_total (λ (key : FactKey). key.relation) nat_cmp_total) (on_total (λ (key : FactKey). key.number) nat_cmp_total))
+    (on_total (λ (key : FactKey). key.terms) (lists_total term_cmp_total))
 
-pub entry_cmp_total : IsTotalOrder entry_cmp
-entry_cmp_total = then_total (on_total (λ (entry : Entry). entry.key) key_cmp_total) (on_total (λ (entry : Entry). entry.place) nat_cmp_total)
+entry_cmp_total : (facts : List (Fact Term)) → IsTotalOrder (entry_cmp facts)
+entry_cmp_total facts = then_total (on_total (key_at facts) key_cmp_total) (on_total (λ (entry : Entry). entry.place) nat_cmp_total)
 
-pub entries_weak : IsStrictWeakOrder (λ (x y : Entry). is_lt (entry_cmp x y))
-entries_weak = ranks_by entry_cmp_total (λ (entry : Entry). entry)
+entries_weak : (facts : List (Fact Term)) → IsStrictWeakOrder (λ (x y : Entry). is_lt (entry_cmp facts x y))
+entries_weak facts = ranks_by (entry_cmp_total facts) (λ (entry : Entry). entry)
 
 is_less : (o : Ordering) → is_lt o ≡ true → o ≡ Less
 is_less Less e = refl
@@ -78,15 +80,17 @@ lt_false Less apart = absurd (apart refl)
 lt_false Equal apart = refl
 lt_false Greater apart = refl
 
-pub in_order_from_sort : (index : List Entry) → IsSortedBy (λ (x y : Entry). is_lt (entry_cmp x y)) index → IsInOrder index
-in_order_from_sort index up i j d le lt = not_less (entry_cmp (get_or index j d) (get_or index i d)) (sorted_far (λ (x y : Entry). is_lt (entry_cmp x y)) entries_weak index up i j d le lt)
+in_order_from_sort : (facts : List (Fact Term)) (index : List Entry) → IsSortedBy (λ (x y : Entry). is_lt (entry_cmp facts x y)) index → IsInOrder facts index
+in_order_from_sort facts index up i j d le lt =
+    not_less (entry_cmp facts (get_or index j d) (get_or index i d)) (sorted_far (λ (x y : Entry). is_lt (entry_cmp facts x y)) (entries_weak facts) index up i j d le lt)
 
-keys_rise : (x y : Entry) → entry_cmp y x ≢ Less → key_cmp x.key y.key ≢ Greater
-keys_rise x y up greater = up (ap (λ o. ordering_then o (nat_cmp y.place x.place)) (less_back key_cmp key_cmp_total x.key y.key greater))
-
-pub in_order_from_sort_by : {F : Type 0} {g : Mut F (Bor Entry × (Bor Entry × Unit {0})) Ordering} {f : F} (index : List Entry) → ((lt : Entry → Entry → Bool) → IsStrictWeakOrder lt → ComparesAs g lt f → IsSortedBy lt index) → ((a : Bor Entry × (Bor Entry × Unit {0})) (r : Ordering) (f' : F) → Called g f a r f' → (r ≡ entry_cmp a.0.now a.1.0.now) × (f' ≡ f)) → IsInOrder index
-in_order_from_sort_by {g = g} {f = f} index up h =
-    in_order_from_sort index (up (λ (x y : Entry). is_lt (entry_cmp x y)) entries_weak (always_returns_same g (λ a r. is_lt r ≡ is_lt (entry_cmp a.0.now a.1.0.now)) f (λ a r f' k. (ap is_lt (h a r f' k).0, (h a r f' k).1))))
+pub in_order_from_sort_by : {F : Type 0} {g : Mut F (Bor Entry × (Bor Entry × Unit {0})) Ordering} {f : F} (facts : List (Fact Term)) (index : List Entry)
+    → ((lt : Entry → Entry → Bool) → IsStrictWeakOrder lt → ComparesAs g lt f → IsSortedBy lt index)
+    → ((a : Bor Entry × (Bor Entry × Unit {0})) (r : Ordering) (f' : F) → Called g f a r f' → (r ≡ entry_cmp facts a.0.now a.1.0.now) × (f' ≡ f))
+    → IsInOrder facts index
+in_order_from_sort_by {g = g} {f = f} facts index up h =
+    in_order_from_sort facts index (up (λ (x y : Entry). is_lt (entry_cmp facts x y)) (entries_weak facts)
+    (always_returns_same g (λ a r. is_lt r ≡ is_lt (entry_cmp facts a.0.now a.1.0.now)) f (λ a r f' k. (ap is_lt (h a r f' k).0, (h a r f' k).1))))
 
 -- ---- the entries of a key
 
@@ -109,25 +113,29 @@ cases_lt a b = grind arith
 least_place : (p q : ℕ) → nat_cmp q p ≢ Less → p ≤ q
 least_place p q apart = elim (cases_lt q p) [ inl less ↦ absurd (apart (grind (arith, nat_tests))) | inr most ↦ most ]
 
-module _ (xs : List Entry) (key : Key) (order : IsInOrder xs) where
-  pub low_parted : IsPartitionedBy (λ (entry : Entry). is_lt (key_cmp entry.key key)) xs
+keys_rise : (facts : List (Fact Term)) (x y : Entry) → entry_cmp facts y x ≢ Less → key_cmp (key_at facts x) (key_at facts y) ≢ Greater
+keys_rise facts x y up greater =
+    up (ap (λ o. ordering_then o (nat_cmp y.place x.place)) (less_back key_cmp key_cmp_total (key_at facts x) (key_at facts y) greater))
+
+module _ (facts : List (Fact Term)) (xs : List Entry) (key : FactKey) (order : IsInOrder facts xs) where
+  pub low_parted : IsPartitionedBy (λ (entry : Entry). is_lt (key_cmp (key_at facts entry) key)) xs
   low_parted i j d le lt e =
       let x = get_or xs i d in
       let y = get_or xs j d in
-      less_is (key_cmp x.key key) (below_by key_cmp key_cmp_total x.key y.key key (key_cmp x.key y.key) refl (keys_rise x y (order i j d le lt)) (is_less (key_cmp y.key key) e))
+      less_is (key_cmp (key_at facts x) key) (below_by key_cmp key_cmp_total (key_at facts x) (key_at facts y) key (key_cmp (key_at facts x) (key_at facts y)) refl (keys_rise facts x y (order i j d le lt)) (is_less (key_cmp (key_at facts y) key) e))
 
-  pub high_parted : IsPartitionedBy (λ (entry : Entry). is_ge (key_cmp key entry.key)) xs
+  pub high_parted : IsPartitionedBy (λ (entry : Entry). is_ge (key_cmp key (key_at facts entry))) xs
   high_parted i j d le lt e =
       let x = get_or xs i d in
       let y = get_or xs j d in
-      not_ge (key_cmp key x.key) (λ less. ge_not (key_cmp key y.key) e (above_by key_cmp key_cmp_total x.key y.key key (key_cmp x.key y.key) refl (keys_rise x y (order i j d le lt)) less))
+      not_ge (key_cmp key (key_at facts x)) (λ less. ge_not (key_cmp key (key_at facts y)) e (above_by key_cmp key_cmp_total (key_at facts x) (key_at facts y) key (key_cmp (key_at facts x) (key_at facts y)) refl (keys_rise facts x y (order i j d le lt)) less))
 
-  key_is : (x : Entry) → is_lt (key_cmp x.key key) ≡ false → is_ge (key_cmp key x.key) ≡ true → key_cmp x.key key ≡ Equal
-  key_is x low high = equal_by key_cmp key_cmp_total x.key key (key_cmp x.key key) refl (not_less (key_cmp x.key key) low) (ge_not (key_cmp key x.key) high)
+  key_is : (x : Entry) → is_lt (key_cmp (key_at facts x) key) ≡ false → is_ge (key_cmp key (key_at facts x)) ≡ true → key_cmp (key_at facts x) key ≡ Equal
+  key_is x low high = equal_by key_cmp key_cmp_total (key_at facts x) key (key_cmp (key_at facts x) key) refl (not_less (key_cmp (key_at facts x) key) low) (ge_not (key_cmp key (key_at facts x)) high)
 
-  places_rise : (x y : Entry) → key_cmp x.key key ≡ Equal → key_cmp y.key key ≡ Equal → entry_cmp y x ≢ Less → x.place ≤ y.place
+  places_rise : (x y : Entry) → key_cmp (key_at facts x) key ≡ Equal → key_cmp (key_at facts y) key ≡ Equal → entry_cmp facts y x ≢ Less → x.place ≤ y.place
   places_rise x y e f up =
-      least_place x.place y.place (λ less. up (ap (λ o. ordering_then o (nat_cmp y.place x.place)) (equal_two key_cmp key_cmp_total y.key x.key key f e) ∙ less))
+      least_place x.place y.place (λ less. up (ap (λ o. ordering_then o (nat_cmp y.place x.place)) (equal_two key_cmp key_cmp_total (key_at facts y) (key_at facts x) key f e) ∙ less))
 
 -- the list from a place on
 tail_read : (xs : List Entry) (low k : ℕ) (d : Entry) → k < length xs - low → get_or (take (length xs - low) (drop low xs)) k d ≡ get_or xs (low + k) d
@@ -136,36 +144,36 @@ tail_read xs low k d l = get_or-take (length xs - low) (drop low xs) k d l ∙ g
 tail_length : (xs : List Entry) (low : ℕ) → length (take (length xs - low) (drop low xs)) ≡ length xs - low
 tail_length xs low = length-take-le (length xs - low) (drop low xs) (omega (arith, length-drop low xs)) 
 
-pub tail_in_order : (xs : List Entry) (low : ℕ) → IsInOrder xs → IsInOrder (take (length xs - low) (drop low xs))
-tail_in_order xs low order i j d le lt =
+pub tail_in_order : (facts : List (Fact Term)) (xs : List Entry) (low : ℕ) → IsInOrder facts xs → IsInOrder facts (take (length xs - low) (drop low xs))
+tail_in_order facts xs low order i j d le lt =
     let within : j < length xs - low = omega (arith, tail_length xs low) in
     rw (tail_read xs low i d (omega arith), tail_read xs low j d within) (order (low + i) (low + j) d (omega arith) (omega arith))
 
-pub range_is : (xs : List Entry) (key : Key) (low count : ℕ) → IsInOrder xs
-    → IsPartitionPoint (λ (e : Entry). is_lt (key_cmp e.key key) ≡ true) (λ (e : Entry). is_lt (key_cmp e.key key) ≡ false) xs low
+pub range_is : (facts : List (Fact Term)) (xs : List Entry) (key : FactKey) (low count : ℕ) → IsInOrder facts xs
+    → IsPartitionPoint (λ (e : Entry). is_lt (key_cmp (key_at facts e) key) ≡ true) (λ (e : Entry). is_lt (key_cmp (key_at facts e) key) ≡ false) xs low
     → count ≤ length (take (length xs - low) (drop low xs))
-    → IsPartitionPoint (λ (e : Entry). is_ge (key_cmp key e.key) ≡ true) (λ (e : Entry). is_ge (key_cmp key e.key) ≡ false) (take (length xs - low) (drop low xs)) count
-    → IsRangeOf xs key (take count (take (length xs - low) (drop low xs)))
-range_is xs key low count order lows bound highs = record { complete = complete; rising = rising }
+    → IsPartitionPoint (λ (e : Entry). is_ge (key_cmp key (key_at facts e)) ≡ true) (λ (e : Entry). is_ge (key_cmp key (key_at facts e)) ≡ false) (take (length xs - low) (drop low xs)) count
+    → IsRangeOf facts xs key (take count (take (length xs - low) (drop low xs)))
+range_is facts xs key low count order lows bound highs = record { complete = complete; rising = rising }
   where
     long : length (take (length xs - low) (drop low xs)) ≡ length xs - low
     long = tail_length xs low
 
-    from_low : (k : ℕ) (entry : Entry) → k < length xs → get_or xs k entry ≡ entry → key_cmp entry.key key ≡ Equal → low ≤ k
+    from_low : (k : ℕ) (entry : Entry) → k < length xs → get_or xs k entry ≡ entry → key_cmp (key_at facts entry) key ≡ Equal → low ≤ k
     from_low k entry l read same = elim (cases_lt k low) [
-      | inl below ↦ absurd (false≢true (sym (ap is_lt same) ∙ subst (λ (e : Entry). is_lt (key_cmp e.key key) ≡ true) read (lows.0 k entry (omega arith) below)))
+      | inl below ↦ absurd (false≢true (sym (ap is_lt same) ∙ subst (λ (e : Entry). is_lt (key_cmp (key_at facts e) key) ≡ true) read (lows.0 k entry (omega arith) below)))
       | inr from ↦ from
     ]
 
-    to_count : (k : ℕ) (entry : Entry) → k < length xs - low → get_or (take (length xs - low) (drop low xs)) k entry ≡ entry → key_cmp entry.key key ≡ Equal → k < count
+    to_count : (k : ℕ) (entry : Entry) → k < length xs - low → get_or (take (length xs - low) (drop low xs)) k entry ≡ entry → key_cmp (key_at facts entry) key ≡ Equal → k < count
     to_count k entry l read same = elim (cases_lt k count) [
       | inl below ↦ below
       | inr from ↦
-          let back : key_cmp key entry.key ≡ Equal = key_cmp_total.antisymm key entry.key ∙ ap ordering_reverse same in
-          absurd (false≢true (sym (subst (λ (e : Entry). is_ge (key_cmp key e.key) ≡ false) read (highs.1 k entry from (omega (arith, long)))) ∙ ap is_ge back))
+          let back : key_cmp key (key_at facts entry) ≡ Equal = key_cmp_total.antisymm key (key_at facts entry) ∙ ap ordering_reverse same in
+          absurd (false≢true (sym (subst (λ (e : Entry). is_ge (key_cmp key (key_at facts e)) ≡ false) read (highs.1 k entry from (omega (arith, long)))) ∙ ap is_ge back))
     ]
 
-    complete : (entry : Entry) → Contains xs entry → key_cmp entry.key key ≡ Equal → Contains (take count (take (length xs - low) (drop low xs))) entry
+    complete : (entry : Entry) → Contains xs entry → key_cmp (key_at facts entry) key ≡ Equal → Contains (take count (take (length xs - low) (drop low xs))) entry
     complete entry (k, l, read) same =
         let from : low ≤ k = from_low k entry l read same in
         let here : low + (k - low) ≡ k = omega arith in
@@ -173,9 +181,9 @@ range_is xs key low count order lows bound highs = record { complete = complete;
         let below : k - low < count = to_count (k - low) entry (omega arith) at same in
         (k - low, omega (arith, length-take-le count (take (length xs - low) (drop low xs)) bound), get_or-take count (take (length xs - low) (drop low xs)) (k - low) entry below ∙ at)
 
-    key_at : (i : ℕ) (d : Entry) → i < count → key_cmp ((get_or xs (low + i) d).key) key ≡ Equal
-    key_at i d l =
-        key_is xs key order (get_or xs (low + i) d) (lows.1 (low + i) d (omega arith) (omega (arith, long))) (subst (λ (e : Entry). is_ge (key_cmp key e.key) ≡ true) (tail_read xs low i d (omega (arith, long))) (highs.0 i d (omega arith) l))
+    key_there : (i : ℕ) (d : Entry) → i < count → key_cmp (key_at facts (get_or xs (low + i) d)) key ≡ Equal
+    key_there i d l =
+        key_is facts xs key order (get_or xs (low + i) d) (lows.1 (low + i) d (omega arith) (omega (arith, long))) (subst (λ (e : Entry). is_ge (key_cmp key (key_at facts e)) ≡ true) (tail_read xs low i d (omega (arith, long))) (highs.0 i d (omega arith) l))
 
     read_at : (i : ℕ) (d : Entry) → i < count → get_or (take count (take (length xs - low) (drop low xs))) i d ≡ get_or xs (low + i) d
     read_at i d l = get_or-take count (take (length xs - low) (drop low xs)) i d l ∙ tail_read xs low i d (omega (arith, long))
@@ -183,7 +191,7 @@ range_is xs key low count order lows bound highs = record { complete = complete;
     rising : IsNonDecreasingBy (λ (entry : Entry). entry.place) (take count (take (length xs - low) (drop low xs)))
     rising i j d le lt =
         let below : j < count = omega (arith, length-take-le count (take (length xs - low) (drop low xs)) bound) in
-        let up = places_rise xs key order (get_or xs (low + i) d) (get_or xs (low + j) d) (key_at i d (omega arith)) (key_at j d below) (order (low + i) (low + j) d (omega arith) (omega (arith, long))) in
+        let up = places_rise facts xs key order (get_or xs (low + i) d) (get_or xs (low + j) d) (key_there i d (omega arith)) (key_there j d below) (order (low + i) (low + j) d (omega arith) (omega (arith, long))) in
         omega (arith, up, ap (λ (e : Entry). e.place) (read_at i d (omega arith)), ap (λ (e : Entry). e.place) (read_at j d below))
 
 -- ---- the entries of facts
@@ -215,7 +223,7 @@ AreListed-next facts fact n now new at adds listed place column other l is lc = 
       (has.0, has.1, subst (λ (f : Fact Term). IsEntry f place column has.0) same (subst (λ p. IsEntry fact p column has.0) (sym here) has.2))
 ]
 
-pub IsIndex-sorted : (facts : List (Fact Term)) (entries index : List Entry) → AreListed facts (length facts) entries → IsPermutation entries index → IsInOrder index → IsIndex facts index
+pub IsIndex-sorted : (facts : List (Fact Term)) (entries index : List Entry) → AreListed facts (length facts) entries → IsPermutation entries index → IsInOrder facts index → IsIndex facts index
 IsIndex-sorted facts entries index listed moved order = record {
   listed = λ place column fact l is lc. let has = listed place column fact l is lc in (has.0, Contains-permutation entries index has.0 moved has.1, has.2);
   in_order = order;
@@ -223,21 +231,38 @@ IsIndex-sorted facts entries index listed moved order = record {
 
 -- ---- candidates
 
-key_same : (a b : Key) → a.relation ≡ b.relation → a.column ≡ b.column → a.terms.now ≡ b.terms.now → key_cmp a b ≡ Equal
+-- the entry of that number
+abbrev pub entry_at : List Entry → ℕ → Entry
+entry_at found i = get_or found i (record { relation = 0; column = 0; place = 0 })
+
+pub entry_read : (found : List Entry) (i : ℕ) → i < length found → entry_at found i ≡ get_or found i (entry_at found i)
+entry_read found i within = get_or_default found i (record { relation = 0; column = 0; place = 0 }) (entry_at found i) within
+
+key_same : (a b : FactKey) → a.relation ≡ b.relation → a.number ≡ b.number → a.terms ≡ b.terms → key_cmp a b ≡ Equal
 key_same a b r c t =
-    ap (λ x. ordering_then (ordering_then (nat_cmp x b.relation) (nat_cmp a.column b.column)) (row_cmp a.terms.now b.terms.now)) r
-    ∙ ap (λ x. ordering_then (ordering_then (nat_cmp b.relation b.relation) (nat_cmp x b.column)) (row_cmp a.terms.now b.terms.now)) c
-    ∙ ap (λ x. ordering_then (ordering_then (nat_cmp b.relation b.relation) (nat_cmp b.column b.column)) (row_cmp x b.terms.now)) t
+    ap (λ x. ordering_then (ordering_then (nat_cmp x b.relation) (nat_cmp a.number b.number)) (row_cmp a.terms b.terms)) r
+    ∙ ap (λ x. ordering_then (ordering_then (nat_cmp b.relation b.relation) (nat_cmp x b.number)) (row_cmp a.terms b.terms)) c
+    ∙ ap (λ x. ordering_then (ordering_then (nat_cmp b.relation b.relation) (nat_cmp b.number b.number)) (row_cmp x b.terms)) t
     ∙ tied_itself key_cmp_total b
 
-pub Serves-range : (index range : List Entry) (atom : Fact Term) (known : Assignment) (key : Key) (number : ℕ) → IsRange index key range → key.relation ≡ atom.relation → key.column ≡ number → number < length atom.terms + 1 → ((m : Term → Term) → Keeps Const m → Extends m known → key_terms (map m atom.terms) number ≡ key.terms.now) → Serves index atom known range
-Serves-range index range atom known key number of r c l t facts is = record { complete = complete; rising = (of is.in_order).rising }
+-- an entry of a fact has the fact's terms
+entry_reads : (facts : List (Fact Term)) (fact : Fact Term) (place number : ℕ) (entry : Entry) → slice_get facts place ≡ Some fact
+    → IsEntry fact place number entry → (key_at facts entry).terms ≡ key_terms fact.terms number
+entry_reads facts fact place number entry at is =
+    ap (λ n. terms_in (slice_get facts n) entry.column) is.place ∙ ap (λ f. terms_in f entry.column) at ∙ ap (key_terms fact.terms) is.number
+
+-- the range of a key whose terms each map gives the atom is one of candidates
+pub candidates-range : (facts : List (Fact Term)) (index range : List Entry) (atom : Fact Term) (known : Assignment) (key : FactKey)
+    → IsIndex facts index → IsRangeOf facts index key range → key.relation ≡ atom.relation → key.number < length atom.terms + 1
+    → ((m : Term → Term) → Keeps Const m → Extends m known → key_terms (map m atom.terms) key.number ≡ key.terms) → AreCandidates facts atom known range
+candidates-range facts index range atom known key is of r l t = record { complete = complete; rising = of.rising }
   where
     complete : (m : Term → Term) (place : ℕ) → Keeps Const m → Extends m known → slice_get facts place ≡ Some (image m atom) → HasPlace range place
     complete m place keeps extends at =
-        let has = is.listed place number (image m atom) (slice_get_within facts place (image m atom) at) at (omega (arith, l, length-map atom.terms m)) in
-        let same : key_cmp has.0.key key ≡ Equal = key_same has.0.key key (has.2.relation ∙ sym r) (has.2.column ∙ sym c) (has.2.terms ∙ t m keeps extends) in
-        (has.0, (of is.in_order).complete has.0 has.1 same, has.2.place)
+        let has = is.listed place key.number (image m atom) (slice_get_within facts place (image m atom) at) at (omega (arith, l, length-map atom.terms m)) in
+        let reads = entry_reads facts (image m atom) place key.number has.0 at has.2 in
+        let same : key_cmp (key_at facts has.0) key ≡ Equal = key_same (key_at facts has.0) key (has.2.relation ∙ sym r) has.2.number (reads ∙ t m keeps extends) in
+        (has.0, of.complete has.0 has.1 same, has.2.place)
 
 pub one_term : (m : Term → Term) (terms : List Term) (c : ℕ) (term : Term) → c < length terms → term ≡ get_or terms c term → key_terms (map m terms) (c + 1) ≡ m term ∷ []
 one_term m terms c term l read = let e : c + 1 ≡ suc c = omega arith in ap (key_terms (map m terms)) e ∙ at terms c l read

@@ -1,10 +1,12 @@
 -- A search for the least match, by the place of the first atom.
-use Rattle.std.proofs.Common.{◌≡◌, ℕ, ◌+◌, ◌-◌, ◌<◌, ◌≤◌, ◌++◌, ◌⊎◌, ◌↔◌, Bool, true, false, eqb, List, [], ◌∷◌, length, get_or, drop, Contains, Option, Some, None, refl, sym, ap, subst, ◌∙◌, inl, inr, arith}
+use Rattle.std.proofs.Common.{◌≡◌, ℕ, ◌+◌, ◌-◌, ◌<◌, ◌≤◌, ◌++◌, ◌⊎◌, ◌↔◌, Bool, true, false, eqb, List, [], ◌∷◌, length, get_or, drop, All, Contains, Option, Some, None, refl, sym, ap, subst, ◌∙◌, inl, inr, arith}
 use Rattle.std.specs.List.{slice_get}
 use Rattle.std.specs.Option.{IfSome, IfNone}
+use Rattle.std.specs.declared.cmp.Ordering.TheVariants.{Less, Equal, Greater}
 use Rattle.std.proofs.lemmas.Bool.Decides.{nat_tests}
 use Rattle.std.proofs.lemmas.Option.{same_Some, slice_get_within}
-use Rattle.std.proofs.lemmas.List.{append_assoc, append-nil, drop_more, drop_all, get_or-drop, get_or_read, length-drop}
+use Rattle.std.proofs.lemmas.List.{append_assoc, append-nil, drop_more, drop_all, get_or-drop, get_or_read, length-drop, nil_from_length}
+use Rattle.std.proofs.lemmas.List.Elements.{All-cons}
 use Rattle.esto_term.specs.declared.term.Term.{Term}
 use Rattle.esto_term.specs.declared.term.Term.TheVariants.{Const}
 use Rattle.esto_semantics.specs.Facts.{image}
@@ -12,9 +14,9 @@ use Rattle.esto_semantics.specs.Maps.{IsFlat, AreFlat, Keeps}
 use Rattle.esto_semantics.specs.declared.fact.Fact.{Fact}
 use Rattle.esto_query.specs.Valuations.{Assignment, Extends, map_of}
 use Rattle.esto_query.specs.Matches.{IsLeastMatch, HasNoMatch}
-use Rattle.esto_semantics.specs.Matches.{IsMatch, IsAtMost}
+use Rattle.esto_semantics.specs.Matches.{IsMatch, IsBefore, IsAtMost}
 use Rattle.esto_query.specs.Trails.{with_trail, Narrows, Excludes, Tries}
-use Rattle.esto_query.specs.Searches.{IsLeastFrom, Searched, first_from, rest_from}
+use Rattle.esto_query.specs.Searches.{IsLeastFrom, Searched, Follows, first_from, rest_from}
 use Rattle.esto_query.specs.declared.trail.Binding.{Binding}
 use Rattle.esto_query.specs.declared.matches.Found.{Found}
 use Rattle.esto_query.specs.Indexes.{HasPlace, AreCandidates}
@@ -189,25 +191,43 @@ pub HasNoMatch-searched : (start : Assignment) (body facts : List (Fact Term)) (
 HasNoMatch-searched start body facts from old new places_old places_new empty searched =
     subst (λ trail. HasNoMatch body facts (with_trail start trail) (IsAtMost from)) empty searched.2
 
--- ---- the same range, said another way for lists as long as the body
+-- ---- the same range, said another way for lists as long as the body, of places of facts
 
-module _ (body facts : List (Fact Term)) (start : Assignment) (Within Other : List ℕ → Type 0) (same : (places : List ℕ) → length places ≡ length body → Within places ↔ Other places) where
-  pub IsLeastMatch-range : (found : Assignment) (places : List ℕ) → IsLeastMatch body facts start Within found places → IsLeastMatch body facts start Other found places
-  IsLeastMatch-range found places least =
+places_within : (m : Term → Term) (body facts : List (Fact Term)) (places : List ℕ) → IsMatch m body facts places → All (λ place. place < length facts) places
+places_within m [] facts [] match = λ i d l. absurd (omega arith)
+places_within m [] facts (p ∷ ps) match = absurd match
+places_within m (a ∷ more) facts [] match = absurd match
+places_within m (a ∷ more) facts (p ∷ ps) match =
+    All-cons (λ place. place < length facts) p ps (slice_get_within facts p _ match.0) (places_within m more facts ps match.1)
+
+module _ (body facts : List (Fact Term)) (start : Assignment) (after from : List ℕ) (follows : Follows after (length body) (length facts) from) where
+  same : (m : Term → Term) (places : List ℕ) → IsMatch m body facts places → IsAtMost from places ↔ IsBefore after places
+  same m places match = follows places (IsMatch-length m body facts places match) (places_within m body facts places match)
+
+  IsLeastMatch-after : (found : Assignment) (places : List ℕ) → IsLeastMatch body facts start (IsAtMost from) found places → IsLeastMatch body facts start (IsBefore after) found places
+  IsLeastMatch-after found places least =
       let match = ((least.is_found.exact (map_of found) (Keeps-map_of found)).0 (Extends-map_of found)).1 in
       record {
         is_found = least.is_found;
-        within = (same places (IsMatch-length (map_of found) body facts places match)).0 least.within;
-        least = λ m others keeps extends other_match in_other. least.least m others keeps extends other_match ((same others (IsMatch-length m body facts others other_match)).1 in_other);
+        within = (same (map_of found) places match).0 least.within;
+        least = λ m others keeps extends other_match in_other. least.least m others keeps extends other_match ((same m others other_match).1 in_other);
       }
 
-  pub HasNoMatch-range : HasNoMatch body facts start Within → HasNoMatch body facts start Other
-  HasNoMatch-range none m places keeps extends match in_other = none m places keeps extends match ((same places (IsMatch-length m body facts places match)).1 in_other)
-
-  pub if_least : (outcome : Option Found) → IfSome outcome (λ found. IsLeastMatch body facts start Within found.valuation found.places) → IfSome outcome (λ found. IsLeastMatch body facts start Other found.valuation found.places)
+  pub if_least : (outcome : Option Found) → IfSome outcome (λ found. IsLeastMatch body facts start (IsAtMost from) found.valuation found.places)
+      → IfSome outcome (λ found. IsLeastMatch body facts start (IsBefore after) found.valuation found.places)
   if_least None least = tt
-  if_least (Some found) least = IsLeastMatch-range found.valuation found.places least
+  if_least (Some found) least = IsLeastMatch-after found.valuation found.places least
 
-  pub if_none : (outcome : Option Found) → IfNone outcome (HasNoMatch body facts start Within) → IfNone outcome (HasNoMatch body facts start Other)
-  if_none None none = HasNoMatch-range none
+  pub if_none : (outcome : Option Found) → IfNone outcome (HasNoMatch body facts start (IsAtMost from)) → IfNone outcome (HasNoMatch body facts start (IsBefore after))
+  if_none None none = λ m places keeps extends match in_other. none m places keeps extends match ((same m places match).1 in_other)
   if_none (Some found) none = tt
+
+-- an empty body has no match after a list of places
+pub HasNoMatch-empty : (body facts : List (Fact Term)) (start : Assignment) (after : List ℕ) → body ≡ [] → HasNoMatch body facts start (IsBefore after)
+HasNoMatch-empty body facts start after empty m places keeps extends match before =
+    nothing after places before (nil_from_length places (IsMatch-length m body facts places match ∙ ap length empty))
+  where
+    nothing : (after places : List ℕ) → IsBefore after places → places ≡ [] → ⊥
+    nothing [] [] before e = let never : Equal ≡ Less = before in cc
+    nothing (p ∷ ps) [] before e = let never : Greater ≡ Less = before in cc
+    nothing after (q ∷ qs) before e = cc

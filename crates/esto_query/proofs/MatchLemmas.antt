@@ -13,10 +13,10 @@ use Rattle.esto_semantics.specs.declared.fact.Fact.{Fact}
 use Rattle.esto_query.specs.Valuations.{Assignment, Extends, map_of}
 use Rattle.esto_semantics.specs.Matches.{IsMatch}
 use Rattle.esto_query.specs.Trails.{Narrows}
-use Rattle.esto_query.specs.Variables.{mentions}
 use Rattle.esto_query.proofs.MapLemmas.{image_agree, image_values, changed, changed-here, changed-flat, Keeps-changed, Extends-changed, terms_differ}
 use Rattle.esto_query.proofs.ValuationLemmas.{Keeps-map_of, Extends-map_of}
-use Rattle.esto_query.proofs.SoundLemmas.{mentions_is, mentions_false}
+use Rattle.esto_query.proofs.SoundLemmas.{mentions_decided}
+use Rattle.esto_term.proofs.ChoiceLemmas.{Decided}
 use Rattle.esto_term.proofs.ListLemmas.{Contains-at, Contains-head, Contains-nil, Contains-rest}
 
 -- ---- by places and by membership
@@ -102,15 +102,16 @@ module _ (body facts : List (Fact Term)) (start found : Assignment) (places : Li
       let extends : Extends (changed (map_of found) variable new) start = Extends-changed (map_of found) variable new start none given.0 in
       sym (changed-here (map_of found) variable new) ∙ (exact (changed (map_of found) variable new) (Keeps-changed (map_of found) variable new (Keeps-map_of found))).1 (extends, match) variable term at)
 
-  found_has : (s f : Option Term) (b : Bool) → get start variable ≡ s → get found variable ≡ f → mentions variable body ≡ b → IsSome f → IsSome s ⊎ Mentions body (Plain variable)
-  found_has (Some u) f b at in_found test some = inl refl
-  found_has None f true none in_found test some = inr (mentions_is variable body test)
-  found_has None None false none in_found test some = absurd (false≢true some)
-  found_has None (Some t) false none in_found test some = absurd (apart t none (mentions_false variable body test) in_found)
+  found_has : (s f : Option Term) → get start variable ≡ s → get found variable ≡ f → Decided (Mentions body (Plain variable)) → IsSome f
+      → IsSome s ⊎ Mentions body (Plain variable)
+  found_has (Some u) f at in_found decided some = inl refl
+  found_has None f none in_found (inl mentioned) some = inr mentioned
+  found_has None None none in_found (inr missing) some = absurd (false≢true some)
+  found_has None (Some t) none in_found (inr missing) some = absurd (apart t none missing in_found)
 
   pub found_variables : IsSome (get found variable) ↔ (IsSome (get start variable) ⊎ Mentions body (Plain variable))
   found_variables = (
-    λ some. found_has (get start variable) (get found variable) (mentions variable body) refl refl refl some,
+    λ some. found_has (get start variable) (get found variable) refl refl (mentions_decided body (Plain variable)) some,
     λ either. elim either [
       | inl some ↦ known_kept start found (λ m. IsMatch m body facts places) exact variable some
       | inr inside ↦ known_fixed start found (λ m. IsMatch m body facts places) exact variable

@@ -1,5 +1,5 @@
 -- The order on lists of places.
-use Rattle.std.proofs.Common.{◌≡◌, ◌≢◌, ℕ, suc, zero, ◌+◌, ◌-◌, ◌<◌, ◌≤◌, ◌⊎◌, ◌↔◌, Bool, true, false, cond, eqb, List, [], ◌∷◌, length, Some, refl, sym, ap, subst, ◌∙◌, inl, inr, arith}
+use Rattle.std.proofs.Common.{◌≡◌, ◌≢◌, ℕ, suc, zero, ◌+◌, ◌-◌, ◌^◌, min, ◌<◌, ◌≤◌, All, take, get_or, ◌⊎◌, ◌↔◌, Bool, true, false, cond, eqb, List, [], ◌∷◌, length, Some, refl, sym, ap, subst, ◌∙◌, inl, inr, arith}
 use Rattle.std.specs.List.{slice_get, slice_set}
 use Rattle.std.specs.declared.cmp.Ordering.{Ordering}
 use Rattle.std.specs.declared.cmp.Ordering.TheVariants.{Less, Equal, Greater}
@@ -7,9 +7,11 @@ use Rattle.std.specs.Ordering.{nat_cmp, ordering_then}
 use Rattle.std.specs.Cmp.Lexicographic.{slice_cmp}
 use Rattle.std.proofs.lemmas.Cmp.{ranked, by_ranked}
 use Rattle.std.proofs.lemmas.Bool.Decides.{nat_tests}
-use Rattle.std.proofs.lemmas.Option.{same_Some, slice_get_within}
+use Rattle.std.proofs.lemmas.Option.{same_Some, slice_get_read}
+use Rattle.std.proofs.lemmas.List.Elements.{All-head, All-tail}
+use Rattle.std.proofs.lemmas.List.{get_or_default, length-take-le, get_or-take}
 use Rattle.esto_semantics.specs.Matches.{IsBefore, IsAtMost}
-use Rattle.esto_query.specs.Searches.{first_from, rest_from}
+use Rattle.esto_query.specs.Searches.{first_from, rest_from, Follows}
 
 -- ---- one place and the rest
 
@@ -81,7 +83,7 @@ pub IsAtMost-least : (p q : ℕ) (ps qs : List ℕ) → p ≤ q → (q ≡ p →
 IsAtMost-least p q ps qs l h =
     (IsAtMost-cons p q ps qs).1 (elim (cases_le p q l) [ inl less ↦ inl less | inr same ↦ inr (same, h (sym same)) ])
 
--- ---- after a list of places: from the list on whose last place is one more
+-- ---- after a list of places: what is after it is from another list on
 
 same_first : {A E P Q : Type 0} → P ↔ Q → (A ⊎ (E × P)) ↔ (A ⊎ (E × Q))
 same_first same = (
@@ -95,29 +97,65 @@ both_ways f g = (λ a. g.0 (f.0 a), λ c. f.1 (g.1 c))
 other_way : {A B : Type 0} → A ↔ B → B ↔ A
 other_way f = (f.1, f.0)
 
-last_case : (p q : ℕ) → ((p + 1 < q) ⊎ ((p + 1 ≡ q) × IsAtMost [] [])) ↔ ((p < q) ⊎ ((p ≡ q) × IsBefore [] []))
-last_case p q = (
-  λ either. elim either [ inl less ↦ inl (omega arith) | inr both ↦ inl (omega (arith, both.0)) ],
-  λ either. elim either [
-    | inl less ↦ elim (cases_le (p + 1) q (omega arith)) [ inl more ↦ inl more | inr same ↦ inr (same, IsAtMost-nil []) ]
-    | inr both ↦ let never : Equal ≡ Less = both.1 in absurd (cc)
-  ],
-)
+-- where the first places are the same, the rest decides in both orders
+cons_ways : (p q : ℕ) (ps from qs : List ℕ) → IsAtMost from qs ↔ IsBefore ps qs → IsAtMost (p ∷ from) (q ∷ qs) ↔ IsBefore (p ∷ ps) (q ∷ qs)
+cons_ways p q ps from qs same = both_ways (IsAtMost-cons p q from qs) (both_ways (same_first same) (other_way (IsBefore-cons p q ps qs)))
 
-pub after_is_from : (after others : List ℕ) (i last : ℕ) → length after ≡ suc i → length others ≡ suc i → slice_get after i ≡ Some last → IsAtMost (slice_set after i (last + 1)) others ↔ IsBefore after others
-after_is_from [] others i last l k at = absurd (omega arith)
-after_is_from (p ∷ ps) [] i last l k at = absurd (omega arith)
-after_is_from (p ∷ []) (q ∷ []) zero last l k at =
-    let same : p ≡ last = same_Some p last at in
-    rw (← same) (both_ways (IsAtMost-cons (p + 1) q [] []) (both_ways (last_case p q) (other_way (IsBefore-cons p q [] []))))
-after_is_from (p ∷ []) (q ∷ r ∷ rs) zero last l k at = absurd (omega arith)
-after_is_from (p ∷ r ∷ rs) (q ∷ qs) zero last l k at = absurd (omega arith)
-after_is_from (p ∷ ps) (q ∷ qs) (suc i) last l k at =
-    both_ways (IsAtMost-cons p q (slice_set ps i (last + 1)) qs)
-    (both_ways (same_first (after_is_from ps qs i last (omega arith) (omega arith) at)) (other_way (IsBefore-cons p q ps qs)))
+-- a list with fewer places: nothing with more places is the same
+shorter_is_from : (after others : List ℕ) → length after < length others → IsAtMost after others ↔ IsBefore after others
+shorter_is_from [] [] l = absurd (omega arith)
+shorter_is_from [] (q ∷ qs) l = (λ h. refl, λ h. IsAtMost-nil (q ∷ qs))
+shorter_is_from (p ∷ ps) [] l = absurd (omega arith)
+shorter_is_from (p ∷ ps) (q ∷ qs) l = cons_ways p q ps ps qs (shorter_is_from ps qs (omega arith))
 
--- the range after a list of places, for lists of its length
-pub next_range : (n : ℕ) (after from : List ℕ) (last : ℕ) → from ≡ slice_set after (length after - 1) (last + 1) → slice_get after (length after - 1) ≡ Some last → length after ≡ n → (places : List ℕ) → length places ≡ n → IsAtMost from places ↔ IsBefore after places
-next_range n after from last is_from at l places k =
-    let within = slice_get_within after (length after - 1) last at in
-    subst (λ f. IsAtMost f places ↔ IsBefore after places) (sym is_from) (after_is_from after places (length after - 1) last (omega arith) (omega arith) at)
+-- a list with more places: those beyond count for nothing
+cut_is_before : (after others : List ℕ) → length others ≤ length after → IsBefore (take (length others) after) others ↔ IsBefore after others
+cut_is_before [] [] l = (λ h. h, λ h. h)
+cut_is_before (p ∷ ps) [] l = (λ h. let never : Equal ≡ Less = h in absurd (cc), λ h. let never : Greater ≡ Less = h in absurd (cc))
+cut_is_before [] (q ∷ qs) l = absurd (omega arith)
+cut_is_before (p ∷ ps) (q ∷ qs) l =
+    both_ways (IsBefore-cons p q (take (length qs) ps) qs) (both_ways (same_first (cut_is_before ps qs (omega arith))) (other_way (IsBefore-cons p q ps qs)))
+
+module _ (last next bound : ℕ) (raised : (place : ℕ) → place < bound → (next ≤ place) ↔ (last < place)) where
+  last_case : (q : ℕ) → q < bound → ((next < q) ⊎ ((next ≡ q) × IsAtMost [] [])) ↔ ((last < q) ⊎ ((last ≡ q) × IsBefore [] []))
+  last_case q l = (
+    λ either. elim either [ inl less ↦ inl ((raised q l).0 (omega arith)) | inr both ↦ inl ((raised q l).0 (omega (arith, both.0))) ],
+    λ either. elim either [
+      | inl less ↦ elim (cases_le next q ((raised q l).1 less)) [ inl more ↦ inl more | inr same ↦ inr (same, IsAtMost-nil []) ]
+      | inr both ↦ let never : Equal ≡ Less = both.1 in absurd (cc)
+    ],
+  )
+
+  -- a list of as many places, with another last place
+  raised_is_from : (after others : List ℕ) (i : ℕ) → length after ≡ suc i → length others ≡ suc i → slice_get after i ≡ Some last
+      → All (λ place. place < bound) others → IsAtMost (slice_set after i next) others ↔ IsBefore after others
+  raised_is_from [] others i l k at all = absurd (omega arith)
+  raised_is_from (p ∷ ps) [] i l k at all = absurd (omega arith)
+  raised_is_from (p ∷ []) (q ∷ []) zero l k at all =
+      let same : p ≡ last = same_Some p last at in
+      let within : q < bound = All-head (λ place. place < bound) q [] all in
+      rw same (both_ways (IsAtMost-cons next q [] []) (both_ways (last_case q within) (other_way (IsBefore-cons last q [] []))))
+  raised_is_from (p ∷ []) (q ∷ r ∷ rs) zero l k at all = absurd (omega arith)
+  raised_is_from (p ∷ r ∷ rs) (q ∷ qs) zero l k at all = absurd (omega arith)
+  raised_is_from (p ∷ ps) (q ∷ qs) (suc i) l k at all =
+      cons_ways p q ps (slice_set ps i next) qs (raised_is_from ps qs i (omega arith) (omega arith) at (All-tail (λ place. place < bound) q qs all))
+
+pub Follows-shorter : (after : List ℕ) (count bound : ℕ) → length after < count → Follows after count bound after
+Follows-shorter after count bound l places k all = shorter_is_from after places (omega (arith, k))
+
+-- one more, or the greatest number of a machine
+one_more : (last bound : ℕ) → bound < 2 ^ 64 → (place : ℕ) → place < bound → (min (last + 1) (2 ^ 64 - 1) ≤ place) ↔ (last < place)
+one_more last bound fits place l = (λ h. grind arith, λ h. grind arith)
+
+pub Follows-raised : (after from : List ℕ) (count bound : ℕ) → 0 < count → count ≤ length after → bound < 2 ^ 64
+    → from ≡ slice_set (take count after) (count - 1) (min (get_or after (count - 1) 0 + 1) (2 ^ 64 - 1)) → Follows after count bound from
+Follows-raised after from count bound some l fits is_from places k all =
+    let last = get_or after (count - 1) 0 in
+    let long : length (take count after) ≡ count = length-take-le count after l in
+    let read : last ≡ get_or (take count after) (count - 1) last =
+        get_or_default after (count - 1) 0 last (omega arith) ∙ sym (get_or-take count after (count - 1) last (omega arith)) in
+    let last_at : slice_get (take count after) (count - 1) ≡ Some last = slice_get_read (take count after) _ (count - 1) last refl (omega (arith, long)) read in
+    let cut : IsBefore (take count after) places ↔ IsBefore after places =
+        subst (λ n. IsBefore (take n after) places ↔ IsBefore after places) k (cut_is_before after places (omega (arith, k, l))) in
+    let raised = raised_is_from last (min (last + 1) (2 ^ 64 - 1)) bound (one_more last bound fits) (take count after) places (count - 1) (omega (arith, long)) (omega (arith, k)) last_at all in
+    both_ways (subst (λ f. IsAtMost f places ↔ IsBefore (take count after) places) (sym is_from) raised) cut

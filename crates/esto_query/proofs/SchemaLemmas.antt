@@ -8,6 +8,7 @@ use Rattle.std.proofs.lemmas.List.Elements.{All-push}
 use Rattle.std.proofs.lemmas.List.Quantifiers.{all_pairs_push}
 use Rattle.std.proofs.lemmas.Option.{slice_get-map, slice_get_within, get_or_from_slice_get}
 use Rattle.esto_query.specs.Schemas.{names_of, arities_of, IsArity, IsSchema}
+use Rattle.esto_query.specs.declared.schema.TheConstants.{MAX_RELATIONS}
 use Rattle.esto_query.specs.declared.schema.Relation.{Relation}
 use Rattle.esto_term.proofs.ListLemmas.{Contains-map_from}
 
@@ -21,7 +22,7 @@ arity_range schema number relation there all =
     let ranged = all number relation.arity (slice_get_within (arities_of schema) number relation.arity at) in
     rw (get_or_from_slice_get (arities_of schema) number relation.arity relation.arity at) at ranged
 
-pub IsSchema-push : (schema new : List Relation) (relation : Relation) → new ≡ schema ++ relation ∷ [] → IsSchema schema → ¬ (Contains (names_of schema) relation.name) → IsArity relation.arity → length schema < 1280 → IsSchema new
+pub IsSchema-push : (schema new : List Relation) (relation : Relation) → new ≡ schema ++ relation ∷ [] → IsSchema schema → ¬ (Contains (names_of schema) relation.name) → IsArity relation.arity → length schema < MAX_RELATIONS → IsSchema new
 IsSchema-push schema new relation grown old missing ranged room = rw grown (record {
   distinct =
       rw (map_push (λ (it : Relation). it.name) schema relation)

@@ -15,54 +15,24 @@ use Rattle.esto_semantics.specs.Maps.{IsFlat, IsFixedBy}
 use Rattle.esto_semantics.specs.declared.fact.Fact.{Fact}
 use Rattle.esto_query.specs.Soundness.{IsSafe, IsSound}
 use Rattle.esto_query.specs.Making.{IsFirstUnsafe}
-use Rattle.esto_query.specs.Variables.{is_variable_kind, is_variable, atom_mentions, mentions}
 use Rattle.esto_query.specs.declared.query.Name.{Name}
-use Rattle.esto_term.proofs.ListLemmas.{Contains-head, Contains-rest}
+use Rattle.esto_term.proofs.ListLemmas.{Contains-cases, Contains-head, Contains-nil, Contains-rest}
+use Rattle.esto_term.proofs.ChoiceLemmas.{Decided}
+use Rattle.esto_semantics.proofs.JoinLemmas.{Contains-decided}
 
--- ---- the tests of variables
+-- ---- what a body mentions is decided
 
-kind_is : (variable : ℕ) (level : Term-F Term) → is_variable_kind variable level ≡ true → level ≡ Term-F.Plain variable
-kind_is variable (Term-F.Const text) e = absurd (false≢true e)
-kind_is variable (Term-F.Plain number) e = let same : number ≡ variable = grind (arith, nat_tests) in ap Term-F.Plain same
-kind_is variable (Term-F.Made _ _ _) e = absurd (false≢true e)
-
-variable_is : (variable : ℕ) (term : Term) → is_variable variable term ≡ true → term ≡ Plain variable
-variable_is variable term e = sym (roll-out-Term term) ∙ ap roll-Term (kind_is variable (out-Term term) e) ∙ rolls-Plain variable
-
-same_number : (n : ℕ) → eqb n n ≡ true
-same_number n = grind (arith, nat_tests)
-
-is_variable-Plain : (variable : ℕ) → is_variable variable (Plain variable) ≡ true
-is_variable-Plain variable = ap (is_variable_kind variable) (outs-Plain variable) ∙ same_number variable
-
-module _ {X : Type 0} (test : X → Bool) where
-  first_or_later : (x : X) (xs : List X) (b : Bool) → test x ≡ b → list_any test (x ∷ xs) ≡ true → (test x ≡ true) ⊎ (list_any test xs ≡ true)
-  first_or_later x xs true here e = inl here
-  first_or_later x xs false here e = inr (rw here at e)
-
-  any_passes : (xs : List X) → list_any test xs ≡ true → (x : X) × Contains xs x × (test x ≡ true)
-  any_passes [] e = absurd (false≢true e)
-  any_passes (x ∷ xs) e = pick x xs (first_or_later x xs (test x) refl e) (any_passes xs)
-    where
-      pick : (x : X) (xs : List X) → (test x ≡ true) ⊎ (list_any test xs ≡ true) → (list_any test xs ≡ true → (y : X) × Contains xs y × (test y ≡ true)) → (y : X) × Contains (x ∷ xs) y × (test y ≡ true)
-      pick x xs (inl here) later = (x, Contains-head x xs, here)
-      pick x xs (inr rest) later = let found = later rest in (found.0, Contains-rest x xs found.0 found.1, found.2)
-
-  passes_any : (xs : List X) (x : X) → Contains xs x → test x ≡ true → list_any test xs ≡ true
-  passes_any xs x (k, l, e) passes = list_any_at test xs k x l (ap test e ∙ passes)
-
-pub mentions_is : (variable : ℕ) (body : List (Fact Term)) → mentions variable body ≡ true → Mentions body (Plain variable)
-mentions_is variable body e =
-    let atom = any_passes (atom_mentions variable) body e in
-    let term = any_passes (is_variable variable) atom.0.terms atom.2 in
-    (atom.0, atom.1, subst (Contains atom.0.terms) (variable_is variable term.0 term.2) term.1)
-
-pub mentions_true : (variable : ℕ) (body : List (Fact Term)) → Mentions body (Plain variable) → mentions variable body ≡ true
-mentions_true variable body (atom, inside, at) =
-    passes_any (atom_mentions variable) body atom inside (passes_any (is_variable variable) atom.terms (Plain variable) at (is_variable-Plain variable))
-
-pub mentions_false : (variable : ℕ) (body : List (Fact Term)) → mentions variable body ≡ false → ¬ (Mentions body (Plain variable))
-mentions_false variable body e mentioned = false≢true (sym e ∙ mentions_true variable body mentioned)
+pub mentions_decided : (body : List (Fact Term)) (term : Term) → Decided (Mentions body term)
+mentions_decided [] term = inr (λ mentioned. Contains-nil mentioned.0 mentioned.1)
+mentions_decided (atom ∷ rest) term = by (Contains-decided atom.terms term) (mentions_decided rest term)
+  where
+    by : Decided (Contains atom.terms term) → Decided (Mentions rest term) → Decided (Mentions (atom ∷ rest) term)
+    by (inl here) later = inl (atom, Contains-head atom rest, here)
+    by (inr outside) (inl later) = inl (later.0, Contains-rest atom rest later.0 later.1, later.2)
+    by (inr outside) (inr none) = inr (λ mentioned. elim (Contains-cases atom rest mentioned.0 mentioned.1) [
+      | inl is ↦ outside (subst (λ (a : Fact Term). Contains a.terms term) (sym is) mentioned.2)
+      | inr later ↦ none (mentioned.0, later, mentioned.2)
+    ])
 
 -- ---- kinds of terms
 
@@ -87,18 +57,18 @@ flat_kind term (Term-F.Made rule variable frontier) e known =
 flat_known : (term : Term) → ¬ (¬ (IsFlat term)) → IsFlat term
 flat_known term known = flat_kind term (out-Term term) (sym (roll-out-Term term)) known
 
-fixed_plain : (body : List (Fact Term)) (variable : ℕ) (b : Bool) → mentions variable body ≡ b → ¬ (¬ (IsFixedBy body (Plain variable))) → IsFixedBy body (Plain variable)
-fixed_plain body variable true e known = inr (mentions_is variable body e)
-fixed_plain body variable false e known = absurd (known refuted)
+fixed_plain : (body : List (Fact Term)) (variable : ℕ) → Decided (Mentions body (Plain variable)) → ¬ (¬ (IsFixedBy body (Plain variable))) → IsFixedBy body (Plain variable)
+fixed_plain body variable (inl mentioned) known = inr mentioned
+fixed_plain body variable (inr missing) known = absurd (known refuted)
   where
     refuted : IsFixedBy body (Plain variable) → ⊥
     refuted (inl constant) = Plain-Const variable constant.0 constant.1
-    refuted (inr mentioned) = mentions_false variable body e mentioned
+    refuted (inr mentioned) = missing mentioned
 
 fixed_known : (body : List (Fact Term)) (term : Term) → IsFlat term → ¬ (¬ (IsFixedBy body term)) → IsFixedBy body term
 fixed_known body term (inl constant) known = inl constant
 fixed_known body term (inr plain) known =
-    subst (IsFixedBy body) (sym plain.1) (fixed_plain body plain.0 (mentions plain.0 body) refl (λ no. known (λ fixed. no (subst (IsFixedBy body) plain.1 fixed))))
+    subst (IsFixedBy body) (sym plain.1) (fixed_plain body plain.0 (mentions_decided body (Plain plain.0)) (λ no. known (λ fixed. no (subst (IsFixedBy body) plain.1 fixed))))
 
 -- ---- what every query keeps
 

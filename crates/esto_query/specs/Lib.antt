@@ -2,9 +2,9 @@ pub mod Valuations
 pub mod Schemas
 pub mod Soundness
 pub mod Making
-pub mod Variables
 pub mod Matches
 pub mod Trails
 pub mod Searches
 pub mod Rows
+pub mod Keys
 pub mod Indexes

@@ -9,8 +9,9 @@ use Rattle.esto_semantics.specs.declared.fact.Fact.{Fact}
 use Rattle.esto_query.specs.Soundness.{IsSafe}
 use Rattle.esto_query.specs.declared.query.Name.{Name}
 use Rattle.esto_query.specs.declared.query.Query.{Query}
-use Rattle.esto_query.specs.declared.making.QueryFault.{QueryFault}
-use Rattle.esto_query.specs.declared.making.QueryFault.TheVariants.{Unsafe, Arity, TooLarge, OutOfMemory}
+use Rattle.esto_query.specs.declared.make.TheConstants.{MAX_ATOMS}
+use Rattle.esto_query.specs.declared.make.QueryFault.{QueryFault}
+use Rattle.esto_query.specs.declared.make.QueryFault.TheVariants.{Unsafe, Arity, TooLarge, OutOfMemory}
 
 -- The query without its names.
 abbrev pub query_of : Query → ConjunctiveQuery
@@ -30,12 +31,12 @@ pub record IsFirstUnsafe (head : List Term) (body : List (Fact Term)) (variable 
   pub missing : ¬ (Mentions body (Plain variable))
   pub before : IsSafe (take place head) body
 
--- What comes of making a query: the query, where each atom has the right number of terms, there are at most 64 atoms and the head is safe; else the first of these that fails. Memory is never wanting.
+-- What comes of making a query: the query, where each atom has the right number of terms, there are not too many atoms and the head is safe; else the first of these that fails. Memory is never wanting.
 abbrev pub MakesQuery : List ℕ → List Term → List (Fact Term) → List Name → Result Query QueryFault → Type 0
 MakesQuery schema head body names (Ok query) =
-    AreOver schema body × (length body ≤ 64) × IsSafe head body × (query.head ≡ head) × (query.body ≡ body) × (query.names ≡ names)
+    AreOver schema body × (length body ≤ MAX_ATOMS) × IsSafe head body × (query.head ≡ head) × (query.body ≡ body) × (query.names ≡ names)
 MakesQuery schema head body names (Err (Arity place)) = IsFirstMisfit schema body place
-MakesQuery schema head body names (Err (TooLarge atoms)) = AreOver schema body × (atoms ≡ length body) × (64 < atoms)
+MakesQuery schema head body names (Err (TooLarge atoms)) = AreOver schema body × (atoms ≡ length body) × (MAX_ATOMS < atoms)
 MakesQuery schema head body names (Err (Unsafe variable)) =
-    AreOver schema body × (length body ≤ 64) × IsFirstUnsafe head body variable
+    AreOver schema body × (length body ≤ MAX_ATOMS) × IsFirstUnsafe head body variable
 MakesQuery schema head body names (Err OutOfMemory) = ⊥

@@ -1,12 +1,12 @@
 -- What a search from some places on leaves.
-use Rattle.std.specs.Prelude.{◌≡◌, ◌==◌, ℕ, Bool, true, false, List, [], ◌∷◌, ◌++◌, if◌then◌else◌}
+use Rattle.std.specs.Prelude.{◌≡◌, ◌==◌, ◌↔◌, ◌<◌, ℕ, Bool, true, false, List, [], ◌∷◌, ◌++◌, length, All, if◌then◌else◌}
 use Rattle.esto_term.specs.declared.term.Term.{Term}
 use Rattle.esto_term.specs.declared.term.Term.TheVariants.{Const}
 use Rattle.esto_semantics.specs.Maps.{Keeps}
 use Rattle.esto_semantics.specs.declared.fact.Fact.{Fact}
 use Rattle.esto_query.specs.Valuations.{Assignment, Extends}
 use Rattle.esto_query.specs.Matches.{HasNoMatch}
-use Rattle.esto_semantics.specs.Matches.{IsMatch, IsAtMost}
+use Rattle.esto_semantics.specs.Matches.{IsMatch, IsBefore, IsAtMost}
 use Rattle.esto_query.specs.Trails.{with_trail, Narrows, Grew}
 use Rattle.esto_query.specs.declared.trail.Binding.{Binding}
 
@@ -32,3 +32,8 @@ first_from (place ∷ rest) = place
 abbrev pub rest_from : List ℕ → ℕ → List ℕ
 rest_from [] taken = []
 rest_from (place ∷ rest) taken = if place == taken then rest else []
+
+-- Among the lists of this many places below the bound, those that come after the given list are exactly those from the other list on.
+abbrev pub Follows : List ℕ → ℕ → ℕ → List ℕ → Type 0
+Follows after count bound from =
+    (places : List ℕ) → length places ≡ count → All (λ place. place < bound) places → IsAtMost from places ↔ IsBefore after places

@@ -1,12 +1,12 @@
-//! An index of a list of facts.
-ghost use Rattle.std.specs.Prelude.{◌≡◌, ◌≤◌, ◌+◌, Contains, length, List, IfOk, OnOk, IfSome};
+//! The index of a list of facts.
+ghost use Rattle.std.specs.Prelude.{◌≡◌, ◌+◌, length, IfOk, OnOk, IfSome};
 ghost use Rattle.esto_term.specs.declared.term.Term.{Term};
 ghost use Rattle.esto_term.specs.declared.term.Term.TheVariants.{Const};
 ghost use Rattle.esto_semantics.specs.Maps.{Keeps};
-ghost use Rattle.esto_semantics.specs.declared.fact.Fact.{Fact};
 ghost use Rattle.esto_query.specs.Valuations.{Extends};
 ghost use Rattle.esto_query.specs.Trails.{with_trail};
-ghost use Rattle.esto_query.specs.Indexes.{key_cmp, entry_cmp, key_terms, AddsEntries, AreListed, IsIndex, IsRange, Serves};
+ghost use Rattle.esto_query.specs.Keys.{key_of, key_at, key_cmp, entry_cmp, key_terms, entry_terms};
+ghost use Rattle.esto_query.specs.Indexes.{AddsEntries, AreListed, IsInOrder, IsIndex, IsRangeOf, AreCandidates};
 
 use crate::trail::{Binding, value};
 use crate::valuation::Valuation;
@@ -16,7 +16,7 @@ use std::alloc::Global;
 use std::cmp::Ordering;
 use std::slice::from_ref;
 
-/// What an entry is found by: a relation, and 0 with no term, or one more than a column with the term there.
+/// What facts are found by: a relation, and 0 with no term, or one more than a column with the term there.
 #[derive(Clone, Copy)]
 pub struct Key<'a> {
     pub relation: usize,
@@ -24,16 +24,18 @@ pub struct Key<'a> {
     pub terms: &'a [Term],
 }
 
-/// A key, and the place of a fact that has it.
+/// The place of a fact, its relation, and 0 or one more than one of its columns. It names no term, so it stays right
+/// where facts are added after this one.
 #[derive(Clone, Copy)]
-pub struct Entry<'a> {
-    pub key: Key<'a>,
+pub struct Entry {
+    pub relation: usize,
+    pub column: usize,
     pub place: usize,
 }
 
 /// The order of keys.
 fn compare_keys(key: &Key, other: &Key) -> Ordering
-    ensures { result ≡ key_cmp key.now other.now }
+    ensures { result ≡ key_cmp (key_of key.now) (key_of other.now) }
 {
     key.relation
         .cmp(&other.relation)
@@ -41,41 +43,58 @@ fn compare_keys(key: &Key, other: &Key) -> Ordering
         .then(compare_terms(key.terms, other.terms))
 }
 
-/// The order of entries: by key, and then by place.
-fn compare_entries(entry: &Entry, other: &Entry) -> Ordering
-    ensures { result ≡ entry_cmp entry.now other.now }
-{
-    compare_keys(&entry.key, &other.key).then(entry.place.cmp(&other.place))
-}
-
-/// The terms of a key.
+/// The terms of the key with that number: none, or the term of a column.
 fn key_terms(terms: &[Term], column: usize) -> &[Term]
-    requires { column ≤ length terms.now }
     ensures { result.now ≡ key_terms terms.now column }
 {
-    if column == 0 {
+    if column == 0 || column > terms.len() {
         &[]
     } else {
         from_ref(&terms[column - 1])
     }
 }
 
+/// The terms of the key by which the entry is found.
+fn entry_terms<'a>(facts: &'a [Atom], entry: &Entry) -> &'a [Term]
+    ensures { result.now ≡ entry_terms facts.now entry.now }
+{
+    if entry.place >= facts.len() {
+        return &[];
+    }
+    key_terms(facts[entry.place].terms.items(), entry.column)
+}
+
+/// The key by which the entry is found.
+fn key_at<'a>(facts: &'a [Atom], entry: &Entry) -> Key<'a>
+    ensures { key_of result ≡ key_at facts.now entry.now }
+{
+    Key {
+        relation: entry.relation,
+        column: entry.column,
+        terms: entry_terms(facts, entry),
+    }
+}
+
+/// The order of entries: by key, and then by place.
+fn compare_entries(facts: &[Atom], entry: &Entry, other: &Entry) -> Ordering
+    ensures { result ≡ entry_cmp facts.now entry.now other.now }
+{
+    compare_keys(&key_at(facts, entry), &key_at(facts, other)).then(entry.place.cmp(&other.place))
+}
+
 /// Adds the entries of a fact.
-fn add_entries<'a>(
-    fact: &'a Atom,
-    place: usize,
-    entries: &mut Vec<Entry<'a>>,
-) -> Result<(), OutOfMemory>
-    ensures { OnOk result (AddsEntries fact.now place (length fact.now.terms + 1) entries.old.items entries.new.items) }
+fn add_entries(fact: &Atom, place: usize, entries: &mut Vec<Entry>) -> Result<(), OutOfMemory>
+    ensures { OnOk result
+        (AddsEntries fact.now place (length fact.now.terms + 1) entries.old.items entries.new.items) }
 {
     let terms = fact.terms.items();
     for column in 0..terms.len() + 1 {
-        let key = Key {
+        let entry = Entry {
             relation: fact.relation,
             column,
-            terms: key_terms(terms, column),
+            place,
         };
-        let Ok(()) = entries.push(Entry { key, place }) else {
+        let Ok(()) = entries.push(entry) else {
             return Err(OutOfMemory);
         };
     }
@@ -83,7 +102,7 @@ fn add_entries<'a>(
 }
 
 /// The entries of the facts.
-fn entries_of<'a>(alloc: Global, facts: &'a [Atom]) -> Result<Vec<Entry<'a>>, OutOfMemory>
+fn entries_of(alloc: Global, facts: &[Atom]) -> Result<Vec<Entry>, OutOfMemory>
     ensures { IfOk result (λ entries. AreListed facts.now (length facts.now) entries.items) }
 {
     let mut entries = Vec::new(alloc);
@@ -93,32 +112,25 @@ fn entries_of<'a>(alloc: Global, facts: &'a [Atom]) -> Result<Vec<Entry<'a>>, Ou
     Ok(entries)
 }
 
-/// The index of the facts.
-pub fn index_of<'a>(alloc: Global, facts: &'a [Atom]) -> Result<Vec<Entry<'a>>, OutOfMemory>
-    ensures { IfOk result (λ index. IsIndex facts.now index.items) }
-{
-    let mut entries = entries_of(alloc, facts)?;
-    entries.sort_by(|entry, other| compare_entries(entry, other))?;
-    Ok(entries)
-}
-
 /// The entries of a key.
-fn range_of<'b, 'a>(index: &'b [Entry<'a>], key: &Key) -> &'b [Entry<'a>]
-    ensures { IsRange index.now key.now result.now }
+fn range_of<'b>(facts: &[Atom], index: &'b [Entry], key: &Key) -> &'b [Entry]
+    requires { IsInOrder facts.now index.now }
+    ensures { IsRangeOf facts.now index.now (key_of key.now) result.now }
 {
-    let low = index.partition_point(|entry| compare_keys(&entry.key, key).is_lt());
+    let low = index.partition_point(|entry| compare_keys(&key_at(facts, entry), key).is_lt());
     let from = &index[low..];
-    let count = from.partition_point(|entry| compare_keys(key, &entry.key).is_ge());
+    let count = from.partition_point(|entry| compare_keys(key, &key_at(facts, entry)).is_ge());
     &from[..count]
 }
 
 /// The term that each map which extends the trail sends this one to.
 fn bound_to<'b, 'a: 'b>(
-    start: &'a Valuation,
-    trail: &[Binding<'a>],
+    start: &'b Valuation,
+    trail: &'b [Binding<'a>],
     term: &'b Term,
 ) -> Option<&'b Term>
-    ensures { IfSome result (λ bound. (m : Term → Term) → Keeps Const m → Extends m (with_trail start.now trail.now) → m term.now ≡ bound.now) }
+    ensures { IfSome result (λ bound. (m : Term → Term) → Keeps Const m
+        → Extends m (with_trail start.now trail.now) → m term.now ≡ bound.now) }
 {
     match term {
         Term::Plain(variable) => value(start, trail, *variable),
@@ -127,22 +139,33 @@ fn bound_to<'b, 'a: 'b>(
     }
 }
 
+/// The index of the facts: their entries, sorted by relation, column, the term there, and the fact's place.
+pub fn index_of(alloc: Global, facts: &[Atom]) -> Result<Vec<Entry>, OutOfMemory>
+    ensures { IfOk result (λ index. IsIndex facts.now index.items) }
+{
+    let mut entries = entries_of(alloc, facts)?;
+    entries.sort_by(|entry, other| compare_entries(facts, entry, other))?;
+    Ok(entries)
+}
+
 /// The entries of the places to which the atom can go: those of its relation, or of one of its bound columns where
 /// there are fewer.
-pub fn candidates<'b, 'a>(
-    start: &'a Valuation,
-    index: &'b [Entry<'a>],
-    trail: &[Binding<'a>],
-    atom: &Atom,
-) -> &'b [Entry<'a>]
-    ensures { Serves index.now atom.now (with_trail start.now trail.now) result.now }
+pub fn places_for<'b, 'c, 'a: 'c>(
+    start: &'c Valuation,
+    facts: &[Atom],
+    index: &'b [Entry],
+    trail: &'c [Binding<'a>],
+    atom: &'c Atom,
+) -> &'b [Entry]
+    requires { IsIndex facts.now index.now }
+    ensures { AreCandidates facts.now atom.now (with_trail start.now trail.now) result.now }
 {
     let key = Key {
         relation: atom.relation,
         column: 0,
         terms: &[],
     };
-    let mut best = range_of(index, &key);
+    let mut best = range_of(facts, index, &key);
     let terms = atom.terms.items();
     for column in 0..terms.len() {
         if let Some(bound) = bound_to(start, trail, &terms[column]) {
@@ -151,7 +174,7 @@ pub fn candidates<'b, 'a>(
                 column: column + 1,
                 terms: from_ref(bound),
             };
-            let found = range_of(index, &key);
+            let found = range_of(facts, index, &key);
             if found.len() < best.len() {
                 best = found;
             }

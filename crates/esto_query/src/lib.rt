@@ -1,20 +1,24 @@
 //! Schemas, queries, valuations, matches and answers.
 #![tactic(auto)]
 
+mod answer;
+mod body;
 mod index;
-mod making;
+mod indexed;
+mod make;
 mod matches;
 mod query;
-mod rows;
 mod schema;
 mod search;
 mod trail;
 mod valuation;
 
 pub use esto_semantics::{Atom, Atoms, Facts};
-pub use making::{QueryFault, make_query};
+pub use answer::answers;
+pub use body::{first_misfit, mentions, missing_variable};
+pub use indexed::IndexedFacts;
+pub use make::{MAX_ATOMS, QueryFault, make_query};
 pub use matches::{Found, first_match, matches_send, next_match};
 pub use query::{Name, Names, Query, queries_are_sound};
-pub use rows::answers;
-pub use schema::{Relation, Schema, SchemaError};
+pub use schema::{MAX_COLUMNS, MAX_RELATIONS, Relation, Schema, SchemaError};
 pub use valuation::{Valuation, valuations_are_maps};

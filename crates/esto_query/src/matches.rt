@@ -1,13 +1,14 @@
 //! Matches of a body in a list of facts.
-ghost use Rattle.std.specs.Prelude.{◌≡◌, ◌<◌, ◌↔◌, ℕ, List, length, All, IfOk, IfSome, IfNone, ⊤};
+ghost use Rattle.std.specs.Prelude.{◌≡◌, ◌<◌, ◌↔◌, ℕ, List, IfOk, IfSome, IfNone, ⊤};
 ghost use Rattle.esto_term.specs.declared.term.Term.{Term};
 ghost use Rattle.esto_semantics.specs.Maps.{AreFlat, Sends};
 ghost use Rattle.esto_semantics.specs.declared.fact.Fact.{Fact};
 ghost use Rattle.esto_query.specs.Matches.{IsLeastMatch, HasNoMatch};
 ghost use Rattle.esto_semantics.specs.Matches.{IsMatch, IsBefore, IsAtMost};
 ghost use Rattle.esto_query.specs.Trails.{with_trail};
+ghost use Rattle.esto_query.specs.Searches.{Follows};
 
-use crate::index::index_of;
+use crate::indexed::IndexedFacts;
 use crate::search::search;
 use crate::trail::Binding;
 use crate::valuation::Valuation;
@@ -46,18 +47,19 @@ fn extended(alloc: Global, start: &Valuation, trail: &[Binding]) -> Result<Valua
 fn least_match(
     alloc: Global,
     body: &[Atom],
-    facts: &[Atom],
+    facts: &IndexedFacts,
     start: &Valuation,
     from: &[usize],
 ) -> Result<Option<Found>, OutOfMemory>
     requires { AreFlat body.now }
-    ensures found { IfOk result (λ outcome. IfSome outcome (λ found. IsLeastMatch body.now facts.now start.now (IsAtMost from.now) found.valuation found.places)) }
-    ensures none { IfOk result (λ outcome. IfNone outcome (HasNoMatch body.now facts.now start.now (IsAtMost from.now))) }
+    ensures found { IfOk result (λ outcome. IfSome outcome (λ found. IsLeastMatch
+        body.now facts.now start.now (IsAtMost from.now) found.valuation found.places)) }
+    ensures none { IfOk result (λ outcome. IfNone outcome
+        (HasNoMatch body.now facts.now start.now (IsAtMost from.now))) }
 {
     let mut trail = Vec::new(alloc);
     let mut places = Values::new(alloc);
-    let index = index_of(alloc, facts)?;
-    if search(start, body, facts, &index, from, &mut trail, &mut places)? {
+    if search(start, body, facts, from, &mut trail, &mut places)? {
         let valuation = extended(alloc, start, &trail)?;
         Ok(Some(Found { valuation, places }))
     } else {
@@ -65,31 +67,87 @@ fn least_match(
     }
 }
 
+/// The least list of places that is after the given one, among those of this many facts below that bound. The given
+/// list may be of any length: what it has beyond the number of facts counts for nothing.
+fn places_after(
+    alloc: Global,
+    after: &[usize],
+    count: usize,
+    bound: usize,
+) -> Result<Places, OutOfMemory>
+    requires { 0 < count }
+    ensures { IfOk result (λ from. Follows after.now count bound from) }
+{
+    if after.len() < count {
+        let from = Values::from_slice(alloc, after)?;
+        return Ok(from);
+    }
+    let mut from = Values::from_slice(alloc, &after[..count])?;
+    from.set(count - 1, after[count - 1].saturating_add(1));
+    Ok(from)
+}
+
 /// The least match after the given places.
 fn least_after(
     alloc: Global,
     body: &[Atom],
-    facts: &[Atom],
+    facts: &IndexedFacts,
     start: &Valuation,
     after: &[usize],
 ) -> Result<Option<Found>, OutOfMemory>
-    requires flat { AreFlat body.now }
-    requires long { length after.now ≡ length body.now }
-    requires places { All (λ place. place < length facts.now) after.now }
-    ensures found { IfOk result (λ outcome. IfSome outcome (λ found. IsLeastMatch body.now facts.now start.now (IsBefore after.now) found.valuation found.places)) }
-    ensures none { IfOk result (λ outcome. IfNone outcome (HasNoMatch body.now facts.now start.now (IsBefore after.now))) }
+    requires { AreFlat body.now }
+    ensures found { IfOk result (λ outcome. IfSome outcome (λ found. IsLeastMatch
+        body.now facts.now start.now (IsBefore after.now) found.valuation found.places)) }
+    ensures none { IfOk result (λ outcome. IfNone outcome
+        (HasNoMatch body.now facts.now start.now (IsBefore after.now))) }
 {
-    let Some(last) = after.last() else {
+    if body.is_empty() {
         return Ok(None);
-    };
-    let mut from = Values::from_slice(alloc, after)?;
-    from.set(after.len() - 1, *last + 1);
+    }
+    let from = places_after(alloc, after, body.len(), facts.items().len())?;
     let least = least_match(alloc, body, facts, start, from.items())?;
     Ok(least)
 }
 
+impl<'a> IndexedFacts<'a> {
+    /// The least match of the body in the facts, by the list of places, that extends the start. None comes exactly
+    /// where there is none.
+    pub fn first_match(
+        &self,
+        alloc: Global,
+        body: &Atoms,
+        start: &Valuation,
+    ) -> Result<Option<Found>, OutOfMemory>
+        requires { AreFlat body.now }
+        ensures found { IfOk result (λ outcome. IfSome outcome (λ found. IsLeastMatch
+            body.now self.now start.now (λ _. ⊤) found.valuation found.places)) }
+        ensures none { IfOk result (λ outcome. IfNone outcome
+            (HasNoMatch body.now self.now start.now (λ _. ⊤))) }
+    {
+        least_match(alloc, body.items(), self, start, &[])
+    }
+
+    /// The least match after the given one, by the list of places, that extends the start. None comes exactly where
+    /// there is none.
+    pub fn next_match(
+        &self,
+        alloc: Global,
+        body: &Atoms,
+        start: &Valuation,
+        after: &Found,
+    ) -> Result<Option<Found>, OutOfMemory>
+        requires { AreFlat body.now }
+        ensures found { IfOk result (λ outcome. IfSome outcome (λ found. IsLeastMatch
+            body.now self.now start.now (IsBefore after.now.places) found.valuation found.places)) }
+        ensures none { IfOk result (λ outcome. IfNone outcome
+            (HasNoMatch body.now self.now start.now (IsBefore after.now.places))) }
+    {
+        least_after(alloc, body.items(), self, start, after.places.items())
+    }
+}
+
 /// The least match of the body in the facts, by the list of places, that extends the start. None comes exactly
-/// where there is none.
+/// where there is none. Facts that serve several calls are indexed once, as `IndexedFacts`.
 pub fn first_match(
     alloc: Global,
     body: &Atoms,
@@ -97,14 +155,18 @@ pub fn first_match(
     start: &Valuation,
 ) -> Result<Option<Found>, OutOfMemory>
     requires { AreFlat body.now }
-    ensures found { IfOk result (λ outcome. IfSome outcome (λ found. IsLeastMatch body.now facts.now start.now (λ _. ⊤) found.valuation found.places)) }
-    ensures none { IfOk result (λ outcome. IfNone outcome (HasNoMatch body.now facts.now start.now (λ _. ⊤))) }
+    ensures found { IfOk result (λ outcome. IfSome outcome (λ found. IsLeastMatch
+        body.now facts.now start.now (λ _. ⊤) found.valuation found.places)) }
+    ensures none { IfOk result (λ outcome. IfNone outcome
+        (HasNoMatch body.now facts.now start.now (λ _. ⊤))) }
 {
-    least_match(alloc, body.items(), facts.items(), start, &[])
+    let indexed = IndexedFacts::of(alloc, facts)?;
+    let first = indexed.first_match(alloc, body, start)?;
+    Ok(first)
 }
 
 /// The least match after the given one, by the list of places, that extends the start. None comes exactly where
-/// there is none.
+/// there is none. Facts that serve several calls are indexed once, as `IndexedFacts`.
 pub fn next_match(
     alloc: Global,
     body: &Atoms,
@@ -112,24 +174,21 @@ pub fn next_match(
     start: &Valuation,
     after: &Found,
 ) -> Result<Option<Found>, OutOfMemory>
-    requires flat { AreFlat body.now }
-    requires long { length after.now.places ≡ length body.now }
-    requires places { All (λ place. place < length facts.now) after.now.places }
-    ensures found { IfOk result (λ outcome. IfSome outcome (λ found. IsLeastMatch body.now facts.now start.now (IsBefore after.now.places) found.valuation found.places)) }
-    ensures none { IfOk result (λ outcome. IfNone outcome (HasNoMatch body.now facts.now start.now (IsBefore after.now.places))) }
+    requires { AreFlat body.now }
+    ensures found { IfOk result (λ outcome. IfSome outcome (λ found. IsLeastMatch
+        body.now facts.now start.now (IsBefore after.now.places) found.valuation found.places)) }
+    ensures none { IfOk result (λ outcome. IfNone outcome
+        (HasNoMatch body.now facts.now start.now (IsBefore after.now.places))) }
 {
-    least_after(
-        alloc,
-        body.items(),
-        facts.items(),
-        start,
-        after.places.items(),
-    )
+    let indexed = IndexedFacts::of(alloc, facts)?;
+    let next = indexed.next_match(alloc, body, start, after)?;
+    Ok(next)
 }
 
 /// A law: a map of terms sends each atom of a body to one of the facts exactly where it has a match in their list.
 /// So a body has a match that extends a start exactly where a map that keeps constants and extends the start
 /// sends each atom to a fact.
 pub fn matches_send()
-    ensures { (m : Term → Term) (body facts : List (Fact Term)) → Sends m body facts ↔ ((places : List ℕ) × IsMatch m body facts places) }
+    ensures { (m : Term → Term) (body facts : List (Fact Term)) → Sends m body facts
+        ↔ ((places : List ℕ) × IsMatch m body facts places) }
 {}

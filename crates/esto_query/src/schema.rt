@@ -8,10 +8,10 @@ use std::marker::Model;
 use thiserror::Error;
 
 /// The greatest number of columns of a relation.
-const MAX_ARITY: usize = 32;
+pub const MAX_COLUMNS: usize = 32;
 
 /// The greatest number of relations: room for 256 datasets of five relations.
-const MAX_RELATIONS: usize = 1280;
+pub const MAX_RELATIONS: usize = 1280;
 
 /// A relation of a schema: its name, and how many columns it has.
 #[derive(Debug, Drop)]
@@ -95,7 +95,7 @@ impl Schema {
         if self.find(name.bytes()).is_some() {
             return Err(SchemaError::SameName);
         }
-        if arity == 0 || arity > MAX_ARITY {
+        if arity == 0 || arity > MAX_COLUMNS {
             return Err(SchemaError::BadArity);
         }
         let relation = self.relations.len();
@@ -108,7 +108,8 @@ impl Schema {
 
     /// The relation of that name. None comes exactly where there is none.
     pub fn find(&self, name: &[u8]) -> Option<usize>
-        ensures { MatchOption result (¬ (Contains (names_of self.now) name.now)) (λ relation. slice_get (names_of self.now) relation ≡ Some name.now) }
+        ensures { MatchOption result (¬ (Contains (names_of self.now) name.now))
+            (λ relation. slice_get (names_of self.now) relation ≡ Some name.now) }
     {
         for (number, relation) in self.relations.items().iter().enumerate() {
             if has_name(relation, name) {

@@ -1,10 +1,9 @@
 //! The search for the least match.
 ghost use Rattle.std.specs.Prelude.{◌≡◌, IfOk};
 ghost use Rattle.esto_semantics.specs.Maps.{AreFlat};
-ghost use Rattle.esto_query.specs.Indexes.{IsIndex};
 ghost use Rattle.esto_query.specs.Searches.{Searched, first_from, rest_from};
 
-use crate::index::{Entry, candidates};
+use crate::indexed::{IndexedFacts, candidates};
 use crate::trail::{Binding, bind_atom};
 use crate::valuation::Valuation;
 use esto_semantics::Atom;
@@ -32,17 +31,16 @@ fn from_after(from: &[usize], place: usize) -> &[usize]
 
 /// Finds the least match from the given places on, and appends its places.
 pub fn search<'a>(
-    start: &'a Valuation,
+    start: &Valuation,
     body: &[Atom],
-    facts: &'a [Atom],
-    index: &[Entry<'a>],
+    facts: &IndexedFacts<'a>,
     from: &[usize],
     trail: &mut Vec<Binding<'a>>,
     places: &mut Places,
 ) -> Result<bool, OutOfMemory>
-    requires flat { AreFlat body.now }
-    requires index { IsIndex facts.now index.now }
-    ensures { IfOk result (λ is_found. Searched start.now body.now facts.now from.now trail.old.items trail.new.items places.old places.new is_found) }
+    requires { AreFlat body.now }
+    ensures { IfOk result (λ is_found. Searched start.now body.now facts.now from.now
+        trail.old.items trail.new.items places.old places.new is_found) }
 {
     let Some((atom, rest)) = body.split_first() else {
         return Ok(from.is_empty());
@@ -50,15 +48,16 @@ pub fn search<'a>(
     let mark = trail.len();
     let depth = places.len();
     let least = least_first(from);
-    let found = candidates(start, index, trail, atom);
+    let items = facts.items();
+    let found = candidates(start, facts, trail, atom);
     for entry in found {
         let place = entry.place;
-        if place < least || place >= facts.len() {
+        if place < least || place >= items.len() {
             continue;
         }
-        if bind_atom(start, trail, atom, &facts[place])? {
+        if bind_atom(start, trail, atom, &items[place])? {
             places.push(place)?;
-            if search(start, rest, facts, index, from_after(from, place), trail, places)? {
+            if search(start, rest, facts, from_after(from, place), trail, places)? {
                 return Ok(true);
             }
             places.truncate(depth);

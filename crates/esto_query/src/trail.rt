@@ -19,7 +19,11 @@ pub struct Binding<'a> {
 }
 
 /// The variable's term, in the trail or at the start.
-pub fn value<'a>(start: &'a Valuation, trail: &[Binding<'a>], variable: u64) -> Option<&'a Term>
+pub fn value<'b, 'a: 'b>(
+    start: &'b Valuation,
+    trail: &'b [Binding<'a>],
+    variable: u64,
+) -> Option<&'b Term>
     ensures { option_copied result ≡ get (with_trail start.now trail.now) variable }
 {
     for at in (0..trail.len()).rev() {
@@ -33,7 +37,7 @@ pub fn value<'a>(start: &'a Valuation, trail: &[Binding<'a>], variable: u64) -> 
 
 /// Gives the term's variable a term, if need be, so that the term becomes the target.
 pub fn bind_term<'a>(
-    start: &'a Valuation,
+    start: &Valuation,
     trail: &mut Vec<Binding<'a>>,
     term: &Term,
     target: &'a Term,
@@ -59,7 +63,7 @@ pub fn bind_term<'a>(
 
 /// The same for a row of terms.
 pub fn bind_row<'a>(
-    start: &'a Valuation,
+    start: &Valuation,
     trail: &mut Vec<Binding<'a>>,
     terms: &[Term],
     targets: &'a [Term],
@@ -82,7 +86,7 @@ pub fn bind_row<'a>(
 
 /// The same for an atom and a fact.
 pub fn bind_atom<'a>(
-    start: &'a Valuation,
+    start: &Valuation,
     trail: &mut Vec<Binding<'a>>,
     atom: &Atom,
     fact: &'a Atom,

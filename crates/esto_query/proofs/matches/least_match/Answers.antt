@@ -4,7 +4,7 @@ use Rattle.esto_query.proofs.matches.least_match.Goals as goal
 pub returns-then-branch-clause-found : goal.returns-then-branch-clause-found
 returns-then-branch-clause-found c =
     let found = rw c.if-branch.true at c.in_ok-search.ensures in
-    let valuation = rw c.deref-then-branch.ensures.value at c.in_ok-valuation.ensures in
+    let valuation = rw c.deref.ensures.value at c.in_ok-valuation.ensures in
     IsLeastMatch-searched c.args.start.now c.in_ok-valuation.valuation c.args.body.now c.args.facts.now c.args.from.now
     c.new-trail.result.items c.search.new.trail.items c.new-places.result c.search.new.places
     c.requires c.new-trail.ensures.items c.new-places.ensures valuation found

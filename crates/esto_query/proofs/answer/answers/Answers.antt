@@ -1,0 +1,11 @@
+use Rattle.std.proofs.Common.{◌↔◌, List, Contains, subst}
+use Rattle.esto_term.specs.declared.term.Term.{Term}
+use Rattle.esto_term.specs.declared.term.Term.TheVariants.{Const}
+use Rattle.esto_semantics.specs.Queries.{IsAnswerInto}
+use Rattle.esto_semantics.specs.declared.fact.Fact.{Fact}
+use Rattle.esto_query.specs.Making.{query_of}
+use Rattle.esto_query.proofs.answer.answers.Goals as goal
+
+pub returns-clause-rows : goal.returns-clause-rows
+returns-clause-rows c =
+    subst (λ (facts : List (Fact Term)). (row : List Term) → Contains c.in_ok-rows.rows row ↔ IsAnswerInto Const (query_of c.args.query.now) (Contains facts) row) c.in_ok-indexed.ensures c.in_ok-rows.ensures.rows

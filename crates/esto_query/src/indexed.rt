@@ -1,0 +1,67 @@
+//! Facts with their index.
+ghost use Rattle.std.specs.Prelude.{◌≡◌, IfOk};
+ghost use Rattle.esto_query.specs.Trails.{with_trail};
+ghost use Rattle.esto_query.specs.Indexes.{AreCandidates};
+
+use crate::index::{Entry, index_of, places_for};
+use crate::trail::Binding;
+use crate::valuation::Valuation;
+use esto_semantics::{Atom, Facts};
+use esto_term::OutOfMemory;
+use std::alloc::Global;
+use std::marker::Model;
+
+/// A list of facts with its index, in which the facts that an atom can go to are found by their relation or by one of
+/// their columns. It is built once, and then serves any number of searches. Contracts see the list of facts.
+#[derive(Drop)]
+pub struct IndexedFacts<'a> {
+    facts: &'a [Atom],
+    index: Vec<Entry>,
+}
+
+impl<'a> Model for IndexedFacts<'a> {
+    ghost use Rattle.std.specs.Prelude.{List};
+    ghost use Rattle.esto_term.specs.declared.term.Term.{Term};
+    ghost use Rattle.esto_semantics.specs.declared.fact.Fact.{Fact};
+    ghost use Rattle.esto_term.specs.contracts.term.Term as term;
+    ghost use Rattle.std.specs.Coded.{codes};
+    ghost use Rattle.esto_query.specs.Indexes.{IsIndex};
+
+    ghost Value = { List (Fact Term) };
+
+    ghost coded = { Prim.hlevel (codes, term.the_row.coded) };
+
+    ghost view = { λ it. it.facts.now };
+
+    ghost invariant = { λ it. IsIndex it.facts.now it.index.items };
+}
+
+impl<'a> IndexedFacts<'a> {
+    /// The facts with their index.
+    pub fn of(alloc: Global, facts: &'a Facts) -> Result<IndexedFacts<'a>, OutOfMemory>
+        ensures { IfOk result (λ indexed. indexed ≡ facts.now) }
+    {
+        let facts = facts.items();
+        let index = index_of(alloc, facts)?;
+        Ok(IndexedFacts { facts, index })
+    }
+
+    /// The facts, in order.
+    pub fn items(&self) -> &'a [Atom]
+        ensures { result.now ≡ self.now }
+    {
+        self.facts
+    }
+}
+
+/// The entries of the places to which the atom can go.
+pub fn candidates<'b>(
+    start: &Valuation,
+    facts: &'b IndexedFacts,
+    trail: &[Binding],
+    atom: &Atom,
+) -> &'b [Entry]
+    ensures { AreCandidates facts.now atom.now (with_trail start.now trail.now) result.now }
+{
+    places_for(start, facts.facts, &facts.index, trail, atom)
+}
