@@ -84,6 +84,7 @@ fn add_edges_of(rule: &Constraint, edges: &mut Values<Edge>) -> Result<(), OutOf
     match rule {
         Constraint::Tuple(rule) => add_edges_between(rule.body.items(), rule.head.items(), edges),
         Constraint::Equal(_) => Ok(()),
+        Constraint::Never(_) => Ok(()),
     }
 }
 

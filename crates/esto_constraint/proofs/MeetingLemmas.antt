@@ -1,6 +1,6 @@
 -- The turns of the loop over matches, and whether a match is active.
 use Rattle.std.proofs.Common.{◌≡◌, ℕ, ◌+◌, ◌-◌, ◌<◌, ◌≤◌, ◌⊎◌, ◌↔◌, Bool, not, true, false, List, [], ◌∷◌, length, take, Option, Some, None, IsSome, IsTrue, refl, sym, ap, subst, ◌∙◌, inl, inr, arith}
-use Rattle.std.specs.List.{slice_get, All}
+use Rattle.std.specs.List.{slice_get}
 use Rattle.std.specs.Option.{IfSome, IfNone, is_none, is_some, option_map}
 use Rattle.std.specs.Prelude.{⊤}
 use Rattle.std.specs.FinMap.{get, empty, get-empty}
@@ -8,12 +8,11 @@ use Rattle.std.specs.Ordering.{nat_cmp}
 use Rattle.std.proofs.lemmas.Bool.{false≢true}
 use Rattle.std.proofs.lemmas.Option.{none-some, slice_get_within, slice_get-map, get_or_from_slice_get}
 use Rattle.std.proofs.lemmas.List.{length-map}
-use Rattle.std.proofs.lemmas.List.Elements.{All-from_recursion}
 use Rattle.esto_term.specs.declared.term.Term.{Term}
 use Rattle.esto_term.specs.declared.term.Term.TheVariants.{Const, Plain}
 use Rattle.esto_semantics.specs.Facts.{image, Mentions}
 use Rattle.esto_semantics.specs.Maps.{AreFlat, IsFixedBy, Keeps, Sends, AgreeOn}
-use Rattle.esto_semantics.specs.Rules.{Rule, tuple, equality, denial}
+use Rattle.esto_semantics.specs.Rules.{Rule}
 use Rattle.esto_semantics.specs.declared.fact.Fact.{Fact}
 use Rattle.esto_query.specs.Valuations.{Assignment, Extends, map_of}
 use Rattle.esto_query.specs.Matches.{IsFound, IsLeastMatch, HasNoMatch}
@@ -118,14 +117,11 @@ module _ (body facts : List (Fact Term)) (start : Assignment) (Property : (Term 
     found_match : IsMatch (map_of found.valuation) body facts found.places
     found_match = ((candidate.is_found.exact (map_of found.valuation) (Keeps-map_of found.valuation)).0 (Extends-map_of found.valuation)).1
 
-    pub places_long : length found.places ≡ length body
+    places_long : length found.places ≡ length body
     places_long = IsMatch-length (map_of found.valuation) body facts found.places found_match
 
     places_below : AllBelow (length facts) found.places
     places_below = places_of (map_of found.valuation) body facts found.places found_match
-
-    pub places_inside : All (λ place. place < length facts) found.places
-    places_inside = All-from_recursion (λ place. place < length facts) found.places places_below
 
     pub found_over : IsOver body found.valuation
     found_over variable = (
@@ -167,12 +163,6 @@ module _ (body facts : List (Fact Term)) (start : Assignment) (Property : (Term 
   fewer_left found candidate (Some next) after least =
       let before = rank-before (length facts) found.places next.places (places_below found candidate) (places_long found candidate ∙ sym (places_long next after)) least.within in
       omega (arith, before, rank_fits next after)
-
--- facts under whose matches the rule holds meet it
-pub IsMet-holds : (facts : List (Fact Term)) (rule : Rule) → ((m : Term → Term) → Keeps Const m → Sends m (body_of rule) facts → Holds facts rule m) → IsMet facts rule
-IsMet-holds facts (tuple body head) holds = holds
-IsMet-holds facts (equality body left right) holds = holds
-IsMet-holds facts (denial body) holds = holds
 
 -- the first match under which the rule does not hold is its least active match
 pub active_here : (rule : Rule) (facts : List (Fact Term)) (start : Assignment) → start ≡ empty → (found : Found) → IsCandidate (body_of rule) facts start (Holds facts rule) found → Tells found.valuation (Holds facts rule) true → IsLeastActive rule facts found.valuation found.places

@@ -9,11 +9,11 @@ use Rattle.esto_semantics.specs.declared.fact.Fact.{Fact}
 use Rattle.esto_query.specs.Soundness.{AreNamed, IsSound}
 use Rattle.esto_query.specs.declared.query.Name.{Name}
 use Rattle.esto_query.proofs.SoundLemmas.{sound_of}
-use Rattle.esto_constraint.specs.Soundness.{IsSoundTuple, IsSoundEquality}
+use Rattle.esto_constraint.specs.Soundness.{IsSoundTuple, IsSoundEquality, IsSoundDenial}
 use Rattle.esto_constraint.specs.Constraints.{rule_of}
 use Rattle.esto_semantics.specs.Rules.{body_of}
 use Rattle.esto_constraint.specs.declared.rule.Constraint.{Constraint}
-use Rattle.esto_constraint.specs.declared.rule.Constraint.TheVariants.{Tuple, Equal}
+use Rattle.esto_constraint.specs.declared.rule.Constraint.TheVariants.{Tuple, Equal, Never}
 use Rattle.esto_term.proofs.ListLemmas.{Contains-cases, Contains-head, Contains-nil, Contains-rest}
 
 -- ---- the atoms of a rule are the body of a query
@@ -96,10 +96,20 @@ equality_sound body left right names sound =
       named = whole.named;
     }
 
+pub denial_sound : (body : List (Fact Term)) (names : List Name) → ∥ IsSoundDenial body names ∥₁ → IsSoundDenial body names
+denial_sound body names sound =
+    let whole = sound_of constant body names (∥∥₁_map sound (λ (kept : IsSoundDenial body names). with_constant body names kept.rule.has_body kept.rule.flat_body kept.named)) in
+    record {
+      rule = record { has_body = whole.query.has_body; flat_body = whole.query.flat_body };
+      named = whole.named;
+    }
+
 pub is_rule : (constraint : Constraint) → IsRule (rule_of constraint)
 is_rule (Tuple rule) = (tuple_sound rule.body rule.head rule.names rule.sound).rule
 is_rule (Equal rule) = (equality_sound rule.body rule.left rule.right rule.names rule.sound).rule
+is_rule (Never rule) = (denial_sound rule.body rule.names rule.sound).rule
 
 pub flat_body : (constraint : Constraint) → AreFlat (body_of (rule_of constraint))
 flat_body (Tuple rule) = (tuple_sound rule.body rule.head rule.names rule.sound).rule.flat_body
 flat_body (Equal rule) = (equality_sound rule.body rule.left rule.right rule.names rule.sound).rule.flat_body
+flat_body (Never rule) = (denial_sound rule.body rule.names rule.sound).rule.flat_body

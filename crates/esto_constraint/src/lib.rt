@@ -1,10 +1,10 @@
 //! Rules, their active matches, and whether facts meet them.
 #![tactic(auto)]
 
-mod making;
+mod make;
 mod meeting;
 mod rule;
 
-pub use making::{make_equal_rule, make_tuple_rule, rules_are_sound};
-pub use meeting::{Broken, active, meets};
-pub use rule::{Constraint, Egd, Rules, Tgd};
+pub use make::{make_denial, make_equal_rule, make_tuple_rule, rules_are_sound};
+pub use meeting::{Broken, active, active_in, meets};
+pub use rule::{Constraint, Denial, Egd, Rules, Tgd};

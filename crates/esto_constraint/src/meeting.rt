@@ -8,7 +8,7 @@ ghost use Rattle.esto_constraint.specs.Matches.{HasExtension, Holds, IsMet, AreM
 ghost use Rattle.esto_constraint.specs.Tests.{IsOver, Tells};
 
 use crate::rule::{Constraint, Egd, Rules, Tgd};
-use esto_query::{Found, Valuation, first_match, next_match};
+use esto_query::{Found, IndexedFacts, Valuation};
 use esto_semantics::{Atoms, Facts};
 use esto_term::{OutOfMemory, Term};
 use std::alloc::Global;
@@ -27,6 +27,7 @@ fn body_of(rule: &Constraint) -> &Atoms
     match rule {
         Constraint::Tuple(rule) => &rule.body,
         Constraint::Equal(rule) => &rule.body,
+        Constraint::Never(rule) => &rule.body,
     }
 }
 
@@ -48,13 +49,14 @@ fn value_of<'a>(valuation: &'a Valuation, term: &'a Term) -> &'a Term
 fn lacks_extension(
     alloc: Global,
     rule: &Tgd,
-    facts: &Facts,
+    facts: &IndexedFacts,
     valuation: &Valuation,
 ) -> Result<bool, OutOfMemory>
     requires { IsOver rule.now.body valuation.now }
-    ensures { IfOk result (λ it. Tells valuation.now (HasExtension rule.now.body rule.now.head facts.now) it) }
+    ensures { IfOk result (λ it.
+        Tells valuation.now (HasExtension rule.now.body rule.now.head facts.now) it) }
 {
-    let extension = first_match(alloc, &rule.head, facts, valuation)?;
+    let extension = facts.first_match(alloc, &rule.head, valuation)?;
     Ok(extension.is_none())
 }
 
@@ -68,11 +70,11 @@ fn tells_apart(rule: &Egd, valuation: &Valuation) -> bool
     !left.equal(right)
 }
 
-/// Whether a match of the body is active.
+/// Whether a match of the body is active. Under a denial each is.
 fn is_active(
     alloc: Global,
     rule: &Constraint,
-    facts: &Facts,
+    facts: &IndexedFacts,
     valuation: &Valuation,
 ) -> Result<bool, OutOfMemory>
     requires { IsOver (body_of (rule_of rule.now)) valuation.now }
@@ -84,6 +86,7 @@ fn is_active(
             Ok(lacks)
         }
         Constraint::Equal(rule) => Ok(tells_apart(rule, valuation)),
+        Constraint::Never(_) => Ok(true),
     }
 }
 
@@ -91,42 +94,66 @@ fn is_active(
 fn least_active(
     alloc: Global,
     rule: &Constraint,
-    facts: &Facts,
+    facts: &IndexedFacts,
     start: &Valuation,
 ) -> Result<Option<Found>, OutOfMemory>
     requires { start.now ≡ map.empty }
-    ensures { IfOk result (λ outcome. MatchOption outcome (IsMet facts.now (rule_of rule.now)) (λ found. IsLeastActive (rule_of rule.now) facts.now found.valuation found.places)) }
+    ensures { IfOk result (λ outcome. MatchOption outcome (IsMet facts.now (rule_of rule.now))
+        (λ found. IsLeastActive (rule_of rule.now) facts.now found.valuation found.places)) }
 {
     let body = body_of(rule);
-    let mut candidate = first_match(alloc, body, facts, start)?;
+    let mut candidate = facts.first_match(alloc, body, start)?;
     'matches: while let Some(found) = candidate {
         let unmet = is_active(alloc, rule, facts, &found.valuation)?;
         if unmet {
             return Ok(Some(found));
         }
-        candidate = next_match(alloc, body, facts, start, &found)?;
+        candidate = facts.next_match(alloc, body, start, &found)?;
     }
     Ok(None)
 }
 
-/// The least active match of the rule in the facts, by the list of places: the least match of its body that has
-/// no extension to the head, or that makes the two sides different. None comes exactly where the facts meet the
-/// rule.
-pub fn active(alloc: Global, rule: &Constraint, facts: &Facts) -> Result<Option<Found>, OutOfMemory>
-    ensures { IfOk result (λ outcome. MatchOption outcome (IsMet facts.now (rule_of rule.now)) (λ found. IsLeastActive (rule_of rule.now) facts.now found.valuation found.places)) }
+/// The least active match of the rule in the facts, by the list of places: the least match of its body that has no
+/// extension to the head, or that makes the two sides different, or of a denial the least match. None comes exactly
+/// where the facts meet the rule.
+pub fn active_in(
+    alloc: Global,
+    rule: &Constraint,
+    facts: &IndexedFacts,
+) -> Result<Option<Found>, OutOfMemory>
+    ensures { IfOk result (λ outcome. MatchOption outcome (IsMet facts.now (rule_of rule.now))
+        (λ found. IsLeastActive (rule_of rule.now) facts.now found.valuation found.places)) }
 {
     let start = Valuation::new(alloc);
     let outcome = least_active(alloc, rule, facts, &start)?;
     Ok(outcome)
 }
 
+/// The least active match of the rule in the facts, by the list of places: the least match of its body that has no
+/// extension to the head, or that makes the two sides different, or of a denial the least match. None comes exactly
+/// where the facts meet the rule. Facts that serve several calls are indexed once, for `active_in`.
+pub fn active(alloc: Global, rule: &Constraint, facts: &Facts) -> Result<Option<Found>, OutOfMemory>
+    ensures { IfOk result (λ outcome. MatchOption outcome (IsMet facts.now (rule_of rule.now))
+        (λ found. IsLeastActive (rule_of rule.now) facts.now found.valuation found.places)) }
+{
+    let indexed = IndexedFacts::of(alloc, facts)?;
+    let outcome = active_in(alloc, rule, &indexed)?;
+    Ok(outcome)
+}
+
 /// The first rule, by its number, that the facts do not meet, with its least active match. None comes exactly
 /// where they meet each rule.
-pub fn meets(alloc: Global, rules: &Rules, facts: &Facts) -> Result<Option<Broken>, OutOfMemory>
-    ensures { IfOk result (λ outcome. MatchOption outcome (AreMet facts.now (rules_of rules.now)) (λ broken. IsFirstBroken (rules_of rules.now) facts.now broken.rule broken.found.valuation broken.found.places)) }
+fn first_broken(
+    alloc: Global,
+    rules: &Rules,
+    facts: &IndexedFacts,
+) -> Result<Option<Broken>, OutOfMemory>
+    ensures { IfOk result (λ outcome. MatchOption outcome (AreMet facts.now (rules_of rules.now))
+        (λ broken. IsFirstBroken (rules_of rules.now) facts.now broken.rule
+        broken.found.valuation broken.found.places)) }
 {
     'rules: for number in 0..rules.len() {
-        let outcome = active(alloc, rules.item(number), facts)?;
+        let outcome = active_in(alloc, rules.item(number), facts)?;
         if let Some(found) = outcome {
             return Ok(Some(Broken {
                 rule: number,
@@ -135,4 +162,16 @@ pub fn meets(alloc: Global, rules: &Rules, facts: &Facts) -> Result<Option<Broke
         }
     }
     Ok(None)
+}
+
+/// The first rule, by its number, that the facts do not meet, with its least active match. None comes exactly
+/// where they meet each rule.
+pub fn meets(alloc: Global, rules: &Rules, facts: &Facts) -> Result<Option<Broken>, OutOfMemory>
+    ensures { IfOk result (λ outcome. MatchOption outcome (AreMet facts.now (rules_of rules.now))
+        (λ broken. IsFirstBroken (rules_of rules.now) facts.now broken.rule
+        broken.found.valuation broken.found.places)) }
+{
+    let indexed = IndexedFacts::of(alloc, facts)?;
+    let outcome = first_broken(alloc, rules, &indexed)?;
+    Ok(outcome)
 }

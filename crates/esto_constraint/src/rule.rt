@@ -1,5 +1,5 @@
 //! Rules.
-ghost use Rattle.esto_constraint.specs.Soundness.{IsSoundTuple, IsSoundEquality};
+ghost use Rattle.esto_constraint.specs.Soundness.{IsSoundTuple, IsSoundEquality, IsSoundDenial};
 
 use esto_query::Names;
 use esto_semantics::Atoms;
@@ -29,11 +29,21 @@ pub struct Egd {
     pub ghost sound: { ∥ IsSoundEquality body left right names ∥₁ },
 }
 
+/// A denial: the body is to have no match. It is not empty, its terms are constants or plain, and each variable's
+/// number is below the length of the names.
+#[derive(Debug, Drop)]
+pub struct Denial {
+    pub body: Atoms,
+    pub names: Names,
+    pub ghost sound: { ∥ IsSoundDenial body names ∥₁ },
+}
+
 /// A rule that databases are to meet.
 #[derive(Debug, Drop)]
 pub enum Constraint {
     Tuple(Tgd),
     Equal(Egd),
+    Never(Denial),
 }
 
 /// The rules of a catalogue, numbered from 0.
@@ -60,11 +70,21 @@ impl Replicate for Egd {
     }
 }
 
+impl Replicate for Denial {
+    fn copy(&self, alloc: Global) -> Result<Denial, OutOfMemory> {
+        Ok(Denial {
+            body: self.body.copy(alloc)?,
+            names: self.names.copy(alloc)?,
+        })
+    }
+}
+
 impl Replicate for Constraint {
     fn copy(&self, alloc: Global) -> Result<Constraint, OutOfMemory> {
         match self {
             Constraint::Tuple(rule) => Ok(Constraint::Tuple(rule.copy(alloc)?)),
             Constraint::Equal(rule) => Ok(Constraint::Equal(rule.copy(alloc)?)),
+            Constraint::Never(rule) => Ok(Constraint::Never(rule.copy(alloc)?)),
         }
     }
 }

@@ -142,7 +142,7 @@ tail_read : (xs : List Entry) (low k : ℕ) (d : Entry) → k < length xs - low 
 tail_read xs low k d l = get_or-take (length xs - low) (drop low xs) k d l ∙ get_or-drop low xs k d
 
 tail_length : (xs : List Entry) (low : ℕ) → length (take (length xs - low) (drop low xs)) ≡ length xs - low
-tail_length xs low = length-take-le (length xs - low) (drop low xs) (omega (arith, length-drop low xs)) 
+tail_length xs low = length-take-le (length xs - low) (drop low xs) (omega (arith, length-drop low xs))
 
 pub tail_in_order : (facts : List (Fact Term)) (xs : List Entry) (low : ℕ) → IsInOrder facts xs → IsInOrder facts (take (length xs - low) (drop low xs))
 tail_in_order facts xs low order i j d le lt =

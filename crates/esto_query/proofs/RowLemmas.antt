@@ -103,10 +103,13 @@ pub record AreMoved (all rest kept : List (List Term)) : Type 0 where
 pub AreMoved-first : (all sorted : List (List Term)) → IsPermutation all sorted → AreMoved all sorted []
 AreMoved-first all sorted moved = record {
   ascending = λ i j d less within. absurd (omega arith);
-  same = λ row. (λ there. inr (Contains-permutation all sorted row moved there), λ either. elim either [
-    | inl none ↦ absurd (Contains-nil row none)
-    | inr there ↦ Contains-permutation sorted all row (IsPermutation-sym all sorted moved) there
-  ]);
+  same = λ row. (
+    λ there. inr (Contains-permutation all sorted row moved there),
+    λ either. elim either [
+      | inl none ↦ absurd (Contains-nil row none)
+      | inr there ↦ Contains-permutation sorted all row (IsPermutation-sym all sorted moved) there
+    ],
+  );
 }
 
 pub AreMoved-next : (all rest less kept more : List (List Term)) (row : List Term) → rest ≡ less ++ row ∷ [] → AreMoved all rest kept → IsAscending more → Adds kept more (λ other. other ≡ row) → AreMoved all less more

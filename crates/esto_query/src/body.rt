@@ -1,5 +1,5 @@
 //! What the atoms of a body mention, and whether they fit a schema.
-ghost use Rattle.std.specs.Prelude.{◌≡◌, ◌↔◌, ◌<◌, IsTrue, Contains, All, length, MatchOption};
+ghost use Rattle.std.specs.Prelude.{◌≡◌, ◌↔◌, ◌<◌, IsTrue, All, length, MatchOption};
 ghost use Rattle.esto_term.specs.declared.term.Term.TheVariants.{Plain};
 ghost use Rattle.esto_semantics.specs.Facts.{Mentions};
 ghost use Rattle.esto_semantics.specs.Maps.{IsFlat, IsFixedBy};
@@ -9,19 +9,7 @@ ghost use Rattle.esto_query.specs.Making.{IsFirstMisfit};
 
 use crate::schema::Schema;
 use esto_semantics::Atom;
-use esto_term::Term;
-
-/// Whether the term is one of these.
-fn has_term(terms: &[Term], term: &Term) -> bool
-    ensures { IsTrue result ↔ Contains terms.now term.now }
-{
-    'terms: for other in terms {
-        if other.equal(term) {
-            return true;
-        }
-    }
-    false
-}
+use esto_term::{Term, has_term};
 
 /// Whether one of the atoms has that term.
 pub fn mentions(atoms: &[Atom], term: &Term) -> bool

@@ -13,9 +13,9 @@ mod search;
 mod trail;
 mod valuation;
 
-pub use esto_semantics::{Atom, Atoms, Facts};
 pub use answer::answers;
 pub use body::{first_misfit, mentions, missing_variable};
+pub use esto_semantics::{Atom, Atoms, Facts};
 pub use indexed::IndexedFacts;
 pub use make::{MAX_ATOMS, QueryFault, make_query};
 pub use matches::{Found, first_match, matches_send, next_match};

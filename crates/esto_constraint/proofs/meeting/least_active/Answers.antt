@@ -6,7 +6,7 @@ use Rattle.esto_constraint.specs.Constraints.{rule_of}
 use Rattle.esto_constraint.specs.Matches.{Holds}
 use Rattle.esto_constraint.specs.Tests.{IsOver, Tells}
 use Rattle.esto_constraint.proofs.RuleLemmas.{flat_body}
-use Rattle.esto_constraint.proofs.MeetingLemmas.{IsCandidate, IsMet-holds, first_candidate, holds_always, places_long, places_inside, found_over, next_candidate, fewer_left, active_here}
+use Rattle.esto_constraint.proofs.MeetingLemmas.{IsCandidate, first_candidate, holds_always, found_over, next_candidate, fewer_left, active_here}
 use Rattle.esto_constraint.proofs.meeting.least_active.Goals as goal
 
 pub first_match-requires : goal.first_match-requires
@@ -20,18 +20,8 @@ is_active-requires c =
     let now = rw c.in-Some.is at c.matches.invariant in
     subst (λ body. IsOver body c.in-Some.found.valuation) c.body_of-body.ensures (found_over _ _ _ _ c.requires c.in-Some.found now)
 
-pub next_match-requires-clause-flat : goal.next_match-requires-clause-flat
-next_match-requires-clause-flat c = subst AreFlat (sym c.body_of-body.ensures) (flat_body c.args.rule.now)
-
-pub next_match-requires-clause-long : goal.next_match-requires-clause-long
-next_match-requires-clause-long c =
-    let now = rw c.in-Some.is at c.matches.invariant in
-    places_long _ _ _ _ c.requires c.in-Some.found now
-
-pub next_match-requires-clause-places : goal.next_match-requires-clause-places
-next_match-requires-clause-places c =
-    let now = rw c.in-Some.is at c.matches.invariant in
-    places_inside _ _ _ _ c.requires c.in-Some.found now
+pub next_match-requires : goal.next_match-requires
+next_match-requires c = subst AreFlat (sym c.body_of-body.ensures) (flat_body c.args.rule.now)
 
 pub returns-then-unmet : goal.returns-then-unmet
 returns-then-unmet c =
@@ -58,6 +48,5 @@ matches-smaller c =
 pub returns : goal.returns
 returns c =
     let all = rw c.in_default.is at c.matches.invariant in
-    IsMet-holds c.args.facts.now (rule_of c.args.rule.now)
-    (subst (λ body. (m : Term → Term) → Keeps Const m → Sends m body c.args.facts.now → Holds c.args.facts.now (rule_of c.args.rule.now) m) c.body_of-body.ensures
-    (holds_always _ _ _ (Holds c.args.facts.now (rule_of c.args.rule.now)) c.requires all))
+    subst (λ body. (m : Term → Term) → Keeps Const m → Sends m body c.args.facts.now → Holds c.args.facts.now (rule_of c.args.rule.now) m) c.body_of-body.ensures
+    (holds_always _ _ _ (Holds c.args.facts.now (rule_of c.args.rule.now)) c.requires all)

@@ -1,4 +1,4 @@
-use Rattle.std.proofs.Common.{◌∷◌, [], refl, sym, ap, ◌∙◌, ◌+◌, arith}
+use Rattle.std.proofs.Common.{◌∷◌, [], refl, sym, ap, ◌∙◌, arith}
 use Rattle.esto_term.specs.declared.term.Term.{Term}
 use Rattle.esto_query.specs.Trails.{with_trail}
 use Rattle.esto_query.proofs.IndexLemmas.{candidates-range, one_term}

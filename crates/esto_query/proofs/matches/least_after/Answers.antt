@@ -1,6 +1,5 @@
-use Rattle.std.proofs.Common.{subst, length, arith}
+use Rattle.std.proofs.Common.{arith}
 use Rattle.std.proofs.lemmas.List.{nil_from_length}
-use Rattle.esto_query.specs.Searches.{Follows}
 use Rattle.esto_query.proofs.LeastLemmas.{if_least, if_none, HasNoMatch-empty}
 use Rattle.esto_query.proofs.matches.least_after.Goals as goal
 

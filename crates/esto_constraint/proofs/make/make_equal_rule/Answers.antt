@@ -1,5 +1,5 @@
 use Rattle.std.proofs.Common.{refl, arith}
-use Rattle.esto_constraint.proofs.making.make_equal_rule.Goals as goal
+use Rattle.esto_constraint.proofs.make.make_equal_rule.Goals as goal
 
 pub invariant_of-result : goal.invariant_of-result
 invariant_of-result c =

@@ -2,7 +2,7 @@ use Rattle.std.proofs.Common.{◌≡◌, ◌+◌, ◌++◌, length, refl, inl, i
 use Rattle.esto_query.specs.Making.{IsFirstMisfit}
 use Rattle.esto_query.specs.Schemas.{arities_of}
 use Rattle.esto_constraint.proofs.MakingLemmas.{AreOver-append, IsFirstMisfit-body, IsFirstMisfit-head}
-use Rattle.esto_constraint.proofs.making.make_tuple_rule.Goals as goal
+use Rattle.esto_constraint.proofs.make.make_tuple_rule.Goals as goal
 
 pub returns-in-Some : goal.returns-in-Some
 returns-in-Some c = IsFirstMisfit-body _ _ c.args.head _ (rw c.items.ensures at c.in-Some.ensures)

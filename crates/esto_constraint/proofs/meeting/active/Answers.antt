@@ -1,0 +1,12 @@
+use Rattle.std.proofs.Common.{List, subst}
+use Rattle.std.specs.Option.{MatchOption}
+use Rattle.esto_term.specs.declared.term.Term.{Term}
+use Rattle.esto_semantics.specs.declared.fact.Fact.{Fact}
+use Rattle.esto_constraint.specs.Constraints.{rule_of}
+use Rattle.esto_constraint.specs.Matches.{IsMet, IsLeastActive}
+use Rattle.esto_constraint.proofs.meeting.active.Goals as goal
+
+pub returns : goal.returns
+returns c =
+    subst (λ (facts : List (Fact Term)). MatchOption c.in_ok-outcome.outcome (IsMet facts (rule_of c.args.rule.now)) (λ found. IsLeastActive (rule_of c.args.rule.now) facts found.valuation found.places))
+    c.in_ok-indexed.ensures c.in_ok-outcome.ensures
