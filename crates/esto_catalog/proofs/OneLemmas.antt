@@ -10,9 +10,9 @@ use Rattle.esto_acyclic.specs.Graphs.{AreRanks, IsLeastCycle}
 use Rattle.esto_acyclic.specs.Relations.{IsEdge}
 use Rattle.esto_acyclic.specs.declared.relations.Cycle.{Cycle}
 use Rattle.esto_constraint.specs.Constraints.{rules_of}
-use Rattle.esto_constraint.specs.Soundness.{IsSoundTuple, IsSoundEquality}
+use Rattle.esto_constraint.specs.Soundness.{IsSoundTuple, IsSoundEquality, IsSoundDenial}
 use Rattle.esto_constraint.specs.declared.rule.Constraint.{Constraint}
-use Rattle.esto_constraint.specs.declared.rule.Constraint.TheVariants.{Tuple, Equal as Equality}
+use Rattle.esto_constraint.specs.declared.rule.Constraint.TheVariants.{Tuple, Equal as Equality, Never}
 use Rattle.esto_course.proofs.Determined.{IsDetermined, IsDeterminedUpTo, then_determined, gives_determined, refuses_determined, demands_determined, judges_determined, each_determined}
 use Rattle.esto_course.specs.Course.{Stops, gives}
 use Rattle.esto_course.specs.Course.Stops.{is_free, refused}
@@ -76,8 +76,15 @@ rule_same (Tuple rule) (Tuple other) (bodies, heads, names) =
 rule_same (Equality rule) (Equality other) (bodies, lefts, rights, names) =
     let same : (rule.body, rule.left, rule.right, rule.names) ≡ (other.body, other.left, other.right, other.names) = λ i. (bodies i, lefts i, rights i, names i) in
     ap Equality (over_prop (λ (p : List (Fact Term) × Term × Term × List Name). ∥ IsSoundEquality p.0 p.1 p.2 p.3 ∥₁) (λ p. ∥∥₁_prop) (λ p sound. record { body = p.0; left = p.1; right = p.2; names = p.3; sound = sound }) _ _ same rule.sound other.sound)
+rule_same (Never rule) (Never other) (bodies, names) =
+    let same : (rule.body, rule.names) ≡ (other.body, other.names) = λ i. (bodies i, names i) in
+    ap Never (over_prop (λ (p : List (Fact Term) × List Name). ∥ IsSoundDenial p.0 p.1 ∥₁) (λ p. ∥∥₁_prop) (λ p sound. record { body = p.0; names = p.1; sound = sound }) _ _ same rule.sound other.sound)
 rule_same (Tuple rule) (Equality other) same = absurd same
+rule_same (Tuple rule) (Never other) same = absurd same
 rule_same (Equality rule) (Tuple other) same = absurd same
+rule_same (Equality rule) (Never other) same = absurd same
+rule_same (Never rule) (Tuple other) same = absurd same
+rule_same (Never rule) (Equality other) same = absurd same
 
 -- ---- the rows
 

@@ -2,7 +2,7 @@
 use Rattle.std.proofs.Common.{◌≡◌, ◌≢◌, ℕ, inl, inr, List, [], ◌∷◌, sym, subst, ◌∙◌}
 use Rattle.std.specs.Prelude.{AllPairs, map}
 use Rattle.esto_constraint.specs.declared.rule.Constraint.{Constraint}
-use Rattle.esto_constraint.specs.declared.rule.Constraint.TheVariants.{Tuple, Equal}
+use Rattle.esto_constraint.specs.declared.rule.Constraint.TheVariants.{Tuple, Equal, Never}
 use Rattle.esto_query.specs.declared.query.Name.{Name}
 use Rattle.esto_semantics.specs.Maps.{IsFixedBy}
 use Rattle.esto_semantics.specs.declared.fact.Fact.{Fact}
@@ -55,11 +55,15 @@ module _ (words : List Word) (apart : AllPairs ◌≢◌ (map (λ word. word.nam
   rule_one : (items : List ItemTree) (head : HeadTree) (rule other : Constraint) → IsRuleOf words schema bytes items head rule → IsRuleOf words schema bytes items head other → AreSameRule rule other
   rule_one items (Items head_items) (Tuple rule) (Tuple other) h g = tuple_one items head_items rule.body rule.head other.body other.head rule.names other.names h g
   rule_one items (Items head_items) (Tuple rule) (Equal other) h g = absurd g
+  rule_one items (Items head_items) (Tuple rule) (Never other) h g = absurd g
   rule_one items (Items head_items) (Equal rule) other h g = absurd h
+  rule_one items (Items head_items) (Never rule) other h g = absurd h
   rule_one items (Equality left right) (Equal rule) (Equal other) h g =
       equality_one items left right rule.body other.body rule.left rule.right other.left other.right rule.names other.names h.0 g.0
   rule_one items (Equality left right) (Equal rule) (Tuple other) h g = absurd g
+  rule_one items (Equality left right) (Equal rule) (Never other) h g = absurd g
   rule_one items (Equality left right) (Tuple rule) other h g = absurd h
+  rule_one items (Equality left right) (Never rule) other h g = absurd h
 
   -- ---- faults
 
@@ -81,7 +85,9 @@ module _ (words : List Word) (apart : AllPairs ◌≢◌ (map (λ word. word.nam
   rule_or_head_fault : (items : List ItemTree) (head : HeadTree) (rule : Constraint) (f : TextFault) → IsRuleOf words schema bytes items head rule → ¬ IsRuleHeadFault words schema bytes items head f
   rule_or_head_fault items (Items head_items) (Tuple rule) f h k = fitting_or_fault words apart schema bytes 0 head_items f h.head_fits k
   rule_or_head_fault items (Items head_items) (Equal rule) f h k = h
+  rule_or_head_fault items (Items head_items) (Never rule) f h k = h
   rule_or_head_fault items (Equality left right) (Tuple rule) f h k = h
+  rule_or_head_fault items (Equality left right) (Never rule) f h k = h
   rule_or_head_fault items (Equality left right) (Equal rule) f (h, one_fixed, other_fixed) (body, one, other, names, g, k, side) =
       let s = equality_one items left right rule.body body rule.left rule.right one other rule.names names h g in
       fixed_no_unsafe body left right one other f.offset
@@ -91,7 +97,9 @@ module _ (words : List Word) (apart : AllPairs ◌≢◌ (map (λ word. word.nam
   body_fits : (items : List ItemTree) (head : HeadTree) (rule : Constraint) → IsRuleOf words schema bytes items head rule → AreFitting words schema bytes 0 items
   body_fits items (Items head_items) (Tuple rule) h = h.body_fits
   body_fits items (Items head_items) (Equal rule) h = absurd h
+  body_fits items (Items head_items) (Never rule) h = absurd h
   body_fits items (Equality left right) (Tuple rule) h = absurd h
+  body_fits items (Equality left right) (Never rule) h = absurd h
   body_fits items (Equality left right) (Equal rule) h = h.0.body_fits
 
   rule_or_fault : (tree : ConstraintTree) (rule : Constraint) (f : TextFault) → IsRuleOf words schema bytes tree.body tree.head rule → ¬ IsRuleFault words schema bytes tree f

@@ -1,7 +1,7 @@
 -- What a text of a constraint means, and its first fault.
 use Rattle.std.specs.Prelude.{IsUtf8, ◌≡◌, ◌⊎◌, ℕ, List, [], ◌∷◌}
 use Rattle.esto_constraint.specs.declared.rule.Constraint.{Constraint}
-use Rattle.esto_constraint.specs.declared.rule.Constraint.TheVariants.{Tuple, Equal}
+use Rattle.esto_constraint.specs.declared.rule.Constraint.TheVariants.{Tuple, Equal, Never}
 use Rattle.esto_query.specs.declared.query.Name.{Name}
 use Rattle.esto_semantics.specs.Maps.{IsFixedBy}
 use Rattle.esto_semantics.specs.declared.fact.Fact.{Fact}
@@ -39,13 +39,17 @@ IsUnsafeSide body left_token right_token left right offset =
     (¬ IsFixedBy body left × (offset ≡ left_token.start))
     ⊎ (IsFixedBy body left × ¬ IsFixedBy body right × (offset ≡ right_token.start))
 
--- The rule is what a body's items and a head mean. Each side of an equality is a constant or in the body.
+-- The rule is what a body's items and a head mean. Each side of an equality is a constant or in the body. No text means a denial.
 abbrev pub IsRuleOf : List Word → List ℕ → List ℕ → List ItemTree → HeadTree → Constraint → Type 0
 IsRuleOf words schema bytes items (Items head_items) (Tuple rule) =
     IsTupleRead words schema bytes items head_items rule.body rule.head rule.names
 IsRuleOf words schema bytes items (Equality left right) (Equal rule) =
-    IsEqualityRead words schema bytes items left right rule.body rule.left rule.right rule.names × IsFixedBy rule.body rule.left × IsFixedBy rule.body rule.right
-IsRuleOf words schema bytes items _ _ = ⊥
+    IsEqualityRead words schema bytes items left right rule.body rule.left rule.right rule.names
+    × IsFixedBy rule.body rule.left × IsFixedBy rule.body rule.right
+IsRuleOf words schema bytes items (Items head_items) (Equal rule) = ⊥
+IsRuleOf words schema bytes items (Items head_items) (Never rule) = ⊥
+IsRuleOf words schema bytes items (Equality left right) (Tuple rule) = ⊥
+IsRuleOf words schema bytes items (Equality left right) (Never rule) = ⊥
 
 -- The text is in the grammar, and the constraint is what its tree means.
 abbrev pub IsConstraintReading : List Word → List ℕ → List ℕ → Constraint → Type 0
@@ -75,12 +79,18 @@ abbrev pub IsConstraintError : List Word → List ℕ → List ℕ → ReadError
 IsConstraintError words schema bytes (Fault fault) = IsConstraintFault words schema bytes fault
 IsConstraintError words schema bytes OutOfMemory = IsUtf8 bytes
 
--- Two rules are of one kind, with the same body, the same head or sides, and the same names of variables.
+-- Two rules are of one kind, with the same body, the same head or sides if there are any, and the same names of variables.
 abbrev pub AreSameRule : Constraint → Constraint → Type 0
 AreSameRule (Tuple rule) (Tuple other) = (rule.body ≡ other.body) × (rule.head ≡ other.head) × (rule.names ≡ other.names)
 AreSameRule (Equal rule) (Equal other) =
     (rule.body ≡ other.body) × (rule.left ≡ other.left) × (rule.right ≡ other.right) × (rule.names ≡ other.names)
-AreSameRule _ _ = ⊥
+AreSameRule (Never rule) (Never other) = (rule.body ≡ other.body) × (rule.names ≡ other.names)
+AreSameRule (Tuple rule) (Equal other) = ⊥
+AreSameRule (Tuple rule) (Never other) = ⊥
+AreSameRule (Equal rule) (Tuple other) = ⊥
+AreSameRule (Equal rule) (Never other) = ⊥
+AreSameRule (Never rule) (Tuple other) = ⊥
+AreSameRule (Never rule) (Equal other) = ⊥
 
 -- A text has at most one reading.
 abbrev pub HaveOneRule : Type 0
