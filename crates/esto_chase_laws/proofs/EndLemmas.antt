@@ -38,7 +38,7 @@ module _ (rules : List Rule) (are_rules : AreRules rules) (start : ConjunctiveQu
         into = record {
           after = received.value;
           keeps = received.keeps;
-          agrees = λ term inside. received.extends term (is_start.flat_body term inside);
+          agrees = λ term given. received.extends term (elim given [ inl flat ↦ flat | inr inside ↦ is_start.flat_body term inside ]);
           sends = received.sends;
           one_value = λ term other is. sym (received.one_value term) ∙ ap received.value is;
         };

@@ -13,13 +13,14 @@ use Rattle.esto_term.proofs.ListLemmas.{Contains-at, place-from_Contains}
 use Rattle.esto_term.proofs.OrderLemmas.{term_cmp_total}
 use Rattle.esto_semantics.specs.Instances.{IsFinished}
 use Rattle.esto_semantics.specs.Maps.{IsConstant}
+use Rattle.esto_semantics.specs.Matches.{HasLeast}
 use Rattle.esto_semantics.specs.Queries.{ConjunctiveQuery}
 use Rattle.esto_semantics.specs.Rules.{Rule, tuple, equality, denial, MeetsInto}
 use Rattle.esto_semantics.specs.declared.fact.Fact.{Fact}
 use Rattle.esto_semantics.proofs.TermLemmas.{term_cases, constant_text, constant_text-told, constant_text-Const}
 use Rattle.esto_chase_laws.specs.Joined.{joined}
 use Rattle.esto_chase_laws.specs.Making.{made_facts}
-use Rattle.esto_chase_laws.specs.RunLaws.{HasLeast, IsDecidedAt}
+use Rattle.esto_chase_laws.specs.RunLaws.{IsDecidedAt}
 use Rattle.esto_chase_laws.specs.Runs.{Step, added, merged, AreSides, IsNext, IsStep, IsEnd, kind_of, replaced_facts}
 use Rattle.esto_chase_laws.specs.declared.clash.Clash.TheVariants.{Equal, Denied}
 use Rattle.esto_chase_laws.proofs.NextLemmas.{met_has_no_match}

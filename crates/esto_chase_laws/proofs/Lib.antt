@@ -6,7 +6,9 @@ pub mod ReceivedLemmas
 pub mod LowLemmas
 pub mod StockLemmas
 pub mod NextLemmas
+pub mod DecidedLemmas
 pub mod RunLemmas
 pub mod StateLemmas
+pub mod MergeLemmas
 pub mod EndLemmas
 pub mod GoingLemmas

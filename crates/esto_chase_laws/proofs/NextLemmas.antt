@@ -15,7 +15,7 @@ use Rattle.esto_term.proofs.OrderLemmas.{term_cmp_total}
 use Rattle.esto_semantics.specs.Facts.{image}
 use Rattle.esto_semantics.specs.Instances.{IsFinished}
 use Rattle.esto_semantics.specs.Maps.{Keeps, AgreeOn, IsFixedBy}
-use Rattle.esto_semantics.specs.Matches.{IsMatch, IsAtMost}
+use Rattle.esto_semantics.specs.Matches.{IsMatch, IsAtMost, IsActive}
 use Rattle.esto_semantics.specs.Queries.{ConjunctiveQuery}
 use Rattle.esto_semantics.specs.Rules.{Rule, tuple, equality, denial, body_of, AreRules, MeetsInto}
 use Rattle.esto_semantics.specs.declared.fact.Fact.{Fact}
@@ -23,7 +23,7 @@ use Rattle.esto_semantics.proofs.FactLemmas.{image_agree}
 use Rattle.esto_semantics.proofs.TermLemmas.{Const-same}
 use Rattle.esto_chase_laws.specs.Joined.{joined}
 use Rattle.esto_chase_laws.specs.Making.{extended, made_facts}
-use Rattle.esto_chase_laws.specs.Runs.{Step, added, merged, AreSides, IsActive, IsTriedBefore, IsNext, IsAdded, IsMerged, IsStep, IsClashed, IsDenied, HasClashed, IsEnd, kind_of, move_of, replaced_facts}
+use Rattle.esto_chase_laws.specs.Runs.{Step, added, merged, AreSides, IsTriedBefore, IsNext, IsAdded, IsMerged, IsStep, IsClashed, IsDenied, HasClashed, IsEnd, kind_of, move_of, merge_of, replaced_facts}
 use Rattle.esto_chase_laws.specs.declared.clash.Clash.{Clash}
 use Rattle.esto_chase_laws.specs.declared.clash.Clash.TheVariants.{Equal, Denied}
 use Rattle.esto_chase_laws.proofs.MakingLemmas.{extended_agree}
@@ -119,7 +119,7 @@ one_pair m other left right left' right' to from to' from' l r (inr p) (inl q) l
 -- ---- equality rules
 
 -- the maps of the two matches give the sides of the rule one value each
-side_agrees : (body : List (Fact Term)) (m other : Term → Term) (term : Term) → Keeps Const m → Keeps Const other → AgreeOn ◌≡◌ body m other
+pub side_agrees : (body : List (Fact Term)) (m other : Term → Term) (term : Term) → Keeps Const m → Keeps Const other → AgreeOn ◌≡◌ body m other
     → IsFixedBy body term → m term ≡ other term
 side_agrees body m other term keeps keeps' agree (inl (text, is)) = ap m is ∙ keeps text ∙ sym (keeps' text) ∙ sym (ap other is)
 side_agrees body m other term keeps keeps' agree (inr inside) = agree term inside
@@ -210,6 +210,19 @@ same_move rules now s t one two a b =
     let number = same_number rules now.body (move_of s).0 (move_of t).0 x.0 y.0 x.1 y.1 (move_of s).1 (move_of t).1 x.2 y.2 in
     let places = same_places rules now.body (move_of s).0 (move_of t).0 x.0 y.0 x.1 y.1 (move_of s).1 (move_of t).1 x.2 y.2 in
     λ k. (number k, places k)
+
+-- two steps from one state merge the same terms, or merge none
+pub same_merge : (rules : List Rule) → AreRules rules → (now : ConjunctiveQuery) (s t : Step) (one two : ConjunctiveQuery)
+    → IsStep rules now s one → IsStep rules now t two → merge_of s ≡ merge_of t
+same_merge rules are_rules now (added i m places) (added j other others) one two a b = refl
+same_merge rules are_rules now (added i m places) (merged j other others from to) one two a b =
+    absurd (not_mixed rules are_rules now one two i j m other places others from to a b)
+same_merge rules are_rules now (merged i m places from to) (added j other others) one two a b =
+    absurd (not_mixed rules are_rules now two one j i other m others places from to b a)
+same_merge rules are_rules now (merged i m places from to) (merged j other others from' to') one two a b =
+    let pair = same_pair rules are_rules now.body i j a.body b.body a.left a.right b.left b.right m other places others a.is_next b.is_next
+    to from to' from' a.sides b.sides a.lesser b.lesser in
+    λ k. Some (pair.1 k, pair.0 k)
 
 -- ---- an end has no step
 

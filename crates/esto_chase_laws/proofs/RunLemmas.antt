@@ -1,14 +1,19 @@
 -- Runs of one start: one end, and as many steps.
-use Rattle.std.proofs.Common.{◌≡◌, ◌⊎◌, inl, inr, ℕ, zero, suc, ◌+◌, ◌-◌, ◌<◌, ◌≤◌, List, [], ◌∷◌, ◌++◌, length, refl, sym, ap, ◌∙◌, subst, arith, length-append}
+use Rattle.std.proofs.Common.{◌≡◌, ◌⊎◌, inl, inr, ℕ, zero, suc, ◌+◌, ◌-◌, ◌<◌, ◌≤◌, List, [], ◌∷◌, ◌++◌, map, length, refl, sym, ap, ◌∙◌, subst, arith, length-append}
 use Rattle.std.proofs.lemmas.Bool.{cases_order}
 use Rattle.esto_semantics.specs.Queries.{ConjunctiveQuery}
 use Rattle.esto_semantics.specs.Rules.{Rule, AreRules}
-use Rattle.esto_chase_laws.specs.Runs.{Step, IsStep, IsRun, begun, went, IsEnd, move_of, moves_of}
-use Rattle.esto_chase_laws.proofs.NextLemmas.{Stops, one_step, same_move}
+use Rattle.esto_chase_laws.specs.Runs.{Step, IsStep, IsRun, begun, went, IsEnd, move_of, moves_of, merge_of, merges_of}
+use Rattle.esto_chase_laws.proofs.NextLemmas.{Stops, one_step, same_move, same_merge}
 
-moves_push : (trace : List Step) (step : Step) → moves_of (trace ++ step ∷ []) ≡ moves_of trace ++ move_of step ∷ []
-moves_push [] step = refl
-moves_push (first ∷ trace) step = ap (λ moves. move_of first ∷ moves) (moves_push trace step)
+map_push : {A : Type 0} (of : Step → A) (trace : List Step) (step : Step) → map of (trace ++ step ∷ []) ≡ map of trace ++ of step ∷ []
+map_push of [] step = refl
+map_push of (first ∷ trace) step = ap (λ things. of first ∷ things) (map_push of trace step)
+
+-- what two steps from one state have alike
+abbrev IsAlike : {A : Type 0} → List Rule → (Step → A) → Type 0
+IsAlike rules of =
+    (now : ConjunctiveQuery) (s t : Step) (one two : ConjunctiveQuery) → IsStep rules now s one → IsStep rules now t two → of s ≡ of t
 
 module _ (rules : List Rule) (are_rules : AreRules rules) (start : ConjunctiveQuery) where
   -- the last step of a run, and the run before it
@@ -43,21 +48,21 @@ module _ (rules : List Rule) (are_rules : AreRules rules) (start : ConjunctiveQu
       let before : x.now ≡ y.now = one_state count x.before y.before x.now y.now x.run y.run x_long y_long in
       one_step rules are_rules y.now x.step y.step one two (subst (λ it. IsStep rules it x.step one) before x.is_step) y.is_step
 
-  one_course : (count : ℕ) (trace other : List Step) (one two : ConjunctiveQuery) → IsRun rules start trace one → IsRun rules start other two
-      → length trace ≡ count → length other ≡ count → moves_of trace ≡ moves_of other
-  one_course zero [] [] one two a b long as_long = refl
-  one_course zero [] (step ∷ other) one two a b long as_long = absurd (omega arith)
-  one_course zero (step ∷ trace) other one two a b long as_long = absurd (omega arith)
-  one_course (suc count) trace other one two a b long as_long =
+  one_course : {A : Type 0} (of : Step → A) → IsAlike rules of
+      → (count : ℕ) (trace other : List Step) (one two : ConjunctiveQuery) → IsRun rules start trace one → IsRun rules start other two
+      → length trace ≡ count → length other ≡ count → map of trace ≡ map of other
+  one_course of alike zero [] [] one two a b long as_long = refl
+  one_course of alike zero [] (step ∷ other) one two a b long as_long = absurd (omega arith)
+  one_course of alike zero (step ∷ trace) other one two a b long as_long = absurd (omega arith)
+  one_course of alike (suc count) trace other one two a b long as_long =
       let x = last trace one count a long in
       let y = last other two count b as_long in
       let x_long = shorter count trace x.before x.step x.whole long in
       let y_long = shorter count other y.before y.step y.whole as_long in
-      let earlier : moves_of x.before ≡ moves_of y.before = one_course count x.before y.before x.now y.now x.run y.run x_long y_long in
+      let earlier : map of x.before ≡ map of y.before = one_course of alike count x.before y.before x.now y.now x.run y.run x_long y_long in
       let before : x.now ≡ y.now = one_state count x.before y.before x.now y.now x.run y.run x_long y_long in
-      let move : move_of x.step ≡ move_of y.step =
-      same_move rules y.now x.step y.step one two (subst (λ it. IsStep rules it x.step one) before x.is_step) y.is_step in
-      ap moves_of x.whole ∙ moves_push x.before x.step ∙ (λ k. earlier k ++ move k ∷ []) ∙ sym (moves_push y.before y.step) ∙ ap moves_of (sym y.whole)
+      let same : of x.step ≡ of y.step = alike y.now x.step y.step one two (subst (λ it. IsStep rules it x.step one) before x.is_step) y.is_step in
+      ap (map of) x.whole ∙ map_push of x.before x.step ∙ (λ k. earlier k ++ same k ∷ []) ∙ sym (map_push of y.before y.step) ∙ ap (map of) (sym y.whole)
 
   -- a run that has stopped is as long as any other
   longest : (more : ℕ) (trace other : List Step) (one two : ConjunctiveQuery) → IsRun rules start trace one → IsRun rules start other two
@@ -89,10 +94,19 @@ module _ (rules : List Rule) (are_rules : AreRules rules) (start : ConjunctiveQu
   one_end trace other one two a b stops stops' =
       one_state (length trace) trace other one two a b refl (sym (one_length trace other one two a b stops stops'))
 
+  same_course : {A : Type 0} (of : Step → A) → IsAlike rules of
+      → (trace other : List Step) (one two : ConjunctiveQuery) → IsRun rules start trace one → IsRun rules start other two
+      → Stops rules one → Stops rules two → map of trace ≡ map of other
+  same_course of alike trace other one two a b stops stops' =
+      one_course of alike (length trace) trace other one two a b refl (sym (one_length trace other one two a b stops stops'))
+
   pub same_moves : (trace other : List Step) (one two : ConjunctiveQuery) → IsRun rules start trace one → IsRun rules start other two
       → Stops rules one → Stops rules two → moves_of trace ≡ moves_of other
-  same_moves trace other one two a b stops stops' =
-      one_course (length trace) trace other one two a b refl (sym (one_length trace other one two a b stops stops'))
+  same_moves = same_course move_of (same_move rules)
+
+  pub same_merges : (trace other : List Step) (one two : ConjunctiveQuery) → IsRun rules start trace one → IsRun rules start other two
+      → Stops rules one → Stops rules two → merges_of trace ≡ merges_of other
+  same_merges = same_course merge_of (same_merge rules are_rules)
 
   -- ---- a run that goes on comes to an end, where no run is longer than a bound
 

@@ -52,11 +52,11 @@ side_value body facts m side value keeps sends (inl (text, is)) told = inl (text
 side_value body facts m side value keeps sends (inr inside) told = inr (subst (Mentions facts) told (Mentions-sent m body facts side sends inside))
 
 -- what a merge needs to know of its sides
-record AreMergeable (facts : List (Fact Term)) (left right to from : Term) : Type 0 where
-  from_in : Mentions facts from
-  to_in : ((text : List ℕ) × (to ≡ Const text) × ((left ≡ Const text) ⊎ (right ≡ Const text))) ⊎ Mentions facts to
+pub record AreMergeable (facts : List (Fact Term)) (left right to from : Term) : Type 0 where
+  pub from_in : Mentions facts from
+  pub to_in : ((text : List ℕ) × (to ≡ Const text) × ((left ≡ Const text) ⊎ (right ≡ Const text))) ⊎ Mentions facts to
 
-mergeable : (body facts : List (Fact Term)) (m : Term → Term) (left right to from : Term) → Keeps Const m → Sends m body facts
+pub mergeable : (body facts : List (Fact Term)) (m : Term → Term) (left right to from : Term) → Keeps Const m → Sends m body facts
     → IsFixedBy body left → IsFixedBy body right → AreSides m left right to from → (IsConstant from → ⊥) → AreMergeable facts left right to from
 mergeable body facts m left right to from keeps sends left_fixed right_fixed sides no_constant = elim sides [
   | inl told ↦ record {
@@ -81,7 +81,7 @@ mergeable body facts m left right to from keeps sends left_fixed right_fixed sid
   }
 ]
 
-to_constant : (facts : List (Fact Term)) (left right to from : Term) → AreMergeable facts left right to from → IsConstant to ⊎ Mentions facts to
+pub to_constant : (facts : List (Fact Term)) (left right to from : Term) → AreMergeable facts left right to from → IsConstant to ⊎ Mentions facts to
 to_constant facts left right to from are = elim are.to_in [
   | inl text ↦ inl (text.0, text.1)
   | inr inside ↦ inr inside

@@ -76,6 +76,7 @@ abbrev pub run_keys : List Rule → ConjunctiveQuery → ℕ → List Key
 run_keys rules start depth =
     flat_map (λ number. map (λ values. (number, values)) (lists_within (run_terms rules start depth) (width_of rules start))) (numbers_below (length rules))
 
--- The bound of the steps of a run whose made terms nest at most so deep: each step merges a term away for good, or applies a rule at frontier values at which it was not applied before.
+-- The bound of the steps of a run whose made terms nest at most so deep: each step merges a term away for good, or applies a rule at frontier values at which
+-- it was not applied before.
 abbrev pub most_steps : List Rule → ConjunctiveQuery → ℕ → ℕ
 most_steps rules start depth = length (run_terms rules start depth) + length (run_keys rules start depth)

@@ -1,4 +1,5 @@
--- What a tuple rule makes of a match of its body. Source: the Skolem chase, with one made term for each existential variable and each list of values of the frontier.
+-- What a tuple rule makes of a match of its body. The made terms are named as in the Skolem chase (Marnette 2009): one for each rule, each of its existential
+-- variables and each list of values of the frontier. The rules are applied at active matches alone, as in the standard chase.
 use Rattle.std.specs.Prelude.{◌&&◌, ℕ, Bool, true, false, cond, List, [], map}
 use Rattle.std.specs.List.{filter}
 use Rattle.std.specs.Set.{is_member}

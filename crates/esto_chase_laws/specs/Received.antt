@@ -9,7 +9,8 @@ use Rattle.esto_semantics.specs.Rules.{Rule, Meets}
 use Rattle.esto_semantics.specs.declared.fact.Value.{Value}
 use Rattle.esto_semantics.specs.declared.fact.Value.TheVariants.{Text}
 
--- The given valuation of the start's facts is followed into the database by the later facts, where each term is one with what it went to; and what follows gives the later head what the given one gives the start's head.
+-- The given valuation of the start's facts is followed into the database by the later facts, where each term is one with what it went to; and what follows
+-- gives the later head what the given one gives the start's head.
 pub record IsReceived (start now : ConjunctiveQuery) (went : Term → Term) (given : Term → Value) (database : Database) : Type 0 where
   pub into : IsFollowedInto start.body (Contains now.body) (λ term other. went term ≡ other) given database
   pub heads : map into.after now.head ≡ map given start.head

@@ -51,6 +51,6 @@ ClashesReceiveNothing =
     → (trace : List Step) (now : ConjunctiveQuery) → IsRun rules start trace now → (clash : Clash) → HasClashed rules now clash
     → (database : Database) → Meets rules database → (m : Term → Value) → Keeps Text m → ¬ (Sends m start.body database)
 
--- A query is satisfiable exactly where its start is; so it is where its run has finished, and is not where its run has clashed.
+-- A query is satisfiable exactly where its start is.
 abbrev pub StartsAreSatisfiableAlike : Type 0
 StartsAreSatisfiableAlike = (rules : List Rule) (query : ConjunctiveQuery) → IsSatisfiable rules query ↔ IsSatisfiable rules (start_of query)

@@ -1,15 +1,16 @@
--- Runs of the standard chase. A state is a query: the facts are its body, and its head goes along. Source: the chase of Fagin, Kolaitis, Miller and Popa (2005), with a stated order of rules and matches.
-use Rattle.std.specs.Prelude.{◌≡◌, ◌⊎◌, ℕ, ◌<◌, List, [], ◌∷◌, ◌++◌, map, Some, slice_get, Contains}
+-- Runs of the standard chase. A state is a query: the facts are its body, and its head goes along. Source: the chase of Fagin, Kolaitis, Miller and Popa
+-- (2005), with a stated order of rules and matches.
+use Rattle.std.specs.Prelude.{◌≡◌, ◌⊎◌, ℕ, ◌<◌, List, [], ◌∷◌, ◌++◌, map, Option, None, Some, slice_get, Contains}
 use Rattle.std.specs.declared.cmp.Ordering.TheVariants.{Less}
 use Rattle.esto_term.specs.Order.{term_cmp, replaced}
 use Rattle.esto_term.specs.declared.term.Term.{Term}
 use Rattle.esto_term.specs.declared.term.Term.TheVariants.{Const}
 use Rattle.esto_semantics.specs.Facts.{image}
 use Rattle.esto_semantics.specs.Instances.{IsFinished}
-use Rattle.esto_semantics.specs.Maps.{AreFlat, IsConstant, IsFlat, Keeps}
-use Rattle.esto_semantics.specs.Matches.{IsMatch, IsAtMost}
+use Rattle.esto_semantics.specs.Maps.{AreFlat, IsConstant, IsFlat}
+use Rattle.esto_semantics.specs.Matches.{IsActive, IsAtMost}
 use Rattle.esto_semantics.specs.Queries.{ConjunctiveQuery}
-use Rattle.esto_semantics.specs.Rules.{Rule, tuple, equality, denial, body_of, Concludes}
+use Rattle.esto_semantics.specs.Rules.{Rule, tuple, equality, denial}
 use Rattle.esto_semantics.specs.declared.fact.Fact.{Fact}
 use Rattle.esto_chase_laws.specs.Joined.{joined}
 use Rattle.esto_chase_laws.specs.Making.{made_facts}
@@ -28,12 +29,6 @@ pub record IsStart (start : ConjunctiveQuery) : Type 0 where
   pub flat_head : (term : Term) → Contains start.head term → IsFlat term
 
 -- ---- the match that is next
-
--- An active match: a match of the rule's body under which the rule's conclusion is not so.
-pub record IsActive (rule : Rule) (facts : List (Fact Term)) (m : Term → Term) (places : List ℕ) : Type 0 where
-  pub keeps : Keeps Const m
-  pub matches : IsMatch m (body_of rule) facts places
-  pub active : ¬ (Concludes Const ◌≡◌ (Contains facts) rule m)
 
 -- Equality rules come first, then denials, then tuple rules.
 abbrev pub kind_of : Rule → ℕ
@@ -72,7 +67,8 @@ pub record IsAdded (rules : List Rule) (now next : ConjunctiveQuery) (number : �
 abbrev pub AreSides : (Term → Term) → Term → Term → Term → Term → Type 0
 AreSides m left right one other = ((m left ≡ one) × (m right ≡ other)) ⊎ ((m left ≡ other) × (m right ≡ one))
 
--- An equality rule's step, at the match that is next, puts the lesser of the two terms in place of the greater, which is no constant, in the facts and in the head.
+-- An equality rule's step, at the match that is next, puts the lesser of the two terms in place of the greater, which is no constant, in the facts and in the
+-- head.
 pub record IsMerged (rules : List Rule) (now next : ConjunctiveQuery) (number : ℕ) (m : Term → Term) (places : List ℕ) (from to : Term) : Type 0 where
   pub body : List (Fact Term)
   pub left : Term
@@ -126,7 +122,7 @@ abbrev pub HasClashed : List Rule → ConjunctiveQuery → Clash → Type 0
 HasClashed rules now (Equal one other) = IsClashed rules now one other
 HasClashed rules now (Denied number) = IsDenied rules now number
 
--- The run goes no further: no rule has an active match, or the state has clashed.
+-- The run goes no further: the state's facts, read over terms, meet the rules, or the state has clashed.
 abbrev pub IsEnd : List Rule → ConjunctiveQuery → Type 0
 IsEnd rules now = IsFinished rules now ⊎ ((clash : Clash) × HasClashed rules now clash)
 
@@ -146,3 +142,12 @@ move_of (merged number _ places _ _) = (number, places)
 -- The rules' numbers and the places of the steps, in order.
 abbrev pub moves_of : List Step → List (ℕ × List ℕ)
 moves_of steps = map move_of steps
+
+-- The term that went in a step, and the one that it went to; a tuple rule's step has none.
+abbrev pub merge_of : Step → Option (Term × Term)
+merge_of (added _ _ _) = None
+merge_of (merged _ _ _ from to) = Some (from, to)
+
+-- The terms of the merges, step by step, in order.
+abbrev pub merges_of : List Step → List (Option (Term × Term))
+merges_of steps = map merge_of steps

@@ -14,6 +14,6 @@ pub use receiving::{
     clashes_receive_nothing, finished_runs_decide, states_are_received, states_are_universal,
 };
 pub use runs::{
-    ends_have_no_step, heads_go_along, made_terms_are_new, queries_have_starts, runs_have_one_end,
-    runs_reach_an_end, states_go_on,
+    ends_have_no_step, heads_go_along, made_terms_are_new, merged_terms_meet, queries_have_starts,
+    rules_are_decided, runs_have_one_end, runs_reach_an_end, states_go_on,
 };

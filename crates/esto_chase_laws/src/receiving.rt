@@ -3,8 +3,8 @@ ghost use Rattle.esto_chase_laws.specs.ReceivedLaws.{StatesAreReceived, StatesAr
 ghost use Rattle.esto_chase_laws.specs.ReceivedLaws.{FinishedRunsDecide, FinishedRunsSatisfy, ClashesReceiveNothing, StartsAreSatisfiableAlike};
 
 /// A law: every database that meets the rules receives each state of a run. Where a valuation sends the start's facts into
-/// it, some valuation sends the state's facts into it, agrees with the given one on the start's terms, gives merged terms
-/// one value, and gives the state's head what the given one gives the start's head.
+/// it, some valuation sends the state's facts into it, agrees with the given one on all constants and variables, gives a
+/// term and what the merges take it to one value, and gives the state's head what the given one gives the start's head.
 pub fn states_are_received()
     ensures { StatesAreReceived }
 {}

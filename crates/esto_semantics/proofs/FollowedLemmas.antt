@@ -1,11 +1,10 @@
 -- From followed in the strong form to followed.
-use Rattle.std.proofs.Common.{◌≡◌, inl, inr, List, [], ◌∷◌, map, Contains, refl, sym, ap, ◌∙◌}
+use Rattle.std.proofs.Common.{◌≡◌, List, [], ◌∷◌, map, Contains, refl, sym, ◌∙◌}
 use Rattle.std.specs.List.{AllZip}
 use Rattle.esto_term.specs.declared.term.Term.{Term}
 use Rattle.esto_term.proofs.ListLemmas.{map_agree}
-use Rattle.esto_semantics.specs.Followed.{IsFollowedInto, IsFollowedBy}
+use Rattle.esto_semantics.specs.Followed.{IsGiven, IsFollowedBy}
 use Rattle.esto_semantics.specs.Instances.{IsFollowed}
-use Rattle.esto_semantics.specs.Maps.{IsFixedBy}
 use Rattle.esto_semantics.specs.Queries.{ConjunctiveQuery}
 use Rattle.esto_semantics.specs.Rules.{Rule}
 use Rattle.esto_semantics.specs.declared.fact.Fact.{Fact}
@@ -28,16 +27,13 @@ mapped_zip went [] = tt
 mapped_zip went (term ∷ row) = (refl, mapped_zip went row)
 
 module _ (rules : List Rule) (start end : ConjunctiveQuery) (Holds : Fact Term → Type 0) (One : Term → Term → Type 0)
-    (followed : IsFollowedBy rules start.body Holds One) (fixed : (term : Term) → Contains start.head term → IsFixedBy start.body term) where
+    (followed : IsFollowedBy rules start.body Holds One) (given : (term : Term) → Contains start.head term → IsGiven start.body term) where
   pub followed-from_strong : ((fact : Fact Term) → Contains end.body fact → Holds fact) → AllZip One start.head end.head → IsFollowed rules start end
   followed-from_strong holds heads database meets m keeps sends =
       let into = followed database meets m keeps sends in (
         into.after,
         into.keeps,
         (λ fact inside. into.sends fact (holds fact inside)),
-        one_row One into.after into.one_value start.head end.head heads ∙ map_agree into.after m start.head (λ term inside. same into term (fixed term inside)),
+        one_row One into.after into.one_value start.head end.head heads
+            ∙ map_agree into.after m start.head (λ term inside. into.agrees term (given term inside)),
       )
-    where
-      same : (into : IsFollowedInto start.body Holds One m database) (term : Term) → IsFixedBy start.body term → into.after term ≡ m term
-      same into term (inl (text, is)) = ap into.after is ∙ into.keeps text ∙ sym (keeps text) ∙ ap m (sym is)
-      same into term (inr mentioned) = into.agrees term mentioned

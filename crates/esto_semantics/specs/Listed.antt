@@ -36,6 +36,13 @@ pub record AnswersQuery (rules : List Rule) (views : List ConjunctiveQuery) (que
   pub safe : IsSafe plan set
   pub equivalent : IsEquivalent rules (IsFragmentAnswer views (candidate plan set)) (IsAnswer query)
 
+-- The set of an instance's facts is equivalent to the query: it has a candidate, which as a query over the datasets, with the instance's head, is equivalent
+-- to the query, and it is safe.
+pub record IsEquivalentPart (rules : List Rule) (query instance : ConjunctiveQuery) (set : List Bool) : Type 0 where
+  pub has_candidate : HasCandidate instance set
+  pub safe : IsSafe instance set
+  pub equivalent : IsEquivalent rules (IsAnswer (candidate instance set)) (IsAnswer query)
+
 -- The set is a rewriting: it has a candidate, which is equivalent to the query, and it is safe and executable.
 pub record IsRewriting (rules : List Rule) (views : List ConjunctiveQuery) (patterns : Patterns) (query plan : ConjunctiveQuery)
     (set : List Bool) : Type 0 where

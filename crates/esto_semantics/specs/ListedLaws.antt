@@ -4,11 +4,12 @@ use Rattle.std.specs.List.{AllZip}
 use Rattle.esto_term.specs.declared.term.Term.{Term}
 use Rattle.esto_semantics.specs.Queries.{ConjunctiveQuery}
 use Rattle.esto_semantics.specs.Rules.{Rule}
-use Rattle.esto_semantics.specs.Sets.{Has, IsMinimal, AreMinimal, Covers, AreInOrder, Rises, TellHolds, all_sets}
-use Rattle.esto_semantics.specs.Listed.{chosen, AnswersQuery, IsRewriting, IsListed, AreListed, IsExecutableRewriting, IsWeight, IsPick}
+use Rattle.esto_semantics.specs.Sets.{Has, IsMinimal, AreMinimal, AreListedBy, Covers, AreInOrder, Rises, TellHolds, all_sets}
+use Rattle.esto_semantics.specs.Listed.{chosen, AnswersQuery, IsEquivalentPart, IsRewriting, IsListed, AreListed, IsExecutableRewriting, IsWeight, IsPick}
 use Rattle.esto_semantics.specs.declared.fact.Fact.{Fact}
 use Rattle.esto_semantics.specs.Access.{Patterns, HoldsExecutably, HoldsOfPart}
 use Rattle.esto_semantics.specs.Containment.{IsSatisfiable}
+use Rattle.esto_semantics.specs.Instances.{IsUniversalFor}
 use Rattle.esto_semantics.specs.Maps.{AreFlat}
 use Rattle.esto_semantics.specs.Plans.{IsUniversalPlan}
 use Rattle.esto_semantics.specs.Rewritings.{IsPlanFor}
@@ -85,6 +86,44 @@ abbrev pub AnsweringRises : Type 0
 AnsweringRises =
     (rules : List Rule) (views : List ConjunctiveQuery) (query plan : ConjunctiveQuery) → IsPlanFor query plan → IsUniversalPlan rules views query plan
     → Rises (length plan.body) (AnswersQuery rules views query plan)
+
+-- So the minimal sets of a universal plan's atoms that answer the query tell which sets of them do.
+abbrev pub AnsweringIsTold : Type 0
+AnsweringIsTold =
+    (rules : List Rule) (views : List ConjunctiveQuery) (query plan : ConjunctiveQuery) → IsPlanFor query plan → IsUniversalPlan rules views query plan
+    → (sets : List (List Bool)) → ((set : List Bool) → Contains sets set ↔ IsMinimal (AnswersQuery rules views query plan) set)
+    → TellHolds (length plan.body) (AnswersQuery rules views query plan) sets
+
+-- There is one list of the minimal sets of an instance's facts that are equivalent to a query.
+abbrev pub EquivalentPartsAreOne : Type 0
+EquivalentPartsAreOne =
+    (rules : List Rule) (query instance : ConjunctiveQuery) (sets others : List (List Bool))
+    → AreListedBy (IsEquivalentPart rules query instance) sets → AreListedBy (IsEquivalentPart rules query instance) others → sets ≡ others
+
+-- Each set of them that is equivalent to the query has a listed one within it.
+abbrev pub EquivalentPartsCover : Type 0
+EquivalentPartsCover =
+    (rules : List Rule) (query instance : ConjunctiveQuery) (sets : List (List Bool)) → AreListedBy (IsEquivalentPart rules query instance) sets
+    → (set : List Bool) → IsEquivalentPart rules query instance set → Covers sets set
+
+-- The list is empty exactly where no set of them is equivalent to the query.
+abbrev pub NoPartIsListed : Type 0
+NoPartIsListed =
+    (rules : List Rule) (query instance : ConjunctiveQuery) (sets : List (List Bool)) → AreListedBy (IsEquivalentPart rules query instance) sets
+    → (sets ≡ []) ↔ ((set : List Bool) → IsEquivalentPart rules query instance set → ⊥)
+
+-- A set of the facts of an instance that is universal for the query, with a set within it that is equivalent to the query, is equivalent to it too.
+abbrev pub EquivalentPartsRise : Type 0
+EquivalentPartsRise =
+    (rules : List Rule) (query instance : ConjunctiveQuery) → IsUniversalFor rules query instance
+    → Rises (length instance.body) (IsEquivalentPart rules query instance)
+
+-- So the minimal ones tell which sets are.
+abbrev pub EquivalentPartsAreTold : Type 0
+EquivalentPartsAreTold =
+    (rules : List Rule) (query instance : ConjunctiveQuery) → IsUniversalFor rules query instance
+    → (sets : List (List Bool)) → AreListedBy (IsEquivalentPart rules query instance) sets
+    → TellHolds (length instance.body) (IsEquivalentPart rules query instance) sets
 
 -- The atoms that a set chooses are those at its numbers.
 abbrev pub ChosenAreNamed : Type 0

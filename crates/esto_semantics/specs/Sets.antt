@@ -38,7 +38,8 @@ IsMinimal P set = P set × ((other : List Bool) → P other → Within other set
 abbrev pub AreInOrder : List (List Bool) → Type 0
 AreInOrder sets = AllPairs (λ set other. set_cmp set other ≡ Less) sets
 
--- These are exactly the minimal sets that P holds of, in the order of the list, each once.
+-- These are exactly the minimal sets that P holds of, in the order of the list, each once. That P holds of sets of one count alone, as IsMinimal asks, is
+-- P's own part: each property that is listed asks that the set be one of the plan's atoms.
 pub record AreListedBy (P : List Bool → Type 0) (sets : List (List Bool)) : Type 0 where
   pub exact : (set : List Bool) → Contains sets set ↔ IsMinimal P set
   pub ordered : AreInOrder sets

@@ -32,8 +32,8 @@ pub use expansions::{
 pub use fact::{Atom, Atoms, Database, Fact, Facts, Value};
 pub use followed::what_follows_the_facts_follows_the_query;
 pub use listed::{
-    chosen_atoms_are_named, listed_sets_are_executable, listed_sets_are_minimal, picks_exist,
-    weights_exist,
+    chosen_atoms_are_named, equivalent_parts_have_minimal_sets, listed_sets_are_executable,
+    listed_sets_are_minimal, picks_exist, weights_exist,
 };
 pub use plans::{
     candidates_contain_the_query, candidates_of_rewritings_are_executable_rewritings,

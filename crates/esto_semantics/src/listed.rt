@@ -1,6 +1,7 @@
 //! Laws of listed sets, of weights and of the pick.
 ghost use Rattle.esto_semantics.specs.ListedLaws.{TestedAreRewritings, ListedAreMinimal, ListedExist, ListedIsOne, ListedCover, NoneIsListed, NoRewritingExists};
-ghost use Rattle.esto_semantics.specs.ListedLaws.{ListedAreExecutable, ListedAreOfParts, AnsweringRises};
+ghost use Rattle.esto_semantics.specs.ListedLaws.{ListedAreExecutable, ListedAreOfParts, AnsweringRises, AnsweringIsTold};
+ghost use Rattle.esto_semantics.specs.ListedLaws.{EquivalentPartsAreOne, EquivalentPartsCover, NoPartIsListed, EquivalentPartsRise, EquivalentPartsAreTold};
 ghost use Rattle.esto_semantics.specs.ListedLaws.{ChosenAreNamed, WeightExists, WeightRises, WeightIsOne, WeightIsSum};
 ghost use Rattle.esto_semantics.specs.ListedLaws.{PickExists, PickIsOne, PickWeighsLeast, PickWeighsLeastOfAll};
 
@@ -27,6 +28,18 @@ pub fn listed_sets_are_executable()
     ensures executable { ListedAreExecutable }
     ensures parts { ListedAreOfParts }
     ensures rises { AnsweringRises }
+    ensures told { AnsweringIsTold }
+{}
+
+/// A law: there is one list of the minimal sets of an instance's facts that are equivalent to a query, each set that is
+/// has one of them within it, and the list is empty exactly where no set is. Where the instance is universal for the
+/// query, a set with one within it that is equivalent is equivalent too, so the minimal sets tell which are.
+pub fn equivalent_parts_have_minimal_sets()
+    ensures one { EquivalentPartsAreOne }
+    ensures cover { EquivalentPartsCover }
+    ensures none { NoPartIsListed }
+    ensures rises { EquivalentPartsRise }
+    ensures told { EquivalentPartsAreTold }
 {}
 
 /// A law: the atoms that a set chooses are those at its numbers.
