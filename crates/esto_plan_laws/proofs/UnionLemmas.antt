@@ -1,26 +1,25 @@
 -- Plans that receive unions, and the rewritings of unions.
 use Rattle.std.proofs.Common.{◌≡◌, ◌↔◌, ◌⊎◌, inl, inr, Bool, List, [], ◌∷◌, length, map, Contains, sym, subst}
 use Rattle.esto_term.proofs.ListLemmas.{Contains-nil, Contains-head, Contains-rest, Contains-cases}
-use Rattle.esto_semantics.specs.Access.{Patterns, IsExecutableQuery}
+use Rattle.esto_semantics.specs.Access.{Patterns, IsExecutableQuery, HoldsExecutably}
 use Rattle.esto_semantics.specs.Containment.{IsSatisfiable}
 use Rattle.esto_semantics.specs.Instances.{MapsTo}
-use Rattle.esto_semantics.specs.Listed.{chosen, candidate, IsRewriting, IsListed}
+use Rattle.esto_semantics.specs.Listed.{candidate, IsRewriting, IsListed}
 use Rattle.esto_semantics.specs.Plans.{IsUniversalPlan}
 use Rattle.esto_semantics.specs.Queries.{ConjunctiveQuery, IsQuery, IsAnswer}
 use Rattle.esto_semantics.specs.Rewritings.{IsPlanFor}
 use Rattle.esto_semantics.specs.Rules.{Rule}
 use Rattle.esto_semantics.specs.Views.{IsFragmentAnswer}
 use Rattle.esto_semantics.proofs.AnswerLemmas.{contained-in_mapped}
-use Rattle.esto_semantics.proofs.AnsweringLemmas.{greater-MapsTo}
+use Rattle.esto_semantics.proofs.AnsweringLemmas.{greater-MapsTo, greater-HasCandidate, greater-IsSafe, told_by_minimal, told_executably, of_parts}
 use Rattle.esto_semantics.proofs.CandidateLemmas.{candidate-IsQuery, candidate-contains, candidate-equivalent, candidate-IsExecutableQuery}
 use Rattle.esto_semantics.proofs.CanonicalLemmas.{canonical_value, canonical_database, canonical_database-Meets, answer-from_map}
 use Rattle.esto_semantics.proofs.CoverLemmas.{minimal-cover, listed_by_is_one}
-use Rattle.esto_semantics.proofs.FactLemmas.{Mentions-among}
-use Rattle.esto_semantics.proofs.PlaceLemmas.{Has-from_chosen, chosen-from_Has}
 use Rattle.esto_semantics.proofs.PlanLemmas.{plan_is_universal, rows_answer-from_canonical, map-from_rows_answer}
 use Rattle.esto_semantics.proofs.RewritingLemmas.{queries_map_onto}
 use Rattle.esto_plan_laws.specs.UnionLaws.{RowsReceiveUnions, ReceiveUnionsAlike, ReceivingIsUniversal, UnionsMapOntoSets, ListedCoverUnions, UnionListIsOne, UnionRewritingsRise, ChoiceIsExecutable, ChoiceExists, EmptyListExcludes, EmptyListOrChoice}
-use Rattle.esto_plan_laws.specs.UnionSets.{IsUnionRewriting, IsUnionListed, IsOption, HasOption, IsOfOption, IsAnswered, HasEmptyList, HasList}
+use Rattle.esto_plan_laws.specs.UnionLaws.{UnionAnsweringRises, UnionAnsweringIsTold, UnionListedAreExecutable, UnionListedAreOfParts}
+use Rattle.esto_plan_laws.specs.UnionSets.{AnswersUnion, IsUnionRewriting, IsUnionListed, IsOption, HasOption, IsOfOption, IsAnswered, HasEmptyList, HasList}
 use Rattle.esto_plan_laws.proofs.MapsToLemmas.{MapsTo-then}
 
 -- what a list of one contains
@@ -87,19 +86,47 @@ pub list_is_one : UnionListIsOne
 list_is_one rules views patterns queries plan sets others listed also_listed =
     listed_by_is_one (IsUnionRewriting rules views patterns queries plan) sets others listed also_listed
 
-pub rewritings_rise : UnionRewritingsRise
-rewritings_rise rules views patterns queries plan set other rewriting within over executable = record {
-  has_candidate = record { over = over; some = (rewriting.has_candidate.some.0, within rewriting.has_candidate.some.0 rewriting.has_candidate.some.1) };
-  safe = λ term inside. elim (rewriting.safe term inside) [
-    | inl constant ↦ inl constant
-    | inr mentioned ↦ inr (Mentions-among (chosen set plan.body) (chosen other plan.body) term (λ atom in_set.
-        let found = Has-from_chosen set plan.body atom in_set in
-        chosen-from_Has other plan.body found.0 atom (within found.0 found.1) found.2) mentioned)
-  ];
-  executable = executable;
-  contained = λ database meets row answer. rewriting.contained database meets row
+pub union_answering_rises : UnionAnsweringRises
+union_answering_rises rules views queries plan set other over other_over within answers = record {
+  has_candidate = greater-HasCandidate plan set other other_over within answers.has_candidate;
+  safe = greater-IsSafe plan set other within answers.safe;
+  contained = λ database meets row answer. answers.contained database meets row
       (contained-in_mapped rules views (candidate plan set) (candidate plan other) (greater-MapsTo plan set other within) database meets row answer);
 }
+
+pub union_answering_is_told : UnionAnsweringIsTold
+union_answering_is_told rules views queries plan =
+    told_by_minimal (AnswersUnion rules views queries plan) (length plan.body) (λ set answers. answers.has_candidate.over)
+    (union_answering_rises rules views queries plan)
+
+-- a rewriting in the union is an executable set that answers a part of it
+answering_executably : (rules : List Rule) (views : List ConjunctiveQuery) (patterns : Patterns) (queries : List ConjunctiveQuery) (plan : ConjunctiveQuery)
+    (set : List Bool) → IsUnionRewriting rules views patterns queries plan set
+    ↔ HoldsExecutably patterns plan.body (AnswersUnion rules views queries plan) set
+answering_executably rules views patterns queries plan set = (
+  (λ rewriting. (
+    rewriting.executable,
+    record { has_candidate = rewriting.has_candidate; safe = rewriting.safe; contained = rewriting.contained },
+  )),
+  (λ (executable, answers).
+      record { has_candidate = answers.has_candidate; safe = answers.safe; executable = executable; contained = answers.contained }),
+)
+
+pub union_listed_are_executable : UnionListedAreExecutable
+union_listed_are_executable rules views patterns queries plan sets tells =
+    told_executably patterns plan.body (AnswersUnion rules views queries plan) (IsUnionRewriting rules views patterns queries plan)
+    (answering_executably rules views patterns queries plan) sets tells
+
+pub union_listed_are_of_parts : UnionListedAreOfParts
+union_listed_are_of_parts rules views patterns queries plan =
+    of_parts patterns plan.body (AnswersUnion rules views queries plan) (IsUnionRewriting rules views patterns queries plan)
+    (answering_executably rules views patterns queries plan)
+
+pub rewritings_rise : UnionRewritingsRise
+rewritings_rise rules views patterns queries plan set other rewriting within over executable =
+    let same = answering_executably rules views patterns queries plan in
+    let answers = (same set).0 rewriting in
+    (same other).1 (executable, union_answering_rises rules views queries plan set other answers.1.has_candidate.over over within answers.1)
 
 -- ---- choices
 

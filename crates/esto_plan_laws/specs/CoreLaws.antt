@@ -67,7 +67,8 @@ RenamedMapsBack = (plan other : ConjunctiveQuery) → IsRenamedTo plan other →
 abbrev pub RenamedIsCore : Type 0
 RenamedIsCore = (plan other : ConjunctiveQuery) → IsRenamedTo plan other → IsCore plan → IsCore other
 
--- Where a universal plan of a query is a core, is safe and has an atom, each universal plan of the query that is a core is the plan under a renaming, but for the order of its atoms.
+-- Where a universal plan of a query is a core, is safe and has an atom, each universal plan of the query that is a core is the plan under a renaming, but for
+-- the order of its atoms.
 abbrev pub CoreIsOne : Type 0
 CoreIsOne =
     (rules : List Rule) (views : List ConjunctiveQuery) (query plan other : ConjunctiveQuery)

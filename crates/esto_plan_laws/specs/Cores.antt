@@ -41,7 +41,8 @@ AreLeft head before [] left = left ≡ []
 AreLeft head before (atom ∷ atoms) left =
     (after : List (Fact Term)) × AreLeft head (before ++ atom ∷ []) atoms after × IsLeft head before atom after left
 
--- The other plan is the plan under a renaming of its terms, but for the order of its atoms. The renaming keeps constants, and another map that keeps constants undoes it on the plan's terms.
+-- The other plan is the plan under a renaming of its terms, but for the order of its atoms. The renaming keeps constants, and another map that keeps constants
+-- undoes it on the plan's terms.
 pub record IsRenamedTo (plan other : ConjunctiveQuery) : Type 0 where
   pub renaming : Term → Term
   pub back : Term → Term

@@ -1,6 +1,6 @@
 -- Laws of plans that receive unions, and of the rewritings of unions.
 use Rattle.std.specs.Prelude.{◌≡◌, ◌⊎◌, ◌↔◌, Bool, List, [], ◌∷◌, length, Contains}
-use Rattle.esto_semantics.specs.Access.{Patterns, IsExecutable}
+use Rattle.esto_semantics.specs.Access.{Patterns, IsExecutable, HoldsExecutably, HoldsOfPart}
 use Rattle.esto_semantics.specs.Instances.{MapsTo, IsUniversalFor, IsFinished}
 use Rattle.esto_semantics.specs.Listed.{IsRewriting, IsListed}
 use Rattle.esto_semantics.specs.PlanOf.{IsPlanOf}
@@ -8,9 +8,9 @@ use Rattle.esto_semantics.specs.Plans.{IsUniversalPlan}
 use Rattle.esto_semantics.specs.Queries.{ConjunctiveQuery}
 use Rattle.esto_semantics.specs.Rewritings.{IsPlanFor, MapsOnto}
 use Rattle.esto_semantics.specs.Rules.{Rule, AreRules}
-use Rattle.esto_semantics.specs.Sets.{Within, Covers}
+use Rattle.esto_semantics.specs.Sets.{Within, Covers, IsMinimal, Rises, TellHolds}
 use Rattle.esto_semantics.specs.Unions.{ReceivesUnions}
-use Rattle.esto_plan_laws.specs.UnionSets.{IsUnionRewriting, IsUnionListed, AreUnionListed, IsExecutableUnion, IsChoice, IsAnswered, HasEmptyList, HasList}
+use Rattle.esto_plan_laws.specs.UnionSets.{AnswersUnion, IsUnionRewriting, IsUnionListed, AreUnionListed, IsExecutableUnion, IsChoice, IsAnswered, HasEmptyList, HasList}
 
 -- The plan of a finished universal instance, the rows of all views over it under whatever names for the terms, receives unions.
 abbrev pub RowsReceiveUnions : Type 0
@@ -30,7 +30,8 @@ ReceivingIsUniversal =
     (rules : List Rule) (views : List ConjunctiveQuery) (query plan : ConjunctiveQuery)
     → ReceivesUnions rules views query plan → IsUniversalPlan rules views query plan
 
--- An executable rewriting of a union has, for each query of the union whose plan receives unions, a member that maps onto a set of that plan's atoms that is a rewriting in the union.
+-- An executable rewriting of a union has, for each query of the union whose plan receives unions, a member that maps onto a set of that plan's atoms that is
+-- a rewriting in the union.
 abbrev pub UnionsMapOntoSets : Type 0
 UnionsMapOntoSets =
     (rules : List Rule) (views : List ConjunctiveQuery) (patterns : Patterns) (queries others : List ConjunctiveQuery) (query plan : ConjunctiveQuery)
@@ -59,6 +60,33 @@ UnionRewritingsRise =
     (rules : List Rule) (views : List ConjunctiveQuery) (patterns : Patterns) (queries : List ConjunctiveQuery) (plan : ConjunctiveQuery)
     (set other : List Bool) → IsUnionRewriting rules views patterns queries plan set → Within set other → length other ≡ length plan.body
     → IsExecutable patterns plan.body other → IsUnionRewriting rules views patterns queries plan other
+
+-- What answers a part of the union does so with more atoms of the plan.
+abbrev pub UnionAnsweringRises : Type 0
+UnionAnsweringRises =
+    (rules : List Rule) (views : List ConjunctiveQuery) (queries : List ConjunctiveQuery) (plan : ConjunctiveQuery)
+    → Rises (length plan.body) (AnswersUnion rules views queries plan)
+
+-- So the minimal sets that answer a part of the union tell which sets do.
+abbrev pub UnionAnsweringIsTold : Type 0
+UnionAnsweringIsTold =
+    (rules : List Rule) (views : List ConjunctiveQuery) (queries : List ConjunctiveQuery) (plan : ConjunctiveQuery) (sets : List (List Bool))
+    → ((set : List Bool) → Contains sets set ↔ IsMinimal (AnswersUnion rules views queries plan) set)
+    → TellHolds (length plan.body) (AnswersUnion rules views queries plan) sets
+
+-- Where sets tell which sets answer a part of the union, the sets that are listed in it are the minimal executable sets that have one of them as a subset.
+abbrev pub UnionListedAreExecutable : Type 0
+UnionListedAreExecutable =
+    (rules : List Rule) (views : List ConjunctiveQuery) (patterns : Patterns) (queries : List ConjunctiveQuery) (plan : ConjunctiveQuery)
+    (sets : List (List Bool)) → TellHolds (length plan.body) (AnswersUnion rules views queries plan) sets
+    → (set : List Bool)
+    → IsUnionListed rules views patterns queries plan set ↔ IsMinimal (HoldsExecutably patterns plan.body (Covers sets)) set
+
+-- The sets that are listed in the union are the minimal sets whose accessible part answers a part of it.
+abbrev pub UnionListedAreOfParts : Type 0
+UnionListedAreOfParts =
+    (rules : List Rule) (views : List ConjunctiveQuery) (patterns : Patterns) (queries : List ConjunctiveQuery) (plan : ConjunctiveQuery) (set : List Bool)
+    → IsUnionListed rules views patterns queries plan set ↔ IsMinimal (HoldsOfPart patterns plan.body (AnswersUnion rules views queries plan)) set
 
 -- A choice is an executable rewriting of the union.
 abbrev pub ChoiceIsExecutable : Type 0

@@ -11,6 +11,13 @@ use Rattle.esto_semantics.specs.Sets.{IsMinimal, AreListedBy}
 use Rattle.esto_semantics.specs.Unions.{IsUnionAnswer, IsUnionFragmentAnswer, ReceivesUnions}
 use Rattle.esto_semantics.specs.Views.{IsFragmentAnswer}
 
+-- The set of the plan's atoms answers a part of the union: it has a candidate, which is contained in the union, and it is safe.
+pub record AnswersUnion (rules : List Rule) (views : List ConjunctiveQuery) (queries : List ConjunctiveQuery) (plan : ConjunctiveQuery)
+    (set : List Bool) : Type 0 where
+  pub has_candidate : HasCandidate plan set
+  pub safe : IsSafe plan set
+  pub contained : IsContained rules (IsFragmentAnswer views (candidate plan set)) (IsUnionAnswer queries)
+
 -- The set of the plan's atoms is a rewriting in the union: it has a candidate, which is contained in the union, and it is safe and executable.
 pub record IsUnionRewriting (rules : List Rule) (views : List ConjunctiveQuery) (patterns : Patterns) (queries : List ConjunctiveQuery)
     (plan : ConjunctiveQuery) (set : List Bool) : Type 0 where
@@ -33,7 +40,7 @@ pub record IsExecutableUnion (rules : List Rule) (views : List ConjunctiveQuery)
   pub executable : (other : ConjunctiveQuery) → Contains others other → IsExecutableQuery patterns other
   pub equivalent : IsEquivalent rules (IsUnionFragmentAnswer views others) (IsUnionAnswer queries)
 
--- A query of the union with a universal plan of it, and a set of the plan's atoms that is a rewriting in the union.
+-- A query with a universal plan of it, and a set of the plan's atoms that is a rewriting in the union.
 pub record IsOption (rules : List Rule) (views : List ConjunctiveQuery) (patterns : Patterns) (queries : List ConjunctiveQuery)
     (query plan : ConjunctiveQuery) (set : List Bool) : Type 0 where
   pub form : IsPlanFor query plan

@@ -11,5 +11,5 @@ pub use cores::{
 };
 pub use unions::{
     choices_are_executable_unions, executable_unions_exist, executable_unions_map_onto_sets,
-    plans_receive_unions, unions_of_one,
+    plans_receive_unions, sets_listed_in_unions_are_executable, unions_of_one,
 };

@@ -1,6 +1,7 @@
 //! Laws of plans that receive unions, and of the rewritings of unions.
 ghost use Rattle.esto_plan_laws.specs.UnionLaws.{RowsReceiveUnions, ReceiveUnionsAlike, ReceivingIsUniversal, UnionsMapOntoSets, ListedCoverUnions, UnionListIsOne};
 ghost use Rattle.esto_plan_laws.specs.UnionLaws.{UnionRewritingsRise, ChoiceIsExecutable, ChoiceExists, EmptyListExcludes, EmptyListOrChoice};
+ghost use Rattle.esto_plan_laws.specs.UnionLaws.{UnionAnsweringRises, UnionAnsweringIsTold, UnionListedAreExecutable, UnionListedAreOfParts};
 ghost use Rattle.esto_plan_laws.specs.UnionLaws.{OneHasRewritings, OneHasListed};
 
 /// A law: where an instance is universal for a query under the rules, and meets the rules itself, the rows of all views
@@ -21,6 +22,16 @@ pub fn executable_unions_map_onto_sets()
     ensures cover { ListedCoverUnions }
     ensures one { UnionListIsOne }
     ensures rise { UnionRewritingsRise }
+{}
+
+/// A law: the sets that are listed in a union are the minimal sets of the plan's atoms whose accessible part answers a part
+/// of the union. Where sets tell which sets do that, executable or not, they are the minimal executable sets that have one
+/// of these as a subset. What answers a part of the union does so with more atoms, so the minimal sets tell which do.
+pub fn sets_listed_in_unions_are_executable()
+    ensures executable { UnionListedAreExecutable }
+    ensures parts { UnionListedAreOfParts }
+    ensures rises { UnionAnsweringRises }
+    ensures told { UnionAnsweringIsTold }
 {}
 
 /// A law: the candidates of rewritings in the union, at least one for each satisfiable query of it, are together an
