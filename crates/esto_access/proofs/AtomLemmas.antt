@@ -1,12 +1,11 @@
 -- The atoms of a plan, read as facts over fragments, and lists of numbers.
-use Rattle.std.proofs.Common.{◌≡◌, ◌⊎◌, ◌↔◌, ℕ, ◌+◌, ◌<◌, ◌≤◌, Bool, List, map, length, get_or, Some, slice_get, IsTrue, Contains, sym, ap, ◌∙◌, subst, arith, inl, inr}
-use Rattle.std.proofs.lemmas.Bool.{cases_order}
+use Rattle.std.proofs.Common.{◌≡◌, ◌↔◌, ℕ, ◌<◌, ◌≤◌, Bool, List, map, length, get_or, Some, slice_get, IsTrue, Contains, sym, ◌∙◌, subst, arith}
 use Rattle.std.proofs.lemmas.List.{get_or_default}
-use Rattle.std.proofs.lemmas.Option.{same_Some, slice_get_within, slice_get-get_or, get_or_from_slice_get}
+use Rattle.std.proofs.lemmas.Option.{same_Some, slice_get_within, get_or_from_slice_get}
 use Rattle.esto_term.specs.declared.term.Term.{Term}
 use Rattle.esto_semantics.specs.declared.fact.Fact.{Fact}
 use Rattle.esto_semantics.specs.Sets.{Has}
-use Rattle.esto_semantics.specs.Access.{Patterns, IsAccessible, IsEarlier}
+use Rattle.esto_semantics.specs.Access.{Patterns, IsAccessible}
 use Rattle.esto_views.specs.declared.plan.PlanAtom.{PlanAtom}
 use Rattle.esto_views.specs.Plans.{fact_of}
 use Rattle.esto_access.specs.Runs.{CanFollow}
@@ -48,20 +47,3 @@ holds_of_none P numbers count l none number h holds = none h.0 (omega (arith, h.
 -- what holds at each of the first few places holds at each place, where these are all
 pub holds_at_each : (P : ℕ → ℕ → Type 0) (numbers : List ℕ) (count : ℕ) → length numbers ≤ count → ((k : ℕ) → k < count → P k (get_or numbers k 0)) → (place number : ℕ) → slice_get numbers place ≡ Some number → P place number
 holds_at_each P numbers count l each place number e = subst (P place) (get_or_from_slice_get numbers place number 0 e) (each place (omega (arith, slice_get_within numbers place number e, l)))
-
--- a set that has the first few numbers has one more
-pub earlier_more : (numbers : List ℕ) (count : ℕ) (old new : List Bool) → count < length numbers → ((number : ℕ) → Has new number ↔ ((number ≡ get_or numbers count 0) ⊎ Has old number))
-    → ((number : ℕ) → Has old number ↔ IsEarlier numbers count number) → (number : ℕ) → Has new number ↔ IsEarlier numbers (count + 1) number
-earlier_more numbers count old new l has before number = (
-  λ h. elim ((has number).0 h) [
-    | inl same ↦ (count, omega arith, slice_get-get_or numbers count 0 l ∙ ap Some (sym same))
-    | inr there ↦ let place = (before number).0 there in (place.0, omega (arith, place.1), place.2)
-  ],
-  λ place. (has number).1 (elim (cases_order place.0 count) [
-    | inl last ↦ inl (sym (ap (λ k. get_or numbers k 0) (sym last) ∙ get_or_from_slice_get numbers place.0 number 0 place.2))
-    | inr apart ↦ elim apart [
-      | inl below ↦ inr ((before number).1 (place.0, below, place.2))
-      | inr above ↦ absurd (omega (arith, above, place.1))
-    ]
-  ]),
-)

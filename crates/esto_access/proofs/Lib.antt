@@ -1,2 +1,5 @@
 pub mod AtomLemmas
 pub mod RunLemmas
+pub mod RoundLemmas
+pub mod NeedLemmas
+pub mod SupplyLemmas

@@ -1,5 +1,5 @@
 -- Runs that take the accessible atom of least number each time, and what they show of the set.
-use Rattle.std.proofs.Common.{◌≡◌, ◌⊎◌, ◌↔◌, ℕ, zero, suc, ◌+◌, ◌-◌, ◌<◌, ◌≤◌, Bool, true, false, List, [], ◌∷◌, ◌++◌, length, get_or, take, slice_set, replicate, Some, slice_get, IsTrue, Contains, All, refl, sym, ap, ◌∙◌, subst, arith, inl, inr, length-take, length-append}
+use Rattle.std.proofs.Common.{◌≡◌, ◌↔◌, ℕ, zero, suc, ◌+◌, ◌-◌, ◌<◌, ◌≤◌, Bool, true, false, List, [], ◌∷◌, ◌++◌, length, get_or, take, slice_set, replicate, Some, slice_get, IsTrue, Contains, All, refl, sym, ap, ◌∙◌, subst, arith, inl, inr, length-take, length-append}
 use Rattle.std.proofs.lemmas.List.{get_or-take, length-replicate}
 use Rattle.std.proofs.lemmas.List.Elements.{Contains-get_or}
 use Rattle.std.proofs.lemmas.Option.{none-some, same_Some, slice_get_within, slice_get-get_or, get_or_from_slice_get}
@@ -11,21 +11,9 @@ use Rattle.esto_semantics.specs.AccessSteps.{IsStuck}
 use Rattle.esto_semantics.proofs.AccessLemmas.{one_place, missing, missing-set, has_set, none_has, accessible_more, ready_more, order_grows, stuck_has}
 use Rattle.esto_semantics.proofs.SetLemmas.{beyond, decided_has, within_refl, within_same}
 use Rattle.esto_access.specs.Runs.{CanFollow, NoneFollows, IsFirstFollower, IsRun}
-use Rattle.esto_term.proofs.ListLemmas.{Contains-at, Contains-nil, place-from_Contains}
+use Rattle.esto_term.proofs.ListLemmas.{Contains-at, Contains-nil, at_left, at_pushed, place-from_Contains}
 
 -- ---- earlier places
-
--- what stands at a place of a list with one more item stands there already, or is that item
-pushed : {A : Type 0} (xs : List A) (x : A) (place : ℕ) (found : A) → slice_get (xs ++ x ∷ []) place ≡ Some found → (slice_get xs place ≡ Some found) ⊎ ((place ≡ length xs) × (x ≡ found))
-pushed [] x zero found e = inr (refl, same_Some x found e)
-pushed [] x (suc place) found e = absurd (none-some found e)
-pushed (y ∷ xs) x zero found e = inl e
-pushed (y ∷ xs) x (suc place) found e = elim (pushed xs x place found e) [ inl there ↦ inl there | inr last ↦ inr (ap suc last.0, last.1) ]
-
-kept : {A : Type 0} (xs : List A) (x : A) (place : ℕ) (found : A) → slice_get xs place ≡ Some found → slice_get (xs ++ x ∷ []) place ≡ Some found
-kept [] x place found e = absurd (none-some found e)
-kept (y ∷ xs) x zero found e = e
-kept (y ∷ xs) x (suc place) found e = kept xs x place found e
 
 pub take_earlier : (order : List ℕ) (place number : ℕ) → Contains (take place order) number → IsEarlier order place number
 take_earlier order place number h =
@@ -47,10 +35,10 @@ pub anywhere_earlier : (order : List ℕ) (place number : ℕ) → length order 
 anywhere_earlier order place number l h = let at = place-from_Contains order number h in let within = slice_get_within order at.0 number at.1 in (at.0, omega (arith, l, within), at.1)
 
 earlier_kept : (order : List ℕ) (more place number : ℕ) → IsEarlier order place number → IsEarlier (order ++ more ∷ []) place number
-earlier_kept order more place number h = (h.0, h.1, kept order more h.0 number h.2)
+earlier_kept order more place number h = (h.0, h.1, at_left order (more ∷ []) h.0 number h.2)
 
 earlier_before : (order : List ℕ) (more place number : ℕ) → place ≤ length order → IsEarlier (order ++ more ∷ []) place number → IsEarlier order place number
-earlier_before order more place number l h = elim (pushed order more h.0 number h.2) [
+earlier_before order more place number l h = elim (at_pushed order more h.0 number h.2) [
   | inl there ↦ (h.0, h.1, there)
   | inr last ↦ absurd (omega (arith, h.1, l, last.0))
 ]
@@ -101,7 +89,7 @@ module _ (patterns : Patterns) (atoms : List (Fact Term)) (set : List Bool) wher
         within = λ other h. elim ((has_set part number inside other).0 h) [ inl e ↦ subst (Has set) e (first.follows).chosen | inr there ↦ run.within other there ];
         is_order = order_grows patterns atoms part order number run.is_order (first.follows).there absent
             (ready_more patterns atoms (Contains order) (Has part) (λ other h. (named other).0 h) number (first.follows).ready);
-        least = λ place at e lesser atom below has there accessible. elim (pushed order number place at e) [
+        least = λ place at e lesser atom below has there accessible. elim (at_pushed order number place at e) [
           | inl old ↦ earlier_kept order number place lesser (run.least place at old lesser atom below has there
               (accessible_more patterns atoms _ _ (λ other h. earlier_before order number place other (omega (arith, slice_get_within order place at old)) h) atom accessible))
           | inr last ↦ earlier_kept order number place lesser (anywhere_earlier order place lesser (omega (arith, last.0)) (elim (decided_has part lesser) [

@@ -3,7 +3,6 @@ ghost use Rattle.std.specs.Prelude.{ℕ, ◌≡◌, ◌↔◌, [], slice_get, sl
 ghost use Rattle.esto_term.specs.declared.term.Term.{Term};
 ghost use Rattle.esto_semantics.specs.declared.fact.Fact.{Fact};
 ghost use Rattle.esto_semantics.specs.Access.{IsInput, IsBound, MeetsPattern, IsAccessible};
-ghost use Rattle.esto_semantics.specs.Maps.{IsConstant};
 ghost use Rattle.esto_semantics.specs.Sets.{Has};
 ghost use Rattle.esto_views.specs.Fragments.{patterns_of};
 ghost use Rattle.esto_views.specs.Plans.{fact_of, plan_query};
@@ -11,37 +10,14 @@ ghost use Rattle.esto_access.specs.Runs.{CanFollow};
 ghost use Rattle.esto_access.specs.Ways.{IsFirstMet, MeetsNone};
 
 use esto_bits::RowBits;
-use esto_term::{Term, Terms};
+use esto_term::{Term, has_term};
 use esto_views::{Access, AccessList, FragmentDefs, Plan, PlanAtom};
 
 /// Whether the column is an input of the pattern.
-fn is_input(pattern: &Access, column: usize) -> bool
+pub(crate) fn is_input(pattern: &Access, column: usize) -> bool
     ensures { IsTrue result ↔ IsInput pattern.now column }
 {
     column < pattern.len() && pattern.item(column)
-}
-
-/// Whether the term is a constant.
-fn is_constant(term: &Term) -> bool
-    ensures { IsTrue result ↔ IsConstant term.now }
-{
-    match term {
-        Term::Const(_) => true,
-        Term::Plain(_) => false,
-        Term::Made(_, _, _) => false,
-    }
-}
-
-/// Whether the term is one of these.
-fn is_among(terms: &Terms, term: &Term) -> bool
-    ensures { IsTrue result ↔ Contains terms.now term.now }
-{
-    'terms: for other in terms.items() {
-        if other.equal(term) {
-            return true;
-        }
-    }
-    false
 }
 
 /// Whether the plan has an atom of this number, and the term occurs in it.
@@ -51,14 +27,14 @@ fn occurs_at(plan: &Plan, number: usize, term: &Term) -> bool
     if number >= plan.atoms.len() {
         return false;
     }
-    is_among(&plan.atoms.item(number).terms, term)
+    has_term(plan.atoms.item(number).terms.items(), term)
 }
 
 /// Whether the term is a constant, or occurs in one of the atoms of these numbers.
 fn is_bound(plan: &Plan, earlier: &[usize], term: &Term) -> bool
     ensures { IsTrue result ↔ IsBound (plan_query plan.now).body (Contains earlier.now) term.now }
 {
-    if is_constant(term) {
+    if term.is_constant() {
         return true;
     }
     'numbers: for number in earlier {

@@ -6,7 +6,7 @@ ghost use Rattle.esto_views.specs.Plans.{plan_query};
 ghost use Rattle.esto_access.specs.Runs.{CanFollow};
 
 use crate::atoms::{can_follow, names_all};
-use crate::run::{greedy_order, set_of};
+use crate::run::greedy_order;
 use esto_bits::RowBits;
 use esto_term::{OutOfMemory, Places};
 use esto_views::{FragmentDefs, Plan};
@@ -70,6 +70,6 @@ pub fn reached(
     ensures { IfOk result (IsAccessiblePart (patterns_of fragments.now) (plan_query plan.now).body set.now) }
 {
     let order = greedy_order(alloc, set, plan, fragments)?;
-    let part = set_of(alloc, plan.atoms.len(), order.items())?;
+    let part = RowBits::of(alloc, plan.atoms.len(), order.items())?;
     Ok(part)
 }

@@ -1,6 +1,5 @@
 //! The run that takes the accessible atom of least number each time.
-ghost use Rattle.std.specs.Prelude.{ℕ, ◌≡◌, ◌↔◌, ◌<◌, length, Bool, List, All, IfOk, MatchOption, Contains};
-ghost use Rattle.esto_semantics.specs.Sets.{Has};
+ghost use Rattle.std.specs.Prelude.{Bool, List, IfOk, MatchOption};
 ghost use Rattle.esto_views.specs.Fragments.{patterns_of};
 ghost use Rattle.esto_views.specs.Plans.{plan_query};
 ghost use Rattle.esto_access.specs.Runs.{CanFollow, IsFirstFollower, IsRun, NoneFollows};
@@ -43,17 +42,4 @@ pub(crate) fn greedy_order(
         order.push(number)?;
     }
     Ok(order)
-}
-
-/// The set of these numbers, which are below the count.
-pub(crate) fn set_of(alloc: Global, count: usize, numbers: &[usize]) -> Result<RowBits, OutOfMemory>
-    requires { All (λ number. number < count) numbers.now }
-    ensures count { IfOk result (λ set. length set ≡ count) }
-    ensures has { IfOk result (λ set. (number : ℕ) → Has set number ↔ Contains numbers.now number) }
-{
-    let mut set = RowBits::new(alloc, count)?;
-    'numbers: for number in numbers {
-        set.insert(*number);
-    }
-    Ok(set)
 }

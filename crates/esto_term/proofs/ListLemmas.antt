@@ -9,7 +9,7 @@ use Rattle.std.proofs.lemmas.List.Edits.{length-swap, swap_is}
 use Rattle.std.proofs.lemmas.List.Elements.{Contains-append_cases, Contains-append_left, Contains-append_right, Contains-push_cases}
 use Rattle.std.proofs.lemmas.List.FromFn.{length-range_with_len, get_or-range_with_len}
 use Rattle.std.proofs.lemmas.List.Sorted.{IsPermutation-keeps}
-use Rattle.std.proofs.lemmas.Option.{same_Some, slice_get_within, slice_get-get_or, slice_get_cases, get_or_from_slice_get}
+use Rattle.std.proofs.lemmas.Option.{none-some, same_Some, slice_get_within, slice_get-get_or, slice_get_cases, get_or_from_slice_get}
 
 -- ---- what a list contains
 
@@ -136,6 +136,13 @@ pub at_right : {X : Type 0} (xs ys : List X) (place : ℕ) (x : X) → slice_get
 at_right [] ys place x at = let same : 0 + place ≡ place = omega arith in rw same at
 at_right (first ∷ xs) ys place x at = let same : length (first ∷ xs) + place ≡ suc (length xs + place) = omega arith in rw same (at_right xs ys place x at)
 
+-- what stands at a place of a list with one more item stands there already, or is that item
+pub at_pushed : {X : Type 0} (xs : List X) (x : X) (place : ℕ) (found : X) → slice_get (xs ++ x ∷ []) place ≡ Some found → (slice_get xs place ≡ Some found) ⊎ ((place ≡ length xs) × (x ≡ found))
+at_pushed [] x zero found e = inr (refl, same_Some x found e)
+at_pushed [] x (suc place) found e = absurd (none-some found e)
+at_pushed (y ∷ xs) x zero found e = inl e
+at_pushed (y ∷ xs) x (suc place) found e = elim (at_pushed xs x place found e) [ inl there ↦ inl there | inr last ↦ inr (ap suc last.0, last.1) ]
+
 pub map_by_places : {X Y : Type 0} (m : X → Y) (xs : List X) (ys : List Y) → length xs ≡ length ys
     → ((place : ℕ) (x : X) (y : Y) → slice_get xs place ≡ Some x → slice_get ys place ≡ Some y → m x ≡ y) → map m xs ≡ ys
 map_by_places m [] [] lengths each = refl
@@ -203,6 +210,12 @@ module _ {A : Type 0} (P : ℕ → A → Type 0) (xs : List A) where
       | inr apart ↦ elim apart [ inl before ↦ inl (place, before, (y, at_y, holds)) | inr after ↦ absurd (omega (arith, below, after)) ]
     ],
     λ h. elim h [ inl (place, below, found) ↦ (place, omega (arith, below), found) | inr holds ↦ (count, omega arith, (x, at, holds)) ],
+  )
+
+  pub some_all : (count : ℕ) → length xs ≤ count → SomeBelow count ↔ ((place : ℕ) × ((x : A) × (slice_get xs place ≡ Some x) × P place x))
+  some_all count l = (
+    λ (place, below, found). (place, found),
+    λ (place, (x, at, holds)). (place, omega (arith, slice_get_within xs place x at, l), (x, at, holds)),
   )
 
   pub each_none : HoldsBelow P xs 0

@@ -1,4 +1,4 @@
-use Rattle.std.proofs.Common.{map, arith}
+use Rattle.std.proofs.Common.{◌↔◌, IsTrue, Contains, map, subst, arith}
 use Rattle.std.proofs.lemmas.Bool.{false≢true}
 use Rattle.std.proofs.lemmas.Option.{slice_get_within}
 use Rattle.std.proofs.lemmas.List.{length-map}
@@ -14,4 +14,6 @@ returns-then-number-len c = (
 )
 
 pub returns : goal.returns
-returns c = occurs c.args.plan.now.atoms c.args.number c.item.result.now c.item.ensures c.args.term.now c.is_among.result c.is_among.ensures
+returns c =
+    occurs c.args.plan.now.atoms c.args.number c.item.result.now c.item.ensures c.args.term.now c.has_term.result
+    (subst (λ terms. IsTrue c.has_term.result ↔ Contains terms c.args.term.now) c.items.ensures c.has_term.ensures)

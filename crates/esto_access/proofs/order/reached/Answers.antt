@@ -5,8 +5,8 @@ use Rattle.esto_views.specs.Plans.{fact_of, plan_query}
 use Rattle.esto_access.proofs.RunLemmas.{numbers_below, part_of_run}
 use Rattle.esto_access.proofs.order.reached.Goals as goal
 
-pub set_of-requires : goal.set_of-requires
-set_of-requires c =
+pub of-requires : goal.of-requires
+of-requires c =
     numbers_below (patterns_of c.args.fragments.now) (plan_query c.args.plan.now).body c.args.set.now _ c.items.result.now c.items.ensures c.in_ok-order.ensures.stuck c.in_ok-order.ensures.run
     c.len.result (c.len.ensures ∙ sym (length-map c.args.plan.now.atoms fact_of))
 

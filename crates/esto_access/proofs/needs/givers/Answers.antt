@@ -1,0 +1,28 @@
+use Rattle.std.proofs.Common.{◌≡◌, ◌↔◌, ◌+◌, ◌∙◌, IsTrue, Contains, sym, subst, length, arith}
+use Rattle.std.proofs.lemmas.Bool.{false≢true}
+use Rattle.esto_bits.specs.Kept.{Kept}
+use Rattle.esto_access.proofs.NeedLemmas.{AreGivenBelow, given_grows, given_stays, given_end}
+use Rattle.esto_access.proofs.needs.givers.Goals.{then-has_term+in_ok-add_all, else-has_term}
+use Rattle.esto_access.proofs.needs.givers.Goals as goal
+
+pub atoms-preserved : goal.atoms-preserved
+atoms-preserved c =
+    let told : IsTrue c.has_term.result ↔ Contains c.item.result.now.terms c.args.term.now =
+    subst (λ terms. IsTrue c.has_term.result ↔ Contains terms c.args.term.now) c.items.ensures c.has_term.ensures in
+    elim c.if-has_term.branch [
+      | then-has_term+in_ok-add_all w ↦
+          subst (λ (it : Kept). (it.count ≡ length c.args.plan.now.atoms) × AreGivenBelow c.args.plan.now.atoms c.args.supplies.now c.args.term.now (c.atoms.number + 1) it.sets) (sym w.found-is) (
+            w.add_all.ensures.count ∙ c.atoms.invariant.0,
+            given_grows c.args.plan.now.atoms c.args.supplies.now c.args.term.now c.atoms.number c.item.result.now c.item.ensures c.atoms.found.sets c.atoms.invariant.1 (told.0 w.if-has_term.true)
+                w.item-then-has_term.result.now w.item-then-has_term.ensures w.add_all.new.self.sets w.in_ok-add_all.ensures.covers,
+          )
+      | else-has_term w ↦
+          subst (λ (it : Kept). (it.count ≡ length c.args.plan.now.atoms) × AreGivenBelow c.args.plan.now.atoms c.args.supplies.now c.args.term.now (c.atoms.number + 1) it.sets) (sym w.found-is) (
+            c.atoms.invariant.0,
+            given_stays c.args.plan.now.atoms c.args.supplies.now c.args.term.now c.atoms.number c.item.result.now c.item.ensures c.atoms.found.sets c.atoms.invariant.1
+                (λ occurs. false≢true (sym w.if-has_term.false ∙ told.1 occurs)),
+          )
+    ]
+
+pub returns-clause-covers : goal.returns-clause-covers
+returns-clause-covers c = given_end c.args.plan.now.atoms c.args.supplies.now c.args.term.now c.atoms.number c.atoms.found.sets (omega (arith, c.atoms-test.false, c.len-number-end.ensures)) c.atoms.invariant.1
