@@ -30,14 +30,14 @@ module _ {A : Type 0} (same : A → A → Bool) where
       one false = omega (arith, length-append things (next ∷ []))
 
   module _ (decides : (thing other : A) → Decides (same thing other) (thing ≡ other)) where
-    one_from : (things : List A) (next thing : A) → Contains (joined_one things next) thing → Contains things thing ⊎ (next ≡ thing)
+    pub one_from : (things : List A) (next thing : A) → Contains (joined_one things next) thing → Contains things thing ⊎ (next ≡ thing)
     one_from things next thing = by (is_member same things next)
       where
         by : (answer : Bool) → Contains (cond answer things (things ++ next ∷ [])) thing → Contains things thing ⊎ (next ≡ thing)
         by true inside = inl inside
         by false inside = Contains-push_cases things next thing inside
 
-    one_has : (things : List A) (next thing : A) → Contains things thing ⊎ (next ≡ thing) → Contains (joined_one things next) thing
+    pub one_has : (things : List A) (next thing : A) → Contains things thing ⊎ (next ≡ thing) → Contains (joined_one things next) thing
     one_has things next thing = by (is_member same things next) (is_member-Decides decides things next)
       where
         by : (answer : Bool) → Decides answer (Contains things next) → Contains things thing ⊎ (next ≡ thing)

@@ -1,0 +1,122 @@
+//! Instances and their traces.
+ghost use Rattle.std.specs.Prelude.{◌≡◌, [], ◌∷◌, ◌++◌, map, IfOk, OnOk, OnErr};
+ghost use Rattle.esto_term.specs.Order.{replaced};
+ghost use Rattle.esto_query.specs.Making.{query_of};
+ghost use Rattle.esto_chase_laws.specs.Joined.{joined};
+ghost use Rattle.esto_chase_laws.specs.Runs.{start_of, replaced_facts};
+ghost use Rattle.esto_instance.specs.Instances.{state_of, trace_of};
+
+use crate::fresh::{fresh_facts, once};
+use crate::replacing::{replace_in_facts, replace_in_terms};
+use esto_query::{Found, Query};
+use esto_semantics::Facts;
+use esto_term::{List, OutOfMemory, Replicate, Term, Terms};
+use std::alloc::Global;
+
+/// A step of the chase, with the number of the rule that was applied, counted from 0, and the match at which it was.
+#[derive(Debug, Drop)]
+pub enum ChaseStep {
+    /// A tuple rule added facts.
+    Added(usize, Found),
+    /// An equality rule merged two terms: the first, which is gone, into the second.
+    Merged(usize, Found, Term, Term),
+}
+
+/// The steps of a run, in order.
+pub type Trace = List<ChaseStep>;
+
+/// Facts over terms with a head, and the trace of the steps that made them.
+#[derive(Debug, Drop)]
+pub struct Instance {
+    facts: Facts,
+    head: Terms,
+    trace: Trace,
+}
+
+impl Instance {
+    /// The start of a query's chase: the atoms of its body, in order, a repeated one once, and its head.
+    pub fn of_query(alloc: Global, query: &Query) -> Result<Instance, OutOfMemory>
+        ensures state { IfOk result (λ it. state_of it ≡ start_of (query_of query.now)) }
+        ensures trace { IfOk result (λ it. trace_of it ≡ []) }
+    {
+        let facts = once(alloc, query.body.items())?;
+        let head = query.head.copy(alloc)?;
+        Ok(Instance {
+            facts,
+            head,
+            trace: List::new(alloc),
+        })
+    }
+
+    /// The facts, in order.
+    pub fn facts(&self) -> &Facts
+        ensures { result.now ≡ (state_of self.now).body }
+    {
+        &self.facts
+    }
+
+    /// The head.
+    pub fn head(&self) -> &Terms
+        ensures { result.now ≡ (state_of self.now).head }
+    {
+        &self.head
+    }
+
+    /// The steps, in order.
+    pub fn trace(&self) -> &Trace
+        ensures { result.now ≡ trace_of self.now }
+    {
+        &self.trace
+    }
+
+    /// Appends those of the facts that are not there, in their order and once, and a step of that rule at that match to
+    /// the trace. A refused call leaves the instance.
+    pub fn add(
+        &mut self,
+        alloc: Global,
+        rule: usize,
+        found: Found,
+        facts: &Facts,
+    ) -> Result<(), OutOfMemory>
+        ensures facts { OnOk result ((state_of self.new).body ≡ joined (state_of self.old).body facts.now) }
+        ensures head { OnOk result ((state_of self.new).head ≡ (state_of self.old).head) }
+        ensures trace { OnOk result (trace_of self.new ≡ trace_of self.old ++ ChaseStep.Added rule found ∷ []) }
+        ensures err { OnErr result (self.new ≡ self.old) }
+    {
+        let fresh = fresh_facts(alloc, self.facts.items(), facts.items())?;
+        let steps = self.trace.len();
+        self.trace.push(ChaseStep::Added(rule, found))?;
+        match self.facts.append(fresh) {
+            Ok(()) => Ok(()),
+            Err(error) => {
+                self.trace.truncate(steps);
+                Err(error)
+            }
+        }
+    }
+
+    /// Puts the term `to` in place of the term `from` in every fact and in the head, drops each fact that now equals an
+    /// earlier one, keeps the order of the rest, and appends a step of that rule at that match to the trace. Inside a made
+    /// term nothing is replaced. A refused call leaves the instance.
+    pub fn merge(
+        &mut self,
+        alloc: Global,
+        rule: usize,
+        found: Found,
+        from: Term,
+        to: Term,
+    ) -> Result<(), OutOfMemory>
+        ensures facts { OnOk result ((state_of self.new).body ≡ replaced_facts from to (state_of self.old).body) }
+        ensures head { OnOk result ((state_of self.new).head ≡ map (replaced from to) (state_of self.old).head) }
+        ensures trace { OnOk result (trace_of self.new ≡ trace_of self.old ++ ChaseStep.Merged rule found from to ∷ []) }
+        ensures err { OnErr result (self.new ≡ self.old) }
+    {
+        let images = replace_in_facts(alloc, self.facts.items(), &from, &to)?;
+        let facts = once(alloc, images.items())?;
+        let head = replace_in_terms(alloc, self.head.items(), &from, &to)?;
+        self.trace.push(ChaseStep::Merged(rule, found, from, to))?;
+        self.facts = facts;
+        self.head = head;
+        Ok(())
+    }
+}

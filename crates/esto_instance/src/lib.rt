@@ -1,0 +1,8 @@
+//! Instances of the standard chase: facts over terms with a head, and the trace of the steps that made them.
+#![tactic(auto)]
+
+mod fresh;
+mod instance;
+mod replacing;
+
+pub use instance::{ChaseStep, Instance, Trace};
