@@ -4,10 +4,10 @@ use Rattle.std.specs.FinMap.{empty}
 use Rattle.esto_term.specs.declared.term.Term.{Term}
 use Rattle.esto_term.specs.declared.term.Term.TheVariants.{Const}
 use Rattle.esto_semantics.specs.Maps.{Keeps}
-use Rattle.esto_semantics.specs.Matches.{IsMatch, IsAtMost}
+use Rattle.esto_semantics.specs.Matches.{IsMatch, IsAtMost, IsActive}
 use Rattle.esto_semantics.specs.Rules.{Rule, tuple, body_of, Concludes, MeetsInto}
 use Rattle.esto_semantics.specs.declared.fact.Fact.{Fact}
-use Rattle.esto_query.specs.Valuations.{Assignment, Extends}
+use Rattle.esto_query.specs.Valuations.{Assignment, Extends, map_of}
 use Rattle.esto_query.specs.Matches.{IsFound}
 
 -- Under a map that sends the rule's body to facts, read over terms, the rule's conclusion is so.
@@ -31,6 +31,13 @@ pub record IsLeastActive (rule : Rule) (facts : List (Fact Term)) (valuation : A
   pub is_found : IsFound (body_of rule) facts empty valuation places
   pub active : (m : Term → Term) → Keeps Const m → Extends m valuation → ¬ (Holds facts rule m)
   pub least : (m : Term → Term) (others : List ℕ) → Keeps Const m → IsMatch m (body_of rule) facts others → ¬ (Holds facts rule m) → IsAtMost places others
+
+-- The map of such a match's valuation is an active match at its places, and no active match comes before it.
+abbrev pub LeastActiveIsLeast : Type 0
+LeastActiveIsLeast =
+    (rule : Rule) (facts : List (Fact Term)) (valuation : Assignment) (places : List ℕ) → IsLeastActive rule facts valuation places
+    → IsActive rule facts (map_of valuation) places
+    × ((other : Term → Term) (others : List ℕ) → IsActive rule facts other others → IsAtMost places others)
 
 -- The rule of this number has that least active match, and the facts meet each rule before it.
 pub record IsFirstBroken (rules : List Rule) (facts : List (Fact Term)) (number : ℕ) (valuation : Assignment) (places : List ℕ) : Type 0 where

@@ -4,7 +4,7 @@ ghost use Rattle.std.specs.FinMap as map;
 ghost use Rattle.esto_query.specs.Valuations.{map_of};
 ghost use Rattle.esto_constraint.specs.Constraints.{rule_of, rules_of};
 ghost use Rattle.esto_semantics.specs.Rules.{body_of};
-ghost use Rattle.esto_constraint.specs.Matches.{HasExtension, Holds, IsMet, AreMet, IsLeastActive, IsFirstBroken};
+ghost use Rattle.esto_constraint.specs.Matches.{HasExtension, Holds, IsMet, AreMet, IsLeastActive, IsFirstBroken, LeastActiveIsLeast};
 ghost use Rattle.esto_constraint.specs.Tests.{IsOver, Tells};
 
 use crate::rule::{Constraint, Egd, Rules, Tgd};
@@ -175,3 +175,9 @@ pub fn meets(alloc: Global, rules: &Rules, facts: &Facts) -> Result<Option<Broke
     let outcome = first_broken(alloc, rules, &indexed)?;
     Ok(outcome)
 }
+
+/// A law: the map of a least active match's valuation is an active match at its places, and no active match, of any map,
+/// comes before it.
+pub fn least_active_matches_are_least()
+    ensures { LeastActiveIsLeast }
+{}
