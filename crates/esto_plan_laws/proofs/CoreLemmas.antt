@@ -20,7 +20,7 @@ use Rattle.esto_term.proofs.ListLemmas.{Contains-nil, Contains-at, Contains-head
 use Rattle.esto_semantics.proofs.FactLemmas.{decided_fact, image_agree, image_then, image_itself, Mentions-sent}
 use Rattle.esto_semantics.proofs.PlaceLemmas.{Has-from_chosen}
 use Rattle.esto_semantics.proofs.TermLemmas.{same_term-Decides, decided_term}
-use Rattle.esto_plan_laws.specs.Cores.{over, Retracts, IsCore, HasNoRetract, IsRenamedTo}
+use Rattle.esto_plan_laws.specs.Cores.{with_head, Retracts, IsCore, HasNoRetract, IsRenamedTo}
 use Rattle.esto_plan_laws.proofs.MapsToLemmas.{MapsTo-then, retracts-among}
 use Rattle.esto_term.proofs.DistinctLemmas.{Distinct, split, split_cases, split_more, split_thing, outside, length_split, distinct-from_splits, permutation-from_same, no_more, decided_contains, one_to_one, distinct_map}
 
@@ -366,8 +366,8 @@ module _ (plan other : ConjunctiveQuery) (renamed : IsRenamedTo plan other) wher
         let from = from_renamed atom (subst (λ all. Contains all atom) (sym whole) (split_thing front back atom)) in
         let parts = split plan.body from.0 from.1 in
         core parts.0 parts.1 from.0 parts.2 (
-        MapsTo-then plan other (over plan.head (parts.0 ++ parts.1)) renamed-there
-        (MapsTo-then other (over other.head (front ++ back)) (over plan.head (parts.0 ++ parts.1)) retracts (
+        MapsTo-then plan other (with_head plan.head (parts.0 ++ parts.1)) renamed-there
+        (MapsTo-then other (with_head other.head (front ++ back)) (with_head plan.head (parts.0 ++ parts.1)) retracts (
           renamed.back,
           renamed.back_keeps,
           (λ it inside.

@@ -5,12 +5,12 @@ use Rattle.esto_semantics.specs.Listed.{chosen}
 use Rattle.esto_semantics.specs.declared.fact.Fact.{Fact}
 use Rattle.esto_term.proofs.ListLemmas.{Contains-cases, Contains-head, Contains-rest}
 use Rattle.esto_plan_laws.proofs.MapsToLemmas.{MapsTo-then, retracts-among}
-use Rattle.esto_plan_laws.specs.Cores.{over, Retracts, IsCore, IsLeft, AreLeft}
+use Rattle.esto_plan_laws.specs.Cores.{with_head, Retracts, IsCore, IsLeft, AreLeft}
 use Rattle.esto_term.proofs.DistinctLemmas.{after_push, split_more}
 
 module _ (head : List Term) where
   retracts-then : (first second third : List (Fact Term)) → Retracts head first second → Retracts head second third → Retracts head first third
-  retracts-then first second third = MapsTo-then (over head first) (over head second) (over head third)
+  retracts-then first second third = MapsTo-then (with_head head first) (with_head head second) (with_head head third)
 
   -- ---- what is left
 
@@ -77,7 +77,7 @@ module _ (head : List Term) where
           parts : (first other : Fact Term) (rest others : List (Fact Term)) → first ∷ rest ≡ other ∷ others → (first ≡ other) × (rest ≡ others)
           parts first other rest others same = (cc, cc)
 
-  pub left-IsCore : (atoms left : List (Fact Term)) → AreLeft head [] atoms left → IsCore (over head left)
+  pub left-IsCore : (atoms left : List (Fact Term)) → AreLeft head [] atoms left → IsCore (with_head head left)
   left-IsCore atoms left are = left-IsTight [] atoms left are
 
   -- one list is left

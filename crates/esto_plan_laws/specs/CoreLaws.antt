@@ -9,7 +9,7 @@ use Rattle.esto_semantics.specs.Queries.{ConjunctiveQuery}
 use Rattle.esto_semantics.specs.Rewritings.{IsPlanFor}
 use Rattle.esto_semantics.specs.Rules.{Rule}
 use Rattle.esto_semantics.specs.declared.fact.Fact.{Fact}
-use Rattle.esto_plan_laws.specs.Cores.{over, IsCore, HasNoRetract, AreLeft, IsRenamedTo}
+use Rattle.esto_plan_laws.specs.Cores.{with_head, IsCore, HasNoRetract, AreLeft, IsRenamedTo}
 
 -- Two plans that map to each other, head to head, are universal for the same queries.
 abbrev pub UniversalAlike : Type 0
@@ -25,21 +25,21 @@ LeftIsChosen =
 
 -- The plan maps, head to head, to what is left of it.
 abbrev pub MapsToLeft : Type 0
-MapsToLeft = (plan : ConjunctiveQuery) (left : List (Fact Term)) → AreLeft plan.head [] plan.body left → MapsTo plan (over plan.head left)
+MapsToLeft = (plan : ConjunctiveQuery) (left : List (Fact Term)) → AreLeft plan.head [] plan.body left → MapsTo plan (with_head plan.head left)
 
 -- What is left of a plan maps, head to head, to the plan.
 abbrev pub LeftMapsBack : Type 0
-LeftMapsBack = (plan : ConjunctiveQuery) (left : List (Fact Term)) → AreLeft plan.head [] plan.body left → MapsTo (over plan.head left) plan
+LeftMapsBack = (plan : ConjunctiveQuery) (left : List (Fact Term)) → AreLeft plan.head [] plan.body left → MapsTo (with_head plan.head left) plan
 
 -- What is left of a universal plan of a query is one.
 abbrev pub LeftIsUniversal : Type 0
 LeftIsUniversal =
     (rules : List Rule) (views : List ConjunctiveQuery) (query plan : ConjunctiveQuery) (left : List (Fact Term))
-    → AreLeft plan.head [] plan.body left → IsUniversalPlan rules views query plan → IsUniversalPlan rules views query (over plan.head left)
+    → AreLeft plan.head [] plan.body left → IsUniversalPlan rules views query plan → IsUniversalPlan rules views query (with_head plan.head left)
 
 -- What is left of a plan is a core.
 abbrev pub LeftIsCore : Type 0
-LeftIsCore = (plan : ConjunctiveQuery) (left : List (Fact Term)) → AreLeft plan.head [] plan.body left → IsCore (over plan.head left)
+LeftIsCore = (plan : ConjunctiveQuery) (left : List (Fact Term)) → AreLeft plan.head [] plan.body left → IsCore (with_head plan.head left)
 
 -- One list is left of a plan.
 abbrev pub LeftIsOne : Type 0

@@ -10,13 +10,13 @@ use Rattle.esto_semantics.specs.Queries.{ConjunctiveQuery}
 use Rattle.esto_semantics.specs.Sets.{Has}
 use Rattle.esto_semantics.specs.declared.fact.Fact.{Fact}
 
--- The head over these atoms.
-abbrev pub over : List Term → List (Fact Term) → ConjunctiveQuery
-over head atoms = record { head = head; body = atoms }
+-- The query that has this head over these atoms.
+abbrev pub with_head : List Term → List (Fact Term) → ConjunctiveQuery
+with_head head atoms = record { head = head; body = atoms }
 
 -- The atoms retract into the others: some map that keeps constants and each term of the head sends each of the atoms to one of the others.
 abbrev pub Retracts : List Term → List (Fact Term) → List (Fact Term) → Type 0
-Retracts head atoms others = MapsTo (over head atoms) (over head others)
+Retracts head atoms others = MapsTo (with_head head atoms) (with_head head others)
 
 -- The plan is a core: its atoms do not retract into those without one of them.
 abbrev pub IsCore : ConjunctiveQuery → Type 0

@@ -1,5 +1,5 @@
 use Rattle.std.proofs.Common.{[]}
-use Rattle.esto_plan_laws.specs.Cores.{over}
+use Rattle.esto_plan_laws.specs.Cores.{with_head}
 use Rattle.esto_plan_laws.proofs.LeftLemmas.{left-chosen, left-retracts, left-among, left-IsCore, left-one}
 use Rattle.esto_plan_laws.proofs.MapsToLemmas.{retracts-among, universal_alike}
 use Rattle.esto_plan_laws.proofs.cores.what_is_left_is_a_core.Goals as goal
@@ -15,7 +15,7 @@ returns-clause-back c plan left are = retracts-among plan.head left plan.body (l
 
 pub returns-clause-universal : goal.returns-clause-universal
 returns-clause-universal c rules views query plan left are =
-    universal_alike rules views query plan (over plan.head left) (left-retracts plan.head [] plan.body left are)
+    universal_alike rules views query plan (with_head plan.head left) (left-retracts plan.head [] plan.body left are)
     (retracts-among plan.head left plan.body (left-among plan.head [] plan.body left are))
 
 pub returns-clause-core : goal.returns-clause-core
