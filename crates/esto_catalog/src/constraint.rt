@@ -13,8 +13,9 @@ use crate::row::{knows_keys, needs_text};
 use crate::setting::{Entry, Field};
 use crate::tables::Tables;
 use esto_constraint::{Constraint, Rules};
-use esto_read::{ReadError, read_constraint};
+use esto_read::read_constraint;
 use esto_term::{List, Text};
+use esto_text::ReadError;
 use std::alloc::Global;
 
 // The constraint that the text is, or its first fault.

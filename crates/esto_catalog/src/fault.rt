@@ -4,8 +4,8 @@ ghost use Rattle.esto_course.specs.Course.{demands};
 ghost use Rattle.esto_catalog.specs.Rows.{IsFault, Walks, fault_at, text_fault_at};
 
 use esto_acyclic::Cycle;
-use esto_read::TextFault;
 use esto_term::{OutOfMemory, Text};
+use esto_text::TextFault;
 use std::alloc::Global;
 
 /// A section of a catalogue.

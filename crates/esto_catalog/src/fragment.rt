@@ -16,8 +16,9 @@ use crate::row::{knows_keys, needs_text, unfit};
 use crate::setting::{Entry, Field, Setting, is_same, setting_at};
 use crate::tables::Tables;
 use esto_query::{Name, Query};
-use esto_read::{NamedQuery, ReadError, read_view};
+use esto_read::{NamedQuery, read_view};
 use esto_term::{List, OutOfMemory, Replicate, Term, Text, TextRow, Values};
+use esto_text::ReadError;
 use esto_views::{Access, FragmentDef, FragmentDefs};
 use std::alloc::Global;
 

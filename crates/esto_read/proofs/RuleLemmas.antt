@@ -1,11 +1,12 @@
 -- Rules from their parts.
-use Rattle.std.proofs.Common.{IsUtf8, ◌≡◌, ◌≢◌, ℕ, ◌<◌, ◌≤◌, inl, inr, get_or, List, [], ◌∷◌, length, refl, sym, ap, subst, arith}
+use Rattle.std.proofs.Common.{IsUtf8, ◌≡◌, ◌≢◌, ℕ, ◌<◌, ◌≤◌, inl, inr, get_or, List, [], ◌∷◌, length, Ok, refl, sym, ap, subst, arith}
 use Rattle.std.specs.Prelude.{Contains, All}
 use Rattle.std.specs.List.{AllByRecursion}
 use Rattle.std.proofs.lemmas.List.{length-map}
-use Rattle.esto_constraint.specs.declared.rule.Constraint.TheVariants.{Tuple, Equal}
-use Rattle.esto_constraint.specs.declared.rule.Egd.{Egd}
-use Rattle.esto_constraint.specs.declared.rule.Tgd.{Tgd}
+use Rattle.esto_constraint.specs.Constraints.{rule_of}
+use Rattle.esto_constraint.specs.Making.{MakesTuple, MakesEquality}
+use Rattle.esto_constraint.specs.declared.rule.Constraint.{Constraint}
+use Rattle.esto_constraint.specs.declared.rule.Constraint.TheVariants.{Tuple, Equal, Never}
 use Rattle.esto_constraint.specs.Soundness.{IsSoundTuple, IsSoundEquality}
 use Rattle.esto_query.specs.Schemas.{arities_of}
 use Rattle.esto_query.specs.Soundness.{AreNamed}
@@ -150,16 +151,46 @@ module _ (words : List Word) (schema bytes : List ℕ) (tree : ConstraintTree) (
       λ s e. (in_sides.1 right (1, omega arith, refl)).2 s e,
     )
 
+-- ---- rules that are made
+
+module _ (schema : List ℕ) (names : List Name) where
+  pub tuple_made_over : (rule : Constraint) (body head : List (Fact Term)) → MakesTuple schema body head names (Ok rule) → IsRuleOver schema (tuple body head) → IsRuleOver schema (rule_of rule)
+  tuple_made_over (Tuple rule) body head made over =
+      subst (λ (l : List (Fact Term)). IsRuleOver schema (tuple rule.body l)) (sym made.4) (subst (λ (l : List (Fact Term)). IsRuleOver schema (tuple l head)) (sym made.3) over)
+  tuple_made_over (Equal rule) body head made over = absurd made
+  tuple_made_over (Never rule) body head made over = absurd made
+
+  pub equality_made_over : (rule : Constraint) (body : List (Fact Term)) (left right : Term) → MakesEquality schema body left right names (Ok rule)
+      → IsRuleOver schema (equality body left right) → IsRuleOver schema (rule_of rule)
+  equality_made_over (Equal rule) body left right made over =
+      subst (λ (x : Term). IsRuleOver schema (equality rule.body rule.left x)) (sym made.6)
+      (subst (λ (x : Term). IsRuleOver schema (equality rule.body x right)) (sym made.5) (subst (λ (l : List (Fact Term)). IsRuleOver schema (equality l left right)) (sym made.4) over))
+  equality_made_over (Tuple rule) body left right made over = absurd made
+  equality_made_over (Never rule) body left right made over = absurd made
+
 -- ---- readings and errors
 
 module _ (words : List Word) (schema bytes : List ℕ) (tree : ConstraintTree) (text : IsConstraintText bytes tree) where
-  pub tuple_reading : (head_items : List ItemTree) (rule : Tgd) → tree.head ≡ Items head_items → IsTupleRead words schema bytes tree.body head_items rule.body rule.head rule.names
-      → IsConstraintReading words schema bytes (Tuple rule)
-  tuple_reading head_items rule is h = (tree, text, subst (λ (x : HeadTree). IsRuleOf words schema bytes tree.body x (Tuple rule)) (sym is) h)
+  pub tuple_reading : (head_items : List ItemTree) (rule : Constraint) (body head : List (Fact Term)) (names : List Name) → MakesTuple schema body head names (Ok rule)
+      → tree.head ≡ Items head_items → IsTupleRead words schema bytes tree.body head_items body head names → IsConstraintReading words schema bytes rule
+  tuple_reading head_items (Tuple rule) body head names made is h =
+      let bodies = subst (λ (l : List (Fact Term)). IsTupleRead words schema bytes tree.body head_items l head names) (sym made.3) h in
+      let heads = subst (λ (l : List (Fact Term)). IsTupleRead words schema bytes tree.body head_items rule.body l names) (sym made.4) bodies in
+      let whole = subst (λ (l : List Name). IsTupleRead words schema bytes tree.body head_items rule.body rule.head l) (sym made.5) heads in
+      (tree, text, subst (λ (x : HeadTree). IsRuleOf words schema bytes tree.body x (Tuple rule)) (sym is) whole)
+  tuple_reading head_items (Equal rule) body head names made is h = absurd made
+  tuple_reading head_items (Never rule) body head names made is h = absurd made
 
-  pub equality_reading : (left right : Token) (rule : Egd) → tree.head ≡ Equality left right → IsEqualityRead words schema bytes tree.body left right rule.body rule.left rule.right rule.names
-      → IsFixedBy rule.body rule.left × IsFixedBy rule.body rule.right → IsConstraintReading words schema bytes (Equal rule)
-  equality_reading left right rule is h fixed = (tree, text, subst (λ (x : HeadTree). IsRuleOf words schema bytes tree.body x (Equal rule)) (sym is) (h, fixed.0, fixed.1))
+  pub equality_reading : (left right : Token) (rule : Constraint) (body : List (Fact Term)) (one other : Term) (names : List Name) → MakesEquality schema body one other names (Ok rule)
+      → tree.head ≡ Equality left right → IsEqualityRead words schema bytes tree.body left right body one other names → IsConstraintReading words schema bytes rule
+  equality_reading left right (Equal rule) body one other names made is h =
+      let bodies = subst (λ (l : List (Fact Term)). IsEqualityRead words schema bytes tree.body left right l one other names × IsFixedBy l one × IsFixedBy l other) (sym made.4) (h, made.2, made.3) in
+      let lefts = subst (λ (x : Term). IsEqualityRead words schema bytes tree.body left right rule.body x other names × IsFixedBy rule.body x × IsFixedBy rule.body other) (sym made.5) bodies in
+      let sides = subst (λ (x : Term). IsEqualityRead words schema bytes tree.body left right rule.body rule.left x names × IsFixedBy rule.body rule.left × IsFixedBy rule.body x) (sym made.6) lefts in
+      let whole = subst (λ (l : List Name). IsEqualityRead words schema bytes tree.body left right rule.body rule.left rule.right l × IsFixedBy rule.body rule.left × IsFixedBy rule.body rule.right) (sym made.7) sides in
+      (tree, text, subst (λ (x : HeadTree). IsRuleOf words schema bytes tree.body x (Equal rule)) (sym is) whole)
+  equality_reading left right (Tuple rule) body one other names made is h = absurd made
+  equality_reading left right (Never rule) body one other names made is h = absurd made
 
   pub body_error : (e : ReadError) → IsBodyError words schema bytes tree.body e → IsConstraintError words schema bytes e
   body_error OutOfMemory h = text.1.0

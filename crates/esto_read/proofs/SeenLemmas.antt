@@ -1,7 +1,7 @@
 -- What holds of the items that a loop has seen.
-use Rattle.std.proofs.Common.{◌≡◌, ℕ, zero, suc, ◌+◌, ◌<◌, ◌≤◌, inl, inr, List, [], ◌∷◌, length, take, get_or, sym, subst, ◌∙◌, arith}
+use Rattle.std.proofs.Common.{◌≡◌, ℕ, zero, suc, ◌+◌, ◌<◌, inl, inr, List, [], ◌∷◌, length, take, get_or, sym, subst, arith}
 use Rattle.std.specs.Prelude.{Contains}
-use Rattle.std.proofs.lemmas.List.{take_more, take_all}
+use Rattle.std.proofs.lemmas.List.{take_more}
 use Rattle.std.proofs.lemmas.List.Elements.{Contains-append_cases}
 
 -- the one item of a list
@@ -10,19 +10,9 @@ only_item x y (zero, lt, e) = sym e
 only_item x y (suc k, lt, e) = absurd (omega arith)
 
 module _ {X : Type 0} (P : X → Type 0) (xs : List X) where
-  pub each_more : (n : ℕ) (x : X) → n < length xs → x ≡ get_or xs n x → P x → ((y : X) → Contains (take n xs) y → P y) → (y : X) → Contains (take (n + 1) xs) y → P y
-  each_more n x lt e p before y h =
-      elim (Contains-append_cases (take n xs) (get_or xs n x ∷ []) y (subst (λ (l : List X). Contains l y) (take_more xs n x lt) h)) [
-        | inl k ↦ before y k
-        | inr k ↦ subst P (e ∙ sym (only_item (get_or xs n x) y k)) p
-      ]
-
   pub each_more_at : (n : ℕ) (d : X) → n < length xs → P (get_or xs n d) → ((y : X) → Contains (take n xs) y → P y) → (y : X) → Contains (take (n + 1) xs) y → P y
   each_more_at n d lt p before y h =
       elim (Contains-append_cases (take n xs) (get_or xs n d ∷ []) y (subst (λ (l : List X). Contains l y) (take_more xs n d lt) h)) [
         | inl k ↦ before y k
         | inr k ↦ subst P (sym (only_item (get_or xs n d) y k)) p
       ]
-
-  pub each_seen : (n : ℕ) → length xs ≤ n → ((y : X) → Contains (take n xs) y → P y) → (y : X) → Contains xs y → P y
-  each_seen n le before y h = before y (subst (λ (l : List X). Contains l y) (sym (take_all n xs le)) h)

@@ -1,5 +1,6 @@
 -- Items as atoms, and what is wrong with an item.
 use Rattle.std.specs.Prelude.{◌≡◌, ◌⊎◌, ℕ, suc, ◌<◌, ◌≤◌, List, [], ◌∷◌, ◌++◌, Some, length, slice_get}
+use Rattle.esto_query.specs.declared.make.TheConstants.{MAX_ATOMS}
 use Rattle.esto_query.specs.declared.query.Name.{Name}
 use Rattle.esto_semantics.specs.declared.fact.Fact.{Fact}
 use Rattle.esto_term.specs.declared.term.Term.{Term}
@@ -14,18 +15,18 @@ use Rattle.esto_read.specs.Terms.{AreTerms}
 use Rattle.esto_read.specs.Words.{IsTableAt}
 use Rattle.esto_read.specs.declared.words.Word.{Word}
 
--- A table has this name and so many columns, and fewer than 64 atoms come before.
+-- A table has this name and so many columns, and there is room for an atom where so many come before.
 abbrev pub IsFit : List Word → List ℕ → List ℕ → ℕ → ℕ → Type 0
 IsFit words schema name columns atoms =
-    (relation : ℕ) × IsTableAt words name relation × (slice_get schema relation ≡ Some columns) × (atoms < 64)
+    (relation : ℕ) × IsTableAt words name relation × (slice_get schema relation ≡ Some columns) × (atoms < MAX_ATOMS)
 
--- What is wrong with an item of this name and so many terms, where so many atoms come before it: no table has the name; else the table has another number of columns; else 64 atoms or more come before.
+-- What is wrong with an item of this name and so many terms, where so many atoms come before it: no table has the name; else the table has another number of columns; else as many atoms as there may be come before.
 abbrev pub IsMisfit : List Word → List ℕ → List ℕ → ℕ → ℕ → TextKind → Type 0
 IsMisfit words schema name columns atoms Unknown = (relation : ℕ) → ¬ IsTableAt words name relation
 IsMisfit words schema name columns atoms Arity =
     (relation : ℕ) × IsTableAt words name relation × ¬ (slice_get schema relation ≡ Some columns)
 IsMisfit words schema name columns atoms TooLarge =
-    (relation : ℕ) × IsTableAt words name relation × (slice_get schema relation ≡ Some columns) × (64 ≤ atoms)
+    (relation : ℕ) × IsTableAt words name relation × (slice_get schema relation ≡ Some columns) × (MAX_ATOMS ≤ atoms)
 IsMisfit words schema name columns atoms _ = ⊥
 
 -- Nothing is wrong with the item, where so many atoms come before it.

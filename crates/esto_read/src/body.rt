@@ -9,17 +9,14 @@ ghost use Rattle.esto_text.specs.View.{item_of};
 ghost use Rattle.esto_read.specs.Words.{IsTableAt};
 ghost use Rattle.esto_read.specs.Items.{IsMisfit, IsFitting, AreFitting, IsItemOf, AreItems, IsItemError, IsBodyError};
 
-use crate::constant::text_of;
+use crate::constant::bytes_of;
 use crate::term::terms;
 use crate::words::{Word, table_of};
-use esto_query::{Names, Schema};
+use esto_query::{MAX_ATOMS, Names, Schema};
 use esto_semantics::{Atom, Atoms, Fact};
 use esto_term::List;
 use esto_text::{ItemSyntax, ReadError, TextFault, TextKind, Token};
 use std::alloc::Global;
-
-/// The greatest number of atoms of a body, or of the head of a constraint.
-const MAX_ATOMS: usize = 64;
 
 /// The relation of a table of that name and so many columns, where so many atoms come before, or what is wrong.
 fn relation_of(
@@ -31,7 +28,7 @@ fn relation_of(
 ) -> Result<usize, TextKind>
     requires { All (λ word. word.base < length schema.now) words.now }
     ensures ok { IfOk result (λ relation. IsTableAt words.now name.now relation
-        × (slice_get (arities_of schema.now) relation ≡ Some columns) × (atoms < 64)) }
+        × (slice_get (arities_of schema.now) relation ≡ Some columns) × (atoms < MAX_ATOMS)) }
     ensures err { IfErr result (λ kind. IsMisfit words.now (arities_of schema.now) name.now columns atoms kind) }
 {
     let Some(relation) = table_of(words, name) else {
@@ -78,7 +75,7 @@ fn atom(
             name,
             terms: tokens,
         } => {
-            match relation_of(text_of(bytes, *name), tokens.len(), words, schema, atoms) {
+            match relation_of(bytes_of(bytes, *name), tokens.len(), words, schema, atoms) {
                 Ok(relation) => {
                     let terms = terms(alloc, bytes, tokens.items(), names)?;
                     Ok(Fact { relation, terms })

@@ -12,7 +12,7 @@ use esto_text::Token;
 use std::alloc::Global;
 
 /// The bytes at which the token stands.
-pub fn text_of(bytes: &[u8], token: Token) -> &[u8]
+pub fn bytes_of(bytes: &[u8], token: Token) -> &[u8]
     requires { StandsIn bytes.now token }
     ensures { result.now ≡ text_of bytes.now token }
 {

@@ -1,11 +1,11 @@
 //! What is wrong with a head.
-ghost use Rattle.std.specs.Prelude.{◌≡◌, ◌↔◌, ℕ, Some, slice_get, Contains, IsTrue, MatchOption};
+ghost use Rattle.std.specs.Prelude.{◌≡◌, ◌↔◌, IsTrue, MatchOption};
 ghost use Rattle.std.specs.List.{AllByRecursion};
-ghost use Rattle.esto_semantics.specs.Facts.{Mentions};
 ghost use Rattle.esto_text.specs.Faults.{IsNameIn};
 ghost use Rattle.esto_read.specs.Heads.{HasText, AreDifferent, IsFirstRepeat, AreMentioned, IsFirstMissing};
 
-use crate::constant::text_of;
+use crate::constant::bytes_of;
+use esto_query::mentions;
 use esto_semantics::Atom;
 use esto_term::Term;
 use esto_text::Token;
@@ -23,7 +23,7 @@ fn has_text(bytes: &[u8], tokens: &[Token], text: &[u8]) -> bool
     ensures { IsTrue result ↔ HasText bytes.now tokens.now text.now }
 {
     'tokens: for token in tokens {
-        if same(text_of(bytes, *token), text) {
+        if same(bytes_of(bytes, *token), text) {
             return true;
         }
     }
@@ -37,35 +37,11 @@ pub fn first_repeat(bytes: &[u8], variables: &[Token]) -> Option<u64>
 {
     'variables: for (place, token) in variables.iter().enumerate() {
         let (earlier, _) = variables.split_at(place);
-        if has_text(bytes, earlier, text_of(bytes, *token)) {
+        if has_text(bytes, earlier, bytes_of(bytes, *token)) {
             return Some(token.start);
         }
     }
     None
-}
-
-/// Whether the term is one of these.
-fn has_term(terms: &[Term], term: &Term) -> bool
-    ensures { IsTrue result ↔ Contains terms.now term.now }
-{
-    'terms: for other in terms {
-        if other.equal(term) {
-            return true;
-        }
-    }
-    false
-}
-
-/// Whether one of the atoms mentions the term.
-pub fn mentions(body: &[Atom], term: &Term) -> bool
-    ensures { IsTrue result ↔ Mentions body.now term.now }
-{
-    'atoms: for atom in body {
-        if has_term(atom.terms.items(), term) {
-            return true;
-        }
-    }
-    false
 }
 
 /// The place of the first term of the head that no atom of the body mentions.

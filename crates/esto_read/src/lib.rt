@@ -4,12 +4,12 @@
 mod body;
 mod constant;
 mod head;
+mod make;
 mod read;
 mod rule;
 mod term;
 mod words;
 
-pub use esto_text::{ReadError, TextFault, TextKind, Token, TokenKind, Tokens, read_tokens};
 pub use read::{NamedQuery, read_query, read_view, readings_are_determined};
 pub use rule::{constraint_readings_are_determined, read_constraint};
 pub use words::{DataModel, Vocabulary, Word};

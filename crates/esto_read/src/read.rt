@@ -10,8 +10,9 @@ ghost use Rattle.esto_read.specs.Words.{IsVocabulary, AreTables};
 ghost use Rattle.esto_read.specs.Readings.{HasVariables, IsAllowed, IsRefused, IsHeadFit, IsHeadFault, IsReading, IsReadError, HaveOneReading, HaveNoFault, HaveOneFault};
 
 use crate::body::body;
-use crate::constant::{plain, text_of};
+use crate::constant::{bytes_of, plain};
 use crate::head::{first_missing, first_repeat};
+use crate::make::query;
 use crate::term::terms;
 use crate::words::Vocabulary;
 use esto_query::{Query, Schema};
@@ -88,7 +89,7 @@ fn read(
 {
     let words = words.items();
     let tree = read_query_tree(alloc, bytes)?;
-    let name = plain(alloc, text_of(bytes, tree.name))?;
+    let name = plain(alloc, bytes_of(bytes, tree.name))?;
     let mut names = List::new(alloc);
     let head = terms(alloc, bytes, tree.variables.items(), &mut names)?;
     let body = body(alloc, bytes, tree.items.items(), words, schema, &mut names)?;
@@ -102,7 +103,7 @@ fn read(
         Some(fault) => Err(ReadError::Fault(fault)),
         None => Ok(NamedQuery {
             name,
-            query: Query { head, body, names },
+            query: query(alloc, schema, head, body, names),
         }),
     }
 }

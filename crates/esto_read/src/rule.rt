@@ -8,11 +8,11 @@ ghost use Rattle.esto_read.specs.Words.{IsVocabulary, AreTables};
 ghost use Rattle.esto_read.specs.Constraints.{IsUnsafeSide, IsConstraintReading, IsConstraintError, HaveOneRule, HaveNoRuleFault, HaveOneRuleFault};
 
 use crate::body::body;
-use crate::head::mentions;
+use crate::make::{equal_rule, tuple_rule};
 use crate::term::term;
 use crate::words::Vocabulary;
-use esto_constraint::{Constraint, Egd, Tgd};
-use esto_query::Schema;
+use esto_constraint::Constraint;
+use esto_query::{Schema, mentions};
 use esto_semantics::Atom;
 use esto_term::{List, Term};
 use esto_text::{
@@ -24,11 +24,7 @@ use std::alloc::Global;
 fn is_fixed(term: &Term, body: &[Atom]) -> bool
     ensures { IsTrue result ↔ IsFixedBy body.now term.now }
 {
-    match term {
-        Term::Const(_) => true,
-        Term::Plain(_) => mentions(body, term),
-        Term::Made(_, _, _) => mentions(body, term),
-    }
+    term.is_constant() || mentions(body, term)
 }
 
 /// Where the first side of an equality begins, left and then right, that is no constant and not in the body.
@@ -76,11 +72,7 @@ pub fn read_constraint(
     match &tree.head {
         HeadSyntax::Items(items) => {
             let head = body(alloc, bytes, items.items(), words, schema, &mut names)?;
-            Ok(Constraint::Tuple(Tgd {
-                body: atoms,
-                head,
-                names,
-            }))
+            Ok(tuple_rule(alloc, schema, atoms, head, names))
         }
         HeadSyntax::Equality { left, right } => {
             let left_term = term(alloc, bytes, *left, &mut names)?;
@@ -90,12 +82,7 @@ pub fn read_constraint(
                     offset,
                     kind: TextKind::Unsafe,
                 })),
-                None => Ok(Constraint::Equal(Egd {
-                    body: atoms,
-                    left: left_term,
-                    right: right_term,
-                    names,
-                })),
+                None => Ok(equal_rule(alloc, schema, atoms, left_term, right_term, names)),
             }
         }
     }

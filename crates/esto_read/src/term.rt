@@ -6,7 +6,7 @@ ghost use Rattle.esto_text.specs.Faults.{IsTermIn};
 ghost use Rattle.esto_text.specs.Tokens.{text_of};
 ghost use Rattle.esto_read.specs.Terms.{IsVariableOf, IsTermOf, AreTerms};
 
-use crate::constant::{plain, quoted, text_of};
+use crate::constant::{bytes_of, plain, quoted};
 use esto_query::{Name, Names};
 use esto_term::{List, OutOfMemory, Term, Terms};
 use esto_text::{Token, TokenKind};
@@ -58,7 +58,7 @@ pub fn term(
     requires stands { IsTermIn bytes.now token }
     ensures { IfOk result (λ term. IsTermOf token.kind (text_of bytes.now token) names.old term names.new) }
 {
-    let text = text_of(bytes, token);
+    let text = bytes_of(bytes, token);
     match token.kind {
         TokenKind::Name => {
             let term = variable(alloc, text, names)?;

@@ -8,8 +8,8 @@ use crate::cell::cell_text;
 use crate::status::Status;
 use esto_acyclic::Cycle;
 use esto_catalog::{CatalogueFault, CatalogueKind, Section};
-use esto_read::{TextFault, TextKind};
 use esto_term::{Bytes, OutOfMemory, Text};
+use esto_text::{TextFault, TextKind};
 use std::alloc::Global;
 
 // The line of a fault at a file.

@@ -9,8 +9,9 @@ use crate::status::Status;
 use esto_catalog::{Catalogue, CatalogueError, catalogues_are_sound, read_catalogue};
 use esto_ports::Shelf;
 use esto_query::Query;
-use esto_read::{NamedQuery, ReadError, read_query};
+use esto_read::{NamedQuery, read_query};
 use esto_term::{Bytes, Text};
+use esto_text::ReadError;
 use std::alloc::Global;
 
 /// The greatest length of a catalogue's file, in bytes.

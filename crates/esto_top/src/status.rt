@@ -5,8 +5,8 @@ ghost use Rattle.esto_top.specs.declared.status.Status.TheVariants as status;
 
 use esto_acyclic::Cycle;
 use esto_catalog::CatalogueFault;
-use esto_read::TextFault;
 use esto_term::{OutOfMemory, Text};
+use esto_text::TextFault;
 
 /// How a command line ended.
 #[derive(Debug, Drop)]

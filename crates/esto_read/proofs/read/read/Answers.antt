@@ -1,15 +1,18 @@
-use Rattle.std.proofs.Common.{inr, ◌∙◌}
+use Rattle.std.proofs.Common.{inr, ◌∙◌, arith}
 use Rattle.std.proofs.lemmas.Result.{err_from_is_err_and}
 use Rattle.esto_query.specs.Schemas.{arities_of}
 use Rattle.esto_text.specs.View.{tree_of}
+use Rattle.esto_semantics.specs.WellFormed.{IsQueryOver}
+use Rattle.esto_read.specs.Readings.{IsRead, IsHeadFit, HasVariables}
 use Rattle.esto_read.proofs.ReadLemmas.{names_are_terms, terms_length, sound, over, head_is, body_error}
+use Rattle.esto_read.proofs.MakeLemmas.{query_along, items_size}
 use Rattle.esto_read.proofs.Utf8Lemmas.{name_token}
 use Rattle.esto_read.proofs.read.read.Goals as goal
 
 pub plain-requires : goal.plain-requires
 plain-requires c =
     let name = c.in_ok-tree.ensures.tokens.0 in
-    rw c.text_of.ensures (name_token c.args.bytes.now c.in_ok-tree.ensures.tree.1.0 c.in_ok-tree.tree.name name.0 name.1)
+    rw c.bytes_of.ensures (name_token c.args.bytes.now c.in_ok-tree.ensures.tree.1.0 c.in_ok-tree.tree.name name.0 name.1)
 
 pub terms-requires-clause-stand : goal.terms-requires-clause-stand
 terms-requires-clause-stand c = rw c.items.ensures (names_are_terms c.args.bytes.now c.in_ok-tree.tree.variables c.in_ok-tree.ensures.tokens.1)
@@ -42,44 +45,72 @@ returns-in-Some-clause-error c =
       ),
     )
 
-pub invariant_of-result : goal.invariant_of-result
-invariant_of-result c =
-    let fit = rw (c.items-3.ensures, c.items-4.ensures, c.items-5.ensures) at c.in-None.ensures in
-    record {
-      sound = ∣ sound c.args.words.now (arities_of c.args.schema.now) c.args.bytes.now c.in_ok-tree.ensures.tree.1.0 (tree_of c.in_ok-tree.tree) c.in_ok-head.head c.in_ok-body.body c.body.new.names c.in_ok-tree.ensures.tree c.in_ok-tree.ensures.tokens (record {
-        between = c.terms.new.names;
-        head_terms = rw (c.new-names.ensures, c.items.ensures) at c.in_ok-head.ensures;
-        body_atoms = rw (c.items-2.ensures, c.items-words.ensures) at c.in_ok-body.ensures.ok;
-        fits = rw (c.items-2.ensures, c.items-words.ensures) at c.in_ok-body.ensures.fits;
-      }) fit.1 ∣₁;
-    }
+-- ---- the query that is made
 
-pub returns-clause-reading : goal.returns-clause-reading
-returns-clause-reading c = (
-  tree_of c.in_ok-tree.tree,
-  record {
-    text = c.in_ok-tree.ensures.tree;
-    name = c.in_ok-name.ensures ∙ c.text_of.ensures;
-    read = record {
+pub query-requires-clause-sound : goal.query-requires-clause-sound
+query-requires-clause-sound c =
+    let fit = rw (c.items-3.ensures, c.items-4.ensures, c.items-5.ensures) at c.in-None.ensures in
+    let read : IsRead c.args.words.now (arities_of c.args.schema.now) c.args.bytes.now (tree_of c.in_ok-tree.tree) c.in_ok-head.head c.in_ok-body.body c.body.new.names = record {
       between = c.terms.new.names;
       head_terms = rw (c.new-names.ensures, c.items.ensures) at c.in_ok-head.ensures;
       body_atoms = rw (c.items-2.ensures, c.items-words.ensures) at c.in_ok-body.ensures.ok;
       fits = rw (c.items-2.ensures, c.items-words.ensures) at c.in_ok-body.ensures.fits;
-    };
-    fit = rw (c.items-3.ensures, c.items-4.ensures, c.items-5.ensures) at c.in-None.ensures;
-  },
-)
+    } in
+    sound c.args.words.now (arities_of c.args.schema.now) c.args.bytes.now c.in_ok-tree.ensures.tree.1.0 (tree_of c.in_ok-tree.tree) c.in_ok-head.head c.in_ok-body.body c.body.new.names c.in_ok-tree.ensures.tree c.in_ok-tree.ensures.tokens read fit.1
+
+pub query-requires-clause-over : goal.query-requires-clause-over
+query-requires-clause-over c =
+    let read : IsRead c.args.words.now (arities_of c.args.schema.now) c.args.bytes.now (tree_of c.in_ok-tree.tree) c.in_ok-head.head c.in_ok-body.body c.body.new.names = record {
+      between = c.terms.new.names;
+      head_terms = rw (c.new-names.ensures, c.items.ensures) at c.in_ok-head.ensures;
+      body_atoms = rw (c.items-2.ensures, c.items-words.ensures) at c.in_ok-body.ensures.ok;
+      fits = rw (c.items-2.ensures, c.items-words.ensures) at c.in_ok-body.ensures.fits;
+    } in
+    (over c.args.words.now (arities_of c.args.schema.now) c.args.bytes.now c.in_ok-tree.ensures.tree.1.0 (tree_of c.in_ok-tree.tree) c.in_ok-head.head c.in_ok-body.body c.body.new.names c.in_ok-tree.ensures.tree c.in_ok-tree.ensures.tokens read).over
+
+pub query-requires-clause-size : goal.query-requires-clause-size
+query-requires-clause-size c =
+    let read : IsRead c.args.words.now (arities_of c.args.schema.now) c.args.bytes.now (tree_of c.in_ok-tree.tree) c.in_ok-head.head c.in_ok-body.body c.body.new.names = record {
+      between = c.terms.new.names;
+      head_terms = rw (c.new-names.ensures, c.items.ensures) at c.in_ok-head.ensures;
+      body_atoms = rw (c.items-2.ensures, c.items-words.ensures) at c.in_ok-body.ensures.ok;
+      fits = rw (c.items-2.ensures, c.items-words.ensures) at c.in_ok-body.ensures.fits;
+    } in
+    let size = items_size c.args.words.now (arities_of c.args.schema.now) c.args.bytes.now 0 read.between (tree_of c.in_ok-tree.tree).items c.in_ok-body.body c.body.new.names (omega arith) read.body_atoms read.fits in
+    omega (arith, size)
+
+pub returns-clause-reading : goal.returns-clause-reading
+returns-clause-reading c =
+    let fit = rw (c.items-3.ensures, c.items-4.ensures, c.items-5.ensures) at c.in-None.ensures in
+    let read : IsRead c.args.words.now (arities_of c.args.schema.now) c.args.bytes.now (tree_of c.in_ok-tree.tree) c.in_ok-head.head c.in_ok-body.body c.body.new.names = record {
+      between = c.terms.new.names;
+      head_terms = rw (c.new-names.ensures, c.items.ensures) at c.in_ok-head.ensures;
+      body_atoms = rw (c.items-2.ensures, c.items-words.ensures) at c.in_ok-body.ensures.ok;
+      fits = rw (c.items-2.ensures, c.items-words.ensures) at c.in_ok-body.ensures.fits;
+    } in
+    let tree = (tree_of c.in_ok-tree.tree) in (
+      tree,
+      record {
+        text = c.in_ok-tree.ensures.tree;
+        name = c.in_ok-name.ensures ∙ c.bytes_of.ensures;
+        read = query_along (arities_of c.args.schema.now) c.in_ok-head.head c.in_ok-body.body c.body.new.names c.query.result (λ head body names. IsRead c.args.words.now (arities_of c.args.schema.now) c.args.bytes.now tree head body names) c.query.ensures read;
+        fit = query_along (arities_of c.args.schema.now) c.in_ok-head.head c.in_ok-body.body c.body.new.names c.query.result (λ head body names. IsHeadFit c.args.form c.args.bytes.now tree.variables head body) c.query.ensures fit;
+      },
+    )
 
 pub returns-clause-over : goal.returns-clause-over
 returns-clause-over c =
-    over c.args.words.now (arities_of c.args.schema.now) c.args.bytes.now c.in_ok-tree.ensures.tree.1.0 (tree_of c.in_ok-tree.tree) c.in_ok-head.head c.in_ok-body.body c.body.new.names c.in_ok-tree.ensures.tree c.in_ok-tree.ensures.tokens (record {
+    let read : IsRead c.args.words.now (arities_of c.args.schema.now) c.args.bytes.now (tree_of c.in_ok-tree.tree) c.in_ok-head.head c.in_ok-body.body c.body.new.names = record {
       between = c.terms.new.names;
       head_terms = rw (c.new-names.ensures, c.items.ensures) at c.in_ok-head.ensures;
       body_atoms = rw (c.items-2.ensures, c.items-words.ensures) at c.in_ok-body.ensures.ok;
       fits = rw (c.items-2.ensures, c.items-words.ensures) at c.in_ok-body.ensures.fits;
-    })
+    } in
+    query_along (arities_of c.args.schema.now) c.in_ok-head.head c.in_ok-body.body c.body.new.names c.query.result (λ head body names. IsQueryOver (arities_of c.args.schema.now) (record { head = head; body = body })) c.query.ensures
+    (over c.args.words.now (arities_of c.args.schema.now) c.args.bytes.now c.in_ok-tree.ensures.tree.1.0 (tree_of c.in_ok-tree.tree) c.in_ok-head.head c.in_ok-body.body c.body.new.names c.in_ok-tree.ensures.tree c.in_ok-tree.ensures.tokens read)
 
 pub returns-clause-head : goal.returns-clause-head
 returns-clause-head c =
     let fit = rw (c.items-3.ensures, c.items-4.ensures, c.items-5.ensures) at c.in-None.ensures in
-    head_is c.args.bytes.now c.in_ok-tree.tree.variables c.in_ok-head.head c.terms.new.names c.in_ok-tree.ensures.tokens.1 (rw (c.new-names.ensures, c.items.ensures) at c.in_ok-head.ensures) c.args.form fit.0
+    query_along (arities_of c.args.schema.now) c.in_ok-head.head c.in_ok-body.body c.body.new.names c.query.result (λ head body names. HasVariables c.args.form head) c.query.ensures
+    (head_is c.args.bytes.now c.in_ok-tree.tree.variables c.in_ok-head.head c.terms.new.names c.in_ok-tree.ensures.tokens.1 (rw (c.new-names.ensures, c.items.ensures) at c.in_ok-head.ensures) c.args.form fit.0)

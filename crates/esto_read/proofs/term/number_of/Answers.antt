@@ -2,7 +2,7 @@ use Rattle.std.proofs.Common.{◌≢◌, refl, sym, ◌∙◌}
 use Rattle.std.proofs.lemmas.Bool.{false≢true}
 use Rattle.esto_query.specs.declared.query.Name.{Name}
 use Rattle.esto_query.specs.declared.query.Name.TheVariants.{Given}
-use Rattle.esto_read.proofs.SeenLemmas.{each_more, each_seen}
+use Rattle.esto_term.proofs.ListLemmas.{each_more, each_seen}
 use Rattle.esto_read.proofs.term.number_of.Goals as goal
 
 pub names-preserved : goal.names-preserved

@@ -2,7 +2,7 @@ use Rattle.std.proofs.Common.{◌≡◌, sym, ◌∙◌}
 use Rattle.std.proofs.lemmas.Bool.{false≢true}
 use Rattle.esto_read.specs.declared.words.DataModel.TheVariants.{Table}
 use Rattle.esto_read.specs.declared.words.Word.{Word}
-use Rattle.esto_read.proofs.SeenLemmas.{each_more, each_seen}
+use Rattle.esto_term.proofs.ListLemmas.{each_more, each_seen}
 use Rattle.esto_read.proofs.words.table_of.Goals as goal
 
 pub words-preserved : goal.words-preserved

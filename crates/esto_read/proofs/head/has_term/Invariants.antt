@@ -1,7 +1,0 @@
-use Rattle.std.proofs.Common.{◌≢◌, take}
-use Rattle.std.specs.Prelude.{Contains}
-use Rattle.esto_term.specs.declared.term.Term.{Term}
-use Rattle.esto_read.proofs.head.has_term.Given as goal
-
-abbrev pub invariant-terms : goal.invariant-terms
-invariant-terms l = (other : Term) → Contains (take l.other-index l.terms) other → other ≢ l.term

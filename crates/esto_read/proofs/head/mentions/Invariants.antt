@@ -1,8 +1,0 @@
-use Rattle.std.proofs.Common.{take}
-use Rattle.std.specs.Prelude.{Contains}
-use Rattle.esto_semantics.specs.declared.fact.Fact.{Fact}
-use Rattle.esto_term.specs.declared.term.Term.{Term}
-use Rattle.esto_read.proofs.head.mentions.Given as goal
-
-abbrev pub invariant-atoms : goal.invariant-atoms
-invariant-atoms l = (atom : Fact Term) → Contains (take l.atom-index l.body) atom → ¬ Contains atom.terms l.term
