@@ -31,6 +31,13 @@ impl Model for Ranks {
 }
 
 impl Ranks {
+    /// How many relations the schema has for which the ranks were judged.
+    pub fn len(&self) -> usize
+        ensures { result ≡ length self.now }
+    {
+        self.ranks.len()
+    }
+
     /// The rank of a relation of the schema for which the ranks were judged: the greatest number of edges on a
     /// walk that ends there.
     pub fn rank(&self, relation: usize) -> u64

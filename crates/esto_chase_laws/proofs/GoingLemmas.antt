@@ -26,7 +26,7 @@ use Rattle.esto_chase_laws.specs.declared.clash.Clash.TheVariants.{Equal, Denied
 use Rattle.esto_chase_laws.proofs.NextLemmas.{met_has_no_match}
 
 -- what is less than a constant is one
-lesser_of_constant : (term : Term) (text : List ℕ) → term_cmp term (Const text) ≡ Less → IsConstant term
+pub lesser_of_constant : (term : Term) (text : List ℕ) → term_cmp term (Const text) ≡ Less → IsConstant term
 lesser_of_constant = term_cases (λ term. (text : List ℕ) → term_cmp term (Const text) ≡ Less → IsConstant term)
     (λ here text less. (here, refl))
     (λ number text less. let wrong : ◌≡◌ {A = Ordering} Greater Less = sym (term_cmp-Plain-Const number text) ∙ less in absurd (cc))

@@ -31,8 +31,8 @@ fn body_of(rule: &Constraint) -> &Atoms
     }
 }
 
-/// The term's value.
-fn value_of<'a>(valuation: &'a Valuation, term: &'a Term) -> &'a Term
+/// The term's value: that of the valuation for a variable that has one, and else the term itself.
+pub fn value_of<'a>(valuation: &'a Valuation, term: &'a Term) -> &'a Term
     ensures { result.now ≡ map_of valuation.now term.now }
 {
     match term {
