@@ -7,7 +7,8 @@ module _ (texts rest others : List (List ℕ)) (first : List ℕ) (is : rest ≡
   -- the first is not among the others
   pub distinct_more : ¬ Contains others first → AllPairs ◌≢◌ others ↔ AllPairs ◌≢◌ texts
   distinct_more not = (
-    λ apart. so_far.0 (subst (AllPairs ◌≢◌) (sym is) (pairs_cons ◌≢◌ first others (λ other inside same. not (subst (Contains others) (sym same) inside)) apart)),
+    λ apart. so_far.0 (subst (AllPairs ◌≢◌) (sym is) (pairs_cons ◌≢◌ first others
+        (λ other inside same. not (subst (Contains others) (sym same) inside)) apart)),
     λ apart. pairs_tail ◌≢◌ first others (subst (AllPairs ◌≢◌) is (so_far.1 apart)),
   )
 

@@ -1,5 +1,5 @@
 -- Datasets that were read are tables, and their words a vocabulary.
-use Rattle.std.proofs.Common.{◌≡◌, ◌≢◌, ◌<◌, ◌≤◌, ◌+◌, ◌||◌, ℕ, zero, suc, List, [], ◌∷◌, ◌++◌, length, map, take, drop, get_or, min, Bool, true, false, Some, None, inl, inr, refl, sym, ap, subst, ◌∙◌, arith, length-append}
+use Rattle.std.proofs.Common.{◌≡◌, ◌≢◌, ◌<◌, ◌≤◌, ◌+◌, ◌||◌, ℕ, zero, suc, List, [], ◌∷◌, ◌++◌, length, map, take, drop, get_or, min, Bool, true, false, Some, inl, inr, refl, sym, ap, subst, ◌∙◌, arith, length-append}
 use Rattle.std.specs.Prelude.{Contains, All, AllPairs, slice_get}
 use Rattle.std.specs.List.{list_any}
 use Rattle.std.proofs.Math.ListN.{length-map}
@@ -8,6 +8,7 @@ use Rattle.std.proofs.lemmas.Cmp.{nat_list_eq_equiv}
 use Rattle.std.proofs.lemmas.List.{map-append, length-take, get_or-take}
 use Rattle.std.proofs.lemmas.List.Elements.{Contains-push_cases, Contains-get_or}
 use Rattle.std.proofs.lemmas.List.Quantifiers.{all_pairs_push}
+use Rattle.std.proofs.lemmas.Option.{slice_get_within}
 use Rattle.esto_course.proofs.Steps.{Leads, first_stops, then_goes, gives_goes, turn_next, turn_stops}
 use Rattle.esto_course.specs.Course.{Course, Stops, and_then, judges, gives, demands, each}
 use Rattle.esto_query.specs.Schemas.{IsArity, IsSchema, arities_of, names_of}
@@ -26,7 +27,8 @@ use Rattle.esto_catalog.specs.declared.fault.CatalogueError.{CatalogueError}
 use Rattle.esto_catalog.specs.declared.fault.Place.{Place}
 use Rattle.esto_catalog.specs.declared.fault.Section.TheVariants as section
 use Rattle.esto_catalog.specs.declared.setting.Field.{Field}
-use Rattle.esto_term.proofs.ListLemmas.{Contains-cases, Contains-map_from, Contains-nil, map_then}
+use Rattle.esto_term.proofs.ListLemmas.{at_end, at_left, Contains-cases, Contains-map_from, Contains-nil, map_then}
+use Rattle.esto_catalog.specs.declared.whole.TheConstants.{MAX_ENTRIES}
 
 or_false : (a b : Bool) → (a || b) ≡ false → (a ≡ false) × (b ≡ false)
 or_false false b is = (refl, is)
@@ -41,20 +43,6 @@ any_free test (first ∷ items) none item inside =
       | inl same ↦ ap test (sym same) ∙ both.0
       | inr later ↦ any_free test items both.1 item later
     ]
-
-get_front : {A : Type 0} (front back : List A) (place : ℕ) (item : A) → slice_get front place ≡ Some item → slice_get (front ++ back) place ≡ Some item
-get_front [] back place item there = let wrong : None ≡ Some item = there in cc
-get_front (first ∷ front) back zero item there = there
-get_front (first ∷ front) back (suc place) item there = get_front front back place item there
-
-get_last : {A : Type 0} (front : List A) (item : A) → slice_get (front ++ item ∷ []) (length front) ≡ Some item
-get_last [] item = refl
-get_last (first ∷ front) item = get_last front item
-
-pub get_below : {A : Type 0} (items : List A) (place : ℕ) (item : A) → slice_get items place ≡ Some item → place < length items
-get_below [] place item there = let wrong : None ≡ Some item = there in cc
-get_below (first ∷ items) zero item there = omega arith
-get_below (first ∷ items) (suc place) item there = let below : place < length items = get_below items place item there in omega arith
 
 abbrev pub name_of : Dataset → List ℕ
 name_of dataset = dataset.name
@@ -84,11 +72,18 @@ name_free datasets name other new inside same =
 set_more : (datasets : List Dataset) (dataset : Dataset) → AreSet datasets → IsNext datasets dataset → AreSet (datasets ++ dataset ∷ [])
 set_more datasets dataset set next = record {
   distinct = subst (AllPairs ◌≢◌) (sym (map-append name_of datasets (dataset ∷ [])))
-      (all_pairs_push ◌≢◌ (map name_of datasets) dataset.name set.distinct (λ k d below. name_free datasets dataset.name _ next.new (Contains-get_or (map name_of datasets) k d below)));
+      (all_pairs_push ◌≢◌ (map name_of datasets) dataset.name set.distinct
+      (λ k d below. name_free datasets dataset.name _ next.new (Contains-get_or (map name_of datasets) k d below)));
   tables = λ other inside. elim (Contains-push_cases datasets dataset other inside) [
     | inl before ↦
         let old = set.tables other before in
-        record { model = old.model; columns = old.columns; relation = subst (λ (schema : List Relation). slice_get schema other.base ≡ Some (relation_of other)) (sym more) (get_front (schema_of datasets) (relation_of dataset ∷ []) other.base (relation_of other) old.relation) }
+        record {
+          model = old.model;
+          columns = old.columns;
+          relation = subst
+              (λ (schema : List Relation). slice_get schema other.base ≡ Some (relation_of other)) (sym more)
+              (at_left (schema_of datasets) (relation_of dataset ∷ []) other.base (relation_of other) old.relation);
+        }
     | inr same ↦ subst (IsTableDataset (schema_of (datasets ++ dataset ∷ []))) same (record { model = next.model; columns = next.columns; relation = last })
   ];
 } where
@@ -99,12 +94,30 @@ set_more datasets dataset set next = record {
   last =
       let place : dataset.base ≡ length (schema_of datasets) = next.base ∙ sym (length-map datasets relation_of) in
       subst (λ (schema : List Relation). slice_get schema dataset.base ≡ Some (relation_of dataset)) (sym more)
-      (subst (λ (n : ℕ). slice_get (schema_of datasets ++ relation_of dataset ∷ []) n ≡ Some (relation_of dataset)) (sym place) (get_last (schema_of datasets) (relation_of dataset)))
+      (subst (λ (n : ℕ). slice_get (schema_of datasets ++ relation_of dataset ∷ []) n ≡ Some (relation_of dataset)) (sym place)
+      (at_end (schema_of datasets) (relation_of dataset)))
 
 -- a dataset that was read comes after those before it
-read_next : (place : Place) (earlier : List Dataset) (entry : List Field) (dataset : Dataset) → (reads_dataset place earlier entry).goes dataset → IsNext earlier dataset
+read_next : (place : Place) (earlier : List Dataset) (entry : List Field) (dataset : Dataset) → (reads_dataset place earlier entry).goes dataset
+    → IsNext earlier dataset
 unfolding and_then judges gives demands
-read_next place earlier entry dataset (unit, known, (name, (raw, needed, (u, is_name, (v, new, same_name))), (model, (text, needed_model, (w, is_table, same_model)), (columns, (texts, needed_texts, (x, are_columns, same_columns)), (y, fit, (file, file_goes, is)))))) = record {
+read_next place earlier entry dataset (
+  unit,
+  known,
+  (
+    name,
+    (raw, needed, (u, is_name, (v, new, same_name))),
+    (
+      model,
+      (text, needed_model, (w, is_table, same_model)),
+      (
+        columns,
+        (texts, needed_texts, (x, are_columns, same_columns)),
+        (y, fit, (file, file_goes, is)),
+      ),
+    ),
+  ),
+) = record {
   new = subst (λ (n : List ℕ). has_dataset n earlier ≡ false) (sym (ap name_of is ∙ same_name)) new;
   columns = subst AreColumns (sym (ap (λ (d : Dataset). d.columns) is ∙ same_columns)) are_columns;
   model = ap (λ (d : Dataset). d.model) is ∙ same_model;
@@ -112,7 +125,8 @@ read_next place earlier entry dataset (unit, known, (name, (raw, needed, (u, is_
 }
 
 -- each step keeps it
-set_each : (entries : List (List Field)) (number : ℕ) (earlier datasets : List Dataset) → AreSet earlier → (each adds_dataset number earlier entries).goes datasets
+set_each : (entries : List (List Field)) (number : ℕ) (earlier datasets : List Dataset) → AreSet earlier
+    → (each adds_dataset number earlier entries).goes datasets
     → AreSet datasets × (length datasets ≡ length earlier + length entries)
 unfolding and_then gives
 set_each [] number earlier datasets set is = (subst AreSet (sym is) set, ap length is ∙ omega arith)
@@ -126,10 +140,12 @@ no_set : AreSet []
 no_set = record { distinct = λ i j d before below. absurd (omega arith); tables = λ dataset inside. absurd (Contains-nil dataset inside) }
 
 -- the datasets that entries say
-pub read_set : (entries : List (List Field)) (datasets : List Dataset) → (reads_datasets entries).goes datasets → AreSet datasets × (length datasets ≡ length entries)
+pub read_set : (entries : List (List Field)) (datasets : List Dataset) → (reads_datasets entries).goes datasets
+    → AreSet datasets × (length datasets ≡ length entries)
 read_set entries datasets read = let (set, count) = set_each entries 1 [] datasets no_set read in (set, count ∙ omega arith)
 
-pub read_tables : (entries : List (List Field)) (datasets : List Dataset) → length entries ≤ 256 → (reads_datasets entries).goes datasets → AreTableDatasets datasets
+pub read_tables : (entries : List (List Field)) (datasets : List Dataset) → length entries ≤ MAX_ENTRIES → (reads_datasets entries).goes datasets
+    → AreTableDatasets datasets
 read_tables entries datasets few read =
     let (set, count) = read_set entries datasets read in
     record { distinct = set.distinct; tables = set.tables; room = omega (arith, count, few) }
@@ -149,9 +165,10 @@ set_words datasets set = record {
   relations = all_from (λ (word : Word). HasRelations (arities_of (schema_of datasets)) word.model word.base) (words_of datasets) (λ word inside.
       let (dataset, there, is) = Contains-map_from word_of datasets word inside in
       let table = set.tables dataset there in
-      let below : dataset.base < length (schema_of datasets) = get_below (schema_of datasets) dataset.base (relation_of dataset) table.relation in
+      let below : dataset.base < length (schema_of datasets) = slice_get_within (schema_of datasets) dataset.base (relation_of dataset) table.relation in
       subst (λ (w : Word). HasRelations (arities_of (schema_of datasets)) w.model w.base) is
-      (is_named (arities_of (schema_of datasets)) dataset.model dataset.base table.model (subst (λ (n : ℕ). dataset.base < n) (sym (length-map (schema_of datasets) (λ (r : Relation). r.arity))) below)));
+      (is_named (arities_of (schema_of datasets)) dataset.model dataset.base table.model
+      (subst (λ (n : ℕ). dataset.base < n) (sym (length-map (schema_of datasets) (λ (r : Relation). r.arity))) below)));
 }
 
 pub set_named : (datasets : List Dataset) → AreSet datasets → AreTables (words_of datasets)
@@ -160,15 +177,18 @@ set_named datasets set = all_from (λ (word : Word). word.model ≡ Table) (word
     ap (λ (w : Word). w.model) (sym is) ∙ (set.tables dataset there).model)
 
 -- a dataset's name is new among those before it
-get_or-map : {A B : Type 0} (f : A → B) (items : List A) (place : ℕ) (item : A) (other : B) → place < length items → item ≡ get_or items place item → get_or (map f items) place other ≡ f item
+get_or-map : {A B : Type 0} (f : A → B) (items : List A) (place : ℕ) (item : A) (other : B) → place < length items → item ≡ get_or items place item
+    → get_or (map f items) place other ≡ f item
 get_or-map f [] place item other below is = absurd (omega arith)
 get_or-map f (first ∷ items) zero item other below is = ap f (sym is)
 get_or-map f (first ∷ items) (suc place) item other below is = get_or-map f items place item other (omega arith) is
 
-pub name_ahead : (datasets : List Dataset) (place : ℕ) (dataset : Dataset) (schema : List Relation) → AllPairs ◌≢◌ (map name_of datasets) → place < length datasets → dataset ≡ get_or datasets place dataset
+pub name_ahead : (datasets : List Dataset) (place : ℕ) (dataset : Dataset) (schema : List Relation) → AllPairs ◌≢◌ (map name_of datasets)
+    → place < length datasets → dataset ≡ get_or datasets place dataset
     → schema ≡ schema_of (take place datasets) → ¬ Contains (names_of schema) dataset.name
 name_ahead datasets place dataset schema apart below is same inside =
-    let inside' : Contains (names_of (schema_of (take place datasets))) dataset.name = subst (λ (s : List Relation). Contains (names_of s) dataset.name) same inside in
+    let inside' : Contains (names_of (schema_of (take place datasets))) dataset.name =
+    subst (λ (s : List Relation). Contains (names_of s) dataset.name) same inside in
     let (relation, there, named) = Contains-map_from (λ (r : Relation). r.name) (schema_of (take place datasets)) dataset.name inside' in
     let (other, at, made) = Contains-map_from relation_of (take place datasets) relation there in
     let (before, lt, found) = at in
@@ -183,20 +203,30 @@ name_ahead datasets place dataset schema apart below is same inside =
 
 -- a turn of the loop over the entries of datasets
 module _ (entries : List (List Field)) (to : Course CatalogueError (List Dataset)) (index : ℕ) (datasets : List Dataset)
-    (leads : Leads (each adds_dataset (suc index) datasets (drop index entries)) to) (item : List Field) (below : index < length entries) (is : item ≡ get_or entries index item)
-    (seen : List Dataset) (entry : List Field) (same : seen ≡ datasets) (fields : entry ≡ item) where
-  abbrev place : Place
-  place = record { section = section.Dataset; number = index + 1 }
+    (leads : Leads (each adds_dataset (suc index) datasets (drop index entries)) to) (item : List Field) (below : index < length entries)
+    (is : item ≡ get_or entries index item)
+    (place : Place) (there : place ≡ record { section = section.Dataset; number = index + 1 }) (seen : List Dataset) (entry : List Field)
+    (same : seen ≡ datasets) (fields : entry ≡ item) where
+  abbrev own_place : Place
+  own_place = record { section = section.Dataset; number = index + 1 }
 
-  pub dataset_turn : (dataset : Dataset) → (reads_dataset place seen entry).goes dataset → Leads (each adds_dataset (suc (index + 1)) (datasets ++ dataset ∷ []) (drop (index + 1) entries)) to
+  -- what is said of the place, the datasets so far and the entry
+  moved : (P : Place → List Dataset → List Field → Type 0) → P place seen entry → P own_place datasets item
+  moved P holds = subst (λ it. P it datasets item) there (subst (λ it. P place it item) same (subst (P place seen) fields holds))
+
+  pub dataset_turn : (dataset : Dataset) → (reads_dataset place seen entry).goes dataset
+      → Leads (each adds_dataset (suc (index + 1)) (datasets ++ dataset ∷ []) (drop (index + 1) entries)) to
   dataset_turn dataset goes =
-      let here : (reads_dataset place datasets item).goes dataset = subst (λ (s : List Dataset). (reads_dataset place s item).goes dataset) same (subst (λ (f : List Field). (reads_dataset place seen f).goes dataset) fields goes) in
-      turn_next adds_dataset entries to index datasets leads item below is (datasets ++ dataset ∷ []) (then_goes (reads_dataset place datasets item) (λ d. gives (datasets ++ d ∷ [])) dataset (datasets ++ dataset ∷ []) here (gives_goes CatalogueError _ _ refl))
+      let here = moved (λ (at : Place) (earlier : List Dataset) (fields : List Field). (reads_dataset at earlier fields).goes dataset) goes in
+      turn_next adds_dataset entries to index datasets leads item below is (datasets ++ dataset ∷ [])
+      (then_goes (reads_dataset own_place datasets item) (λ d. gives (datasets ++ d ∷ [])) dataset (datasets ++ dataset ∷ []) here
+      (gives_goes CatalogueError _ _ refl))
 
   pub dataset_fails : (error : CatalogueError) → Stops IsWant IsAny (reads_dataset place seen entry) error → Stops IsWant IsAny to error
   dataset_fails error stops =
-      let here : Stops IsWant IsAny (reads_dataset place datasets item) error = subst (λ (s : List Dataset). Stops IsWant IsAny (reads_dataset place s item) error) same (subst (λ (f : List Field). Stops IsWant IsAny (reads_dataset place seen f) error) fields stops) in
-      turn_stops adds_dataset entries to index datasets leads item below is error (first_stops (reads_dataset place datasets item) (λ d. gives (datasets ++ d ∷ [])) here)
+      let here = moved (λ (at : Place) (earlier : List Dataset) (fields : List Field). Stops IsWant IsAny (reads_dataset at earlier fields) error) stops in
+      turn_stops adds_dataset entries to index datasets leads item below is error
+      (first_stops (reads_dataset own_place datasets item) (λ d. gives (datasets ++ d ∷ [])) here)
 
 -- ---- the schema and the words of tables
 
@@ -217,11 +247,14 @@ pub tables_set : (datasets : List Dataset) → AreTableDatasets datasets → Are
 tables_set datasets tables = record { distinct = tables.distinct; tables = tables.tables }
 
 -- datasets with their relations and words
-pub tables_are : (tables : Tables) → AreTableDatasets tables.datasets → tables.schema ≡ schema_of tables.datasets → tables.words ≡ words_of tables.datasets → IsTables tables
+pub tables_are : (tables : Tables) → AreTableDatasets tables.datasets → tables.schema ≡ schema_of tables.datasets → tables.words ≡ words_of tables.datasets
+    → IsTables tables
 tables_are tables datasets schema words = record {
   datasets_are = datasets;
   schema = schema;
   words = words;
-  vocabulary = subst (λ (w : List Word). IsVocabulary (arities_of tables.schema) w) (sym words) (subst (λ (s : List Relation). IsVocabulary (arities_of s) (words_of tables.datasets)) (sym schema) (set_words tables.datasets (tables_set tables.datasets datasets)));
+  vocabulary = subst (λ (w : List Word). IsVocabulary (arities_of tables.schema) w) (sym words)
+      (subst (λ (s : List Relation). IsVocabulary (arities_of s) (words_of tables.datasets)) (sym schema)
+      (set_words tables.datasets (tables_set tables.datasets datasets)));
   named = subst AreTables (sym words) (set_named tables.datasets (tables_set tables.datasets datasets));
 }

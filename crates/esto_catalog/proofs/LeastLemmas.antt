@@ -68,7 +68,8 @@ module _ (section : Section) (fields : List Field) (field : Field) where
   ]
 
   -- a known key changes nothing
-  pub known_next : (least : Option (List ℕ)) → is_known section field.key ≡ true → IsLeastOf section fields least → IsLeastOf section (fields ++ field ∷ []) least
+  pub known_next : (least : Option (List ℕ)) → is_known section field.key ≡ true → IsLeastOf section fields least
+      → IsLeastOf section (fields ++ field ∷ []) least
   known_next least known before = by least before where
     old : (key : List ℕ) → IsUnknown section (fields ++ field ∷ []) key → IsUnknown section fields key
     old key unknown = elim (split key unknown) [
@@ -81,7 +82,8 @@ module _ (section : Section) (fields : List Field) (field : Field) where
     by (Some least) (unknown, first) = (later least unknown, λ other is. first other (old other is))
 
   -- the lesser of the least key so far and an unknown one
-  pub unknown_next : (least : Option (List ℕ)) (lesser : List ℕ) → is_known section field.key ≡ false → IsLesserOf least field.key lesser → IsLeastOf section fields least
+  pub unknown_next : (least : Option (List ℕ)) (lesser : List ℕ) → is_known section field.key ≡ false → IsLesserOf least field.key lesser
+      → IsLeastOf section fields least
       → IsLeastOf section (fields ++ field ∷ []) (Some lesser)
   unknown_next None lesser unknown is none = (
     (field, Contains-push fields field, sym is, ap (is_known section) is ∙ unknown),
@@ -102,26 +104,32 @@ module _ (section : Section) (fields : List Field) (field : Field) where
   )
 
 -- the fields up to a place, and the one there
-pub fields_more : (fields : List Field) (place : ℕ) (field : Field) → place < length fields → field ≡ get_or fields place field → take (place + 1) fields ≡ take place fields ++ field ∷ []
+pub fields_more : (fields : List Field) (place : ℕ) (field : Field) → place < length fields → field ≡ get_or fields place field
+    → take (place + 1) fields ≡ take place fields ++ field ∷ []
 fields_more fields place field below is = take_more fields place field below ∙ ap (λ (last : Field). take place fields ++ last ∷ []) (sym is)
 
 -- an answer by reference
-pub copied_match : {X : Type 0} (found : Option (Bor X)) (P : Type 0) (Q : X → Type 0) → MatchOption (option_copied found) P Q → MatchOption found P (λ it. Q it.now)
+pub copied_match : {X : Type 0} (found : Option (Bor X)) (P : Type 0) (Q : X → Type 0) → MatchOption (option_copied found) P Q
+    → MatchOption found P (λ it. Q it.now)
 copied_match None P Q holds = holds
 copied_match (Some it) P Q holds = holds
 
 -- all fields were seen
-pub all_fields : (section : Section) (fields : List Field) (place : ℕ) (least : Option (List ℕ)) → length fields ≤ place → IsLeastOf section (take place fields) least → IsLeastOf section fields least
+pub all_fields : (section : Section) (fields : List Field) (place : ℕ) (least : Option (List ℕ)) → length fields ≤ place
+    → IsLeastOf section (take place fields) least → IsLeastOf section fields least
 all_fields section fields place least le seen = subst (λ (f : List Field). IsLeastOf section f least) (take_all place fields le) seen
 
-pub known_turn : (section : Section) (fields : List Field) (place : ℕ) (field : Field) (old new : Option (List ℕ)) → place < length fields → field ≡ get_or fields place field → new ≡ old → is_known section field.key ≡ true
+pub known_turn : (section : Section) (fields : List Field) (place : ℕ) (field : Field) (old new : Option (List ℕ)) → place < length fields
+    → field ≡ get_or fields place field → new ≡ old → is_known section field.key ≡ true
     → IsLeastOf section (take place fields) old → IsLeastOf section (take (place + 1) fields) new
 known_turn section fields place field old new below is same known seen =
     subst (λ (f : List Field). IsLeastOf section f new) (sym (fields_more fields place field below is))
     (subst (IsLeastOf section (take place fields ++ field ∷ [])) (sym same) (known_next section (take place fields) field old known seen))
 
-pub unknown_turn : (section : Section) (fields : List Field) (place : ℕ) (field : Field) (old new : Option (List ℕ)) (lesser : List ℕ) → place < length fields → field ≡ get_or fields place field → new ≡ Some lesser
-    → is_known section field.key ≡ false → IsLesserOf old field.key lesser → IsLeastOf section (take place fields) old → IsLeastOf section (take (place + 1) fields) new
+pub unknown_turn : (section : Section) (fields : List Field) (place : ℕ) (field : Field) (old new : Option (List ℕ)) (lesser : List ℕ)
+    → place < length fields → field ≡ get_or fields place field → new ≡ Some lesser
+    → is_known section field.key ≡ false → IsLesserOf old field.key lesser → IsLeastOf section (take place fields) old
+    → IsLeastOf section (take (place + 1) fields) new
 unknown_turn section fields place field old new lesser below is same unknown lesser_is seen =
     subst (λ (f : List Field). IsLeastOf section f new) (sym (fields_more fields place field below is))
     (subst (IsLeastOf section (take place fields ++ field ∷ [])) (sym same) (unknown_next section (take place fields) field old lesser unknown lesser_is seen))

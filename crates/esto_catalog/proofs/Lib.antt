@@ -2,6 +2,7 @@ pub mod SettingLemmas
 pub mod RowLemmas
 pub mod LeastLemmas
 pub mod DatasetLemmas
+pub mod ShapeLemmas
 pub mod WalkLemmas
 pub mod OneLemmas
 pub mod ColumnLemmas

@@ -62,7 +62,8 @@ Parts = List Term × List (Fact Term) × List Name
 query_same : (query other : Query) → query.head ≡ other.head → query.body ≡ other.body → query.names ≡ other.names → query ≡ other
 query_same query other heads bodies names =
     let same : (query.head, query.body, query.names) ≡ (other.head, other.body, other.names) = λ i. (heads i, bodies i, names i) in
-    over_prop (λ (p : Parts). ∥ IsSound p.0 p.1 p.2 ∥₁) (λ p. ∥∥₁_prop) (λ p sound. record { head = p.0; body = p.1; names = p.2; sound = sound }) _ _ same query.sound other.sound
+    over_prop (λ (p : Parts). ∥ IsSound p.0 p.1 p.2 ∥₁) (λ p. ∥∥₁_prop)
+    (λ p sound. record { head = p.0; body = p.1; names = p.2; sound = sound }) _ _ same query.sound other.sound
 
 named_same : (query other : NamedQuery) → AreSame query other → query ≡ other
 named_same query other (names, heads, bodies, variables) =
@@ -72,13 +73,17 @@ named_same query other (names, heads, bodies, variables) =
 rule_same : (rule other : Constraint) → AreSameRule rule other → rule ≡ other
 rule_same (Tuple rule) (Tuple other) (bodies, heads, names) =
     let same : (rule.body, rule.head, rule.names) ≡ (other.body, other.head, other.names) = λ i. (bodies i, heads i, names i) in
-    ap Tuple (over_prop (λ (p : List (Fact Term) × List (Fact Term) × List Name). ∥ IsSoundTuple p.0 p.1 p.2 ∥₁) (λ p. ∥∥₁_prop) (λ p sound. record { body = p.0; head = p.1; names = p.2; sound = sound }) _ _ same rule.sound other.sound)
+    ap Tuple (over_prop (λ (p : List (Fact Term) × List (Fact Term) × List Name). ∥ IsSoundTuple p.0 p.1 p.2 ∥₁) (λ p. ∥∥₁_prop)
+    (λ p sound. record { body = p.0; head = p.1; names = p.2; sound = sound }) _ _ same rule.sound other.sound)
 rule_same (Equality rule) (Equality other) (bodies, lefts, rights, names) =
-    let same : (rule.body, rule.left, rule.right, rule.names) ≡ (other.body, other.left, other.right, other.names) = λ i. (bodies i, lefts i, rights i, names i) in
-    ap Equality (over_prop (λ (p : List (Fact Term) × Term × Term × List Name). ∥ IsSoundEquality p.0 p.1 p.2 p.3 ∥₁) (λ p. ∥∥₁_prop) (λ p sound. record { body = p.0; left = p.1; right = p.2; names = p.3; sound = sound }) _ _ same rule.sound other.sound)
+    let same : (rule.body, rule.left, rule.right, rule.names) ≡ (other.body, other.left, other.right, other.names) =
+    λ i. (bodies i, lefts i, rights i, names i) in
+    ap Equality (over_prop (λ (p : List (Fact Term) × Term × Term × List Name). ∥ IsSoundEquality p.0 p.1 p.2 p.3 ∥₁) (λ p. ∥∥₁_prop)
+    (λ p sound. record { body = p.0; left = p.1; right = p.2; names = p.3; sound = sound }) _ _ same rule.sound other.sound)
 rule_same (Never rule) (Never other) (bodies, names) =
     let same : (rule.body, rule.names) ≡ (other.body, other.names) = λ i. (bodies i, names i) in
-    ap Never (over_prop (λ (p : List (Fact Term) × List Name). ∥ IsSoundDenial p.0 p.1 ∥₁) (λ p. ∥∥₁_prop) (λ p sound. record { body = p.0; names = p.1; sound = sound }) _ _ same rule.sound other.sound)
+    ap Never (over_prop (λ (p : List (Fact Term) × List Name). ∥ IsSoundDenial p.0 p.1 ∥₁) (λ p. ∥∥₁_prop)
+    (λ p sound. record { body = p.0; names = p.1; sound = sound }) _ _ same rule.sound other.sound)
 rule_same (Tuple rule) (Equality other) same = absurd same
 rule_same (Tuple rule) (Never other) same = absurd same
 rule_same (Equality rule) (Tuple other) same = absurd same
@@ -95,7 +100,8 @@ tie Less Greater is up down = absurd (down refl)
 tie Equal second is up down = refl
 tie Greater second is up down = absurd (up refl)
 
-least_one : (place : Place) (entry : List Field) (key other : List ℕ) → IsLeastUnknown place.section entry key → IsLeastUnknown place.section entry other → key ≡ other
+least_one : (place : Place) (entry : List Field) (key other : List ℕ) → IsLeastUnknown place.section entry key → IsLeastUnknown place.section entry other
+    → key ≡ other
 least_one place entry key other (unknown, least) (unknown', least') =
     exact_bytes key other (tie _ _ (nat_list_cmp_total.antisymm key other) (least other unknown') (least' key unknown))
 
@@ -158,29 +164,36 @@ dataset_determined place earlier entry =
     then_determined ◌≡◌ _ _ (demands_determined _ _) (λ unit' fit.
     then_determined ◌≡◌ _ _ (allowed_determined place _ _) (λ file goes3. gives_determined _ _)))))) where
       name : IsDetermined (name_row place earlier entry)
-      name = then_determined ◌≡◌ _ _ (text_determined place _ _) (λ name goes. then_determined ◌≡◌ _ _ (demands_determined _ _) (λ u g. then_determined ◌≡◌ _ _ (demands_determined _ _) (λ v h. gives_determined _ _)))
+      name = then_determined ◌≡◌ _ _ (text_determined place _ _) (λ name goes. then_determined ◌≡◌ _ _ (demands_determined _ _)
+          (λ u g. then_determined ◌≡◌ _ _ (demands_determined _ _) (λ v h. gives_determined _ _)))
 
       model : IsDetermined (model_row place entry)
       model = then_determined ◌≡◌ _ _ (text_determined place _ _) (λ text goes. then_determined ◌≡◌ _ _ (demands_determined _ _) (λ u g. gives_determined _ _))
 
       columns : IsDetermined (columns_row place entry)
-      columns = then_determined ◌≡◌ _ _ (texts_determined place _ _) (λ texts goes. then_determined ◌≡◌ _ _ (demands_determined _ _) (λ u g. gives_determined _ _))
+      columns = then_determined ◌≡◌ _ _ (texts_determined place _ _) (λ texts goes. then_determined ◌≡◌ _ _ (demands_determined _ _)
+          (λ u g. gives_determined _ _))
 
 pub datasets_determined : (entries : List (List Field)) → IsDetermined (reads_datasets entries)
-datasets_determined entries = each_determined adds_dataset (λ number earlier entry. then_determined ◌≡◌ (reads_dataset (record { section = section.Dataset; number = number }) earlier entry) (λ dataset. gives (earlier ++ dataset ∷ [])) (dataset_determined (record { section = section.Dataset; number = number }) earlier entry) (λ dataset goes. gives_determined _ _)) 1 [] entries
+datasets_determined entries = each_determined adds_dataset (λ number earlier entry. then_determined ◌≡◌
+    (reads_dataset (record { section = section.Dataset; number = number }) earlier entry) (λ dataset. gives (earlier ++ dataset ∷ []))
+    (dataset_determined (record { section = section.Dataset; number = number }) earlier entry) (λ dataset goes. gives_determined _ _)) 1 [] entries
 
 -- ---- the rows that read texts
 
-module _ (one : HaveOneReading) (no_fault : HaveNoFault) (one_fault : HaveOneFault) (datasets : List Dataset) (words : IsVocabulary (arities_of (schema_of datasets)) (words_of datasets)) where
+module _ (one : HaveOneReading) (no_fault : HaveNoFault) (one_fault : HaveOneFault) (datasets : List Dataset)
+    (words : IsVocabulary (arities_of (schema_of datasets)) (words_of datasets)) where
   view_determined : (place : Place) (text : List ℕ) → IsDetermined (reads_view place datasets text)
   view_determined place text = judges_determined ◌≡◌ _ _
       (λ view other reads reads'. named_same view other (one View _ _ text view other words reads reads'))
-      (λ error other (fault, first, is) (fault', first', is'). is ∙ (ap (λ f. text_fault_at f place (codes "view")) (one_fault View _ _ text fault fault' words first first') ∙ sym is'))
+      (λ error other (fault, first, is) (fault', first', is'). is ∙ (ap (λ f. text_fault_at f place (codes "view"))
+      (one_fault View _ _ text fault fault' words first first') ∙ sym is'))
       (λ view error reads (fault, first, is). no_fault View _ _ text view fault words reads first)
 
   view_row_determined : (place : Place) (earlier : Fragments) (entry : List Field) → IsDetermined (view_row place datasets earlier.definitions entry)
   view_row_determined place earlier entry =
-      then_determined ◌≡◌ _ _ (text_determined place _ _) (λ text goes. then_determined ◌≡◌ _ _ (view_determined place text) (λ view reads. then_determined ◌≡◌ _ _ (demands_determined _ _) (λ u g. gives_determined _ _)))
+      then_determined ◌≡◌ _ _ (text_determined place _ _) (λ text goes. then_determined ◌≡◌ _ _ (view_determined place text)
+      (λ view reads. then_determined ◌≡◌ _ _ (demands_determined _ _) (λ u g. gives_determined _ _)))
 
   store_columns_determined : (place : Place) (view : Query) (setting : Option Setting) → IsDetermined (store_columns place view setting)
   store_columns_determined place view None = gives_determined _ _
@@ -200,21 +213,34 @@ module _ (one : HaveOneReading) (no_fault : HaveNoFault) (one_fault : HaveOneFau
       then_determined ◌≡◌ _ _ (demands_determined _ _) (λ v h. gives_determined _ _)))))))
 
   pub fragments_determined : (entries : List (List Field)) → IsDetermined (reads_fragments datasets entries)
-  fragments_determined entries = each_determined (adds_fragment datasets) (λ number earlier entry. then_determined ◌≡◌ (reads_fragment (record { section = section.Fragment; number = number }) datasets earlier.definitions entry) (λ fragment. gives (with_fragment earlier fragment)) (fragment_determined (record { section = section.Fragment; number = number }) earlier entry) (λ fragment goes. gives_determined _ _)) 1 no_fragments entries
+  fragments_determined entries = each_determined (adds_fragment datasets)
+      (λ number earlier entry. then_determined ◌≡◌ (reads_fragment (record {
+        section = section.Fragment;
+        number =
+            number;
+      }) datasets earlier.definitions entry) (λ fragment. gives (with_fragment earlier fragment))
+      (fragment_determined (record { section = section.Fragment; number = number }) earlier entry)
+      (λ fragment goes. gives_determined _ _)) 1 no_fragments entries
 
-module _ (one : HaveOneRule) (no_fault : HaveNoRuleFault) (one_fault : HaveOneRuleFault) (datasets : List Dataset) (words : IsVocabulary (arities_of (schema_of datasets)) (words_of datasets)) where
+module _ (one : HaveOneRule) (no_fault : HaveNoRuleFault) (one_fault : HaveOneRuleFault) (datasets : List Dataset)
+    (words : IsVocabulary (arities_of (schema_of datasets)) (words_of datasets)) where
   rule_determined : (place : Place) (text : List ℕ) → IsDetermined (reads_rule place datasets text)
   rule_determined place text = judges_determined ◌≡◌ _ _
       (λ rule other reads reads'. rule_same rule other (one _ _ text rule other words reads reads'))
-      (λ error other (fault, first, is) (fault', first', is'). is ∙ (ap (λ f. text_fault_at f place (codes "rule")) (one_fault _ _ text fault fault' words first first') ∙ sym is'))
+      (λ error other (fault, first, is) (fault', first', is'). is ∙ (ap (λ f. text_fault_at f place (codes "rule"))
+      (one_fault _ _ text fault fault' words first first') ∙ sym is'))
       (λ rule error reads (fault, first, is). no_fault _ _ text rule fault words reads first)
 
   constraint_determined : (place : Place) (entry : List Field) → IsDetermined (reads_constraint place datasets entry)
   constraint_determined place entry =
-      then_determined ◌≡◌ _ _ (keys_determined place entry) (λ unit known. then_determined ◌≡◌ _ _ (text_determined place _ _) (λ text goes. rule_determined place text))
+      then_determined ◌≡◌ _ _ (keys_determined place entry) (λ unit known. then_determined ◌≡◌ _ _ (text_determined place _ _)
+      (λ text goes. rule_determined place text))
 
   pub constraints_determined : (entries : List (List Field)) → IsDetermined (reads_constraints datasets entries)
-  constraints_determined entries = each_determined (adds_constraint datasets) (λ number earlier entry. then_determined ◌≡◌ (reads_constraint (record { section = section.Constraint; number = number }) datasets entry) (λ rule. gives (earlier ++ rule ∷ [])) (constraint_determined (record { section = section.Constraint; number = number }) entry) (λ rule goes. gives_determined _ _)) 1 [] entries
+  constraints_determined entries = each_determined (adds_constraint datasets)
+      (λ number earlier entry. then_determined ◌≡◌ (reads_constraint (record { section = section.Constraint; number = number }) datasets entry)
+      (λ rule. gives (earlier ++ rule ∷ [])) (constraint_determined (record { section = section.Constraint; number = number }) entry)
+      (λ rule goes. gives_determined _ _)) 1 [] entries
 
 -- ---- the end of the walk
 
@@ -243,13 +269,15 @@ some_names (name ∷ names) (other ∷ others) same =
 
 -- the uniqueness of ranks and of least cycles
 abbrev pub HaveOneRanks : Type 0
-HaveOneRanks = (rules : List Rule) (count : ℕ) (ranks others : List ℕ) → AreRanks (IsEdge rules) count ranks → AreRanks (IsEdge rules) count others → ranks ≡ others
+HaveOneRanks = (rules : List Rule) (count : ℕ) (ranks others : List ℕ) → AreRanks (IsEdge rules) count ranks → AreRanks (IsEdge rules) count others
+    → ranks ≡ others
 
 abbrev pub HaveOneCycle : Type 0
 HaveOneCycle = (rules : List Rule) (relations others : List ℕ) → IsLeastCycle (IsEdge rules) relations → IsLeastCycle (IsEdge rules) others → relations ≡ others
 
 module _ (one_ranks : HaveOneRanks) (one_cycle : HaveOneCycle) (datasets : List Dataset) (fragments : Fragments) (rules : List Constraint) where
-  same_catalogue : (catalogue other : Catalogue) → IsMadeOf datasets fragments rules catalogue → IsMadeOf datasets fragments rules other → AreSameCatalogue catalogue other
+  same_catalogue : (catalogue other : Catalogue) → IsMadeOf datasets fragments rules catalogue → IsMadeOf datasets fragments rules other
+      → AreSameCatalogue catalogue other
   same_catalogue catalogue other made made' =
       let same : catalogue.fragments ≡ other.fragments = made.definitions ∙ sym made'.definitions in
       record {
@@ -277,15 +305,19 @@ module _ (one_ranks : HaveOneRanks) (one_cycle : HaveOneCycle) (datasets : List 
       (λ error other (cycle, is_cycle, is) (cycle', is_cycle', is'). is ∙ (ap NotAcyclic (same_cycle cycle cycle' is_cycle is_cycle') ∙ sym is'))
       (λ catalogue error made (cycle, is_cycle, is). made.acyclic is_cycle.0.start cycle.relations is_cycle.0.here.cycle)
 
-module _ (one : HaveOneReading) (no_fault : HaveNoFault) (one_fault : HaveOneFault) (one_rule : HaveOneRule) (no_rule_fault : HaveNoRuleFault) (one_rule_fault : HaveOneRuleFault) (one_ranks : HaveOneRanks) (one_cycle : HaveOneCycle) where
+module _ (one : HaveOneReading) (no_fault : HaveNoFault) (one_fault : HaveOneFault) (one_rule : HaveOneRule) (no_rule_fault : HaveNoRuleFault)
+    (one_rule_fault : HaveOneRuleFault) (one_ranks : HaveOneRanks) (one_cycle : HaveOneCycle) where
   walk_determined : (bytes : List ℕ) → IsDeterminedUpTo AreSameCatalogue (reads_catalogue bytes)
   walk_determined bytes =
       then_determined AreSameCatalogue _ _ (whole_determined bytes) (λ sections goes.
       then_determined AreSameCatalogue _ _ (datasets_determined sections.datasets) (λ datasets read.
-      then_determined AreSameCatalogue _ _ (fragments_determined one no_fault one_fault datasets (named sections.datasets datasets read) sections.fragments) (λ fragments goes1.
-      then_determined AreSameCatalogue _ _ (constraints_determined one_rule no_rule_fault one_rule_fault datasets (named sections.datasets datasets read) sections.constraints) (λ rules goes2.
+      then_determined AreSameCatalogue _ _ (fragments_determined one no_fault one_fault datasets (named sections.datasets datasets read) sections.fragments)
+      (λ fragments goes1.
+      then_determined AreSameCatalogue _ _ (constraints_determined one_rule no_rule_fault one_rule_fault datasets
+      (named sections.datasets datasets read) sections.constraints) (λ rules goes2.
       acyclic_determined one_ranks one_cycle datasets fragments rules)))) where
-        named : (entries : List (List Field)) (datasets : List Dataset) → (reads_datasets entries).goes datasets → IsVocabulary (arities_of (schema_of datasets)) (words_of datasets)
+        named : (entries : List (List Field)) (datasets : List Dataset) → (reads_datasets entries).goes datasets
+            → IsVocabulary (arities_of (schema_of datasets)) (words_of datasets)
         named entries datasets read = set_words datasets (read_set entries datasets read).0
 
   pub have_one_catalogue : HaveOneCatalogue
@@ -294,7 +326,7 @@ module _ (one : HaveOneReading) (no_fault : HaveNoFault) (one_fault : HaveOneFau
   pub have_no_error : HaveNoError
   have_no_error bytes catalogue cause reads error = elim (error_stops bytes cause error) [
     | inl want ↦ want
-    | inr stops ↦ absurd ((walk_determined bytes).apart catalogue cause reads stops)
+    | inr stops ↦ absurd ((walk_determined bytes).apart catalogue cause tt reads stops)
   ]
 
   pub have_one_error : HaveOneError
@@ -302,6 +334,6 @@ module _ (one : HaveOneReading) (no_fault : HaveNoFault) (one_fault : HaveOneFau
     | inl want ↦ absurd (not want)
     | inr stops ↦ elim (error_stops bytes other error') [
       | inl want ↦ absurd (not' want)
-      | inr stops' ↦ (walk_determined bytes).one_stop cause other stops stops'
+      | inr stops' ↦ (walk_determined bytes).one_stop cause other tt tt stops stops'
     ]
   ]

@@ -13,9 +13,11 @@ use Rattle.esto_catalog.specs.declared.setting.Field.{Field}
 use Rattle.esto_catalog.specs.declared.setting.Setting.{Setting}
 use Rattle.esto_catalog.specs.declared.fault.CatalogueError.{CatalogueError}
 use Rattle.esto_catalog.specs.declared.fault.CatalogueError.TheVariants.{OutOfMemory}
+use Rattle.esto_catalog.specs.declared.whole.TheConstants.{MAX_ENTRIES}
 
 -- an error that `?` hands on
-pub row_exit : {A : Type 0} (course : Course CatalogueError A) (error : CatalogueError) (result : Result A CatalogueError) → IsErrAnd result (λ handed. handed ≡ error) → Stops IsWant IsAny course error → Walks course result
+pub row_exit : {A : Type 0} (course : Course CatalogueError A) (error : CatalogueError) (result : Result A CatalogueError)
+    → IsErrAnd result (λ handed. handed ≡ error) → Stops IsWant IsAny course error → Walks course result
 row_exit course error result handed stops = at_exit course error result handed stops
 
 -- want of memory is free
@@ -70,13 +72,15 @@ module _ (answer test : Bool) (fault : CatalogueError) where
   pub test_goes : (unit more : Unit {0}) → (demands (answer ≡ true) fault).goes unit → answer ≡ test → (demands (test ≡ true) fault).goes more
   test_goes unit more goes is = same_goes _ _ fault (by_test answer test is) unit more goes
 
-  pub test_stops : (error : CatalogueError) → Stops IsWant IsAny (demands (answer ≡ true) fault) error → answer ≡ test → Stops IsWant IsAny (demands (test ≡ true) fault) error
+  pub test_stops : (error : CatalogueError) → Stops IsWant IsAny (demands (answer ≡ true) fault) error → answer ≡ test
+      → Stops IsWant IsAny (demands (test ≡ true) fault) error
   test_stops error stops is = same_stops _ _ fault (by_test answer test is) error stops
 
   pub not_goes : (unit more : Unit {0}) → (demands (answer ≡ true) fault).goes unit → answer ≡ not test → (demands (test ≡ false) fault).goes more
   not_goes unit more goes is = same_goes _ _ fault (by_not answer test is) unit more goes
 
-  pub not_stops : (error : CatalogueError) → Stops IsWant IsAny (demands (answer ≡ true) fault) error → answer ≡ not test → Stops IsWant IsAny (demands (test ≡ false) fault) error
+  pub not_stops : (error : CatalogueError) → Stops IsWant IsAny (demands (answer ≡ true) fault) error → answer ≡ not test
+      → Stops IsWant IsAny (demands (test ≡ false) fault) error
   not_stops error stops is = same_stops _ _ fault (by_not answer test is) error stops
 
 -- a judgement that accepts
@@ -85,7 +89,8 @@ unfolding judges
 judges_goes accepts refuses value accepted = accepted
 
 -- a judgement that refuses with a fault
-pub judges_stops : {A : Type 0} (accepts : A → Type 0) (refuses : CatalogueError → Type 0) (fault error : CatalogueError) → ((other : CatalogueError) → other ≡ fault → refuses other)
+pub judges_stops : {A : Type 0} (accepts : A → Type 0) (refuses : CatalogueError → Type 0) (fault error : CatalogueError)
+    → ((other : CatalogueError) → other ≡ fault → refuses other)
     → IsFault fault error → Stops IsWant IsAny (judges accepts refuses) error
 unfolding judges
 judges_stops accepts refuses fault error refused_so (inl is) = refused tt (refused_so error is)
@@ -93,21 +98,44 @@ judges_stops accepts refuses fault error refused_so (inr want) = is_free want
 
 -- ---- a section
 
-pub section_goes : (key : List ℕ) (section : Option (List (List Field))) (entries : List (List Field)) → section ≡ Some entries → length entries ≤ 256 → (reads_section key section).goes entries
+pub section_goes : (key : List ℕ) (section : Option (List (List Field))) (entries : List (List Field)) → section ≡ Some entries
+    → length entries ≤ MAX_ENTRIES → (reads_section key section).goes entries
 section_goes key section entries is few =
     subst (λ (s : Option (List (List Field))). (reads_section key s).goes entries) (sym is)
-    (then_goes (demands (length entries ≤ 256) (fault_at TooMany top key)) (λ _. gives entries) tt entries (demands_goes (length entries ≤ 256) (fault_at TooMany top key) tt few) (gives_goes CatalogueError entries entries refl))
+    (then_goes (demands (length entries ≤ MAX_ENTRIES) (fault_at TooMany top key)) (λ _. gives entries) tt entries
+    (demands_goes (length entries ≤ MAX_ENTRIES) (fault_at TooMany top key) tt few) (gives_goes CatalogueError entries entries refl))
 
-pub section_stops : (key : List ℕ) (section : Option (List (List Field))) (entries : List (List Field)) (error : CatalogueError) → section ≡ Some entries → 256 < length entries → IsFault (fault_at TooMany top key) error
+pub section_stops : (key : List ℕ) (section : Option (List (List Field))) (entries : List (List Field)) (error : CatalogueError) → section ≡ Some entries
+    → 256 < length entries → IsFault (fault_at TooMany top key) error
     → Stops IsWant IsAny (reads_section key section) error
 section_stops key section entries error is many fault =
     subst (λ (s : Option (List (List Field))). Stops IsWant IsAny (reads_section key s) error) (sym is)
-    (first_stops (demands (length entries ≤ 256) (fault_at TooMany top key)) (λ _. gives entries) (demands_stops (length entries ≤ 256) (fault_at TooMany top key) error (λ few. absurd (omega arith)) fault))
+    (first_stops (demands (length entries ≤ MAX_ENTRIES) (fault_at TooMany top key)) (λ _. gives entries)
+    (demands_stops (length entries ≤ MAX_ENTRIES) (fault_at TooMany top key) error (λ few. absurd (omega arith)) fault))
 
 -- a setting by reference
-pub copied_setting : (found : Option (Bor Setting)) (setting : Option Setting) → MatchOption found (setting ≡ None) (λ it. setting ≡ Some it.now) → option_copied found ≡ setting
+pub copied_setting : (found : Option (Bor Setting)) (setting : Option Setting) → MatchOption found (setting ≡ None) (λ it. setting ≡ Some it.now)
+    → option_copied found ≡ setting
 copied_setting None setting is = sym is
 copied_setting (Some it) setting is = sym is
 
 -- the rows, for the search
-pub ruleset rows = (row_exit, first_stops, then_stops, then_goes, gives_goes, memory_stops, fault_is, refuses_stops, demands_goes, demands_stops, judges_goes, test_goes, test_stops, not_goes, not_stops, same_goes, same_stops)
+pub ruleset rows = (
+  row_exit,
+  first_stops,
+  then_stops,
+  then_goes,
+  gives_goes,
+  memory_stops,
+  fault_is,
+  refuses_stops,
+  demands_goes,
+  demands_stops,
+  judges_goes,
+  test_goes,
+  test_stops,
+  not_goes,
+  not_stops,
+  same_goes,
+  same_stops,
+)

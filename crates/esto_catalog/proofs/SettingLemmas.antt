@@ -19,15 +19,18 @@ pub after_none : {A : Type 0} (left : Option (List A)) → left ≡ after [] lef
 after_none None = refl
 after_none (Some left) = refl
 
-after_more : {A : Type 0} (done : List A) (more : A) (left : Option (List A)) → after done (option_map (λ rest. more ∷ rest) left) ≡ after (done ++ more ∷ []) left
+after_more : {A : Type 0} (done : List A) (more : A) (left : Option (List A))
+    → after done (option_map (λ rest. more ∷ rest) left) ≡ after (done ++ more ∷ []) left
 after_more done more None = refl
 after_more done more (Some left) = ap Some (sym (append_assoc done (more ∷ []) left))
 
 pub after_all : {A : Type 0} (done : List A) → after done (Some []) ≡ Some (done ++ [])
 after_all done = refl
 
-texts_step : (datum : Data) (items : Items) (text : List ℕ) → Some text ≡ as_str datum → texts_of (item datum items) ≡ option_map (λ (texts : List (List ℕ)). text ∷ texts) (texts_of items)
-texts_step (string other) items text is = let same : text ≡ other = cc in ap (λ (first : List ℕ). option_map (λ (texts : List (List ℕ)). first ∷ texts) (texts_of items)) (sym same)
+texts_step : (datum : Data) (items : Items) (text : List ℕ) → Some text ≡ as_str datum
+    → texts_of (item datum items) ≡ option_map (λ (texts : List (List ℕ)). text ∷ texts) (texts_of items)
+texts_step (string other) items text is = let same : text ≡ other = cc in ap
+    (λ (first : List ℕ). option_map (λ (texts : List (List ℕ)). first ∷ texts) (texts_of items)) (sym same)
 texts_step (integer n) items text is = cc
 texts_step (float n) items text is = cc
 texts_step (boolean n) items text is = cc
@@ -53,7 +56,8 @@ entries_step (boolean n) items pairs is = cc
 entries_step (datetime n) items pairs is = cc
 entries_step (array n) items pairs is = cc
 entries_step (table other) items pairs is =
-    let same : pairs ≡ other = cc in ap (λ (first : Members). option_map (λ (entries : List (List Field)). entry_of first ∷ entries) (entries_of items)) (sym same)
+    let same : pairs ≡ other = cc in ap (λ (first : Members). option_map (λ (entries : List (List Field)). entry_of first ∷ entries) (entries_of items))
+    (sym same)
 
 entries_stop : (datum : Data) (items : Items) → None ≡ as_table datum → entries_of (item datum items) ≡ None
 entries_stop (string n) items is = refl
@@ -72,22 +76,27 @@ module _ (values : List Value) (place : ℕ) (value : Value) (below : place < le
   module _ (all : Option (List (List ℕ))) (texts : List (List ℕ)) (left : all ≡ after texts (texts_of (items_view (drop place values)))) where
     pub texts_next : (text : List ℕ) → Some text ≡ as_str (view value) → all ≡ after (texts ++ text ∷ []) (texts_of (items_view (drop (place + 1) values)))
     texts_next text found =
-        left ∙ ap (λ (items : Items). after texts (texts_of items)) first_left ∙ ap (after texts) (texts_step (view value) (items_view (drop (place + 1) values)) text found)
+        left ∙ ap (λ (items : Items). after texts (texts_of items)) first_left
+        ∙ ap (after texts) (texts_step (view value) (items_view (drop (place + 1) values)) text found)
         ∙ after_more texts text (texts_of (items_view (drop (place + 1) values)))
 
     pub texts_fail : None ≡ as_str (view value) → None ≡ all
     texts_fail none =
-        sym (left ∙ ap (λ (items : Items). after texts (texts_of items)) first_left ∙ ap (after texts) (texts_stop (view value) (items_view (drop (place + 1) values)) none))
+        sym (left ∙ ap (λ (items : Items). after texts (texts_of items)) first_left
+        ∙ ap (after texts) (texts_stop (view value) (items_view (drop (place + 1) values)) none))
 
   module _ (all : Option (List (List Field))) (entries : List (List Field)) (left : all ≡ after entries (entries_of (items_view (drop place values)))) where
-    pub entries_next : (pairs : Members) → Some pairs ≡ as_table (view value) → all ≡ after (entries ++ entry_of pairs ∷ []) (entries_of (items_view (drop (place + 1) values)))
+    pub entries_next : (pairs : Members) → Some pairs ≡ as_table (view value)
+        → all ≡ after (entries ++ entry_of pairs ∷ []) (entries_of (items_view (drop (place + 1) values)))
     entries_next pairs found =
-        left ∙ ap (λ (items : Items). after entries (entries_of items)) first_left ∙ ap (after entries) (entries_step (view value) (items_view (drop (place + 1) values)) pairs found)
+        left ∙ ap (λ (items : Items). after entries (entries_of items)) first_left
+        ∙ ap (after entries) (entries_step (view value) (items_view (drop (place + 1) values)) pairs found)
         ∙ after_more entries (entry_of pairs) (entries_of (items_view (drop (place + 1) values)))
 
     pub entries_fail : None ≡ as_table (view value) → None ≡ all
     entries_fail none =
-        sym (left ∙ ap (λ (items : Items). after entries (entries_of items)) first_left ∙ ap (after entries) (entries_stop (view value) (items_view (drop (place + 1) values)) none))
+        sym (left ∙ ap (λ (items : Items). after entries (entries_of items)) first_left
+        ∙ ap (after entries) (entries_stop (view value) (items_view (drop (place + 1) values)) none))
 
 -- a value, by the accessors that were tried
 pub setting_text : (datum : Data) (text : List ℕ) → Some text ≡ as_str datum → Text text ≡ setting_of datum
@@ -145,13 +154,16 @@ section_none (array n) is = cc
 section_none (table n) is = refl
 
 -- a turn of the loop over the pairs of a table
-pub entry_next : (all entry : List Field) (key : String Global) (value : Value) (left : List Pair) → all ≡ entry ++ entry_of (members_view ((key, value) ∷ left))
+pub entry_next : (all entry : List Field) (key : String Global) (value : Value) (left : List Pair)
+    → all ≡ entry ++ entry_of (members_view ((key, value) ∷ left))
     → all ≡ (entry ++ record { key = string_bytes key; setting = setting_of (view value) } ∷ []) ++ entry_of (members_view left)
-entry_next all entry key value left is = is ∙ sym (append_assoc entry (record { key = string_bytes key; setting = setting_of (view value) } ∷ []) (entry_of (members_view left)))
+entry_next all entry key value left is = is ∙ sym (append_assoc entry (record { key = string_bytes key; setting = setting_of (view value) } ∷ [])
+    (entry_of (members_view left)))
 
 -- ---- the section at a key of a table
 
-module _ (found : Option (Bor Value)) (key : List ℕ) (pairs : List Pair) (gets : option_map (λ x. x.now) found ≡ lookup (is_at (λ x. slice_cmp nat_cmp key (string_bytes x))) pairs) where
+module _ (found : Option (Bor Value)) (key : List ℕ) (pairs : List Pair)
+    (gets : option_map (λ x. x.now) found ≡ lookup (is_at (λ x. slice_cmp nat_cmp key (string_bytes x))) pairs) where
   -- the key is absent
   pub section_absent : (entries : List (List Field)) → found ≡ None → entries ≡ [] → Some entries ≡ section_of (get_member key (members_view pairs))
   section_absent entries is none =

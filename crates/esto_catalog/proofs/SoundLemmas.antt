@@ -30,9 +30,11 @@ use Rattle.esto_term.specs.declared.term.Term.{Term}
 use Rattle.esto_views.specs.Fragments.{IsFragment}
 use Rattle.esto_views.specs.declared.fragments.FragmentDef.{FragmentDef}
 use Rattle.esto_catalog.specs.Datasets.{IsTableDataset, begins_plain}
-use Rattle.esto_catalog.specs.Soundness.{IsSoundCatalogue}
+use Rattle.esto_catalog.specs.Soundness.{FitView, IsShapeFor, IsSoundCatalogue}
 use Rattle.esto_catalog.specs.declared.dataset.Dataset.{Dataset}
-use Rattle.esto_catalog.specs.declared.dataset.Store.{Store}
+use Rattle.esto_catalog.specs.declared.catalogue.Shape.{Shape}
+use Rattle.esto_catalog.specs.declared.catalogue.Shape.TheVariants.{Table as FromTable}
+use Rattle.esto_catalog.specs.declared.catalogue.Store.{Store}
 use Rattle.esto_term.proofs.ListLemmas.{Contains-cases, Contains-head, Contains-nil, Contains-rest}
 
 -- ---- codes
@@ -61,7 +63,8 @@ coded_relation = code_by (List ℕ × ℕ) (coded× (coded_list coded_ℕ) coded
 
 pub coded_word : Coded Word
 coded_word =
-    code_by (List ℕ × (DataModel × ℕ)) (coded× (coded_list coded_ℕ) (coded× coded_model coded_ℕ)) (λ w. (w.name, (w.model, w.base))) (λ p. record { name = p.0; model = p.1.0; base = p.1.1 }) (λ _. refl)
+    code_by (List ℕ × (DataModel × ℕ)) (coded× (coded_list coded_ℕ) (coded× coded_model coded_ℕ)) (λ w. (w.name, (w.model, w.base)))
+    (λ p. record { name = p.0; model = p.1.0; base = p.1.1 }) (λ _. refl)
 
 -- ---- a walk of a number of edges is found by trying
 
@@ -84,7 +87,8 @@ or_true false b is = is
 any_from : {A : Type 0} (test : A → Bool) (items : List A) → list_any test items ≡ true → (item : A) × Contains items item × (test item ≡ true)
 any_from {A} test [] is = absurd (false≢true is)
 any_from {A} test (first ∷ items) is = by (λ rest. any_from test items rest) (test first) refl where
-  by : (list_any test items ≡ true → (item : A) × Contains items item × (test item ≡ true)) → (b : Bool) → test first ≡ b → (item : A) × Contains (first ∷ items) item × (test item ≡ true)
+  by : (list_any test items ≡ true → (item : A) × Contains items item × (test item ≡ true)) → (b : Bool) → test first ≡ b
+      → (item : A) × Contains (first ∷ items) item × (test item ≡ true)
   by more true here = (first, Contains-head first items, here)
   by more false here =
       let rest : list_any test items ≡ true = subst (λ (b : Bool). (b || list_any test items) ≡ true) here is in
@@ -98,7 +102,8 @@ any_of test (first ∷ items) item inside holds = elim (Contains-cases first ite
   | inr later ↦ or_true (test first) (list_any test items) (any_of test items item later holds)
 ]
 
-walk_of : (edges : List (ℕ × ℕ)) (count from to : ℕ) → reaches edges count from to ≡ true → (relations : List ℕ) × IsWalk (Joins edges) from relations to × (length relations ≡ count)
+walk_of : (edges : List (ℕ × ℕ)) (count from to : ℕ) → reaches edges count from to ≡ true
+    → (relations : List ℕ) × IsWalk (Joins edges) from relations to × (length relations ≡ count)
 walk_of edges zero from to is = ([], eqb-true from to is, refl)
 walk_of edges (suc count) from to is =
     let (edge, there, both) = any_from (λ (edge : ℕ × ℕ). eqb edge.0 from && reaches edges count edge.1 to) edges is in
@@ -110,7 +115,8 @@ walk_of edges (suc count) from to is =
 found : (edges : List (ℕ × ℕ)) (relations : List ℕ) (from to : ℕ) → IsWalk (Joins edges) from relations to → reaches edges (length relations) from to ≡ true
 found edges [] from to same = eq-eqb from to same
 found edges (relation ∷ relations) from to (next, is, edge, walk) =
-    any_of (λ (e : ℕ × ℕ). eqb e.0 from && reaches edges (length relations) e.1 to) edges (from, next) edge (both (eqb from from) (reaches edges (length relations) next to) (eq-eqb from from refl) (found edges relations next to walk)) where
+    any_of (λ (e : ℕ × ℕ). eqb e.0 from && reaches edges (length relations) e.1 to) edges (from, next) edge
+    (both (eqb from from) (reaches edges (length relations) next to) (eq-eqb from from refl) (found edges relations next to walk)) where
       both : (a b : Bool) → a ≡ true → b ≡ true → (a && b) ≡ true
       both true b holds is = is
       both false b holds is = absurd (false≢true holds)
@@ -124,12 +130,15 @@ arrives_of edges (suc count) to is =
 
 arrives_found : (edges : List (ℕ × ℕ)) (relations : List ℕ) (from to : ℕ) → IsWalk (Joins edges) from relations to → arrives edges (length relations) to ≡ true
 arrives_found edges [] from to walk = refl
-arrives_found edges (relation ∷ relations) from to (next, is, edge, walk) = any_of (λ (e : ℕ × ℕ). reaches edges (length relations) e.1 to) edges (from, next) edge (found edges relations next to walk)
+arrives_found edges (relation ∷ relations) from to (next, is, edge, walk) =
+    any_of (λ (e : ℕ × ℕ). reaches edges (length relations) e.1 to) edges (from, next) edge (found edges relations next to walk)
 
 -- the same over other edges
-walk_over : (One Other : ℕ → ℕ → Type 0) → ((from to : ℕ) → One from to → Other from to) → (relations : List ℕ) (from to : ℕ) → IsWalk One from relations to → IsWalk Other from relations to
+walk_over : (One Other : ℕ → ℕ → Type 0) → ((from to : ℕ) → One from to → Other from to) → (relations : List ℕ) (from to : ℕ) → IsWalk One from relations to
+    → IsWalk Other from relations to
 walk_over One Other weaker [] from to same = same
-walk_over One Other weaker (relation ∷ relations) from to (next, is, edge, walk) = (next, is, weaker from next edge, walk_over One Other weaker relations next to walk)
+walk_over One Other weaker (relation ∷ relations) from to (next, is, edge, walk) =
+    (next, is, weaker from next edge, walk_over One Other weaker relations next to walk)
 
 -- that some walk arrives is known without its truncation
 pub arrives_known : (rules : List Rule) (relation rank : ℕ) → ∥ Arrives (IsEdge rules) relation rank ∥₁ → Arrives (IsEdge rules) relation rank
@@ -137,7 +146,8 @@ arrives_known rules relation rank some =
     let holds : arrives (edges_of rules) rank relation ≡ true =
     ∥∥₁_elim some (Coded-set coded_bool _ _) (λ (from, relations, walk, long).
     subst (λ n. arrives (edges_of rules) n relation ≡ true) long
-    (arrives_found (edges_of rules) relations from relation (walk_over (IsEdge rules) (Joins (edges_of rules)) (λ a b edge. (joins_edges rules a b).1 edge) relations from relation walk))) in
+    (arrives_found (edges_of rules) relations from relation (walk_over (IsEdge rules) (Joins (edges_of rules))
+    (λ a b edge. (joins_edges rules a b).1 edge) relations from relation walk))) in
     let (from, relations, walk, long) = arrives_of (edges_of rules) rank relation holds in
     (from, relations, walk_over (Joins (edges_of rules)) (IsEdge rules) (λ a b edge. (joins_edges rules a b).0 edge) relations from relation walk, long)
 
@@ -148,12 +158,14 @@ pub ranks_known : (rules : List Rule) (count : ℕ) (ranks : List ℕ) → ∥ A
 ranks_known rules count ranks some = record {
   for_each = ∥∥₁_elim some (Coded-set coded_ℕ _ _) (λ kept. kept.for_each);
   exact = λ relation below. record {
-    arrives = arrives_known rules relation (slice_index ranks relation) (∥∥₁_map some (λ (kept : AreRanks (IsEdge rules) count ranks). (kept.exact relation below).arrives));
+    arrives = arrives_known rules relation (slice_index ranks relation)
+        (∥∥₁_map some (λ (kept : AreRanks (IsEdge rules) count ranks). (kept.exact relation below).arrives));
     most = λ from relations walk. ∥∥₁_elim some le_prop (λ kept. (kept.exact relation below).most from relations walk);
   };
 }
 
-module _ (schema : List Relation) (words : List Word) (datasets : List Dataset) (fragments : List FragmentDef) (stores : List Store) (rules : List Constraint) (given : ℕ) (ranks : List ℕ)
+module _ (schema : List Relation) (words : List Word) (datasets : List Dataset) (fragments : List FragmentDef) (stores : List Store)
+    (rules : List Constraint) (given : ℕ) (ranks : List ℕ)
     (sound : ∥ IsSoundCatalogue schema words datasets fragments stores rules given ranks ∥₁) where
   abbrev Kept : Type 0
   Kept = IsSoundCatalogue schema words datasets fragments stores rules given ranks
@@ -164,7 +176,11 @@ module _ (schema : List Relation) (words : List Word) (datasets : List Dataset) 
   schema_known : IsSchema schema
   schema_known = record {
     distinct = λ i j d before below same. refute (λ kept. kept.schema_is.distinct i j d before below same);
-    arities = λ k d below. (∥∥₁_elim sound le_prop (λ kept. (kept.schema_is.arities k d below).0), ∥∥₁_elim sound le_prop (λ kept. (kept.schema_is.arities k d below).1));
+    arities = λ k d below. (
+      ∥∥₁_elim sound le_prop (λ kept. (kept.schema_is.arities k d below).0),
+      ∥∥₁_elim sound le_prop
+          (λ kept. (kept.schema_is.arities k d below).1),
+    );
     room = ∥∥₁_elim sound le_prop (λ kept. kept.schema_is.room);
   }
 
@@ -203,6 +219,7 @@ module _ (schema : List Relation) (words : List Word) (datasets : List Dataset) 
 
   fragment_known : (fragment : FragmentDef) → Contains fragments fragment → IsFragment fragment
   fragment_known fragment inside = record {
+    has_pattern = λ none. refute (λ kept. (kept.fragments_are fragment inside).has_pattern none);
     variables = λ term at. elim (flat fragment.view term at) [
       | inl constant ↦ absurd (refute (λ kept. apart constant ((kept.fragments_are fragment inside).variables term at)))
       | inr variable ↦ variable
@@ -215,6 +232,13 @@ module _ (schema : List Relation) (words : List Word) (datasets : List Dataset) 
 
     apart : {term : Term} → IsConstant term → IsVariable term → ⊥
     apart (text, is) (number, is') = Const-apart-Plain text number (sym is ∙ is')
+
+  shape_known : (shape : Shape) (fragment : FragmentDef) → ∥ IsShapeFor shape fragment ∥₁ → IsShapeFor shape fragment
+  shape_known (FromTable columns) fragment some = record {
+    many = ∥∥₁_elim some (Coded-set coded_ℕ _ _) (λ fit. fit.many);
+    distinct = λ i j d before below same. ∥∥₁_elim some (λ p q. absurd p) (λ fit. fit.distinct i j d before below same);
+    plain = plain_known columns (∥∥₁_map some (λ (fit : FitView fragment.view columns). fit.plain));
+  }
 
   over_known : (atoms : List (Fact Term)) → ∥ AreOver (arities_of schema) atoms ∥₁ → AreOver (arities_of schema) atoms
   over_known atoms some atom inside = ∥∥₁_elim some (Coded-set (coded_option coded_ℕ) _ _) (λ over. over atom inside)
@@ -245,12 +269,18 @@ module _ (schema : List Relation) (words : List Word) (datasets : List Dataset) 
     schema_is = schema_known;
     datasets_are = dataset_known;
     named = ∥∥₁_elim sound (Coded-set (coded_list coded_word) _ _) (λ kept. kept.named);
-    vocabulary = record { distinct = λ i j d before below same. refute (λ kept. kept.vocabulary.distinct i j d before below same); relations = relations_known };
+    vocabulary = record {
+      distinct = λ i j d before below same. refute (λ kept. kept.vocabulary.distinct i j d before below same);
+      relations =
+          relations_known;
+    };
     tables = tables_known;
     fragments_are = fragment_known;
     views = λ fragment inside. query_known (query_of fragment.view) (∥∥₁_map sound (λ (kept : Kept). kept.views fragment inside));
     outputs = λ fragment inside. ∥∥₁_elim sound (Coded-set (coded_list (coded_list coded_bool)) _ _) (λ kept. kept.outputs fragment inside);
     stored = ∥∥₁_elim sound (Coded-set coded_ℕ _ _) (λ kept. kept.stored);
+    shapes = λ number store fragment at_store at_fragment. shape_known store.shape fragment
+        (∥∥₁_map sound (λ (kept : Kept). kept.shapes number store fragment at_store at_fragment));
     given_are = ∥∥₁_elim sound (Coded-set coded_ℕ _ _) (λ kept. kept.given_are);
     rules_are = λ rule inside. rule_known (rule_of rule) (∥∥₁_map sound (λ (kept : Kept). kept.rules_are rule inside));
     within = λ from to edge. (∥∥₁_elim sound le_prop (λ kept. (kept.within from to edge).0), ∥∥₁_elim sound le_prop (λ kept. (kept.within from to edge).1));

@@ -1,7 +1,9 @@
 -- What the end of the walk gives.
-use Rattle.std.proofs.Common.{◌≡◌, ◌<◌, ◌+◌, zero, suc, drop, get_or, length-append, ℕ, List, [], ◌∷◌, ◌++◌, length, false, inl, inr, refl, sym, ap, subst, ◌∙◌, arith, replicate}
+use Rattle.std.proofs.Common.{◌≡◌, ◌<◌, ◌+◌, zero, suc, drop, get_or, length-append, ℕ, List, [], ◌∷◌, ◌++◌, ◌⊎◌, Some, length, false, inl, inr, refl, sym, ap, subst, ◌∙◌, arith, replicate}
 use Rattle.std.proofs.Math.ListN.{length-map}
+use Rattle.std.specs.Prelude.{slice_get}
 use Rattle.std.proofs.lemmas.List.Elements.{Contains-push_cases}
+use Rattle.std.proofs.lemmas.Option.{none-some, slice_get_within}
 use Rattle.esto_acyclic.specs.Graphs.{AreRanks, IsWithin}
 use Rattle.esto_acyclic.specs.Relations.{HasRelation, IsEdge}
 use Rattle.esto_constraint.specs.Constraints.{rule_of, rules_of}
@@ -14,7 +16,7 @@ use Rattle.esto_semantics.specs.Rules.{tuple}
 use Rattle.esto_semantics.specs.WellFormed.{AreOver, IsRuleOver}
 use Rattle.esto_semantics.specs.declared.fact.Fact.{Fact}
 use Rattle.esto_term.specs.declared.term.Term.{Term}
-use Rattle.esto_catalog.proofs.DatasetLemmas.{get_below, tables_schema}
+use Rattle.esto_catalog.proofs.DatasetLemmas.{tables_schema}
 use Rattle.esto_catalog.specs.Datasets.{IsTableDataset, schema_of, words_of}
 use Rattle.esto_catalog.specs.Tables.{IsTables}
 use Rattle.esto_catalog.specs.declared.tables.Tables.{Tables}
@@ -23,7 +25,8 @@ use Rattle.esto_catalog.specs.Fragments.{adds_fragment, reads_fragment, reads_fr
 use Rattle.esto_catalog.specs.Reading.{is_acyclic}
 use Rattle.esto_catalog.specs.Rows.{IsWant, IsAny}
 use Rattle.esto_catalog.specs.declared.catalogue.Catalogue.{Catalogue}
-use Rattle.esto_catalog.specs.Soundness.{AreSoundRules, AreSoundFragments, IsSoundCatalogue, IsSoundFragment, IsSoundView}
+use Rattle.esto_catalog.specs.Soundness.{AreSoundRules, AreSoundFragments, FitView, IsShapeFor, IsSoundCatalogue, IsSoundFragment, IsSoundStored, IsSoundView}
+use Rattle.esto_catalog.specs.declared.catalogue.Store.{Store}
 use Rattle.esto_catalog.specs.declared.dataset.Dataset.{Dataset}
 use Rattle.esto_catalog.specs.declared.fault.CatalogueError.{CatalogueError}
 use Rattle.esto_catalog.specs.declared.fault.Place.{Place}
@@ -38,23 +41,26 @@ use Rattle.esto_read.specs.declared.read.NamedQuery.{NamedQuery}
 use Rattle.esto_read.specs.declared.words.Word.{Word}
 use Rattle.esto_text.specs.declared.fault.TextFault.{TextFault}
 use Rattle.esto_views.specs.declared.fragments.FragmentDef.{FragmentDef}
-use Rattle.esto_term.proofs.ListLemmas.{Contains-cases, Contains-map_from, Contains-nil}
+use Rattle.esto_term.proofs.ListLemmas.{at_pushed, Contains-cases, Contains-map_from, Contains-nil}
 
-relation_below : (schema : List Relation) (atoms : List (Fact Term)) (relation : ℕ) → AreOver (arities_of schema) atoms → HasRelation atoms relation → relation < length schema
+relation_below : (schema : List Relation) (atoms : List (Fact Term)) (relation : ℕ) → AreOver (arities_of schema) atoms → HasRelation atoms relation
+    → relation < length schema
 relation_below schema atoms relation over (atom, there, is) =
-    let below : atom.relation < length (arities_of schema) = get_below (arities_of schema) atom.relation (length atom.terms) (over atom there) in
+    let below : atom.relation < length (arities_of schema) = slice_get_within (arities_of schema) atom.relation (length atom.terms) (over atom there) in
     let count : length (arities_of schema) ≡ length schema = length-map schema (λ (r : Relation). r.arity) in
     omega (arith, below, count, is)
 
 -- edges of rules over a schema go between its relations
-pub rules_within : (schema : List Relation) (rules : List Constraint) → AreSoundRules (arities_of schema) rules → IsWithin (length schema) (IsEdge (rules_of rules))
+pub rules_within : (schema : List Relation) (rules : List Constraint) → AreSoundRules (arities_of schema) rules
+    → IsWithin (length schema) (IsEdge (rules_of rules))
 rules_within schema rules sound from to (body, head, inside, leaves, arrives) =
     let (rule, there, same) = Contains-map_from rule_of rules (tuple body head) inside in
     let over : IsRuleOver (arities_of schema) (tuple body head) = subst (IsRuleOver (arities_of schema)) same (sound rule there) in
     (relation_below schema body from over.0 leaves, relation_below schema head to over.1 arrives)
 
 -- one rule more
-pub rules_more : (arities : List ℕ) (rules : List Constraint) (rule : Constraint) → AreSoundRules arities rules → IsRuleOver arities (rule_of rule) → AreSoundRules arities (rules ++ rule ∷ [])
+pub rules_more : (arities : List ℕ) (rules : List Constraint) (rule : Constraint) → AreSoundRules arities rules → IsRuleOver arities (rule_of rule)
+    → AreSoundRules arities (rules ++ rule ∷ [])
 rules_more arities rules rule sound over other inside = elim (Contains-push_cases rules rule other inside) [
   | inl before ↦ sound other before
   | inr same ↦ subst (λ (r : Constraint). IsRuleOver arities (rule_of r)) same over
@@ -65,75 +71,120 @@ no_rules arities rule inside = absurd (Contains-nil rule inside)
 
 -- a turn of the loop over the entries of constraints
 module _ (tables : List Dataset) (entries : List (List Field)) (to : Course CatalogueError (List Constraint)) (index : ℕ) (rules : List Constraint)
-    (leads : Leads (each (adds_constraint tables) (suc index) rules (drop index entries)) to) (item : List Field) (below : index < length entries) (is : item ≡ get_or entries index item)
-    (entry : List Field) (fields : entry ≡ item) where
+    (leads : Leads (each (adds_constraint tables) (suc index) rules (drop index entries)) to) (item : List Field) (below : index < length entries)
+    (is : item ≡ get_or entries index item)
+    (place : Place) (there : place ≡ record { section = section.Constraint; number = index + 1 }) (entry : List Field) (fields : entry ≡ item) where
   abbrev rule_place : Place
   rule_place = record { section = section.Constraint; number = index + 1 }
 
-  pub rule_turn : (rule : Constraint) → (reads_constraint rule_place tables entry).goes rule → Leads (each (adds_constraint tables) (suc (index + 1)) (rules ++ rule ∷ []) (drop (index + 1) entries)) to
+  -- what is said of the place and the entry
+  rule_moved : (P : Place → List Field → Type 0) → P place entry → P rule_place item
+  rule_moved P holds = subst (λ it. P it item) there (subst (P place) fields holds)
+
+  pub rule_turn : (rule : Constraint) → (reads_constraint place tables entry).goes rule
+      → Leads (each (adds_constraint tables) (suc (index + 1)) (rules ++ rule ∷ []) (drop (index + 1) entries)) to
   rule_turn rule goes =
-      let here : (reads_constraint rule_place tables item).goes rule = subst (λ (f : List Field). (reads_constraint rule_place tables f).goes rule) fields goes in
+      let here = rule_moved (λ (at : Place) (fields : List Field). (reads_constraint at tables fields).goes rule) goes in
       turn_next (adds_constraint tables) entries to index rules leads item below is (rules ++ rule ∷ [])
       (then_goes (reads_constraint rule_place tables item) (λ r. gives (rules ++ r ∷ [])) rule (rules ++ rule ∷ []) here (gives_goes CatalogueError _ _ refl))
 
-  pub rule_fails : (error : CatalogueError) → Stops IsWant IsAny (reads_constraint rule_place tables entry) error → Stops IsWant IsAny to error
+  pub rule_fails : (error : CatalogueError) → Stops IsWant IsAny (reads_constraint place tables entry) error → Stops IsWant IsAny to error
   rule_fails error stops =
-      let here : Stops IsWant IsAny (reads_constraint rule_place tables item) error = subst (λ (f : List Field). Stops IsWant IsAny (reads_constraint rule_place tables f) error) fields stops in
-      turn_stops (adds_constraint tables) entries to index rules leads item below is error (first_stops (reads_constraint rule_place tables item) (λ r. gives (rules ++ r ∷ [])) here)
+      let here = rule_moved (λ (at : Place) (fields : List Field). Stops IsWant IsAny (reads_constraint at tables fields) error) stops in
+      turn_stops (adds_constraint tables) entries to index rules leads item below is error
+      (first_stops (reads_constraint rule_place tables item) (λ r. gives (rules ++ r ∷ [])) here)
 
 -- a turn of the loop over the entries of fragments
 module _ (tables : List Dataset) (entries : List (List Field)) (to : Course CatalogueError Fragments) (index : ℕ) (fragments : Fragments)
-    (leads : Leads (each (adds_fragment tables) (suc index) fragments (drop index entries)) to) (item : List Field) (below : index < length entries) (is : item ≡ get_or entries index item)
-    (seen : List FragmentDef) (entry : List Field) (same : seen ≡ fragments.definitions) (fields : entry ≡ item) where
+    (leads : Leads (each (adds_fragment tables) (suc index) fragments (drop index entries)) to) (item : List Field) (below : index < length entries)
+    (is : item ≡ get_or entries index item)
+    (place : Place) (there : place ≡ record { section = section.Fragment; number = index + 1 }) (seen : List FragmentDef) (entry : List Field)
+    (same : seen ≡ fragments.definitions) (fields : entry ≡ item) where
   abbrev fragment_place : Place
   fragment_place = record { section = section.Fragment; number = index + 1 }
 
-  pub fragment_turn : (fragment : Stored) → (reads_fragment fragment_place tables seen entry).goes fragment
+  -- what is said of the place, the fragments so far and the entry
+  fragment_moved : (P : Place → List FragmentDef → List Field → Type 0) → P place seen entry → P fragment_place fragments.definitions item
+  fragment_moved P holds = subst (λ it. P it fragments.definitions item) there (subst (λ it. P place it item) same (subst (P place seen) fields holds))
+
+  pub fragment_turn : (fragment : Stored) → (reads_fragment place tables seen entry).goes fragment
       → Leads (each (adds_fragment tables) (suc (index + 1)) (with_fragment fragments fragment) (drop (index + 1) entries)) to
   fragment_turn fragment goes =
-      let here : (reads_fragment fragment_place tables fragments.definitions item).goes fragment =
-      subst (λ (s : List FragmentDef). (reads_fragment fragment_place tables s item).goes fragment) same (subst (λ (f : List Field). (reads_fragment fragment_place tables seen f).goes fragment) fields goes) in
+      let here = fragment_moved (λ (at : Place) (earlier : List FragmentDef)
+      (fields : List Field). (reads_fragment at tables earlier fields).goes fragment) goes in
       turn_next (adds_fragment tables) entries to index fragments leads item below is (with_fragment fragments fragment)
-      (then_goes (reads_fragment fragment_place tables fragments.definitions item) (λ f. gives (with_fragment fragments f)) fragment (with_fragment fragments fragment) here (gives_goes CatalogueError _ _ refl))
+      (then_goes (reads_fragment fragment_place tables fragments.definitions item) (λ f. gives (with_fragment fragments f)) fragment
+      (with_fragment fragments fragment) here (gives_goes CatalogueError _ _ refl))
 
-  pub fragment_fails : (error : CatalogueError) → Stops IsWant IsAny (reads_fragment fragment_place tables seen entry) error → Stops IsWant IsAny to error
+  pub fragment_fails : (error : CatalogueError) → Stops IsWant IsAny (reads_fragment place tables seen entry) error → Stops IsWant IsAny to error
   fragment_fails error stops =
-      let here : Stops IsWant IsAny (reads_fragment fragment_place tables fragments.definitions item) error =
-      subst (λ (s : List FragmentDef). Stops IsWant IsAny (reads_fragment fragment_place tables s item) error) same
-      (subst (λ (f : List Field). Stops IsWant IsAny (reads_fragment fragment_place tables seen f) error) fields stops) in
-      turn_stops (adds_fragment tables) entries to index fragments leads item below is error (first_stops (reads_fragment fragment_place tables fragments.definitions item) (λ f. gives (with_fragment fragments f)) here)
+      let here = fragment_moved (λ (at : Place) (earlier : List FragmentDef) (fields : List Field). Stops IsWant IsAny
+      (reads_fragment at tables earlier fields) error) stops in
+      turn_stops (adds_fragment tables) entries to index fragments leads item below is error
+      (first_stops (reads_fragment fragment_place tables fragments.definitions item) (λ f. gives (with_fragment fragments f)) here)
 
 -- one fragment more
-pub fragments_more : (arities : List ℕ) (fragments : Fragments) (stored : Stored) → AreSoundFragments arities fragments → IsSoundFragment arities stored.definition → AreSoundFragments arities (with_fragment fragments stored)
+pub fragments_more : (arities : List ℕ) (fragments : Fragments) (stored : Stored) → AreSoundFragments arities fragments → IsSoundStored arities stored
+    → AreSoundFragments arities (with_fragment fragments stored)
 fragments_more arities fragments stored sound one = record {
   sound = λ other inside. elim (Contains-push_cases fragments.definitions stored.definition other inside) [
     | inl before ↦ sound.sound other before
-    | inr same ↦ subst (IsSoundFragment arities) same one
+    | inr same ↦ subst (IsSoundFragment arities) same one.definition
   ];
-  stored = length-append fragments.stores (stored.store ∷ []) ∙ (ap (λ n. n + 1) sound.stored ∙ sym (length-append fragments.definitions (stored.definition ∷ [])));
-}
+  stored = length-append fragments.stores (stored.store ∷ []) ∙ (ap (λ n. n + 1) sound.stored
+      ∙ sym (length-append fragments.definitions (stored.definition ∷ [])));
+  shapes = λ number store fragment at_store at_fragment.
+      shape_more number store fragment (at_pushed fragments.stores stored.store number store at_store)
+      (at_pushed fragments.definitions stored.definition number fragment at_fragment);
+} where
+  shape_more : (number : ℕ) (store : Store) (fragment : FragmentDef)
+      → (slice_get fragments.stores number ≡ Some store) ⊎ ((number ≡ length fragments.stores) × (stored.store ≡ store))
+      → (slice_get fragments.definitions number ≡ Some fragment) ⊎ ((number ≡ length fragments.definitions) × (stored.definition ≡ fragment))
+      → IsShapeFor store.shape fragment
+  shape_more number store fragment (inl at_store) (inl at_fragment) = sound.shapes number store fragment at_store at_fragment
+  shape_more number store fragment (inl at_store) (inr (end, same)) =
+      let within = slice_get_within fragments.stores number store at_store in absurd (omega (arith, within, end, sound.stored))
+  shape_more number store fragment (inr (end, same)) (inl at_fragment) =
+      let within = slice_get_within fragments.definitions number fragment at_fragment in absurd (omega (arith, within, end, sound.stored))
+  shape_more number store fragment (inr (end, same_store)) (inr (at, same)) =
+      subst (λ (it : Store). IsShapeFor it.shape fragment) same_store (subst (IsShapeFor stored.store.shape) same one.shape)
 
 pub no_fragments_sound : (arities : List ℕ) → AreSoundFragments arities no_fragments
-no_fragments_sound arities = record { sound = λ fragment inside. absurd (Contains-nil fragment inside); stored = refl }
+no_fragments_sound arities = record {
+  sound = λ fragment inside. absurd (Contains-nil fragment inside);
+  stored = refl;
+  shapes = λ number store fragment at_store at_fragment. absurd (none-some store at_store);
+}
 
 length-replicate_false : (count : ℕ) → length (replicate count false) ≡ count
 length-replicate_false zero = refl
 length-replicate_false (suc count) = ap suc (length-replicate_false count)
 
--- the fragment of a view over the schema
-pub stored_sound : (arities : List ℕ) (view : NamedQuery) (file : List ℕ) (columns : List (List ℕ)) (stored : Stored) → stored ≡ stored_fragment view file columns → IsSoundView arities view → IsSoundFragment arities stored.definition
-stored_sound arities view file columns stored is (over, variables) = subst (λ (s : Stored). IsSoundFragment arities s.definition) (sym is) (record {
-  made = record { variables = variables.0; distinct = variables.1; columns = λ pattern own.
-      elim (Contains-cases (replicate (length view.query.head) false) [] pattern own) [
-        | inl same ↦ ap length (sym same) ∙ length-replicate_false (length view.query.head)
-        | inr later ↦ absurd (Contains-nil pattern later)
-      ] };
-  view = over;
-  outputs = refl;
+-- the fragment of a view over the schema, stored under columns that fit the view
+pub stored_sound : (arities : List ℕ) (view : NamedQuery) (file : List ℕ) (columns : List (List ℕ)) (stored : Stored)
+    → stored ≡ stored_fragment view file columns → IsSoundView arities view
+    → FitView view.query columns → IsSoundStored arities stored
+stored_sound arities view file columns stored is (over, variables) fit = subst (IsSoundStored arities) (sym is) (record {
+  definition = record {
+    made = record {
+      has_pattern = λ none. cc;
+      variables = variables.0;
+      distinct = variables.1;
+      columns = λ pattern own.
+          elim (Contains-cases (replicate (length view.query.head) false) [] pattern own) [
+            | inl same ↦ ap length (sym same) ∙ length-replicate_false (length view.query.head)
+            | inr later ↦ absurd (Contains-nil pattern later)
+          ];
+    };
+    view = over;
+    outputs = refl;
+  };
+  shape = fit;
 })
 
 -- what a catalogue keeps, where its graph has ranks
-pub sound_catalogue : (tables : Tables) (fragments : Fragments) (rules : List Constraint) (ranks : List ℕ) → IsTables tables → AreSoundFragments (arities_of tables.schema) fragments → AreSoundRules (arities_of tables.schema) rules
+pub sound_catalogue : (tables : Tables) (fragments : Fragments) (rules : List Constraint) (ranks : List ℕ) → IsTables tables
+    → AreSoundFragments (arities_of tables.schema) fragments → AreSoundRules (arities_of tables.schema) rules
     → AreRanks (IsEdge (rules_of rules)) (length tables.schema) ranks
     → IsSoundCatalogue tables.schema tables.words tables.datasets fragments.definitions fragments.stores rules (length rules) ranks
 sound_catalogue tables fragments rules ranks are sound over exact = record {
@@ -146,6 +197,7 @@ sound_catalogue tables fragments rules ranks are sound over exact = record {
   views = λ fragment inside. (sound.sound fragment inside).view;
   outputs = λ fragment inside. (sound.sound fragment inside).outputs;
   stored = sound.stored;
+  shapes = sound.shapes;
   given_are = refl;
   rules_are = over;
   within = rules_within tables.schema rules over;
@@ -154,42 +206,56 @@ sound_catalogue tables fragments rules ranks are sound over exact = record {
 
 -- what a text says over tables, said over their datasets
 module _ (tables : Tables) (are : IsTables tables) (text : List ℕ) where
-  over_datasets : (P : List Word → List ℕ → Type 0) → P tables.words (arities_of tables.schema) → P (words_of tables.datasets) (arities_of (schema_of tables.datasets))
-  over_datasets P holds = subst (λ (s : List Relation). P (words_of tables.datasets) (arities_of s)) are.schema (subst (λ (w : List Word). P w (arities_of tables.schema)) are.words holds)
+  over_datasets : (P : List Word → List ℕ → Type 0) → P tables.words (arities_of tables.schema)
+      → P (words_of tables.datasets) (arities_of (schema_of tables.datasets))
+  over_datasets P holds = subst (λ (s : List Relation). P (words_of tables.datasets) (arities_of s)) are.schema
+      (subst (λ (w : List Word). P w (arities_of tables.schema)) are.words holds)
 
-  pub view_over : (view : NamedQuery) → IsReading View tables.words (arities_of tables.schema) text view → IsReading View (words_of tables.datasets) (arities_of (schema_of tables.datasets)) text view
+  pub view_over : (view : NamedQuery) → IsReading View tables.words (arities_of tables.schema) text view
+      → IsReading View (words_of tables.datasets) (arities_of (schema_of tables.datasets)) text view
   view_over view reading = over_datasets (λ words arities. IsReading View words arities text view) reading
 
-  pub view_fault_over : (fault : TextFault) → IsFirstFault View tables.words (arities_of tables.schema) text fault → IsFirstFault View (words_of tables.datasets) (arities_of (schema_of tables.datasets)) text fault
+  pub view_fault_over : (fault : TextFault) → IsFirstFault View tables.words (arities_of tables.schema) text fault
+      → IsFirstFault View (words_of tables.datasets) (arities_of (schema_of tables.datasets)) text fault
   view_fault_over fault first = over_datasets (λ words arities. IsFirstFault View words arities text fault) first
 
-  pub rule_over : (rule : Constraint) → IsConstraintReading tables.words (arities_of tables.schema) text rule → IsConstraintReading (words_of tables.datasets) (arities_of (schema_of tables.datasets)) text rule
+  pub rule_over : (rule : Constraint) → IsConstraintReading tables.words (arities_of tables.schema) text rule
+      → IsConstraintReading (words_of tables.datasets) (arities_of (schema_of tables.datasets)) text rule
   rule_over rule reading = over_datasets (λ words arities. IsConstraintReading words arities text rule) reading
 
-  pub rule_fault_over : (fault : TextFault) → IsConstraintFault tables.words (arities_of tables.schema) text fault → IsConstraintFault (words_of tables.datasets) (arities_of (schema_of tables.datasets)) text fault
+  pub rule_fault_over : (fault : TextFault) → IsConstraintFault tables.words (arities_of tables.schema) text fault
+      → IsConstraintFault (words_of tables.datasets) (arities_of (schema_of tables.datasets)) text fault
   rule_fault_over fault first = over_datasets (λ words arities. IsConstraintFault words arities text fault) first
 
 -- what holds of datasets and entries, by other names of them
-pub over_same : (P : List Dataset → List (List Field) → Type 0) (tables datasets : List Dataset) (seen entries : List (List Field)) → tables ≡ datasets → seen ≡ entries → P tables seen → P datasets entries
+pub over_same : (P : List Dataset → List (List Field) → Type 0) (tables datasets : List Dataset) (seen entries : List (List Field)) → tables ≡ datasets
+    → seen ≡ entries → P tables seen → P datasets entries
 over_same P tables datasets seen entries same is holds = subst (λ (d : List Dataset). P d entries) same (subst (λ (e : List (List Field)). P tables e) is holds)
 
-pub fragments_same : (tables datasets : List Dataset) (seen entries : List (List Field)) (fragments : Fragments) → tables ≡ datasets → seen ≡ entries → (reads_fragments tables seen).goes fragments → (reads_fragments datasets entries).goes fragments
+pub fragments_same : (tables datasets : List Dataset) (seen entries : List (List Field)) (fragments : Fragments) → tables ≡ datasets → seen ≡ entries
+    → (reads_fragments tables seen).goes fragments → (reads_fragments datasets entries).goes fragments
 fragments_same tables datasets seen entries fragments = over_same (λ d e. (reads_fragments d e).goes fragments) tables datasets seen entries
 
-pub fragments_same_stops : (tables datasets : List Dataset) (seen entries : List (List Field)) (error : CatalogueError) → tables ≡ datasets → seen ≡ entries → Stops IsWant IsAny (reads_fragments tables seen) error
+pub fragments_same_stops : (tables datasets : List Dataset) (seen entries : List (List Field)) (error : CatalogueError) → tables ≡ datasets → seen ≡ entries
+    → Stops IsWant IsAny (reads_fragments tables seen) error
     → Stops IsWant IsAny (reads_fragments datasets entries) error
 fragments_same_stops tables datasets seen entries error = over_same (λ d e. Stops IsWant IsAny (reads_fragments d e) error) tables datasets seen entries
 
-pub rules_same : (tables datasets : List Dataset) (seen entries : List (List Field)) (rules : List Constraint) → tables ≡ datasets → seen ≡ entries → (reads_constraints tables seen).goes rules → (reads_constraints datasets entries).goes rules
+pub rules_same : (tables datasets : List Dataset) (seen entries : List (List Field)) (rules : List Constraint) → tables ≡ datasets → seen ≡ entries
+    → (reads_constraints tables seen).goes rules → (reads_constraints datasets entries).goes rules
 rules_same tables datasets seen entries rules = over_same (λ d e. (reads_constraints d e).goes rules) tables datasets seen entries
 
-pub rules_same_stops : (tables datasets : List Dataset) (seen entries : List (List Field)) (error : CatalogueError) → tables ≡ datasets → seen ≡ entries → Stops IsWant IsAny (reads_constraints tables seen) error
+pub rules_same_stops : (tables datasets : List Dataset) (seen entries : List (List Field)) (error : CatalogueError) → tables ≡ datasets → seen ≡ entries
+    → Stops IsWant IsAny (reads_constraints tables seen) error
     → Stops IsWant IsAny (reads_constraints datasets entries) error
 rules_same_stops tables datasets seen entries error = over_same (λ d e. Stops IsWant IsAny (reads_constraints d e) error) tables datasets seen entries
 
-pub acyclic_same : (tables datasets : List Dataset) (fragments : Fragments) (rules : List Constraint) (catalogue : Catalogue) → tables ≡ datasets → (is_acyclic tables fragments rules).goes catalogue → (is_acyclic datasets fragments rules).goes catalogue
+pub acyclic_same : (tables datasets : List Dataset) (fragments : Fragments) (rules : List Constraint) (catalogue : Catalogue) → tables ≡ datasets
+    → (is_acyclic tables fragments rules).goes catalogue → (is_acyclic datasets fragments rules).goes catalogue
 acyclic_same tables datasets fragments rules catalogue same goes = subst (λ (d : List Dataset). (is_acyclic d fragments rules).goes catalogue) same goes
 
-pub acyclic_same_stops : (tables datasets : List Dataset) (fragments : Fragments) (rules : List Constraint) (error : CatalogueError) → tables ≡ datasets → Stops IsWant IsAny (is_acyclic tables fragments rules) error
+pub acyclic_same_stops : (tables datasets : List Dataset) (fragments : Fragments) (rules : List Constraint) (error : CatalogueError) → tables ≡ datasets
+    → Stops IsWant IsAny (is_acyclic tables fragments rules) error
     → Stops IsWant IsAny (is_acyclic datasets fragments rules) error
-acyclic_same_stops tables datasets fragments rules error same stops = subst (λ (d : List Dataset). Stops IsWant IsAny (is_acyclic d fragments rules) error) same stops
+acyclic_same_stops tables datasets fragments rules error same stops = subst
+    (λ (d : List Dataset). Stops IsWant IsAny (is_acyclic d fragments rules) error) same stops

@@ -1,5 +1,5 @@
 -- The rows of a dataset, and what datasets give.
-use Rattle.std.specs.Prelude.{◌≡◌, ◌≢◌, ℕ, ◌≤◌, List, [], ◌∷◌, ◌++◌, Option, Some, Bool, true, false, ◌&&◌, ◌||◌, nat_le, nat_eq, length, map, codes, AllPairs, Contains, slice_get}
+use Rattle.std.specs.Prelude.{◌≡◌, ◌≢◌, ℕ, ◌≤◌, List, [], ◌∷◌, ◌++◌, Option, Some, Bool, true, false, ◌&&◌, ◌||◌, nat_le, nat_lt, nat_eq, length, map, codes, AllPairs, Contains, slice_get}
 use Rattle.std.specs.List.{list_all, list_any, starts_with}
 use Rattle.esto_course.specs.Course.{Course, gives, demands, and_then, each}
 use Rattle.esto_query.specs.declared.schema.Relation.{Relation}
@@ -14,6 +14,9 @@ use Rattle.esto_catalog.specs.declared.fault.CatalogueKind.TheVariants.{BadName,
 use Rattle.esto_catalog.specs.declared.fault.Place.{Place}
 use Rattle.esto_catalog.specs.declared.fault.Section.TheVariants as section
 use Rattle.esto_catalog.specs.declared.setting.Field.{Field}
+use Rattle.esto_query.specs.declared.schema.TheConstants.{MAX_COLUMNS}
+use Rattle.esto_catalog.specs.declared.columns.TheConstants.{MARK, MAX_NAME}
+use Rattle.esto_catalog.specs.declared.whole.TheConstants.{MAX_ENTRIES}
 
 -- The byte is an ASCII letter.
 abbrev pub is_letter : ℕ → Bool
@@ -23,10 +26,10 @@ is_letter byte = (nat_le 65 byte && nat_le byte 90) || (nat_le 97 byte && nat_le
 abbrev pub is_name_byte : ℕ → Bool
 is_name_byte byte = is_letter byte || ((nat_le 48 byte && nat_le byte 57) || nat_eq byte 95)
 
--- The text is a name: a letter, then letters, digits and `_`, at most 64 bytes in all.
+-- The text is a name: a letter, then letters, digits and `_`, of no more bytes in all than a name may have.
 abbrev pub is_name : List ℕ → Bool
 is_name [] = false
-is_name (first ∷ rest) = is_letter first && (list_all is_name_byte rest && nat_le (length rest) 63)
+is_name (first ∷ rest) = is_letter first && (list_all is_name_byte rest && nat_lt (length rest) MAX_NAME)
 
 -- A dataset has the name.
 abbrev pub has_dataset : List ℕ → List Dataset → Bool
@@ -35,12 +38,12 @@ has_dataset name datasets = list_any (λ (dataset : Dataset). is_same dataset.na
 -- The first text, where there is one, does not begin with a byte-order mark.
 abbrev pub begins_plain : List (List ℕ) → Type 0
 begins_plain [] = Unit {0}
-begins_plain (first ∷ rest) = starts_with nat_eq first (239 ∷ 187 ∷ 191 ∷ []) ≡ false
+begins_plain (first ∷ rest) = starts_with nat_eq first MARK ≡ false
 
--- The columns of a table: 1 to 32 of them, no two the same, and no byte-order mark before the first.
+-- The columns of a table: there is one, and no more than a table may have, no two the same, and no byte-order mark before the first.
 pub record AreColumns (columns : List (List ℕ)) : Type 0 where
   pub some : 1 ≤ length columns
-  pub few : length columns ≤ 32
+  pub few : length columns ≤ MAX_COLUMNS
   pub distinct : AllPairs ◌≢◌ columns
   pub plain : begins_plain columns
 
@@ -109,8 +112,8 @@ pub record IsTableDataset (schema : List Relation) (dataset : Dataset) : Type 0 
   pub columns : AreColumns dataset.columns
   pub relation : slice_get schema dataset.base ≡ Some (record { name = dataset.name; arity = length dataset.columns })
 
--- Each dataset is a table, no two have one name, and there are at most 256.
+-- Each dataset is a table, no two have one name, and there are no more than a section may have entries.
 pub record AreTableDatasets (datasets : List Dataset) : Type 0 where
   pub distinct : AllPairs ◌≢◌ (map (λ (dataset : Dataset). dataset.name) datasets)
   pub tables : (dataset : Dataset) → Contains datasets dataset → IsTableDataset (schema_of datasets) dataset
-  pub room : length datasets ≤ 256
+  pub room : length datasets ≤ MAX_ENTRIES

@@ -1,11 +1,16 @@
--- That bytes say one catalogue, or have one first fault.
+-- Laws of catalogues: what each keeps, and that bytes say one catalogue, or have one first fault.
 use Rattle.std.specs.Prelude.{◌≡◌, ◌≢◌, ℕ, List, map}
 use Rattle.esto_catalog.specs.Reading.{IsCatalogueOf, IsCatalogueError}
+use Rattle.esto_catalog.specs.Soundness.{IsSoundCatalogue}
 use Rattle.esto_catalog.specs.declared.catalogue.Catalogue.{Catalogue}
 use Rattle.esto_catalog.specs.declared.fault.CatalogueError.{CatalogueError}
 use Rattle.esto_catalog.specs.declared.fault.CatalogueError.TheVariants as error
 use Rattle.esto_constraint.specs.Constraints.{rules_of}
 use Rattle.esto_views.specs.Fragments.{views_of, patterns_of, weights_of}
+
+-- Each catalogue keeps what a catalogue keeps.
+abbrev pub CataloguesAreSound : Type 0
+CataloguesAreSound = (it : Catalogue) → IsSoundCatalogue it.schema it.words it.datasets it.fragments it.stores it.rules it.given it.ranks
 
 -- Two catalogues say the same.
 pub record AreSame (catalogue other : Catalogue) : Type 0 where
@@ -27,10 +32,12 @@ HaveOneCatalogue = (bytes : List ℕ) (catalogue other : Catalogue) → IsCatalo
 
 -- Bytes that say a catalogue have no fault.
 abbrev pub HaveNoError : Type 0
-HaveNoError = (bytes : List ℕ) (catalogue : Catalogue) (cause : CatalogueError) → IsCatalogueOf bytes catalogue → IsCatalogueError bytes cause → cause ≡ error.OutOfMemory
+HaveNoError = (bytes : List ℕ) (catalogue : Catalogue) (cause : CatalogueError) → IsCatalogueOf bytes catalogue → IsCatalogueError bytes cause
+    → cause ≡ error.OutOfMemory
 
 -- Bytes have at most one first fault.
 abbrev pub HaveOneError : Type 0
 HaveOneError =
-    (bytes : List ℕ) (cause other : CatalogueError) → IsCatalogueError bytes cause → IsCatalogueError bytes other → cause ≢ error.OutOfMemory → other ≢ error.OutOfMemory
+    (bytes : List ℕ) (cause other : CatalogueError) → IsCatalogueError bytes cause → IsCatalogueError bytes other → cause ≢ error.OutOfMemory
+    → other ≢ error.OutOfMemory
     → cause ≡ other

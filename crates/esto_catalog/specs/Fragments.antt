@@ -17,7 +17,7 @@ use Rattle.esto_catalog.specs.Datasets.{AreColumns, has_dataset, schema_of, unfi
 use Rattle.esto_catalog.specs.Rows.{fault_at, text_fault_at, knows_keys, needs_text}
 use Rattle.esto_catalog.specs.Settings.{is_same, setting_at}
 use Rattle.esto_catalog.specs.declared.dataset.Dataset.{Dataset}
-use Rattle.esto_catalog.specs.declared.dataset.Shape.TheVariants.{Table}
+use Rattle.esto_catalog.specs.declared.catalogue.Shape.TheVariants.{Table}
 use Rattle.esto_catalog.specs.declared.fault.CatalogueError.{CatalogueError}
 use Rattle.esto_catalog.specs.declared.fault.CatalogueKind.TheVariants.{SameName, BadStore, BadColumns, WrongType}
 use Rattle.esto_catalog.specs.declared.fault.Place.{Place}

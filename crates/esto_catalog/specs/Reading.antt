@@ -16,7 +16,8 @@ use Rattle.esto_catalog.specs.declared.fault.CatalogueError.{CatalogueError}
 use Rattle.esto_catalog.specs.declared.fault.CatalogueError.TheVariants.{NotAcyclic, OutOfMemory}
 use Rattle.esto_catalog.specs.declared.fragment.Fragments.{Fragments}
 
--- The catalogue of these datasets, fragments and constraints: its relations and words are the datasets', its rules are the constraints, no relation leads back to itself by them, and its ranks are those of the relations by them.
+-- The catalogue of these datasets, fragments and constraints: its relations and words are the datasets', its rules are the constraints, no relation leads
+-- back to itself by them, and its ranks are those of the relations by them.
 pub record IsMadeOf (datasets : List Dataset) (fragments : Fragments) (rules : List Constraint) (catalogue : Catalogue) : Type 0 where
   pub schema : catalogue.schema ≡ schema_of datasets
   pub words : catalogue.words ≡ words_of datasets

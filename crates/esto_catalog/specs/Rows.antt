@@ -18,13 +18,17 @@ use Rattle.esto_catalog.specs.declared.setting.Field.{Field}
 use Rattle.esto_catalog.specs.declared.setting.Setting.{Setting}
 use Rattle.esto_catalog.specs.declared.setting.Setting.TheVariants.{Text, Texts}
 
+-- A fault of this kind at the key of the entry at the place, with that of a text where it is one's.
+abbrev pub fault_with : CatalogueKind → Place → List ℕ → Option TextFault → CatalogueError
+fault_with kind place key text = Fault (record { kind = kind; section = place.section; number = place.number; key = key; text = text })
+
 -- A fault of this kind at the key of the entry at the place.
 abbrev pub fault_at : CatalogueKind → Place → List ℕ → CatalogueError
-fault_at kind place key = Fault (record { kind = kind; section = place.section; number = place.number; key = key; text = None })
+fault_at kind place key = fault_with kind place key None
 
 -- The text at the key has this fault.
 abbrev pub text_fault_at : TextFault → Place → List ℕ → CatalogueError
-text_fault_at fault place key = Fault (record { kind = BadText; section = place.section; number = place.number; key = key; text = Some fault })
+text_fault_at fault place key = fault_with BadText place key (Some fault)
 
 -- The top of the file.
 abbrev pub top : Place

@@ -1,16 +1,20 @@
 -- What catalogues keep.
-use Rattle.std.specs.Prelude.{◌≡◌, ℕ, List, [], ◌∷◌, length, replicate, Contains, false}
+use Rattle.std.specs.Prelude.{◌≡◌, ◌≢◌, ℕ, List, [], ◌∷◌, Some, length, replicate, slice_get, AllPairs, Contains, false}
 use Rattle.esto_acyclic.specs.Graphs.{IsWithin, AreRanks}
 use Rattle.esto_acyclic.specs.Relations.{IsEdge}
-use Rattle.esto_catalog.specs.Datasets.{IsTableDataset, words_of}
+use Rattle.esto_catalog.specs.Datasets.{IsTableDataset, begins_plain, words_of}
 use Rattle.esto_catalog.specs.declared.dataset.Dataset.{Dataset}
-use Rattle.esto_catalog.specs.declared.dataset.Store.{Store}
+use Rattle.esto_catalog.specs.declared.catalogue.Shape.{Shape}
+use Rattle.esto_catalog.specs.declared.catalogue.Shape.TheVariants.{Table}
+use Rattle.esto_catalog.specs.declared.catalogue.Store.{Store}
 use Rattle.esto_constraint.specs.Constraints.{rule_of, rules_of}
 use Rattle.esto_constraint.specs.declared.rule.Constraint.{Constraint}
 use Rattle.esto_query.specs.Making.{query_of}
 use Rattle.esto_query.specs.Schemas.{IsSchema, arities_of}
+use Rattle.esto_query.specs.declared.query.Query.{Query}
 use Rattle.esto_query.specs.declared.schema.Relation.{Relation}
 use Rattle.esto_catalog.specs.declared.fragment.Fragments.{Fragments}
+use Rattle.esto_catalog.specs.declared.fragment.Stored.{Stored}
 use Rattle.esto_read.specs.Readings.{HasVariables}
 use Rattle.esto_read.specs.declared.read.Form.TheVariants.{View}
 use Rattle.esto_read.specs.declared.read.NamedQuery.{NamedQuery}
@@ -34,13 +38,37 @@ pub record IsSoundFragment (schema : List ℕ) (fragment : FragmentDef) : Type 0
 abbrev pub AreSoundRules : List ℕ → List Constraint → Type 0
 AreSoundRules schema rules = (rule : Constraint) → Contains rules rule → IsRuleOver schema (rule_of rule)
 
--- Each fragment is sound, and each has a store.
+-- The columns fit the view: they are as many as its head has terms, no two are the same, and the first does not begin with a byte-order mark.
+pub record FitView (view : Query) (columns : List (List ℕ)) : Type 0 where
+  pub many : length columns ≡ length view.head
+  pub distinct : AllPairs ◌≢◌ columns
+  pub plain : begins_plain columns
+
+-- The shape is one for the fragment: the columns of a table fit its view.
+abbrev pub IsShapeFor : Shape → FragmentDef → Type 0
+IsShapeFor (Table columns) fragment = FitView fragment.view columns
+
+-- A fragment is sound, and is stored in a shape for it.
+pub record IsSoundStored (schema : List ℕ) (stored : Stored) : Type 0 where
+  pub definition : IsSoundFragment schema stored.definition
+  pub shape : IsShapeFor stored.store.shape stored.definition
+
+-- Each store is in a shape for the fragment of its number.
+abbrev pub AreShapes : List Store → List FragmentDef → Type 0
+AreShapes stores fragments =
+    (number : ℕ) (store : Store) (fragment : FragmentDef) → slice_get stores number ≡ Some store → slice_get fragments number ≡ Some fragment
+    → IsShapeFor store.shape fragment
+
+-- Each fragment is sound, and each has a store in a shape for it.
 pub record AreSoundFragments (schema : List ℕ) (fragments : Fragments) : Type 0 where
   pub sound : (fragment : FragmentDef) → Contains fragments.definitions fragment → IsSoundFragment schema fragment
   pub stored : length fragments.stores ≡ length fragments.definitions
+  pub shapes : AreShapes fragments.stores fragments.definitions
 
--- The relations are those of table datasets, and the words name them; the fragments are well made, their views are over the schema, the one pattern of each has no input, and each has a store; the rules are the given ones and over the schema, and the ranks are those of the relations by them.
-pub record IsSoundCatalogue (schema : List Relation) (words : List Word) (datasets : List Dataset) (fragments : List FragmentDef) (stores : List Store) (rules : List Constraint) (given : ℕ) (ranks : List ℕ) : Type 0 where
+-- The relations are those of table datasets, and the words name them; the fragments are well made, their views are over the schema, the one pattern of each
+-- has no input, and each has a store in a shape for it; the rules are the given ones and over the schema, and the ranks are those of the relations by them.
+pub record IsSoundCatalogue (schema : List Relation) (words : List Word) (datasets : List Dataset) (fragments : List FragmentDef) (stores : List Store)
+    (rules : List Constraint) (given : ℕ) (ranks : List ℕ) : Type 0 where
   pub schema_is : IsSchema schema
   pub datasets_are : (dataset : Dataset) → Contains datasets dataset → IsTableDataset schema dataset
   pub named : words ≡ words_of datasets
@@ -50,6 +78,7 @@ pub record IsSoundCatalogue (schema : List Relation) (words : List Word) (datase
   pub views : (fragment : FragmentDef) → Contains fragments fragment → IsQueryOver (arities_of schema) (query_of fragment.view)
   pub outputs : (fragment : FragmentDef) → Contains fragments fragment → fragment.access ≡ replicate (length fragment.view.head) false ∷ []
   pub stored : length stores ≡ length fragments
+  pub shapes : AreShapes stores fragments
   pub given_are : given ≡ length rules
   pub rules_are : (rule : Constraint) → Contains rules rule → IsRuleOver (arities_of schema) (rule_of rule)
   pub within : IsWithin (length schema) (IsEdge (rules_of rules))

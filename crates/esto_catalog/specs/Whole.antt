@@ -13,6 +13,7 @@ use Rattle.esto_catalog.specs.declared.setting.Field.{Field}
 use Rattle.esto_catalog.specs.declared.setting.Setting.{Setting}
 use Rattle.esto_catalog.specs.declared.setting.Setting.TheVariants.{Integer}
 use Rattle.esto_catalog.specs.declared.whole.Sections.{Sections}
+use Rattle.esto_catalog.specs.declared.whole.TheConstants.{MAX_ENTRIES}
 
 -- The bytes are UTF-8, and TOML; else Toml.
 abbrev pub reads_toml : List ℕ → Course CatalogueError Document
@@ -24,10 +25,10 @@ reads_toml bytes =
 abbrev pub has_version : Option Setting → Course CatalogueError (Unit {0})
 has_version version = demands (version ≡ Some (Integer (pos 1))) (fault_at Version top (codes "version"))
 
--- A section is an array of tables; else WrongType. It has at most 256 entries; else TooMany.
+-- A section is an array of tables; else WrongType. It has no more entries than a section may have; else TooMany.
 abbrev pub reads_section : List ℕ → Option (List (List Field)) → Course CatalogueError (List (List Field))
 reads_section key None = refuses (fault_at WrongType top key)
-reads_section key (Some entries) = and_then (demands (length entries ≤ 256) (fault_at TooMany top key)) (λ _. gives entries)
+reads_section key (Some entries) = and_then (demands (length entries ≤ MAX_ENTRIES) (fault_at TooMany top key)) (λ _. gives entries)
 
 -- The entry is set to documents or keys at this key.
 abbrev pub is_no_table : List ℕ → List Field → Bool

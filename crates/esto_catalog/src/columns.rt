@@ -4,13 +4,14 @@ ghost use Rattle.std.specs.List.{list_all};
 ghost use Rattle.esto_catalog.specs.Datasets.{is_letter, is_name_byte, is_name, AreColumns, begins_plain};
 
 use crate::setting::is_same;
+use esto_query::MAX_COLUMNS;
 use esto_term::Text;
 
-/// The greatest number of columns of a table.
-const COLUMN_LIMIT: usize = 32;
+/// The greatest number of bytes of a name.
+pub const MAX_NAME: usize = 64;
 
-/// The greatest number of bytes of a name after its first.
-const NAME_LIMIT: usize = 63;
+/// The bytes of a byte-order mark, with which a file may begin.
+pub const MARK: [u8; 3] = [0xef, 0xbb, 0xbf];
 
 // Whether the byte is an ASCII letter.
 fn is_letter(byte: u8) -> bool
@@ -33,14 +34,14 @@ fn are_name_bytes(bytes: &[u8]) -> bool
     bytes.iter().all(|byte| is_name_byte(*byte))
 }
 
-/// Whether the text is a name: a letter, then letters, digits and `_`, at most 64 bytes in all.
+/// Whether the text is a name: a letter, then letters, digits and `_`, at most `MAX_NAME` bytes in all.
 pub fn is_name(text: &[u8]) -> bool
     ensures { result ≡ is_name text.now }
 {
     let Some((first, rest)) = text.split_first() else {
         return false;
     };
-    is_letter(*first) && are_name_bytes(rest) && rest.len() <= NAME_LIMIT
+    is_letter(*first) && are_name_bytes(rest) && rest.len() < MAX_NAME
 }
 
 // Whether one of the texts is this one.
@@ -69,14 +70,15 @@ fn begins_plain(texts: &[Text]) -> bool
     ensures { IsTrue result ↔ begins_plain texts.now }
 {
     match texts.first() {
-        Some(first) => !first.bytes().starts_with(b"\xEF\xBB\xBF"),
+        Some(first) => !first.bytes().starts_with(&MARK),
         None => true,
     }
 }
 
-/// Whether the texts are the columns of a table: 1 to 32, no two the same, no byte-order mark before the first.
+/// Whether the texts are the columns of a table: 1 to `MAX_COLUMNS` of them, no two the same, no byte-order mark before
+/// the first.
 pub fn are_columns(texts: &[Text]) -> bool
     ensures { IsTrue result ↔ AreColumns texts.now }
 {
-    !texts.is_empty() && texts.len() <= COLUMN_LIMIT && are_distinct(texts) && begins_plain(texts)
+    !texts.is_empty() && texts.len() <= MAX_COLUMNS && are_distinct(texts) && begins_plain(texts)
 }

@@ -8,9 +8,9 @@ ghost use Rattle.esto_catalog.specs.Rows.{Walks};
 ghost use Rattle.esto_catalog.specs.Soundness.{AreSoundRules};
 ghost use Rattle.esto_catalog.specs.Tables.{IsTables};
 
-use crate::fault::{CatalogueError, Place, Section, text_fault};
+use crate::fault::{CatalogueError, CatalogueKind, Place, Section, fault};
 use crate::row::{knows_keys, needs_text};
-use crate::setting::{Entry, Field};
+use crate::setting::{Field, KeyList};
 use crate::tables::Tables;
 use esto_constraint::{Constraint, Rules};
 use esto_read::read_constraint;
@@ -31,7 +31,13 @@ fn rule_of_text(
 {
     match read_constraint(alloc, text.bytes(), &tables.words, &tables.schema) {
         Ok(rule) => Ok(rule),
-        Err(ReadError::Fault(found)) => Err(text_fault(alloc, found, place, "rule")),
+        Err(ReadError::Fault(found)) => Err(fault(
+            alloc,
+            CatalogueKind::BadText,
+            place,
+            "rule",
+            Some(found),
+        )),
         Err(ReadError::OutOfMemory) => Err(CatalogueError::OutOfMemory),
     }
 }
@@ -74,7 +80,7 @@ fn read_entry(
 pub fn read_constraints(
     alloc: Global,
     tables: &Tables,
-    entries: &[Entry],
+    entries: &[KeyList],
 ) -> Result<Rules, CatalogueError>
     requires { IsTables tables.now }
     ensures rules { Walks (reads_constraints tables.now.datasets entries.now) result }
@@ -82,10 +88,7 @@ pub fn read_constraints(
 {
     let mut rules = List::new(alloc);
     'entries: for (index, entry) in entries.iter().enumerate() {
-        let place = Place {
-            section: Section::Constraint,
-            number: index as u64 + 1,
-        };
+        let place = Place::entry(Section::Constraint, index);
         let fields = entry.items();
         let rule = read_entry(alloc, place, tables, fields)?;
         rules.push(rule)?;

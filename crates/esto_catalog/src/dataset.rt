@@ -1,7 +1,16 @@
-//! Datasets, and where fragments are stored.
+//! Datasets, and the rows of one.
+ghost use Rattle.std.specs.Prelude.{◌≡◌, ◌≤◌, length, IfOk};
+ghost use Rattle.esto_catalog.specs.Datasets.{AreTableDatasets, has_dataset, name_row, model_row, columns_row, dataset_file_row, reads_dataset, reads_datasets};
+ghost use Rattle.esto_catalog.specs.Rows.{Walks};
+ghost use Rattle.esto_catalog.specs.declared.whole.TheConstants.{MAX_ENTRIES};
 
+use crate::columns::{are_columns, is_name};
+use crate::fault::{CatalogueError, CatalogueKind, Place, Section, demand};
+use crate::row::{allows_text, knows_keys, needs_text, needs_texts, unfit};
+use crate::setting::{Field, KeyList, is_same};
 use esto_read::DataModel;
 use esto_term::{List, Text, TextRow};
+use std::alloc::Global;
 
 /// A dataset: its name, what it is, the number of its first relation, the names of its columns where it is a table,
 /// and its file where it has one.
@@ -17,19 +26,109 @@ pub struct Dataset {
 /// The datasets of a catalogue, in order.
 pub type Datasets = List<Dataset>;
 
-/// How the rows of a fragment are stored.
-#[derive(Debug, Drop)]
-pub enum Shape {
-    /// As a CSV file with these columns.
-    Table(TextRow),
+/// Whether a dataset has the name.
+pub fn has_dataset(name: &Text, datasets: &[Dataset]) -> bool
+    ensures { result ≡ has_dataset name.now datasets.now }
+{
+    datasets
+        .iter()
+        .any(|dataset| is_same(&dataset.name, name.as_str()))
 }
 
-/// Where a fragment is stored.
-#[derive(Debug, Drop)]
-pub struct Store {
-    pub shape: Shape,
-    pub file: Text,
+// The name: a name, and no earlier dataset's.
+#[tactic(auto, using(crate::proofs::RowLemmas::rows))]
+fn name(
+    alloc: Global,
+    place: Place,
+    earlier: &[Dataset],
+    entry: &[Field],
+) -> Result<Text, CatalogueError>
+    ensures { Walks (name_row place earlier.now entry.now) result }
+{
+    let name = needs_text(alloc, place, "name", entry)?;
+    let bytes = name.bytes();
+    let is_name = is_name(bytes);
+    demand(alloc, is_name, CatalogueKind::BadName, place, "name")?;
+    let is_there = has_dataset(&name, earlier);
+    demand(alloc, !is_there, CatalogueKind::SameName, place, "name")?;
+    Ok(name)
 }
 
-/// The stores of a catalogue's fragments, in order.
-pub type Stores = List<Store>;
+// The model: a table.
+#[tactic(auto, using(crate::proofs::RowLemmas::rows))]
+fn model(alloc: Global, place: Place, entry: &[Field]) -> Result<DataModel, CatalogueError>
+    ensures { Walks (model_row place entry.now) result }
+{
+    let model = needs_text(alloc, place, "model", entry)?;
+    let is_table = is_same(&model, "table");
+    demand(alloc, is_table, CatalogueKind::BadModel, place, "model")?;
+    Ok(DataModel::Table)
+}
+
+// The columns of a table.
+#[tactic(auto, using(crate::proofs::RowLemmas::rows))]
+fn columns(alloc: Global, place: Place, entry: &[Field]) -> Result<TextRow, CatalogueError>
+    ensures { Walks (columns_row place entry.now) result }
+{
+    let columns = needs_texts(alloc, place, "columns", entry)?;
+    let texts = columns.items();
+    let are_columns = are_columns(texts);
+    demand(
+        alloc,
+        are_columns,
+        CatalogueKind::BadColumns,
+        place,
+        "columns",
+    )?;
+    Ok(columns)
+}
+
+// The file, where there is one.
+#[tactic(auto, using(crate::proofs::RowLemmas::rows))]
+fn file(alloc: Global, place: Place, entry: &[Field]) -> Result<Option<Text>, CatalogueError>
+    ensures { Walks (dataset_file_row place entry.now) result }
+{
+    allows_text(alloc, place, "file", entry)
+}
+
+// The rows of a dataset, in order: unknown keys, name, model, columns, layout, file.
+#[tactic(auto, using(crate::proofs::RowLemmas::rows))]
+fn read_dataset(
+    alloc: Global,
+    place: Place,
+    earlier: &[Dataset],
+    entry: &[Field],
+) -> Result<Dataset, CatalogueError>
+    ensures { Walks (reads_dataset place earlier.now entry.now) result }
+{
+    knows_keys(alloc, place, entry)?;
+    let name = name(alloc, place, earlier, entry)?;
+    let model = model(alloc, place, entry)?;
+    let columns = columns(alloc, place, entry)?;
+    unfit(alloc, "layout", place, entry)?;
+    let file = file(alloc, place, entry)?;
+    Ok(Dataset {
+        name,
+        model,
+        base: earlier.len(),
+        columns,
+        file,
+    })
+}
+
+/// The datasets of the entries, in order, counted from 1.
+pub fn read_datasets(alloc: Global, entries: &[KeyList]) -> Result<Datasets, CatalogueError>
+    requires { length entries.now ≤ MAX_ENTRIES }
+    ensures datasets { Walks (reads_datasets entries.now) result }
+    ensures tables { IfOk result AreTableDatasets }
+{
+    let mut datasets = List::new(alloc);
+    'entries: for (index, entry) in entries.iter().enumerate() {
+        let place = Place::entry(Section::Dataset, index);
+        let earlier = datasets.items();
+        let fields = entry.items();
+        let dataset = read_dataset(alloc, place, earlier, fields)?;
+        datasets.push(dataset)?;
+    }
+    Ok(datasets)
+}

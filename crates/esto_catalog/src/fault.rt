@@ -1,7 +1,7 @@
 //! What may be wrong with a catalogue.
-ghost use Rattle.std.specs.Prelude.{◌≡◌, true};
+ghost use Rattle.std.specs.Prelude.{◌≡◌, ◌+◌, ◌<◌, true};
 ghost use Rattle.esto_course.specs.Course.{demands};
-ghost use Rattle.esto_catalog.specs.Rows.{IsFault, Walks, fault_at, text_fault_at};
+ghost use Rattle.esto_catalog.specs.Rows.{IsFault, Walks, fault_at, fault_with};
 
 use esto_acyclic::Cycle;
 use esto_term::{OutOfMemory, Text};
@@ -24,6 +24,19 @@ pub struct Place {
     pub number: u64,
 }
 
+impl Place {
+    /// The entry of the section at this place, counted from 0.
+    pub fn entry(section: Section, index: usize) -> Place
+        requires { index < usize.MAX }
+        ensures { result ≡ record { section = section; number = index + 1 } }
+    {
+        Place {
+            section,
+            number: index as u64 + 1,
+        }
+    }
+}
+
 /// The top of the file.
 pub const TOP: Place = Place {
     section: Section::Top,
@@ -41,7 +54,7 @@ pub enum CatalogueKind {
     Version,
     /// The value has another type than the key wants.
     WrongType,
-    /// A section has more than 256 entries.
+    /// A section has more than `MAX_ENTRIES` entries.
     TooMany,
     /// The key is needed and absent.
     Missing,
@@ -103,35 +116,25 @@ impl From<OutOfMemory> for CatalogueError {
     }
 }
 
-/// The fault of this kind at the key, or want of memory.
-pub fn fault(alloc: Global, kind: CatalogueKind, place: Place, key: &str) -> CatalogueError
-    ensures { IsFault (fault_at kind place key.now) result }
+/// The fault of this kind at the key, with that of a text where it is one's, or want of memory.
+pub fn fault(
+    alloc: Global,
+    kind: CatalogueKind,
+    place: Place,
+    key: &str,
+    text: Option<TextFault>,
+) -> CatalogueError
+    ensures { IsFault (fault_with kind place key.now text) result }
 {
-    match Text::from_bytes(alloc, key.as_bytes()) {
+    match Text::from_str(alloc, key) {
         Ok(key) => CatalogueError::Fault(CatalogueFault {
             kind,
             section: place.section,
             number: place.number,
             key,
-            text: None,
+            text,
         }),
-        Err(_) => CatalogueError::OutOfMemory,
-    }
-}
-
-/// The text's fault at the key, or want of memory.
-pub fn text_fault(alloc: Global, text: TextFault, place: Place, key: &str) -> CatalogueError
-    ensures { IsFault (text_fault_at text place key.now) result }
-{
-    match Text::from_bytes(alloc, key.as_bytes()) {
-        Ok(key) => CatalogueError::Fault(CatalogueFault {
-            kind: CatalogueKind::BadText,
-            section: place.section,
-            number: place.number,
-            key,
-            text: Some(text),
-        }),
-        Err(_) => CatalogueError::OutOfMemory,
+        Err(OutOfMemory) => CatalogueError::OutOfMemory,
     }
 }
 
@@ -149,5 +152,5 @@ pub fn demand(
     if holds {
         return Ok(());
     }
-    Err(fault(alloc, kind, place, key))
+    Err(fault(alloc, kind, place, key, None))
 }

@@ -5,18 +5,18 @@ ghost use Rattle.esto_catalog.specs.Datasets.{AreColumns, has_dataset};
 ghost use Rattle.esto_catalog.specs.Fragments.{has_fragment, reads_view, view_row, store_row, file_row, column_of, head_columns, name_at, store_columns, store_columns_row, stored_fragment, reads_fragment, reads_fragments};
 ghost use Rattle.esto_catalog.specs.declared.setting.Setting.TheVariants.{Texts};
 ghost use Rattle.esto_catalog.specs.Rows.{Walks};
-ghost use Rattle.esto_catalog.specs.Soundness.{IsSoundView, IsSoundFragment, AreSoundFragments};
+ghost use Rattle.esto_catalog.specs.Soundness.{IsSoundView, IsSoundStored, AreSoundFragments};
 ghost use Rattle.esto_catalog.specs.Tables.{IsTables};
 
+use crate::catalogue::{Shape, Store, Stores};
 use crate::columns::are_columns;
-use crate::dataset::{Dataset, Shape, Store, Stores};
-use crate::dataset_rows::has_dataset;
-use crate::fault::{CatalogueError, CatalogueKind, Place, Section, demand, fault, text_fault};
+use crate::dataset::has_dataset;
+use crate::fault::{CatalogueError, CatalogueKind, Place, Section, demand, fault};
 use crate::row::{knows_keys, needs_text, unfit};
-use crate::setting::{Entry, Field, Setting, is_same, setting_at};
+use crate::setting::{Field, KeyList, Setting, is_same, setting_at};
 use crate::tables::Tables;
 use esto_query::{Name, Query};
-use esto_read::{NamedQuery, read_view};
+use esto_read::{NamedQuery, read_view, views_name_their_columns};
 use esto_term::{List, OutOfMemory, Replicate, Term, Text, TextRow, Values};
 use esto_text::ReadError;
 use esto_views::{Access, FragmentDef, FragmentDefs};
@@ -47,7 +47,8 @@ fn has_fragment(name: &Text, fragments: &[FragmentDef]) -> bool
 
 // Whether a dataset or a fragment has the name.
 fn is_taken(name: &Text, tables: &Tables, earlier: &[FragmentDef]) -> bool
-    ensures { result ≡ (has_dataset name.now tables.now.datasets || has_fragment name.now earlier.now) }
+    ensures { result ≡ (has_dataset name.now tables.now.datasets
+        || has_fragment name.now earlier.now) }
 {
     has_dataset(name, tables.datasets.items()) || has_fragment(name, earlier)
 }
@@ -65,7 +66,13 @@ fn view_of_text(
 {
     match read_view(alloc, text.bytes(), &tables.words, &tables.schema) {
         Ok(view) => Ok(view),
-        Err(ReadError::Fault(found)) => Err(text_fault(alloc, found, place, "view")),
+        Err(ReadError::Fault(found)) => Err(fault(
+            alloc,
+            CatalogueKind::BadText,
+            place,
+            "view",
+            Some(found),
+        )),
         Err(ReadError::OutOfMemory) => Err(CatalogueError::OutOfMemory),
     }
 }
@@ -109,24 +116,14 @@ fn file(alloc: Global, place: Place, entry: &[Field]) -> Result<Text, CatalogueE
     needs_text(alloc, place, "file", entry)
 }
 
-// The empty text.
-fn empty(alloc: Global) -> Result<Text, OutOfMemory>
-    ensures { IfOk result (λ it. it ≡ []) }
-{
-    match Text::from_bytes(alloc, &[]) {
-        Ok(text) => Ok(text),
-        Err(_) => Err(OutOfMemory),
-    }
-}
-
 // The text, or the empty text where there is none.
 fn name_at(alloc: Global, name: Option<&Name>) -> Result<Text, OutOfMemory>
     ensures { IfOk result (λ it. it ≡ name_at (option_copied name.entry)) }
 {
     match name {
         Some(Name::Given(name)) => name.copy(alloc),
-        Some(Name::Hidden) => empty(alloc),
-        None => empty(alloc),
+        Some(Name::Hidden) => Ok(Text::new(alloc)),
+        None => Ok(Text::new(alloc)),
     }
 }
 
@@ -136,8 +133,8 @@ fn column_of(alloc: Global, names: &[Name], term: &Term) -> Result<Text, OutOfMe
 {
     match term {
         Term::Plain(number) => name_at(alloc, names.get(*number as usize)),
-        Term::Const(_) => empty(alloc),
-        Term::Made(_, _, _) => empty(alloc),
+        Term::Const(_) => Ok(Text::new(alloc)),
+        Term::Made(_, _, _) => Ok(Text::new(alloc)),
     }
 }
 
@@ -154,7 +151,8 @@ fn head_columns(alloc: Global, view: &Query) -> Result<TextRow, OutOfMemory>
 
 // Whether the texts are columns of a table, as many as the view has.
 fn are_fit(columns: &TextRow, view: &Query) -> bool
-    ensures { IsTrue result ↔ (AreColumns columns.now × (length columns.now ≡ length view.now.head)) }
+    ensures { IsTrue result ↔ (AreColumns columns.now
+        × (length columns.now ≡ length view.now.head)) }
 {
     are_columns(columns.items()) && columns.len() == view.head.len()
 }
@@ -187,9 +185,21 @@ fn columns(
     match setting_at("columns", entry) {
         None => Ok(head_columns(alloc, view)?),
         Some(Setting::Texts(columns)) => written_columns(alloc, place, view, columns),
-        Some(Setting::Text(_)) => Err(fault(alloc, CatalogueKind::WrongType, place, "columns")),
-        Some(Setting::Integer(_)) => Err(fault(alloc, CatalogueKind::WrongType, place, "columns")),
-        Some(Setting::Other) => Err(fault(alloc, CatalogueKind::WrongType, place, "columns")),
+        Some(Setting::Text(_)) => Err(fault(
+            alloc,
+            CatalogueKind::WrongType,
+            place,
+            "columns",
+            None,
+        )),
+        Some(Setting::Integer(_)) => Err(fault(
+            alloc,
+            CatalogueKind::WrongType,
+            place,
+            "columns",
+            None,
+        )),
+        Some(Setting::Other) => Err(fault(alloc, CatalogueKind::WrongType, place, "columns", None)),
     }
 }
 
@@ -241,9 +251,11 @@ fn read_fragment(
     entry: &[Field],
 ) -> Result<Stored, CatalogueError>
     requires { IsTables tables.now }
-    ensures fragment { Walks (reads_fragment place tables.now.datasets earlier.now entry.now) result }
-    ensures sound { IfOk result (λ it. IsSoundFragment (arities_of tables.now.schema) it.definition) }
+    ensures fragment { Walks
+        (reads_fragment place tables.now.datasets earlier.now entry.now) result }
+    ensures sound { IfOk result (IsSoundStored (arities_of tables.now.schema)) }
 {
+    views_name_their_columns();
     knows_keys(alloc, place, entry)?;
     let view = view(alloc, place, tables, earlier, entry)?;
     store(alloc, place, entry)?;
@@ -259,7 +271,7 @@ fn read_fragment(
 pub fn read_fragments(
     alloc: Global,
     tables: &Tables,
-    entries: &[Entry],
+    entries: &[KeyList],
 ) -> Result<Fragments, CatalogueError>
     requires { IsTables tables.now }
     ensures fragments { Walks (reads_fragments tables.now.datasets entries.now) result }
@@ -268,10 +280,7 @@ pub fn read_fragments(
     let mut definitions = List::new(alloc);
     let mut stores = List::new(alloc);
     'entries: for (index, entry) in entries.iter().enumerate() {
-        let place = Place {
-            section: Section::Fragment,
-            number: index as u64 + 1,
-        };
+        let place = Place::entry(Section::Fragment, index);
         let earlier = definitions.items();
         let fields = entry.items();
         let stored = read_fragment(alloc, place, tables, earlier, fields)?;

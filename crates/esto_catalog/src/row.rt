@@ -60,7 +60,8 @@ fn lesser<'a>(least: Option<&'a Text>, key: &'a Text) -> &'a Text
 
 // The least unknown key of the entry, by bytes.
 fn least_unknown<'a>(section: Section, entry: &'a [Field]) -> Option<&'a Text>
-    ensures { MatchOption result ((key : List ℕ) → ¬ IsUnknown section entry.now key) (λ key. IsLeastUnknown section entry.now key.now) }
+    ensures { MatchOption result ((key : List ℕ) → ¬ IsUnknown section entry.now key) (λ key.
+        IsLeastUnknown section entry.now key.now) }
 {
     let mut least: Option<&'a Text> = None;
     'fields: for field in entry {
@@ -76,7 +77,7 @@ pub fn knows_keys(alloc: Global, place: Place, entry: &[Field]) -> Result<(), Ca
     ensures { Walks (knows_keys place entry.now) result }
 {
     match least_unknown(place.section, entry) {
-        Some(key) => Err(fault(alloc, CatalogueKind::UnknownKey, place, key.as_str())),
+        Some(key) => Err(fault(alloc, CatalogueKind::UnknownKey, place, key.as_str(), None)),
         None => Ok(()),
     }
 }
@@ -92,11 +93,11 @@ pub fn needs_text(
     ensures { Walks (needs_text place key.now (setting_at key.now entry.now)) result }
 {
     match setting_at(key, entry) {
-        None => Err(fault(alloc, CatalogueKind::Missing, place, key)),
+        None => Err(fault(alloc, CatalogueKind::Missing, place, key, None)),
         Some(Setting::Text(text)) => Ok(text.copy(alloc)?),
-        Some(Setting::Integer(_)) => Err(fault(alloc, CatalogueKind::WrongType, place, key)),
-        Some(Setting::Texts(_)) => Err(fault(alloc, CatalogueKind::WrongType, place, key)),
-        Some(Setting::Other) => Err(fault(alloc, CatalogueKind::WrongType, place, key)),
+        Some(Setting::Integer(_)) => Err(fault(alloc, CatalogueKind::WrongType, place, key, None)),
+        Some(Setting::Texts(_)) => Err(fault(alloc, CatalogueKind::WrongType, place, key, None)),
+        Some(Setting::Other) => Err(fault(alloc, CatalogueKind::WrongType, place, key, None)),
     }
 }
 
@@ -113,9 +114,9 @@ pub fn allows_text(
     match setting_at(key, entry) {
         None => Ok(None),
         Some(Setting::Text(text)) => Ok(Some(text.copy(alloc)?)),
-        Some(Setting::Integer(_)) => Err(fault(alloc, CatalogueKind::WrongType, place, key)),
-        Some(Setting::Texts(_)) => Err(fault(alloc, CatalogueKind::WrongType, place, key)),
-        Some(Setting::Other) => Err(fault(alloc, CatalogueKind::WrongType, place, key)),
+        Some(Setting::Integer(_)) => Err(fault(alloc, CatalogueKind::WrongType, place, key, None)),
+        Some(Setting::Texts(_)) => Err(fault(alloc, CatalogueKind::WrongType, place, key, None)),
+        Some(Setting::Other) => Err(fault(alloc, CatalogueKind::WrongType, place, key, None)),
     }
 }
 
@@ -130,11 +131,11 @@ pub fn needs_texts(
     ensures { Walks (needs_texts place key.now (setting_at key.now entry.now)) result }
 {
     match setting_at(key, entry) {
-        None => Err(fault(alloc, CatalogueKind::Missing, place, key)),
+        None => Err(fault(alloc, CatalogueKind::Missing, place, key, None)),
         Some(Setting::Texts(texts)) => Ok(texts.copy(alloc)?),
-        Some(Setting::Text(_)) => Err(fault(alloc, CatalogueKind::WrongType, place, key)),
-        Some(Setting::Integer(_)) => Err(fault(alloc, CatalogueKind::WrongType, place, key)),
-        Some(Setting::Other) => Err(fault(alloc, CatalogueKind::WrongType, place, key)),
+        Some(Setting::Text(_)) => Err(fault(alloc, CatalogueKind::WrongType, place, key, None)),
+        Some(Setting::Integer(_)) => Err(fault(alloc, CatalogueKind::WrongType, place, key, None)),
+        Some(Setting::Other) => Err(fault(alloc, CatalogueKind::WrongType, place, key, None)),
     }
 }
 

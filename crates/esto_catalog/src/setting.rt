@@ -30,27 +30,18 @@ pub struct Field {
 }
 
 /// The keys of a table with their settings.
-pub type Entry = List<Field>;
+pub type KeyList = List<Field>;
 
 /// The entries of a section, in order.
-pub type Entries = List<Entry>;
+pub type SectionTables = List<KeyList>;
 
 /// A catalogue's file: its top keys, and its sections, each None where it is no array of tables.
 #[derive(Drop)]
 pub struct Document {
-    pub fields: Entry,
-    pub datasets: Option<Entries>,
-    pub fragments: Option<Entries>,
-    pub constraints: Option<Entries>,
-}
-
-fn text_of(alloc: Global, text: &str) -> Result<Text, OutOfMemory>
-    ensures { IfOk result (λ it. it ≡ text.now) }
-{
-    match Text::from_bytes(alloc, text.as_bytes()) {
-        Ok(text) => Ok(text),
-        Err(_) => Err(OutOfMemory),
-    }
+    pub fields: KeyList,
+    pub datasets: Option<SectionTables>,
+    pub fragments: Option<SectionTables>,
+    pub constraints: Option<SectionTables>,
 }
 
 // The texts of an array, or None where it has something else.
@@ -60,7 +51,7 @@ fn texts_of(alloc: Global, array: &[Value]) -> Result<Option<TextRow>, OutOfMemo
     let mut texts = List::new(alloc);
     'items: for item in array {
         match item.as_str() {
-            Some(text) => texts.push(text_of(alloc, text)?)?,
+            Some(text) => texts.push(Text::from_str(alloc, text)?)?,
             None => return Ok(None),
         }
     }
@@ -80,7 +71,7 @@ fn setting_of(alloc: Global, value: &Value) -> Result<Setting, OutOfMemory>
     ensures { IfOk result (λ it. it ≡ setting_of (view value.now)) }
 {
     if let Some(text) = value.as_str() {
-        return Ok(Setting::Text(text_of(alloc, text)?));
+        return Ok(Setting::Text(Text::from_str(alloc, text)?));
     }
     if let Some(number) = value.as_integer() {
         return Ok(Setting::Integer(number));
@@ -91,12 +82,12 @@ fn setting_of(alloc: Global, value: &Value) -> Result<Setting, OutOfMemory>
     }
 }
 
-fn entry_of(alloc: Global, table: &Table) -> Result<Entry, OutOfMemory>
+fn entry_of(alloc: Global, table: &Table) -> Result<KeyList, OutOfMemory>
     ensures { IfOk result (λ it. it ≡ entry_of (table_view table.now)) }
 {
     let mut entry = List::new(alloc);
     'fields: for (key, value) in table {
-        let key = text_of(alloc, key.as_str())?;
+        let key = Text::from_str(alloc, key.as_str())?;
         let setting = setting_of(alloc, value)?;
         entry.push(Field { key, setting })?;
     }
@@ -104,7 +95,7 @@ fn entry_of(alloc: Global, table: &Table) -> Result<Entry, OutOfMemory>
 }
 
 // The entries of an array, or None where it has something else than tables.
-fn entries_of(alloc: Global, array: &[Value]) -> Result<Option<Entries>, OutOfMemory>
+fn entries_of(alloc: Global, array: &[Value]) -> Result<Option<SectionTables>, OutOfMemory>
     ensures { IfOk result (λ it. it ≡ entries_of (items_view array.now)) }
 {
     let mut entries = List::new(alloc);
@@ -118,7 +109,7 @@ fn entries_of(alloc: Global, array: &[Value]) -> Result<Option<Entries>, OutOfMe
 }
 
 // The entries of a section, or None where it is no array of tables.
-fn section_of(alloc: Global, table: &Table, key: &str) -> Result<Option<Entries>, OutOfMemory>
+fn section_of(alloc: Global, table: &Table, key: &str) -> Result<Option<SectionTables>, OutOfMemory>
     ensures { IfOk result (λ it. it ≡ section_of (get_member key.now (table_view table.now))) }
 {
     let Some(value) = table.get(key) else {
@@ -152,7 +143,7 @@ pub fn read_toml(alloc: Global, bytes: &[u8]) -> Result<Document, CatalogueError
     match toml::table_from_slice(alloc, bytes) {
         Ok(table) => Ok(document_of(alloc, &table)?),
         Err(error) if error.is_memory() => Err(CatalogueError::OutOfMemory),
-        Err(_) => Err(fault(alloc, CatalogueKind::Toml, TOP, "-")),
+        Err(_) => Err(fault(alloc, CatalogueKind::Toml, TOP, "-", None)),
     }
 }
 
@@ -172,7 +163,8 @@ pub fn has_key(key: &str, entry: &[Field]) -> bool
 
 /// What the key is set to, where the entry has it.
 pub fn setting_at<'a>(key: &str, entry: &'a [Field]) -> Option<&'a Setting>
-    ensures { MatchOption result (setting_at key.now entry.now ≡ None) (λ setting. setting_at key.now entry.now ≡ Some setting.now) }
+    ensures { MatchOption result (setting_at key.now entry.now ≡ None) (λ setting.
+        setting_at key.now entry.now ≡ Some setting.now) }
 {
     'fields: for field in entry {
         if is_same(&field.key, key) {

@@ -3,6 +3,7 @@ ghost use Rattle.std.specs.Prelude.{◌≡◌, ◌<◌, ◌++◌, ◌∷◌, [],
 ghost use Rattle.esto_query.specs.Schemas.{IsArity, names_of};
 ghost use Rattle.esto_catalog.specs.Datasets.{AreTableDatasets, schema_of, words_of};
 ghost use Rattle.esto_catalog.specs.Tables.{IsTables};
+ghost use Rattle.esto_query.specs.declared.schema.TheConstants.{MAX_RELATIONS};
 
 use crate::dataset::{Dataset, Datasets};
 use esto_query::{Schema, SchemaError};
@@ -22,7 +23,7 @@ pub struct Tables {
 fn add_table(schema: &mut Schema, name: Text, arity: usize) -> Result<(), OutOfMemory>
     requires new { ¬ Contains (names_of schema.old) name }
     requires arity { IsArity arity }
-    requires room { length schema.old < 1280 }
+    requires room { length schema.old < MAX_RELATIONS }
     ensures { OnOk result (schema.new ≡ schema.old ++ record { name = name; arity = arity } ∷ []) }
 {
     match schema.add(name, arity) {

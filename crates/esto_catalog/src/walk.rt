@@ -1,16 +1,15 @@
 //! The walk over the rows of the whole catalogue.
 ghost use Rattle.std.specs.Prelude.{IfOk, IfErr};
 ghost use Rattle.esto_query.specs.Schemas.{arities_of};
-ghost use Rattle.esto_catalog.specs.Determined.{HaveOneCatalogue, HaveNoError, HaveOneError};
+ghost use Rattle.esto_catalog.specs.Determined.{CataloguesAreSound, HaveOneCatalogue, HaveNoError, HaveOneError};
 ghost use Rattle.esto_catalog.specs.Reading.{IsCatalogueOf, IsCatalogueError, is_acyclic, reads_catalogue};
 ghost use Rattle.esto_catalog.specs.Rows.{Walks};
-ghost use Rattle.esto_catalog.specs.Soundness.{AreSoundFragments, AreSoundRules, IsSoundCatalogue};
+ghost use Rattle.esto_catalog.specs.Soundness.{AreSoundFragments, AreSoundRules};
 ghost use Rattle.esto_catalog.specs.Tables.{IsTables};
-ghost use Rattle.esto_catalog.specs.declared.catalogue.Catalogue.{Catalogue};
 
 use crate::catalogue::Catalogue;
 use crate::constraint::read_constraints;
-use crate::dataset_rows::read_datasets;
+use crate::dataset::read_datasets;
 use crate::fault::CatalogueError;
 use crate::fragment::{Fragments, read_fragments};
 use crate::tables::{Tables, tables_of};
@@ -87,7 +86,7 @@ pub fn read_catalogue(alloc: Global, bytes: &[u8]) -> Result<Catalogue, Catalogu
 
 /// A law: each catalogue keeps what its description says.
 pub fn catalogues_are_sound()
-    ensures { (it : Catalogue) → IsSoundCatalogue it.schema it.words it.datasets it.fragments it.stores it.rules it.given it.ranks }
+    ensures { CataloguesAreSound }
 {}
 
 /// A law: bytes say at most one catalogue, up to what its views and rules mean, or have at most one first fault, and

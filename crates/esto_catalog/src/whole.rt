@@ -9,12 +9,12 @@ ghost use Rattle.esto_catalog.specs.Whole.{has_version, reads_section, is_no_tab
 use crate::fault::{CatalogueError, CatalogueKind, TOP, demand, fault};
 use crate::row::knows_keys;
 use crate::setting::{
-    Document, Entries, Entry, Field, Setting, has_key, is_set_to, read_toml, setting_at,
+    Document, Field, KeyList, SectionTables, Setting, has_key, is_set_to, read_toml, setting_at,
 };
 use std::alloc::Global;
 
 /// The greatest number of entries of a section.
-const ENTRY_LIMIT: usize = 256;
+pub const MAX_ENTRIES: usize = 256;
 
 /// The version of catalogues.
 const VERSION: i64 = 1;
@@ -22,9 +22,9 @@ const VERSION: i64 = 1;
 /// The entries of the three sections.
 #[derive(Drop)]
 pub struct Sections {
-    pub datasets: Entries,
-    pub fragments: Entries,
-    pub constraints: Entries,
+    pub datasets: SectionTables,
+    pub fragments: SectionTables,
+    pub constraints: SectionTables,
 }
 
 // Whether the version is the integer 1.
@@ -49,34 +49,35 @@ fn has_version(alloc: Global, entry: &[Field]) -> Result<(), CatalogueError>
     demand(alloc, holds, CatalogueKind::Version, TOP, "version")
 }
 
-// The entries of a section: WrongType where it is no array of tables, TooMany where it has more than 256.
+// The entries of a section: WrongType where it is no array of tables, TooMany where it has
+// more than `MAX_ENTRIES`.
 #[tactic(auto, using(crate::proofs::RowLemmas::rows))]
 fn read_section(
     alloc: Global,
     key: &str,
-    section: Option<Entries>,
-) -> Result<Entries, CatalogueError>
+    section: Option<SectionTables>,
+) -> Result<SectionTables, CatalogueError>
     ensures section { Walks (reads_section key.now section) result }
-    ensures few { IfOk result (λ entries. length entries ≤ 256) }
+    ensures few { IfOk result (λ entries. length entries ≤ MAX_ENTRIES) }
 {
     let Some(entries) = section else {
-        return Err(fault(alloc, CatalogueKind::WrongType, TOP, key));
+        return Err(fault(alloc, CatalogueKind::WrongType, TOP, key, None));
     };
-    if entries.len() > ENTRY_LIMIT {
-        return Err(fault(alloc, CatalogueKind::TooMany, TOP, key));
+    if entries.len() > MAX_ENTRIES {
+        return Err(fault(alloc, CatalogueKind::TooMany, TOP, key, None));
     }
     Ok(entries)
 }
 
 // Whether the entry is set to documents or keys at this key.
-fn is_no_table(key: &str, entry: &Entry) -> bool
+fn is_no_table(key: &str, entry: &KeyList) -> bool
     ensures { result ≡ is_no_table key.now entry.now }
 {
     is_set_to("documents", key, entry.items()) || is_set_to("keys", key, entry.items())
 }
 
 // Whether the fragment is of a form that is not built yet.
-fn is_unbuilt(entry: &Entry) -> bool
+fn is_unbuilt(entry: &KeyList) -> bool
     ensures { result ≡ is_unbuilt entry.now }
 {
     is_no_table("store", entry)
@@ -85,28 +86,29 @@ fn is_unbuilt(entry: &Entry) -> bool
 }
 
 // Whether a dataset is documents or keys.
-fn has_no_table(datasets: &[Entry]) -> bool
+fn has_no_table(datasets: &[KeyList]) -> bool
     ensures { result ≡ list_any (is_no_table (codes "model")) datasets.now }
 {
     datasets.iter().any(|entry| is_no_table("model", entry))
 }
 
 // Whether a fragment is of a form that is not built yet.
-fn has_unbuilt(fragments: &[Entry]) -> bool
+fn has_unbuilt(fragments: &[KeyList]) -> bool
     ensures { result ≡ list_any is_unbuilt fragments.now }
 {
     fragments.iter().any(|entry| is_unbuilt(entry))
 }
 
 // Whether a dataset or a fragment is of a form that is not built yet.
-fn needs_more(datasets: &[Entry], fragments: &[Entry]) -> bool
-    ensures { result ≡ (list_any (is_no_table (codes "model")) datasets.now || list_any is_unbuilt fragments.now) }
+fn needs_more(datasets: &[KeyList], fragments: &[KeyList]) -> bool
+    ensures { result ≡ (list_any
+        (is_no_table (codes "model")) datasets.now || list_any is_unbuilt fragments.now) }
 {
     has_no_table(datasets) || has_unbuilt(fragments)
 }
 
 // No dataset is documents or keys, and no fragment is of a form that is not built yet; else NotBuilt.
-fn is_built(datasets: &[Entry], fragments: &[Entry]) -> Result<(), CatalogueError>
+fn is_built(datasets: &[KeyList], fragments: &[KeyList]) -> Result<(), CatalogueError>
     ensures { Walks (is_built datasets.now fragments.now) result }
 {
     if needs_more(datasets, fragments) {
@@ -119,7 +121,7 @@ fn is_built(datasets: &[Entry], fragments: &[Entry]) -> Result<(), CatalogueErro
 #[tactic(auto, using(crate::proofs::RowLemmas::rows))]
 pub fn read_whole(alloc: Global, bytes: &[u8]) -> Result<Sections, CatalogueError>
     ensures whole { Walks (reads_whole bytes.now) result }
-    ensures few { IfOk result (λ sections. length sections.datasets ≤ 256) }
+    ensures few { IfOk result (λ sections. length sections.datasets ≤ MAX_ENTRIES) }
 {
     let document = read_toml(alloc, bytes)?;
     let Document {

@@ -1,51 +1,100 @@
--- Courses that go on with at most one value or stop with at most one error.
-use Rattle.std.proofs.Common.{◌≡◌, ◌⊎◌, ℕ, suc, List, [], ◌∷◌, inl, inr, refl, sym, subst, ◌∙◌}
+-- Courses that agree, and courses that go on with at most one value or stop with at most one error.
+use Rattle.std.proofs.Common.{◌≡◌, ℕ, suc, List, [], ◌∷◌, inl, inr, refl, sym, subst, ◌∙◌}
 use Rattle.esto_course.specs.Course.{Course, judges, gives, refuses, demands, and_then, each}
 
+-- two courses go on with what counts as the same, or stop with one error; of errors, those that have a cause are looked at
+pub record Agree {E A : Type 0} (caused : E → Type 0) (Same : A → A → Type 0) (course other : Course E A) : Type 0 where
+  pub one : (value other_value : A) → course.goes value → other.goes other_value → Same value other_value
+  pub one_stop : (error other_error : E) → caused error → caused other_error → course.stops error → other.stops other_error → error ≡ other_error
+  pub apart : (value : A) (error : E) → caused error → course.goes value → other.stops error → ⊥
+  pub other_apart : (value : A) (error : E) → caused error → other.goes value → course.stops error → ⊥
+
+module _ {E A B : Type 0} (caused : E → Type 0) (Same : A → A → Type 0) (Result : B → B → Type 0) (first other : Course E A) (next other_next : A → Course E B) where
+  -- one step, and then what follows
+  pub then_agree : Agree caused Same first other → ((value other_value : A) → first.goes value → Same value other_value → Agree caused Result (next value) (other_next other_value))
+      → Agree caused Result (and_then first next) (and_then other other_next)
+  unfolding and_then
+  then_agree here there = record {
+    one = λ value other_value (early, goes, more) (late, follows, most). (there early late goes (here.one early late goes follows)).one value other_value more most;
+    one_stop = λ error other_error because because' stops stops'. elim stops [
+      | inl at_once ↦ elim stops' [
+        | inl at_once' ↦ here.one_stop error other_error because because' at_once at_once'
+        | inr (late, follows, most) ↦ absurd (here.other_apart late error because follows at_once)
+      ]
+      | inr (early, goes, more) ↦ elim stops' [
+        | inl at_once' ↦ absurd (here.apart early other_error because' goes at_once')
+        | inr (late, follows, most) ↦ (there early late goes (here.one early late goes follows)).one_stop error other_error because because' more most
+      ]
+    ];
+    apart = λ value error because (early, goes, more) stops. elim stops [
+      | inl at_once ↦ here.apart early error because goes at_once
+      | inr (late, follows, most) ↦ (there early late goes (here.one early late goes follows)).apart value error because more most
+    ];
+    other_apart = λ value error because (late, follows, most) stops. elim stops [
+      | inl at_once ↦ here.other_apart late error because follows at_once
+      | inr (early, goes, more) ↦ (there early late goes (here.one early late goes follows)).other_apart value error because most more
+    ];
+  }
+
+module _ {E : Type 0} (caused : E → Type 0) where
+  pub gives_agree : {A : Type 0} (value other : A) → value ≡ other → Agree caused ◌≡◌ (gives value) (gives other)
+  unfolding gives
+  gives_agree value other same = record {
+    one = λ one two here there. here ∙ same ∙ sym there;
+    one_stop = λ error other_error because because' here there. absurd here;
+    apart = λ one error because here there. there;
+    other_apart = λ one error because here there. there;
+  }
+
+  pub refuses_agree : (A : Type 0) (error : E) → Agree caused ◌≡◌ (refuses {A = A} error) (refuses {A = A} error)
+  unfolding refuses
+  refuses_agree A error = record {
+    one = λ one two here there. absurd here;
+    one_stop = λ one two because because' here there. here ∙ sym there;
+    apart = λ one error because here there. here;
+    other_apart = λ one error because here there. here;
+  }
+
+  pub judges_agree : {A : Type 0} (Same : A → A → Type 0) (Accepts Others : A → Type 0) (Refuses OtherRefuses : E → Type 0)
+      → ((value other : A) → Accepts value → Others other → Same value other)
+      → ((error other : E) → caused error → caused other → Refuses error → OtherRefuses other → error ≡ other)
+      → ((value : A) (error : E) → caused error → Accepts value → OtherRefuses error → ⊥)
+      → ((value : A) (error : E) → caused error → Others value → Refuses error → ⊥)
+      → Agree caused Same (judges Accepts Refuses) (judges Others OtherRefuses)
+  unfolding judges
+  judges_agree Same Accepts Others Refuses OtherRefuses one one_stop apart other_apart = record { one = one; one_stop = one_stop; apart = apart; other_apart = other_apart }
+
 -- it goes on with one value, up to what counts as the same, or stops with one error
-pub record IsDeterminedUpTo {E A : Type 0} (Same : A → A → Type 0) (course : Course E A) : Type 0 where
-  pub one : (value other : A) → course.goes value → course.goes other → Same value other
-  pub one_stop : (error other : E) → course.stops error → course.stops other → error ≡ other
-  pub apart : (value : A) (error : E) → course.goes value → course.stops error → ⊥
+abbrev pub IsDeterminedUpTo : {E A : Type 0} → (A → A → Type 0) → Course E A → Type 0
+IsDeterminedUpTo Same course = Agree (λ _. Unit {0}) Same course course
 
 -- it goes on with one value, or stops with one error
 abbrev pub IsDetermined : {E A : Type 0} → Course E A → Type 0
 IsDetermined course = IsDeterminedUpTo ◌≡◌ course
 
-module _ {E A B : Type 0} (Same : B → B → Type 0) (first : Course E A) (next : A → Course E B) (one : IsDetermined first) (two : (value : A) → first.goes value → IsDeterminedUpTo Same (next value)) where
-  same_next : (value other : A) (result : B) → first.goes value → first.goes other → (next other).goes result → (next value).goes result
-  same_next value other result goes goes' more = subst (λ (x : A). (next x).goes result) (one.one other value goes' goes) more
-
-  same_stop : (value other : A) (error : E) → first.goes value → first.goes other → (next other).stops error → (next value).stops error
-  same_stop value other error goes goes' stops = subst (λ (x : A). (next x).stops error) (one.one other value goes' goes) stops
-
-  pub then_determined : IsDeterminedUpTo Same (and_then first next)
-  unfolding and_then
-  then_determined = record {
-    one = λ value other h k. (two h.0 h.1).one value other h.2 (same_next h.0 k.0 other h.1 k.1 k.2);
-    one_stop = λ error other h k. elim h [
-      | inl h1 ↦ elim k [ inl k1 ↦ one.one_stop error other h1 k1 | inr k2 ↦ absurd (one.apart k2.0 error k2.1 h1) ]
-      | inr h2 ↦ elim k [ inl k1 ↦ absurd (one.apart h2.0 other h2.1 k1) | inr k2 ↦ (two h2.0 h2.1).one_stop error other h2.2 (same_stop h2.0 k2.0 other h2.1 k2.1 k2.2) ]
-    ];
-    apart = λ value error h k. elim k [ inl k1 ↦ one.apart h.0 error h.1 k1 | inr k2 ↦ (two h.0 h.1).apart value error h.2 (same_stop h.0 k2.0 error h.1 k2.1 k2.2) ];
-  }
+pub then_determined : {E A B : Type 0} (Same : B → B → Type 0) (first : Course E A) (next : A → Course E B) → IsDetermined first → ((value : A) → first.goes value → IsDeterminedUpTo Same (next value))
+    → IsDeterminedUpTo Same (and_then first next)
+then_determined Same first next one two = then_agree (λ _. Unit {0}) ◌≡◌ Same first first next next one (λ value other goes same. subst (λ it. Agree (λ _. Unit {0}) Same (next value) (next it)) same (two value goes))
 
 pub gives_determined : (E : Type 0) {A : Type 0} (value : A) → IsDetermined (gives {E = E} value)
-unfolding gives
-gives_determined E value = record { one = λ v w h k. h ∙ sym k; one_stop = λ s t h k. absurd h; apart = λ v s h k. k }
+gives_determined E value = gives_agree (λ _. Unit {0}) value value refl
 
 pub refuses_determined : (A : Type 0) {E : Type 0} (error : E) → IsDetermined (refuses {A = A} error)
-unfolding refuses
-refuses_determined A error = record { one = λ v w h k. absurd h; one_stop = λ s t h k. h ∙ sym k; apart = λ v s h k. h }
+refuses_determined A error = refuses_agree (λ _. Unit {0}) A error
 
 pub demands_determined : {E : Type 0} (condition : Type 0) (error : E) → IsDetermined (demands condition error)
 unfolding demands
-demands_determined condition error = record { one = λ v w h k. refl; one_stop = λ s t h k. h.1 ∙ sym k.1; apart = λ v s h k. k.0 h }
+demands_determined condition error = record {
+  one = λ v w h k. refl;
+  one_stop = λ s t because because' h k. h.1 ∙ sym k.1;
+  apart = λ v s because h k. k.0 h;
+  other_apart = λ v s because h k. k.0 h;
+}
 
 pub judges_determined : {E A : Type 0} (Same : A → A → Type 0) (accepts : A → Type 0) (refused : E → Type 0) → ((value other : A) → accepts value → accepts other → Same value other)
     → ((error other : E) → refused error → refused other → error ≡ other) → ((value : A) (error : E) → accepts value → refused error → ⊥) → IsDeterminedUpTo Same (judges accepts refused)
-unfolding judges
-judges_determined Same accepts refused one one_stop apart = record { one = one; one_stop = one_stop; apart = apart }
+judges_determined Same accepts refused one one_stop apart =
+    judges_agree (λ _. Unit {0}) Same accepts accepts refused refused one (λ error other because because'. one_stop error other) (λ value error because. apart value error) (λ value error because. apart value error)
 
 pub each_determined : {E A B : Type 0} (step : ℕ → B → A → Course E B) → ((number : ℕ) (given : B) (item : A) → IsDetermined (step number given item)) → (number : ℕ) (given : B) (items : List A)
     → IsDetermined (each step number given items)

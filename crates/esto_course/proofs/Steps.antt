@@ -1,8 +1,8 @@
 -- How the course of a chain of steps follows from the courses of its steps.
-use Rattle.std.proofs.Common.{◌≡◌, ◌⊎◌, ◌<◌, ◌≤◌, ◌+◌, ℕ, suc, List, [], ◌∷◌, length, drop, get_or, drop-cons, add-one, Result, Ok, Err, inl, inr, refl, sym, ap, subst, arith}
+use Rattle.std.proofs.Common.{◌≡◌, ◌<◌, ◌≤◌, ◌+◌, ℕ, suc, List, ◌∷◌, length, drop, get_or, drop-cons, add-one, Result, Ok, Err, inl, inr, refl, sym, ap, subst, arith}
 use Rattle.std.specs.Result.{IsErrAnd}
 use Rattle.std.proofs.lemmas.List.{drop_all}
-use Rattle.esto_course.specs.Course.{Course, judges, gives, refuses, demands, and_then, each, Stops, Runs}
+use Rattle.esto_course.specs.Course.{Course, gives, and_then, each, Stops, Runs}
 use Rattle.esto_course.specs.Course.Stops.{is_free, refused}
 
 module _ {E : Type 0} {free caused : E → Type 0} where
@@ -10,6 +10,11 @@ module _ {E : Type 0} {free caused : E → Type 0} where
   pub stops_more : {A B : Type 0} (from : Course E A) (to : Course E B) → ((error : E) → from.stops error → to.stops error) → (error : E) → Stops free caused from error → Stops free caused to error
   stops_more from to wider error (is_free is) = is_free is
   stops_more from to wider error (refused because stops) = refused because (wider error stops)
+
+  -- an error that has a cause in a part of a call has one in the call
+  pub caused_more : {wider : E → Type 0} {A : Type 0} (course : Course E A) (error : E) → ((it : E) → caused it → wider it) → Stops free caused course error → Stops free wider course error
+  caused_more course error more (is_free is) = is_free is
+  caused_more course error more (refused because stops) = refused (more error because) stops
 
   -- an error that `?` hands on
   pub at_exit : {A : Type 0} (course : Course E A) (error : E) (result : Result A E) → IsErrAnd result (λ handed. handed ≡ error) → Stops free caused course error → Runs free caused course result

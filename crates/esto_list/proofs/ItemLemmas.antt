@@ -18,9 +18,11 @@ use Rattle.esto_term.proofs.ListLemmas.{map_at}
 
 -- ---- the pick
 
-pub total_at : (items : List Listed) (place : ℕ) (item : Listed) → place < length items → item ≡ get_or items place item → slice_index_or (totals_of items) place 0 ≡ item.weight
+pub total_at : (items : List Listed) (place : ℕ) (item : Listed) → place < length items → item ≡ get_or items place item
+    → slice_index_or (totals_of items) place 0 ≡ item.weight
 total_at items place item below is =
-    get_or_from_slice_get (totals_of items) place item.weight 0 (map_at (λ (it : Listed). it.weight) items place item (slice_get-get_or items place item below ∙ ap Some (sym is)))
+    get_or_from_slice_get (totals_of items) place item.weight 0 (map_at (λ (it : Listed). it.weight) items place item
+    (slice_get-get_or items place item below ∙ ap Some (sym is)))
 
 module _ (weights : List ℕ) (place pick : ℕ) (least : (other : ℕ) → other < place → slice_index_or weights pick 0 ≤ slice_index_or weights other 0) where
   module _ (less : slice_index_or weights place 0 < slice_index_or weights pick 0) where
@@ -28,9 +30,11 @@ module _ (weights : List ℕ) (place pick : ℕ) (least : (other : ℕ) → othe
     new_is_first other below = let old = least other below in omega (arith, less, old)
 
     pub new_is_least : (other : ℕ) → other < place + 1 → slice_index_or weights place 0 ≤ slice_index_or weights other 0
-    new_is_least = below_more (λ other. slice_index_or weights place 0 ≤ slice_index_or weights other 0) place (λ other below. let first = new_is_first other below in omega (arith, first)) (omega arith)
+    new_is_least = below_more (λ other. slice_index_or weights place 0 ≤ slice_index_or weights other 0) place
+        (λ other below. let first = new_is_first other below in omega (arith, first)) (omega arith)
 
-  pub old_is_least : slice_index_or weights pick 0 ≤ slice_index_or weights place 0 → (other : ℕ) → other < place + 1 → slice_index_or weights pick 0 ≤ slice_index_or weights other 0
+  pub old_is_least : slice_index_or weights pick 0 ≤ slice_index_or weights place 0 → (other : ℕ) → other < place + 1
+      → slice_index_or weights pick 0 ≤ slice_index_or weights other 0
   old_is_least more = below_more (λ other. slice_index_or weights pick 0 ≤ slice_index_or weights other 0) place least more
 
 -- ---- weights
@@ -49,39 +53,47 @@ module _ (weights : List ℕ) where
       ≡ cond (slice_index_or set number false) (slice_index_or weights atom.relation 0) 0 + set_weight weights (drop (suc number) atoms) (drop (suc number) set)
   weight_step [] set number atom e = absurd (none-some atom e)
   weight_step (first ∷ atoms) [] number atom e =
-      ap (set_weight weights (drop number (first ∷ atoms))) (drop_none number) ∙ sym (ap (λ it. 0 + set_weight weights (drop number atoms) it) (drop_none (suc number)))
+      ap (set_weight weights (drop number (first ∷ atoms))) (drop_none number)
+      ∙ sym (ap (λ it. 0 + set_weight weights (drop number atoms) it) (drop_none (suc number)))
   weight_step (first ∷ atoms) (true ∷ set) zero atom e =
       sum_by-cons (λ x. x) (slice_index_or weights first.relation 0) (map (λ (it : Fact Term). slice_index_or weights it.relation 0) (chosen set atoms))
       ∙ ap (λ (it : Fact Term). slice_index_or weights it.relation 0 + set_weight weights atoms set) (same_Some first atom e)
   weight_step (first ∷ atoms) (false ∷ set) zero atom e = omega arith
   weight_step (first ∷ atoms) (is_in ∷ set) (suc number) atom e = weight_step atoms set number atom e
 
-  module _ (atoms : List PlanAtom) (given : List PlanAtom) (same : given ≡ atoms) (set : List Bool) (number : ℕ) (atom : PlanAtom) (below : number < length given) (is : atom ≡ get_or given number atom) where
+  module _ (atoms : List PlanAtom) (given : List PlanAtom) (same : given ≡ atoms) (set : List Bool) (number : ℕ) (atom : PlanAtom)
+      (below : number < length given) (is : atom ≡ get_or given number atom) where
     at : slice_get (map fact_of atoms) number ≡ Some (fact_of atom)
     at = map_at fact_of atoms number atom (subst (λ it. slice_get it number ≡ Some atom) same (slice_get-get_or given number atom below ∙ ap Some (sym is)))
 
     step : set_weight weights (drop number (map fact_of atoms)) (drop number set)
-        ≡ cond (slice_index_or set number false) (slice_index_or weights atom.fragment 0) 0 + set_weight weights (drop (number + 1) (map fact_of atoms)) (drop (number + 1) set)
+        ≡ cond (slice_index_or set number false) (slice_index_or weights atom.fragment 0) 0 + set_weight weights (drop (number + 1) (map fact_of atoms))
+        (drop (number + 1) set)
     step = weight_step (map fact_of atoms) set number (fact_of atom) at
-        ∙ ap (λ next. cond (slice_index_or set number false) (slice_index_or weights atom.fragment 0) 0 + set_weight weights (drop next (map fact_of atoms)) (drop next set)) (sym (add-one number))
+        ∙ ap (λ next. cond (slice_index_or set number false) (slice_index_or weights atom.fragment 0) 0 + set_weight weights (drop next (map fact_of atoms))
+        (drop next set)) (sym (add-one number))
 
     pub weight_has : (old new more whole : ℕ) → old + set_weight weights (drop number (map fact_of atoms)) (drop number set) ≡ whole
-        → Has set number → more ≡ slice_index_or weights atom.fragment 0 → new ≡ old + more → new + set_weight weights (drop (number + 1) (map fact_of atoms)) (drop (number + 1) set) ≡ whole
+        → Has set number → more ≡ slice_index_or weights atom.fragment 0 → new ≡ old + more
+        → new + set_weight weights (drop (number + 1) (map fact_of atoms)) (drop (number + 1) set) ≡ whole
     weight_has old new more whole before has e d =
-        let next = step ∙ ap (λ b. cond b (slice_index_or weights atom.fragment 0) 0 + set_weight weights (drop (number + 1) (map fact_of atoms)) (drop (number + 1) set)) has in
+        let next = step ∙ ap (λ b. cond b (slice_index_or weights atom.fragment 0) 0 + set_weight weights (drop (number + 1) (map fact_of atoms))
+        (drop (number + 1) set)) has in
         omega (arith, before, next, e, d)
 
     pub weight_lacks : (old new whole : ℕ) → old + set_weight weights (drop number (map fact_of atoms)) (drop number set) ≡ whole
         → (Has set number → ⊥) → new ≡ old → new + set_weight weights (drop (number + 1) (map fact_of atoms)) (drop (number + 1) set) ≡ whole
     weight_lacks old new whole before not_in d =
-        let next = step ∙ ap (λ b. cond b (slice_index_or weights atom.fragment 0) 0 + set_weight weights (drop (number + 1) (map fact_of atoms)) (drop (number + 1) set)) (lacks set number not_in) in
+        let next = step ∙ ap (λ b. cond b (slice_index_or weights atom.fragment 0) 0 + set_weight weights (drop (number + 1) (map fact_of atoms))
+        (drop (number + 1) set)) (lacks set number not_in) in
         omega (arith, before, next, d)
 
   pub weight_end : (atoms : List PlanAtom) (set : List Bool) (given : List PlanAtom) → given ≡ atoms → (number old whole : ℕ) → length given ≤ number
       → old + set_weight weights (drop number (map fact_of atoms)) (drop number set) ≡ whole → old ≡ whole
   weight_end atoms set given same number old whole past before =
       let none : set_weight weights (drop number (map fact_of atoms)) (drop number set) ≡ 0
-      = ap (λ it. set_weight weights it (drop number set)) (drop_of_length-le (map fact_of atoms) (subst (λ n. n ≤ number) (sym (length-map atoms fact_of ∙ ap length (sym same))) past)) ∙ chosen_none (drop number set) in
+      = ap (λ it. set_weight weights it (drop number set)) (drop_of_length-le (map fact_of atoms)
+      (subst (λ n. n ≤ number) (sym (length-map atoms fact_of ∙ ap length (sym same))) past)) ∙ chosen_none (drop number set) in
       omega (arith, before, none)
     where
       chosen_none : (left : List Bool) → set_weight weights [] left ≡ 0
@@ -93,10 +105,12 @@ not_beyond set number count e past has = let below = beyond set number has in om
 
 -- ---- the sets of the items
 
-pub set_there : (sets given : List (List Bool)) (place : ℕ) (set : List Bool) → given ≡ sets → place < length given → set ≡ get_or given place set → Contains sets set
+pub set_there : (sets given : List (List Bool)) (place : ℕ) (set : List Bool) → given ≡ sets → place < length given → set ≡ get_or given place set
+    → Contains sets set
 set_there sets given place set same below is = subst (λ it. Contains it set) same (place, below, sym is)
 
-pub sets_more : (items new : List Listed) (item : Listed) (given : List (List Bool)) (place : ℕ) (set : List Bool) → place < length given → set ≡ get_or given place set
+pub sets_more : (items new : List Listed) (item : Listed) (given : List (List Bool)) (place : ℕ) (set : List Bool) → place < length given
+    → set ≡ get_or given place set
     → item.set ≡ set → new ≡ items ++ item ∷ [] → sets_of items ≡ take place given → sets_of new ≡ take (place + 1) given
 sets_more items new item given place set below is same e before =
     ap sets_of e ∙ map-append (λ (it : Listed). it.set) items (item ∷ [])
@@ -104,5 +118,6 @@ sets_more items new item given place set below is same e before =
     ∙ ap (λ it. take place given ++ it ∷ []) (same ∙ is)
     ∙ sym (take_more given place set below)
 
-pub sets_all : (items : List Listed) (sets given : List (List Bool)) (place : ℕ) → given ≡ sets → length given ≤ place → sets_of items ≡ take place given → sets_of items ≡ sets
+pub sets_all : (items : List Listed) (sets given : List (List Bool)) (place : ℕ) → given ≡ sets → length given ≤ place → sets_of items ≡ take place given
+    → sets_of items ≡ sets
 sets_all items sets given place same past before = before ∙ take_all place given past ∙ same

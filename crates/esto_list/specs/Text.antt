@@ -78,7 +78,8 @@ plan_lines fragments plan =
 -- The line of an item: its number, its set, its order and its weight.
 abbrev pub item_line : ℕ → Listed → List ℕ
 item_line place item =
-    decimal (place + 1) ++ codes " {" ++ numbers_text (numbers item.set) ++ codes "} order " ++ numbers_text item.order ++ count_line (codes " weight ") item.weight
+    decimal (place + 1) ++ codes " {" ++ numbers_text (numbers item.set) ++ codes "} order " ++ numbers_text item.order ++ count_line
+    (codes " weight ") item.weight
 
 -- The line of the pick.
 abbrev pub pick_line : Option ℕ → List ℕ

@@ -3,7 +3,6 @@
 #![tactic(auto)]
 
 mod listing;
-mod numbers;
 mod printing;
 mod text;
 mod weight;

@@ -1,16 +1,18 @@
 //! The list of the kept sets.
-ghost use Rattle.std.specs.Prelude.{◌≡◌, ◌↔◌, ◌<◌, List, Bool, [], ◌∷◌, ◌++◌, Some, length, slice_get, IsTrue, IfOk, OnOk, All, Contains};
+ghost use Rattle.std.specs.Prelude.{◌≡◌, ◌≢◌, ◌↔◌, ◌<◌, List, Bool, [], ◌∷◌, ◌++◌, Some, length, slice_get, AllPairs, IsTrue, IfOk, OnOk, Contains};
 ghost use Rattle.esto_semantics.specs.Access.{IsExecutable, IsStatedOrder};
+ghost use Rattle.esto_semantics.specs.Listed.{chosen, IsWeight};
 ghost use Rattle.esto_semantics.specs.Sets.{AreInOrder};
 ghost use Rattle.esto_views.specs.Fragments.{patterns_of, weights_of};
 ghost use Rattle.esto_views.specs.Plans.{plan_query};
-ghost use Rattle.esto_list.specs.Items.{IsPickOf, set_weight, sets_of};
+ghost use Rattle.esto_list.specs.Items.{HaveOrders, HaveWeights, IsPickOf, sets_of};
 ghost use Rattle.esto_list.specs.Text.{IsListText};
 
 use crate::text::put_list;
 use crate::weight::weight_of;
 use esto_access::{Order, order_of};
 use esto_bits::{Products, RowBits};
+use esto_semantics::weights_exist;
 use esto_term::{Bytes, List, OutOfMemory, Replicate};
 use esto_views::{FragmentDefs, Plan};
 use std::alloc::Global;
@@ -46,11 +48,16 @@ fn item_of(
     plan: &Plan,
     fragments: &FragmentDefs,
 ) -> Result<Listed, OutOfMemory>
-    requires { IsExecutable (patterns_of fragments.now) (plan_query plan.now).body set.now }
+    requires executable { IsExecutable (patterns_of fragments.now)
+        (plan_query plan.now).body set.now }
+    requires distinct { AllPairs ◌≢◌ (plan_query plan.now).body }
     ensures set { IfOk result (λ it. it.set ≡ set.now) }
-    ensures order { IfOk result (λ it. IsStatedOrder (patterns_of fragments.now) (plan_query plan.now).body it.set it.order) }
-    ensures weight { IfOk result (λ it. it.weight ≡ set_weight (weights_of fragments.now) (plan_query plan.now).body it.set) }
+    ensures order { IfOk result (λ it.
+        IsStatedOrder (patterns_of fragments.now) (plan_query plan.now).body it.set it.order) }
+    ensures weight { IfOk result (λ it.
+        IsWeight (weights_of fragments.now) (chosen it.set (plan_query plan.now).body) it.weight) }
 {
+    weights_exist();
     let Some(order) = order_of(alloc, set, plan, fragments)? else {
         unreachable!()
     };
@@ -61,18 +68,21 @@ fn item_of(
 
 impl Listing {
     /// The sets by size, then by their rising lists of numbers, compared as lists. Each has its stated order, and weighs
-    /// the sum of the weights of its atoms' fragments. Each set has an order.
+    /// what its atoms weigh together. Each set has an order, and no two of the plan's atoms are the same.
     pub fn of(
         alloc: Global,
         sets: &Products,
         plan: &Plan,
         fragments: &FragmentDefs,
     ) -> Result<Listing, OutOfMemory>
-        requires { (set : List Bool) → Contains sets.now.sets set → IsExecutable (patterns_of fragments.now) (plan_query plan.now).body set }
-        ensures members { IfOk result (λ items. (set : List Bool) → Contains (sets_of items) set ↔ Contains sets.now.sets set) }
+        requires executable { (set : List Bool) → Contains sets.now.sets set
+            → IsExecutable (patterns_of fragments.now) (plan_query plan.now).body set }
+        requires distinct { AllPairs ◌≢◌ (plan_query plan.now).body }
+        ensures members { IfOk result (λ items.
+            (set : List Bool) → Contains (sets_of items) set ↔ Contains sets.now.sets set) }
         ensures in_order { IfOk result (λ items. AreInOrder (sets_of items)) }
-        ensures orders { IfOk result (λ items. All (λ item. IsStatedOrder (patterns_of fragments.now) (plan_query plan.now).body item.set item.order) items) }
-        ensures weights { IfOk result (λ items. All (λ item. item.weight ≡ set_weight (weights_of fragments.now) (plan_query plan.now).body item.set) items) }
+        ensures orders { IfOk result (HaveOrders plan.now fragments.now) }
+        ensures weights { IfOk result (HaveWeights plan.now fragments.now) }
     {
         let sorted = sets.sorted(alloc)?;
         let mut listing = Listing {

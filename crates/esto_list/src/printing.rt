@@ -53,7 +53,8 @@ fn put_byte(text: &mut Bytes, byte: u8) -> Result<(), OutOfMemory>
 
 /// Puts the bytes of a constant at the end, with each quote doubled.
 fn put_bytes(text: &mut Bytes, bytes: &[u8]) -> Result<(), OutOfMemory>
-    ensures { OnOk result (text.new ≡ text.old ++ each_from (λ _ byte. byte_text byte) 0 bytes.now) }
+    ensures { OnOk result (text.new ≡ text.old
+        ++ each_from (λ _ byte. byte_text byte) 0 bytes.now) }
 {
     'bytes: for byte in bytes {
         put_byte(text, *byte)?;
@@ -89,7 +90,8 @@ fn put_nameless(
     nameless: &[u64],
     variable: u64,
 ) -> Result<(), OutOfMemory>
-    ensures { OnOk result (text.new ≡ text.old ++ (codes "_" ++ decimal (number_from 1 nameless.now variable))) }
+    ensures { OnOk result (text.new ≡ text.old
+        ++ (codes "_" ++ decimal (number_from 1 nameless.now variable))) }
 {
     text.append(b"_")?;
     put_number(alloc, text, number_of(nameless, variable) as u128)
@@ -103,7 +105,8 @@ fn put_variable(
     nameless: &[u64],
     variable: u64,
 ) -> Result<(), OutOfMemory>
-    ensures { OnOk result (text.new ≡ text.old ++ variable_text nameless.now variable (slice_get names.now variable)) }
+    ensures { OnOk result (text.new ≡ text.old
+        ++ variable_text nameless.now variable (slice_get names.now variable)) }
 {
     let place = variable as usize;
     if place >= names.len() {
@@ -140,7 +143,9 @@ fn put_each_term(
     nameless: &[u64],
     terms: &[Term],
 ) -> Result<(), OutOfMemory>
-    ensures { OnOk result (text.new ≡ text.old ++ each_from (λ place term. comma_before place ++ term_text names.now nameless.now term) 0 terms.now) }
+    ensures { OnOk result (text.new ≡ text.old
+        ++ each_from (λ place term. comma_before place
+        ++ term_text names.now nameless.now term) 0 terms.now) }
 {
     'terms: for (place, term) in terms.iter().enumerate() {
         put_comma(text, place)?;

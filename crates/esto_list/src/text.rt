@@ -5,7 +5,6 @@ ghost use Rattle.esto_list.specs.Names.{has_number, is_given, met_atoms, met_lev
 ghost use Rattle.esto_list.specs.Text.{atom_line, count_line, each_from, fragment_name, item_line, list_text, pick_line, plan_lines};
 
 use crate::listing::Listed;
-use crate::numbers::numbers_of;
 use crate::printing::{put_number, put_numbers, put_terms};
 use esto_query::{Name, Names};
 use esto_term::{Bytes, OutOfMemory, Term, Values};
@@ -96,7 +95,8 @@ fn put_fragment_name(
     fragments: &FragmentDefs,
     fragment: usize,
 ) -> Result<(), OutOfMemory>
-    ensures { OnOk result (text.new ≡ text.old ++ fragment_name (slice_get fragments.now fragment)) }
+    ensures { OnOk result (text.new ≡ text.old
+        ++ fragment_name (slice_get fragments.now fragment)) }
 {
     if fragment >= fragments.len() {
         return Ok(());
@@ -114,7 +114,8 @@ fn put_atom(
     place: usize,
     atom: &PlanAtom,
 ) -> Result<(), OutOfMemory>
-    ensures { OnOk result (text.new ≡ text.old ++ atom_line fragments.now names.now nameless.now place atom.now) }
+    ensures { OnOk result (text.new ≡ text.old
+        ++ atom_line fragments.now names.now nameless.now place atom.now) }
 {
     put_number(alloc, text, place as u128 + 1)?;
     text.append(b" ")?;
@@ -132,7 +133,8 @@ fn put_atoms(
     nameless: &[u64],
     atoms: &[PlanAtom],
 ) -> Result<(), OutOfMemory>
-    ensures { OnOk result (text.new ≡ text.old ++ each_from (atom_line fragments.now names.now nameless.now) 0 atoms.now) }
+    ensures { OnOk result (text.new ≡ text.old
+        ++ each_from (atom_line fragments.now names.now nameless.now) 0 atoms.now) }
 {
     'atoms: for (place, atom) in atoms.iter().enumerate() {
         put_atom(alloc, text, fragments, names, nameless, place, atom)?;
@@ -169,7 +171,7 @@ fn put_plan(
 fn put_item(alloc: Global, text: &mut Bytes, place: usize, item: &Listed) -> Result<(), OutOfMemory>
     ensures { OnOk result (text.new ≡ text.old ++ item_line place item.now) }
 {
-    let numbers = numbers_of(alloc, &item.set)?;
+    let numbers = item.set.numbers(alloc)?;
     put_number(alloc, text, place as u128 + 1)?;
     text.append(b" {")?;
     put_numbers(alloc, text, numbers.items())?;

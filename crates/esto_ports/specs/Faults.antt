@@ -9,6 +9,10 @@ last_count = 2 ^ 64 - 1
 abbrev pub Rose : ℕ → ℕ → Type 0
 Rose before now = (before < now) ⊎ (now ≡ last_count)
 
+-- The count of this kind rose from the one state to the other.
+abbrev pub Rises : {State : Type 0} → (State → ℕ) → State → State → Type 0
+Rises count old new = Rose (count old) (count new)
+
 -- The next value of a count.
 abbrev pub next_count : ℕ → ℕ
 next_count n = min (n + 1) last_count

@@ -5,6 +5,7 @@ pub mod TermLemmas
 pub mod BodyLemmas
 pub mod HeadLemmas
 pub mod ReadLemmas
+pub mod NamingLemmas
 pub mod MakeLemmas
 pub mod OneLemmas
 pub mod ExactLemmas

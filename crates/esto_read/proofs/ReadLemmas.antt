@@ -200,10 +200,10 @@ module _ (words : List Word) (schema bytes : List ℕ) (u : IsUtf8 bytes) where
 -- ---- variables of a head
 
 -- what a name was before it is after
-abbrev Keeps : List Name → List Name → Type 0
+abbrev pub Keeps : List Name → List Name → Type 0
 Keeps before after = (n : ℕ) (name : Name) → slice_get before n ≡ Some name → slice_get after n ≡ Some name
 
-keeps_more : (before : List Name) (new : Name) → Keeps before (before ++ new ∷ [])
+pub keeps_more : (before : List Name) (new : Name) → Keeps before (before ++ new ∷ [])
 keeps_more before new n name e =
     let lt : n < length before = slice_get_within before n name e in
     slice_get-get_or (before ++ new ∷ []) n name (omega (arith, length-append before (new ∷ [])))
@@ -217,7 +217,7 @@ new_is_last before new =
 abbrev pub IsNumbered : List Name → List ℕ → Term → Type 0
 IsNumbered names name x = (n : ℕ) × (x ≡ Plain n) × (slice_get names n ≡ Some (Given name))
 
-variable_numbered : (name : List ℕ) (before after : List Name) (x : Term) → IsVariableOf name before x after → Keeps before after × IsNumbered after name x
+pub variable_numbered : (name : List ℕ) (before after : List Name) (x : Term) → IsVariableOf name before x after → Keeps before after × IsNumbered after name x
 variable_numbered name before after x (inl (n, here, e, p)) =
     (λ k v f. subst (λ (l : List Name). slice_get l k ≡ Some v) (sym p) f, (n, e, subst (λ (l : List Name). slice_get l n ≡ Some (Given name)) (sym p) here))
 variable_numbered name before after x (inr (new, e, p)) = (
@@ -229,7 +229,7 @@ module _ (bytes : List ℕ) where
   name_numbered : (t : Token) (k : TokenKind) → t.kind ≡ k → k ≡ kind.Name → (before after : List Name) (x : Term) → IsTermOf k (text_of bytes t) before x after → Keeps before after × IsNumbered after (text_of bytes t) x
   name_numbered t k q e before after x h = variable_numbered (text_of bytes t) before after x (subst (λ (k : TokenKind). IsTermOf k (text_of bytes t) before x after) e h)
 
-  head_numbered : (before : List Name) (ts : List Token) (xs : List Term) (after : List Name) → AllByRecursion (IsNameIn bytes) ts → AreTerms bytes before ts xs after
+  pub head_numbered : (before : List Name) (ts : List Token) (xs : List Term) (after : List Name) → AllByRecursion (IsNameIn bytes) ts → AreTerms bytes before ts xs after
       → Keeps before after × AllZip (λ t x. IsNumbered after (text_of bytes t) x) ts xs
   head_numbered before [] [] after all h = (λ k v f. subst (λ (l : List Name). slice_get l k ≡ Some v) (sym h) f, tt)
   head_numbered before [] (x ∷ xs) after all h = absurd h

@@ -3,4 +3,5 @@ pub mod Terms
 pub mod Items
 pub mod Heads
 pub mod Readings
+pub mod Naming
 pub mod Constraints

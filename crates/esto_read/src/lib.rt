@@ -10,6 +10,8 @@ mod rule;
 mod term;
 mod words;
 
-pub use read::{NamedQuery, read_query, read_view, readings_are_determined};
+pub use read::{
+    NamedQuery, read_query, read_view, readings_are_determined, views_name_their_columns,
+};
 pub use rule::{constraint_readings_are_determined, read_constraint};
 pub use words::{DataModel, Vocabulary, Word};

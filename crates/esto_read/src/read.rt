@@ -7,6 +7,7 @@ ghost use Rattle.esto_query.specs.Schemas.{arities_of};
 ghost use Rattle.esto_text.specs.Faults.{IsNameIn};
 ghost use Rattle.esto_read.specs.declared.read.Form.{Form};
 ghost use Rattle.esto_read.specs.Words.{IsVocabulary, AreTables};
+ghost use Rattle.esto_read.specs.Naming.{ViewsNameTheirColumns};
 ghost use Rattle.esto_read.specs.Readings.{HasVariables, IsAllowed, IsRefused, IsHeadFit, IsHeadFault, IsReading, IsReadError, HaveOneReading, HaveNoFault, HaveOneFault};
 
 use crate::body::body;
@@ -160,3 +161,8 @@ pub fn readings_are_determined()
 {
     trees_are_determined();
 }
+
+/// A law: the columns of a view that is read from a text have names, all different.
+pub fn views_name_their_columns()
+    ensures { ViewsNameTheirColumns }
+{}

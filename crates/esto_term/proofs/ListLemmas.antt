@@ -136,6 +136,11 @@ pub at_right : {X : Type 0} (xs ys : List X) (place : ℕ) (x : X) → slice_get
 at_right [] ys place x at = let same : 0 + place ≡ place = omega arith in rw same at
 at_right (first ∷ xs) ys place x at = let same : length (first ∷ xs) + place ≡ suc (length xs + place) = omega arith in rw same (at_right xs ys place x at)
 
+-- the last thing
+pub at_end : {X : Type 0} (xs : List X) (last : X) → slice_get (xs ++ last ∷ []) (length xs) ≡ Some last
+at_end [] last = refl
+at_end (x ∷ xs) last = at_end xs last
+
 -- what stands at a place of a list with one more item stands there already, or is that item
 pub at_pushed : {X : Type 0} (xs : List X) (x : X) (place : ℕ) (found : X) → slice_get (xs ++ x ∷ []) place ≡ Some found → (slice_get xs place ≡ Some found) ⊎ ((place ≡ length xs) × (x ≡ found))
 at_pushed [] x zero found e = inr (refl, same_Some x found e)

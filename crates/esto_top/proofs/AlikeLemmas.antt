@@ -1,9 +1,9 @@
 -- Catalogues that say the same, queries that are the same, and their lists.
-use Rattle.std.proofs.Common.{◌≡◌, ℕ, Bool, List, All, refl, sym, ap, subst, ◌∙◌}
+use Rattle.std.proofs.Common.{◌≡◌, ℕ, List, All, refl, sym, ap, subst, ◌∙◌}
 use Rattle.esto_catalog.specs.Determined.{AreSame}
 use Rattle.esto_catalog.specs.declared.catalogue.Catalogue.{Catalogue}
 use Rattle.esto_constraint.specs.Constraints.{rules_of}
-use Rattle.esto_list.specs.Items.{sets_of, set_weight}
+use Rattle.esto_list.specs.Items.{sets_of}
 use Rattle.esto_list.specs.declared.listing.Listed.{Listed}
 use Rattle.esto_query.specs.Making.{query_of}
 use Rattle.esto_query.specs.declared.query.Query.{Query}
@@ -12,8 +12,8 @@ use Rattle.esto_read.specs.Words.{IsVocabulary}
 use Rattle.esto_read.specs.declared.read.Form.TheVariants as form
 use Rattle.esto_read.specs.declared.read.NamedQuery.{NamedQuery}
 use Rattle.esto_read.specs.declared.words.Word.{Word}
-use Rattle.esto_semantics.specs.Access.{IsStatedOrder}
-use Rattle.esto_semantics.specs.Listed.{AreListed}
+use Rattle.esto_semantics.specs.Access.{Patterns, IsStatedOrder}
+use Rattle.esto_semantics.specs.Listed.{AreListed, IsWeight, chosen}
 use Rattle.esto_universal.specs.Stated.{IsStatedPlan}
 use Rattle.esto_views.specs.Fragments.{views_of, patterns_of}
 use Rattle.esto_views.specs.Plans.{plan_query}
@@ -46,7 +46,8 @@ same_reading one_reading {words} {schema} vocabulary bytes query other here ther
     }
 
 module _ (catalogue other : Catalogue) (alike : AreSame catalogue other) (query other_query : Query) (same : IsSameQuery query other_query) where
-  stated_moved : (plan : Plan) → IsStatedPlan other_query.names (views_of other.fragments) (query_of other_query) plan → IsStatedPlan query.names (views_of catalogue.fragments) (query_of query) plan
+  stated_moved : (plan : Plan) → IsStatedPlan other_query.names (views_of other.fragments) (query_of other_query) plan
+      → IsStatedPlan query.names (views_of catalogue.fragments) (query_of query) plan
   stated_moved plan stated =
       subst (λ names. IsStatedPlan names (views_of catalogue.fragments) (query_of query) plan) (sym same.names)
       (subst (λ views. IsStatedPlan other_query.names views (query_of query) plan) (sym alike.views)
@@ -54,16 +55,22 @@ module _ (catalogue other : Catalogue) (alike : AreSame catalogue other) (query 
 
   sets_moved : (plan : Plan) (items : List Listed) → HasListedSets other other_query plan items → HasListedSets catalogue query plan items
   sets_moved plan items listed =
-      subst (λ it. AreListed (rules_of catalogue.rules) (views_of catalogue.fragments) (patterns_of catalogue.fragments) it (plan_query plan) (sets_of items)) (sym (same_query query other_query same))
-      (subst (λ it. AreListed (rules_of catalogue.rules) (views_of catalogue.fragments) it (query_of other_query) (plan_query plan) (sets_of items)) (sym alike.patterns)
-      (subst (λ it. AreListed (rules_of catalogue.rules) it (patterns_of other.fragments) (query_of other_query) (plan_query plan) (sets_of items)) (sym alike.views)
-      (subst (λ it. AreListed it (views_of other.fragments) (patterns_of other.fragments) (query_of other_query) (plan_query plan) (sets_of items)) (sym alike.rules) listed)))
+      subst (λ it. AreListed (rules_of catalogue.rules) (views_of catalogue.fragments) (patterns_of catalogue.fragments) it (plan_query plan)
+      (sets_of items)) (sym (same_query query other_query same))
+      (subst (λ it. AreListed (rules_of catalogue.rules) (views_of catalogue.fragments) it (query_of other_query) (plan_query plan) (sets_of items))
+      (sym alike.patterns)
+      (subst (λ it. AreListed (rules_of catalogue.rules) it (patterns_of other.fragments) (query_of other_query) (plan_query plan) (sets_of items))
+      (sym alike.views)
+      (subst (λ it. AreListed it (views_of other.fragments) (patterns_of other.fragments) (query_of other_query) (plan_query plan) (sets_of items))
+      (sym alike.rules) listed)))
 
   list_moved : (plan : Plan) (items : List Listed) → IsListOf other other_query plan items → IsListOf catalogue query plan items
   list_moved plan items list = record {
     sets = sets_moved plan items list.sets;
-    orders = subst (λ (it : List (List (List Bool))). All (λ (item : Listed). IsStatedOrder it (plan_query plan).body item.set item.order) items) (sym alike.patterns) list.orders;
-    weights = subst (λ (it : List ℕ). All (λ (item : Listed). item.weight ≡ set_weight it (plan_query plan).body item.set) items) (sym alike.weights) list.weights;
+    orders = subst (λ (it : Patterns). All (λ (item : Listed). IsStatedOrder it (plan_query plan).body item.set item.order) items)
+        (sym alike.patterns) list.orders;
+    weights = subst (λ (it : List ℕ). All (λ (item : Listed). IsWeight it (chosen item.set (plan_query plan).body) item.weight) items)
+        (sym alike.weights) list.weights;
   }
 
   -- a list over the other catalogue is one over this
@@ -73,5 +80,10 @@ module _ (catalogue other : Catalogue) (alike : AreSame catalogue other) (query 
     items = listing.items;
     stated = stated_moved listing.plan listing.stated;
     list = list_moved listing.plan listing.items listing.list;
-    printed = (listing.printed.0, listing.printed.1, listing.printed.2 ∙ same_text other.fragments catalogue.fragments (sym alike.names) listing.plan listing.plan listing.items listing.printed.0 refl refl refl);
+    printed = (
+      listing.printed.0,
+      listing.printed.1,
+      listing.printed.2
+          ∙ same_text other.fragments catalogue.fragments (sym alike.names) listing.plan listing.plan listing.items listing.printed.0 refl refl refl,
+    );
   }

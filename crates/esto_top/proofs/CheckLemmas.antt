@@ -4,7 +4,8 @@ use Rattle.std.specs.Prelude.{slice_index}
 use Rattle.std.proofs.lemmas.Option.{slice_get_within, get_or_from_slice_get}
 use Rattle.esto_top.specs.Check.{rank_line, rank_lines}
 
-module _ (names : List (List ℕ)) (ranks : List ℕ) (at : ℕ) (name : List ℕ) (rank : ℕ) (is_name : slice_get names at ≡ Some name) (within : at < length ranks) (is_rank : rank ≡ slice_index ranks at) where
+module _ (names : List (List ℕ)) (ranks : List ℕ) (at : ℕ) (name : List ℕ) (rank : ℕ) (is_name : slice_get names at ≡ Some name)
+    (within : at < length ranks) (is_rank : rank ≡ slice_index ranks at) where
   names_left : drop at names ≡ name ∷ drop (at + 1) names
   names_left =
       let there : at < length names = slice_get_within names at name is_name in
@@ -19,5 +20,6 @@ module _ (names : List (List ℕ)) (ranks : List ℕ) (at : ℕ) (name : List �
   rank_more text next whole grown before =
       let rest : List ℕ = rank_lines (drop (at + 1) names) (drop (at + 1) ranks) in
       let joined : (text ++ rank_line name rank) ++ rest ≡ text ++ (rank_line name rank ++ rest) = rw append_assoc in
-      let here : text ++ (rank_line name rank ++ rest) ≡ text ++ rank_lines (drop at names) (drop at ranks) = λ i. text ++ rank_lines (sym names_left i) (sym ranks_left i) in
+      let here : text ++ (rank_line name rank ++ rest) ≡ text ++ rank_lines (drop at names) (drop at ranks) =
+      λ i. text ++ rank_lines (sym names_left i) (sym ranks_left i) in
       ap (λ (it : List ℕ). it ++ rest) grown ∙ joined ∙ here ∙ before

@@ -2,7 +2,7 @@
 use Rattle.std.proofs.Common.{◌≡◌, ◌≢◌, ℕ, List, ◌++◌, length, Option, Some, None, All, refl, sym, ap, subst, ◌∙◌, inl, inr}
 use Rattle.std.specs.Io.KnownBytes.{Appends}
 use Rattle.std.proofs.lemmas.List.{length-map}
-use Rattle.esto_catalog.specs.Determined.{AreSame, HaveOneCatalogue, HaveNoError, HaveOneError}
+use Rattle.esto_catalog.specs.Determined.{AreSame, CataloguesAreSound, HaveOneCatalogue, HaveNoError, HaveOneError}
 use Rattle.esto_catalog.specs.Reading.{IsCatalogueOf, IsCatalogueError}
 use Rattle.esto_catalog.specs.declared.catalogue.Catalogue.{Catalogue}
 use Rattle.esto_catalog.specs.declared.fault.CatalogueError.{CatalogueError}
@@ -14,22 +14,23 @@ use Rattle.esto_list.specs.declared.listing.Listed.{Listed}
 use Rattle.esto_ports.specs.Files.{Files}
 use Rattle.esto_query.specs.Making.{query_of}
 use Rattle.esto_query.specs.Schemas.{names_of, arities_of}
-use Rattle.esto_query.specs.declared.query.Name.{Name}
 use Rattle.esto_query.specs.declared.query.Query.{Query}
 use Rattle.esto_read.specs.Readings.{IsReading, IsFirstFault, HaveOneReading, HaveNoFault, HaveOneFault}
 use Rattle.esto_read.specs.declared.read.Form.TheVariants as form
 use Rattle.esto_read.specs.declared.read.NamedQuery.{NamedQuery}
 use Rattle.esto_semantics.specs.AccessLaws.{StatedOrderIsOne}
 use Rattle.esto_semantics.specs.Listed.{AreListed}
-use Rattle.esto_semantics.specs.ListedLaws.{ListedIsOne, PickIsOne}
+use Rattle.esto_semantics.specs.ListedLaws.{ListedIsOne, PickIsOne, WeightIsOne}
 use Rattle.esto_semantics.specs.Queries.{ConjunctiveQuery}
 use Rattle.esto_text.specs.declared.fault.TextFault.{TextFault}
-use Rattle.esto_universal.specs.Stated.{IsStatedPlan}
+use Rattle.esto_universal.specs.StatedLaws.{StatedPlanIsOne}
 use Rattle.esto_views.specs.Fragments.{views_of, patterns_of, weights_of}
 use Rattle.esto_views.specs.Plans.{plan_query}
 use Rattle.esto_views.specs.declared.plan.Plan.{Plan}
 use Rattle.esto_top.specs.Check.{check_text, check_course, count_lines, rank_lines}
-use Rattle.esto_top.specs.Course.{IsCaused, gives, and_then}
+use Rattle.esto_course.specs.Course.{gives, and_then}
+use Rattle.esto_course.proofs.Determined.{then_agree, gives_agree, refuses_agree, judges_agree}
+use Rattle.esto_top.specs.Answers.{IsCaused}
 use Rattle.esto_top.specs.Determined.{OutcomesAreDetermined, ExactWhereTold}
 use Rattle.esto_top.specs.Grammar.{Request, request_of, course_of_request, course_of_asked}
 use Rattle.esto_top.specs.Grammar.Request.{CheckOf, ListFor, Unbuilt}
@@ -41,41 +42,51 @@ use Rattle.esto_top.specs.declared.ending.Reply.TheVariants.{Done}
 use Rattle.esto_top.specs.declared.status.Status.{Status}
 use Rattle.esto_top.specs.declared.status.Status.TheVariants as status
 use Rattle.esto_top.proofs.AlikeLemmas.{IsSameQuery, same_reading, listing_moved}
-use Rattle.esto_top.proofs.AgreeLemmas.{Agree, then-agree, gives-agree, refuses-agree, judges-agree, fetches-agree, says-agree}
-use Rattle.esto_top.proofs.HeadlineLemmas.{AreSound}
+use Rattle.esto_top.proofs.AgreeLemmas.{AgreeCalmly, fetches-agree, says-agree}
 use Rattle.esto_top.proofs.OneListLemmas.{HasOrder, HasWeight, same_items, same_pick, same_atoms, same_text}
+use Rattle.esto_top.specs.declared.opening.TheConstants.{CATALOGUE_LIMIT, QUERY_LIMIT}
+use Rattle.esto_top.proofs.Steps.{never_wanting}
 
 -- the laws of lists
 pub record ListLaws : Type 0 where
-  pub plans : (names : List Name) (views : List ConjunctiveQuery) (end : ConjunctiveQuery) (plan other : Plan)
-      → IsStatedPlan names views end plan → IsStatedPlan names views end other → (plan_query plan ≡ plan_query other) × (plan.names ≡ other.names)
+  pub plans : StatedPlanIsOne
   pub sets : ListedIsOne
   pub orders : StatedOrderIsOne
+  pub weights : WeightIsOne
   pub picks : PickIsOne
 
 -- ---- the text of a list
 
 module _ (laws : ListLaws) (catalogue : Catalogue) (query : Query) where
-  items_one : (plan other_plan : Plan) → plan_query plan ≡ plan_query other_plan → (items others : List Listed) → IsListOf catalogue query plan items → IsListOf catalogue query other_plan others → items ≡ others
+  items_one : (plan other_plan : Plan) → plan_query plan ≡ plan_query other_plan → (items others : List Listed) → IsListOf catalogue query plan items
+      → IsListOf catalogue query other_plan others → items ≡ others
   items_one plan other_plan plans items others list other_list =
-      same_items laws.orders (patterns_of catalogue.fragments) (weights_of catalogue.fragments) (plan_query plan).body items others
-      (laws.sets (rules_of catalogue.rules) (views_of catalogue.fragments) (patterns_of catalogue.fragments) (query_of query) (plan_query plan) (sets_of items) (sets_of others) list.sets
-      (subst (λ it. AreListed (rules_of catalogue.rules) (views_of catalogue.fragments) (patterns_of catalogue.fragments) (query_of query) it (sets_of others)) (sym plans) other_list.sets))
+      same_items laws.orders laws.weights (patterns_of catalogue.fragments) (weights_of catalogue.fragments) (plan_query plan).body items others
+      (laws.sets (rules_of catalogue.rules) (views_of catalogue.fragments) (patterns_of catalogue.fragments) (query_of query) (plan_query plan)
+      (sets_of items) (sets_of others) list.sets
+      (subst (λ it. AreListed (rules_of catalogue.rules) (views_of catalogue.fragments) (patterns_of catalogue.fragments) (query_of query) it
+      (sets_of others)) (sym plans) other_list.sets))
       list.orders
-      (subst (λ it. All (HasOrder laws.orders (patterns_of catalogue.fragments) (weights_of catalogue.fragments) it.body) others) (sym plans) other_list.orders)
+      (subst (λ it. All (HasOrder laws.orders laws.weights (patterns_of catalogue.fragments) (weights_of catalogue.fragments) it.body) others)
+      (sym plans) other_list.orders)
       list.weights
-      (subst (λ it. All (HasWeight laws.orders (patterns_of catalogue.fragments) (weights_of catalogue.fragments) it.body) others) (sym plans) other_list.weights)
+      (subst (λ it. All (HasWeight laws.orders laws.weights (patterns_of catalogue.fragments) (weights_of catalogue.fragments) it.body) others)
+      (sym plans) other_list.weights)
 
   texts_one : (text other_text : List ℕ) → IsListing catalogue query text → IsListing catalogue query other_text → text ≡ other_text
   texts_one text other_text listing other_listing =
       let plans = laws.plans query.names (views_of catalogue.fragments) (query_of query) listing.plan other_listing.plan listing.stated other_listing.stated in
-      let items : listing.items ≡ other_listing.items = items_one listing.plan other_listing.plan plans.0 listing.items other_listing.items listing.list other_listing.list in
-      let pick = same_pick laws.picks other_listing.items listing.printed.0 other_listing.printed.0 (subst (λ it. IsPickOf it listing.printed.0) items listing.printed.1) other_listing.printed.1 in
-      let texts : list_text catalogue.fragments listing.plan listing.items listing.printed.0 ≡ list_text catalogue.fragments listing.plan other_listing.items other_listing.printed.0 =
+      let items : listing.items ≡ other_listing.items = items_one listing.plan other_listing.plan plans.0 listing.items
+      other_listing.items listing.list other_listing.list in
+      let pick = same_pick laws.picks other_listing.items listing.printed.0 other_listing.printed.0
+      (subst (λ it. IsPickOf it listing.printed.0) items listing.printed.1) other_listing.printed.1 in
+      let texts : list_text catalogue.fragments listing.plan listing.items listing.printed.0
+      ≡ list_text catalogue.fragments listing.plan other_listing.items other_listing.printed.0 =
       λ i. list_text catalogue.fragments listing.plan (items i) (pick i) in
       listing.printed.2 ∙ texts
       ∙ same_text catalogue.fragments catalogue.fragments refl listing.plan other_listing.plan other_listing.items other_listing.printed.0
-      (same_atoms listing.plan.atoms other_listing.plan.atoms (ap (λ (it : ConjunctiveQuery). it.body) plans.0)) (ap (λ (it : ConjunctiveQuery). it.head) plans.0) plans.1
+      (same_atoms listing.plan.atoms other_listing.plan.atoms (ap (λ (it : ConjunctiveQuery). it.body) plans.0))
+      (ap (λ (it : ConjunctiveQuery). it.head) plans.0) plans.1
       ∙ sym other_listing.printed.2
 
 -- ---- the text of a check
@@ -88,84 +99,100 @@ check_one catalogue other alike =
 
 -- ---- the courses
 
-module _ (sound : AreSound) (one : HaveOneCatalogue) (apart : HaveNoError) (one_error : HaveOneError) (one_reading : HaveOneReading) (no_fault : HaveNoFault) (one_fault : HaveOneFault) (laws : ListLaws) (files : Files) where
+module _ (sound : CataloguesAreSound) (one : HaveOneCatalogue) (apart : HaveNoError) (one_error : HaveOneError) (one_reading : HaveOneReading)
+    (no_fault : HaveNoFault) (one_fault : HaveOneFault) (laws : ListLaws) (files : Files) where
   -- no cause of a status that has its own is want of memory
   not_wanting : (said : Status) (cause : CatalogueError) → IsCaused ⊥ said → said ≡ status_of cause → cause ≢ error.OutOfMemory
-  not_wanting said cause caused is wanting = subst (IsCaused ⊥) (is ∙ ap status_of wanting) caused
+  not_wanting said cause caused is wanting = never_wanting ⊥ said (is ∙ ap status_of wanting) caused
 
-  catalogues_agree : (bytes : List ℕ) → Agree (reads_catalogue bytes) (reads_catalogue bytes) AreSame
-  catalogues_agree bytes = judges-agree _ _ _ _ _ (one bytes)
+  catalogues_agree : (bytes : List ℕ) → AgreeCalmly AreSame (reads_catalogue bytes) (reads_catalogue bytes)
+  catalogues_agree bytes = judges_agree _ _ _ _ _ _ (one bytes)
       (λ said other_said caused other_caused here there.
-      here.2 ∙ ap status_of (one_error bytes here.0 there.0 here.1 there.1 (not_wanting said here.0 caused here.2) (not_wanting other_said there.0 other_caused there.2)) ∙ sym there.2)
+      here.2 ∙ ap status_of (one_error bytes here.0 there.0 here.1 there.1 (not_wanting said here.0 caused here.2)
+      (not_wanting other_said there.0 other_caused there.2)) ∙ sym there.2)
       never never
     where
-      never : (catalogue : Catalogue) (said : Status) → IsCaused ⊥ said → IsCatalogueOf bytes catalogue → (cause : CatalogueError) × IsCatalogueError bytes cause × (said ≡ status_of cause) → ⊥
+      never : (catalogue : Catalogue) (said : Status) → IsCaused ⊥ said → IsCatalogueOf bytes catalogue
+          → (cause : CatalogueError) × IsCatalogueError bytes cause × (said ≡ status_of cause) → ⊥
       never catalogue said caused is_catalogue (cause, is_error, is) = not_wanting said cause caused is (apart bytes catalogue cause is_catalogue is_error)
 
-  opened_agree : (name : List ℕ) → Agree (opens_catalogue (Some files) name) (opens_catalogue (Some files) name) AreSame
+  opened_agree : (name : List ℕ) → AgreeCalmly AreSame (opens_catalogue (Some files) name) (opens_catalogue (Some files) name)
   opened_agree name =
-      then-agree _ _ _ _ ◌≡◌ AreSame (fetches-agree files name 1048576) (λ bytes other same. subst (λ it. Agree (reads_catalogue bytes) (reads_catalogue it) AreSame) same (catalogues_agree bytes))
+      then_agree _ ◌≡◌ AreSame _ _ _ _ (fetches-agree files name CATALOGUE_LIMIT)
+      (λ bytes other goes same. subst (λ it. AgreeCalmly AreSame (reads_catalogue bytes) (reads_catalogue it)) same (catalogues_agree bytes))
 
   module _ (catalogue other : Catalogue) (alike : AreSame catalogue other) where
-    constraints_agree : Agree (has_no_constraint catalogue) (has_no_constraint other) (λ _ _. Unit {0})
-    constraints_agree = judges-agree _ _ _ _ _ (λ value other_value here there. tt) (λ said other_said caused other_caused here there. here.1 ∙ sym there.1)
+    constraints_agree : AgreeCalmly (λ _ _. Unit {0}) (has_no_constraint catalogue) (has_no_constraint other)
+    constraints_agree = judges_agree _ _ _ _ _ _ (λ value other_value here there. tt) (λ said other_said caused other_caused here there. here.1 ∙ sym there.1)
         (λ value said caused here there. there.0 (sym alike.given ∙ here)) (λ value said caused here there. there.0 (alike.given ∙ here))
 
     -- a reading and a fault over the other catalogue are ones over this
-    reading_back : (bytes : List ℕ) (named : NamedQuery) → IsReading form.Query other.words (arities_of other.schema) bytes named → IsReading form.Query catalogue.words (arities_of catalogue.schema) bytes named
+    reading_back : (bytes : List ℕ) (named : NamedQuery) → IsReading form.Query other.words (arities_of other.schema) bytes named
+        → IsReading form.Query catalogue.words (arities_of catalogue.schema) bytes named
     reading_back bytes named reading =
         subst (λ it. IsReading form.Query it (arities_of catalogue.schema) bytes named) (sym alike.words)
         (subst (λ it. IsReading form.Query other.words (arities_of it) bytes named) (sym alike.schema) reading)
 
-    fault_back : (bytes : List ℕ) (fault : TextFault) → IsFirstFault form.Query other.words (arities_of other.schema) bytes fault → IsFirstFault form.Query catalogue.words (arities_of catalogue.schema) bytes fault
+    fault_back : (bytes : List ℕ) (fault : TextFault) → IsFirstFault form.Query other.words (arities_of other.schema) bytes fault
+        → IsFirstFault form.Query catalogue.words (arities_of catalogue.schema) bytes fault
     fault_back bytes fault first =
         subst (λ it. IsFirstFault form.Query it (arities_of catalogue.schema) bytes fault) (sym alike.words)
         (subst (λ it. IsFirstFault form.Query other.words (arities_of it) bytes fault) (sym alike.schema) first)
 
-    read_agree : (bytes : List ℕ) → Agree (reads_query catalogue bytes) (reads_query other bytes) IsSameQuery
-    read_agree bytes = judges-agree _ _ _ _ _
+    read_agree : (bytes : List ℕ) → AgreeCalmly IsSameQuery (reads_query catalogue bytes) (reads_query other bytes)
+    read_agree bytes = judges_agree _ _ _ _ _ _
         (λ query other_query here there.
         same_reading one_reading (sound catalogue).vocabulary bytes query other_query here (there.0, reading_back bytes there.0 there.1, there.2))
         (λ said other_said caused other_caused here there.
-        here.2 ∙ ap status.BadQuery (one_fault form.Query catalogue.words (arities_of catalogue.schema) bytes here.0 there.0 (sound catalogue).vocabulary here.1 (fault_back bytes there.0 there.1)) ∙ sym there.2)
-        (λ query said caused here there. no_fault form.Query catalogue.words (arities_of catalogue.schema) bytes here.0 there.0 (sound catalogue).vocabulary here.1 (fault_back bytes there.0 there.1))
-        (λ query said caused here there. no_fault form.Query catalogue.words (arities_of catalogue.schema) bytes here.0 there.0 (sound catalogue).vocabulary (reading_back bytes here.0 here.1) there.1)
+        here.2 ∙ ap status.BadQuery (one_fault form.Query catalogue.words (arities_of catalogue.schema) bytes here.0 there.0
+        (sound catalogue).vocabulary here.1 (fault_back bytes there.0 there.1)) ∙ sym there.2)
+        (λ query said caused here there. no_fault form.Query catalogue.words (arities_of catalogue.schema) bytes here.0 there.0
+        (sound catalogue).vocabulary here.1 (fault_back bytes there.0 there.1))
+        (λ query said caused here there. no_fault form.Query catalogue.words (arities_of catalogue.schema) bytes here.0 there.0 (sound catalogue).vocabulary
+        (reading_back bytes here.0 here.1) there.1)
 
-    queries_agree : (name : List ℕ) → Agree (opens_query (Some files) name catalogue) (opens_query (Some files) name other) IsSameQuery
+    queries_agree : (name : List ℕ) → AgreeCalmly IsSameQuery (opens_query (Some files) name catalogue) (opens_query (Some files) name other)
     queries_agree name =
-        then-agree _ _ _ _ ◌≡◌ IsSameQuery (fetches-agree files name 65536)
-        (λ bytes other_bytes same. subst (λ it. Agree (reads_query catalogue bytes) (reads_query other it) IsSameQuery) same (read_agree bytes))
+        then_agree _ ◌≡◌ IsSameQuery _ _ _ _ (fetches-agree files name QUERY_LIMIT)
+        (λ bytes other_bytes goes same. subst (λ it. AgreeCalmly IsSameQuery (reads_query catalogue bytes) (reads_query other it)) same (read_agree bytes))
 
     printed_agree : (query other_query : Query) → IsSameQuery query other_query
-        → Agree (and_then (prints_list catalogue query) (λ text. gives (Done text))) (and_then (prints_list other other_query) (λ text. gives (Done text))) ◌≡◌
+        → AgreeCalmly ◌≡◌ (and_then (prints_list catalogue query) (λ text. gives (Done text)))
+        (and_then (prints_list other other_query) (λ text. gives (Done text)))
     printed_agree query other_query same =
-        then-agree _ _ _ _ ◌≡◌ ◌≡◌
-        (judges-agree _ _ _ _ _ (λ text other_text here there. texts_one laws catalogue query text other_text here (listing_moved catalogue other alike query other_query same other_text there)) (λ said other_said caused other_caused here there. absurd here)
+        then_agree _ ◌≡◌ ◌≡◌ _ _ _ _
+        (judges_agree _ _ _ _ _ _ (λ text other_text here there. texts_one laws catalogue query text other_text here
+        (listing_moved catalogue other alike query other_query same other_text there)) (λ said other_said caused other_caused here there. absurd here)
         (λ value said caused here there. there) (λ value said caused here there. there))
-        (λ text other_text texts. gives-agree (Done text) (Done other_text) (ap Done texts))
+        (λ text other_text goes texts. gives_agree _ (Done text) (Done other_text) (ap Done texts))
 
-  list_agrees : (catalogue_name query_name : List ℕ) → Agree (list_course (Some files) catalogue_name query_name) (list_course (Some files) catalogue_name query_name) ◌≡◌
+  list_agrees : (catalogue_name query_name : List ℕ) → AgreeCalmly ◌≡◌ (list_course (Some files) catalogue_name query_name)
+      (list_course (Some files) catalogue_name query_name)
   list_agrees catalogue_name query_name =
-      then-agree _ _ _ _ AreSame ◌≡◌ (opened_agree catalogue_name) (λ catalogue other alike.
-      then-agree _ _ _ _ (λ _ _. Unit {0}) ◌≡◌ (constraints_agree catalogue other alike) (λ _ _ _.
-      then-agree _ _ _ _ IsSameQuery ◌≡◌ (queries_agree catalogue other alike query_name) (λ query other_query same. printed_agree catalogue other alike query other_query same)))
+      then_agree _ AreSame ◌≡◌ _ _ _ _ (opened_agree catalogue_name) (λ catalogue other goes alike.
+      then_agree _ (λ _ _. Unit {0}) ◌≡◌ _ _ _ _ (constraints_agree catalogue other alike) (λ _ _ goes1 _.
+      then_agree _ IsSameQuery ◌≡◌ _ _ _ _ (queries_agree catalogue other alike query_name)
+      (λ query other_query goes2 same. printed_agree catalogue other alike query other_query same)))
 
-  check_agrees : (name : List ℕ) → Agree (check_course (Some files) name) (check_course (Some files) name) ◌≡◌
+  check_agrees : (name : List ℕ) → AgreeCalmly ◌≡◌ (check_course (Some files) name) (check_course (Some files) name)
   check_agrees name =
-      then-agree _ _ _ _ AreSame ◌≡◌ (opened_agree name) (λ catalogue other alike. gives-agree (Done (check_text catalogue)) (Done (check_text other)) (ap Done (check_one catalogue other alike)))
+      then_agree _ AreSame ◌≡◌ _ _ _ _ (opened_agree name) (λ catalogue other goes alike. gives_agree _ (Done (check_text catalogue))
+      (Done (check_text other)) (ap Done (check_one catalogue other alike)))
 
-  request_agrees : (request : Request) → Agree (course_of_request (Some files) request) (course_of_request (Some files) request) ◌≡◌
+  request_agrees : (request : Request) → AgreeCalmly ◌≡◌ (course_of_request (Some files) request) (course_of_request (Some files) request)
   request_agrees (CheckOf name) = check_agrees name
   request_agrees (ListFor catalogue_name query_name) = list_agrees catalogue_name query_name
-  request_agrees Unbuilt = refuses-agree status.NotBuilt
+  request_agrees Unbuilt = refuses_agree _ _ status.NotBuilt
 
-  pub asked_agrees : (asked : Option Request) → Agree (course_of_asked (Some files) asked) (course_of_asked (Some files) asked) ◌≡◌
-  asked_agrees None = refuses-agree status.Usage
+  pub asked_agrees : (asked : Option Request) → AgreeCalmly ◌≡◌ (course_of_asked (Some files) asked) (course_of_asked (Some files) asked)
+  asked_agrees None = refuses_agree _ _ status.Usage
   asked_agrees (Some request) = request_agrees request
 
-pub outcomes_determined : AreSound → HaveOneCatalogue → HaveNoError → HaveOneError → HaveOneReading → HaveNoFault → HaveOneFault → ListLaws → OutcomesAreDetermined
+pub outcomes_determined : CataloguesAreSound → HaveOneCatalogue → HaveNoError → HaveOneError → HaveOneReading → HaveNoFault → HaveOneFault → ListLaws
+    → OutcomesAreDetermined
 outcomes_determined sound one apart one_error one_reading no_fault one_fault laws words files said other_said text other_text outcome other_outcome =
-    says-agree _ _ said other_said text other_text (asked_agrees sound one apart one_error one_reading no_fault one_fault laws files (request_of words)) outcome other_outcome
+    says-agree _ _ said other_said text other_text (asked_agrees sound one apart one_error one_reading no_fault one_fault laws files
+    (request_of words)) outcome other_outcome
 
 pub exact : OutcomesAreDetermined → (words : List (List ℕ)) (files : Option Files) (rose sink_rose : Type 0) (old new : Option (List ℕ)) (result : Status)
     → CompleteWhereTold words files rose sink_rose old new result → ExactWhereTold words files rose sink_rose old new result

@@ -1,9 +1,8 @@
 -- What `list` answers where the files say a catalogue without constraints and a query over it.
 use Rattle.std.proofs.Common.{◌≡◌, ℕ, Bool, List, [], Contains, Option, Some, None, inl, inr, sym, ap, subst, ◌∙◌}
 use Rattle.esto_term.specs.declared.term.Term.{Term}
-use Rattle.esto_catalog.specs.Determined.{HaveOneCatalogue, HaveNoError}
+use Rattle.esto_catalog.specs.Determined.{CataloguesAreSound, HaveOneCatalogue, HaveNoError}
 use Rattle.esto_catalog.specs.Reading.{IsCatalogueOf, IsCatalogueError}
-use Rattle.esto_catalog.specs.Soundness.{IsSoundCatalogue}
 use Rattle.esto_catalog.specs.declared.catalogue.Catalogue.{Catalogue}
 use Rattle.esto_catalog.specs.declared.fault.CatalogueError.{CatalogueError}
 use Rattle.esto_constraint.specs.Constraints.{rules_of}
@@ -11,7 +10,6 @@ use Rattle.esto_list.specs.Items.{sets_of}
 use Rattle.esto_ports.specs.Files.{Files}
 use Rattle.esto_query.specs.Making.{query_of}
 use Rattle.esto_query.specs.Schemas.{arities_of}
-use Rattle.esto_query.specs.declared.query.Name.{Name}
 use Rattle.esto_query.specs.declared.query.Query.{Query}
 use Rattle.esto_read.specs.Readings.{IsReading, IsFirstFault, HaveOneReading, HaveNoFault}
 use Rattle.esto_read.specs.declared.read.Form.TheVariants as form
@@ -24,16 +22,18 @@ use Rattle.esto_semantics.specs.Maps.{AreFlat}
 use Rattle.esto_semantics.specs.Plans.{IsUniversalPlan}
 use Rattle.esto_semantics.specs.Queries.{ConjunctiveQuery}
 use Rattle.esto_semantics.specs.Rewritings.{MapsOnto}
-use Rattle.esto_semantics.specs.Rules.{Rule, AreRules}
+use Rattle.esto_semantics.specs.Rules.{Rule}
 use Rattle.esto_semantics.specs.Sets.{Covers}
 use Rattle.esto_semantics.specs.declared.fact.Fact.{Fact}
 use Rattle.esto_universal.specs.Stated.{IsStatedPlan}
+use Rattle.esto_universal.specs.StatedLaws.{StatedPlanIsUniversal}
 use Rattle.esto_views.specs.Fragments.{views_of, patterns_of}
 use Rattle.esto_views.specs.Plans.{fact_of, plan_query}
 use Rattle.esto_views.specs.Soundness.{IsSoundPlan}
 use Rattle.esto_views.specs.declared.plan.Plan.{Plan}
 use Rattle.esto_text.specs.declared.fault.TextFault.{TextFault}
-use Rattle.esto_top.specs.Course.{IsCaused, and_then, gives}
+use Rattle.esto_course.specs.Course.{and_then, gives}
+use Rattle.esto_top.specs.Answers.{IsCaused}
 use Rattle.esto_top.specs.Headline.{FilesSay, PrintsExactly, IsExactList, OutcomesAreLists, ListsWhereTold}
 use Rattle.esto_top.specs.List.{has_no_constraint, prints_list, list_course}
 use Rattle.esto_top.specs.Listing.{IsListing}
@@ -49,10 +49,8 @@ use Rattle.esto_top.proofs.LeadLemmas.{Leads, then-leads, gives-leads, judges-le
 use Rattle.esto_top.proofs.PlainLemmas.{no_rules}
 use Rattle.esto_term.proofs.ListLemmas.{Contains-map_from, Contains-nil}
 use Rattle.esto_semantics.specs.Access.{Patterns}
-
--- each catalogue keeps what a catalogue keeps
-abbrev pub AreSound : Type 0
-AreSound = (it : Catalogue) → IsSoundCatalogue it.schema it.words it.datasets it.fragments it.stores it.rules it.given it.ranks
+use Rattle.esto_top.specs.declared.opening.TheConstants.{CATALOGUE_LIMIT, QUERY_LIMIT}
+use Rattle.esto_top.proofs.Steps.{never_wanting}
 
 -- ---- the text
 
@@ -62,9 +60,7 @@ pub record PlanLaws : Type 0 where
   pub own : (query : ConjunctiveQuery) → IsUniversalFor [] query query
   pub finished : (query : ConjunctiveQuery) → IsFinished [] query
   pub satisfiable : (query : ConjunctiveQuery) → IsSatisfiable [] query
-  pub universal : (rules : List Rule) (names : List Name) (views : List ConjunctiveQuery) (query end : ConjunctiveQuery) (plan : Plan)
-      → AreRules rules → IsUniversalFor rules query end → IsFinished rules end → IsStatedPlan names views end plan
-      → IsUniversalPlan rules views query (plan_query plan)
+  pub universal : StatedPlanIsUniversal
   pub covers : (rules : List Rule) (views : List ConjunctiveQuery) (patterns : Patterns) (query plan other : ConjunctiveQuery)
       (sets : List (List Bool)) → AreFlat plan.body → IsUniversalPlan rules views query plan → IsSatisfiable rules query
       → AreListed rules views patterns query plan sets → IsExecutableRewriting rules views patterns query other
@@ -79,7 +75,7 @@ flat_atoms plan sound term (fact, there, inside) =
       | inr variable ↦ inr (variable.0, variable.1)
     ]
 
-module _ (laws : PlanLaws) (sound : AreSound) (catalogue : Catalogue) (query : Query) (no_constraint : catalogue.given ≡ 0) where
+module _ (laws : PlanLaws) (sound : CataloguesAreSound) (catalogue : Catalogue) (query : Query) (no_constraint : catalogue.given ≡ 0) where
   rules_are : rules_of catalogue.rules ≡ []
   rules_are = no_rules catalogue.rules catalogue.given (sound catalogue).given_are no_constraint
 
@@ -99,7 +95,8 @@ module _ (laws : PlanLaws) (sound : AreSound) (catalogue : Catalogue) (query : Q
     list = listing.list;
     universal = stated_universal listing.plan listing.stated;
     complete = λ other rewriting.
-        laws.covers (rules_of catalogue.rules) (views_of catalogue.fragments) (patterns_of catalogue.fragments) (query_of query) (plan_query listing.plan) other (sets_of listing.items)
+        laws.covers (rules_of catalogue.rules) (views_of catalogue.fragments) (patterns_of catalogue.fragments) (query_of query)
+        (plan_query listing.plan) other (sets_of listing.items)
         (flat_atoms listing.plan (laws.sound listing.plan)) (stated_universal listing.plan listing.stated)
         (subst (λ rules. IsSatisfiable rules (query_of query)) (sym rules_are) (laws.satisfiable (query_of query))) listing.list.sets rewriting;
   }
@@ -127,18 +124,20 @@ reading-same : (words others : List Word) (schema other : List ℕ) (bytes : Lis
 reading-same words others schema other bytes named words_are schema_is reading =
     subst (λ it. IsReading form.Query it other bytes named) words_are (subst (λ it. IsReading form.Query words it bytes named) schema_is reading)
 
-module _ (sound : AreSound) (one : HaveOneCatalogue) (apart : HaveNoError) (one_reading : HaveOneReading) (no_fault : HaveNoFault)
-    (files : Files) (catalogue_name query_name : List ℕ) (catalogue : Catalogue) (query : Query) (say : FilesSay files catalogue_name query_name catalogue query) where
+module _ (sound : CataloguesAreSound) (one : HaveOneCatalogue) (apart : HaveNoError) (one_reading : HaveOneReading) (no_fault : HaveNoFault)
+    (files : Files) (catalogue_name query_name : List ℕ) (catalogue : Catalogue) (query : Query)
+    (say : FilesSay files catalogue_name query_name catalogue query) where
   -- the catalogue is fetched and read
   catalogue_leads : Leads (opens_catalogue (Some files) catalogue_name) (IsCatalogueOf say.catalogue_bytes)
   catalogue_leads =
-      then-leads _ _ (λ bytes. bytes ≡ say.catalogue_bytes) _ (fetches-leads files catalogue_name 1048576 say.catalogue_bytes say.has_catalogue)
+      then-leads _ _ (λ bytes. bytes ≡ say.catalogue_bytes) _ (fetches-leads files catalogue_name CATALOGUE_LIMIT say.catalogue_bytes say.has_catalogue)
       (λ bytes is. subst (λ it. Leads (reads_catalogue it) (IsCatalogueOf say.catalogue_bytes)) (sym is) (judges-leads _ _ no_error))
     where
-      no_error : (refusal : Status) → IsCaused ⊥ refusal → (cause : CatalogueError) × IsCatalogueError say.catalogue_bytes cause × (refusal ≡ status_of cause) → ⊥
+      no_error : (refusal : Status) → IsCaused ⊥ refusal → (cause : CatalogueError) × IsCatalogueError say.catalogue_bytes cause
+          × (refusal ≡ status_of cause) → ⊥
       no_error refusal caused (cause, is_error, is) =
           let wanting : refusal ≡ status.OutOfMemory = is ∙ ap status_of (apart say.catalogue_bytes catalogue cause say.is_catalogue is_error) in
-          subst (IsCaused ⊥) wanting caused
+          never_wanting ⊥ refusal wanting caused
 
   module _ (other : Catalogue) (is_other : IsCatalogueOf say.catalogue_bytes other) where
     given_none : other.given ≡ 0
@@ -150,12 +149,13 @@ module _ (sound : AreSound) (one : HaveOneCatalogue) (apart : HaveNoError) (one_
     reading : IsReading form.Query other.words (arities_of other.schema) say.query_bytes say.named
     reading =
         let same = one say.catalogue_bytes catalogue other say.is_catalogue is_other in
-        reading-same catalogue.words other.words (arities_of catalogue.schema) (arities_of other.schema) say.query_bytes say.named same.words (ap arities_of same.schema) say.is_query
+        reading-same catalogue.words other.words (arities_of catalogue.schema) (arities_of other.schema) say.query_bytes say.named same.words
+        (ap arities_of same.schema) say.is_query
 
     -- the query is fetched and read
     query_leads : Leads (opens_query (Some files) query_name other) (IsQueryOf other say.query_bytes)
     query_leads =
-        then-leads _ _ (λ bytes. bytes ≡ say.query_bytes) _ (fetches-leads files query_name 65536 say.query_bytes say.has_query)
+        then-leads _ _ (λ bytes. bytes ≡ say.query_bytes) _ (fetches-leads files query_name QUERY_LIMIT say.query_bytes say.has_query)
         (λ bytes is. subst (λ it. Leads (reads_query other it) (IsQueryOf other say.query_bytes)) (sym is) (judges-leads _ _ none))
       where
         none : (refusal : Status) → IsCaused ⊥ refusal
@@ -192,20 +192,23 @@ module _ (sound : AreSound) (one : HaveOneCatalogue) (apart : HaveNoError) (one_
   run_lists : (reply : Reply) (run : IsRun say.catalogue_bytes say.query_bytes reply) → IsListing catalogue query run.text
   run_lists reply run =
       let alike = one say.catalogue_bytes catalogue run.catalogue say.is_catalogue run.is_catalogue in
-      let same = same_reading one_reading (sound run.catalogue).vocabulary say.query_bytes query run.query (say.named, reading run.catalogue run.is_catalogue, say.query_is) run.is_query in
+      let same = same_reading one_reading (sound run.catalogue).vocabulary say.query_bytes query run.query
+      (say.named, reading run.catalogue run.is_catalogue, say.query_is) run.is_query in
       listing_moved catalogue run.catalogue alike query run.query same run.text run.listing
 
-  pub exact_list : PlanLaws → (said : Status) (text : List ℕ) → Says (list_course (Some files) catalogue_name query_name) ⊥ said text → IsExactList catalogue query said text
+  pub exact_list : PlanLaws → (said : Status) (text : List ℕ) → Says (list_course (Some files) catalogue_name query_name) ⊥ said text
+      → IsExactList catalogue query said text
   exact_list laws said text says =
       let whole = says-leads _ (IsRun say.catalogue_bytes say.query_bytes) said text list_leads says in
       let run = whole.1 in (
         whole.2 ∙ ap reply_status run.reply_is,
-        subst (PrintsExactly catalogue query) (sym (whole.3 ∙ ap reply_text run.reply_is)) (prints-exactly laws sound catalogue query say.no_constraint run.text (run_lists whole.0 run)),
+        subst (PrintsExactly catalogue query) (sym (whole.3 ∙ ap reply_text run.reply_is))
+            (prints-exactly laws sound catalogue query say.no_constraint run.text (run_lists whole.0 run)),
       )
 
 -- ---- the outcomes
 
-pub outcomes_are_lists : AreSound → HaveOneCatalogue → HaveNoError → HaveOneReading → HaveNoFault → PlanLaws → OutcomesAreLists
+pub outcomes_are_lists : CataloguesAreSound → HaveOneCatalogue → HaveNoError → HaveOneReading → HaveNoFault → PlanLaws → OutcomesAreLists
 outcomes_are_lists sound one apart one_reading no_fault laws words files catalogue_name query_name catalogue query said text asks say outcome =
     exact_list sound one apart one_reading no_fault files catalogue_name query_name catalogue query say laws said text
     (subst (λ it. Says (course_of it (Some files)) ⊥ said text) asks outcome)

@@ -1,7 +1,8 @@
 -- Where a course, without a read fault, can only go on, and with values of which a fact holds.
-use Rattle.std.proofs.Common.{◌≡◌, ℕ, List, Some, sym, ap, subst, ◌∙◌, inl, inr, arith, length}
+use Rattle.std.proofs.Common.{◌≡◌, ℕ, List, Some, sym, ap, ◌∙◌, inl, inr, arith, length}
 use Rattle.esto_ports.specs.Files.{Files}
-use Rattle.esto_top.specs.Course.{Course, IsCaused, judges, gives, and_then}
+use Rattle.esto_course.specs.Course.{Course, judges, gives, and_then}
+use Rattle.esto_top.specs.Answers.{IsCaused}
 use Rattle.esto_top.specs.Fetch.{FetchStops, fetches, without_mark}
 use Rattle.esto_top.specs.Fetch.FetchStops.{fails, is_longer}
 use Rattle.esto_top.specs.Headline.{HasWithin}
@@ -9,25 +10,31 @@ use Rattle.esto_top.specs.Outcome.{Says, reply_status, reply_text}
 use Rattle.esto_top.specs.Outcome.Says.{replies, refuses}
 use Rattle.esto_top.specs.declared.ending.Reply.{Reply}
 use Rattle.esto_top.specs.declared.status.Status.{Status}
+use Rattle.esto_top.proofs.Steps.{read_cause}
 
-pub record Leads {A : Type 0} (course : Course A) (Fact : A → Type 0) : Type 0 where
+pub record Leads {A : Type 0} (course : Course Status A) (Fact : A → Type 0) : Type 0 where
   pub goes : (value : A) → course.goes value → Fact value
   pub stops : (status : Status) → IsCaused ⊥ status → course.stops status → ⊥
 
 -- one step, and then what follows from a value of which the fact holds
-pub then-leads : {A B : Type 0} (first : Course A) (next : A → Course B) (Fact : A → Type 0) (Result : B → Type 0)
+pub then-leads : {A B : Type 0} (first : Course Status A) (next : A → Course Status B) (Fact : A → Type 0) (Result : B → Type 0)
     → Leads first Fact → ((value : A) → Fact value → Leads (next value) Result) → Leads (and_then first next) Result
 unfolding and_then
 then-leads first next Fact Result one two = record {
   goes = λ value step. (two step.0 (one.goes step.0 step.1)).goes value step.2;
-  stops = λ status caused stop. elim stop [ inl early ↦ one.stops status caused early | inr late ↦ (two late.0 (one.goes late.0 late.1)).stops status caused late.2 ];
+  stops = λ status caused stop. elim stop [
+    | inl early ↦ one.stops status caused early
+    | inr late ↦
+        (two late.0 (one.goes late.0 late.1)).stops status caused late.2
+  ];
 }
 
 pub gives-leads : {A : Type 0} (value : A) → Leads (gives value) (λ other. other ≡ value)
 unfolding gives
 gives-leads value = record { goes = λ other is. is; stops = λ status caused stop. stop }
 
-pub judges-leads : {A : Type 0} (Accepts : A → Type 0) (Refuses : Status → Type 0) → ((status : Status) → IsCaused ⊥ status → Refuses status → ⊥) → Leads (judges Accepts Refuses) Accepts
+pub judges-leads : {A : Type 0} (Accepts : A → Type 0) (Refuses : Status → Type 0) → ((status : Status) → IsCaused ⊥ status → Refuses status → ⊥)
+    → Leads (judges Accepts Refuses) Accepts
 unfolding judges
 judges-leads Accepts Refuses never = record { goes = λ value accepted. accepted; stops = never }
 
@@ -36,7 +43,7 @@ same-file one other same = cc
 
 module _ (files : Files) (name : List ℕ) (limit : ℕ) (bytes : List ℕ) (has : HasWithin files name limit bytes) where
   never-longer : (status : Status) → IsCaused ⊥ status → FetchStops (Some files) name limit status → ⊥
-  never-longer status caused (fails is) = subst (IsCaused ⊥) is caused
+  never-longer status caused (fails is) = read_cause ⊥ status name is caused
   never-longer status caused (is_longer file holds longer is) =
       let same : has.0 ≡ file = same-file _ _ (sym has.1 ∙ holds) in
       omega (arith, has.2, longer, ap length same)
@@ -50,7 +57,7 @@ module _ (files : Files) (name : List ℕ) (limit : ℕ) (bytes : List ℕ) (has
   }
 
 -- what is said is a reply of which the fact holds
-pub says-leads : (course : Course Reply) (Fact : Reply → Type 0) (said : Status) (text : List ℕ) → Leads course Fact → Says course ⊥ said text
+pub says-leads : (course : Course Status Reply) (Fact : Reply → Type 0) (said : Status) (text : List ℕ) → Leads course Fact → Says course ⊥ said text
     → (reply : Reply) × Fact reply × (said ≡ reply_status reply) × (text ≡ reply_text reply)
 says-leads course Fact said text leads (replies reply goes status_is text_is) = (reply, leads.goes reply goes, status_is, text_is)
 says-leads course Fact said text leads (refuses caused stops text_is) = absurd (leads.stops said caused stops)

@@ -1,17 +1,18 @@
 -- Lists of one plan, and their texts, are one.
-use Rattle.std.proofs.Common.{◌≡◌, ℕ, zero, suc, ◌+◌, Bool, List, [], ◌∷◌, ◌++◌, map, length, slice_get, Option, Some, None, All, refl, sym, ap, subst, ◌∙◌, arith}
+use Rattle.std.proofs.Common.{◌≡◌, ℕ, zero, suc, ◌+◌, List, [], ◌∷◌, ◌++◌, map, length, slice_get, Option, Some, None, All, refl, sym, ap, subst, ◌∙◌, arith}
 use Rattle.std.specs.Fmt.{decimal}
 use Rattle.std.specs.Prelude.{codes}
 use Rattle.std.proofs.lemmas.List.Elements.{All-head, All-tail}
 use Rattle.esto_term.specs.declared.term.Term.{Term}
-use Rattle.esto_list.specs.Items.{sets_of, totals_of, IsPickOf, set_weight}
+use Rattle.esto_list.specs.Items.{sets_of, totals_of, IsPickOf}
 use Rattle.esto_list.specs.Names.{met_atoms, met_terms}
 use Rattle.esto_list.specs.Text.{each_from, fragment_name, atom_line, terms_text, count_line, item_line, pick_line, list_text}
 use Rattle.esto_list.specs.declared.listing.Listed.{Listed}
 use Rattle.esto_query.specs.declared.query.Name.{Name}
 use Rattle.esto_semantics.specs.Access.{Patterns, IsStatedOrder}
 use Rattle.esto_semantics.specs.AccessLaws.{StatedOrderIsOne}
-use Rattle.esto_semantics.specs.ListedLaws.{PickIsOne}
+use Rattle.esto_semantics.specs.Listed.{IsWeight, chosen}
+use Rattle.esto_semantics.specs.ListedLaws.{PickIsOne, WeightIsOne}
 use Rattle.esto_semantics.specs.declared.fact.Fact.{Fact}
 use Rattle.esto_views.specs.Plans.{fact_of}
 use Rattle.esto_views.specs.declared.fragments.FragmentDef.{FragmentDef}
@@ -29,25 +30,31 @@ first_same one other rest others same = cc
 rest_same : {A : Type 0} (one other : A) (rest others : List A) → one ∷ rest ≡ other ∷ others → rest ≡ others
 rest_same one other rest others same = cc
 
-module _ (one_order : StatedOrderIsOne) (patterns : Patterns) (weights : List ℕ) (atoms : List (Fact Term)) where
+module _ (one_order : StatedOrderIsOne) (one_weight : WeightIsOne) (patterns : Patterns) (weights : List ℕ) (atoms : List (Fact Term)) where
   abbrev pub HasOrder : Listed → Type 0
   HasOrder item = IsStatedOrder patterns atoms item.set item.order
 
   abbrev pub HasWeight : Listed → Type 0
-  HasWeight item = item.weight ≡ set_weight weights atoms item.set
+  HasWeight item = IsWeight weights (chosen item.set atoms) item.weight
 
   -- the sets determine the items
-  pub same_items : (items others : List Listed) → sets_of items ≡ sets_of others → All HasOrder items → All HasOrder others → All HasWeight items → All HasWeight others → items ≡ others
+  pub same_items : (items others : List Listed) → sets_of items ≡ sets_of others → All HasOrder items → All HasOrder others → All HasWeight items
+      → All HasWeight others → items ≡ others
   same_items [] [] same orders other_orders totals other_totals = refl
   same_items [] (other ∷ others) same orders other_orders totals other_totals = absurd (cc)
   same_items (item ∷ items) [] same orders other_orders totals other_totals = absurd (cc)
   same_items (item ∷ items) (other ∷ others) same orders other_orders totals other_totals =
       let set : item.set ≡ other.set = first_same item.set other.set (sets_of items) (sets_of others) same in
       let order : item.order ≡ other.order =
-      one_order patterns atoms other.set item.order other.order (subst (λ it. IsStatedOrder patterns atoms it item.order) set (All-head HasOrder item items orders)) (All-head HasOrder other others other_orders) in
-      let weight : item.weight ≡ other.weight = All-head HasWeight item items totals ∙ ap (set_weight weights atoms) set ∙ sym (All-head HasWeight other others other_totals) in
+      one_order patterns atoms other.set item.order other.order (subst (λ it. IsStatedOrder patterns atoms it item.order) set
+      (All-head HasOrder item items orders)) (All-head HasOrder other others other_orders) in
+      let weight : item.weight ≡ other.weight =
+      one_weight weights (chosen other.set atoms) item.weight other.weight
+      (subst (λ it. IsWeight weights (chosen it atoms) item.weight) set (All-head HasWeight item items totals))
+      (All-head HasWeight other others other_totals) in
       let rest : items ≡ others =
-      same_items items others (rest_same item.set other.set (sets_of items) (sets_of others) same) (All-tail HasOrder item items orders) (All-tail HasOrder other others other_orders)
+      same_items items others (rest_same item.set other.set (sets_of items) (sets_of others) same) (All-tail HasOrder item items orders)
+      (All-tail HasOrder other others other_orders)
       (All-tail HasWeight item items totals) (All-tail HasWeight other others other_totals) in
       λ i. same_item item other set order weight i ∷ rest i
 
@@ -75,7 +82,8 @@ same_atoms (atom ∷ atoms) (other ∷ others) same =
 
 -- ---- the text
 
-each-same : {A : Type 0} (text other : ℕ → A → List ℕ) → ((place : ℕ) (thing : A) → text place thing ≡ other place thing) → (from : ℕ) (things : List A) → each_from text from things ≡ each_from other from things
+each-same : {A : Type 0} (text other : ℕ → A → List ℕ) → ((place : ℕ) (thing : A) → text place thing ≡ other place thing) → (from : ℕ) (things : List A)
+    → each_from text from things ≡ each_from other from things
 each-same text other same from [] = refl
 each-same text other same from (thing ∷ things) = let rest = each-same text other same (from + 1) things in λ i. same from thing i ++ rest i
 
@@ -83,7 +91,8 @@ named : Option (List ℕ) → List ℕ
 named None = []
 named (Some name) = name
 
-named-fragment : (fragments : List FragmentDef) (place : ℕ) → fragment_name (slice_get fragments place) ≡ named (slice_get (map (λ fragment. fragment.name) fragments) place)
+named-fragment : (fragments : List FragmentDef) (place : ℕ) → fragment_name (slice_get fragments place)
+    ≡ named (slice_get (map (λ fragment. fragment.name) fragments) place)
 unfolding named
 named-fragment [] place = refl
 named-fragment (fragment ∷ fragments) zero = refl
@@ -97,18 +106,22 @@ text_by fragments atoms head names items pick =
     ++ count_line (codes "rewritings ") (length items) ++ each_from item_line 0 items ++ pick_line pick
 
 module _ (fragments others : List FragmentDef) (same : map (λ fragment. fragment.name) fragments ≡ map (λ fragment. fragment.name) others) where
-  atom-same : (names : List Name) (nameless : List ℕ) (place : ℕ) (atom : PlanAtom) → atom_line fragments names nameless place atom ≡ atom_line others names nameless place atom
+  atom-same : (names : List Name) (nameless : List ℕ) (place : ℕ) (atom : PlanAtom)
+      → atom_line fragments names nameless place atom ≡ atom_line others names nameless place atom
   atom-same names nameless place atom =
       let name : fragment_name (slice_get fragments atom.fragment) ≡ fragment_name (slice_get others atom.fragment) =
-      named-fragment fragments atom.fragment ∙ ap (λ (it : List (List ℕ)). named (slice_get it atom.fragment)) same ∙ sym (named-fragment others atom.fragment) in
+      named-fragment fragments atom.fragment ∙ ap (λ (it : List (List ℕ)). named (slice_get it atom.fragment)) same
+      ∙ sym (named-fragment others atom.fragment) in
       λ i. decimal (place + 1) ++ codes " " ++ name i ++ terms_text names nameless atom.terms ++ codes "\n"
 
-  text_by-same : (atoms : List PlanAtom) (head : List Term) (names : List Name) (items : List Listed) (pick : Option ℕ) → text_by fragments atoms head names items pick ≡ text_by others atoms head names items pick
+  text_by-same : (atoms : List PlanAtom) (head : List Term) (names : List Name) (items : List Listed) (pick : Option ℕ)
+      → text_by fragments atoms head names items pick ≡ text_by others atoms head names items pick
   text_by-same atoms head names items pick =
       let nameless : List ℕ = met_terms names (met_atoms names [] atoms) head in
       let lines : each_from (atom_line fragments names nameless) 0 atoms ≡ each_from (atom_line others names nameless) 0 atoms =
       each-same (atom_line fragments names nameless) (atom_line others names nameless) (atom-same names nameless) 0 atoms in
-      λ i. count_line (codes "plan ") (length atoms) ++ lines i ++ codes "head " ++ terms_text names nameless head ++ codes "\n" ++ count_line (codes "rewritings ") (length items)
+      λ i. count_line (codes "plan ") (length atoms) ++ lines i ++ codes "head " ++ terms_text names nameless head ++ codes "\n" ++ count_line
+      (codes "rewritings ") (length items)
       ++ each_from item_line 0 items ++ pick_line pick
 
   pub same_text : (plan other : Plan) (items : List Listed) (pick : Option ℕ) → plan.atoms ≡ other.atoms → plan.head ≡ other.head → plan.names ≡ other.names

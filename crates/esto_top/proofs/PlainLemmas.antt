@@ -33,7 +33,8 @@ no_input (suc count) (suc column) input = no_input count column input
 
 -- where the one pattern of each fragment has no input, each atom of a plan over the fragments has a pattern without inputs
 pub all_open : (plan : Plan) (fragments : List FragmentDef) → IsPlanOver plan fragments
-    → ((fragment : FragmentDef) → Contains fragments fragment → fragment.access ≡ replicate (length fragment.view.head) false ∷ []) → AreOpen (patterns_of fragments) (plan_query plan).body
+    → ((fragment : FragmentDef) → Contains fragments fragment → fragment.access ≡ replicate (length fragment.view.head) false ∷ [])
+    → AreOpen (patterns_of fragments) (plan_query plan).body
 all_open plan fragments over outputs atom inside =
     let from = Contains-map_from fact_of plan.atoms atom inside in
     let own = over from.0 from.1 in
@@ -41,15 +42,18 @@ all_open plan fragments over outputs atom inside =
     patterns_at fragments from.0.fragment own.0 own.1 ∙ outputs own.0 (Contains-at fragments from.0.fragment own.0 own.1) in (
       replicate (length own.0.view.head) false,
       subst (λ (it : Fact Term). HasPattern (patterns_of fragments) it.relation (replicate (length own.0.view.head) false)) from.2
-      (subst (λ ways. Contains ways (replicate (length own.0.view.head) false)) (sym access) (Contains-head (replicate (length own.0.view.head) false) [])),
+          (subst (λ ways. Contains ways (replicate (length own.0.view.head) false)) (sym access) (Contains-head (replicate (length own.0.view.head) false) [])),
       no_input (length own.0.view.head),
     )
 
 -- a list of the kept sets, in order, has the listed sets where there is no rule
-pub listed_sets : (rules : List Rule) (views : List ConjunctiveQuery) (patterns : Patterns) (query plan : ConjunctiveQuery) (sets kept : List (List Bool)) → rules ≡ []
-    → ((set : List Bool) → Contains sets set ↔ Contains kept set) → ((set : List Bool) → Contains kept set ↔ IsListed [] views patterns query plan set) → AreInOrder sets
+pub listed_sets : (rules : List Rule) (views : List ConjunctiveQuery) (patterns : Patterns) (query plan : ConjunctiveQuery) (sets kept : List (List Bool))
+    → rules ≡ []
+    → ((set : List Bool) → Contains sets set ↔ Contains kept set) → ((set : List Bool) → Contains kept set ↔ IsListed [] views patterns query plan set)
+    → AreInOrder sets
     → AreListed rules views patterns query plan sets
-listed_sets rules views patterns query plan sets kept none members listed ordered = subst (λ it. AreListed it views patterns query plan sets) (sym none) (record {
-  exact = λ set. (λ inside. (listed set).0 ((members set).0 inside), λ is_listed. (members set).1 ((listed set).1 is_listed));
-  ordered = ordered;
-})
+listed_sets rules views patterns query plan sets kept none members listed ordered =
+    subst (λ it. AreListed it views patterns query plan sets) (sym none) (record {
+      exact = λ set. (λ inside. (listed set).0 ((members set).0 inside), λ is_listed. (members set).1 ((listed set).1 is_listed));
+      ordered = ordered;
+    })

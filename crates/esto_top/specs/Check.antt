@@ -4,10 +4,11 @@ use Rattle.std.specs.Fmt.{decimal}
 use Rattle.esto_catalog.specs.declared.catalogue.Catalogue.{Catalogue}
 use Rattle.esto_ports.specs.Files.{Files}
 use Rattle.esto_query.specs.Schemas.{names_of}
-use Rattle.esto_top.specs.Course.{Course, gives, and_then}
+use Rattle.esto_course.specs.Course.{Course, gives, and_then}
 use Rattle.esto_top.specs.Opening.{opens_catalogue}
 use Rattle.esto_top.specs.declared.ending.Reply.{Reply}
 use Rattle.esto_top.specs.declared.ending.Reply.TheVariants.{Done}
+use Rattle.esto_top.specs.declared.status.Status.{Status}
 
 -- The line of a relation and its rank.
 abbrev pub rank_line : List ℕ → ℕ → List ℕ
@@ -30,5 +31,5 @@ check_text catalogue =
     count_lines (length catalogue.datasets) (length catalogue.fragments) catalogue.given ++ rank_lines (names_of catalogue.schema) catalogue.ranks
 
 -- The catalogue is fetched and read, and its text is the reply.
-abbrev pub check_course : Option Files → List ℕ → Course Reply
+abbrev pub check_course : Option Files → List ℕ → Course Status Reply
 check_course files name = and_then (opens_catalogue files name) (λ catalogue. gives (Done (check_text catalogue)))

@@ -12,7 +12,8 @@ OutcomesAreDetermined =
     (words : List (List ℕ)) (files : Files) (said other_said : Status) (text other_text : List ℕ)
     → Outcome words files said text → Outcome words files other_said other_text → (said ≡ other_said) × (text ≡ other_text)
 
--- Where the shelf tells its files, and neither count rose, any outcome of the words and the files is the one that was answered and put; or memory was refused, and nothing was put.
+-- Where the shelf tells its files, and neither count rose, any outcome of the words and the files is the one that was answered and put; or memory was
+-- refused, and nothing was put.
 abbrev pub ExactWhereTold : List (List ℕ) → Option Files → Type 0 → Type 0 → Option (List ℕ) → Option (List ℕ) → Status → Type 0
 ExactWhereTold words None rose sink_rose old new result = Unit {0}
 ExactWhereTold words (Some files) rose sink_rose old new result =

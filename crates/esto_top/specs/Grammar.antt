@@ -4,12 +4,14 @@ use Rattle.std.specs.Cmp.Lexicographic.{pointwise}
 use Rattle.std.specs.List.{list_all}
 use Rattle.esto_ports.specs.Files.{Files}
 use Rattle.esto_top.specs.Check.{check_course}
-use Rattle.esto_top.specs.Course.{Course, refuses}
+use Rattle.esto_course.specs.Course.{Course, refuses}
 use Rattle.esto_top.specs.List.{list_course}
 use Rattle.esto_top.specs.declared.command.Command.{Command}
 use Rattle.esto_top.specs.declared.command.Command.TheVariants as command
 use Rattle.esto_top.specs.declared.ending.Reply.{Reply}
 use Rattle.esto_top.specs.declared.status.Status.TheVariants.{Usage, NotBuilt}
+use Rattle.esto_top.specs.declared.command.TheConstants.{MAX_DIGITS}
+use Rattle.esto_top.specs.declared.status.Status.{Status}
 
 -- What words of the grammar ask for: the check of a catalogue's file, the list for a catalogue's and a query's file, or what is not built yet.
 pub data Request : Type 0 where
@@ -32,7 +34,7 @@ is_leading_digit byte = nat_le 49 byte && nat_le byte 57
 -- The word is a number of the list: one to nine digits, of which the first is not 0.
 abbrev pub is_list_number : List ℕ → Bool
 is_list_number [] = false
-is_list_number (first ∷ rest) = is_leading_digit first && (nat_lt (length rest) 9 && list_all is_digit rest)
+is_list_number (first ∷ rest) = is_leading_digit first && (nat_lt (length rest) MAX_DIGITS && list_all is_digit rest)
 
 -- The word is a size of the made case: 1 to 14 in decimal, so a digit other than 0, or 1 and a digit up to 4.
 abbrev pub is_made_size : List ℕ → Bool
@@ -72,16 +74,16 @@ asked (command.List catalogue query) = Request.ListFor catalogue.now query.now
 asked command.Unbuilt = Request.Unbuilt
 
 -- The course of what is asked for.
-abbrev pub course_of_request : Option Files → Request → Course Reply
+abbrev pub course_of_request : Option Files → Request → Course Status Reply
 course_of_request files (Request.CheckOf catalogue) = check_course files catalogue
 course_of_request files (Request.ListFor catalogue query) = list_course files catalogue query
 course_of_request files Request.Unbuilt = refuses NotBuilt
 
 -- The course of the words that ask for something, and the refusal of words outside the grammar.
-abbrev pub course_of_asked : Option Files → Option Request → Course Reply
+abbrev pub course_of_asked : Option Files → Option Request → Course Status Reply
 course_of_asked files None = refuses Usage
 course_of_asked files (Some request) = course_of_request files request
 
 -- The course of a command line.
-abbrev pub course_of : List (List ℕ) → Option Files → Course Reply
+abbrev pub course_of : List (List ℕ) → Option Files → Course Status Reply
 course_of words files = course_of_asked files (request_of words)

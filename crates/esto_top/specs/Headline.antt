@@ -29,6 +29,7 @@ use Rattle.esto_top.specs.Listing.{IsListOf}
 use Rattle.esto_top.specs.Outcome.{Outcome}
 use Rattle.esto_top.specs.declared.status.Status.{Status}
 use Rattle.esto_top.specs.declared.status.Status.TheVariants as status
+use Rattle.esto_top.specs.declared.opening.TheConstants.{CATALOGUE_LIMIT, QUERY_LIMIT}
 
 -- The file of that name has at most so many bytes, and these after one leading mark.
 abbrev pub HasWithin : Files → List ℕ → ℕ → List ℕ → Type 0
@@ -37,11 +38,11 @@ HasWithin files name limit bytes = (file : List ℕ) × (get files name ≡ Some
 -- The files say this catalogue, which has no constraint, and this query over it.
 pub record FilesSay (files : Files) (catalogue_name query_name : List ℕ) (catalogue : Catalogue) (query : Query) : Type 0 where
   pub catalogue_bytes : List ℕ
-  pub has_catalogue : HasWithin files catalogue_name 1048576 catalogue_bytes
+  pub has_catalogue : HasWithin files catalogue_name CATALOGUE_LIMIT catalogue_bytes
   pub is_catalogue : IsCatalogueOf catalogue_bytes catalogue
   pub no_constraint : catalogue.given ≡ 0
   pub query_bytes : List ℕ
-  pub has_query : HasWithin files query_name 65536 query_bytes
+  pub has_query : HasWithin files query_name QUERY_LIMIT query_bytes
   pub named : NamedQuery
   pub is_query : IsReading form.Query catalogue.words (arities_of catalogue.schema) query_bytes named
   pub query_is : query ≡ named.query
@@ -79,7 +80,8 @@ abbrev pub ListsExactly : Catalogue → Query → Option (List ℕ) → Option (
 ListsExactly catalogue query old new result =
     ((text : List ℕ) × IsExactList catalogue query result text × Appends old new text) ⊎ ((result ≡ status.OutOfMemory) × Keeps old new)
 
--- The headline: where the words are `list C Q`, the files are told and say a catalogue without constraints and a query over it, and neither count rose, `list` prints exactly the list of that query over that catalogue.
+-- The headline: where the words are `list C Q`, the files are told and say a catalogue without constraints and a query over it, and neither count rose,
+-- `list` prints exactly the list of that query over that catalogue.
 abbrev pub ListsWhereTold : List (List ℕ) → Option Files → Type 0 → Type 0 → Option (List ℕ) → Option (List ℕ) → Status → Type 0
 ListsWhereTold words None rose sink_rose old new result = Unit {0}
 ListsWhereTold words (Some files) rose sink_rose old new result =

@@ -1,5 +1,5 @@
 pub mod Line
-pub mod Course
+pub mod Answers
 pub mod Fetch
 pub mod Opening
 pub mod Check

@@ -11,10 +11,11 @@ use Rattle.esto_read.specs.Readings.{IsReading, IsFirstFault}
 use Rattle.esto_read.specs.declared.read.Form.TheVariants as form
 use Rattle.esto_read.specs.declared.read.NamedQuery.{NamedQuery}
 use Rattle.esto_text.specs.declared.fault.TextFault.{TextFault}
-use Rattle.esto_top.specs.Course.{Course, judges, and_then}
+use Rattle.esto_course.specs.Course.{Course, judges, and_then}
 use Rattle.esto_top.specs.Fetch.{fetches}
 use Rattle.esto_top.specs.declared.status.Status.{Status}
 use Rattle.esto_top.specs.declared.status.Status.TheVariants as status
+use Rattle.esto_top.specs.declared.opening.TheConstants.{CATALOGUE_LIMIT, QUERY_LIMIT}
 
 -- The status of why a catalogue is not read.
 abbrev pub status_of : CatalogueError → Status
@@ -24,20 +25,20 @@ status_of error.NotBuilt = status.NotBuilt
 status_of error.OutOfMemory = status.OutOfMemory
 
 -- The bytes say a catalogue, or there is a cause for which they say none.
-abbrev pub reads_catalogue : List ℕ → Course Catalogue
+abbrev pub reads_catalogue : List ℕ → Course Status Catalogue
 reads_catalogue bytes =
     judges (IsCatalogueOf bytes) (λ refusal. (cause : CatalogueError) × IsCatalogueError bytes cause × (refusal ≡ status_of cause))
 
--- The catalogue of a file of at most 1,048,576 bytes.
-abbrev pub opens_catalogue : Option Files → List ℕ → Course Catalogue
-opens_catalogue files name = and_then (fetches files name 1048576) reads_catalogue
+-- The catalogue of a file that is no longer than a catalogue may be.
+abbrev pub opens_catalogue : Option Files → List ℕ → Course Status Catalogue
+opens_catalogue files name = and_then (fetches files name CATALOGUE_LIMIT) reads_catalogue
 
 -- The bytes are the text of a query over the catalogue's words, or the text has a first fault.
-abbrev pub reads_query : Catalogue → List ℕ → Course Query
+abbrev pub reads_query : Catalogue → List ℕ → Course Status Query
 reads_query catalogue bytes =
     judges (λ query. (named : NamedQuery) × IsReading form.Query catalogue.words (arities_of catalogue.schema) bytes named × (query ≡ named.query))
     (λ refusal. (fault : TextFault) × IsFirstFault form.Query catalogue.words (arities_of catalogue.schema) bytes fault × (refusal ≡ status.BadQuery fault))
 
--- The query of a file of at most 65,536 bytes.
-abbrev pub opens_query : Option Files → List ℕ → Catalogue → Course Query
-opens_query files name catalogue = and_then (fetches files name 65536) (reads_query catalogue)
+-- The query of a file that is no longer than a query may be.
+abbrev pub opens_query : Option Files → List ℕ → Catalogue → Course Status Query
+opens_query files name catalogue = and_then (fetches files name QUERY_LIMIT) (reads_query catalogue)

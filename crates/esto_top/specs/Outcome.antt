@@ -3,7 +3,8 @@ use Rattle.std.specs.Prelude.{◌≡◌, ◌≢◌, ◌⊎◌, ℕ, List, take, 
 use Rattle.std.specs.Io.KnownBytes.{Appends, Keeps}
 use Rattle.esto_ports.specs.Files.{Files}
 use Rattle.esto_top.specs.Line.{line_of}
-use Rattle.esto_top.specs.Course.{Course, IsCaused}
+use Rattle.esto_course.specs.Course.{Course}
+use Rattle.esto_top.specs.Answers.{IsCaused}
 use Rattle.esto_top.specs.Grammar.{course_of}
 use Rattle.esto_top.specs.declared.ending.Reply.{Reply}
 use Rattle.esto_top.specs.declared.ending.Reply.TheVariants as reply
@@ -19,7 +20,7 @@ abbrev pub reply_text : Reply → List ℕ
 reply_text (reply.Done text) = text
 
 -- A course says a status and the text that is put with it: a reply's, or a refusal's line.
-pub data Says (course : Course Reply) (rose : Type 0) (status : Status) (text : List ℕ) : Type 0 where
+pub data Says (course : Course Status Reply) (rose : Type 0) (status : Status) (text : List ℕ) : Type 0 where
   replies : (reply : Reply) → course.goes reply → status ≡ reply_status reply → text ≡ reply_text reply → Says course rose status text
   refuses : IsCaused rose status → course.stops status → text ≡ line_of status → Says course rose status text
 
@@ -28,7 +29,7 @@ abbrev pub Outcome : List (List ℕ) → Files → Status → List ℕ → Type 
 Outcome words files status text = Says (course_of words (Some files)) ⊥ status text
 
 -- The whole text was put; or a prefix of it was, at a fault of the sink; or memory was refused, and nothing was put.
-pub data Mediates (course : Course Reply) (rose : Type 0) (old new : Option (List ℕ)) (sink_rose : Type 0) (result : Status) : Type 0 where
+pub data Mediates (course : Course Status Reply) (rose : Type 0) (old new : Option (List ℕ)) (sink_rose : Type 0) (result : Status) : Type 0 where
   whole : (text : List ℕ) → Says course rose result text → Appends old new text → Mediates course rose old new sink_rose result
   cut : (said : Status) (text : List ℕ) (kept : ℕ) → Says course rose said text → sink_rose → Appends old new (take kept text) → result ≡ status.WriteFault
       → Mediates course rose old new sink_rose result
@@ -57,11 +58,11 @@ CompleteWhereTold words None rose sink_rose old new result = Unit {0}
 CompleteWhereTold words (Some files) rose sink_rose old new result = ¬ rose → ¬ sink_rose → IsComplete words files old new result
 
 -- A read fault: the count rose, the command fetches that file with no earlier refusal, and its line was put.
-abbrev pub CausedReadFault : Course Reply → Type 0 → Option (List ℕ) → Option (List ℕ) → Status → Type 0
+abbrev pub CausedReadFault : Course Status Reply → Type 0 → Option (List ℕ) → Option (List ℕ) → Status → Type 0
 CausedReadFault course rose old new result =
     (name : List ℕ) → result ≡ status.ReadFault name → rose × course.stops (status.ReadFault name) × Appends old new (line_of (status.ReadFault name))
 
 -- A write fault: the count rose, and a prefix of what was to be put was put.
-abbrev pub CausedWriteFault : Course Reply → Type 0 → Type 0 → Option (List ℕ) → Option (List ℕ) → Status → Type 0
+abbrev pub CausedWriteFault : Course Status Reply → Type 0 → Type 0 → Option (List ℕ) → Option (List ℕ) → Status → Type 0
 CausedWriteFault course rose sink_rose old new result =
     result ≡ status.WriteFault → sink_rose × ((said : Status) × (text : List ℕ) × (kept : ℕ) × Says course rose said text × Appends old new (take kept text))

@@ -1,9 +1,9 @@
 //! The command `check`.
 ghost use Rattle.std.specs.Prelude.{◌≡◌, ◌≤◌, ◌++◌, length, IfOk, OnOk};
-ghost use Rattle.esto_ports.specs.Faults.{Rose};
+ghost use Rattle.esto_ports.specs.Faults.{Rises};
 ghost use Rattle.esto_query.specs.Schemas.{names_of};
 ghost use Rattle.esto_top.specs.Check.{count_lines, rank_line, rank_lines, check_text, check_course};
-ghost use Rattle.esto_top.specs.Course.{Runs};
+ghost use Rattle.esto_top.specs.Answers.{Answers};
 
 use crate::ending::Reply;
 use crate::opening::open_catalogue;
@@ -70,7 +70,8 @@ fn check_text(alloc: Global, catalogue: &Catalogue) -> Result<Bytes, OutOfMemory
 /// Fetches and reads the catalogue, and prints its counts and the ranks of its relations.
 #[tactic(auto, using(crate::proofs::Steps::steps))]
 pub fn check<S: Shelf>(alloc: Global, shelf: &mut S, catalogue: &Text) -> Result<Reply, Status>
-    ensures answer { Runs (check_course (S.files shelf.old) catalogue.now) (Rose (S.faults shelf.old) (S.faults shelf.new)) result }
+    ensures answer { Answers (check_course (S.files shelf.old) catalogue.now)
+        (Rises S.faults shelf.old shelf.new) result }
     ensures files { S.files shelf.new ≡ S.files shelf.old }
     ensures later { S.faults shelf.old ≤ S.faults shelf.new }
 {

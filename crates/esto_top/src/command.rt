@@ -1,8 +1,8 @@
 //! The words of the command line.
 ghost use Rattle.std.specs.Prelude.{◌≡◌, ◌≤◌, None, Some, MatchOption};
 ghost use Rattle.std.specs.List.{list_all};
-ghost use Rattle.esto_ports.specs.Faults.{Rose};
-ghost use Rattle.esto_top.specs.Course.{Runs};
+ghost use Rattle.esto_ports.specs.Faults.{Rises};
+ghost use Rattle.esto_top.specs.Answers.{Answers};
 ghost use Rattle.esto_top.specs.Grammar.{is_word, is_digit, is_leading_digit, is_list_number, is_made_size, request_of_one, request_of_two, request_of_three, request_of, asked, course_of_request};
 
 use crate::check::check;
@@ -74,7 +74,8 @@ fn is_made_size(word: &[u8]) -> bool
 
 // The command of one word after the verb.
 fn command_of_one<'a>(verb: &Text, word: &'a Text) -> Option<Command<'a>>
-    ensures { MatchOption result (request_of_one verb.now word.now ≡ None) (λ command. request_of_one verb.now word.now ≡ Some (asked command)) }
+    ensures { MatchOption result (request_of_one verb.now word.now ≡ None)
+        (λ command. request_of_one verb.now word.now ≡ Some (asked command)) }
 {
     if is_word(verb, b"check") {
         Some(Command::Check(word))
@@ -87,7 +88,8 @@ fn command_of_one<'a>(verb: &Text, word: &'a Text) -> Option<Command<'a>>
 
 // The command of two words after the verb.
 fn command_of_two<'a>(verb: &Text, first: &'a Text, second: &'a Text) -> Option<Command<'a>>
-    ensures { MatchOption result (request_of_two verb.now first.now second.now ≡ None) (λ command. request_of_two verb.now first.now second.now ≡ Some (asked command)) }
+    ensures { MatchOption result (request_of_two verb.now first.now second.now ≡ None)
+        (λ command. request_of_two verb.now first.now second.now ≡ Some (asked command)) }
 {
     if is_word(verb, b"list") {
         Some(Command::List(first, second))
@@ -100,7 +102,8 @@ fn command_of_two<'a>(verb: &Text, first: &'a Text, second: &'a Text) -> Option<
 
 // The command of three words after the verb.
 fn command_of_three<'a>(verb: &Text, number: &Text) -> Option<Command<'a>>
-    ensures { MatchOption result (request_of_three verb.now number.now ≡ None) (λ command. request_of_three verb.now number.now ≡ Some (asked command)) }
+    ensures { MatchOption result (request_of_three verb.now number.now ≡ None)
+        (λ command. request_of_three verb.now number.now ≡ Some (asked command)) }
 {
     if is_word(verb, b"run") && is_list_number(number.bytes()) {
         Some(Command::Unbuilt)
@@ -111,7 +114,8 @@ fn command_of_three<'a>(verb: &Text, number: &Text) -> Option<Command<'a>>
 
 /// The command that the words ask for, or nothing where they are outside the grammar.
 pub fn command_of<'a>(words: &'a [Text]) -> Option<Command<'a>>
-    ensures { MatchOption result (request_of words.now ≡ None) (λ command. request_of words.now ≡ Some (asked command)) }
+    ensures { MatchOption result (request_of words.now ≡ None)
+        (λ command. request_of words.now ≡ Some (asked command)) }
 {
     match words {
         [verb, word] => command_of_one(verb, word),
@@ -123,7 +127,8 @@ pub fn command_of<'a>(words: &'a [Text]) -> Option<Command<'a>>
 
 /// Does what a command asks for.
 pub fn obey<S: Shelf>(alloc: Global, shelf: &mut S, command: Command<'_>) -> Result<Reply, Status>
-    ensures answer { Runs (course_of_request (S.files shelf.old) (asked command.entry)) (Rose (S.faults shelf.old) (S.faults shelf.new)) result }
+    ensures answer { Answers (course_of_request (S.files shelf.old) (asked command.entry))
+        (Rises S.faults shelf.old shelf.new) result }
     ensures files { S.files shelf.new ≡ S.files shelf.old }
     ensures later { S.faults shelf.old ≤ S.faults shelf.new }
 {

@@ -1,18 +1,16 @@
 //! What all commands share: the fetch of a file, and the one put.
 ghost use Rattle.std.specs.Prelude.{◌≡◌, ◌<◌, ◌≤◌, ◌^◌, IfOk, IfSome, Err};
-ghost use Rattle.esto_ports.specs.Faults.{Rose};
-ghost use Rattle.esto_top.specs.Course.{Runs};
+ghost use Rattle.esto_ports.specs.Faults.{Rises};
+ghost use Rattle.esto_top.specs.Answers.{Answers};
 ghost use Rattle.esto_top.specs.Fetch.{without_mark, fetches};
 ghost use Rattle.esto_top.specs.Outcome.{IsSaid, Finishes};
 
 use crate::line::status_line;
 use crate::status::Status;
+use esto_catalog::MARK;
 use esto_ports::{Shelf, ShelfError, Sink, SinkError};
 use esto_term::{Bytes, OutOfMemory, Replicate, Text};
 use std::alloc::Global;
-
-/// The bytes of a mark that a file may begin with.
-const MARK: [u8; 3] = [0xef, 0xbb, 0xbf];
 
 /// A command's answer that is no refusal.
 #[derive(Debug, Drop)]
@@ -26,7 +24,7 @@ fn after_mark(bytes: &[u8]) -> &[u8]
     ensures { result.now ≡ without_mark bytes.now }
 {
     if bytes.starts_with(&MARK) {
-        &bytes[3..]
+        &bytes[MARK.len()..]
     } else {
         bytes
     }
@@ -48,7 +46,8 @@ pub fn fetch<S: Shelf>(
     limit: u64,
 ) -> Result<Bytes, Status>
     requires { limit < 2 ^ 32 }
-    ensures answer { Runs (fetches (S.files shelf.old) name.now limit) (Rose (S.faults shelf.old) (S.faults shelf.new)) result }
+    ensures answer { Answers (fetches (S.files shelf.old) name.now limit)
+        (Rises S.faults shelf.old shelf.new) result }
     ensures files { S.files shelf.new ≡ S.files shelf.old }
     ensures later { S.faults shelf.old ≤ S.faults shelf.new }
 {
@@ -88,7 +87,8 @@ fn said(alloc: Global, answer: Result<Reply, Status>) -> Option<(Status, Bytes)>
 
 /// Puts the text of an answer, by one put, and answers the status.
 pub fn finish<O: Sink>(alloc: Global, answer: Result<Reply, Status>, out: &mut O) -> Status
-    ensures put { Finishes answer (O.written out.old) (O.written out.new) (Rose (O.faults out.old) (O.faults out.new)) result }
+    ensures put { Finishes answer (O.written out.old) (O.written out.new)
+        (Rises O.faults out.old out.new) result }
     ensures later { O.faults out.old ≤ O.faults out.new }
 {
     match said(alloc, answer) {

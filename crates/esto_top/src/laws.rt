@@ -7,7 +7,7 @@ use esto_catalog::{catalogues_are_determined, catalogues_are_sound};
 use esto_read::readings_are_determined;
 use esto_semantics::{
     listed_sets_are_minimal, picks_exist, queries_are_their_own_instances, stated_orders_exist,
-    universal_instances_satisfy_queries,
+    universal_instances_satisfy_queries, weights_exist,
 };
 use esto_universal::{stated_plans_are_one, stated_plans_are_universal};
 use esto_views::plans_are_sound;
@@ -37,5 +37,6 @@ pub fn outcomes_are_determined()
     stated_plans_are_one();
     listed_sets_are_minimal();
     stated_orders_exist();
+    weights_exist();
     picks_exist();
 }

@@ -14,5 +14,6 @@ mod top;
 
 pub use laws::outcomes_are_determined;
 pub use line::status_line;
+pub use opening::{CATALOGUE_LIMIT, QUERY_LIMIT};
 pub use status::Status;
 pub use top::mediate;

@@ -142,7 +142,8 @@ fn put_arrow(line: &mut Bytes, name: &Text) -> Result<(), OutOfMemory>
 
 // Puts an arrow and a name at the end for each of the names.
 fn put_arrows(line: &mut Bytes, names: &[Text]) -> Result<(), OutOfMemory>
-    ensures { OnOk result (line.new ≡ line.old ++ flat_map (λ name. codes " -> " ++ name) names.now) }
+    ensures { OnOk result (line.new ≡ line.old
+        ++ flat_map (λ name. codes " -> " ++ name) names.now) }
 {
     'names: for name in names {
         put_arrow(line, name)?;

@@ -1,12 +1,12 @@
 //! The command `list`.
 ghost use Rattle.std.specs.Prelude.{◌≡◌, ◌≤◌, [], IfOk, OnOk};
-ghost use Rattle.esto_ports.specs.Faults.{Rose};
+ghost use Rattle.esto_ports.specs.Faults.{Rises};
 ghost use Rattle.esto_query.specs.Making.{query_of};
 ghost use Rattle.esto_semantics.specs.Plans.{IsUniversalPlan};
 ghost use Rattle.esto_universal.specs.Stated.{IsStatedPlan};
 ghost use Rattle.esto_views.specs.Fragments.{views_of};
 ghost use Rattle.esto_views.specs.Plans.{plan_query, IsPlanOver};
-ghost use Rattle.esto_top.specs.Course.{Runs};
+ghost use Rattle.esto_top.specs.Answers.{Answers};
 ghost use Rattle.esto_top.specs.List.{has_no_constraint, prints_list, list_course};
 ghost use Rattle.esto_top.specs.Listing.{IsListOf, IsListing};
 
@@ -19,13 +19,13 @@ use esto_list::Listing;
 use esto_ports::Shelf;
 use esto_query::Query;
 use esto_term::{Bytes, OutOfMemory, Text};
-use esto_universal::universal;
+use esto_universal::{stated_plans_have_distinct_atoms, universal};
 use esto_views::Plan;
 use std::alloc::Global;
 
 // Refuses a catalogue that has a constraint.
 fn check_constraints(catalogue: &Catalogue) -> Result<(), Status>
-    ensures course { Runs (has_no_constraint catalogue.now) ⊥ result }
+    ensures course { Answers (has_no_constraint catalogue.now) ⊥ result }
     ensures none { OnOk result (catalogue.now.given ≡ 0) }
 {
     if catalogue.given == 0 {
@@ -43,12 +43,15 @@ fn listing_of(
     catalogue: &Catalogue,
 ) -> Result<Listing, OutOfMemory>
     requires no_constraint { catalogue.now.given ≡ 0 }
-    requires stated { IsStatedPlan query.now.names (views_of catalogue.now.fragments) (query_of query.now) plan.now }
+    requires stated { IsStatedPlan query.now.names (views_of catalogue.now.fragments)
+        (query_of query.now) plan.now }
     requires over { IsPlanOver plan.now catalogue.now.fragments }
-    requires universal { IsUniversalPlan [] (views_of catalogue.now.fragments) (query_of query.now) (plan_query plan.now) }
+    requires universal { IsUniversalPlan [] (views_of catalogue.now.fragments) (query_of query.now)
+        (plan_query plan.now) }
     ensures { IfOk result (IsListOf catalogue.now query.now plan.now) }
 {
     catalogues_are_sound();
+    stated_plans_have_distinct_atoms();
     let sets = minimal_sets_plain(alloc, plan, query, &catalogue.fragments)?;
     let listing = Listing::of(alloc, &sets, plan, &catalogue.fragments)?;
     Ok(listing)
@@ -69,7 +72,7 @@ fn list_text(alloc: Global, query: &Query, catalogue: &Catalogue) -> Result<Byte
 // What the command prints.
 fn text_of(alloc: Global, query: &Query, catalogue: &Catalogue) -> Result<Bytes, Status>
     requires { catalogue.now.given ≡ 0 }
-    ensures { Runs (prints_list catalogue.now query.now) ⊥ result }
+    ensures { Answers (prints_list catalogue.now query.now) ⊥ result }
 {
     let text = list_text(alloc, query, catalogue)?;
     Ok(text)
@@ -83,7 +86,8 @@ pub fn list<S: Shelf>(
     catalogue: &Text,
     query: &Text,
 ) -> Result<Reply, Status>
-    ensures answer { Runs (list_course (S.files shelf.old) catalogue.now query.now) (Rose (S.faults shelf.old) (S.faults shelf.new)) result }
+    ensures answer { Answers (list_course (S.files shelf.old) catalogue.now query.now)
+        (Rises S.faults shelf.old shelf.new) result }
     ensures files { S.files shelf.new ≡ S.files shelf.old }
     ensures later { S.faults shelf.old ≤ S.faults shelf.new }
 {

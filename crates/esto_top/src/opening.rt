@@ -1,7 +1,7 @@
 //! The catalogue and the query of a command: each file is fetched, and then read.
 ghost use Rattle.std.specs.Prelude.{◌≡◌, ◌≤◌};
-ghost use Rattle.esto_ports.specs.Faults.{Rose};
-ghost use Rattle.esto_top.specs.Course.{Runs};
+ghost use Rattle.esto_ports.specs.Faults.{Rises};
+ghost use Rattle.esto_top.specs.Answers.{Answers};
 ghost use Rattle.esto_top.specs.Opening.{status_of, reads_catalogue, opens_catalogue, reads_query, opens_query};
 
 use crate::ending::fetch;
@@ -34,7 +34,7 @@ fn status_of(error: CatalogueError) -> Status
 
 // The catalogue that the bytes say, or the status of why they say none.
 fn catalogue_of(alloc: Global, bytes: &Bytes) -> Result<Catalogue, Status>
-    ensures { Runs (reads_catalogue bytes.now) ⊥ result }
+    ensures { Answers (reads_catalogue bytes.now) ⊥ result }
 {
     match read_catalogue(alloc, bytes.bytes()) {
         Ok(catalogue) => Ok(catalogue),
@@ -49,7 +49,8 @@ pub fn open_catalogue<S: Shelf>(
     shelf: &mut S,
     name: &Text,
 ) -> Result<Catalogue, Status>
-    ensures answer { Runs (opens_catalogue (S.files shelf.old) name.now) (Rose (S.faults shelf.old) (S.faults shelf.new)) result }
+    ensures answer { Answers (opens_catalogue (S.files shelf.old) name.now)
+        (Rises S.faults shelf.old shelf.new) result }
     ensures files { S.files shelf.new ≡ S.files shelf.old }
     ensures later { S.faults shelf.old ≤ S.faults shelf.new }
 {
@@ -60,7 +61,7 @@ pub fn open_catalogue<S: Shelf>(
 
 // The query over the catalogue's words, or the status of the first fault of its text.
 fn query_of(alloc: Global, bytes: &Bytes, catalogue: &Catalogue) -> Result<Query, Status>
-    ensures { Runs (reads_query catalogue.now bytes.now) ⊥ result }
+    ensures { Answers (reads_query catalogue.now bytes.now) ⊥ result }
 {
     catalogues_are_sound();
     match read_query(alloc, bytes.bytes(), &catalogue.words, &catalogue.schema) {
@@ -78,7 +79,8 @@ pub fn open_query<S: Shelf>(
     name: &Text,
     catalogue: &Catalogue,
 ) -> Result<Query, Status>
-    ensures answer { Runs (opens_query (S.files shelf.old) name.now catalogue.now) (Rose (S.faults shelf.old) (S.faults shelf.new)) result }
+    ensures answer { Answers (opens_query (S.files shelf.old) name.now catalogue.now)
+        (Rises S.faults shelf.old shelf.new) result }
     ensures files { S.files shelf.new ≡ S.files shelf.old }
     ensures later { S.faults shelf.old ≤ S.faults shelf.new }
 {

@@ -1,7 +1,7 @@
 //! The top call.
 ghost use Rattle.std.specs.Prelude.{◌≡◌, ◌≤◌};
-ghost use Rattle.esto_ports.specs.Faults.{Rose};
-ghost use Rattle.esto_top.specs.Course.{Runs};
+ghost use Rattle.esto_ports.specs.Faults.{Rises};
+ghost use Rattle.esto_top.specs.Answers.{Answers};
 ghost use Rattle.esto_top.specs.Determined.{ExactWhereTold};
 ghost use Rattle.esto_top.specs.Grammar.{course_of};
 ghost use Rattle.esto_top.specs.Headline.{ListsWhereTold};
@@ -16,7 +16,8 @@ use esto_term::Text;
 use std::alloc::Global;
 
 fn answer<S: Shelf>(alloc: Global, words: &[Text], shelf: &mut S) -> Result<Reply, Status>
-    ensures answer { Runs (course_of words.now (S.files shelf.old)) (Rose (S.faults shelf.old) (S.faults shelf.new)) result }
+    ensures answer { Answers (course_of words.now (S.files shelf.old))
+        (Rises S.faults shelf.old shelf.new) result }
     ensures files { S.files shelf.new ≡ S.files shelf.old }
     ensures later { S.faults shelf.old ≤ S.faults shelf.new }
 {
@@ -34,24 +35,35 @@ pub fn mediate<S: Shelf, O: Sink>(
     out: &mut O,
 ) -> Status
     // The status and the text are those of the command's course.
-    ensures outcome { Mediates (course_of words.now (S.files shelf.old)) (Rose (S.faults shelf.old) (S.faults shelf.new)) (O.written out.old) (O.written out.new) (Rose (O.faults out.old) (O.faults out.new)) result }
+    ensures outcome { Mediates (course_of words.now (S.files shelf.old))
+        (Rises S.faults shelf.old shelf.new) (O.written out.old) (O.written out.new)
+        (Rises O.faults out.old out.new) result }
 
     // Where the shelf tells its files and nothing was at a fault, they are an outcome of the words and the files,
     // or memory was refused.
-    ensures complete { CompleteWhereTold words.now (S.files shelf.old) (Rose (S.faults shelf.old) (S.faults shelf.new)) (Rose (O.faults out.old) (O.faults out.new)) (O.written out.old) (O.written out.new) result }
+    ensures complete { CompleteWhereTold words.now (S.files shelf.old)
+        (Rises S.faults shelf.old shelf.new) (Rises O.faults out.old out.new) (O.written out.old)
+        (O.written out.new) result }
 
     // Then any outcome of the words and the files is this one, or memory was refused.
-    ensures exact { ExactWhereTold words.now (S.files shelf.old) (Rose (S.faults shelf.old) (S.faults shelf.new)) (Rose (O.faults out.old) (O.faults out.new)) (O.written out.old) (O.written out.new) result }
+    ensures exact { ExactWhereTold words.now (S.files shelf.old)
+        (Rises S.faults shelf.old shelf.new) (Rises O.faults out.old out.new) (O.written out.old)
+        (O.written out.new) result }
 
     // The headline. Where the files say a catalogue without constraints and a query over it, `list` prints exactly the
     // plan that is stated for the query and its listed sets, each once, in order, with orders, weights and the pick. The
     // plan is universal, and each executable rewriting of the query, with any variables and of any size, maps onto a set
     // of its atoms that has a listed set within it.
-    ensures headline { ListsWhereTold words.now (S.files shelf.old) (Rose (S.faults shelf.old) (S.faults shelf.new)) (Rose (O.faults out.old) (O.faults out.new)) (O.written out.old) (O.written out.new) result }
+    ensures headline { ListsWhereTold words.now (S.files shelf.old)
+        (Rises S.faults shelf.old shelf.new) (Rises O.faults out.old out.new) (O.written out.old)
+        (O.written out.new) result }
 
     // A fault has its cause.
-    ensures read_fault { CausedReadFault (course_of words.now (S.files shelf.old)) (Rose (S.faults shelf.old) (S.faults shelf.new)) (O.written out.old) (O.written out.new) result }
-    ensures write_fault { CausedWriteFault (course_of words.now (S.files shelf.old)) (Rose (S.faults shelf.old) (S.faults shelf.new)) (Rose (O.faults out.old) (O.faults out.new)) (O.written out.old) (O.written out.new) result }
+    ensures read_fault { CausedReadFault (course_of words.now (S.files shelf.old))
+        (Rises S.faults shelf.old shelf.new) (O.written out.old) (O.written out.new) result }
+    ensures write_fault { CausedWriteFault (course_of words.now (S.files shelf.old))
+        (Rises S.faults shelf.old shelf.new) (Rises O.faults out.old out.new) (O.written out.old)
+        (O.written out.new) result }
 
     // The files stay, and no count falls.
     ensures files { S.files shelf.new ≡ S.files shelf.old }

@@ -4,6 +4,7 @@ use Rattle.esto_semantics.specs.Instances.{IsUniversalFor, IsFinished}
 use Rattle.esto_semantics.specs.Plans.{IsUniversalPlan}
 use Rattle.esto_semantics.specs.Queries.{ConjunctiveQuery}
 use Rattle.esto_semantics.specs.Rules.{Rule, AreRules}
+use Rattle.esto_semantics.specs.Unions.{ReceivesUnions}
 use Rattle.esto_query.specs.declared.query.Name.{Name}
 use Rattle.esto_views.specs.Plans.{plan_query}
 use Rattle.esto_views.specs.declared.plan.Plan.{Plan}
@@ -22,7 +23,14 @@ StatedAtomsAreDistinct =
     (names : List Name) (views : List ConjunctiveQuery) (end : ConjunctiveQuery) (plan : Plan)
     → IsStatedPlan names views end plan → AllPairs ◌≢◌ (plan_query plan).body
 
--- Where an instance is universal for a query under the rules, and meets the rules itself, the plan that is stated for it is universal for the query.
+-- Where an instance is universal for a query under the rules, and meets the rules itself, the plan that is stated for it receives unions for the query.
+abbrev pub StatedPlanReceivesUnions : Type 0
+StatedPlanReceivesUnions =
+    (rules : List Rule) (names : List Name) (views : List ConjunctiveQuery) (query end : ConjunctiveQuery) (plan : Plan)
+    → AreRules rules → IsUniversalFor rules query end → IsFinished rules end → IsStatedPlan names views end plan
+    → ReceivesUnions rules views query (plan_query plan)
+
+-- Such a plan is universal for the query.
 abbrev pub StatedPlanIsUniversal : Type 0
 StatedPlanIsUniversal =
     (rules : List Rule) (names : List Name) (views : List ConjunctiveQuery) (query end : ConjunctiveQuery) (plan : Plan)

@@ -2,19 +2,19 @@
 ghost use Rattle.std.specs.Prelude.{◌≢◌, [], IfOk};
 ghost use Rattle.esto_semantics.specs.PlanOf.{IsPlanOf};
 ghost use Rattle.esto_semantics.specs.Plans.{IsUniversalPlan};
+ghost use Rattle.esto_semantics.specs.Unions.{ReceivesUnions};
 ghost use Rattle.esto_query.specs.Making.{query_of};
 ghost use Rattle.esto_views.specs.Fragments.{views_of, AreFragments};
 ghost use Rattle.esto_views.specs.Plans.{plan_query, IsPlanOver};
 ghost use Rattle.esto_universal.specs.Stated.{IsStatedPlan, IsRenamedPlan};
-ghost use Rattle.esto_universal.specs.StatedLaws.{StatedPlanIsOne, StatedAtomsAreDistinct, StatedPlanIsUniversal};
+ghost use Rattle.esto_universal.specs.StatedLaws.{StatedPlanIsOne, StatedAtomsAreDistinct, StatedPlanReceivesUnions, StatedPlanIsUniversal};
 
 use crate::reading::first_occurrences;
 use crate::renaming::{names_of, rename_row, rename_rows};
 use crate::rows::view_rows;
 use esto_query::{Facts, Names, Query, queries_are_sound};
-use esto_semantics::{
-    queries_are_their_own_instances, rows_of_a_universal_instance_are_a_universal_plan,
-};
+use esto_plan_laws::plans_receive_unions;
+use esto_semantics::queries_are_their_own_instances;
 use esto_term::{OutOfMemory, Terms};
 use esto_views::{FragmentDefs, Plan};
 use std::alloc::Global;
@@ -69,11 +69,13 @@ pub fn universal(
     ensures rows { IfOk result (λ plan.
         IsPlanOf (views_of fragments.now) (query_of query.now) (plan_query plan)) }
     ensures over { IfOk result (λ plan. IsPlanOver plan fragments.now) }
+    ensures unions { IfOk result (λ plan.
+        ReceivesUnions [] (views_of fragments.now) (query_of query.now) (plan_query plan)) }
     ensures universal { IfOk result (λ plan.
         IsUniversalPlan [] (views_of fragments.now) (query_of query.now) (plan_query plan)) }
 {
     queries_are_their_own_instances();
-    rows_of_a_universal_instance_are_a_universal_plan();
+    plans_receive_unions();
     let plan = stated_plan(alloc, query, fragments)?;
     Ok(plan)
 }
@@ -89,9 +91,10 @@ pub fn stated_plans_have_distinct_atoms()
 {}
 
 /// A law: where an instance is universal for a query under the rules, and meets the rules itself, the plan that is
-/// stated for it is universal for the query.
+/// stated for it receives unions for the query, and so is universal for it.
 pub fn stated_plans_are_universal()
-    ensures { StatedPlanIsUniversal }
+    ensures unions { StatedPlanReceivesUnions }
+    ensures universal { StatedPlanIsUniversal }
 {
-    rows_of_a_universal_instance_are_a_universal_plan();
+    plans_receive_unions();
 }

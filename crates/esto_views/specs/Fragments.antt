@@ -1,5 +1,5 @@
 -- Fragments, and when they are well made.
-use Rattle.std.specs.Prelude.{◌≡◌, ◌≢◌, ℕ, Bool, List, length, map, Contains, AllPairs}
+use Rattle.std.specs.Prelude.{◌≡◌, ◌≢◌, ℕ, Bool, List, [], length, map, Contains, AllPairs}
 use Rattle.esto_term.specs.declared.term.Term.{Term}
 use Rattle.esto_semantics.specs.Maps.{IsVariable}
 use Rattle.esto_semantics.specs.Queries.{ConjunctiveQuery}
@@ -19,8 +19,9 @@ patterns_of fragments = map (λ fragment. fragment.access) fragments
 abbrev pub weights_of : List FragmentDef → List ℕ
 weights_of fragments = map (λ fragment. fragment.weight) fragments
 
--- A fragment is well made: the head of its view is of distinct variables, and each of its patterns says of as many columns whether they are inputs.
+-- A fragment is well made: the head of its view is of distinct variables, and it has one or more patterns, each of which says of as many columns whether they are inputs.
 pub record IsFragment (fragment : FragmentDef) : Type 0 where
+  pub has_pattern : fragment.access ≢ []
   pub variables : (term : Term) → Contains fragment.view.head term → IsVariable term
   pub distinct : AllPairs ◌≢◌ fragment.view.head
   pub columns : (pattern : List Bool) → Contains fragment.access pattern → length pattern ≡ length fragment.view.head

@@ -9,4 +9,5 @@ returns-in_err-text-clause-rule c =
 
 pub returns-in_err-rule-clause-rule : goal.returns-in_err-rule-clause-rule
 returns-in_err-rule-clause-rule c =
-    row_exit (rule_row c.args.place c.args.tables.now.datasets c.args.entry.now) _ _ c.from_residual-in_err-rule.ensures.1 (then_stops _ _ _ (c.in_ok-text.ensures) (c.in_err-rule.ensures.rule))
+    row_exit (rule_row c.args.place c.args.tables.now.datasets c.args.entry.now) _ _ c.from_residual-in_err-rule.ensures.1
+    (then_stops _ _ _ (c.in_ok-text.ensures) (c.in_err-rule.ensures.rule))

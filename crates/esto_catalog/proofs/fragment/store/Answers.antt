@@ -9,4 +9,5 @@ returns-in_err-store c =
 
 pub returns-in_err-demand : goal.returns-in_err-demand
 returns-in_err-demand c =
-    row_exit (store_row c.args.place c.args.entry.now) _ _ c.from_residual-in_err-demand.ensures.1 (then_stops _ _ _ (c.in_ok-store.ensures) (test_stops _ _ _ _ c.in_err-demand.ensures c.is_same-is_table.ensures))
+    row_exit (store_row c.args.place c.args.entry.now) _ _ c.from_residual-in_err-demand.ensures.1
+    (then_stops _ _ _ (c.in_ok-store.ensures) (test_stops _ _ _ _ c.in_err-demand.ensures c.is_same-is_table.ensures))

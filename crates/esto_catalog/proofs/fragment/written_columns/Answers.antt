@@ -7,7 +7,8 @@ use Rattle.esto_catalog.proofs.fragment.written_columns.Goals as goal
 
 pub returns-in_err-demand : goal.returns-in_err-demand
 returns-in_err-demand c =
-    row_exit (store_columns c.args.place c.args.view.now (Some (Texts c.args.columns.now))) _ _ c.from_residual.ensures.1 (first_stops _ _ (same_stops _ _ _ c.are_fit-are_fit.ensures _ c.in_err-demand.ensures))
+    row_exit (store_columns c.args.place c.args.view.now (Some (Texts c.args.columns.now))) _ _ c.from_residual.ensures.1
+    (first_stops _ _ (same_stops _ _ _ c.are_fit-are_fit.ensures _ c.in_err-demand.ensures))
 
 pub returns : goal.returns
 returns c =

@@ -12,5 +12,9 @@ returns-in_ok-document_of-in-Ok c = judges_goes _ _ _ (table_view c.in-Ok.table,
 pub returns-in-Err-2 : goal.returns-in-Err-2
 returns-in-Err-2 c =
     judges_stops _ _ _ _
-    (λ other same. ((λ pairs table. none_some (parse_document c.args.bytes.now) pairs (c.in-Err.ensures.refused (λ memory. false≢true (sym c.if-is_memory.false ∙ c.is_memory.ensures.1 memory)) table.0) table.1), same))
+    (λ other same. (
+      (λ pairs table. none_some (parse_document c.args.bytes.now) pairs
+          (c.in-Err.ensures.refused (λ memory. false≢true (sym c.if-is_memory.false ∙ c.is_memory.ensures.1 memory)) table.0) table.1),
+      same,
+    ))
     c.fault.ensures

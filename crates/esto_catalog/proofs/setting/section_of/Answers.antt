@@ -10,7 +10,8 @@ returns-in_default c = section_absent c.get.result c.args.key.now c.args.table.n
 
 pub returns-in-Some-as_array : goal.returns-in-Some-as_array
 returns-in-Some-as_array c =
-    let array = section_entries c.get.result c.args.key.now c.args.table.now.entries c.get.ensures.value c.in-Some.value c.in-Some.is (items_view c.in-Some-as_array.array.now.items) c.in-Some-as_array.ensures in
+    let array = section_entries c.get.result c.args.key.now c.args.table.now.entries c.get.ensures.value c.in-Some.value c.in-Some.is
+    (items_view c.in-Some-as_array.array.now.items) c.in-Some-as_array.ensures in
     IfOk-weaker c.entries_of.result _ _ (λ it is. is ∙ (ap (λ items. entries_of (items_view items)) c.as_slice.ensures.value ∙ array)) c.entries_of.ensures
 
 pub returns-in-None : goal.returns-in-None

@@ -15,7 +15,8 @@ invariant_of-result c =
     let exact : AreRanks (IsEdge (rules_of c.args.rules)) (length c.args.tables.schema) c.in-Left.ranks = rw c.in-Left.is at c.in_ok-ranks.ensures.ranks in
     let sound = sound_catalogue c.args.tables c.args.fragments c.args.rules c.in-Left.ranks c.requires.tables c.requires.fragments c.requires.rules exact in
     record {
-      sound = ∣ subst (λ n. IsSoundCatalogue c.args.tables.schema c.args.tables.words c.args.tables.datasets c.args.fragments.definitions c.args.fragments.stores c.args.rules n c.in-Left.ranks) (sym c.len.ensures) sound ∣₁;
+      sound = ∣ subst (λ n. IsSoundCatalogue c.args.tables.schema c.args.tables.words c.args.tables.datasets c.args.fragments.definitions
+          c.args.fragments.stores c.args.rules n c.in-Left.ranks) (sym c.len.ensures) sound ∣₁;
     }
 
 pub returns-in-Left : goal.returns-in-Left
@@ -37,4 +38,12 @@ returns-in-Left c =
 pub returns-in-Right : goal.returns-in-Right
 returns-in-Right c =
     let found = rw c.in-Right.is at c.in_ok-ranks.ensures.cycle in
-    judges_stops _ _ _ _ (λ other same. (c.in-Right.cycle, (found.0, subst (λ schema. AreNamesOf schema c.in-Right.cycle.relations c.in-Right.cycle.names) c.requires.tables.schema found.1), same)) (inl refl)
+    judges_stops _ _ _ _ (λ other same. (
+      c.in-Right.cycle,
+      (
+        found.0,
+        subst
+            (λ schema. AreNamesOf schema c.in-Right.cycle.relations c.in-Right.cycle.names) c.requires.tables.schema found.1,
+      ),
+      same,
+    )) (inl refl)

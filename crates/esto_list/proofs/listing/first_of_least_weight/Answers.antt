@@ -9,24 +9,32 @@ pub items-preserved : goal.items-preserved
 items-preserved c =
     let here = total_at c.args.items.now c.items.place c.index-items-place.result c.items-test.true c.index-items-place.is in
     let there = total_at c.args.items.now c.items.pick c.index-items-pick.result c.items.invariant.there c.index-items-pick.is in
-    let placed : c.index-items-place.result.weight ≡ (get_or c.args.items.now c.items.place c.index-items-place.result).weight = ap (λ (it : Listed). it.weight) c.index-items-place.is in
-    let picked : c.index-items-pick.result.weight ≡ (get_or c.args.items.now c.items.pick c.index-items-pick.result).weight = ap (λ (it : Listed). it.weight) c.index-items-pick.is in
+    let placed : c.index-items-place.result.weight ≡ (get_or c.args.items.now c.items.place c.index-items-place.result).weight =
+    ap (λ (it : Listed). it.weight) c.index-items-place.is in
+    let picked : c.index-items-pick.result.weight ≡ (get_or c.args.items.now c.items.pick c.index-items-pick.result).weight =
+    ap (λ (it : Listed). it.weight) c.index-items-pick.is in
     elim c.if-item-items.branch [
       | then-item-items w ↦
-          let less : slice_index_or (totals_of c.args.items.now) c.items.place 0 < slice_index_or (totals_of c.args.items.now) c.items.pick 0 = omega (arith, here, there, placed, picked, w.if-item-items.true) in
+          let less : slice_index_or (totals_of c.args.items.now) c.items.place 0 < slice_index_or (totals_of c.args.items.now) c.items.pick 0 =
+          omega (arith, here, there, placed, picked, w.if-item-items.true) in
           record {
             there = subst (λ n. n < length c.args.items.now) (sym w.pick-is) c.items-test.true;
-            least = subst (λ n. (other : ℕ) → other < c.items.place + 1 → slice_index_or (totals_of c.args.items.now) n 0 ≤ slice_index_or (totals_of c.args.items.now) other 0) (sym w.pick-is)
+            least = subst (λ n. (other : ℕ) → other < c.items.place + 1
+                → slice_index_or (totals_of c.args.items.now) n 0 ≤ slice_index_or (totals_of c.args.items.now) other 0) (sym w.pick-is)
                 (new_is_least (totals_of c.args.items.now) c.items.place c.items.pick c.items.invariant.least less);
-            first = subst (λ n. (other : ℕ) → other < n → slice_index_or (totals_of c.args.items.now) n 0 < slice_index_or (totals_of c.args.items.now) other 0) (sym w.pick-is)
+            first = subst (λ n. (other : ℕ) → other < n → slice_index_or (totals_of c.args.items.now) n 0 < slice_index_or
+                (totals_of c.args.items.now) other 0) (sym w.pick-is)
                 (new_is_first (totals_of c.args.items.now) c.items.place c.items.pick c.items.invariant.least less);
           }
       | else-item-items w ↦
-          let more : slice_index_or (totals_of c.args.items.now) c.items.pick 0 ≤ slice_index_or (totals_of c.args.items.now) c.items.place 0 = omega (arith, here, there, placed, picked, w.if-item-items.false) in
+          let more : slice_index_or (totals_of c.args.items.now) c.items.pick 0 ≤ slice_index_or (totals_of c.args.items.now) c.items.place 0 =
+          omega (arith, here, there, placed, picked, w.if-item-items.false) in
           record {
             there = subst (λ n. n < length c.args.items.now) (sym w.pick-is) c.items.invariant.there;
-            least = subst (λ n. (other : ℕ) → other < c.items.place + 1 → slice_index_or (totals_of c.args.items.now) n 0 ≤ slice_index_or (totals_of c.args.items.now) other 0) (sym w.pick-is)
+            least = subst (λ n. (other : ℕ) → other < c.items.place + 1
+                → slice_index_or (totals_of c.args.items.now) n 0 ≤ slice_index_or (totals_of c.args.items.now) other 0) (sym w.pick-is)
                 (old_is_least (totals_of c.args.items.now) c.items.place c.items.pick c.items.invariant.least more);
-            first = subst (λ n. (other : ℕ) → other < n → slice_index_or (totals_of c.args.items.now) n 0 < slice_index_or (totals_of c.args.items.now) other 0) (sym w.pick-is) c.items.invariant.first;
+            first = subst (λ n. (other : ℕ) → other < n → slice_index_or (totals_of c.args.items.now) n 0 < slice_index_or
+                (totals_of c.args.items.now) other 0) (sym w.pick-is) c.items.invariant.first;
           }
     ]

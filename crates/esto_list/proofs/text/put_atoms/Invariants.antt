@@ -4,4 +4,5 @@ use Rattle.esto_list.proofs.text.put_atoms.Given as goal
 
 abbrev pub invariant-atoms : goal.invariant-atoms
 invariant-atoms l =
-    l.text ++ each_from (atom_line l.fragments l.names l.nameless) l.place (drop l.place l.atoms) ≡ l.initial.text ++ each_from (atom_line l.fragments l.names l.nameless) 0 l.atoms
+    l.text ++ each_from (atom_line l.fragments l.names l.nameless) l.place (drop l.place l.atoms)
+    ≡ l.initial.text ++ each_from (atom_line l.fragments l.names l.nameless) 0 l.atoms

@@ -8,5 +8,6 @@ use Rattle.esto_list.proofs.weight.weight_of.Given as goal
 abbrev pub invariant-atoms : goal.invariant-atoms
 invariant-atoms l = record {
   few : l.weight ≤ l.number * 18446744073709551615;
-  added : l.weight + set_weight (weights_of l.fragments) (drop l.number (plan_query l.plan).body) (drop l.number l.set) ≡ set_weight (weights_of l.fragments) (plan_query l.plan).body l.set;
+  added : l.weight + set_weight (weights_of l.fragments) (drop l.number (plan_query l.plan).body) (drop l.number l.set)
+      ≡ set_weight (weights_of l.fragments) (plan_query l.plan).body l.set;
 }

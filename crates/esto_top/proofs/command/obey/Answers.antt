@@ -3,4 +3,4 @@ use Rattle.esto_top.specs.declared.status.Status.TheVariants.{NotBuilt}
 use Rattle.esto_top.proofs.command.obey.Goals as goal
 
 pub returns-in-Unbuilt-clause-answer : goal.returns-in-Unbuilt-clause-answer
-returns-in-Unbuilt-clause-answer g c = rw c.in-Unbuilt.is (refused_by _ NotBuilt tt)
+returns-in-Unbuilt-clause-answer g c = rw c.in-Unbuilt.is (refused_by _ NotBuilt (record { cause = tt }))

@@ -1,7 +1,7 @@
 use Rattle.std.proofs.Common.{ap}
 use Rattle.esto_top.specs.Fetch.{fetches}
 use Rattle.esto_top.specs.Fetch.FetchStops.{fails, is_longer}
-use Rattle.esto_top.specs.Course.Stops.{refused}
+use Rattle.esto_course.specs.Course.Stops.{refused}
 use Rattle.esto_top.specs.declared.status.Status.TheVariants.{ReadFault, TooLong}
 use Rattle.esto_top.proofs.ending.fetch.Goals as goal
 
@@ -13,10 +13,10 @@ pub returns-in_ok-copy-in-Err-Failed-clause-answer : goal.returns-in_ok-copy-in-
 unfolding fetches
 returns-in_ok-copy-in-Err-Failed-clause-answer g c =
     let h = rw c.in-Err-Failed.field-0-is at c.in-Err-Failed.ensures.answer in
-    refused h (fails (ap ReadFault c.in_ok-copy-in-Err-Failed.ensures))
+    refused (record { cause = h }) (fails (ap ReadFault c.in_ok-copy-in-Err-Failed.ensures))
 
 pub returns-in_ok-copy-in-Err-TooLong-clause-answer : goal.returns-in_ok-copy-in-Err-TooLong-clause-answer
 unfolding fetches
 returns-in_ok-copy-in-Err-TooLong-clause-answer g c =
     let h = rw c.in-Err-TooLong.field-0-is at c.in-Err-TooLong.ensures.answer in
-    refused tt (is_longer h.1.0 h.1.1 h.1.2 (ap (λ name. TooLong name c.args.limit) c.in_ok-copy-in-Err-TooLong.ensures))
+    refused (record { cause = tt }) (is_longer h.1.0 h.1.1 h.1.2 (ap (λ name. TooLong name c.args.limit) c.in_ok-copy-in-Err-TooLong.ensures))

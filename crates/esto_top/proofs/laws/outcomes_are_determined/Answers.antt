@@ -3,11 +3,13 @@ use Rattle.esto_top.proofs.laws.outcomes_are_determined.Goals as goal
 
 pub returns : goal.returns
 returns c =
-    outcomes_determined c.catalogues_are_sound.ensures c.catalogues_are_determined.ensures.catalogue c.catalogues_are_determined.ensures.apart c.catalogues_are_determined.ensures.error
+    outcomes_determined c.catalogues_are_sound.ensures c.catalogues_are_determined.ensures.catalogue c.catalogues_are_determined.ensures.apart
+    c.catalogues_are_determined.ensures.error
     c.readings_are_determined.ensures.reading c.readings_are_determined.ensures.apart c.readings_are_determined.ensures.fault
     (record {
       plans = c.stated_plans_are_one.ensures;
       sets = c.listed_sets_are_minimal.ensures.one;
       orders = c.stated_orders_exist.ensures.one;
+      weights = c.weights_exist.ensures.one;
       picks = c.picks_exist.ensures.one;
     })

@@ -1,4 +1,4 @@
-use Rattle.esto_top.specs.Course.{judges}
+use Rattle.esto_course.specs.Course.{judges}
 use Rattle.esto_top.proofs.list.text_of.Goals as goal
 
 pub returns : goal.returns

@@ -1,6 +1,6 @@
 use Rattle.std.proofs.Common.{subst}
 use Rattle.esto_catalog.specs.Reading.{IsCatalogueOf}
-use Rattle.esto_top.specs.Course.{judges}
+use Rattle.esto_course.specs.Course.{judges}
 use Rattle.esto_top.proofs.OpeningLemmas.{error_stops}
 use Rattle.esto_top.proofs.opening.catalogue_of.Goals as goal
 

@@ -1,6 +1,6 @@
 use Rattle.esto_top.proofs.DeterminedLemmas.{exact}
 use Rattle.esto_top.proofs.HeadlineLemmas.{lists_told}
-use Rattle.esto_top.proofs.Mediation.{mediates, complete, write_fault}
+use Rattle.esto_top.proofs.Mediation.{mediates, complete, read_fault, write_fault}
 use Rattle.esto_top.proofs.top.mediate.Goals as goal
 
 pub returns-clause-outcome : goal.returns-clause-outcome
@@ -11,6 +11,9 @@ returns-clause-complete g c = complete c.args.words.now _ _ _ _ _ _ (mediates _ 
 
 pub returns-clause-write_fault : goal.returns-clause-write_fault
 returns-clause-write_fault g c = write_fault _ _ _ _ _ _ (mediates _ _ _ _ _ _ _ c.answer-answer.ensures.answer c.finish.ensures.put)
+
+pub returns-clause-read_fault : goal.returns-clause-read_fault
+returns-clause-read_fault g c = read_fault _ _ _ _ _ _ (mediates _ _ _ _ _ _ _ c.answer-answer.ensures.answer c.finish.ensures.put)
 
 pub returns-clause-headline : goal.returns-clause-headline
 returns-clause-headline g c =

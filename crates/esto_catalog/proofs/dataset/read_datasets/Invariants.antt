@@ -2,7 +2,7 @@ use Rattle.std.proofs.Common.{suc, drop}
 use Rattle.esto_course.proofs.Steps.{Leads}
 use Rattle.esto_course.specs.Course.{each}
 use Rattle.esto_catalog.specs.Datasets.{adds_dataset, reads_datasets}
-use Rattle.esto_catalog.proofs.dataset_rows.read_datasets.Given as goal
+use Rattle.esto_catalog.proofs.dataset.read_datasets.Given as goal
 
 abbrev pub invariant-entries : goal.invariant-entries
 invariant-entries l = Leads (each adds_dataset (suc l.index) l.datasets (drop l.index l.entries)) (reads_datasets l.entries)

@@ -1,0 +1,37 @@
+use Rattle.esto_course.proofs.Steps.{first_stops, then_stops}
+use Rattle.esto_catalog.proofs.RowLemmas.{row_exit}
+use Rattle.esto_catalog.specs.Datasets.{reads_dataset}
+use Rattle.esto_catalog.proofs.dataset.read_dataset.Goals as goal
+
+pub returns-in_err-knows_keys : goal.returns-in_err-knows_keys
+returns-in_err-knows_keys c =
+    row_exit (reads_dataset c.args.place c.args.earlier.now c.args.entry.now) _ _ c.from_residual.ensures.1 (first_stops _ _ (c.in_err-knows_keys.ensures))
+
+pub returns-in_err-name : goal.returns-in_err-name
+returns-in_err-name c =
+    row_exit (reads_dataset c.args.place c.args.earlier.now c.args.entry.now) _ _ c.from_residual-in_err-name.ensures.1
+    (then_stops _ _ _ (c.in_ok-knows_keys.ensures) (first_stops _ _ (c.in_err-name.ensures)))
+
+pub returns-in_err-model : goal.returns-in_err-model
+returns-in_err-model c =
+    row_exit (reads_dataset c.args.place c.args.earlier.now c.args.entry.now) _ _ c.from_residual-in_err-model.ensures.1
+    (then_stops _ _ _ (c.in_ok-knows_keys.ensures) (then_stops _ _ _ (c.in_ok-name.ensures) (first_stops _ _ (c.in_err-model.ensures))))
+
+pub returns-in_err-columns : goal.returns-in_err-columns
+returns-in_err-columns c =
+    row_exit (reads_dataset c.args.place c.args.earlier.now c.args.entry.now) _ _ c.from_residual-in_err-columns.ensures.1
+    (then_stops _ _ _ (c.in_ok-knows_keys.ensures) (then_stops _ _ _ (c.in_ok-name.ensures)
+    (then_stops _ _ _ (c.in_ok-model.ensures) (first_stops _ _ (c.in_err-columns.ensures)))))
+
+pub returns-in_err-unfit : goal.returns-in_err-unfit
+returns-in_err-unfit c =
+    row_exit (reads_dataset c.args.place c.args.earlier.now c.args.entry.now) _ _ c.from_residual-in_err-unfit.ensures.1
+    (then_stops _ _ _ (c.in_ok-knows_keys.ensures) (then_stops _ _ _ (c.in_ok-name.ensures)
+    (then_stops _ _ _ (c.in_ok-model.ensures) (then_stops _ _ _ (c.in_ok-columns.ensures) (first_stops _ _ (c.in_err-unfit.ensures))))))
+
+pub returns-in_err-file : goal.returns-in_err-file
+returns-in_err-file c =
+    row_exit (reads_dataset c.args.place c.args.earlier.now c.args.entry.now) _ _ c.from_residual-in_err-file.ensures.1
+    (then_stops _ _ _ (c.in_ok-knows_keys.ensures) (then_stops _ _ _ (c.in_ok-name.ensures)
+    (then_stops _ _ _ (c.in_ok-model.ensures) (then_stops _ _ _ (c.in_ok-columns.ensures)
+    (then_stops _ _ _ (c.in_ok-unfit.ensures) (first_stops _ _ (c.in_err-file.ensures)))))))
