@@ -2,3 +2,5 @@ pub mod BindingLemmas
 pub mod SafetyLemmas
 pub mod PassLemmas
 pub mod VisitLemmas
+pub mod CompletionLemmas
+pub mod CompleteLemmas

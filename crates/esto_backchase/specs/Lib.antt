@@ -1,3 +1,4 @@
 pub mod Binding
 pub mod Searching
 pub mod Plain
+pub mod Completion
