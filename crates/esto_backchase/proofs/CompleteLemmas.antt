@@ -1,5 +1,5 @@
 -- Turns of the loops that complete products.
-use Rattle.std.proofs.Common.{◌≡◌, ◌↔◌, ◌⊎◌, ℕ, ◌+◌, ◌<◌, ◌≤◌, Bool, List, [], length, Some, slice_get, get_or, Contains, sym, subst, inl, inr, arith}
+use Rattle.std.proofs.Common.{◌≡◌, ◌↔◌, ℕ, ◌+◌, ◌<◌, ◌≤◌, Bool, List, [], length, Some, slice_get, sym, subst, inl, inr, arith}
 use Rattle.std.proofs.lemmas.Bool.{cases_order}
 use Rattle.esto_term.proofs.ListLemmas.{SomeBelow, some_none, some_step, some_contained}
 use Rattle.esto_semantics.specs.Sets.{Has, Within, Covers}

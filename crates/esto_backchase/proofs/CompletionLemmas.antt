@@ -1,6 +1,5 @@
 -- What completions cover, and that the minimal ones are the minimal executable sets in which it holds.
-use Rattle.std.proofs.Common.{◌≡◌, ◌↔◌, ◌⊎◌, ℕ, ◌<◌, Bool, false, List, [], ◌∷◌, ◌++◌, map, length, replicate, slice_index_or, slice_get, Some, Contains, refl, sym, ap, ◌∙◌, subst, inl, inr, arith}
-use Rattle.std.proofs.lemmas.Bool.{cases_lt}
+use Rattle.std.proofs.Common.{◌≡◌, ◌↔◌, ℕ, ◌<◌, Bool, false, List, [], ◌∷◌, map, length, replicate, slice_index_or, Contains, sym, ap, ◌∙◌, subst, inl, inr, arith}
 use Rattle.std.proofs.lemmas.List.{length-replicate}
 use Rattle.std.proofs.lemmas.List.Elements.{All-contains, Contains-append_cases, Contains-get_or}
 use Rattle.esto_term.specs.declared.term.Term.{Term}
@@ -8,8 +7,8 @@ use Rattle.esto_term.proofs.ListLemmas.{Contains-cases, Contains-head, Contains-
 use Rattle.esto_semantics.specs.declared.fact.Fact.{Fact}
 use Rattle.esto_semantics.specs.Access.{Patterns, HoldsExecutably, HoldsOfPart}
 use Rattle.esto_semantics.specs.AccessLaws.{PartExists}
-use Rattle.esto_semantics.specs.Sets.{Has, Within, Covers, HaveCount, IsMinimal, TellHolds, numbers, united}
-use Rattle.esto_semantics.proofs.AccessLemmas.{minimal_of_parts, none_has, part_is_one}
+use Rattle.esto_semantics.specs.Sets.{Has, Covers, IsMinimal, TellHolds, numbers, united}
+use Rattle.esto_semantics.proofs.AccessLemmas.{minimal_of_parts, part_is_one}
 use Rattle.esto_semantics.proofs.SetLemmas.{beyond, length-united, numbers_have}
 use Rattle.esto_bits.specs.Kept.{Kept, AreOver, IsAntichain, unions}
 use Rattle.esto_bits.proofs.FamilyLemmas.{antichain_is_minimal, told_are_minimal}

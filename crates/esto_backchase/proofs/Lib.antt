@@ -1,4 +1,4 @@
-pub mod BindingLemmas
+pub mod StartLemmas
 pub mod SafetyLemmas
 pub mod PassLemmas
 pub mod VisitLemmas

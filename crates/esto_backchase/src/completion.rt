@@ -73,7 +73,7 @@ pub fn executable_products(
     ensures count { IfOk result (λ it. it.count ≡ length plan.now.atoms) }
     ensures minimal { IfOk result (λ it. (set : List Bool) → Contains it.sets set ↔ IsMinimal
         (HoldsExecutably (patterns_of fragments.now) (plan_query plan.now).body
-            (Covers products.now.sets)) set) }
+        (Covers products.now.sets)) set) }
 {
     executable_sets_unite();
     let supplies = access_products(alloc, plan, fragments)?;
