@@ -10,12 +10,13 @@ use Rattle.esto_semantics.specs.Containment.{IsContained, IsEquivalent}
 use Rattle.esto_semantics.specs.Expansions.{IsExpansion, IsPartOf}
 use Rattle.esto_semantics.specs.Facts.{image}
 use Rattle.esto_semantics.specs.Instances.{MapsTo}
-use Rattle.esto_semantics.specs.Listed.{candidate, HasCandidate, IsSafe, IsRewriting}
+use Rattle.esto_semantics.specs.Listed.{candidate, AnswersQuery, HasCandidate, IsSafe}
 use Rattle.esto_semantics.specs.Maps.{AreFlat, Keeps, Sends}
 use Rattle.esto_semantics.specs.Queries.{ConjunctiveQuery, IsAnswer}
-use Rattle.esto_semantics.specs.Sets.{Has, IsMinimal}
+use Rattle.esto_semantics.specs.Sets.{Has, Within}
 use Rattle.esto_semantics.specs.Views.{IsFragmentAnswer}
 use Rattle.esto_semantics.specs.declared.fact.Fact.{Fact}
+use Rattle.esto_semantics.proofs.ListedLemmas.{chosen_within}
 use Rattle.esto_semantics.proofs.SetLemmas.{beyond}
 use Rattle.esto_views.specs.Expanded.{Expands}
 use Rattle.esto_views.specs.Fragments.{views_of}
@@ -30,7 +31,6 @@ use Rattle.esto_query.specs.declared.matches.Found.{Found}
 use Rattle.esto_views.specs.Soundness.{IsSoundPlan}
 use Rattle.esto_backchase.specs.Searching.{facts_chosen, IsSearch, Passes}
 use Rattle.esto_term.proofs.ListLemmas.{Contains-at, Contains-cases, Contains-head, Contains-map_from, Contains-nil, Contains-rest, place-from_Contains}
-use Rattle.esto_semantics.specs.Access.{Patterns}
 
 -- ---- the facts that come from atoms of a set
 
@@ -142,25 +142,25 @@ module _ (plan : Plan) (fragments : List FragmentDef) (expanded : List ExpandedF
           let small : number < length plan.atoms = omega (arith, beyond set number has, over, length-map plan.atoms fact_of) in
           from-chosen set expanded whole ((expands.exact whole).1 (small, (part, at.1, is))) has
 
-  module _ (query : ConjunctiveQuery) (patterns : Patterns)
+  module _ (query : ConjunctiveQuery)
       (expand_candidates : (set : List Bool) → length set ≡ length (plan_query plan).body → (facts : List (Fact Term)) → IsPartOf expands.of set facts
       → IsExpansion (views_of fragments) (candidate (plan_query plan) set) facts)
       (mean : (other : ConjunctiveQuery) (facts : List (Fact Term)) (right : ConjunctiveQuery) → IsExpansion (views_of fragments) other facts
       → IsContained [] (IsFragmentAnswer (views_of fragments) other) (IsAnswer right) ↔ MapsTo right (record { head = other.head; body = facts }))
       (contain : (set : List Bool) → HasCandidate (plan_query plan) set → IsSafe (plan_query plan) set
       → IsEquivalent [] (IsFragmentAnswer (views_of fragments) (candidate (plan_query plan) set)) (IsAnswer query)
-      ↔ IsContained [] (IsFragmentAnswer (views_of fragments) (candidate (plan_query plan) set)) (IsAnswer query))
-      (need_no_order : (set : List Bool) → HasCandidate (plan_query plan) set → IsSafe (plan_query plan) set
-      → IsEquivalent [] (IsFragmentAnswer (views_of fragments) (candidate (plan_query plan) set)) (IsAnswer query)
-      → IsRewriting [] (views_of fragments) patterns query (plan_query plan) set) where
-    pub passes-are_rewritings : (set : List Bool) → Passes query (plan_query plan) expanded set ↔ IsRewriting [] (views_of fragments) patterns query (plan_query plan) set
-    passes-are_rewritings set = (
-      λ passes. need_no_order set passes.has_candidate passes.safe
-          ((contain set passes.has_candidate passes.safe).1 ((meaning set passes.has_candidate).1 passes.maps)),
-      λ rewriting. record {
-        has_candidate = rewriting.has_candidate;
-        safe = rewriting.safe;
-        maps = (meaning set rewriting.has_candidate).0 rewriting.equivalent.0;
+      ↔ IsContained [] (IsFragmentAnswer (views_of fragments) (candidate (plan_query plan) set)) (IsAnswer query)) where
+    pub passes-answer : (set : List Bool) → Passes query (plan_query plan) expanded set ↔ AnswersQuery [] (views_of fragments) query (plan_query plan) set
+    passes-answer set = (
+      λ passes. record {
+        has_candidate = passes.has_candidate;
+        safe = passes.safe;
+        equivalent = (contain set passes.has_candidate passes.safe).1 ((meaning set passes.has_candidate).1 passes.maps);
+      },
+      λ answers. record {
+        has_candidate = answers.has_candidate;
+        safe = answers.safe;
+        maps = (meaning set answers.has_candidate).0 answers.equivalent.0;
       },
     )
       where
@@ -170,11 +170,22 @@ module _ (plan : Plan) (fragments : List FragmentDef) (expanded : List ExpandedF
         meaning other has = mean (candidate (plan_query plan) other) (facts_chosen other expanded) query
             (expand_candidates other has.over (facts_chosen other expanded) (chosen-is_part other has.over))
 
--- ---- minimal ones
+-- ---- a set passes with more numbers
 
--- what is minimal among sets that pass is so among the rewritings, where these are the same
-pub minimal-same : (P Q : List Bool → Type 0) → ((set : List Bool) → P set ↔ Q set) → (set : List Bool) → IsMinimal P set ↔ IsMinimal Q set
-minimal-same P Q same set = (
-  λ minimal. ((same set).0 minimal.0, λ other is within. minimal.1 other ((same other).1 is) within),
-  λ minimal. ((same set).1 minimal.0, λ other is within. minimal.1 other ((same other).0 is) within),
-)
+pub passes-rise : (query plan : ConjunctiveQuery) (expanded : List ExpandedFact) (set other : List Bool) → Within set other → length set ≡ length other
+    → Passes query plan expanded set → Passes query plan expanded other
+passes-rise query plan expanded set other within same passes = record {
+  has_candidate = record { over = sym same ∙ passes.has_candidate.over; some = (passes.has_candidate.some.0, within passes.has_candidate.some.0 passes.has_candidate.some.1) };
+  safe = λ term inside. elim (passes.safe term inside) [
+    | inl constant ↦ inl constant
+    | inr (atom, there, at) ↦ inr (atom, chosen_within set other plan.body within atom there, at)
+  ];
+  maps = (
+    passes.maps.0,
+    passes.maps.1,
+    λ fact inside.
+        let from = chosen-from set expanded (image passes.maps.0 fact) (passes.maps.2 fact inside) in
+        subst (Contains (facts_chosen other expanded)) from.3 (from-chosen other expanded from.0 from.1 (within from.0.atom from.2)),
+    passes.maps.3,
+  );
+}

@@ -1,6 +1,6 @@
 -- What a visit of sets leaves, and that at the end the kept sets are the minimal ones of those that pass.
 use Rattle.std.proofs.Common.{◌≡◌, ◌↔◌, ◌⊎◌, inl, inr, ℕ, ◌+◌, ◌<◌, ◌≤◌, Bool, true, false, not, List, [], ◌∷◌, ◌++◌, length, filter, slice_index_or, slice_set, Contains, refl, sym, ap, subst, ◌∙◌, arith}
-use Rattle.std.proofs.lemmas.Bool.{cases_order}
+use Rattle.std.proofs.lemmas.Bool.{cases_lt, cases_order}
 use Rattle.std.proofs.lemmas.List.{length-set}
 use Rattle.std.proofs.lemmas.List.Elements.{Contains-push_cases}
 use Rattle.esto_semantics.specs.Sets.{Has, Within, Covers, IsMinimal}
@@ -75,6 +75,24 @@ agreeing-splits place other more set below same_length has_more agrees = by (sli
       ];
     })
 
+-- ---- the set with all later numbers
+
+module _ (place : ℕ) (other most : List Bool) (same_length : length most ≡ length other)
+    (has_most : (number : ℕ) → Has most number ↔ (Has other number ⊎ ((place ≤ number) × (number < length other)))) where
+  -- has each set within it that agrees with the other below the place
+  pub agreeing-within : (set : List Bool) → AgreesBelow place other set → Within set most
+  agreeing-within set agrees number has = (has_most number).1 (elim (cases_lt number place) [
+    | inl below ↦ inl ((agrees.same number below).0 has)
+    | inr later ↦ inr (later, omega (arith, beyond set number has, agrees.same_length))
+  ])
+
+  -- and is the other set where there are no later numbers
+  pub most-is : length other ≤ place → most ≡ other
+  most-is all = numbers_tell most other same_length (λ number. (
+    λ has. elim ((has_most number).0 has) [ inl own ↦ own | inr (later, below) ↦ absurd (omega (arith, all, later, below)) ],
+    λ has. (has_most number).1 (inl has),
+  ))
+
 module _ (Pass : List Bool → Type 0) where
   -- a family whose sets are covered already
   pub visited-covered : (Family : List Bool → Type 0) (sets : List (List Bool)) (row : List Bool) → Covers sets row → ((set : List Bool) → Family set → Within row set) → Visited Pass Family sets sets
@@ -84,12 +102,13 @@ module _ (Pass : List Bool → Type 0) where
     covers = λ set is_in passes. (covered.0, covered.1, within_trans covered.0 row set covered.2 (within set is_in));
   }
 
-  -- a family of one set, which does not pass
-  pub visited-failed : (Family : List Bool → Type 0) (sets : List (List Bool)) (row : List Bool) → (Pass row → ⊥) → ((set : List Bool) → Family set → set ≡ row) → Visited Pass Family sets sets
-  visited-failed Family sets row fails one = record {
+  -- a family of which none passes, since even a set that has them all within it does not
+  pub visited-failed : (Family : List Bool → Type 0) (sets : List (List Bool)) (most : List Bool) → (Pass most → ⊥)
+      → ((set : List Bool) → Family set → Pass set → Pass most) → Visited Pass Family sets sets
+  visited-failed Family sets most fails rises = record {
     each = λ set inside. inl inside;
     still = λ set covers. covers;
-    covers = λ set is_in passes. absurd (fails (subst Pass (one set is_in) passes));
+    covers = λ set is_in passes. absurd (fails (rises set is_in passes));
   }
 
   -- a family of one set, which passes and is added

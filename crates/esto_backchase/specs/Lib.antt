@@ -1,3 +1,3 @@
-pub mod Binding
 pub mod Searching
 pub mod Plain
+pub mod Completion

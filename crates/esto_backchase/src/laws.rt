@@ -1,28 +1,16 @@
-//! Laws of listed sets: each executable rewriting maps onto a superset of one, and how they are told by matches.
-ghost use Rattle.std.specs.Prelude.{◌↔◌, List, Bool, []};
-ghost use Rattle.esto_semantics.specs.Containment.{IsSatisfiable};
-ghost use Rattle.esto_semantics.specs.Listed.{AreListed, IsRewriting, IsExecutableRewriting};
-ghost use Rattle.esto_semantics.specs.Maps.{AreFlat};
-ghost use Rattle.esto_semantics.specs.Plans.{IsUniversalPlan};
-ghost use Rattle.esto_semantics.specs.Queries.{ConjunctiveQuery};
-ghost use Rattle.esto_semantics.specs.Rewritings.{MapsOnto};
-ghost use Rattle.esto_semantics.specs.Rules.{Rule};
-ghost use Rattle.esto_semantics.specs.Sets.{Covers};
-ghost use Rattle.esto_query.specs.Making.{query_of};
-ghost use Rattle.esto_query.specs.declared.query.Query.{Query};
-ghost use Rattle.esto_views.specs.Fragments.{views_of, patterns_of};
-ghost use Rattle.esto_views.specs.Plans.{plan_query};
-ghost use Rattle.esto_views.specs.declared.expansion.ExpandedFact.{ExpandedFact};
-ghost use Rattle.esto_views.specs.declared.fragments.FragmentDef.{FragmentDef};
-ghost use Rattle.esto_views.specs.declared.plan.Plan.{Plan};
-ghost use Rattle.esto_backchase.specs.Plain.{IsPlainCase};
-ghost use Rattle.esto_backchase.specs.Searching.{Passes};
+//! Laws of listed sets and of completions.
+ghost use Rattle.std.specs.Prelude.{List, Bool, IsTrue};
+ghost use Rattle.esto_term.specs.declared.term.Term.{Term};
 ghost use Rattle.esto_semantics.specs.Access.{Patterns};
+ghost use Rattle.esto_semantics.specs.Sets.{Covers};
+ghost use Rattle.esto_semantics.specs.declared.fact.Fact.{Fact};
+ghost use Rattle.esto_backchase.specs.Completion.{MinimalCompletions};
+ghost use Rattle.esto_backchase.specs.Plain.{ListedCoverRewritings, PassingAnswer};
 
 use esto_semantics::{
     an_expansion_means_the_same, an_expansion_of_a_plan_expands_its_candidates,
-    candidates_contain_the_query, listed_sets_are_minimal, rewritings_map_onto_sets,
-    rewritings_without_inputs, universal_instances_satisfy_queries,
+    candidates_contain_the_query, executable_sets_unite, listed_sets_are_minimal,
+    rewritings_map_onto_sets,
 };
 use esto_views::plans_are_sound;
 
@@ -30,32 +18,30 @@ use esto_views::plans_are_sound;
 /// it, head to head, and onto a set of the plan's atoms that has one of the sets within it, where these are exactly the
 /// listed sets.
 pub fn listed_sets_cover_rewritings()
-    ensures { (rules : List Rule) (views : List ConjunctiveQuery) (patterns : Patterns) (query plan other : ConjunctiveQuery)
-        (sets : List (List Bool)) → AreFlat plan.body → IsUniversalPlan rules views query plan → IsSatisfiable rules query
-        → AreListed rules views patterns query plan sets → IsExecutableRewriting rules views patterns query other
-        → (set : List Bool) × MapsOnto other plan set × Covers sets set }
+    ensures { ListedCoverRewritings }
 {
     rewritings_map_onto_sets();
     listed_sets_are_minimal();
 }
 
-/// A law: without rules and inputs, the sets that pass are the rewritings, and each query over fragments that is an
-/// executable rewriting maps onto one of them.
-pub(crate) fn passing_sets_are_rewritings()
-    ensures same { (plan : Plan) (fragments : List FragmentDef) (query : Query) (expanded : List ExpandedFact)
-        → IsPlainCase plan fragments query expanded → (set : List Bool)
-        → Passes (query_of query) (plan_query plan) expanded set
-        ↔ IsRewriting [] (views_of fragments) (patterns_of fragments) (query_of query) (plan_query plan) set }
-    ensures onto { (plan : Plan) (fragments : List FragmentDef) (query : Query) (expanded : List ExpandedFact)
-        → IsPlainCase plan fragments query expanded → (other : ConjunctiveQuery)
-        → IsExecutableRewriting [] (views_of fragments) (patterns_of fragments) (query_of query) other
-        → (set : List Bool) × MapsOnto other (plan_query plan) set × Passes (query_of query) (plan_query plan) expanded set }
+/// A law: where sets tell which sets of the atoms pass a test, the minimal executable sets that pass it are exactly the
+/// minimal completions of these sets, where a completion of a set has for each of its atoms one of the atom's access
+/// products, in every combination. The same holds of what a family of sets covers.
+pub fn minimal_completions_are_executable()
+    ensures tests { (patterns : Patterns) (atoms : List (Fact Term)) (test : List Bool → Bool)
+        → MinimalCompletions patterns atoms (λ set. IsTrue (test set)) }
+    ensures families { (patterns : Patterns) (atoms : List (Fact Term)) (family : List (List Bool))
+        → MinimalCompletions patterns atoms (Covers family) }
+{
+    executable_sets_unite();
+}
+
+/// A law: without rules, the sets that pass are those that answer the query.
+pub(crate) fn passing_sets_answer_the_query()
+    ensures { PassingAnswer }
 {
     plans_are_sound();
     an_expansion_means_the_same();
     an_expansion_of_a_plan_expands_its_candidates();
     candidates_contain_the_query();
-    rewritings_without_inputs();
-    rewritings_map_onto_sets();
-    universal_instances_satisfy_queries();
 }

@@ -1,49 +1,25 @@
 //! Safe sets of a plan's atoms.
-ghost use Rattle.std.specs.Prelude.{◌≡◌, ◌↔◌, Contains, IsTrue, length, map};
+ghost use Rattle.std.specs.Prelude.{◌≡◌, ◌↔◌, IsTrue, length, map};
 ghost use Rattle.esto_semantics.specs.Access.{IsBound};
 ghost use Rattle.esto_semantics.specs.Listed.{IsSafe};
-ghost use Rattle.esto_semantics.specs.Maps.{IsConstant};
 ghost use Rattle.esto_semantics.specs.Sets.{Has};
 ghost use Rattle.esto_views.specs.Plans.{fact_of, plan_query};
 
 use esto_bits::RowBits;
 use esto_semantics::chosen_atoms_are_named;
-use esto_term::{Term, Terms};
+use esto_term::{Term, has_term};
 use esto_views::{Plan, PlanAtom};
-
-/// Whether the term is a constant.
-fn is_constant(term: &Term) -> bool
-    ensures { IsTrue result ↔ IsConstant term.now }
-{
-    match term {
-        Term::Const(_) => true,
-        Term::Plain(_) => false,
-        Term::Made(_, _, _) => false,
-    }
-}
-
-/// Whether the term is one of these.
-fn contains(terms: &Terms, term: &Term) -> bool
-    ensures { IsTrue result ↔ Contains terms.now term.now }
-{
-    'terms: for other in terms.items() {
-        if other.equal(term) {
-            return true;
-        }
-    }
-    false
-}
 
 /// Whether the term is a constant, or occurs in an atom of the set.
 fn is_fixed(atoms: &[PlanAtom], set: &RowBits, term: &Term) -> bool
     requires { length set.now ≡ length atoms.now }
     ensures { IsTrue result ↔ IsBound (map fact_of atoms.now) (Has set.now) term.now }
 {
-    if is_constant(term) {
+    if term.is_constant() {
         return true;
     }
     'atoms: for (number, atom) in atoms.iter().enumerate() {
-        if set.has(number) && contains(&atom.terms, term) {
+        if set.has(number) && has_term(atom.terms.items(), term) {
             return true;
         }
     }

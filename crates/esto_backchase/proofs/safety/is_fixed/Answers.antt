@@ -1,16 +1,16 @@
-use Rattle.std.proofs.Common.{Contains, sym, ◌∙◌, inl, inr}
+use Rattle.std.proofs.Common.{Contains, refl, subst, sym, ◌∙◌, inl, inr}
 use Rattle.std.proofs.lemmas.Bool.{false≢true}
 use Rattle.esto_semantics.specs.Sets.{Has}
 use Rattle.esto_backchase.proofs.SafetyLemmas.{bound-here, bound-from}
-use Rattle.esto_backchase.proofs.safety.is_fixed.Goals.{else-has-via-then-has+else-contains, else-has-via-else-has}
+use Rattle.esto_backchase.proofs.safety.is_fixed.Goals.{else-has-via-then-has+else-has_term, else-has-via-else-has}
 use Rattle.esto_backchase.proofs.safety.is_fixed.Goals as goal
 use Rattle.esto_term.proofs.ListLemmas.{holds_all, holds_more}
 
-pub returns-then-contains : goal.returns-then-contains
-returns-then-contains c = (
+pub returns-then-has_term : goal.returns-then-has_term
+returns-then-has_term c = (
   λ _. bound-here c.args.atoms.now c.args.set.now c.args.term.now c.atoms.number c.index-atoms-number.result c.atoms-test.true c.index-atoms-number.is
-      (c.has.ensures.0 c.if-has.true) (c.contains.ensures.0 c.if-contains.true),
-  λ _. Rattle.std.proofs.Common.refl,
+      (c.has.ensures.0 c.if-has.true) (subst (λ terms. Contains terms c.args.term.now) c.items.ensures (c.has_term.ensures.0 c.if-has_term.true)),
+  λ _. refl,
 )
 
 pub atoms-preserved : goal.atoms-preserved
@@ -18,7 +18,7 @@ atoms-preserved c =
     holds_more (λ number atom. Has c.args.set.now number → Contains atom.terms c.args.term.now → ⊥) c.args.atoms.now c.atoms.number c.index-atoms-number.result
     c.atoms-test.true c.index-atoms-number.is c.atoms.invariant
     (λ has inside. elim c.else-has.branch [
-      | else-has-via-then-has+else-contains w ↦ false≢true (sym w.if-contains.false ∙ w.contains.ensures.1 inside)
+      | else-has-via-then-has+else-has_term w ↦ false≢true (sym w.if-has_term.false ∙ w.has_term.ensures.1 (subst (λ terms. Contains terms c.args.term.now) (sym w.items.ensures) inside))
       | else-has-via-else-has w ↦ false≢true (sym w.if-has.false ∙ c.has.ensures.1 has)
     ])
 

@@ -1,6 +1,0 @@
-use Rattle.std.proofs.Common.{◌≡◌}
-use Rattle.esto_backchase.proofs.safety.contains.Given as goal
-use Rattle.esto_term.proofs.ListLemmas.{HoldsBelow}
-
-abbrev pub invariant-terms : goal.invariant-terms
-invariant-terms l = HoldsBelow (λ _ other. other ≡ l.term → ⊥) l.other-items l.other-index

@@ -1,0 +1,82 @@
+//! Completion: sets of a plan's atoms in which something holds, made executable.
+ghost use Rattle.std.specs.Prelude.{◌≡◌, ◌↔◌, List, Bool, length, IfOk, Contains};
+ghost use Rattle.esto_semantics.specs.Access.{HoldsExecutably};
+ghost use Rattle.esto_semantics.specs.Sets.{Covers, IsMinimal};
+ghost use Rattle.esto_views.specs.Fragments.{patterns_of};
+ghost use Rattle.esto_views.specs.Plans.{plan_query};
+ghost use Rattle.esto_access.specs.Supplies.{CoversWhere};
+ghost use Rattle.esto_backchase.specs.Completion.{AreSuppliesOf, HaveOwn, IsCompletedIn, IsOneCompletedIn, completions};
+
+use esto_access::{Supplies, access_products};
+use esto_bits::{Products, RowBits, products_are_antichains};
+use esto_semantics::executable_sets_unite;
+use esto_term::OutOfMemory;
+use esto_views::{FragmentDefs, Plan};
+use std::alloc::Global;
+
+/// The completions of a set: for each of its numbers, in every combination, one of the sets that supply it. A number
+/// that is supplied in the set itself asks for nothing.
+fn completions_of(
+    alloc: Global,
+    low: &RowBits,
+    supplies: &Supplies,
+) -> Result<Products, OutOfMemory>
+    requires supplies { AreSuppliesOf (length low.now) supplies.now }
+    requires own { HaveOwn supplies.now }
+    ensures count { IfOk result (λ it. it.count ≡ length low.now) }
+    ensures covers { IfOk result
+        (λ it. CoversWhere (IsCompletedIn supplies.now low.now) it.sets) }
+{
+    let mut found = Products::only(alloc, low)?;
+    'numbers: for number in 0..low.count() {
+        if low.has(number) && !supplies.item(number).covered(low) {
+            found = found.joined(alloc, supplies.item(number))?;
+        }
+    }
+    Ok(found)
+}
+
+/// The minimal completions of the products, where a completion of a set has for each of its numbers one of the sets
+/// that supply the number. Each of these has the number itself.
+pub fn complete(
+    alloc: Global,
+    products: &Products,
+    supplies: &Supplies,
+) -> Result<Products, OutOfMemory>
+    requires supplies { AreSuppliesOf products.now.count supplies.now }
+    requires own { HaveOwn supplies.now }
+    ensures count { IfOk result (λ it. it.count ≡ products.now.count) }
+    ensures minimal { IfOk result (λ it. (set : List Bool) → Contains it.sets set ↔ IsMinimal
+        (Contains (completions products.now.count supplies.now products.now.sets)) set) }
+    ensures covers { IfOk result
+        (λ it. CoversWhere (IsOneCompletedIn supplies.now products.now.sets) it.sets) }
+{
+    products_are_antichains(products);
+    let mut found = Products::new(alloc, products.count());
+    'sets: for low in products.items() {
+        let completed = completions_of(alloc, low, supplies)?;
+        found.add_all(alloc, &completed)?;
+    }
+    products_are_antichains(&found);
+    Ok(found)
+}
+
+/// The minimal executable sets of the plan's atoms that have one of the products as a subset: the minimal completions
+/// of the products by the atoms' access products.
+pub fn executable_products(
+    alloc: Global,
+    plan: &Plan,
+    fragments: &FragmentDefs,
+    products: &Products,
+) -> Result<Products, OutOfMemory>
+    requires { products.now.count ≡ length plan.now.atoms }
+    ensures count { IfOk result (λ it. it.count ≡ length plan.now.atoms) }
+    ensures minimal { IfOk result (λ it. (set : List Bool) → Contains it.sets set ↔ IsMinimal
+        (HoldsExecutably (patterns_of fragments.now) (plan_query plan.now).body
+        (Covers products.now.sets)) set) }
+{
+    executable_sets_unite();
+    let supplies = access_products(alloc, plan, fragments)?;
+    let found = complete(alloc, products, &supplies)?;
+    Ok(found)
+}
