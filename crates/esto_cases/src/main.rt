@@ -1,72 +1,60 @@
-//! Cases of the top call, as the file `cases.txt` lists them: over the shelf and the sink in memory, and over the
-//! machine's files and standard output. For each command line it prints the words, then what the call puts, then the
-//! status.
+//! Cases, in scripts whose names are the words of the command line. Most lines of a script set what later lines ask
+//! about. A line that asks is printed after `> `, and then what comes of it; a line that begins with `#` is a heading.
 #![tactic(auto)]
 
+mod contents;
+mod files;
+mod making;
+mod matching;
+mod orders;
+mod printing;
+mod reading;
 mod script;
+mod sets;
+mod stage;
+mod terms;
 
-use crate::script::{Script, words_of};
-use esto_ports::{FolderShelf, OutSink, Shelf, Sink};
-use esto_term::{Bytes, OutOfMemory, Text};
-use esto_top::mediate;
+use crate::reading::{Refused, text};
+use crate::script::Script;
+use esto_ports::{FolderShelf, Shelf};
+use esto_term::Text;
 use std::alloc::Global;
+use std::env;
 use std::process::ExitCode;
 use std::rt::Files;
 
-// Runs a command line over the machine's files and standard output.
-fn on_machine<R: Files + Print>(rt: &R, alloc: Global, line: &str) -> Result<(), OutOfMemory> {
-    let words = words_of(alloc, line)?;
+// The text of the file of that name.
+fn script_of<R: Files>(rt: &R, alloc: Global, name: &str) -> Result<Text, Refused> {
+    let name = text(alloc, name)?;
     let mut shelf = FolderShelf::new(rt);
-    let mut out = OutSink::new(rt);
-    let before = format!(in alloc; "> {line}\n")?;
-    let _ = out.put(before.as_str().as_bytes());
-    let code = mediate(alloc, words.items(), &mut shelf, &mut out).code();
-    let after = format!(in alloc; "status {code}\n")?;
-    let _ = out.put(after.as_str().as_bytes());
-    Ok(())
-}
-
-// Does what a line says.
-fn obey<R: Files + Print>(
-    rt: &R,
-    alloc: Global,
-    script: &mut Script,
-    line: &str,
-) -> Result<(), OutOfMemory> {
-    match line.strip_prefix("machine ") {
-        Some(words) => on_machine(rt, alloc, words),
-        None => {
-            let answer = script.obey(alloc, line)?;
-            let _ = OutSink::new(rt).put(answer.bytes());
-            Ok(())
-        }
+    match shelf.fetch(alloc, &name, 1_000_000) {
+        Ok(bytes) => match Text::from_bytes(alloc, bytes.bytes()) {
+            Ok(script) => Ok(script),
+            Err(_) => Err(Refused),
+        },
+        Err(_) => Err(Refused),
     }
 }
 
 // Does what the lines of a script say, one after the other.
-fn obey_all<R: Files + Print>(rt: &R, alloc: Global, lines: &str) -> Result<(), OutOfMemory> {
-    let mut script = Script::new(alloc);
-    'lines: for line in lines.split('\n') {
-        obey(rt, alloc, &mut script, line)?;
+fn obey_all<R: Files + Print>(rt: &R, alloc: Global, name: &str) -> Result<(), Refused> {
+    let lines = script_of(rt, alloc, name)?;
+    let mut script = Script::new(alloc)?;
+    'lines: for line in lines.as_str().split('\n') {
+        script.obey(rt, alloc, line);
     }
     Ok(())
 }
 
-// The script's text, or None where there is none.
-fn script_of<R: Files>(rt: &R, alloc: Global) -> Option<Text> {
-    let name = Text::from_bytes(alloc, b"cases.txt").ok()?;
-    let mut shelf = FolderShelf::new(rt);
-    let bytes: Bytes = shelf.fetch(alloc, &name, 1_000_000).ok()?;
-    Text::from_bytes(alloc, bytes.bytes()).ok()
-}
-
 fn main(rt: HostRuntime) -> ExitCode {
     let alloc = rt.alloc();
-    let Some(script) = script_of(&rt, alloc) else {
+    let Ok(names) = env::args(&rt) else {
         return ExitCode::from(1);
     };
-    match obey_all(&rt, alloc, script.as_str()) {
-        Ok(()) => ExitCode::from(0),
-        Err(_) => ExitCode::from(1),
+    'names: for name in names.skip(1) {
+        if obey_all(&rt, alloc, name.as_str()).is_err() {
+            return ExitCode::from(1);
+        }
     }
+    ExitCode::from(0)
 }

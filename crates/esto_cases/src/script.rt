@@ -1,168 +1,129 @@
-//! The script of cases: lines that make files, and lines that run the program over them.
+//! A script: what its lines so far have set, and what the next line sets or asks.
 
-use esto_ports::{MemoryShelf, MemorySink};
-use esto_term::{Bytes, List, OutOfMemory, Replicate, Text, TextError};
-use esto_top::mediate;
+use crate::contents::{put_constraint, put_dataset, put_fragment, put_line};
+use crate::files::{FileSet, run_on_machine};
+use crate::reading::Refused;
+use crate::sets::{put_joined, put_products, put_union};
+use crate::stage::Stage;
+use crate::terms::put_terms;
 use std::alloc::Global;
+use std::rt::Files;
 
-/// A file in memory.
-#[derive(Drop)]
-struct File {
-    name: Text,
-    bytes: Bytes,
-}
-
-/// What the lines so far have made: the files, the content of the next one, which fetch is to fail, and which put,
-/// after how many bytes. Fetches and puts are counted from 1, and 0 is none.
+/// What lines have set: the files in memory, and what else is asked about.
 #[derive(Drop)]
 pub struct Script {
-    files: List<File>,
-    content: Bytes,
-    fetch: u64,
-    put: u64,
-    kept: u64,
+    files: FileSet,
+    stage: Stage,
 }
 
-// The text of a word, or an empty one where it is no text.
-fn text(alloc: Global, word: &str) -> Result<Text, OutOfMemory> {
-    match Text::from_bytes(alloc, word.as_bytes()) {
-        Ok(text) => Ok(text),
-        Err(TextError::NotUtf8) | Err(TextError::OutOfMemory) => Err(OutOfMemory),
-    }
-}
-
-fn number(word: &str) -> u64 {
-    word.parse::<u64>().unwrap_or(0)
-}
-
-/// The words of a command line, between single blanks; an empty line has none.
-pub fn words_of(alloc: Global, line: &str) -> Result<List<Text>, OutOfMemory> {
-    let mut words = List::new(alloc);
-    if line.is_empty() {
-        return Ok(words);
-    }
-    'words: for word in line.split(' ') {
-        words.push(text(alloc, word)?)?;
-    }
-    Ok(words)
-}
-
-// Puts so many copies of a part at the end.
-fn repeat(bytes: &mut Bytes, count: u64, part: &str) -> Result<(), OutOfMemory> {
-    'turns: for _turn in 0..count {
-        bytes.append(part.as_bytes())?;
-    }
-    Ok(())
-}
-
-// Puts the bytes of numbers in decimal at the end.
-fn put_numbers(bytes: &mut Bytes, line: &str) -> Result<(), OutOfMemory> {
-    'numbers: for word in line.split(' ') {
-        bytes.append(&[word.parse::<u8>().unwrap_or(0)])?;
-    }
-    Ok(())
-}
-
-// Puts what a line says at the end of a file: a line after `|`, a part of a line after `+`, copies of a part after `*`
-// and their number, bytes by their numbers after `!`.
-fn put_line(bytes: &mut Bytes, line: &str) -> Result<(), OutOfMemory> {
-    if let Some(rest) = line.strip_prefix('|') {
-        bytes.append(rest.as_bytes())?;
-        return bytes.append(b"\n");
-    }
-    if let Some(rest) = line.strip_prefix('+') {
-        return bytes.append(rest.as_bytes());
-    }
-    if let Some((count, part)) = line.strip_prefix('*').and_then(|rest| rest.split_once(' ')) {
-        return repeat(bytes, number(count), part);
-    }
-    match line.strip_prefix('!') {
-        Some(rest) => put_numbers(bytes, rest),
-        None => Ok(()),
-    }
+// Whether the word begins a line that asks for nothing.
+fn is_setting(word: &str) -> bool {
+    let words = [
+        "keep",
+        "fetch",
+        "put",
+        "dataset",
+        "fragment",
+        "constraint",
+        "catalogue",
+        "patterns",
+        "facts",
+        "start",
+        "rule",
+        "rules",
+    ];
+    words.contains(&word)
 }
 
 impl Script {
-    /// No file, and no failure.
-    pub fn new(alloc: Global) -> Script {
-        Script {
-            files: List::new(alloc),
-            content: Bytes::new(alloc),
-            fetch: 0,
-            put: 0,
-            kept: 0,
+    /// Nothing is set.
+    pub fn new(alloc: Global) -> Result<Script, Refused> {
+        Ok(Script {
+            files: FileSet::new(alloc),
+            stage: Stage::new(alloc)?,
+        })
+    }
+
+    fn open(&mut self, alloc: Global) -> Result<(), Refused> {
+        let bytes = self.files.take_content(alloc);
+        self.stage.open(alloc, bytes.bytes())
+    }
+
+    // Sets what the words say: a file and what is to fail, the catalogue, facts, the start of matches, and rules.
+    fn set(&mut self, alloc: Global, word: &str, rest: &str) -> Result<(), Refused> {
+        match word {
+            "keep" => return self.files.keep(alloc, rest),
+            "fetch" => self.files.fail_fetch(rest),
+            "put" => self.files.fail_put(rest),
+            "dataset" => return put_dataset(alloc, &mut self.files.content, rest),
+            "fragment" => return put_fragment(alloc, &mut self.files.content, rest),
+            "constraint" => return put_constraint(alloc, &mut self.files.content, rest),
+            "catalogue" => return self.open(alloc),
+            "patterns" => return self.stage.add_patterns(alloc, rest),
+            "facts" => return self.stage.set_facts(alloc, rest),
+            "start" => return self.stage.set_start(alloc, rest),
+            "rule" => return self.stage.add_rule(alloc, rest),
+            _ => self.stage.forget_rules(alloc),
         }
-    }
-
-    // The shelf of the files.
-    fn shelf(&self, alloc: Global) -> Result<MemoryShelf, OutOfMemory> {
-        let mut shelf = MemoryShelf::new(alloc);
-        'files: for file in self.files.items() {
-            let bytes = Bytes::from_slice(alloc, file.bytes.bytes())?;
-            shelf.keep(file.name.copy(alloc)?, bytes)?;
-        }
-        shelf.fail_at(self.fetch)?;
-        Ok(shelf)
-    }
-
-    // Runs a command line, and answers the line, what was put, and the status.
-    fn run(&mut self, alloc: Global, line: &str) -> Result<Bytes, OutOfMemory> {
-        let words = words_of(alloc, line)?;
-        let mut shelf = self.shelf(alloc)?;
-        let mut out = MemorySink::new(alloc);
-        out.fail_at(self.put, self.kept)?;
-        let status = mediate(alloc, words.items(), &mut shelf, &mut out).code();
-        self.fetch = 0;
-        self.put = 0;
-        let end = format!(in alloc; "status {status}\n")?;
-        let mut answer = Bytes::from_slice(alloc, b"> ")?;
-        answer.append(line.as_bytes())?;
-        answer.append(b"\n")?;
-        answer.append(out.written())?;
-        answer.append(end.as_str().as_bytes())?;
-        Ok(answer)
-    }
-
-    // Keeps the content as a file, and begins a new one.
-    fn keep(&mut self, alloc: Global, name: &str) -> Result<(), OutOfMemory> {
-        let name = text(alloc, name)?;
-        let bytes = Bytes::from_slice(alloc, self.content.bytes())?;
-        self.files.push(File { name, bytes })?;
-        self.content = Bytes::new(alloc);
         Ok(())
     }
 
-    // Does what a line says that begins with a word.
-    fn order(&mut self, alloc: Global, word: &str, rest: &str) -> Result<Bytes, OutOfMemory> {
+    // Answers what the words ask.
+    fn ask<R: Files + Print>(
+        &mut self,
+        rt: &R,
+        alloc: Global,
+        word: &str,
+        rest: &str,
+    ) -> Result<(), Refused> {
         match word {
-            "run" => return self.run(alloc, rest),
-            "keep" => self.keep(alloc, rest)?,
-            "fetch" => self.fetch = number(rest),
-            "put" => self.put = number(rest),
-            "kept" => self.kept = number(rest),
-            _ => {}
+            "run" => self.files.run(rt, alloc, rest),
+            "machine" => run_on_machine(rt, alloc, rest),
+            "terms" => put_terms(rt, alloc),
+            "products" => put_products(rt, alloc, rest),
+            "union" => put_union(rt, alloc, rest),
+            "joined" => put_joined(rt, alloc, rest),
+            "plan" => self.stage.set_plan(rt, alloc, rest),
+            _ => {
+                if word.starts_with("make_") {
+                    self.stage.make(rt, alloc, word, rest)
+                } else {
+                    self.stage.ask(rt, alloc, word, rest)
+                }
+            }
         }
-        Ok(Bytes::new(alloc))
     }
 
-    /// Does what a line says, and answers what is to be printed.
-    pub fn obey(&mut self, alloc: Global, line: &str) -> Result<Bytes, OutOfMemory> {
-        if is_content(line) {
-            put_line(&mut self.content, line)?;
-            return Ok(Bytes::new(alloc));
+    fn obey_words<R: Files + Print>(
+        &mut self,
+        rt: &R,
+        alloc: Global,
+        line: &str,
+    ) -> Result<(), Refused> {
+        let (word, rest) = line.split_once(' ').unwrap_or((line, ""));
+        if is_setting(word) {
+            return self.set(alloc, word, rest);
+        }
+        let _ = println!(rt; "> {line}");
+        self.ask(rt, alloc, word, rest)
+    }
+
+    /// Does what a line says. A line that can't be obeyed is `refused`.
+    pub fn obey<R: Files + Print>(&mut self, rt: &R, alloc: Global, line: &str) {
+        if line.is_empty() {
+            return;
         }
         if line.starts_with('#') {
-            let heading = format!(in alloc; "{line}\n")?;
-            return Bytes::from_slice(alloc, heading.as_str().as_bytes());
+            let _ = println!(rt; "{line}");
+            return;
         }
-        match line.split_once(' ') {
-            Some((word, rest)) => self.order(alloc, word, rest),
-            None => Ok(Bytes::new(alloc)),
+        let outcome = match put_line(&mut self.files.content, line) {
+            Ok(true) => Ok(()),
+            Ok(false) => self.obey_words(rt, alloc, line),
+            Err(refused) => Err(refused),
+        };
+        if outcome.is_err() {
+            let _ = println!(rt; "refused");
         }
     }
-}
-
-// Whether the line is one of a file's content.
-fn is_content(line: &str) -> bool {
-    line.starts_with('|') || line.starts_with('+') || line.starts_with('*') || line.starts_with('!')
 }

@@ -111,9 +111,9 @@ module _ {X : Type 0} where
       in_rest : (front last : List X) → others ≡ front ++ first ∷ last → (thing : X) → Contains rest thing → Contains (front ++ last) thing
       in_rest front last whole thing inside =
           elim (split_cases front last first thing (subst (λ all. Contains all thing) whole (there thing (Contains-rest first rest thing inside)))) [
-        | inl is ↦ absurd (distinct_head first rest thing distinct inside is)
-        | inr left ↦ left
-      ]
+            | inl is ↦ absurd (distinct_head first rest thing distinct inside is)
+            | inr left ↦ left
+          ]
 
       from_rest : (front last : List X) → others ≡ front ++ first ∷ last → (thing : X) → Contains (front ++ last) thing → Contains rest thing
       from_rest front last whole thing inside =

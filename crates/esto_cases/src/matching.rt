@@ -1,0 +1,122 @@
+//! Matches, answers, and rules that facts meet or break.
+
+use crate::printing::{put_numbers, put_rows};
+use crate::reading::{Refused, term};
+use esto_catalog::{Catalogue, catalogues_are_sound};
+use esto_constraint::{Constraint, Rules, active, meets};
+use esto_query::{
+    Facts, Found, Query, Valuation, answers, first_match, next_match, queries_are_sound,
+};
+use esto_read::{read_constraint, read_query};
+use std::alloc::Global;
+
+/// The query that a text is over the catalogue.
+pub fn query(alloc: Global, catalogue: &Catalogue, text: &str) -> Result<Query, Refused> {
+    catalogues_are_sound();
+    match read_query(alloc, text.as_bytes(), &catalogue.words, &catalogue.schema) {
+        Ok(named) => Ok(named.query),
+        Err(_) => Err(Refused),
+    }
+}
+
+/// The rule that a text is over the catalogue.
+pub fn rule(alloc: Global, catalogue: &Catalogue, text: &str) -> Result<Constraint, Refused> {
+    catalogues_are_sound();
+    match read_constraint(alloc, text.as_bytes(), &catalogue.words, &catalogue.schema) {
+        Ok(rule) => Ok(rule),
+        Err(_) => Err(Refused),
+    }
+}
+
+/// The valuation that gives variable 0 this term, or none where the word is empty.
+pub fn start_of(alloc: Global, word: &str) -> Result<Valuation, Refused> {
+    let mut start = Valuation::new(alloc);
+    if !word.is_empty() {
+        start.bind(0, term(alloc, word)?)?;
+    }
+    Ok(start)
+}
+
+// The match after the given one, or the first one.
+fn next(
+    alloc: Global,
+    query: &Query,
+    facts: &Facts,
+    start: &Valuation,
+    last: Option<&Found>,
+) -> Result<Option<Found>, Refused> {
+    queries_are_sound();
+    let Some(last) = last else {
+        let found = first_match(alloc, &query.body, facts, start)?;
+        return Ok(found);
+    };
+    let found = next_match(alloc, &query.body, facts, start, last)?;
+    Ok(found)
+}
+
+/// The places of the matches of a query's body, at most nine.
+pub fn put_matches<R: Print>(
+    rt: &R,
+    alloc: Global,
+    query: &Query,
+    facts: &Facts,
+    start: &Valuation,
+) -> Result<(), Refused> {
+    let mut found = next(alloc, query, facts, start, None)?;
+    'turns: for _turn in 0..9 {
+        let Some(here) = found else {
+            break;
+        };
+        put_numbers(rt, here.places.items());
+        found = next(alloc, query, facts, start, Some(&here))?;
+    }
+    Ok(())
+}
+
+/// The answers of a query, a row a line.
+pub fn put_answers<R: Print>(
+    rt: &R,
+    alloc: Global,
+    query: &Query,
+    facts: &Facts,
+) -> Result<(), Refused> {
+    let rows = answers(alloc, query, facts)?;
+    put_rows(rt, &rows);
+    Ok(())
+}
+
+/// The places of a rule's least active match, or that it is met.
+pub fn put_active<R: Print>(
+    rt: &R,
+    alloc: Global,
+    rule: &Constraint,
+    facts: &Facts,
+) -> Result<(), Refused> {
+    match active(alloc, rule, facts)? {
+        Some(found) => put_numbers(rt, found.places.items()),
+        None => put_met(rt),
+    }
+    Ok(())
+}
+
+fn put_met<R: Print>(rt: &R) {
+    let _ = println!(rt; "met");
+}
+
+/// The number of the first rule that the facts break, with the places of its least active match, or that all are met.
+pub fn put_broken<R: Print>(
+    rt: &R,
+    alloc: Global,
+    rules: &Rules,
+    facts: &Facts,
+) -> Result<(), Refused> {
+    match meets(alloc, rules, facts)? {
+        Some(broken) => {
+            let rule = broken.rule;
+            let _ = print!(rt; "rule {rule}: ");
+            put_numbers(rt, broken.found.places.items());
+        }
+        None => put_met(rt),
+    }
+    Ok(())
+}
