@@ -1,0 +1,202 @@
+//! What matches, rules, plans and orders are asked about, and what is answered.
+
+use crate::making::{
+    RuleMade, denial_made, equal_rule_made, put_fault, query_made, tuple_rule_made,
+};
+use crate::matching::{put_active, put_answers, put_broken, put_matches, query, rule, start_of};
+use crate::orders::{
+    fragments_with, plan_of, put_access, put_is_order, put_order, put_plan, put_reached,
+};
+use crate::reading::{Refused, facts, patterns};
+use esto_catalog::{Catalogue, read_catalogue};
+use esto_constraint::Rules;
+use esto_query::{Facts, Valuation};
+use esto_term::List;
+use esto_views::{AccessList, Plan};
+use std::alloc::Global;
+
+/// The catalogue, the patterns of its first fragments, the plan, the facts, the start of matches, and the rules.
+#[derive(Drop)]
+pub struct Stage {
+    catalogue: Catalogue,
+    patterns: List<AccessList>,
+    plan: Option<Plan>,
+    facts: Facts,
+    start: Valuation,
+    rules: Rules,
+}
+
+fn catalogue_of(alloc: Global, bytes: &[u8]) -> Result<Catalogue, Refused> {
+    match read_catalogue(alloc, bytes) {
+        Ok(catalogue) => Ok(catalogue),
+        Err(_) => Err(Refused),
+    }
+}
+
+impl Stage {
+    /// The catalogue is empty, and nothing else is set.
+    pub fn new(alloc: Global) -> Result<Stage, Refused> {
+        Ok(Stage {
+            catalogue: catalogue_of(alloc, b"version = 1\n")?,
+            patterns: List::new(alloc),
+            plan: None,
+            facts: List::new(alloc),
+            start: Valuation::new(alloc),
+            rules: List::new(alloc),
+        })
+    }
+
+    /// Takes these bytes for the catalogue, with no rule yet and no patterns but its own.
+    pub fn open(&mut self, alloc: Global, bytes: &[u8]) -> Result<(), Refused> {
+        self.catalogue = catalogue_of(alloc, bytes)?;
+        self.patterns = List::new(alloc);
+        self.rules = List::new(alloc);
+        Ok(())
+    }
+
+    /// Gives the next fragment these patterns.
+    pub fn add_patterns(&mut self, alloc: Global, line: &str) -> Result<(), Refused> {
+        self.patterns.push(patterns(alloc, line)?)?;
+        Ok(())
+    }
+
+    /// Takes these facts.
+    pub fn set_facts(&mut self, alloc: Global, line: &str) -> Result<(), Refused> {
+        self.facts = facts(alloc, line)?;
+        Ok(())
+    }
+
+    /// Gives variable 0 a term at the start of matches, or takes it away.
+    pub fn set_start(&mut self, alloc: Global, word: &str) -> Result<(), Refused> {
+        self.start = start_of(alloc, word)?;
+        Ok(())
+    }
+
+    /// One more rule.
+    pub fn add_rule(&mut self, alloc: Global, text: &str) -> Result<(), Refused> {
+        self.rules.push(rule(alloc, &self.catalogue, text)?)?;
+        Ok(())
+    }
+
+    /// No rule.
+    pub fn forget_rules(&mut self, alloc: Global) {
+        self.rules = List::new(alloc);
+    }
+
+    fn matches<R: Print>(&self, rt: &R, alloc: Global, text: &str) -> Result<(), Refused> {
+        let query = query(alloc, &self.catalogue, text)?;
+        put_matches(rt, alloc, &query, &self.facts, &self.start)
+    }
+
+    fn answers<R: Print>(&self, rt: &R, alloc: Global, text: &str) -> Result<(), Refused> {
+        let query = query(alloc, &self.catalogue, text)?;
+        put_answers(rt, alloc, &query, &self.facts)
+    }
+
+    fn active<R: Print>(&self, rt: &R, alloc: Global, text: &str) -> Result<(), Refused> {
+        let rule = rule(alloc, &self.catalogue, text)?;
+        put_active(rt, alloc, &rule, &self.facts)
+    }
+
+    // The least active match of the rule of this number.
+    fn active_of<R: Print>(&self, rt: &R, alloc: Global, word: &str) -> Result<(), Refused> {
+        let Ok(number) = word.parse::<usize>() else {
+            return Err(Refused);
+        };
+        match self.rules.items().get(number) {
+            Some(rule) => put_active(rt, alloc, rule, &self.facts),
+            None => Err(Refused),
+        }
+    }
+
+    fn make_query<R: Print>(&self, rt: &R, alloc: Global, line: &str) -> Result<(), Refused> {
+        match query_made(alloc, &self.catalogue.schema, line)? {
+            Ok(_) => {
+                let _ = println!(rt; "made");
+            }
+            Err(fault) => put_fault(rt, fault),
+        }
+        Ok(())
+    }
+
+    // Keeps the rule, where one was made.
+    fn keep_made<R: Print>(&mut self, rt: &R, made: RuleMade) -> Result<(), Refused> {
+        match made {
+            Ok(rule) => {
+                self.rules.push(rule)?;
+                let _ = println!(rt; "made");
+            }
+            Err(fault) => put_fault(rt, fault),
+        }
+        Ok(())
+    }
+
+    /// Makes a query or a rule. A rule is one more of the rules.
+    pub fn make<R: Print>(
+        &mut self,
+        rt: &R,
+        alloc: Global,
+        word: &str,
+        rest: &str,
+    ) -> Result<(), Refused> {
+        let made = match word {
+            "make_query" => return self.make_query(rt, alloc, rest),
+            "make_tuple_rule" => tuple_rule_made(alloc, &self.catalogue.schema, rest),
+            "make_equal_rule" => equal_rule_made(alloc, &self.catalogue.schema, rest),
+            "make_denial" => denial_made(alloc, &self.catalogue.schema, rest),
+            _ => return Err(Refused),
+        };
+        match made {
+            Ok(made) => self.keep_made(rt, made),
+            Err(refused) => Err(refused),
+        }
+    }
+
+    /// Makes the plan of a query, and prints it.
+    pub fn set_plan<R: Print>(&mut self, rt: &R, alloc: Global, text: &str) -> Result<(), Refused> {
+        let query = query(alloc, &self.catalogue, text)?;
+        let plan = plan_of(alloc, &self.catalogue, &query)?;
+        put_plan(rt, &plan, &self.catalogue.fragments);
+        self.plan = Some(plan);
+        Ok(())
+    }
+
+    // Answers what is asked about a set of the plan's atoms.
+    fn ask_plan<R: Print>(
+        &self,
+        rt: &R,
+        alloc: Global,
+        word: &str,
+        rest: &str,
+    ) -> Result<(), Refused> {
+        let Some(plan) = &self.plan else {
+            return Err(Refused);
+        };
+        let fragments = fragments_with(alloc, &self.catalogue, &self.patterns)?;
+        match word {
+            "order" => put_order(rt, alloc, plan, &fragments, rest),
+            "is_order" => put_is_order(rt, alloc, plan, &fragments, rest),
+            "access" => put_access(rt, alloc, plan, &fragments, rest),
+            "reached" => put_reached(rt, alloc, plan, &fragments, rest),
+            _ => Err(Refused),
+        }
+    }
+
+    /// Answers what is asked about the facts, the rules and the plan.
+    pub fn ask<R: Print>(
+        &self,
+        rt: &R,
+        alloc: Global,
+        word: &str,
+        rest: &str,
+    ) -> Result<(), Refused> {
+        match word {
+            "matches" => self.matches(rt, alloc, rest),
+            "answers" => self.answers(rt, alloc, rest),
+            "active" => self.active(rt, alloc, rest),
+            "active_of" => self.active_of(rt, alloc, rest),
+            "meets" => put_broken(rt, alloc, &self.rules, &self.facts),
+            _ => self.ask_plan(rt, alloc, word, rest),
+        }
+    }
+}
