@@ -18,7 +18,11 @@ set_weight weights atoms set = sum (map (λ atom. slice_index_or weights atom.re
 abbrev pub HaveOrders : Plan → List FragmentDef → List Listed → Type 0
 HaveOrders plan fragments items = All (λ item. IsStatedOrder (patterns_of fragments) (plan_query plan).body item.set item.order) items
 
--- Each item has the weight of the atoms of its set.
+-- Each item has the sum of the weights of the atoms that its set names.
+abbrev pub HaveSums : Plan → List FragmentDef → List Listed → Type 0
+HaveSums plan fragments items = All (λ item. item.weight ≡ set_weight (weights_of fragments) (plan_query plan).body item.set) items
+
+-- Each item has the weight of the distinct atoms of its set.
 abbrev pub HaveWeights : Plan → List FragmentDef → List Listed → Type 0
 HaveWeights plan fragments items = All (λ item. IsWeight (weights_of fragments) (chosen item.set (plan_query plan).body) item.weight) items
 

@@ -5,7 +5,7 @@ ghost use Rattle.esto_semantics.specs.Listed.{chosen, IsWeight};
 ghost use Rattle.esto_semantics.specs.Sets.{AreInOrder};
 ghost use Rattle.esto_views.specs.Fragments.{patterns_of, weights_of};
 ghost use Rattle.esto_views.specs.Plans.{plan_query};
-ghost use Rattle.esto_list.specs.Items.{HaveOrders, HaveWeights, IsPickOf, sets_of};
+ghost use Rattle.esto_list.specs.Items.{HaveOrders, HaveSums, HaveWeights, IsPickOf, set_weight, sets_of};
 ghost use Rattle.esto_list.specs.Text.{IsListText};
 
 use crate::text::put_list;
@@ -48,13 +48,13 @@ fn item_of(
     plan: &Plan,
     fragments: &FragmentDefs,
 ) -> Result<Listed, OutOfMemory>
-    requires executable { IsExecutable (patterns_of fragments.now)
-        (plan_query plan.now).body set.now }
-    requires distinct { AllPairs ◌≢◌ (plan_query plan.now).body }
+    requires { IsExecutable (patterns_of fragments.now) (plan_query plan.now).body set.now }
     ensures set { IfOk result (λ it. it.set ≡ set.now) }
     ensures order { IfOk result (λ it.
         IsStatedOrder (patterns_of fragments.now) (plan_query plan.now).body it.set it.order) }
-    ensures weight { IfOk result (λ it.
+    ensures sum { IfOk result (λ it.
+        it.weight ≡ set_weight (weights_of fragments.now) (plan_query plan.now).body it.set) }
+    ensures weight { AllPairs ◌≢◌ (plan_query plan.now).body → IfOk result (λ it.
         IsWeight (weights_of fragments.now) (chosen it.set (plan_query plan.now).body) it.weight) }
 {
     weights_exist();
@@ -68,21 +68,23 @@ fn item_of(
 
 impl Listing {
     /// The sets by size, then by their rising lists of numbers, compared as lists. Each has its stated order, and weighs
-    /// what its atoms weigh together. Each set has an order, and no two of the plan's atoms are the same.
+    /// the sum of the weights of its atoms' fragments. Where no two of the plan's atoms are the same, as in every stated
+    /// plan, that is the weight of its distinct atoms. Each set has an order.
     pub fn of(
         alloc: Global,
         sets: &Products,
         plan: &Plan,
         fragments: &FragmentDefs,
     ) -> Result<Listing, OutOfMemory>
-        requires executable { (set : List Bool) → Contains sets.now.sets set
+        requires { (set : List Bool) → Contains sets.now.sets set
             → IsExecutable (patterns_of fragments.now) (plan_query plan.now).body set }
-        requires distinct { AllPairs ◌≢◌ (plan_query plan.now).body }
         ensures members { IfOk result (λ items.
             (set : List Bool) → Contains (sets_of items) set ↔ Contains sets.now.sets set) }
         ensures in_order { IfOk result (λ items. AreInOrder (sets_of items)) }
         ensures orders { IfOk result (HaveOrders plan.now fragments.now) }
-        ensures weights { IfOk result (HaveWeights plan.now fragments.now) }
+        ensures sums { IfOk result (HaveSums plan.now fragments.now) }
+        ensures weights { AllPairs ◌≢◌ (plan_query plan.now).body
+            → IfOk result (HaveWeights plan.now fragments.now) }
     {
         let sorted = sets.sorted(alloc)?;
         let mut listing = Listing {

@@ -1,4 +1,4 @@
--- Catalogues without constraints and without input columns.
+-- Catalogues without constraints.
 use Rattle.std.proofs.Common.{◌≡◌, ℕ, zero, suc, Bool, true, false, List, [], ◌∷◌, length, replicate, slice_index_or, Contains, ◌↔◌, refl, sym, ap, subst, ◌∙◌, arith}
 use Rattle.std.proofs.lemmas.Bool.{false≢true}
 use Rattle.std.proofs.lemmas.Option.{none-some, same_Some}
@@ -25,26 +25,6 @@ no_item (item ∷ items) none = absurd (omega (arith, none))
 -- where no constraint is given, there is no rule
 pub no_rules : (rules : List Constraint) (given : ℕ) → given ≡ length rules → given ≡ 0 → rules_of rules ≡ []
 no_rules rules given given_are none = ap rules_of (no_item rules (sym given_are ∙ none))
-
-no_input : (count column : ℕ) → IsInput (replicate count false) column → ⊥
-no_input zero column input = none-some true input
-no_input (suc count) zero input = false≢true (same_Some false true input)
-no_input (suc count) (suc column) input = no_input count column input
-
--- where the one pattern of each fragment has no input, each atom of a plan over the fragments has a pattern without inputs
-pub all_open : (plan : Plan) (fragments : List FragmentDef) → IsPlanOver plan fragments
-    → ((fragment : FragmentDef) → Contains fragments fragment → fragment.access ≡ replicate (length fragment.view.head) false ∷ [])
-    → AreOpen (patterns_of fragments) (plan_query plan).body
-all_open plan fragments over outputs atom inside =
-    let from = Contains-map_from fact_of plan.atoms atom inside in
-    let own = over from.0 from.1 in
-    let access : slice_index_or (patterns_of fragments) from.0.fragment [] ≡ replicate (length own.0.view.head) false ∷ [] =
-    patterns_at fragments from.0.fragment own.0 own.1 ∙ outputs own.0 (Contains-at fragments from.0.fragment own.0 own.1) in (
-      replicate (length own.0.view.head) false,
-      subst (λ (it : Fact Term). HasPattern (patterns_of fragments) it.relation (replicate (length own.0.view.head) false)) from.2
-          (subst (λ ways. Contains ways (replicate (length own.0.view.head) false)) (sym access) (Contains-head (replicate (length own.0.view.head) false) [])),
-      no_input (length own.0.view.head),
-    )
 
 -- a list of the kept sets, in order, has the listed sets where there is no rule
 pub listed_sets : (rules : List Rule) (views : List ConjunctiveQuery) (patterns : Patterns) (query plan : ConjunctiveQuery) (sets kept : List (List Bool))

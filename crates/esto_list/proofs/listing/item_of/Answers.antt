@@ -6,8 +6,8 @@ use Rattle.esto_list.specs.Items.{set_weight}
 use Rattle.esto_list.proofs.listing.item_of.Goals as goal
 
 pub returns-clause-weight : goal.returns-clause-weight
-returns-clause-weight c =
+returns-clause-weight c = λ distinct.
     let weights = weights_of c.args.fragments.now in
     let atoms = (plan_query c.args.plan.now).body in
     subst (IsWeight weights (chosen c.in_ok-set.set atoms)) (sym (c.weight_of-weight.ensures ∙ ap (set_weight weights atoms) (sym c.in_ok-set.ensures)))
-    (c.weights_exist.ensures.sum weights atoms c.in_ok-set.set c.requires.distinct)
+    (c.weights_exist.ensures.sum weights atoms c.in_ok-set.set distinct)

@@ -1,17 +1,17 @@
-use Rattle.std.proofs.Common.{◌↔◌, Contains, sym, subst}
+use Rattle.std.proofs.Common.{◌≡◌, ◌↔◌, Contains, sym, subst}
 use Rattle.std.proofs.lemmas.List.Elements.{All-push}
 use Rattle.esto_semantics.specs.Access.{IsStatedOrder}
 use Rattle.esto_semantics.specs.Listed.{chosen, IsWeight}
 use Rattle.esto_views.specs.Fragments.{patterns_of, weights_of}
 use Rattle.esto_views.specs.Plans.{plan_query}
 use Rattle.esto_list.specs.declared.listing.Listed.{Listed}
-use Rattle.esto_list.specs.Items.{HaveOrders, HaveWeights}
+use Rattle.esto_list.specs.Items.{HaveOrders, HaveSums, HaveWeights, set_weight}
 use Rattle.esto_list.proofs.ItemLemmas.{set_there, sets_more, sets_all}
 use Rattle.esto_list.proofs.listing.Listing.of.Goals as goal
 
-pub item_of-requires-clause-executable : goal.item_of-requires-clause-executable
-item_of-requires-clause-executable c =
-    c.requires.executable c.set-item.result ((c.in_ok-sorted.ensures.members c.set-item.result).0
+pub item_of-requires : goal.item_of-requires
+item_of-requires c =
+    c.requires c.set-item.result ((c.in_ok-sorted.ensures.members c.set-item.result).0
     (set_there _ c.items-set-items.result.now c.sets.set-index c.set-item.result c.items-set-items.ensures c.sets-test.true c.set-item.is))
 
 pub sets-preserved : goal.sets-preserved
@@ -22,10 +22,13 @@ sets-preserved c = record {
   orders = subst (HaveOrders c.args.plan.now c.args.fragments.now) (sym c.in_ok-push.ensures)
       (All-push (λ (item : Listed). IsStatedOrder (patterns_of c.args.fragments.now)
       (plan_query c.args.plan.now).body item.set item.order) c.sets.listing c.in_ok-item_of.field-0 c.sets.invariant.orders c.in_ok-item_of.ensures.order);
-  weights = subst (HaveWeights c.args.plan.now c.args.fragments.now) (sym c.in_ok-push.ensures)
+  sums = subst (HaveSums c.args.plan.now c.args.fragments.now) (sym c.in_ok-push.ensures)
+      (All-push (λ (item : Listed). item.weight ≡ set_weight (weights_of c.args.fragments.now)
+      (plan_query c.args.plan.now).body item.set) c.sets.listing c.in_ok-item_of.field-0 c.sets.invariant.sums c.in_ok-item_of.ensures.sum);
+  weights = λ distinct. subst (HaveWeights c.args.plan.now c.args.fragments.now) (sym c.in_ok-push.ensures)
       (All-push (λ (item : Listed). IsWeight (weights_of c.args.fragments.now)
-      (chosen item.set (plan_query c.args.plan.now).body) item.weight) c.sets.listing c.in_ok-item_of.field-0 c.sets.invariant.weights
-      c.in_ok-item_of.ensures.weight);
+      (chosen item.set (plan_query c.args.plan.now).body) item.weight) c.sets.listing c.in_ok-item_of.field-0 (c.sets.invariant.weights distinct)
+      (c.in_ok-item_of.ensures.weight distinct));
 }
 
 pub returns-clause-members : goal.returns-clause-members

@@ -1,10 +1,13 @@
-use Rattle.std.proofs.Common.{◌≡◌, take}
-use Rattle.esto_list.specs.Items.{HaveOrders, HaveWeights, sets_of}
+use Rattle.std.proofs.Common.{◌≡◌, ◌≢◌, take}
+use Rattle.std.specs.Prelude.{AllPairs}
+use Rattle.esto_list.specs.Items.{HaveOrders, HaveSums, HaveWeights, sets_of}
+use Rattle.esto_views.specs.Plans.{plan_query}
 use Rattle.esto_list.proofs.listing.Listing.of.Given as goal
 
 abbrev pub invariant-sets : goal.invariant-sets
 invariant-sets l = record {
   sets : sets_of l.listing ≡ take l.set-index l.set-items;
   orders : HaveOrders l.plan l.fragments l.listing;
-  weights : HaveWeights l.plan l.fragments l.listing;
+  sums : HaveSums l.plan l.fragments l.listing;
+  weights : AllPairs ◌≢◌ (plan_query l.plan).body → HaveWeights l.plan l.fragments l.listing;
 }
