@@ -12,8 +12,8 @@ ghost use Rattle.esto_universal.specs.StatedLaws.{StatedPlanIsOne, StatedAtomsAr
 use crate::reading::first_occurrences;
 use crate::renaming::{names_of, rename_row, rename_rows};
 use crate::rows::view_rows;
-use esto_query::{Facts, Names, Query, queries_are_sound};
 use esto_plan_laws::plans_receive_unions;
+use esto_query::{Facts, Names, Query, queries_are_sound};
 use esto_semantics::queries_are_their_own_instances;
 use esto_term::{OutOfMemory, Terms};
 use esto_views::{FragmentDefs, Plan};
