@@ -9,13 +9,16 @@ pub record Agree {E A : Type 0} (caused : E → Type 0) (Same : A → A → Type
   pub apart : (value : A) (error : E) → caused error → course.goes value → other.stops error → ⊥
   pub other_apart : (value : A) (error : E) → caused error → other.goes value → course.stops error → ⊥
 
-module _ {E A B : Type 0} (caused : E → Type 0) (Same : A → A → Type 0) (Result : B → B → Type 0) (first other : Course E A) (next other_next : A → Course E B) where
+module _ {E A B : Type 0} (caused : E → Type 0) (Same : A → A → Type 0) (Result : B → B → Type 0) (first other : Course E A)
+    (next other_next : A → Course E B) where
   -- one step, and then what follows
-  pub then_agree : Agree caused Same first other → ((value other_value : A) → first.goes value → Same value other_value → Agree caused Result (next value) (other_next other_value))
+  pub then_agree : Agree caused Same first other → ((value other_value : A) → first.goes value → Same value other_value
+      → Agree caused Result (next value) (other_next other_value))
       → Agree caused Result (and_then first next) (and_then other other_next)
   unfolding and_then
   then_agree here there = record {
-    one = λ value other_value (early, goes, more) (late, follows, most). (there early late goes (here.one early late goes follows)).one value other_value more most;
+    one = λ value other_value (early, goes, more) (late, follows, most). (there early late goes
+        (here.one early late goes follows)).one value other_value more most;
     one_stop = λ error other_error because because' stops stops'. elim stops [
       | inl at_once ↦ elim stops' [
         | inl at_once' ↦ here.one_stop error other_error because because' at_once at_once'
@@ -62,7 +65,8 @@ module _ {E : Type 0} (caused : E → Type 0) where
       → ((value : A) (error : E) → caused error → Others value → Refuses error → ⊥)
       → Agree caused Same (judges Accepts Refuses) (judges Others OtherRefuses)
   unfolding judges
-  judges_agree Same Accepts Others Refuses OtherRefuses one one_stop apart other_apart = record { one = one; one_stop = one_stop; apart = apart; other_apart = other_apart }
+  judges_agree Same Accepts Others Refuses OtherRefuses one one_stop apart other_apart =
+      record { one = one; one_stop = one_stop; apart = apart; other_apart = other_apart }
 
 -- it goes on with one value, up to what counts as the same, or stops with one error
 abbrev pub IsDeterminedUpTo : {E A : Type 0} → (A → A → Type 0) → Course E A → Type 0
@@ -72,9 +76,11 @@ IsDeterminedUpTo Same course = Agree (λ _. Unit {0}) Same course course
 abbrev pub IsDetermined : {E A : Type 0} → Course E A → Type 0
 IsDetermined course = IsDeterminedUpTo ◌≡◌ course
 
-pub then_determined : {E A B : Type 0} (Same : B → B → Type 0) (first : Course E A) (next : A → Course E B) → IsDetermined first → ((value : A) → first.goes value → IsDeterminedUpTo Same (next value))
+pub then_determined : {E A B : Type 0} (Same : B → B → Type 0) (first : Course E A) (next : A → Course E B) → IsDetermined first
+    → ((value : A) → first.goes value → IsDeterminedUpTo Same (next value))
     → IsDeterminedUpTo Same (and_then first next)
-then_determined Same first next one two = then_agree (λ _. Unit {0}) ◌≡◌ Same first first next next one (λ value other goes same. subst (λ it. Agree (λ _. Unit {0}) Same (next value) (next it)) same (two value goes))
+then_determined Same first next one two = then_agree (λ _. Unit {0}) ◌≡◌ Same first first next next one
+    (λ value other goes same. subst (λ it. Agree (λ _. Unit {0}) Same (next value) (next it)) same (two value goes))
 
 pub gives_determined : (E : Type 0) {A : Type 0} (value : A) → IsDetermined (gives {E = E} value)
 gives_determined E value = gives_agree (λ _. Unit {0}) value value refl
@@ -91,12 +97,17 @@ demands_determined condition error = record {
   other_apart = λ v s because h k. k.0 h;
 }
 
-pub judges_determined : {E A : Type 0} (Same : A → A → Type 0) (accepts : A → Type 0) (refused : E → Type 0) → ((value other : A) → accepts value → accepts other → Same value other)
-    → ((error other : E) → refused error → refused other → error ≡ other) → ((value : A) (error : E) → accepts value → refused error → ⊥) → IsDeterminedUpTo Same (judges accepts refused)
+pub judges_determined : {E A : Type 0} (Same : A → A → Type 0) (accepts : A → Type 0) (refused : E → Type 0)
+    → ((value other : A) → accepts value → accepts other → Same value other)
+    → ((error other : E) → refused error → refused other → error ≡ other) → ((value : A) (error : E) → accepts value → refused error → ⊥)
+    → IsDeterminedUpTo Same (judges accepts refused)
 judges_determined Same accepts refused one one_stop apart =
-    judges_agree (λ _. Unit {0}) Same accepts accepts refused refused one (λ error other because because'. one_stop error other) (λ value error because. apart value error) (λ value error because. apart value error)
+    judges_agree (λ _. Unit {0}) Same accepts accepts refused refused one (λ error other because because'. one_stop error other)
+    (λ value error because. apart value error) (λ value error because. apart value error)
 
-pub each_determined : {E A B : Type 0} (step : ℕ → B → A → Course E B) → ((number : ℕ) (given : B) (item : A) → IsDetermined (step number given item)) → (number : ℕ) (given : B) (items : List A)
+pub each_determined : {E A B : Type 0} (step : ℕ → B → A → Course E B) → ((number : ℕ) (given : B) (item : A) → IsDetermined (step number given item))
+    → (number : ℕ) (given : B) (items : List A)
     → IsDetermined (each step number given items)
 each_determined {E} step one number given [] = gives_determined E given
-each_determined step one number given (item ∷ items) = then_determined ◌≡◌ _ _ (one number given item) (λ next goes. each_determined step one (suc number) next items)
+each_determined step one number given (item ∷ items) = then_determined ◌≡◌ _ _ (one number given item)
+    (λ next goes. each_determined step one (suc number) next items)

@@ -7,17 +7,20 @@ use Rattle.esto_course.specs.Course.Stops.{is_free, refused}
 
 module _ {E : Type 0} {free caused : E → Type 0} where
   -- an error of one course is one of another that stops with as many
-  pub stops_more : {A B : Type 0} (from : Course E A) (to : Course E B) → ((error : E) → from.stops error → to.stops error) → (error : E) → Stops free caused from error → Stops free caused to error
+  pub stops_more : {A B : Type 0} (from : Course E A) (to : Course E B) → ((error : E) → from.stops error → to.stops error) → (error : E)
+      → Stops free caused from error → Stops free caused to error
   stops_more from to wider error (is_free is) = is_free is
   stops_more from to wider error (refused because stops) = refused because (wider error stops)
 
   -- an error that has a cause in a part of a call has one in the call
-  pub caused_more : {wider : E → Type 0} {A : Type 0} (course : Course E A) (error : E) → ((it : E) → caused it → wider it) → Stops free caused course error → Stops free wider course error
+  pub caused_more : {wider : E → Type 0} {A : Type 0} (course : Course E A) (error : E) → ((it : E) → caused it → wider it) → Stops free caused course error
+      → Stops free wider course error
   caused_more course error more (is_free is) = is_free is
   caused_more course error more (refused because stops) = refused (more error because) stops
 
   -- an error that `?` hands on
-  pub at_exit : {A : Type 0} (course : Course E A) (error : E) (result : Result A E) → IsErrAnd result (λ handed. handed ≡ error) → Stops free caused course error → Runs free caused course result
+  pub at_exit : {A : Type 0} (course : Course E A) (error : E) (result : Result A E) → IsErrAnd result (λ handed. handed ≡ error)
+      → Stops free caused course error → Runs free caused course result
   at_exit course error (Ok value) handed stops = absurd handed
   at_exit course error (Err handed_on) handed stops = rw handed stops
 
@@ -29,7 +32,8 @@ module _ {E A B : Type 0} (first : Course E A) (next : A → Course E B) where
   first_stops (refused because stops) = refused because (inl stops)
 
   -- the first step goes on, and what follows stops
-  pub then_stops : {free caused : E → Type 0} {error : E} (value : A) → first.goes value → Stops free caused (next value) error → Stops free caused (and_then first next) error
+  pub then_stops : {free caused : E → Type 0} {error : E} (value : A) → first.goes value → Stops free caused (next value) error
+      → Stops free caused (and_then first next) error
   unfolding and_then
   then_stops value goes (is_free is) = is_free is
   then_stops value goes (refused because stops) = refused because (inr (value, goes, stops))
@@ -55,7 +59,8 @@ pub leads_itself : {E A : Type 0} (course : Course E A) → Leads course course
 leads_itself course = record { goes = λ value goes. goes; stops = λ error stops. stops }
 
 -- what follows a value leads where the two steps lead
-pub leads_next : {E A B : Type 0} (first : Course E A) (next : A → Course E B) (to : Course E B) (value : A) → Leads (and_then first next) to → first.goes value → Leads (next value) to
+pub leads_next : {E A B : Type 0} (first : Course E A) (next : A → Course E B) (to : Course E B) (value : A) → Leads (and_then first next) to
+    → first.goes value → Leads (next value) to
 unfolding and_then
 leads_next first next to value leads goes = record {
   goes = λ result more. leads.goes result (value, goes, more);
@@ -88,13 +93,15 @@ module _ {E A B : Type 0} (step : ℕ → B → A → Course E B) (items : List 
         (subst P (drop_all place items le) leads).goes given (gives_goes E given given refl)
 
 -- a turn of a loop over items that are counted from 1
-module _ {E A B : Type 0} (step : ℕ → B → A → Course E B) (items : List A) (to : Course E B) (index : ℕ) (given : B) (leads : Leads (each step (suc index) given (drop index items)) to) where
+module _ {E A B : Type 0} (step : ℕ → B → A → Course E B) (items : List A) (to : Course E B) (index : ℕ) (given : B)
+    (leads : Leads (each step (suc index) given (drop index items)) to) where
   module _ (item : A) (below : index < length items) (is : item ≡ get_or items index item) where
     pub turn_next : (next : B) → (step (index + 1) given item).goes next → Leads (each step (suc (index + 1)) next (drop (index + 1) items)) to
     turn_next next goes =
         let one : index + 1 ≡ suc index = omega arith in
         let here : (step (suc index) given item).goes next = subst (λ (n : ℕ). (step n given item).goes next) one goes in
-        subst (λ (n : ℕ). Leads (each step (suc n) next (drop (index + 1) items)) to) (sym one) (each_next step items to (suc index) index given leads item below is next here)
+        subst (λ (n : ℕ). Leads (each step (suc n) next (drop (index + 1) items)) to) (sym one)
+        (each_next step items to (suc index) index given leads item below is next here)
 
     pub turn_stops : {free caused : E → Type 0} (error : E) → Stops free caused (step (index + 1) given item) error → Stops free caused to error
     turn_stops {free} {caused} error stops =

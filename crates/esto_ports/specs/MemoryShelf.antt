@@ -20,7 +20,8 @@ pub record ShelfState : Type 0 where
 -- The state as a value of a model.
 abbrev pub shelf_code : Coded ShelfState
 shelf_code =
-    code_by (Files × (List ℕ × (ℕ × ℕ))) (coded× (map.code {R = slice_cmp nat_cmp} (coded_list coded_ℕ) (coded_list coded_ℕ)) (coded× (coded_list coded_ℕ) (coded× coded_ℕ coded_ℕ)))
+    code_by (Files × (List ℕ × (ℕ × ℕ))) (coded× (map.code {R = slice_cmp nat_cmp} (coded_list coded_ℕ) (coded_list coded_ℕ))
+    (coded× (coded_list coded_ℕ) (coded× coded_ℕ coded_ℕ)))
     (λ s. (s.files, (s.fails, (s.calls, s.faults)))) (λ p. record { files = p.0; fails = p.1.0; calls = p.1.1.0; faults = p.1.1.1 }) (λ _. refl)
 
 -- A call of that number fails: it is listed, or there is no such file.
@@ -43,7 +44,8 @@ after_fetch s name = record s { calls = next_count s.calls; faults = if is_faili
 abbrev pub AnswersFetch : ShelfState → List ℕ → ℕ → Result (List ℕ) ShelfError → Type 0
 AnswersFetch s name limit (Ok bytes) = (is_failing s name ≡ false) × (map.get s.files name ≡ Some bytes) × (length bytes ≤ limit)
 AnswersFetch s name limit (Err Failed) = is_failing s name ≡ true
-AnswersFetch s name limit (Err (TooLong read)) = (is_failing s name ≡ false) × (read ≡ limit + 1) × ((bytes : List ℕ) × (map.get s.files name ≡ Some bytes) × (limit < length bytes))
+AnswersFetch s name limit (Err (TooLong read)) = (is_failing s name ≡ false) × (read ≡ limit + 1)
+    × ((bytes : List ℕ) × (map.get s.files name ≡ Some bytes) × (limit < length bytes))
 AnswersFetch s name limit (Err OutOfMemory) = is_failing s name ≡ false
 
 -- A file's bytes are given where they are within the limit.

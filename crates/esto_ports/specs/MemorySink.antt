@@ -28,5 +28,6 @@ next_kept s = map.get s.fails (next_count s.calls)
 -- more call, and where memory is refused it does nothing else.
 abbrev pub AfterPut : SinkState → List ℕ → Result (Unit {0}) SinkError → SinkState → Type 0
 AfterPut s bytes (Ok _) new = (next_kept s ≡ None) × (new ≡ record s { calls = next_count s.calls; written = s.written ++ bytes })
-AfterPut s bytes (Err Failed) new = (kept : ℕ) × (next_kept s ≡ Some kept) × (new ≡ record s { calls = next_count s.calls; faults = next_count s.faults; written = s.written ++ take kept bytes })
+AfterPut s bytes (Err Failed) new = (kept : ℕ) × (next_kept s ≡ Some kept)
+    × (new ≡ record s { calls = next_count s.calls; faults = next_count s.faults; written = s.written ++ take kept bytes })
 AfterPut s bytes (Err OutOfMemory) new = new ≡ record s { calls = next_count s.calls }

@@ -167,7 +167,9 @@ module _ (names : List Name) (rows : List (Fact Term)) (head : List Term) (seen 
   }
 
 -- where there are no rules, the plan that is stated for a query receives unions
-pub receives : (views : List ConjunctiveQuery) (query : ConjunctiveQuery) (names : List Name) (plan : Plan) → RowsReceiveUnions → ((query : ConjunctiveQuery) → IsUniversalFor [] query query)
+pub receives : (views : List ConjunctiveQuery) (query : ConjunctiveQuery) (names : List Name) (plan : Plan) → RowsReceiveUnions
+    → ((query : ConjunctiveQuery) → IsUniversalFor [] query query)
     → ((query : ConjunctiveQuery) → IsFinished [] query) → IsStatedPlan names views query plan → ReceivesUnions [] views query (plan_query plan)
 receives views query names plan rows own finished stated =
-    rows [] views query query (plan_query plan) (λ rule inside. absurd (Contains-nil rule inside)) (own query) (finished query) (plan_of names views query plan stated)
+    rows [] views query query (plan_query plan) (λ rule inside. absurd (Contains-nil rule inside)) (own query) (finished query)
+    (plan_of names views query plan stated)

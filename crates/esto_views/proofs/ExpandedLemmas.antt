@@ -34,11 +34,14 @@ HasFragment fragments atom =
     (fragment : FragmentDef) × (slice_get fragments atom.fragment ≡ Some fragment)
     × IsFragment fragment × (length atom.terms ≡ length fragment.view.head)
 
-pub has_fragment : (plan : Plan) (fragments : List FragmentDef) (items : List PlanAtom) (number : ℕ) (atom : PlanAtom) → IsPlanOver plan fragments → items ≡ plan.atoms
+pub has_fragment : (plan : Plan) (fragments : List FragmentDef) (items : List PlanAtom) (number : ℕ) (atom : PlanAtom) → IsPlanOver plan fragments
+    → items ≡ plan.atoms
     → number < length items → atom ≡ get_or items number atom → HasFragment fragments atom
-has_fragment plan fragments items number atom over same within read = over atom (subst (λ it. Contains it atom) same (Contains-read items number atom within read))
+has_fragment plan fragments items number atom over same within read = over atom
+    (subst (λ it. Contains it atom) same (Contains-read items number atom within read))
 
-pub fragment_is : (fragments : List FragmentDef) (atom : PlanAtom) (found : FragmentDef) → HasFragment fragments atom → slice_get fragments atom.fragment ≡ Some found
+pub fragment_is : (fragments : List FragmentDef) (atom : PlanAtom) (found : FragmentDef) → HasFragment fragments atom
+    → slice_get fragments atom.fragment ≡ Some found
     → IsFragment found × (length atom.terms ≡ length found.view.head)
 fragment_is fragments atom found (fragment, at, is_fragment, lengths) there =
     let same : fragment ≡ found = same_Some fragment found (sym at ∙ there) in
@@ -50,7 +53,8 @@ fits plan fragments over fact inside =
     let found = over source.0 source.1 in
     let view = query_of found.0.view in (
       view,
-      ap (λ (it : Fact Term). slice_get (views_of fragments) it.relation) (sym source.2) ∙ map_at (λ it. query_of it.view) fragments source.0.fragment found.0 found.1,
+      ap (λ (it : Fact Term). slice_get (views_of fragments) it.relation) (sym source.2)
+          ∙ map_at (λ it. query_of it.view) fragments source.0.fragment found.0 found.1,
       record {
         same_length = sym found.3 ∙ ap (λ (it : Fact Term). length it.terms) source.2;
         variables = found.2.variables;
@@ -60,8 +64,10 @@ fits plan fragments over fact inside =
 
 -- ---- one atom more
 
-pub expanded_more : (fragments : List FragmentDef) (atoms : List PlanAtom) (start number first next : ℕ) (atom : PlanAtom) (fragment : FragmentDef) (m : Term → Term) (done more : List ExpandedFact)
-    → number < length atoms → atom ≡ get_or atoms number atom → slice_get fragments atom.fragment ≡ Some fragment → IsSpread (query_of fragment.view) atom.terms first next m
+pub expanded_more : (fragments : List FragmentDef) (atoms : List PlanAtom) (start number first next : ℕ) (atom : PlanAtom) (fragment : FragmentDef)
+    (m : Term → Term) (done more : List ExpandedFact)
+    → number < length atoms → atom ≡ get_or atoms number atom → slice_get fragments atom.fragment ≡ Some fragment
+    → IsSpread (query_of fragment.view) atom.terms first next m
     → more ≡ done ++ placed number 0 (map (image m) fragment.view.body)
     → ((rest : List ExpandedFact) → AreExpanded fragments number first (drop number atoms) rest → AreExpanded fragments 0 start atoms (done ++ rest))
     → (rest : List ExpandedFact) → AreExpanded fragments (number + 1) next (drop (number + 1) atoms) rest → AreExpanded fragments 0 start atoms (more ++ rest)
@@ -70,7 +76,8 @@ expanded_more fragments atoms start number first next atom fragment m done more 
     let left : drop number atoms ≡ atom ∷ drop (number + 1) atoms = drop_more atoms number atom within ∙ ap (λ it. it ∷ drop (number + 1) atoms) (sym read) in
     let joined : more ++ rest ≡ done ++ (own ++ rest) = ap (λ it. it ++ rest) is ∙ append_assoc done own rest in
     subst (AreExpanded fragments 0 start atoms) (sym joined)
-    (so_far (own ++ rest) (subst (λ it. AreExpanded fragments number first it (own ++ rest)) (sym left) (fragment, found, (next, (m, spread, (rest, refl, tail))))))
+    (so_far (own ++ rest) (subst (λ it. AreExpanded fragments number first it (own ++ rest)) (sym left)
+    (fragment, found, (next, (m, spread, (rest, refl, tail))))))
 
 pub expanded_all : (fragments : List FragmentDef) (atoms : List PlanAtom) (start number first : ℕ) (done : List ExpandedFact) → length atoms ≤ number
     → ((rest : List ExpandedFact) → AreExpanded fragments number first (drop number atoms) rest → AreExpanded fragments 0 start atoms (done ++ rest))
@@ -84,12 +91,13 @@ expanded_all fragments atoms start number first done past so_far =
 placed-from : (atom place : ℕ) (facts : List (Fact Term)) (found : ExpandedFact) → Contains (placed atom place facts) found
     → (found.atom ≡ atom) × ((offset : ℕ) × (found.place ≡ place + offset) × (slice_get facts offset ≡ Some found.fact))
 placed-from atom place [] found inside = absurd (Contains-nil found inside)
-placed-from atom place (first ∷ facts) found inside = elim (Contains-cases (record { atom = atom; place = place; fact = first }) (placed atom (place + 1) facts) found inside) [
-  | inl is ↦
-      let own : place ≡ found.place = ap (λ (it : ExpandedFact). it.place) is in
-      (ap (λ (it : ExpandedFact). it.atom) (sym is), (0, omega arith, ap (λ (it : ExpandedFact). Some it.fact) is))
-  | inr later ↦ let rest = placed-from atom (place + 1) facts found later in (rest.0, (suc rest.1.0, omega (arith, rest.1.1), rest.1.2))
-]
+placed-from atom place (first ∷ facts) found inside = elim (Contains-cases (record { atom = atom; place = place; fact = first })
+    (placed atom (place + 1) facts) found inside) [
+      | inl is ↦
+          let own : place ≡ found.place = ap (λ (it : ExpandedFact). it.place) is in
+          (ap (λ (it : ExpandedFact). it.atom) (sym is), (0, omega arith, ap (λ (it : ExpandedFact). Some it.fact) is))
+      | inr later ↦ let rest = placed-from atom (place + 1) facts found later in (rest.0, (suc rest.1.0, omega (arith, rest.1.1), rest.1.2))
+    ]
 
 placed-has : (atom place : ℕ) (facts : List (Fact Term)) (offset at : ℕ) (fact : Fact Term) → at ≡ place + offset → slice_get facts offset ≡ Some fact
     → Contains (placed atom place facts) (record { atom = atom; place = at; fact = fact })
@@ -97,7 +105,8 @@ placed-has atom place [] offset at fact is found = absurd (cc)
 placed-has atom place (first ∷ facts) zero at fact is found =
     let same : first ≡ fact = cc in
     let here : place ≡ at = omega arith in
-    subst (Contains (placed atom place (first ∷ facts))) (λ i. record { atom = atom; place = here i; fact = same i }) (Contains-head (record { atom = atom; place = place; fact = first }) (placed atom (place + 1) facts))
+    subst (Contains (placed atom place (first ∷ facts))) (λ i. record { atom = atom; place = here i; fact = same i })
+    (Contains-head (record { atom = atom; place = place; fact = first }) (placed atom (place + 1) facts))
 placed-has atom place (first ∷ facts) (suc offset) at fact is found =
     Contains-rest (record { atom = atom; place = place; fact = first }) (placed atom (place + 1) facts) (record { atom = atom; place = at; fact = fact })
     (placed-has atom (place + 1) facts offset at fact (omega arith) found)
@@ -115,8 +124,10 @@ module _ (fragments : List FragmentDef) where
     pub has_view : (place : ℕ) (atom : PlanAtom) → slice_get atoms place ≡ Some atom → slice_get (views_of fragments) atom.fragment ≡ Some (view place)
     pub keeps : (place : ℕ) → Keeps Const (spread place)
     pub head : (place : ℕ) (atom : PlanAtom) → slice_get atoms place ≡ Some atom → map (spread place) (view place).head ≡ atom.terms
-    pub new : (place : ℕ) (term : Term) → place < length atoms → IsInner (view place) term → (n : ℕ) × (spread place term ≡ Plain n) × (start place ≤ n) × (n < start (suc place))
-    pub apart : (place : ℕ) (term other : Term) → place < length atoms → IsInner (view place) term → IsInner (view place) other → spread place term ≡ spread place other → term ≡ other
+    pub new : (place : ℕ) (term : Term) → place < length atoms → IsInner (view place) term
+        → (n : ℕ) × (spread place term ≡ Plain n) × (start place ≤ n) × (n < start (suc place))
+    pub apart : (place : ℕ) (term other : Term) → place < length atoms → IsInner (view place) term → IsInner (view place) other
+        → spread place term ≡ spread place other → term ≡ other
     pub exact : (fact : ExpandedFact) → Contains expanded fact
         ↔ ((place : ℕ) × (place < length atoms) × (fact.atom ≡ number + place)
         × ((part : Fact Term) × (slice_get (view place).body fact.place ≡ Some part) × (image (spread place) part ≡ fact.fact)))
@@ -143,10 +154,12 @@ module _ (fragments : List FragmentDef) where
     abbrev own_view : ConjunctiveQuery
     own_view = query_of fragment.view
 
-    inner_at : (term : Term) → IsInner own_view term → (place : ℕ) × (number : ℕ) × (term ≡ Plain number) × (slice_get is_spread.inner place ≡ Some number) × (m term ≡ Plain (first + place))
+    inner_at : (term : Term) → IsInner own_view term → (place : ℕ) × (number : ℕ) × (term ≡ Plain number) × (slice_get is_spread.inner place ≡ Some number)
+        × (m term ≡ Plain (first + place))
     inner_at term inner = by (flat term inner)
       where
-        by : IsFlat term → (place : ℕ) × (number : ℕ) × (term ≡ Plain number) × (slice_get is_spread.inner place ≡ Some number) × (m term ≡ Plain (first + place))
+        by : IsFlat term → (place : ℕ) × (number : ℕ) × (term ≡ Plain number) × (slice_get is_spread.inner place ≡ Some number)
+            × (m term ≡ Plain (first + place))
         by (inl constant) = absurd (inner.no_constant constant)
         by (inr (number, plain)) =
             let at = place-from_Contains is_spread.inner number ((is_spread.are_inner.exact number).1 (subst (IsInner own_view) plain inner)) in
@@ -168,7 +181,8 @@ module _ (fragments : List FragmentDef) where
     begins-rise zero = let after = is_spread.after in let then = tail.starts in omega arith
     begins-rise (suc place) = tail.rises place
 
-    has_views : (place : ℕ) (other : PlanAtom) → slice_get (atom ∷ atoms) place ≡ Some other → slice_get (views_of fragments) other.fragment ≡ Some (views place)
+    has_views : (place : ℕ) (other : PlanAtom) → slice_get (atom ∷ atoms) place ≡ Some other
+        → slice_get (views_of fragments) other.fragment ≡ Some (views place)
     has_views zero other at =
         let same : atom ≡ other = cc in
         ap (λ (it : PlanAtom). slice_get (views_of fragments) it.fragment) (sym same) ∙ map_at (λ it. query_of it.view) fragments atom.fragment fragment found
@@ -182,7 +196,8 @@ module _ (fragments : List FragmentDef) where
     heads zero other at = let same : atom ≡ other = cc in is_spread.head ∙ ap (λ (it : PlanAtom). it.terms) same
     heads (suc place) other at = tail.head place other at
 
-    all_new : (place : ℕ) (term : Term) → place < length (atom ∷ atoms) → IsInner (views place) term → (n : ℕ) × (spreads place term ≡ Plain n) × (begins place ≤ n) × (n < begins (suc place))
+    all_new : (place : ℕ) (term : Term) → place < length (atom ∷ atoms) → IsInner (views place) term
+        → (n : ℕ) × (spreads place term ≡ Plain n) × (begins place ≤ n) × (n < begins (suc place))
     all_new zero term within inner =
         let at = inner_at term inner in
         let below = slice_get_within is_spread.inner at.0 at.1 at.3 in
@@ -191,7 +206,8 @@ module _ (fragments : List FragmentDef) where
         (first + at.0, at.4, omega arith, omega arith)
     all_new (suc place) term within inner = tail.new place term (omega arith) inner
 
-    all_apart : (place : ℕ) (term other : Term) → place < length (atom ∷ atoms) → IsInner (views place) term → IsInner (views place) other → spreads place term ≡ spreads place other → term ≡ other
+    all_apart : (place : ℕ) (term other : Term) → place < length (atom ∷ atoms) → IsInner (views place) term → IsInner (views place) other
+        → spreads place term ≡ spreads place other → term ≡ other
     all_apart zero term other within inner other_inner same =
         let at = inner_at term inner in
         let there = inner_at other other_inner in
@@ -223,7 +239,8 @@ module _ (fragments : List FragmentDef) where
         let own : number ≡ fact.atom = omega arith in
         Contains-append_left (placed number 0 (map (image m) fragment.view.body)) rest fact
         (subst (Contains (placed number 0 (map (image m) fragment.view.body))) (λ i. record { atom = own i; place = fact.place; fact = fact.fact })
-        (placed-has number 0 (map (image m) fragment.view.body) fact.place fact.place fact.fact (omega arith) (map_at (image m) fragment.view.body fact.place part at ∙ ap Some goes)))
+        (placed-has number 0 (map (image m) fragment.view.body) fact.place fact.place fact.fact (omega arith)
+        (map_at (image m) fragment.view.body fact.place part at ∙ ap Some goes)))
     there-has fact (suc place) (within, is_atom, part) =
         Contains-append_right (placed number 0 (map (image m) fragment.view.body)) rest fact ((tail.exact fact).1 (place, omega arith, omega arith, part))
 
@@ -245,11 +262,13 @@ module _ (fragments : List FragmentDef) where
       );
     }
 
-  laid_out : ((query : Query) (term : Term) → IsInner (query_of query) term → IsFlat term) → (number first : ℕ) (atoms : List PlanAtom) (expanded : List ExpandedFact)
+  laid_out : ((query : Query) (term : Term) → IsInner (query_of query) term → IsFlat term)
+      → (number first : ℕ) (atoms : List PlanAtom) (expanded : List ExpandedFact)
       → AreExpanded fragments number first atoms expanded → IsLaidOut number first atoms expanded
   laid_out flat number first [] expanded none = laid_nil number first expanded none
   laid_out flat number first (atom ∷ atoms) expanded (fragment, found, (next, (m, is_spread, (rest, is, further)))) =
-      laid_cons number first next atom atoms fragment m rest expanded found (flat fragment.view) is_spread is (laid_out flat (number + 1) next atoms rest further)
+      laid_cons number first next atom atoms fragment m rest expanded found (flat fragment.view) is_spread is
+      (laid_out flat (number + 1) next atoms rest further)
 
 -- ---- the expansion of a plan
 
@@ -263,7 +282,8 @@ module _ (plan : Plan) (fragments : List FragmentDef) (expanded : List ExpandedF
   start-later place zero less = absurd (omega arith)
   start-later place (suc other) less = by (start-later place other) (cases_order place other)
     where
-      by : (place < other → laid.start (suc place) ≤ laid.start other) → (place ≡ other) ⊎ ((place < other) ⊎ (other < place)) → laid.start (suc place) ≤ laid.start (suc other)
+      by : (place < other → laid.start (suc place) ≤ laid.start other) → (place ≡ other) ⊎ ((place < other) ⊎ (other < place))
+          → laid.start (suc place) ≤ laid.start (suc other)
       by again (inl same) = let equal : laid.start (suc place) ≡ laid.start (suc other) = ap (λ it. laid.start (suc it)) same in omega arith
       by again (inr (inl earlier)) = let so_far = again earlier in let rises = laid.rises other in omega arith
       by again (inr (inr later)) = absurd (omega arith)
@@ -271,17 +291,20 @@ module _ (plan : Plan) (fragments : List FragmentDef) (expanded : List ExpandedF
   below_names : (number : ℕ) → IsOfQuery (plan_query plan) (Plain number) → number < length plan.names
   below_names number (inl (fact, inside, at)) =
       let source = Contains-map_from fact_of plan.atoms fact inside in
-      named-Plain plan.names number (sound.named_atoms source.0 source.1 (Plain number) (subst (λ (it : Fact Term). Contains it.terms (Plain number)) (sym source.2) at))
+      named-Plain plan.names number (sound.named_atoms source.0 source.1 (Plain number)
+      (subst (λ (it : Fact Term). Contains it.terms (Plain number)) (sym source.2) at))
   below_names number (inr in_head) = named-Plain plan.names number (sound.named_head (Plain number) in_head)
 
-  new_outside : (number : ℕ) (term : Term) → number < length plan.atoms → IsInner (laid.view number) term → IsOfQuery (plan_query plan) (laid.spread number term) → ⊥
+  new_outside : (number : ℕ) (term : Term) → number < length plan.atoms → IsInner (laid.view number) term
+      → IsOfQuery (plan_query plan) (laid.spread number term) → ⊥
   new_outside number term within inner of_query =
       let new = laid.new number term within inner in
       let below = below_names new.0 (subst (IsOfQuery (plan_query plan)) new.1 of_query) in
       let above = start-above number in
       omega (arith, new.2)
 
-  never_later : (number other : ℕ) (term other_term : Term) → number < length plan.atoms → other < length plan.atoms → IsInner (laid.view number) term → IsInner (laid.view other) other_term
+  never_later : (number other : ℕ) (term other_term : Term) → number < length plan.atoms → other < length plan.atoms → IsInner (laid.view number) term
+      → IsInner (laid.view other) other_term
       → laid.spread number term ≡ laid.spread other other_term → number < other → ⊥
   never_later number other term other_term within other_within inner other_inner same less =
       let new = laid.new number term within inner in
@@ -290,16 +313,22 @@ module _ (plan : Plan) (fragments : List FragmentDef) (expanded : List ExpandedF
       let rises = start-later number other less in
       omega (arith, new.3, later.2)
 
-  new_apart : (number other : ℕ) (term other_term : Term) → number < length plan.atoms → other < length plan.atoms → IsInner (laid.view number) term → IsInner (laid.view other) other_term
+  new_apart : (number other : ℕ) (term other_term : Term) → number < length plan.atoms → other < length plan.atoms → IsInner (laid.view number) term
+      → IsInner (laid.view other) other_term
       → laid.spread number term ≡ laid.spread other other_term → (number ≡ other) × (term ≡ other_term)
   new_apart number other term other_term within other_within inner other_inner same = by (cases_order number other)
     where
       by : (number ≡ other) ⊎ ((number < other) ⊎ (other < number)) → (number ≡ other) × (term ≡ other_term)
-      by (inl is) = (is, laid.apart number term other_term within inner (subst (λ it. IsInner (laid.view it) other_term) (sym is) other_inner) (same ∙ ap (λ it. laid.spread it other_term) (sym is)))
+      by (inl is) = (
+        is,
+        laid.apart number term other_term within inner (subst (λ it. IsInner (laid.view it) other_term) (sym is) other_inner)
+            (same ∙ ap (λ it. laid.spread it other_term) (sym is)),
+      )
       by (inr (inl less)) = absurd (never_later number other term other_term within other_within inner other_inner same less)
       by (inr (inr more)) = absurd (never_later other number other_term term other_within within other_inner inner (sym same) more)
 
-  atom_at : (number : ℕ) (fact : Fact Term) → slice_get (map fact_of plan.atoms) number ≡ Some fact → (atom : PlanAtom) × (slice_get plan.atoms number ≡ Some atom) × (fact_of atom ≡ fact)
+  atom_at : (number : ℕ) (fact : Fact Term) → slice_get (map fact_of plan.atoms) number ≡ Some fact
+      → (atom : PlanAtom) × (slice_get plan.atoms number ≡ Some atom) × (fact_of atom ≡ fact)
   atom_at number fact at = map_at-from fact_of plan.atoms number fact at
 
   short : (number : ℕ) → number < length (map fact_of plan.atoms) → number < length plan.atoms
@@ -344,13 +373,15 @@ module _ (plan : Plan) (fragments : List FragmentDef) (expanded : List ExpandedF
       (λ inside.
           let at = (laid.exact fact).0 inside in
           let is : at.0 ≡ fact.atom = omega (arith, at.2) in
-          subst (λ it. (it < length plan.atoms) × ((part : Fact Term) × (slice_get (laid.view it).body fact.place ≡ Some part) × (image (laid.spread it) part ≡ fact.fact))) is (at.1, at.3)),
+          subst (λ it. (it < length plan.atoms) × ((part : Fact Term) × (slice_get (laid.view it).body fact.place ≡ Some part)
+          × (image (laid.spread it) part ≡ fact.fact))) is (at.1, at.3)),
       (λ at. (laid.exact fact).1 (fact.atom, at.0, omega arith, at.1)),
     );
   }
 
 pub plan_expands : (plan : Plan) (fragments : List FragmentDef) (expanded : List ExpandedFact) → IsSoundPlan plan.atoms plan.head plan.names
-    → ((query : Query) → IsSound query.head query.body query.names) → AreExpanded fragments 0 (length plan.names) plan.atoms expanded → Expands plan fragments expanded
+    → ((query : Query) → IsSound query.head query.body query.names) → AreExpanded fragments 0 (length plan.names) plan.atoms expanded
+    → Expands plan fragments expanded
 plan_expands plan fragments expanded sound queries are_expanded =
     expands plan fragments expanded sound
     (laid_out fragments (λ query term inner. (queries query).query.flat_body term inner.in_body) 0 (length plan.names) plan.atoms expanded are_expanded)

@@ -12,7 +12,8 @@ use Rattle.esto_semantics.proofs.TermLemmas.{Const-apart-Plain}
 use Rattle.esto_views.specs.Spreads.{AreInner}
 use Rattle.esto_term.proofs.ListLemmas.{Contains-nil}
 
-pub inner-from_parts : (view : ConjunctiveQuery) (number : ℕ) → Mentions view.body (Plain number) → (Contains view.head (Plain number) → ⊥) → IsInner view (Plain number)
+pub inner-from_parts : (view : ConjunctiveQuery) (number : ℕ) → Mentions view.body (Plain number) → (Contains view.head (Plain number) → ⊥)
+    → IsInner view (Plain number)
 inner-from_parts view number in_body not_in_head = record {
   in_body = in_body;
   no_constant = λ constant. Const-apart-Plain constant.0 number (sym constant.1);

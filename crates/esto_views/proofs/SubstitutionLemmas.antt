@@ -28,7 +28,8 @@ apart_told term other apart = by (same_term term other) refl
     by true told = absurd (apart ((same_term-Decides term other).0 told))
     by false told = refl
 
-pub substituted-at : (from to : List Term) (place : ℕ) (term target : Term) → AllPairs {X = Term} ◌≢◌ from → slice_get from place ≡ Some term → slice_get to place ≡ Some target
+pub substituted-at : (from to : List Term) (place : ℕ) (term target : Term) → AllPairs {X = Term} ◌≢◌ from → slice_get from place ≡ Some term
+    → slice_get to place ≡ Some target
     → substituted from to term ≡ target
 substituted-at [] to place term target distinct at goes = absurd (cc)
 substituted-at (first ∷ from) [] place term target distinct at goes = absurd (cc)
@@ -37,7 +38,8 @@ substituted-at (first ∷ from) (own ∷ to) zero term target distinct at goes =
     let own_is : own ≡ target = cc in
     ap (λ answer. cond answer own (substituted from to term)) ((same_term-Decides term first).1 is) ∙ own_is
 substituted-at (first ∷ from) (own ∷ to) (suc place) term target distinct at goes =
-    cond_false (same_term term first) own (substituted from to term) (apart_told term first (λ is. distinct_head first from term distinct (Contains-at from place term at) (sym is)))
+    cond_false (same_term term first) own (substituted from to term) (apart_told term first
+    (λ is. distinct_head first from term distinct (Contains-at from place term at) (sym is)))
     ∙ substituted-at from to place term target (distinct_rest first from distinct) at goes
 
 pub substituted-outside : (from to : List Term) (term : Term) → (Contains from term → ⊥) → substituted from to term ≡ term
@@ -52,7 +54,8 @@ substituted-outside (first ∷ from) (own ∷ to) term outside =
 drop_at : {X : Type 0} (xs : List X) (place : ℕ) (x : X) → slice_get xs place ≡ Some x → drop place xs ≡ x ∷ drop (place + 1) xs
 drop_at xs place x at = drop_more xs place x (slice_get_within xs place x at) ∙ ap (λ it. it ∷ drop (place + 1) xs) (get_or_from_slice_get xs place x x at)
 
-module _ (from to : List Term) (place : ℕ) (term first own : Term) (answer : Bool) (at : slice_get from place ≡ Some first) (goes : slice_get to place ≡ Some own)
+module _ (from to : List Term) (place : ℕ) (term first own : Term) (answer : Bool) (at : slice_get from place ≡ Some first)
+    (goes : slice_get to place ≡ Some own)
     (told : answer ≡ same_term term first) where
   one_step : substituted (drop place from) (drop place to) term ≡ cond answer own (substituted (drop (place + 1) from) (drop (place + 1) to) term)
   one_step =
@@ -76,7 +79,8 @@ pub record IsSpreadSoFar (head terms : List Term) (inner : List ℕ) (first coun
 pub spread_none : (head terms : List Term) (inner : List ℕ) (first : ℕ) → IsSpreadSoFar head terms inner first 0 head terms first
 spread_none head terms inner first = record { from_is = sym (append-nil head); to_is = sym (append-nil terms); next_is = omega arith }
 
-pub spread_more : (head terms : List Term) (inner : List ℕ) (first count number : ℕ) (from to from_more to_more : List Term) (next after : ℕ) → count < length inner → number ≡ get_or inner count 0
+pub spread_more : (head terms : List Term) (inner : List ℕ) (first count number : ℕ) (from to from_more to_more : List Term) (next after : ℕ)
+    → count < length inner → number ≡ get_or inner count 0
     → from_more ≡ from ++ Plain number ∷ [] → to_more ≡ to ++ Plain next ∷ [] → after ≡ next + 1
     → IsSpreadSoFar head terms inner first count from to next → IsSpreadSoFar head terms inner first (count + 1) from_more to_more after
 spread_more head terms inner first count number from to from_more to_more next after within read from_one to_one next_one so_far = record {
@@ -100,7 +104,8 @@ variables-distinct numbers rising i j d less within same =
     omega arith
 
 module _ (view : ConjunctiveQuery) (terms : List Term) (first next : ℕ) (inner : List ℕ) (are_inner : AreInner view inner)
-    (variables : (term : Term) → Contains view.head term → IsVariable term) (distinct : AllPairs {X = Term} ◌≢◌ view.head) (lengths : length terms ≡ length view.head) where
+    (variables : (term : Term) → Contains view.head term → IsVariable term) (distinct : AllPairs {X = Term} ◌≢◌ view.head)
+    (lengths : length terms ≡ length view.head) where
   abbrev from : List Term
   from = view.head ++ map Plain inner
 
@@ -132,11 +137,13 @@ module _ (view : ConjunctiveQuery) (terms : List Term) (first next : ℕ) (inner
         (at_right view.head (map Plain inner) place (Plain number) (map_at Plain inner place number at))
         (subst (λ count. slice_get to (count + place) ≡ Some (Plain (first + place))) lengths
         (at_right terms (map Plain (range_with_len first (length inner))) place (Plain (first + place))
-        (map_at Plain (range_with_len first (length inner)) place (first + place) (range_at first (length inner) place (slice_get_within inner place number at)))));
+        (map_at Plain (range_with_len first (length inner)) place (first + place)
+        (range_at first (length inner) place (slice_get_within inner place number at)))));
     after = after;
   }
 
-  pub spread_done : (count : ℕ) (sources targets : List Term) → length inner ≤ count → count ≤ length inner → IsSpreadSoFar view.head terms inner first count sources targets next
+  pub spread_done : (count : ℕ) (sources targets : List Term) → length inner ≤ count → count ≤ length inner
+      → IsSpreadSoFar view.head terms inner first count sources targets next
       → IsSpread view terms first next (substituted sources targets) × (length sources ≡ length targets)
   spread_done count sources targets past within so_far =
       let whole : count ≡ length inner = omega arith in

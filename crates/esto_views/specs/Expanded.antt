@@ -18,7 +18,8 @@ abbrev pub placed : ℕ → ℕ → List (Fact Term) → List ExpandedFact
 placed atom place [] = []
 placed atom place (fact ∷ facts) = record { atom = atom; place = place; fact = fact } ∷ placed atom (place + 1) facts
 
--- The expanded facts of the atoms, one atom after the other: the first one has this number, and its new variables are numbered from `first` on. An atom has its view's body, place by place, under what the view's terms stand for in it; the new variables of the next atom come after its own.
+-- The expanded facts of the atoms, one atom after the other: the first one has this number, and its new variables are numbered from `first` on. An atom has
+-- its view's body, place by place, under what the view's terms stand for in it; the new variables of the next atom come after its own.
 abbrev pub AreExpanded : List FragmentDef → ℕ → ℕ → List PlanAtom → List ExpandedFact → Type 0
 AreExpanded fragments number first [] expanded = expanded ≡ []
 AreExpanded fragments number first (atom ∷ atoms) expanded =
@@ -31,7 +32,8 @@ AreExpanded fragments number first (atom ∷ atoms) expanded =
 abbrev pub facts_of : List ExpandedFact → List (Fact Term)
 facts_of expanded = map (λ fact. fact.fact) expanded
 
--- The expanded facts are an expansion of the plan, and each says of which atom it is, and of which place of the view's body: the fact at a place of an atom is the image of what stands there in the body.
+-- The expanded facts are an expansion of the plan, and each says of which atom it is, and of which place of the view's body: the fact at a place of an atom
+-- is the image of what stands there in the body.
 pub record Expands (plan : Plan) (fragments : List FragmentDef) (expanded : List ExpandedFact) : Type 0 where
   pub of : IsExpansion (views_of fragments) (plan_query plan) (facts_of expanded)
   pub exact : (fact : ExpandedFact) → Contains expanded fact

@@ -19,7 +19,8 @@ patterns_of fragments = map (λ fragment. fragment.access) fragments
 abbrev pub weights_of : List FragmentDef → List ℕ
 weights_of fragments = map (λ fragment. fragment.weight) fragments
 
--- A fragment is well made: the head of its view is of distinct variables, and it has one or more patterns, each of which says of as many columns whether they are inputs.
+-- A fragment is well made: the head of its view is of distinct variables, and it has one or more patterns, each of which says of as many columns whether they
+-- are inputs.
 pub record IsFragment (fragment : FragmentDef) : Type 0 where
   pub has_pattern : fragment.access ≢ []
   pub variables : (term : Term) → Contains fragment.view.head term → IsVariable term

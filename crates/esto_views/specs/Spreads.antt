@@ -13,7 +13,8 @@ pub record AreInner (view : ConjunctiveQuery) (numbers : List ℕ) : Type 0 wher
   pub exact : (number : ℕ) → Contains numbers number ↔ IsInner view (Plain number)
   pub rising : AllPairs ◌<◌ numbers
 
--- The map says what the terms of a view stand for in an atom: it keeps constants, sends the view's head to the atom's terms, and sends the inner variables, by rising number, to the variables with the numbers from `first` on; the number after them is `next`.
+-- The map says what the terms of a view stand for in an atom: it keeps constants, sends the view's head to the atom's terms, and sends the inner variables,
+-- by rising number, to the variables with the numbers from `first` on; the number after them is `next`.
 pub record IsSpread (view : ConjunctiveQuery) (terms : List Term) (first next : ℕ) (m : Term → Term) : Type 0 where
   pub inner : List ℕ
   pub are_inner : AreInner view inner

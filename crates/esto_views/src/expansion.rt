@@ -47,7 +47,8 @@ fn push_facts(
     expanded: &mut ExpandedFacts,
 ) -> Result<(), OutOfMemory>
     requires { length spread.now.from ≡ length spread.now.to }
-    ensures { OnOk result (expanded.new ≡ expanded.old ++ placed number 0 (map (image (substituted spread.now.from spread.now.to)) body.now)) }
+    ensures { OnOk result (expanded.new ≡ expanded.old
+        ++ placed number 0 (map (image (substituted spread.now.from spread.now.to)) body.now)) }
 {
     'parts: for (place, part) in body.iter().enumerate() {
         let fact = spread.atom(alloc, part)?;
@@ -67,7 +68,8 @@ fn expanded_facts(
     fragments: &FragmentDefs,
 ) -> Result<ExpandedFacts, OutOfMemory>
     requires { IsPlanOver plan.now fragments.now }
-    ensures { IfOk result (λ expanded. AreExpanded fragments.now 0 (length plan.now.names) plan.now.atoms expanded) }
+    ensures { IfOk result (λ expanded.
+        AreExpanded fragments.now 0 (length plan.now.names) plan.now.atoms expanded) }
 {
     let mut expanded = List::new(alloc);
     let mut first = plan.names.len() as u64;
@@ -96,7 +98,8 @@ pub fn expand(
     fragments: &FragmentDefs,
 ) -> Result<ExpandedFacts, OutOfMemory>
     requires { IsPlanOver plan.now fragments.now }
-    ensures exact { IfOk result (λ expanded. AreExpanded fragments.now 0 (length plan.now.names) plan.now.atoms expanded) }
+    ensures exact { IfOk result (λ expanded.
+        AreExpanded fragments.now 0 (length plan.now.names) plan.now.atoms expanded) }
     ensures expands { IfOk result (λ expanded. Expands plan.now fragments.now expanded) }
 {
     plans_are_sound();

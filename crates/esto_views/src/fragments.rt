@@ -48,8 +48,10 @@ pub fn rows_of_view(
     fragment: &FragmentDef,
     facts: &Facts,
 ) -> Result<TermRows, OutOfMemory>
-    ensures rows { IfOk result (λ rows. (row : List Term) → Contains rows row ↔ IsAnswerInto Const (query_of fragment.now.view) (Contains facts.now) row) }
-    ensures ascending { IfOk result (λ rows. AllPairs (λ row other. slice_cmp term_cmp row other ≡ Less) rows) }
+    ensures rows { IfOk result (λ rows. (row : List Term) → Contains rows row
+        ↔ IsAnswerInto Const (query_of fragment.now.view) (Contains facts.now) row) }
+    ensures ascending { IfOk result (λ rows.
+        AllPairs (λ row other. slice_cmp term_cmp row other ≡ Less) rows) }
 {
     answers(alloc, &fragment.view, facts)
 }

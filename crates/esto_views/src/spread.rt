@@ -30,7 +30,9 @@ pub fn spread_of(
 ) -> Result<Spread, OutOfMemory>
     requires fragment { IsFragment fragment.now }
     requires columns { length terms.now ≡ length fragment.now.view.head }
-    ensures spread { IfOk result (λ spread. IsSpread (query_of fragment.now.view) terms.now first spread.next (substituted spread.from spread.to)) }
+    ensures spread { IfOk result (λ spread.
+        IsSpread (query_of fragment.now.view) terms.now first spread.next
+        (substituted spread.from spread.to)) }
     ensures same_length { IfOk result (λ spread. length spread.from ≡ length spread.to) }
 {
     let inner = inner_variables(alloc, &fragment.view)?;
@@ -65,7 +67,8 @@ impl Spread {
     /// The atom with what each of its terms stands for.
     pub fn atom(&self, alloc: Global, atom: &Atom) -> Result<Atom, OutOfMemory>
         requires { length self.now.from ≡ length self.now.to }
-        ensures { IfOk result (λ fact. fact ≡ image (substituted self.now.from self.now.to) atom.now) }
+        ensures { IfOk result (λ fact.
+            fact ≡ image (substituted self.now.from self.now.to) atom.now) }
     {
         let mut terms = List::new(alloc);
         'terms: for term in atom.terms.items() {

@@ -4,11 +4,13 @@ use Rattle.esto_views.proofs.SubstitutionLemmas.{spread_none, spread_more, sprea
 use Rattle.esto_views.proofs.spread.spread_of.Goals as goal
 
 pub inner-init : goal.inner-init
-inner-init c = rw (c.in_ok-from.ensures, c.in_ok-to.ensures) (spread_none c.args.fragment.now.view.head c.args.terms.now c.items-number-items.result.now c.args.first)
+inner-init c = rw (c.in_ok-from.ensures, c.in_ok-to.ensures) (spread_none c.args.fragment.now.view.head c.args.terms.now c.items-number-items.result.now
+    c.args.first)
 
 pub inner-preserved : goal.inner-preserved
 inner-preserved c =
-    spread_more _ _ _ _ c.inner.number-index _ _ _ _ _ _ _ c.inner-test.true refl c.in_ok-push.ensures.ok c.in_ok-push-2.ensures.ok c.in-Some.ensures.1 c.inner.invariant
+    spread_more _ _ _ _ c.inner.number-index _ _ _ _ _ _ _ c.inner-test.true refl c.in_ok-push.ensures.ok c.in_ok-push-2.ensures.ok c.in-Some.ensures.1
+    c.inner.invariant
 
 pub returns-clause-spread : goal.returns-clause-spread
 returns-clause-spread c =

@@ -6,7 +6,8 @@ use Rattle.esto_term.proofs.ListLemmas.{thing_at}
 
 pub returns-then-is_eq : goal.returns-then-is_eq
 returns-then-is_eq c =
-    let here = substituted_here c.args.self.now.from c.args.self.now.to c.places.place c.args.term.now c.item.result.now c.item-then-is_eq.result.now c.is_eq.result
+    let here = substituted_here c.args.self.now.from c.args.self.now.to c.places.place c.args.term.now c.item.result.now c.item-then-is_eq.result.now
+    c.is_eq.result
     c.item.ensures c.item-then-is_eq.ensures (rw c.compare.ensures at c.is_eq.ensures) c.if-is_eq.true in
     IfOk-weaker c.copy.result _ _ (λ target is. is ∙ sym here ∙ c.places.invariant) c.copy.ensures
 
