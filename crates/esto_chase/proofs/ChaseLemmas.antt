@@ -1,0 +1,91 @@
+-- The run goes on by the steps that are taken, and comes to an end.
+use Rattle.std.proofs.Common.{◌≡◌, ℕ, suc, ◌-◌, ◌<◌, ◌≤◌, List, [], ◌∷◌, length, get_or, refl, sym, ap, ◌∙◌, subst, arith, inl, inr}
+use Rattle.std.specs.Prelude.{slice_index}
+use Rattle.std.proofs.Math.ListN.{get_or-eq_default}
+use Rattle.std.proofs.lemmas.Bool.{cases_lt}
+use Rattle.std.proofs.lemmas.List.{map-append, length-append, length-map}
+use Rattle.either.specs.Either.{MatchEither}
+use Rattle.either.specs.declared.Either.{Either}
+use Rattle.either.specs.declared.Either.TheVariants.{Left, Right}
+use Rattle.esto_term.specs.Nesting.{greatest_u64}
+use Rattle.esto_term.proofs.ListLemmas.{Contains-map_from}
+use Rattle.esto_semantics.specs.Queries.{ConjunctiveQuery}
+use Rattle.esto_semantics.specs.Rules.{Rule, IsRule, AreRules}
+use Rattle.esto_semantics.specs.Containment.{IsSatisfiable}
+use Rattle.esto_constraint.specs.Constraints.{rule_of, rules_of}
+use Rattle.esto_constraint.specs.declared.rule.Constraint.{Constraint}
+use Rattle.esto_acyclic.specs.Relations.{IsEdge}
+use Rattle.esto_chase_laws.specs.Bounds.{RanksRise, most_steps}
+use Rattle.esto_chase_laws.specs.Runs.{Step, IsRun, begun, went}
+use Rattle.esto_instance.specs.Instances.{state_of, trace_of, step_of, steps_of}
+use Rattle.esto_instance.specs.declared.instance.Instance.{Instance}
+use Rattle.esto_chase.specs.Chased.{ReceivesNothing}
+use Rattle.esto_chase.specs.Steps.{IsTaken}
+
+-- ---- the rules and their ranks
+
+pub rules-AreRules : (rules : List Constraint) → ((constraint : Constraint) → IsRule (rule_of constraint)) → AreRules (rules_of rules)
+rules-AreRules rules sound rule inside = let from = Contains-map_from rule_of rules rule inside in subst IsRule from.2 (sound from.0)
+
+pub ranks-RanksRise : (rules : List Rule) (ranks : List ℕ) → ((from to : ℕ) → IsEdge rules from to → slice_index ranks from < slice_index ranks to)
+    → RanksRise rules (slice_index ranks)
+ranks-RanksRise rules ranks rise body head inside atom made in_body in_head =
+    rise atom.relation made.relation (body, head, inside, (atom, in_body, refl), (made, in_head, refl))
+
+-- the greatest that a rank may be
+abbrev pub depth_of : List ℕ → ℕ
+depth_of ranks = length ranks - 1
+
+pub ranks-small : (ranks : List ℕ) → ((relation : ℕ) → relation < length ranks → slice_index ranks relation < length ranks)
+    → (relation : ℕ) → slice_index ranks relation ≤ depth_of ranks
+ranks-small ranks small relation = elim (cases_lt relation (length ranks)) [
+  | inl within ↦ omega (arith, small relation within)
+  | inr past ↦ let none : get_or ranks relation 0 ≡ 0 = get_or-eq_default ranks 0 past in omega (arith, none)
+]
+
+pub depth-small : (ranks : List ℕ) (count : ℕ) → count ≡ length ranks → count ≤ 18446744073709551615 → depth_of ranks < greatest_u64
+depth-small ranks count is fits = omega (arith, is, fits)
+
+-- ---- the run goes on
+
+module _ (rules : List Rule) (start : ConjunctiveQuery) where
+  -- the instance's trace is a run from the start to its state
+  abbrev pub HasRun : Instance → Type 0
+  HasRun instance = IsRun rules start (steps_of (trace_of instance)) (state_of instance)
+
+  pub run-begun : (instance : Instance) → state_of instance ≡ start → trace_of instance ≡ [] → HasRun instance
+  run-begun instance is none =
+      subst (λ now. IsRun rules start (steps_of (trace_of instance)) now) (sym is)
+      (subst (λ trace. IsRun rules start (steps_of trace) start) (sym none) begun)
+
+  pub run-went : (old new : Instance) → HasRun old → IsTaken rules old new → HasRun new
+  run-went old new run taken =
+      subst (λ trace. IsRun rules start trace (state_of new))
+      (sym (ap steps_of taken.trace ∙ map-append step_of (trace_of old) (taken.step ∷ [])))
+      (went (steps_of (trace_of old)) (state_of old) (step_of taken.step) (state_of new) run taken.is_step)
+
+  pub one_step_longer : (old new : Instance) → IsTaken rules old new → length (trace_of new) ≡ suc (length (trace_of old))
+  one_step_longer old new taken = ap length taken.trace ∙ (omega (arith, length-append (trace_of old) (taken.step ∷ [])))
+
+  -- what is left of the bound of steps
+  abbrev pub left_of : ℕ → Instance → ℕ
+  left_of depth instance = most_steps rules start depth - length (trace_of instance)
+
+  pub fewer_left : (depth : ℕ) → ((trace : List Step) (now : ConjunctiveQuery) → IsRun rules start trace now → length trace ≤ most_steps rules start depth)
+      → (old new : Instance) → HasRun old → IsTaken rules old new → left_of depth new < left_of depth old
+  fewer_left depth bounded old new run taken =
+      let bound = bounded (steps_of (trace_of new)) (state_of new) (run-went old new run taken) in
+      omega (arith, bound, length-map (trace_of new) step_of, one_step_longer old new taken)
+
+-- ---- what a clash says
+
+pub nothing-unsatisfiable : (rules : List Rule) (start : ConjunctiveQuery) → ReceivesNothing rules start → ¬ (IsSatisfiable rules start)
+nothing-unsatisfiable rules start nothing (database, meets, (row, (m, keeps, sends, is))) = nothing database meets m keeps sends
+
+-- ---- outcomes
+
+-- what follows for either outcome
+pub on_either : {A B : Type 0} {P Q : A → Type 0} {R S : B → Type 0} (outcome : Either A B) → ((left : A) → P left → Q left) → ((right : B) → R right → S right)
+    → MatchEither outcome P R → MatchEither outcome Q S
+on_either (Left left) there back told = there left told
+on_either (Right right) there back told = back right told

@@ -1,0 +1,4 @@
+pub mod MakingLemmas
+pub mod NextLemmas
+pub mod StepLemmas
+pub mod ChaseLemmas

@@ -1,0 +1,4 @@
+pub mod Next
+pub mod Made
+pub mod Steps
+pub mod Chased

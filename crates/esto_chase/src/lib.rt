@@ -1,0 +1,10 @@
+//! The standard chase: a run of steps from a start to facts that meet the rules, or to a clash.
+#![tactic(auto)]
+
+mod chasing;
+mod making;
+mod next;
+mod steps;
+
+pub use chasing::{Chased, chase};
+pub use esto_chase_laws::Clash;

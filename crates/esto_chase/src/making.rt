@@ -1,0 +1,162 @@
+//! The facts that a tuple rule makes of a match of its body.
+ghost use Rattle.std.specs.Prelude.{◌≡◌, [], ◌∷◌, map, IfOk, OnOk};
+ghost use Rattle.std.specs.List.{filter};
+ghost use Rattle.esto_term.specs.Order.{same_term};
+ghost use Rattle.esto_semantics.specs.Facts.{image};
+ghost use Rattle.esto_query.specs.Valuations.{map_of};
+ghost use Rattle.esto_constraint.specs.Tests.{IsOver};
+ghost use Rattle.esto_chase_laws.specs.Joined.{joined_by};
+ghost use Rattle.esto_chase_laws.specs.Making.{is_variable_of, frontier, made_facts};
+ghost use Rattle.esto_chase.specs.Made.{made_by};
+
+use esto_constraint::{Tgd, rules_are_sound, value_of};
+use esto_query::{Valuation, mentions};
+use esto_semantics::{Atom, Facts};
+use esto_term::{List, OutOfMemory, Replicate, Term, Terms, has_term};
+use std::alloc::Global;
+
+/// Whether the term is a variable that stands in the atoms.
+fn is_variable_of(atoms: &[Atom], term: &Term) -> bool
+    ensures { result ≡ is_variable_of atoms.now term.now }
+{
+    match term {
+        Term::Plain(_) => mentions(atoms, term),
+        Term::Const(_) => false,
+        Term::Made(_, _, _) => false,
+    }
+}
+
+/// Puts the term at the end, where it is a variable of the head and is not there yet.
+fn add_variable(
+    alloc: Global,
+    term: &Term,
+    head: &[Atom],
+    shared: &mut Terms,
+) -> Result<(), OutOfMemory>
+    ensures { OnOk result (shared.new ≡
+        joined_by same_term shared.old (filter (is_variable_of head.now) (term.now ∷ []))) }
+{
+    if !is_variable_of(head, term) || has_term(shared.items(), term) {
+        return Ok(());
+    }
+    shared.push(term.copy(alloc)?)?;
+    Ok(())
+}
+
+/// Puts those of the terms at the end that are variables of the head and are not there yet.
+fn add_variables(
+    alloc: Global,
+    terms: &[Term],
+    head: &[Atom],
+    shared: &mut Terms,
+) -> Result<(), OutOfMemory>
+    ensures { OnOk result (shared.new ≡
+        joined_by same_term shared.old (filter (is_variable_of head.now) terms.now)) }
+{
+    'terms: for term in terms {
+        add_variable(alloc, term, head, shared)?;
+    }
+    Ok(())
+}
+
+/// The frontier: the variables that are in body and head, in order of first occurrence in the body.
+fn frontier_of(alloc: Global, body: &[Atom], head: &[Atom]) -> Result<Terms, OutOfMemory>
+    ensures { IfOk result (λ it. it ≡ frontier body.now head.now) }
+{
+    let mut shared = List::new(alloc);
+    'atoms: for atom in body {
+        add_variables(alloc, atom.terms.items(), head, &mut shared)?;
+    }
+    Ok(shared)
+}
+
+/// The terms' values.
+fn values_of(alloc: Global, valuation: &Valuation, terms: &[Term]) -> Result<Terms, OutOfMemory>
+    ensures { IfOk result (λ it. it ≡ map (map_of valuation.now) terms.now) }
+{
+    let mut values = List::new(alloc);
+    'terms: for term in terms {
+        values.push(value_of(valuation, term).copy(alloc)?)?;
+    }
+    Ok(values)
+}
+
+/// What the rule makes of a term of its head, where it has that number and these values of its frontier: the value of a
+/// variable that has one, a made term for another variable, and a constant itself.
+fn make_term(
+    alloc: Global,
+    number: usize,
+    values: &Terms,
+    valuation: &Valuation,
+    term: &Term,
+) -> Result<Term, OutOfMemory>
+    ensures { IfOk result (λ it. it ≡ made_by number values.now valuation.now term.now) }
+{
+    match term {
+        Term::Plain(variable) => match valuation.value(*variable) {
+            Some(value) => value.copy(alloc),
+            None => {
+                let frontier = values.copy(alloc)?;
+                Ok(Term::Made(number as u64, *variable, frontier))
+            }
+        },
+        Term::Const(_) => term.copy(alloc),
+        Term::Made(_, _, _) => term.copy(alloc),
+    }
+}
+
+/// What the rule makes of a row of its head.
+fn make_row(
+    alloc: Global,
+    number: usize,
+    values: &Terms,
+    valuation: &Valuation,
+    row: &[Term],
+) -> Result<Terms, OutOfMemory>
+    ensures { IfOk result (λ it. it ≡ map (made_by number values.now valuation.now) row.now) }
+{
+    let mut made = List::new(alloc);
+    'terms: for term in row {
+        made.push(make_term(alloc, number, values, valuation, term)?)?;
+    }
+    Ok(made)
+}
+
+/// What the rule makes of the atoms of its head.
+fn make_all(
+    alloc: Global,
+    number: usize,
+    values: &Terms,
+    valuation: &Valuation,
+    head: &[Atom],
+) -> Result<Facts, OutOfMemory>
+    ensures { IfOk result (λ it. it ≡ map (image (made_by number values.now valuation.now)) head.now) }
+{
+    let mut facts = List::new(alloc);
+    'atoms: for atom in head {
+        let terms = make_row(alloc, number, values, valuation, atom.terms.items())?;
+        facts.push(Atom {
+            relation: atom.relation,
+            terms,
+        })?;
+    }
+    Ok(facts)
+}
+
+/// The facts that the rule of that number makes of a match of its body: its head, in which each variable that is not in
+/// the body is a term that the rule makes for it, at the values of the frontier.
+pub fn made_facts(
+    alloc: Global,
+    number: usize,
+    rule: &Tgd,
+    valuation: &Valuation,
+) -> Result<Facts, OutOfMemory>
+    requires { IsOver rule.now.body valuation.now }
+    ensures { IfOk result (λ it. it ≡ made_facts number rule.now.body rule.now.head (map_of valuation.now)) }
+{
+    rules_are_sound();
+    let shared = frontier_of(alloc, rule.body.items(), rule.head.items())?;
+    let values = values_of(alloc, valuation, shared.items())?;
+    let facts = make_all(alloc, number, &values, valuation, rule.head.items())?;
+    Ok(facts)
+}
