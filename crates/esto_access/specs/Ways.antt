@@ -1,5 +1,5 @@
 -- The way in which an atom is read.
-use Rattle.std.specs.Prelude.{◌≡◌, ℕ, ◌<◌, Bool, List, Some, slice_get, Contains}
+use Rattle.std.specs.Prelude.{◌≡◌, ℕ, ◌<◌, Bool, List, Option, Some, MatchOption, slice_get, Contains}
 use Rattle.esto_term.specs.declared.term.Term.{Term}
 use Rattle.esto_semantics.specs.Access.{MeetsPattern}
 use Rattle.esto_semantics.specs.declared.fact.Fact.{Fact}
@@ -14,3 +14,7 @@ pub record IsFirstMet (atoms : List (Fact Term)) (Chosen : ℕ → Type 0) (atom
   pub at : slice_get patterns place ≡ Some pattern
   pub meets : MeetsPattern atoms Chosen atom pattern
   pub first : (lesser : ℕ) (other : List Bool) → lesser < place → slice_get patterns lesser ≡ Some other → ¬ (MeetsPattern atoms Chosen atom other)
+
+-- The way in which the atom is read is the first pattern that it meets; None comes where it meets none.
+abbrev pub IsWay : List (Fact Term) → (ℕ → Type 0) → Fact Term → List (List Bool) → Option ℕ → Type 0
+IsWay atoms Chosen atom patterns way = MatchOption way (MeetsNone atoms Chosen atom patterns) (IsFirstMet atoms Chosen atom patterns)

@@ -1,5 +1,5 @@
 //! Which atoms of a plan are accessible after some of them.
-ghost use Rattle.std.specs.Prelude.{ℕ, ◌≡◌, ◌↔◌, [], slice_get, slice_index_or, MatchOption, Some, IsTrue, Contains};
+ghost use Rattle.std.specs.Prelude.{ℕ, ◌≡◌, ◌↔◌, [], slice_get, slice_index_or, Some, IsTrue, Contains};
 ghost use Rattle.esto_term.specs.declared.term.Term.{Term};
 ghost use Rattle.esto_semantics.specs.declared.fact.Fact.{Fact};
 ghost use Rattle.esto_semantics.specs.Access.{IsInput, IsBound, MeetsPattern, IsAccessible};
@@ -7,7 +7,7 @@ ghost use Rattle.esto_semantics.specs.Sets.{Has};
 ghost use Rattle.esto_views.specs.Fragments.{patterns_of};
 ghost use Rattle.esto_views.specs.Plans.{fact_of, plan_query};
 ghost use Rattle.esto_access.specs.Runs.{CanFollow};
-ghost use Rattle.esto_access.specs.Ways.{IsFirstMet, MeetsNone};
+ghost use Rattle.esto_access.specs.Ways.{IsWay};
 
 use esto_bits::RowBits;
 use esto_term::{Term, has_term};
@@ -22,7 +22,8 @@ pub(crate) fn is_input(pattern: &Access, column: usize) -> bool
 
 /// Whether the plan has an atom of this number, and the term occurs in it.
 fn occurs_at(plan: &Plan, number: usize, term: &Term) -> bool
-    ensures { IsTrue result ↔ ((atom : Fact Term) × (slice_get (plan_query plan.now).body number ≡ Some atom) × Contains atom.terms term.now) }
+    ensures { IsTrue result ↔ ((atom : Fact Term)
+        × (slice_get (plan_query plan.now).body number ≡ Some atom) × Contains atom.terms term.now) }
 {
     if number >= plan.atoms.len() {
         return false;
@@ -47,7 +48,8 @@ fn is_bound(plan: &Plan, earlier: &[usize], term: &Term) -> bool
 
 /// Whether the atom meets the pattern after the atoms of these numbers.
 fn meets_pattern(plan: &Plan, earlier: &[usize], atom: &PlanAtom, pattern: &Access) -> bool
-    ensures { IsTrue result ↔ MeetsPattern (plan_query plan.now).body (Contains earlier.now) (fact_of atom.now) pattern.now }
+    ensures { IsTrue result ↔ MeetsPattern (plan_query plan.now).body (Contains earlier.now)
+        (fact_of atom.now) pattern.now }
 {
     'columns: for (column, term) in atom.terms.items().iter().enumerate() {
         if is_input(pattern, column) && !is_bound(plan, earlier, term) {
@@ -64,7 +66,8 @@ fn first_met(
     atom: &PlanAtom,
     patterns: &AccessList,
 ) -> Option<usize>
-    ensures { MatchOption result (MeetsNone (plan_query plan.now).body (Contains earlier.now) (fact_of atom.now) patterns.now) (IsFirstMet (plan_query plan.now).body (Contains earlier.now) (fact_of atom.now) patterns.now) }
+    ensures { IsWay (plan_query plan.now).body (Contains earlier.now) (fact_of atom.now)
+        patterns.now result }
 {
     'patterns: for (place, pattern) in patterns.items().iter().enumerate() {
         if meets_pattern(plan, earlier, atom, pattern) {
@@ -82,7 +85,8 @@ pub fn way_of(
     earlier: &[usize],
     atom: &PlanAtom,
 ) -> Option<usize>
-    ensures { MatchOption result (MeetsNone (plan_query plan.now).body (Contains earlier.now) (fact_of atom.now) (slice_index_or (patterns_of fragments.now) atom.now.fragment [])) (IsFirstMet (plan_query plan.now).body (Contains earlier.now) (fact_of atom.now) (slice_index_or (patterns_of fragments.now) atom.now.fragment [])) }
+    ensures { IsWay (plan_query plan.now).body (Contains earlier.now) (fact_of atom.now)
+        (slice_index_or (patterns_of fragments.now) atom.now.fragment []) result }
 {
     if atom.fragment >= fragments.len() {
         return None;
@@ -92,7 +96,8 @@ pub fn way_of(
 
 /// Whether the atom is accessible after the atoms of these numbers.
 fn is_accessible(plan: &Plan, fragments: &FragmentDefs, earlier: &[usize], atom: &PlanAtom) -> bool
-    ensures { IsTrue result ↔ IsAccessible (patterns_of fragments.now) (plan_query plan.now).body (Contains earlier.now) (fact_of atom.now) }
+    ensures { IsTrue result ↔ IsAccessible (patterns_of fragments.now)
+        (plan_query plan.now).body (Contains earlier.now) (fact_of atom.now) }
 {
     way_of(plan, fragments, earlier, atom).is_some()
 }
@@ -113,7 +118,8 @@ pub(crate) fn can_follow(
     earlier: &[usize],
     number: usize,
 ) -> bool
-    ensures { IsTrue result ↔ CanFollow (patterns_of fragments.now) (plan_query plan.now).body set.now earlier.now number }
+    ensures { IsTrue result ↔ CanFollow (patterns_of fragments.now) (plan_query plan.now).body
+        set.now earlier.now number }
 {
     if number >= plan.atoms.len() || number >= set.count() || !set.has(number) {
         return false;

@@ -23,7 +23,9 @@ pub fn order_of(
     plan: &Plan,
     fragments: &FragmentDefs,
 ) -> Result<Option<Order>, OutOfMemory>
-    ensures { IfOk result (λ it. MatchOption it (¬ (IsExecutable (patterns_of fragments.now) (plan_query plan.now).body set.now)) (IsStatedOrder (patterns_of fragments.now) (plan_query plan.now).body set.now)) }
+    ensures { IfOk result (λ it. MatchOption it
+        (¬ (IsExecutable (patterns_of fragments.now) (plan_query plan.now).body set.now))
+        (IsStatedOrder (patterns_of fragments.now) (plan_query plan.now).body set.now)) }
 {
     if set.count() != plan.atoms.len() {
         return Ok(None);
@@ -39,7 +41,9 @@ pub fn order_of(
 /// Whether each number of the list is in the set, is not named before, and has an atom that is accessible after the
 /// atoms named before.
 fn each_follows(order: &[usize], set: &RowBits, plan: &Plan, fragments: &FragmentDefs) -> bool
-    ensures { IsTrue result ↔ ((place number : ℕ) → slice_get order.now place ≡ Some number → CanFollow (patterns_of fragments.now) (plan_query plan.now).body set.now (take place order.now) number) }
+    ensures { IsTrue result ↔ ((place number : ℕ) → slice_get order.now place ≡ Some number
+        → CanFollow (patterns_of fragments.now) (plan_query plan.now).body set.now
+            (take place order.now) number) }
 {
     'places: for (place, number) in order.iter().enumerate() {
         if !can_follow(set, plan, fragments, &order[..place], *number) {
@@ -52,7 +56,8 @@ fn each_follows(order: &[usize], set: &RowBits, plan: &Plan, fragments: &Fragmen
 /// Whether the list is an order of the set of the plan's atoms: it names each atom of the set once and no other, and
 /// each is accessible after the earlier ones.
 pub fn is_order(order: &Order, set: &RowBits, plan: &Plan, fragments: &FragmentDefs) -> bool
-    ensures { IsTrue result ↔ IsOrder (patterns_of fragments.now) (plan_query plan.now).body set.now order.now }
+    ensures { IsTrue result ↔ IsOrder (patterns_of fragments.now) (plan_query plan.now).body
+        set.now order.now }
 {
     if set.count() != plan.atoms.len() {
         return false;
@@ -67,7 +72,8 @@ pub fn reached(
     plan: &Plan,
     fragments: &FragmentDefs,
 ) -> Result<RowBits, OutOfMemory>
-    ensures { IfOk result (IsAccessiblePart (patterns_of fragments.now) (plan_query plan.now).body set.now) }
+    ensures { IfOk result
+        (IsAccessiblePart (patterns_of fragments.now) (plan_query plan.now).body set.now) }
 {
     let order = greedy_order(alloc, set, plan, fragments)?;
     let part = RowBits::of(alloc, plan.atoms.len(), order.items())?;

@@ -17,7 +17,9 @@ fn next_number(
     fragments: &FragmentDefs,
     earlier: &[usize],
 ) -> Option<usize>
-    ensures { MatchOption result (NoneFollows (patterns_of fragments.now) (plan_query plan.now).body set.now earlier.now) (IsFirstFollower (patterns_of fragments.now) (plan_query plan.now).body set.now earlier.now) }
+    ensures { MatchOption result
+        (NoneFollows (patterns_of fragments.now) (plan_query plan.now).body set.now earlier.now)
+        (IsFirstFollower (patterns_of fragments.now) (plan_query plan.now).body set.now earlier.now) }
 {
     'numbers: for number in 0..plan.atoms.len() {
         if can_follow(set, plan, fragments, earlier, number) {
@@ -34,8 +36,10 @@ pub(crate) fn greedy_order(
     plan: &Plan,
     fragments: &FragmentDefs,
 ) -> Result<Places, OutOfMemory>
-    ensures run { IfOk result (λ order. (part : List Bool) × IsRun (patterns_of fragments.now) (plan_query plan.now).body set.now part order) }
-    ensures stuck { IfOk result (NoneFollows (patterns_of fragments.now) (plan_query plan.now).body set.now) }
+    ensures run { IfOk result (λ order. (part : List Bool)
+        × IsRun (patterns_of fragments.now) (plan_query plan.now).body set.now part order) }
+    ensures stuck { IfOk result
+        (NoneFollows (patterns_of fragments.now) (plan_query plan.now).body set.now) }
 {
     let mut order = Values::new(alloc);
     'turns: while let Some(number) = next_number(set, plan, fragments, order.items()) {

@@ -134,7 +134,8 @@ impl Search<'_> {
         requires below { (number : ℕ) → Has set.now number → number < place }
         ensures count { OnOk result (found.new.count ≡ found.old.count) }
         ensures visited { OnOk result (Visited
-            (Passes (query_of self.now.query.now) (plan_query self.now.plan.now) self.now.expanded.now)
+            (Passes (query_of self.now.query.now) (plan_query self.now.plan.now)
+                self.now.expanded.now)
             (AgreesBelow place set.now) found.old.sets found.new.sets) }
     {
         if found.covered(set) {

@@ -110,7 +110,8 @@ impl Products {
 
     /// The kept sets by size, then by their rising lists of numbers, compared as lists.
     pub fn sorted(&self, alloc: Global) -> Result<SetList, OutOfMemory>
-        ensures members { IfOk result (λ it. (set : List Bool) → Contains it set ↔ Contains self.now.sets set) }
+        ensures members { IfOk result
+            (λ it. (set : List Bool) → Contains it set ↔ Contains self.now.sets set) }
         ensures in_order { IfOk result AreInOrder }
     {
         let mut sets = copied(alloc, self.sets.as_slice())?;

@@ -45,7 +45,8 @@ impl RowBits {
     pub fn of(alloc: Global, atoms: usize, numbers: &[usize]) -> Result<RowBits, OutOfMemory>
         requires { All (λ number. number < atoms) numbers.now }
         ensures count { IfOk result (λ it. length it ≡ atoms) }
-        ensures has { IfOk result (λ it. (number : ℕ) → Has it number ↔ Contains numbers.now number) }
+        ensures has { IfOk result
+            (λ it. (number : ℕ) → Has it number ↔ Contains numbers.now number) }
     {
         let mut set = RowBits::new(alloc, atoms)?;
         set.insert_all(numbers);
@@ -97,7 +98,8 @@ impl RowBits {
     pub fn union(&mut self, other: &RowBits)
         requires { length self.old ≡ length other.now }
         ensures value { self.new ≡ united self.old other.now }
-        ensures has { (number : ℕ) → Has self.new number ↔ (Has self.old number ⊎ Has other.now number) }
+        ensures has { (number : ℕ) → Has self.new number
+            ↔ (Has self.old number ⊎ Has other.now number) }
         ensures count { length self.new ≡ length self.old }
     {
         add_bits(&mut self.words, other.words.as_slice());
@@ -142,7 +144,8 @@ impl RowBits {
     fn insert_all(&mut self, numbers: &[usize])
         requires { All (λ number. number < length self.old) numbers.now }
         ensures count { length self.new ≡ length self.old }
-        ensures has { (number : ℕ) → Has self.new number ↔ (Contains numbers.now number ⊎ Has self.old number) }
+        ensures has { (number : ℕ) → Has self.new number
+            ↔ (Contains numbers.now number ⊎ Has self.old number) }
     {
         'numbers: for number in numbers {
             self.insert(*number);
