@@ -2,12 +2,8 @@ use Rattle.esto_constraint.specs.Constraints.{rules_of}
 use Rattle.esto_query.specs.Making.{query_of}
 use Rattle.esto_views.specs.Fragments.{views_of, patterns_of}
 use Rattle.esto_views.specs.Plans.{plan_query}
-use Rattle.esto_top.proofs.PlainLemmas.{no_rules, all_open, listed_sets}
+use Rattle.esto_top.proofs.PlainLemmas.{no_rules, listed_sets}
 use Rattle.esto_top.proofs.list.listing_of.Goals as goal
-
-pub minimal_sets_plain-requires-clause-all_open : goal.minimal_sets_plain-requires-clause-all_open
-minimal_sets_plain-requires-clause-all_open c = all_open c.args.plan.now c.args.catalogue.now.fragments c.requires.over
-    (c.catalogues_are_sound.ensures c.args.catalogue.now).outputs
 
 pub of-requires-clause-distinct : goal.of-requires-clause-distinct
 of-requires-clause-distinct c = c.stated_plans_have_distinct_atoms.ensures _ _ _ c.args.plan.now c.requires.stated
