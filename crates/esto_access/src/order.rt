@@ -43,7 +43,7 @@ pub fn order_of(
 fn each_follows(order: &[usize], set: &RowBits, plan: &Plan, fragments: &FragmentDefs) -> bool
     ensures { IsTrue result ↔ ((place number : ℕ) → slice_get order.now place ≡ Some number
         → CanFollow (patterns_of fragments.now) (plan_query plan.now).body set.now
-            (take place order.now) number) }
+        (take place order.now) number) }
 {
     'places: for (place, number) in order.iter().enumerate() {
         if !can_follow(set, plan, fragments, &order[..place], *number) {

@@ -135,7 +135,7 @@ impl Search<'_> {
         ensures count { OnOk result (found.new.count ≡ found.old.count) }
         ensures visited { OnOk result (Visited
             (Passes (query_of self.now.query.now) (plan_query self.now.plan.now)
-                self.now.expanded.now)
+            self.now.expanded.now)
             (AgreesBelow place set.now) found.old.sets found.new.sets) }
     {
         if found.covered(set) {
