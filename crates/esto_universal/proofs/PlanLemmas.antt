@@ -8,9 +8,6 @@ use Rattle.esto_term.specs.declared.term.Term.{Term}
 use Rattle.esto_term.specs.declared.term.Term.TheVariants.{Plain}
 use Rattle.esto_semantics.specs.Facts.{image}
 use Rattle.esto_semantics.specs.Maps.{IsConstant}
-use Rattle.esto_plan_laws.specs.UnionLaws.{RowsReceiveUnions}
-use Rattle.esto_semantics.specs.Instances.{IsUniversalFor, IsFinished}
-use Rattle.esto_semantics.specs.Unions.{ReceivesUnions}
 use Rattle.esto_semantics.specs.PlanOf.{IsOfRows, IsPlanOf}
 use Rattle.esto_semantics.specs.Queries.{ConjunctiveQuery}
 use Rattle.esto_semantics.specs.declared.fact.Fact.{Fact}
@@ -165,11 +162,3 @@ module _ (names : List Name) (rows : List (Fact Term)) (head : List Term) (seen 
     head = head_is;
     names_are = names_are;
   }
-
--- where there are no rules, the plan that is stated for a query receives unions
-pub receives : (views : List ConjunctiveQuery) (query : ConjunctiveQuery) (names : List Name) (plan : Plan) → RowsReceiveUnions
-    → ((query : ConjunctiveQuery) → IsUniversalFor [] query query)
-    → ((query : ConjunctiveQuery) → IsFinished [] query) → IsStatedPlan names views query plan → ReceivesUnions [] views query (plan_query plan)
-receives views query names plan rows own finished stated =
-    rows [] views query query (plan_query plan) (λ rule inside. absurd (Contains-nil rule inside)) (own query) (finished query)
-    (plan_of names views query plan stated)

@@ -1,10 +1,11 @@
 -- The terms by first occurrence, as they are read one after the other.
-use Rattle.std.proofs.Common.{◌≡◌, ◌⊎◌, inl, inr, ℕ, ◌<◌, ◌+◌, List, [], ◌∷◌, ◌++◌, length, take, drop, get_or, Contains, sym, ap, ◌∙◌, subst, arith}
+use Rattle.std.proofs.Common.{◌≡◌, ◌⊎◌, inl, inr, ℕ, ◌<◌, ◌+◌, List, [], ◌∷◌, ◌++◌, length, take, drop, get_or, slice_get, Contains, Some, sym, ap, ◌∙◌, subst, arith}
 use Rattle.std.specs.List.{flat_map}
 use Rattle.std.proofs.lemmas.List.{append-nil, append_assoc, take-append-drop, take_more}
 use Rattle.std.proofs.lemmas.List.Concat.{flat_map-append}
 use Rattle.std.proofs.lemmas.List.Elements.{Contains-append_left, Contains-push, Contains-push_cases, Contains-get_or}
 use Rattle.std.proofs.lemmas.List.Quantifiers.{all_pairs_push}
+use Rattle.std.proofs.lemmas.Option.{slice_get_within, get_or_from_slice_get}
 use Rattle.esto_term.specs.declared.term.Term.{Term}
 use Rattle.esto_semantics.specs.Maps.{IsConstant}
 use Rattle.esto_semantics.specs.declared.fact.Fact.{Fact}
@@ -40,20 +41,20 @@ occurs_before_new terms term new inside outside =
     (at.0, (at.1.0, at.1.1, λ there. outside (subst (λ it. Contains it new) (sym at.1.1) (Contains-append_left (at.0 ++ term ∷ []) at.1.0 new there))))
 
 module _ (read seen : List Term) (term : Term) (so_far : AreFirstOccurrences read seen) where
-  pub seen_known : IsConstant term ⊎ Contains seen term → AreFirstOccurrences (read ++ term ∷ []) seen
+  pub seen_known : IsConstant term ⊎ Contains read term → AreFirstOccurrences (read ++ term ∷ []) seen
   seen_known known = record {
     exact = λ other. (
       (λ inside. let found = (so_far.exact other).0 inside in (Contains-append_left read (term ∷ []) other found.0, found.1)),
       (λ both. elim (Contains-push_cases read term other both.0) [
         | inl earlier ↦ (so_far.exact other).1 (earlier, both.1)
-        | inr same ↦ elim known [ inl constant ↦ absurd (both.1 (subst IsConstant same constant)) | inr inside ↦ subst (Contains seen) same inside ]
+        | inr same ↦ elim known [ inl constant ↦ absurd (both.1 (subst IsConstant same constant)) | inr inside ↦ (so_far.exact other).1 (subst (Contains read) same inside, both.1) ]
       ]),
     );
     ordered = λ i j d less within. occurs_more read (term ∷ []) _ _ (so_far.ordered i j d less within);
   }
 
-  pub seen_new : (IsConstant term → ⊥) → (Contains seen term → ⊥) → AreFirstOccurrences (read ++ term ∷ []) (seen ++ term ∷ [])
-  seen_new no_constant unseen = record {
+  pub seen_new : (IsConstant term → ⊥) → (Contains read term → ⊥) → AreFirstOccurrences (read ++ term ∷ []) (seen ++ term ∷ [])
+  seen_new no_constant unread = record {
     exact = λ other. (
       (λ inside. elim (Contains-push_cases seen term other inside) [
         | inl earlier ↦ let found = (so_far.exact other).0 earlier in (Contains-append_left read (term ∷ []) other found.0, found.1)
@@ -66,29 +67,35 @@ module _ (read seen : List Term) (term : Term) (so_far : AreFirstOccurrences rea
     );
     ordered = all_pairs_push (OccursBefore (read ++ term ∷ [])) seen term
         (λ i j d less within. occurs_more read (term ∷ []) _ _ (so_far.ordered i j d less within))
-        (λ k d within. occurs_before_new read (get_or seen k d) term ((so_far.exact (get_or seen k d)).0 (Contains-get_or seen k d within)).0
-        (λ inside. unseen ((so_far.exact term).1 (inside, no_constant))));
+        (λ k d within. occurs_before_new read (get_or seen k d) term ((so_far.exact (get_or seen k d)).0 (Contains-get_or seen k d within)).0 unread);
   }
 
--- one term more of a row
-pub row_more : (row seen start more : List Term) (place : ℕ) (term : Term) → place < length row → term ≡ get_or row place term
-    → ((read : List Term) → AreFirstOccurrences read start → AreFirstOccurrences (read ++ take place row) seen)
-    → ((read : List Term) → AreFirstOccurrences read seen → AreFirstOccurrences (read ++ term ∷ []) more)
-    → (read : List Term) → AreFirstOccurrences read start → AreFirstOccurrences (read ++ take (place + 1) row) more
-row_more row seen start more place term within is so_far step read first =
-    let joined : (read ++ take place row) ++ term ∷ [] ≡ read ++ take (place + 1) row =
-    append_assoc read (take place row) (term ∷ []) ∙ ap (λ it. read ++ it) (ap (λ it. take place row ++ it ∷ []) is ∙ sym (take_more row place term within)) in
-    subst (λ it. AreFirstOccurrences it more) joined (step (read ++ take place row) (so_far read first))
+-- ---- the terms of a list, place by place
 
--- one row more
-pub rows_read_more : (rows : List (Fact Term)) (seen more : List Term) (place : ℕ) (row : Fact Term) → place < length rows → row ≡ get_or rows place row
-    → AreFirstOccurrences (flat_map (λ it. it.terms) (take place rows)) seen
-    → ((read : List Term) → AreFirstOccurrences read seen → AreFirstOccurrences (read ++ row.terms) more)
-    → AreFirstOccurrences (flat_map (λ it. it.terms) (take (place + 1) rows)) more
-rows_read_more rows seen more place row within is so_far step =
-    let terms : Fact Term → List Term = λ it. it.terms in
-    let joined : flat_map terms (take place rows) ++ row.terms ≡ flat_map terms (take (place + 1) rows) =
-    ap (λ it. flat_map terms (take place rows) ++ it) (sym (append-nil row.terms))
-    ∙ sym (flat_map-append terms (take place rows) (row ∷ []))
-    ∙ ap (flat_map terms) (ap (λ it. take place rows ++ it ∷ []) is ∙ sym (take_more rows place row within)) in
-    subst (λ it. AreFirstOccurrences it more) joined (step (flat_map terms (take place rows)) so_far)
+module _ (terms seen : List Term) (place : ℕ) (term : Term) (at : slice_get terms place ≡ Some term)
+    (so_far : AreFirstOccurrences (take place terms) seen) where
+  one_more : take place terms ++ term ∷ [] ≡ take (place + 1) terms
+  one_more =
+      ap (λ it. take place terms ++ it ∷ []) (sym (get_or_from_slice_get terms place term term at))
+      ∙ sym (take_more terms place term (slice_get_within terms place term at))
+
+  pub place_known : IsConstant term ⊎ Contains (take place terms) term → AreFirstOccurrences (take (place + 1) terms) seen
+  place_known known = subst (λ it. AreFirstOccurrences it seen) one_more (seen_known (take place terms) seen term so_far known)
+
+  pub place_new : (new : List Term) → new ≡ seen ++ term ∷ [] → (IsConstant term → ⊥) → (Contains (take place terms) term → ⊥)
+      → AreFirstOccurrences (take (place + 1) terms) new
+  place_new new pushed no_constant unread =
+      subst (λ it. AreFirstOccurrences it new) one_more
+      (subst (AreFirstOccurrences (take place terms ++ term ∷ [])) (sym pushed) (seen_new (take place terms) seen term so_far no_constant unread))
+
+-- ---- the terms of rows
+
+pub rows_read_more : (rows : List (Fact Term)) (place : ℕ) (row : Fact Term) (terms new : List Term) → place < length rows → row ≡ get_or rows place row
+    → new ≡ terms ++ row.terms → terms ≡ flat_map (λ it. it.terms) (take place rows) → new ≡ flat_map (λ it. it.terms) (take (place + 1) rows)
+rows_read_more rows place row terms new within is joined so_far =
+    let terms_of : Fact Term → List Term = λ it. it.terms in
+    joined
+    ∙ ap (λ it. it ++ row.terms) so_far
+    ∙ ap (λ it. flat_map terms_of (take place rows) ++ it) (sym (append-nil row.terms))
+    ∙ sym (flat_map-append terms_of (take place rows) (row ∷ []))
+    ∙ ap (flat_map terms_of) (ap (λ it. take place rows ++ it ∷ []) is ∙ sym (take_more rows place row within))

@@ -10,10 +10,10 @@ use Rattle.esto_term.specs.declared.term.Term.TheOpen.{Term-F}
 use Rattle.esto_term.specs.declared.term.Term.TheVariants.{Const, Plain, outs-Const, outs-Plain}
 use Rattle.esto_term.specs.Order.{same_term}
 use Rattle.esto_semantics.proofs.TermLemmas.{same_term-Decides}
-use Rattle.esto_term.proofs.DistinctLemmas.{distinct_head, distinct_rest}
 use Rattle.esto_universal.specs.Reading.{OccursBefore, AreFirstOccurrences}
 use Rattle.esto_universal.specs.Renamings.{IsRenaming, numbered}
-use Rattle.esto_term.proofs.ListLemmas.{Contains-at}
+use Rattle.esto_term.proofs.ListLemmas.{Contains-head, Contains-rest}
+use Rattle.esto_universal.proofs.IndexLemmas.{in_take}
 
 cond_is : {X : Type 0} (answer told : Bool) (one other : X) → answer ≡ told → cond answer one other ≡ cond told one other
 cond_is answer told one other is = ap (λ it. cond it one other) is
@@ -25,54 +25,44 @@ apart_told term other apart = by (same_term term other) refl
     by true told = absurd (apart ((same_term-Decides term other).0 told))
     by false told = refl
 
-numbered-at : (number : ℕ) (seen : List Term) (place : ℕ) (term : Term) → AllPairs {X = Term} ◌≢◌ seen → slice_get seen place ≡ Some term
+pub numbered-at : (number : ℕ) (seen : List Term) (place : ℕ) (term : Term) → slice_get seen place ≡ Some term → (Contains (take place seen) term → ⊥)
     → numbered number seen term ≡ Plain (number + place)
-numbered-at number [] place term distinct at = absurd (cc)
-numbered-at number (first ∷ seen) zero term distinct at =
-    let is : term ≡ first = cc in
+numbered-at number [] place term at first = absurd (cc)
+numbered-at number (one ∷ seen) zero term at first =
+    let is : term ≡ one = cc in
     let same : number ≡ number + 0 = omega arith in
-    cond_is (same_term term first) true (Plain number) (numbered (number + 1) seen term) ((same_term-Decides term first).1 is) ∙ ap Plain same
-numbered-at number (first ∷ seen) (suc place) term distinct at =
+    cond_is (same_term term one) true (Plain number) (numbered (number + 1) seen term) ((same_term-Decides term one).1 is) ∙ ap Plain same
+numbered-at number (one ∷ seen) (suc place) term at first =
     let same : number + 1 + place ≡ number + suc place = omega arith in
-    cond_is (same_term term first) false (Plain number) (numbered (number + 1) seen term)
-    (apart_told term first (λ is. distinct_head first seen term distinct (Contains-at seen place term at) (sym is)))
-    ∙ numbered-at (number + 1) seen place term (distinct_rest first seen distinct) at ∙ ap Plain same
+    cond_is (same_term term one) false (Plain number) (numbered (number + 1) seen term)
+    (apart_told term one (λ is. first (subst (Contains (one ∷ take place seen)) (sym is) (Contains-head one (take place seen)))))
+    ∙ numbered-at (number + 1) seen place term at (λ inside. first (Contains-rest one (take place seen) term inside)) ∙ ap Plain same
 
-numbered-outside : (number : ℕ) (seen : List Term) (term : Term) → (Contains seen term → ⊥) → numbered number seen term ≡ term
+pub numbered-outside : (number : ℕ) (seen : List Term) (term : Term) → (Contains seen term → ⊥) → numbered number seen term ≡ term
 numbered-outside number [] term outside = refl
 numbered-outside number (first ∷ seen) term outside =
     cond_is (same_term term first) false (Plain number) (numbered (number + 1) seen term) (apart_told term first (λ is. outside (0, omega arith, sym is)))
     ∙ numbered-outside (number + 1) seen term (λ inside. outside (suc inside.0, omega (arith, inside.1), inside.2))
-
--- ---- the search
-
-module _ (seen : List Term) (place : ℕ) (term first : Term) (answer : Bool) (at : slice_get seen place ≡ Some first)
-    (told : answer ≡ same_term term first) where
-  one_step : numbered place (drop place seen) term ≡ cond answer (Plain place) (numbered (place + 1) (drop (place + 1) seen) term)
-  one_step =
-      let left : drop place seen ≡ first ∷ drop (place + 1) seen = drop_more seen place first (slice_get_within seen place first at)
-      ∙ ap (λ it. it ∷ drop (place + 1) seen) (get_or_from_slice_get seen place first first at) in
-      ap (λ it. numbered place it term) left ∙ cond_is (same_term term first) answer (Plain place) (numbered (place + 1) (drop (place + 1) seen) term)
-      (sym told)
-
-  pub numbered_here : answer ≡ true → numbered place (drop place seen) term ≡ Plain place
-  numbered_here is = one_step ∙ cond_is answer true (Plain place) (numbered (place + 1) (drop (place + 1) seen) term) is
-
-  pub numbered_later : answer ≡ false → numbered (place + 1) (drop (place + 1) seen) term ≡ numbered place (drop place seen) term
-  numbered_later is = sym (one_step ∙ cond_is answer false (Plain place) (numbered (place + 1) (drop (place + 1) seen) term) is)
 
 -- ---- the terms seen are distinct, and none is a constant
 
 apart_before : (terms : List Term) (term other : Term) → OccursBefore terms term other → term ≡ other → ⊥
 apart_before terms term other (front, (back, is, without)) same = without (subst (Contains (front ++ term ∷ [])) same (Contains-push front term))
 
-pub seen_distinct : (terms seen : List Term) → AreFirstOccurrences terms seen → AllPairs {X = Term} ◌≢◌ seen
-seen_distinct terms seen are_seen i j d less within = apart_before terms _ _ (are_seen.ordered i j d less within)
+-- a term is seen at one place
+seen_once : (terms seen : List Term) → AreFirstOccurrences terms seen → (place : ℕ) (term : Term) → slice_get seen place ≡ Some term
+    → Contains (take place seen) term → ⊥
+seen_once terms seen are_seen place term at earlier =
+    let found = in_take seen place term earlier in
+    apart_before terms (get_or seen found.0 term) (get_or seen place term)
+    (are_seen.ordered found.0 place term found.1 (slice_get_within seen place term at))
+    (get_or_from_slice_get seen found.0 term term found.2 ∙ sym (get_or_from_slice_get seen place term term at))
 
 pub numbered_renames : (terms seen : List Term) → AreFirstOccurrences terms seen → IsRenaming seen (numbered 0 seen)
 numbered_renames terms seen are_seen = record {
   keeps = λ text. numbered-outside 0 seen (Const text) (λ inside. ((are_seen.exact (Const text)).0 inside).1 (text, refl));
-  numbers = λ place term at. let same : 0 + place ≡ place = omega arith in numbered-at 0 seen place term (seen_distinct terms seen are_seen) at ∙ ap Plain same;
+  numbers = λ place term at.
+      let same : 0 + place ≡ place = omega arith in numbered-at 0 seen place term at (seen_once terms seen are_seen place term at) ∙ ap Plain same;
 }
 
 -- ---- the way back

@@ -1,6 +1,7 @@
 -- Laws of stated plans.
 use Rattle.std.specs.Prelude.{◌≡◌, ◌≢◌, List, AllPairs}
 use Rattle.esto_semantics.specs.Instances.{IsUniversalFor, IsFinished}
+use Rattle.esto_semantics.specs.PlanOf.{IsPlanOf}
 use Rattle.esto_semantics.specs.Plans.{IsUniversalPlan}
 use Rattle.esto_semantics.specs.Queries.{ConjunctiveQuery}
 use Rattle.esto_semantics.specs.Rules.{Rule, AreRules}
@@ -22,6 +23,12 @@ abbrev pub StatedAtomsAreDistinct : Type 0
 StatedAtomsAreDistinct =
     (names : List Name) (views : List ConjunctiveQuery) (end : ConjunctiveQuery) (plan : Plan)
     → IsStatedPlan names views end plan → AllPairs ◌≢◌ (plan_query plan).body
+
+-- A plan that is stated for an end is a plan of its rows.
+abbrev pub StatedPlanIsOfRows : Type 0
+StatedPlanIsOfRows =
+    (names : List Name) (views : List ConjunctiveQuery) (end : ConjunctiveQuery) (plan : Plan)
+    → IsStatedPlan names views end plan → IsPlanOf views end (plan_query plan)
 
 -- Where an instance is universal for a query under the rules, and meets the rules itself, the plan that is stated for it receives unions for the query.
 abbrev pub StatedPlanReceivesUnions : Type 0

@@ -1,20 +1,32 @@
 //! The universal plan.
-ghost use Rattle.std.specs.Prelude.{◌≢◌, [], IfOk};
-ghost use Rattle.esto_semantics.specs.PlanOf.{IsPlanOf};
+ghost use Rattle.std.specs.Prelude.{◌≢◌, [], IfOk, ⊤};
+ghost use Rattle.either.specs.Either.{MatchEither};
+ghost use Rattle.esto_semantics.specs.Containment.{IsSatisfiable};
 ghost use Rattle.esto_semantics.specs.Plans.{IsUniversalPlan};
 ghost use Rattle.esto_semantics.specs.Unions.{ReceivesUnions};
 ghost use Rattle.esto_query.specs.Making.{query_of};
-ghost use Rattle.esto_views.specs.Fragments.{views_of, AreFragments};
+ghost use Rattle.esto_constraint.specs.Constraints.{rules_of};
+ghost use Rattle.esto_views.specs.Fragments.{views_of};
 ghost use Rattle.esto_views.specs.Plans.{plan_query, IsPlanOver};
+ghost use Rattle.esto_chase_laws.specs.Runs.{start_of};
+ghost use Rattle.esto_chase.specs.Chased.{RunClashes};
+ghost use Rattle.esto_universal.specs.Planned.{IsPlanOfRun};
 ghost use Rattle.esto_universal.specs.Stated.{IsStatedPlan, IsRenamedPlan};
-ghost use Rattle.esto_universal.specs.StatedLaws.{StatedPlanIsOne, StatedAtomsAreDistinct, StatedPlanReceivesUnions, StatedPlanIsUniversal};
 
+use crate::indexed::IndexedTerms;
+use crate::planned::{
+    plans_of_runs_are_over_fragments, plans_of_runs_are_universal, plans_tell_satisfiable_queries,
+};
 use crate::reading::first_occurrences;
 use crate::renaming::{names_of, rename_row, rename_rows};
 use crate::rows::view_rows;
-use esto_plan_laws::plans_receive_unions;
+use either::{Either, Left, Right};
+use esto_catalog::{Catalogue, catalogues_are_sound};
+use esto_chase::{Clash, chase};
+use esto_chase_laws::{heads_go_along, queries_have_starts};
+use esto_constraint::rules_are_sound;
+use esto_instance::Instance;
 use esto_query::{Facts, Names, Query, queries_are_sound};
-use esto_semantics::queries_are_their_own_instances;
 use esto_term::{OutOfMemory, Terms};
 use esto_views::{FragmentDefs, Plan};
 use std::alloc::Global;
@@ -32,8 +44,9 @@ pub fn renamed_plan(
     ensures { IfOk result (λ plan. IsRenamedPlan names.now rows.now head.now plan) }
 {
     let seen = first_occurrences(alloc, rows, head)?;
-    let atoms = rename_rows(alloc, &seen, rows)?;
-    let new_head = rename_row(alloc, &seen, head.items())?;
+    let indexed = IndexedTerms::of(alloc, &seen)?;
+    let atoms = rename_rows(alloc, &indexed, rows)?;
+    let new_head = rename_row(alloc, &indexed, head.items())?;
     let new_names = names_of(alloc, names, &seen)?;
     Ok(Plan {
         atoms,
@@ -42,59 +55,90 @@ pub fn renamed_plan(
     })
 }
 
-/// The plan whose atoms are the rows of all views over the query's body, and whose head is the query's, renamed.
-fn stated_plan(alloc: Global, query: &Query, fragments: &FragmentDefs) -> Result<Plan, OutOfMemory>
-    ensures { IfOk result
-        (IsStatedPlan query.now.names (views_of fragments.now) (query_of query.now)) }
+/// The plan whose atoms are the rows of all views over the facts, and whose head is the given one, renamed.
+fn stated_plan(
+    alloc: Global,
+    facts: &Facts,
+    head: &Terms,
+    fragments: &FragmentDefs,
+    names: &Names,
+) -> Result<Plan, OutOfMemory>
+    requires { head.now ≢ [] }
+    ensures { IfOk result (IsStatedPlan names.now (views_of fragments.now)
+        (record { head = head.now; body = facts.now })) }
 {
-    queries_are_sound();
-    let rows = view_rows(alloc, &query.body, fragments)?;
-    let plan = renamed_plan(alloc, &rows, &query.head, &query.names)?;
+    let rows = view_rows(alloc, facts, fragments)?;
+    let plan = renamed_plan(alloc, &rows, head, names)?;
     Ok(plan)
 }
 
-/// The universal plan of the query, where there are no rules: the query's own body is then its universal instance.
-/// Its atoms are, for each fragment in order, the rows of the fragment's view over the query's body, in the order of
-/// terms, and its head is the query's. Each term that is no constant is renamed to a variable, whose number is the
-/// place of the term's first occurrence among those of the others, reading the atoms in order and then the head. The
-/// variable has the name that the query gives the term, and else it is hidden.
+/// The plan of the query's run, or the clash at which the run ends.
+fn plan_or_clash(
+    alloc: Global,
+    query: &Query,
+    catalogue: &Catalogue,
+) -> Result<Either<Plan, Clash>, OutOfMemory>
+    ensures { IfOk result (λ it. MatchEither it
+        (IsPlanOfRun (rules_of catalogue.now.rules) (views_of catalogue.now.fragments)
+        query.now.names (query_of query.now))
+        (RunClashes (rules_of catalogue.now.rules) (start_of (query_of query.now)))) }
+{
+    catalogues_are_sound();
+    queries_are_sound();
+    rules_are_sound();
+    queries_have_starts();
+    heads_go_along();
+    let start = Instance::of_query(alloc, query)?;
+    let outcome = chase(alloc, start, &catalogue.rules, &catalogue.ranks)?;
+    match outcome {
+        Left(chased) => {
+            let facts = chased.instance.facts();
+            let head = chased.instance.head();
+            let fragments = &catalogue.fragments;
+            let plan = stated_plan(alloc, facts, head, fragments, &query.names)?;
+            Ok(Left(plan))
+        }
+        Right(clash) => Ok(Right(clash)),
+    }
+}
+
+/// The universal plan of the query under the catalogue's rules. Left comes exactly where the query is satisfiable, with
+/// the plan of its run: its atoms are, for each fragment in order, the rows of the fragment's view over the run's last
+/// facts, in the order of terms, and its head is the run's. Each term that is no constant is renamed to a variable, whose
+/// number is the place of the term's first occurrence among those of the others, reading the atoms in order and then the
+/// head. The variable has the name that the query gives the term, and else it is hidden. Right comes exactly where no
+/// database that meets the rules gives the query an answer, with the clash at which its run ends. Source: universal plans
+/// (Deutsch, Popa and Tannen 1999).
 pub fn universal(
     alloc: Global,
     query: &Query,
-    fragments: &FragmentDefs,
-) -> Result<Plan, OutOfMemory>
-    requires { AreFragments fragments.now }
-    ensures stated { IfOk result
-        (IsStatedPlan query.now.names (views_of fragments.now) (query_of query.now)) }
-    ensures rows { IfOk result (λ plan.
-        IsPlanOf (views_of fragments.now) (query_of query.now) (plan_query plan)) }
-    ensures over { IfOk result (λ plan. IsPlanOver plan fragments.now) }
-    ensures unions { IfOk result (λ plan.
-        ReceivesUnions [] (views_of fragments.now) (query_of query.now) (plan_query plan)) }
-    ensures universal { IfOk result (λ plan.
-        IsUniversalPlan [] (views_of fragments.now) (query_of query.now) (plan_query plan)) }
+    catalogue: &Catalogue,
+) -> Result<Either<Plan, Clash>, OutOfMemory>
+    // The plan is that of the query's run, or the clash is its run's.
+    ensures run { IfOk result (λ it. MatchEither it
+        (IsPlanOfRun (rules_of catalogue.now.rules) (views_of catalogue.now.fragments)
+        query.now.names (query_of query.now))
+        (RunClashes (rules_of catalogue.now.rules) (start_of (query_of query.now)))) }
+    ensures over { IfOk result (λ it. MatchEither it
+        (λ plan. IsPlanOver plan catalogue.now.fragments) (λ _. ⊤)) }
+    ensures universal { IfOk result (λ it. MatchEither it
+        (λ plan. IsUniversalPlan (rules_of catalogue.now.rules)
+        (views_of catalogue.now.fragments) (query_of query.now) (plan_query plan))
+        (λ _. ⊤)) }
+    ensures unions { IfOk result (λ it. MatchEither it
+        (λ plan. ReceivesUnions (rules_of catalogue.now.rules)
+        (views_of catalogue.now.fragments) (query_of query.now) (plan_query plan))
+        (λ _. ⊤)) }
+    ensures satisfiable { IfOk result (λ it. MatchEither it
+        (λ _. IsSatisfiable (rules_of catalogue.now.rules) (query_of query.now))
+        (λ _. ¬ (IsSatisfiable (rules_of catalogue.now.rules) (query_of query.now)))) }
 {
-    queries_are_their_own_instances();
-    plans_receive_unions();
-    let plan = stated_plan(alloc, query, fragments)?;
-    Ok(plan)
-}
-
-/// A law: there is one stated plan.
-pub fn stated_plans_are_one()
-    ensures { StatedPlanIsOne }
-{}
-
-/// A law: the atoms of a stated plan are distinct.
-pub fn stated_plans_have_distinct_atoms()
-    ensures { StatedAtomsAreDistinct }
-{}
-
-/// A law: where an instance is universal for a query under the rules, and meets the rules itself, the plan that is
-/// stated for it receives unions for the query, and so is universal for it.
-pub fn stated_plans_are_universal()
-    ensures unions { StatedPlanReceivesUnions }
-    ensures universal { StatedPlanIsUniversal }
-{
-    plans_receive_unions();
+    catalogues_are_sound();
+    queries_are_sound();
+    rules_are_sound();
+    plans_of_runs_are_over_fragments();
+    plans_of_runs_are_universal();
+    plans_tell_satisfiable_queries();
+    let outcome = plan_or_clash(alloc, query, catalogue)?;
+    Ok(outcome)
 }

@@ -1,32 +1,54 @@
 //! The terms of rows and a head, by first occurrence.
-ghost use Rattle.std.specs.Prelude.{List, [], ◌∷◌, ◌++◌, IfOk, OnOk};
-ghost use Rattle.esto_term.specs.declared.term.Term.{Term};
+ghost use Rattle.std.specs.Prelude.{◌≡◌, ◌⊎◌, ◌+◌, true, false, Some, take, slice_get};
+ghost use Rattle.std.specs.Prelude.{Contains, IfOk, OnOk};
+ghost use Rattle.esto_semantics.specs.Maps.{IsConstant};
 ghost use Rattle.esto_universal.specs.Reading.{terms_read, AreFirstOccurrences};
 
+use crate::indexed::IndexedTerms;
 use esto_query::Facts;
-use esto_term::{List, OutOfMemory, Replicate, Term, Terms, has_term};
+use esto_term::{List, OutOfMemory, Replicate, Term, Terms};
 use std::alloc::Global;
 
-/// Reads one more term.
-fn read_term(alloc: Global, seen: &mut Terms, term: &Term) -> Result<(), OutOfMemory>
-    ensures { OnOk result ((read : List Term) → AreFirstOccurrences read seen.old
-        → AreFirstOccurrences (read ++ term.now ∷ []) seen.new) }
+/// The terms of the rows, in order, and then those of the head.
+fn terms_read(alloc: Global, rows: &Facts, head: &Terms) -> Result<Terms, OutOfMemory>
+    ensures { IfOk result (λ terms. terms ≡ terms_read rows.now head.now) }
 {
-    if term.is_constant() || has_term(seen.items(), term) {
+    let mut terms = List::new(alloc);
+    'rows: for row in rows.items() {
+        terms.append(row.terms.copy(alloc)?)?;
+    }
+    terms.append(head.copy(alloc)?)?;
+    Ok(terms)
+}
+
+/// Whether the term, which stands at that place, is no constant and stands at none before.
+fn is_new(terms: &IndexedTerms, place: usize, term: &Term) -> bool
+    requires { slice_get terms.now place ≡ Some term.now }
+    ensures new { result ≡ true → ¬ (IsConstant term.now) × ¬ (Contains (take place terms.now) term.now) }
+    ensures known { result ≡ false → IsConstant term.now ⊎ Contains (take place terms.now) term.now }
+{
+    match terms.first(term) {
+        Some(first) => first == place && !term.is_constant(),
+        None => false,
+    }
+}
+
+/// Reads the term at that place.
+fn read_term(
+    alloc: Global,
+    terms: &IndexedTerms,
+    place: usize,
+    term: &Term,
+    seen: &mut Terms,
+) -> Result<(), OutOfMemory>
+    requires { slice_get terms.now place ≡ Some term.now }
+    ensures { OnOk result (AreFirstOccurrences (take place terms.now) seen.old
+        → AreFirstOccurrences (take (place + 1) terms.now) seen.new) }
+{
+    if !is_new(terms, place, term) {
         return Ok(());
     }
     seen.push(term.copy(alloc)?)?;
-    Ok(())
-}
-
-/// Reads the terms of a row.
-fn read_row(alloc: Global, seen: &mut Terms, row: &[Term]) -> Result<(), OutOfMemory>
-    ensures { OnOk result ((read : List Term) → AreFirstOccurrences read seen.old
-        → AreFirstOccurrences (read ++ row.now) seen.new) }
-{
-    'terms: for term in row {
-        read_term(alloc, seen, term)?;
-    }
     Ok(())
 }
 
@@ -35,10 +57,11 @@ fn read_row(alloc: Global, seen: &mut Terms, row: &[Term]) -> Result<(), OutOfMe
 pub fn first_occurrences(alloc: Global, rows: &Facts, head: &Terms) -> Result<Terms, OutOfMemory>
     ensures { IfOk result (λ seen. AreFirstOccurrences (terms_read rows.now head.now) seen) }
 {
+    let read = terms_read(alloc, rows, head)?;
+    let terms = IndexedTerms::of(alloc, &read)?;
     let mut seen = List::new(alloc);
-    'rows: for row in rows.items() {
-        read_row(alloc, &mut seen, row.terms.items())?;
+    'terms: for (place, term) in terms.items().iter().enumerate() {
+        read_term(alloc, &terms, place, term, &mut seen)?;
     }
-    read_row(alloc, &mut seen, head.items())?;
     Ok(seen)
 }

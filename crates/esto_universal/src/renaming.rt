@@ -2,25 +2,28 @@
 ghost use Rattle.std.specs.Prelude.{◌≡◌, map, IfOk};
 ghost use Rattle.esto_universal.specs.Renamings.{numbered, name_of, renamed_atom};
 
+use crate::indexed::IndexedTerms;
 use esto_query::{Facts, Name, Names};
 use esto_term::{List, OutOfMemory, Replicate, Term, Terms};
 use esto_views::{PlanAtom, PlanAtoms};
 use std::alloc::Global;
 
 /// The variable that the term becomes, whose number is the term's place among those seen. Each other term stays.
-fn rename_term(alloc: Global, seen: &Terms, term: &Term) -> Result<Term, OutOfMemory>
+fn rename_term(alloc: Global, seen: &IndexedTerms, term: &Term) -> Result<Term, OutOfMemory>
     ensures { IfOk result (λ renamed. renamed ≡ numbered 0 seen.now term.now) }
 {
-    'places: for place in 0..seen.len() {
-        if term.compare(seen.item(place)).is_eq() {
-            return Ok(Term::Plain(place as u64));
-        }
+    match seen.first(term) {
+        Some(place) => Ok(Term::Plain(place as u64)),
+        None => term.copy(alloc),
     }
-    term.copy(alloc)
 }
 
 /// The row with its terms renamed.
-pub fn rename_row(alloc: Global, seen: &Terms, row: &[Term]) -> Result<Terms, OutOfMemory>
+pub fn rename_row(
+    alloc: Global,
+    seen: &IndexedTerms,
+    row: &[Term],
+) -> Result<Terms, OutOfMemory>
     ensures { IfOk result (λ renamed. renamed ≡ map (numbered 0 seen.now) row.now) }
 {
     let mut renamed = List::new(alloc);
@@ -31,7 +34,11 @@ pub fn rename_row(alloc: Global, seen: &Terms, row: &[Term]) -> Result<Terms, Ou
 }
 
 /// The plan's atoms that the rows over fragments become.
-pub fn rename_rows(alloc: Global, seen: &Terms, rows: &Facts) -> Result<PlanAtoms, OutOfMemory>
+pub fn rename_rows(
+    alloc: Global,
+    seen: &IndexedTerms,
+    rows: &Facts,
+) -> Result<PlanAtoms, OutOfMemory>
     ensures { IfOk result (λ atoms. atoms ≡ map (renamed_atom (numbered 0 seen.now)) rows.now) }
 {
     let mut atoms = List::new(alloc);

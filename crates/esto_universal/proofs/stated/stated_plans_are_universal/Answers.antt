@@ -1,6 +1,9 @@
 use Rattle.esto_views.specs.Plans.{plan_query}
 use Rattle.esto_universal.proofs.PlanLemmas.{plan_of}
-use Rattle.esto_universal.proofs.planning.stated_plans_are_universal.Goals as goal
+use Rattle.esto_universal.proofs.stated.stated_plans_are_universal.Goals as goal
+
+pub returns-clause-rows : goal.returns-clause-rows
+returns-clause-rows c = plan_of
 
 pub returns-clause-unions : goal.returns-clause-unions
 returns-clause-unions c = λ rules names views query end plan are_rules universal finished stated.

@@ -1,0 +1,61 @@
+//! The places of terms, by a sorted index.
+ghost use Rattle.std.specs.Prelude.{◌≡◌, IfOk, MatchOption};
+ghost use Rattle.esto_universal.specs.Indexes.{entry_cmp, AreEntries, IsIndex, IsInOrder};
+ghost use Rattle.esto_universal.specs.Indexes.{HasNoEntry, IsFirstEntry};
+
+use esto_term::{OutOfMemory, Term};
+use std::alloc::Global;
+use std::cmp::Ordering;
+
+/// A term, with one of its places in a list.
+#[derive(Clone, Copy)]
+pub struct Entry<'a> {
+    pub term: &'a Term,
+    pub place: usize,
+}
+
+/// The order of entries: by term, and then by place.
+fn compare_entries(entry: &Entry, other: &Entry) -> Ordering
+    ensures { result ≡ entry_cmp entry.now other.now }
+{
+    entry
+        .term
+        .compare(other.term)
+        .then(entry.place.cmp(&other.place))
+}
+
+/// The entries of the terms.
+fn entries_of<'a>(alloc: Global, terms: &'a [Term]) -> Result<Vec<Entry<'a>>, OutOfMemory>
+    ensures { IfOk result (λ entries. AreEntries terms.now entries.items) }
+{
+    let mut entries = Vec::new(alloc);
+    'terms: for (place, term) in terms.iter().enumerate() {
+        let Ok(()) = entries.push(Entry { term, place }) else {
+            return Err(OutOfMemory);
+        };
+    }
+    Ok(entries)
+}
+
+/// The index of the terms: their entries, in order.
+pub fn index_of<'a>(alloc: Global, terms: &'a [Term]) -> Result<Vec<Entry<'a>>, OutOfMemory>
+    ensures { IfOk result (λ index. IsIndex terms.now index.items) }
+{
+    let mut entries = entries_of(alloc, terms)?;
+    entries.sort_by(|entry, other| compare_entries(entry, other))?;
+    Ok(entries)
+}
+
+/// The place of the term's first entry, or None where it has none.
+pub fn first_place(index: &[Entry], term: &Term) -> Option<usize>
+    requires { IsInOrder index.now }
+    ensures { MatchOption result (HasNoEntry index.now term.now) (IsFirstEntry index.now term.now) }
+{
+    let first = index.partition_point(|entry| entry.term.compare(term).is_lt());
+    let entry = index.get(first)?;
+    if entry.term.compare(term).is_eq() {
+        Some(entry.place)
+    } else {
+        None
+    }
+}
