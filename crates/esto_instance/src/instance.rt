@@ -34,18 +34,28 @@ pub struct Instance {
 }
 
 impl Instance {
-    /// The start of a query's chase: the atoms of its body, in order, a repeated one once, and its head.
-    pub fn of_query(alloc: Global, query: &Query) -> Result<Instance, OutOfMemory>
-        ensures state { IfOk result (λ it. state_of it ≡ start_of (query_of query.now)) }
+    /// The start of a chase of facts with a head: the facts, in order, a repeated one once, and the head.
+    pub fn of_facts(alloc: Global, facts: &Facts, head: &Terms) -> Result<Instance, OutOfMemory>
+        ensures state { IfOk result
+            (λ it. state_of it ≡ start_of (record { head = head.now; body = facts.now })) }
         ensures trace { IfOk result (λ it. trace_of it ≡ []) }
     {
-        let facts = once(alloc, query.body.items())?;
-        let head = query.head.copy(alloc)?;
+        let facts = once(alloc, facts.items())?;
+        let head = head.copy(alloc)?;
         Ok(Instance {
             facts,
             head,
             trace: List::new(alloc),
         })
+    }
+
+    /// The start of a query's chase: the atoms of its body, in order, a repeated one once, and its head.
+    pub fn of_query(alloc: Global, query: &Query) -> Result<Instance, OutOfMemory>
+        ensures state { IfOk result (λ it. state_of it ≡ start_of (query_of query.now)) }
+        ensures trace { IfOk result (λ it. trace_of it ≡ []) }
+    {
+        let start = Instance::of_facts(alloc, &query.body, &query.head)?;
+        Ok(start)
     }
 
     /// The facts, in order.
