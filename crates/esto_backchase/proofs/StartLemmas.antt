@@ -12,7 +12,7 @@ use Rattle.esto_semantics.specs.Matches.{IsMatch}
 use Rattle.esto_semantics.specs.declared.fact.Fact.{Fact}
 use Rattle.esto_query.specs.Matches.{IsLeastMatch, HasNoMatch}
 use Rattle.esto_query.specs.Valuations.{Assignment, Extends, map_of}
-use Rattle.esto_backchase.specs.Searching.{row_fact, NoneSends, IsStart}
+use Rattle.esto_backchase.specs.Candidates.{row_fact, NoneSends, IsStart}
 
 -- every map extends the empty valuation
 extends-empty : (m : Term → Term) (valuation : Assignment) → valuation ≡ empty → Extends m valuation

@@ -1,3 +1,4 @@
 pub mod Searching
-pub mod Plain
+pub mod Candidates
+pub mod Listing
 pub mod Completion

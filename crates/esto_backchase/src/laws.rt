@@ -5,14 +5,11 @@ ghost use Rattle.esto_semantics.specs.Access.{Patterns};
 ghost use Rattle.esto_semantics.specs.Sets.{Covers};
 ghost use Rattle.esto_semantics.specs.declared.fact.Fact.{Fact};
 ghost use Rattle.esto_backchase.specs.Completion.{MinimalCompletions};
-ghost use Rattle.esto_backchase.specs.Plain.{ListedCoverRewritings, PassingAnswer};
+ghost use Rattle.esto_backchase.specs.Listing.{ListedCoverRewritings};
 
 use esto_semantics::{
-    an_expansion_means_the_same, an_expansion_of_a_plan_expands_its_candidates,
-    candidates_contain_the_query, executable_sets_unite, listed_sets_are_minimal,
-    rewritings_map_onto_sets,
+    executable_sets_unite, listed_sets_are_minimal, rewritings_map_onto_sets,
 };
-use esto_views::plans_are_sound;
 
 /// A law: each query over fragments that is an executable rewriting of a satisfiable query maps to a universal plan of
 /// it, head to head, and onto a set of the plan's atoms that has one of the sets within it, where these are exactly the
@@ -34,14 +31,4 @@ pub fn minimal_completions_are_executable()
         → MinimalCompletions patterns atoms (Covers family) }
 {
     executable_sets_unite();
-}
-
-/// A law: without rules, the sets that pass are those that answer the query.
-pub(crate) fn passing_sets_answer_the_query()
-    ensures { PassingAnswer }
-{
-    plans_are_sound();
-    an_expansion_means_the_same();
-    an_expansion_of_a_plan_expands_its_candidates();
-    candidates_contain_the_query();
 }

@@ -2,11 +2,13 @@
 //! `minimal_sets_plain`, `executable_products` and `complete`.
 #![tactic(auto)]
 
+mod candidates;
 mod completion;
 mod laws;
+mod listing;
 mod safety;
 mod search;
 
 pub use completion::{complete, executable_products};
 pub use laws::{listed_sets_cover_rewritings, minimal_completions_are_executable};
-pub use search::minimal_sets_plain;
+pub use listing::minimal_sets_plain;

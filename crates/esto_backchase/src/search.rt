@@ -1,224 +1,205 @@
-//! The listed sets of a plan where there are no rules.
-ghost use Rattle.std.specs.Prelude.{◌≡◌, ◌↔◌, ◌⊎◌, ◌<◌, ◌≤◌, ℕ, List, Bool, [], ◌∷◌, Contains, IsTrue, IfOk, OnOk, MatchOption, length};
-ghost use Rattle.esto_term.specs.declared.term.Term.{Term};
-ghost use Rattle.esto_semantics.specs.Listed.{AnswersQuery, IsListed, IsExecutableRewriting};
-ghost use Rattle.esto_semantics.specs.Maps.{IsFlat};
-ghost use Rattle.esto_semantics.specs.Plans.{IsUniversalPlan};
-ghost use Rattle.esto_semantics.specs.Queries.{ConjunctiveQuery};
-ghost use Rattle.esto_semantics.specs.Sets.{Has, IsMinimal};
-ghost use Rattle.esto_query.specs.Making.{query_of};
-ghost use Rattle.esto_views.specs.Fragments.{views_of, patterns_of};
-ghost use Rattle.esto_views.specs.Plans.{plan_query, IsPlanOver};
-ghost use Rattle.esto_views.specs.declared.expansion.ExpandedFact.{ExpandedFact};
-ghost use Rattle.esto_backchase.specs.Plain.{MapsOntoOne};
-ghost use Rattle.esto_backchase.specs.Searching.{row_fact, facts_chosen, NoneSends, IsStart, IsSearch, Passes, AgreesBelow, Visited};
+//! The search for the minimal sets of a plan's atoms that answer the query.
+ghost use Rattle.std.specs.Prelude.{◌≡◌, ◌↔◌, ◌⊎◌, ◌<◌, ◌≤◌, ℕ, List, Bool, Contains, IfOk, IfSome, OnOk, MatchOption, length};
+ghost use Rattle.esto_semantics.specs.Sets.{Has, Rises, Within};
+ghost use Rattle.esto_backchase.specs.Candidates.{IsSearch, Answers};
+ghost use Rattle.esto_backchase.specs.Searching.{AreFailing, FailsWith, HasOneOf, IsBetween, Visited};
 
-use crate::completion::executable_products;
-use crate::laws::passing_sets_answer_the_query;
-use crate::safety::is_safe;
-use esto_bits::{Products, RowBits, products_are_antichains};
-use esto_query::{
-    Atom, Facts, Query, Valuation, first_match, matches_send, queries_are_sound,
-    valuations_are_maps,
-};
-use esto_semantics::{
-    listed_sets_are_executable, rewritings_map_onto_sets, universal_instances_satisfy_queries,
-};
-use esto_term::{List, OutOfMemory, Replicate, Terms};
-use esto_views::{ExpandedFact, ExpandedFacts, FragmentDefs, Plan, expand, plans_are_sound};
+use crate::candidates::Search;
+use esto_bits::{Products, RowBits, SetList};
+use esto_term::{OutOfMemory, Places, Replicate, Values};
 use std::alloc::Global;
 
-/// What is searched: the query and the plan, the plan's expansion, and the valuation that sends the query's head to
-/// the plan's.
-#[derive(Clone, Copy)]
-struct Search<'a> {
-    query: &'a Query,
-    plan: &'a Plan,
-    expanded: &'a ExpandedFacts,
-    start: &'a Valuation,
-}
-
-/// The list of one fact, which is the row.
-fn row_facts(alloc: Global, terms: &Terms) -> Result<Facts, OutOfMemory>
-    ensures { IfOk result (λ facts. facts ≡ row_fact terms.now ∷ []) }
+/// The set with one number more.
+fn with_number(alloc: Global, set: &RowBits, number: usize) -> Result<RowBits, OutOfMemory>
+    requires { number < length set.now }
+    ensures count { IfOk result (λ it. length it ≡ length set.now) }
+    ensures has { IfOk result (λ it. (other : ℕ) → Has it other
+        ↔ ((other ≡ number) ⊎ Has set.now other)) }
 {
-    let mut facts = List::new(alloc);
-    facts.push(Atom {
-        relation: 0,
-        terms: terms.copy(alloc)?,
-    })?;
-    Ok(facts)
+    let mut more = set.copy(alloc)?;
+    more.insert(number);
+    Ok(more)
 }
 
-/// The valuation whose maps are exactly those that send the one row to the other. None comes exactly where no map that
-/// keeps constants does.
-fn sending(alloc: Global, terms: &Terms, targets: &Terms) -> Result<Option<Valuation>, OutOfMemory>
-    requires { (term : Term) → Contains terms.now term → IsFlat term }
-    ensures { IfOk result (λ start. MatchOption start
-        (NoneSends terms.now targets.now) (IsStart terms.now targets.now)) }
-{
-    valuations_are_maps();
-    let body = row_facts(alloc, terms)?;
-    let facts = row_facts(alloc, targets)?;
-    let start = Valuation::new(alloc);
-    match first_match(alloc, &body, &facts, &start)? {
-        Some(found) => Ok(Some(found.valuation)),
-        None => Ok(None),
-    }
-}
-
-/// The facts of the expansion that come from atoms of the set.
-fn facts_chosen(
+/// A copy of the first of the sets that has the set's numbers, if there is one.
+fn superset_in(
     alloc: Global,
-    expanded: &[ExpandedFact],
+    sets: &[RowBits],
     set: &RowBits,
-) -> Result<Facts, OutOfMemory>
-    requires { (fact : ExpandedFact) → Contains expanded.now fact → fact.atom < length set.now }
-    ensures { IfOk result (λ facts. facts ≡ facts_chosen set.now expanded.now) }
+) -> Result<Option<RowBits>, OutOfMemory>
+    requires { (other : List Bool) → Contains sets.now other → length other ≡ length set.now }
+    ensures { IfOk result (λ outcome. IfSome outcome
+        (λ other. Contains sets.now other × Within set.now other)) }
 {
-    let mut facts = List::new(alloc);
-    'facts: for part in expanded {
-        if set.has(part.atom) {
-            facts.push(part.fact.copy(alloc)?)?;
+    'sets: for other in sets {
+        if set.within(other) {
+            let copied = other.copy(alloc)?;
+            return Ok(Some(copied));
         }
     }
-    Ok(facts)
+    Ok(None)
 }
 
-/// The set with all numbers from a place on.
-fn with_later(alloc: Global, set: &RowBits, place: usize) -> Result<RowBits, OutOfMemory>
-    ensures count { IfOk result (λ it. length it ≡ length set.now) }
-    ensures has { IfOk result (λ it. (number : ℕ) → Has it number
-        ↔ (Has set.now number ⊎ (place ≤ number × number < length set.now))) }
+/// The numbers that are in neither set.
+fn lacking(alloc: Global, set: &RowBits, other: &RowBits) -> Result<Places, OutOfMemory>
+    requires { length other.now ≡ length set.now }
+    ensures { IfOk result (λ it. (number : ℕ) → Contains it number
+        ↔ ((number < length set.now) × ¬ (Has set.now number) × ¬ (Has other.now number))) }
 {
-    let mut most = set.copy(alloc)?;
-    'numbers: for number in place..set.count() {
-        most.insert(number);
+    let mut numbers = Values::new(alloc);
+    'numbers: for number in 0..set.count() {
+        if !set.has(number) && !other.has(number) {
+            numbers.push(number)?;
+        }
     }
-    Ok(most)
+    Ok(numbers)
 }
 
 impl Search<'_> {
-    /// Whether the set is safe, and what the expansion has for it receives the query, head to head.
-    fn passes(&self, alloc: Global, set: &RowBits) -> Result<bool, OutOfMemory>
-        requires search { IsSearch (query_of self.now.query.now) (plan_query self.now.plan.now)
-            self.now.expanded.now self.now.start.now }
+    /// The set with the number too where it still does not answer the query, and else the set.
+    fn grown_by(&self, alloc: Global, set: &RowBits, number: usize) -> Result<RowBits, OutOfMemory>
+        requires search { IsSearch self.now.catalogue.now self.now.query.now self.now.plan.now
+            self.now.expanded.now }
         requires count { length set.now ≡ length self.now.plan.now.atoms }
-        ensures { IfOk result (λ answer. IsTrue answer ↔ Passes (query_of self.now.query.now)
-            (plan_query self.now.plan.now) self.now.expanded.now set.now) }
+        requires fails { ¬ (Answers self.now.catalogue.now self.now.query.now self.now.plan.now
+            set.now) }
+        requires in_range { number < length set.now }
+        ensures { IfOk result (FailsWith (length self.now.plan.now.atoms)
+            (Answers self.now.catalogue.now self.now.query.now self.now.plan.now) set.now) }
     {
-        if !is_safe(self.plan, set) {
-            return Ok(false);
+        let more = with_number(alloc, set, number)?;
+        if self.answers(alloc, &more)? {
+            let same = set.copy(alloc)?;
+            return Ok(same);
         }
-        matches_send();
-        valuations_are_maps();
-        let facts = facts_chosen(alloc, self.expanded.items(), set)?;
-        let found = first_match(alloc, &self.query.body, &facts, self.start)?;
-        Ok(found.is_some())
+        Ok(more)
     }
 
-    /// Tries each set that has the set's numbers and any others from a place on, unless a kept set covers it, or even
-    /// the set with all of these does not pass.
-    fn visit(
+    /// The set grown by one number after the other, as far as it does not answer the query.
+    fn grown(&self, alloc: Global, set: &RowBits) -> Result<RowBits, OutOfMemory>
+        requires search { IsSearch self.now.catalogue.now self.now.query.now self.now.plan.now
+            self.now.expanded.now }
+        requires count { length set.now ≡ length self.now.plan.now.atoms }
+        requires fails { ¬ (Answers self.now.catalogue.now self.now.query.now self.now.plan.now
+            set.now) }
+        ensures { IfOk result (FailsWith (length self.now.plan.now.atoms)
+            (Answers self.now.catalogue.now self.now.query.now self.now.plan.now) set.now) }
+    {
+        let mut failed = set.copy(alloc)?;
+        'numbers: for number in 0..set.count() {
+            failed = self.grown_by(alloc, &failed, number)?;
+        }
+        Ok(failed)
+    }
+
+    /// A set that has the set's numbers and does not answer the query: a known one, or the set grown, which is known
+    /// then. None comes exactly where the set answers the query.
+    fn failing_with(
         &self,
         alloc: Global,
-        place: usize,
         set: &RowBits,
-        found: &mut Products,
-    ) -> Result<(), OutOfMemory>
-        requires search { IsSearch (query_of self.now.query.now) (plan_query self.now.plan.now)
-            self.now.expanded.now self.now.start.now }
+        failing: &mut SetList,
+    ) -> Result<Option<RowBits>, OutOfMemory>
+        requires search { IsSearch self.now.catalogue.now self.now.query.now self.now.plan.now
+            self.now.expanded.now }
         requires count { length set.now ≡ length self.now.plan.now.atoms }
+        requires failing { AreFailing (length self.now.plan.now.atoms)
+            (Answers self.now.catalogue.now self.now.query.now self.now.plan.now) failing.old }
+        ensures failing { OnOk result (AreFailing (length self.now.plan.now.atoms)
+            (Answers self.now.catalogue.now self.now.query.now self.now.plan.now) failing.new) }
+        ensures failed { IfOk result (λ outcome. MatchOption outcome
+            (Answers self.now.catalogue.now self.now.query.now self.now.plan.now set.now)
+            (FailsWith (length self.now.plan.now.atoms)
+            (Answers self.now.catalogue.now self.now.query.now self.now.plan.now) set.now)) }
+    {
+        let known = superset_in(alloc, failing.items(), set)?;
+        if let Some(failed) = known {
+            return Ok(Some(failed));
+        }
+        if self.answers(alloc, set)? {
+            return Ok(None);
+        }
+        let failed = self.grown(alloc, set)?;
+        failing.push(failed.copy(alloc)?)?;
+        Ok(Some(failed))
+    }
+
+    /// Tries each set that has the set's numbers and none of those left out. Where the set does not answer the query,
+    /// neither does some greatest set that has its numbers, so each set that answers has a number that this one lacks.
+    /// Source: the tree of hitting sets (Reiter 1987).
+    #[cycle(visit)]
+    pub fn visit(
+        &self,
+        alloc: Global,
+        set: &RowBits,
+        left_out: &RowBits,
+        found: &mut Products,
+        failing: &mut SetList,
+    ) -> Result<(), OutOfMemory>
+        requires search { IsSearch self.now.catalogue.now self.now.query.now self.now.plan.now
+            self.now.expanded.now }
+        requires rises { Rises (length self.now.plan.now.atoms)
+            (Answers self.now.catalogue.now self.now.query.now self.now.plan.now) }
+        requires count { length set.now ≡ length self.now.plan.now.atoms }
+        requires left_out { length left_out.now ≡ length self.now.plan.now.atoms }
         requires same_count { found.old.count ≡ length self.now.plan.now.atoms }
-        requires within { place ≤ length set.now }
-        requires below { (number : ℕ) → Has set.now number → number < place }
+        requires failing { AreFailing (length self.now.plan.now.atoms)
+            (Answers self.now.catalogue.now self.now.query.now self.now.plan.now) failing.old }
         ensures count { OnOk result (found.new.count ≡ found.old.count) }
+        ensures failing { OnOk result (AreFailing (length self.now.plan.now.atoms)
+            (Answers self.now.catalogue.now self.now.query.now self.now.plan.now) failing.new) }
         ensures visited { OnOk result (Visited
-            (Passes (query_of self.now.query.now) (plan_query self.now.plan.now)
-            self.now.expanded.now)
-            (AgreesBelow place set.now) found.old.sets found.new.sets) }
+            (Answers self.now.catalogue.now self.now.query.now self.now.plan.now)
+            (IsBetween set.now left_out.now) found.old.sets found.new.sets) }
     {
         if found.covered(set) {
             return Ok(());
         }
-        let most = with_later(alloc, set, place)?;
-        if !self.passes(alloc, &most)? {
-            return Ok(());
-        }
-        if place >= set.count() {
+        let Some(failed) = self.failing_with(alloc, set, failing)? else {
             found.add(alloc, set)?;
             return Ok(());
-        }
-        self.visit(alloc, place + 1, set, found)?;
-        let mut more = set.copy(alloc)?;
-        more.insert(place);
-        self.visit(alloc, place + 1, &more, found)?;
+        };
+        let numbers = lacking(alloc, &failed, left_out)?;
+        self.visit_by(alloc, set, left_out, numbers.items(), found, failing)?;
         Ok(())
     }
-}
 
-/// The minimal sets of the plan's atoms that answer the query, executable or not, where there are no rules. A branch of
-/// the sets is left where a set that was found covers it, or the greatest of them does not answer the query.
-fn answering_sets(
-    alloc: Global,
-    plan: &Plan,
-    query: &Query,
-    fragments: &FragmentDefs,
-) -> Result<Products, OutOfMemory>
-    requires over { IsPlanOver plan.now fragments.now }
-    requires same_length { length plan.now.head ≡ length query.now.head }
-    requires universal { IsUniversalPlan [] (views_of fragments.now) (query_of query.now)
-        (plan_query plan.now) }
-    ensures count { IfOk result (λ it. it.count ≡ length plan.now.atoms) }
-    ensures minimal { IfOk result (λ it. (set : List Bool) → Contains it.sets set ↔ IsMinimal
-        (AnswersQuery [] (views_of fragments.now) (query_of query.now) (plan_query plan.now)) set) }
-{
-    queries_are_sound();
-    passing_sets_answer_the_query();
-    let mut found = Products::new(alloc, plan.atoms.len());
-    let expanded = expand(alloc, plan, fragments)?;
-    let Some(start) = sending(alloc, &query.head, &plan.head)? else {
-        return Ok(found);
-    };
-    let search = Search {
-        query,
-        plan,
-        expanded: &expanded,
-        start: &start,
-    };
-    let set = RowBits::new(alloc, plan.atoms.len())?;
-    search.visit(alloc, 0, &set, &mut found)?;
-    products_are_antichains(&found);
-    Ok(found)
-}
-
-/// The listed sets of the plan, where there are no rules: the minimal sets of its atoms that are executable, and whose
-/// candidate is safe and equivalent to the query. Each query over fragments that is an executable rewriting maps onto a
-/// superset of one of them. The sets that answer the query are searched for, and then made executable.
-pub fn minimal_sets_plain(
-    alloc: Global,
-    plan: &Plan,
-    query: &Query,
-    fragments: &FragmentDefs,
-) -> Result<Products, OutOfMemory>
-    requires over { IsPlanOver plan.now fragments.now }
-    requires same_length { length plan.now.head ≡ length query.now.head }
-    requires universal { IsUniversalPlan [] (views_of fragments.now) (query_of query.now)
-        (plan_query plan.now) }
-    ensures count { IfOk result (λ it. it.count ≡ length plan.now.atoms) }
-    ensures listed { IfOk result (λ it. (set : List Bool) → Contains it.sets set
-        ↔ IsListed [] (views_of fragments.now) (patterns_of fragments.now) (query_of query.now)
-        (plan_query plan.now) set) }
-    ensures complete { IfOk result (λ it. (other : ConjunctiveQuery)
-        → IsExecutableRewriting [] (views_of fragments.now) (patterns_of fragments.now)
-        (query_of query.now) other
-        → MapsOntoOne other (plan_query plan.now) it.sets) }
-{
-    plans_are_sound();
-    listed_sets_are_executable();
-    rewritings_map_onto_sets();
-    universal_instances_satisfy_queries();
-    let answering = answering_sets(alloc, plan, query, fragments)?;
-    let found = executable_products(alloc, plan, fragments, &answering)?;
-    Ok(found)
+    /// Tries each set that has the set's numbers, none of those left out, and one of the further numbers.
+    #[cycle(visit)]
+    fn visit_by(
+        &self,
+        alloc: Global,
+        set: &RowBits,
+        left_out: &RowBits,
+        numbers: &[usize],
+        found: &mut Products,
+        failing: &mut SetList,
+    ) -> Result<(), OutOfMemory>
+        requires search { IsSearch self.now.catalogue.now self.now.query.now self.now.plan.now
+            self.now.expanded.now }
+        requires rises { Rises (length self.now.plan.now.atoms)
+            (Answers self.now.catalogue.now self.now.query.now self.now.plan.now) }
+        requires count { length set.now ≡ length self.now.plan.now.atoms }
+        requires left_out { length left_out.now ≡ length self.now.plan.now.atoms }
+        requires numbers { (number : ℕ) → Contains numbers.now number
+            → (number < length self.now.plan.now.atoms) × ¬ (Has set.now number) }
+        requires same_count { found.old.count ≡ length self.now.plan.now.atoms }
+        requires failing { AreFailing (length self.now.plan.now.atoms)
+            (Answers self.now.catalogue.now self.now.query.now self.now.plan.now) failing.old }
+        ensures count { OnOk result (found.new.count ≡ found.old.count) }
+        ensures failing { OnOk result (AreFailing (length self.now.plan.now.atoms)
+            (Answers self.now.catalogue.now self.now.query.now self.now.plan.now) failing.new) }
+        ensures visited { OnOk result (Visited
+            (Answers self.now.catalogue.now self.now.query.now self.now.plan.now)
+            (λ other. IsBetween set.now left_out.now other × HasOneOf numbers.now other)
+            found.old.sets found.new.sets) }
+    {
+        let mut earlier = left_out.copy(alloc)?;
+        'numbers: for number in numbers {
+            let more = with_number(alloc, set, *number)?;
+            self.visit(alloc, &more, &earlier, found, failing)?;
+            earlier = with_number(alloc, &earlier, *number)?;
+        }
+        Ok(())
+    }
 }

@@ -3,3 +3,4 @@ pub mod InnerLemmas
 pub mod SubstitutionLemmas
 pub mod ExpandedLemmas
 pub mod PatternLemmas
+pub mod FlatLemmas

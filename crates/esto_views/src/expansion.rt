@@ -2,7 +2,8 @@
 ghost use Rattle.std.specs.Prelude.{◌≡◌, ◌++◌, List, length, map, IfOk, OnOk};
 ghost use Rattle.esto_semantics.specs.Expansions.{FitsViews};
 ghost use Rattle.esto_semantics.specs.Facts.{image};
-ghost use Rattle.esto_views.specs.Expanded.{placed, AreExpanded, Expands};
+ghost use Rattle.esto_semantics.specs.Maps.{AreFlat};
+ghost use Rattle.esto_views.specs.Expanded.{placed, facts_of, AreExpanded, Expands};
 ghost use Rattle.esto_views.specs.Fragments.{views_of};
 ghost use Rattle.esto_views.specs.Plans.{plan_query, IsPlanOver};
 ghost use Rattle.esto_views.specs.Spreads.{substituted};
@@ -101,6 +102,7 @@ pub fn expand(
     ensures exact { IfOk result (λ expanded.
         AreExpanded fragments.now 0 (length plan.now.names) plan.now.atoms expanded) }
     ensures expands { IfOk result (λ expanded. Expands plan.now fragments.now expanded) }
+    ensures flat { IfOk result (λ expanded. AreFlat (facts_of expanded)) }
 {
     plans_are_sound();
     queries_are_sound();
