@@ -8,11 +8,11 @@ use Rattle.esto_text.specs.declared.token.TokenKind.{TokenKind}
 use Rattle.esto_text.specs.declared.token.TokenKind.TheVariants.{Name, Wildcard, Quoted, LeftParen, RightParen, LeftBrace, RightBrace, LeftBracket, RightBracket, Comma, Dot, Colon, Turnstile, Arrow, Equals, Stars}
 use Rattle.esto_text.specs.declared.tree.StepSyntax.{StepSyntax}
 use Rattle.esto_text.specs.declared.tree.StepSyntax.TheVariants.{Field, Item, Below}
-use Rattle.esto_text.specs.Trees.{EntryTree, Value, Nested, EntryTrees, NoEntry, AndEntry, ItemTree, Atom, Part, Pattern, QueryTree, HeadTree, Items, Equality, ConstraintTree}
-use Rattle.esto_text.specs.Grammar.{class_of, step_at, is_term, IsName, IsTerm, IsNext, IsRowEnd, IsLater, IsPathEnd, IsPath, IsEntry, IsGroupEnd, IsGroup, IsItem, IsBodyEnd, IsQuery, IsHead, IsConstraint}
+use Rattle.esto_text.specs.Trees.{EntryTree, Value, Nested, EntryTrees, NoEntry, AndEntry, ItemTree, Atom, Part, Pattern, QueryTree, HeadTree, Items, Equality, Never, ConstraintTree}
+use Rattle.esto_text.specs.Grammar.{class_of, step_at, is_term, IsName, IsTerm, IsNext, IsRowEnd, IsLater, IsPathEnd, IsPath, IsEntry, IsGroupEnd, IsGroup, IsItem, IsBodyEnd, IsQuery, IsHead, NoFalse, IsConstraint}
 use Rattle.esto_text.specs.Faults.{Leaves, StopsAt}
 use Rattle.esto_text.specs.Machine.{Symbol, AName, ATerm, ANext, AParen, ABracket, ATurnstile, MoreNames, MoreTerms, AnItem, ItemRest, MoreItems, MoreBody, AHead, HeadRest, AnEntry, PathRest, MoreEntries, start, constraint_start, step, is_done, advance, first_fault}
-use Rattle.esto_text.proofs.Runs.{after, query_runs, constraint_runs}
+use Rattle.esto_text.proofs.Runs.{after, query_fits, constraint_fits}
 
 -- the texts of a symbol
 abbrev Lang : Symbol → List Token → Type 0
@@ -28,8 +28,8 @@ Lang AnItem ts = (i : ItemTree) × IsItem i ts
 Lang ItemRest ts = (of : Token → ItemTree) × ((n : Token) → IsName n → IsItem (of n) (n ∷ ts))
 Lang MoreItems ts = (is : List ItemTree) × IsBodyEnd is ts
 Lang MoreBody ts = (is : List ItemTree) × (front : List Token) × (arrow : Token) × (ts ≡ front ++ arrow ∷ []) × IsBodyEnd is front × (class_of arrow ≡ Arrow)
-Lang AHead ts = (h : HeadTree) × IsHead h ts
-Lang HeadRest ts = (of : Token → HeadTree) × ((n : Token) → IsName n → IsHead (of n) (n ∷ ts))
+Lang AHead ts = (h : HeadTree) × IsHead NoFalse h ts
+Lang HeadRest ts = (of : Token → HeadTree) × ((n : Token) → IsName n → IsHead NoFalse (of n) (n ∷ ts))
 Lang (AnEntry n) ts = (f : EntryTree) × IsEntry n f ts
 Lang (PathRest n) ts = (of : List StepSyntax → EntryTree) × ((path : List StepSyntax) (front : List Token) → IsPath path front → IsEntry n (of path) (front ++ ts))
 Lang (MoreEntries n) ts = (fs : EntryTrees) × IsGroupEnd n fs ts
@@ -346,8 +346,14 @@ query_of ts (a0, b0, e0, (n, f0, p0), (a1, b1, e1, (paren, f1, p1), (a2, b2, e2,
       ),
     )
 
-constraint_of : (ts : List Token) → Langs constraint_start ts → (c : ConstraintTree) × IsConstraint c ts
-constraint_of ts (a0, b0, e0, (i, hi), (a1, b1, e1, (is, front, arrow, f, g, c), last)) =
+-- what is a head without the word `false` is one with it
+pub head_any : (IsFalse : Token → Type 0) (h : HeadTree) (ts : List Token) → IsHead NoFalse h ts → IsHead IsFalse h ts
+head_any IsFalse (Items is) ts h = h
+head_any IsFalse (Equality left right) ts h = h
+head_any IsFalse Never ts h = absurd h.3
+
+constraint_of : (IsFalse : Token → Type 0) (ts : List Token) → Langs constraint_start ts → (c : ConstraintTree) × IsConstraint IsFalse c ts
+constraint_of IsFalse ts (a0, b0, e0, (i, hi), (a1, b1, e1, (is, front, arrow, f, g, c), last)) =
     let h = one AHead b1 last in (
       record { body = i ∷ is; head = h.0 },
       (
@@ -355,32 +361,35 @@ constraint_of ts (a0, b0, e0, (i, hi), (a1, b1, e1, (is, front, arrow, f, g, c),
         b1,
         e0 ∙ ap (λ (w : List Token). a0 ++ w) e1 ∙ sym (append_assoc a0 a1 b1),
         (a0 ++ front, arrow, ap (λ (w : List Token). a0 ++ w) f ∙ sym (append_assoc a0 front (arrow ∷ [])), (a0, front, refl, hi, g), c),
-        h.1,
+        head_any IsFalse h.0 b1 h.1,
       ),
     )
 
 -- the machine stops where the texts of its symbols do
 module _ {T : Type 0} (IsTree : T → List Token → Type 0) (whole : List Symbol) (tree : (ts : List Token) → Langs whole ts → (x : T) × IsTree x ts)
-    (runs : (x : T) (ts : List Token) → IsTree x ts → first_fault whole ts ≡ None) where
-  leaves : (rest : List Token) (then : List Symbol) (front : List Token) → ((ws : List Token) → first_fault whole (front ++ ws) ≡ first_fault then ws) → IsStuck then rest → Leaves IsTree front rest
-  leaves [] then front forward stuck = λ x h.
-      let here : first_fault whole (front ++ []) ≡ Some [] = forward [] ∙ ended then stuck in
-      let none : first_fault whole (front ++ []) ≡ None = ap (first_fault whole) (append-nil front) ∙ runs x front h in
-      absurd cc
-  leaves (t ∷ ts) then front forward stuck = λ (x, more, h).
-      let here : first_fault whole (front ++ (t ∷ more)) ≡ Some (t ∷ more) = forward (t ∷ more) ∙ advanced then t more None stuck in
-      let none : first_fault whole (front ++ (t ∷ more)) ≡ None = sym (ap (first_fault whole) (append_assoc front (t ∷ []) more)) ∙ runs x ((front ++ t ∷ []) ++ more) h in
+    (fits : (x : T) (ts rest : List Token) → IsTree x ts → first_fault whole ts ≡ Some rest → rest ≡ []) where
+  leaves : (rest : List Token) (then : List Symbol) (front : List Token) → ((ws : List Token) → first_fault whole (front ++ ws) ≡ first_fault then ws)
+      → IsStuck then rest → (rest ≡ [] → (x : T) → ¬ IsTree x front) → Leaves IsTree front rest
+  leaves [] then front forward stuck none = none refl
+  leaves (t ∷ ts) then front forward stuck none = λ (x, more, h).
+      let here : first_fault whole ((front ++ t ∷ []) ++ more) ≡ Some (t ∷ more) =
+      ap (first_fault whole) (append_assoc front (t ∷ []) more) ∙ forward (t ∷ more) ∙ advanced then t more None stuck in
+      let nil : t ∷ more ≡ [] = fits x ((front ++ t ∷ []) ++ more) (t ∷ more) h here in
       absurd cc
 
-  stops_at : (ts rest : List Token) → first_fault whole ts ≡ Some rest → StopsAt IsTree ts rest
-  stops_at ts rest e =
+  stops_at : (ts rest : List Token) → ((x : T) → ¬ IsTree x ts) → first_fault whole ts ≡ Some rest → StopsAt IsTree ts rest
+  stops_at ts rest none e =
       let r = run_is ts rest whole e in
       let w = least_all r.then in
       let x = tree (r.front ++ w.0) (r.backward w.0 w.1) in
-      (r.front, r.split, (x.0, w.0, x.1), leaves rest r.then r.front r.forward r.stuck)
+      let at_end : rest ≡ [] → (x : T) → ¬ IsTree x r.front = λ nil x h.
+      none x (subst (IsTree x) (sym (r.split ∙ ap (λ (l : List Token). r.front ++ l) nil ∙ append-nil r.front)) h) in
+      (r.front, r.split, (x.0, w.0, x.1), leaves rest r.then r.front r.forward r.stuck at_end)
 
 pub fault_is : (ts rest : List Token) → first_fault start ts ≡ Some rest → StopsAt IsQuery ts rest
-fault_is = stops_at IsQuery start query_of query_runs
+fault_is ts rest e =
+    stops_at IsQuery start query_of (λ x ts rest h f. absurd (query_fits x ts rest h f)) ts rest (λ x h. query_fits x ts rest h e) e
 
-pub constraint_fault_is : (ts rest : List Token) → first_fault constraint_start ts ≡ Some rest → StopsAt IsConstraint ts rest
-constraint_fault_is = stops_at IsConstraint constraint_start constraint_of constraint_runs
+pub constraint_fault_is : (IsFalse : Token → Type 0) (ts rest : List Token) → ((c : ConstraintTree) → ¬ IsConstraint IsFalse c ts)
+    → first_fault constraint_start ts ≡ Some rest → StopsAt (IsConstraint IsFalse) ts rest
+constraint_fault_is IsFalse = stops_at (IsConstraint IsFalse) constraint_start (constraint_of IsFalse) (constraint_fits IsFalse)

@@ -12,7 +12,7 @@ use Rattle.esto_text.specs.Grammar.{fitting, class_of, is_term, step_at, IsName,
 use Rattle.esto_text.specs.Faults.{IsNameIn, IsFieldIn, IsTermIn, StandsAt, ConstraintStandsAt}
 use Rattle.esto_text.specs.Limits.{is_close, is_name, in_room, limited_row, limited}
 use Rattle.esto_text.specs.Tokens.{IsToken, Places, Covers, text_of, StandsIn}
-use Rattle.esto_text.specs.Trees.{EntryTree, Value, Nested, EntryTrees, NoEntry, AndEntry, ItemTree, Atom, Part, Pattern, QueryTree, HeadTree, Items, Equality, ConstraintTree, EachOfPath, EachOfEntry, EachOfEntries, EachOfItem, EachOfQuery, EachOfHead, EachOfConstraint}
+use Rattle.esto_text.specs.Trees.{EntryTree, Value, Nested, EntryTrees, NoEntry, AndEntry, ItemTree, Atom, Part, Pattern, QueryTree, HeadTree, Items, Equality, Never, ConstraintTree, EachOfPath, EachOfEntry, EachOfEntries, EachOfItem, EachOfQuery, EachOfHead, EachOfConstraint}
 
 -- ---- from the tokens to the tree
 
@@ -120,15 +120,16 @@ module _ (P N F T : Token → Type 0) (name_leaf : (t : Token) → P t → IsNam
       let behind = here.1.1 in
       (name_leaf q.name here.0 n, row_each IsName N name_leaf q.variables head h (front_of head (turnstile ∷ body) behind), body_each q.items body b (back_of head (turnstile ∷ body) behind).1)
 
-  head_each : (h : HeadTree) (ts : List Token) → IsHead h ts → Every ts → EachOfHead N F T h
-  head_each (Items items) ts h all = body_each items ts h all
-  head_each (Equality left right) ts (sign, e, n, c, t) all = let here = subst Every e all in (name_leaf left here.0 n, term_leaf right here.1.1.0 t)
+  head_each : (W : Token → Type 0) (h : HeadTree) (ts : List Token) → IsHead W h ts → Every ts → EachOfHead N F T h
+  head_each W (Items items) ts h all = body_each items ts h all
+  head_each W (Equality left right) ts (sign, e, n, c, t) all = let here = subst Every e all in (name_leaf left here.0 n, term_leaf right here.1.1.0 t)
+  head_each W Never ts h all = tt
 
-  pub constraint_each : (c : ConstraintTree) (ts : List Token) → IsConstraint c ts → Every ts → EachOfConstraint N F T c
-  constraint_each c ts (body, head, e, (front, arrow, f, b, q), h) all =
+  pub constraint_each : (W : Token → Type 0) (c : ConstraintTree) (ts : List Token) → IsConstraint W c ts → Every ts → EachOfConstraint N F T c
+  constraint_each W c ts (body, head, e, (front, arrow, f, b, q), h) all =
       let here = subst Every e all in
       let before = subst Every f (front_of body head here) in
-      (body_each c.body front b (front_of front (arrow ∷ []) before), head_each c.head head h (back_of body head here))
+      (body_each c.body front b (front_of front (arrow ∷ []) before), head_each W c.head head h (back_of body head here))
 
 -- ---- tokens stand in the text
 
@@ -213,6 +214,9 @@ module _ (bytes : List ℕ) where
   tree_stands ts q h g =
       query_each StandsOrNot (IsNameIn bytes) (IsFieldIn bytes) (IsTermIn bytes) name_in field_in term_in q (limited ts) g (limited_stands ts (stand_all 0 ts (omega arith) h))
 
-  pub constraint_stands : (ts : List Token) (c : ConstraintTree) → Covers 0 bytes ts → IsConstraint c ts → ConstraintStandsAt bytes c
-  constraint_stands ts c h g =
-      constraint_each StandsOrNot (IsNameIn bytes) (IsFieldIn bytes) (IsTermIn bytes) name_in field_in term_in c ts g (all_stand ts (stand_all 0 ts (omega arith) h))
+  pub tokens_stand : (ts : List Token) → Covers 0 bytes ts → AllByRecursion (StandsIn bytes) ts
+  tokens_stand ts h = stand_all 0 ts (omega arith) h
+
+  pub constraint_stands : (W : Token → Type 0) (ts : List Token) (c : ConstraintTree) → Covers 0 bytes ts → IsConstraint W c ts → ConstraintStandsAt bytes c
+  constraint_stands W ts c h g =
+      constraint_each StandsOrNot (IsNameIn bytes) (IsFieldIn bytes) (IsTermIn bytes) name_in field_in term_in W c ts g (all_stand ts (tokens_stand ts h))

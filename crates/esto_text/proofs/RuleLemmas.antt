@@ -1,17 +1,19 @@
 -- Constraints: the items of a body with its arrow, and a head.
-use Rattle.std.proofs.Common.{◌≡◌, Bool, true, false, List, [], ◌∷◌, ◌++◌, length, drop, refl, sym, ap, subst, ◌∙◌, append_assoc}
+use Rattle.std.proofs.Common.{◌≡◌, ℕ, Bool, true, false, inl, inr, Some, None, List, [], ◌∷◌, ◌++◌, length, drop, refl, sym, ap, subst, ◌∙◌, append_assoc}
+use Rattle.std.specs.List.{AllByRecursion}
 use Rattle.std.specs.Prelude.{map}
 use Rattle.std.proofs.lemmas.List.{append-nil}
 use Rattle.esto_text.specs.declared.stop.Stop.{Stop}
-use Rattle.esto_text.specs.declared.stop.Stop.TheVariants.{Syntax}
+use Rattle.esto_text.specs.declared.stop.Stop.TheVariants.{Syntax, OutOfMemory}
 use Rattle.esto_text.specs.declared.token.Token.{Token}
 use Rattle.esto_text.specs.declared.token.TokenKind.TheVariants.{Name, Comma, Arrow, Equals}
 use Rattle.esto_text.specs.declared.tree.ItemSyntax.{ItemSyntax}
-use Rattle.esto_text.specs.Trees.{ItemTree, HeadTree}
+use Rattle.esto_text.specs.Trees.{ItemTree, HeadTree, Never, ConstraintTree}
 use Rattle.esto_text.specs.Grammar.{class_of, IsTerm, IsItem, IsRuleBody, IsHead, IsConstraint}
-use Rattle.esto_text.specs.Machine.{Symbol, ATerm, AnItem, MoreBody, AHead, HeadRest, constraint_start, class_at, first_fault, FailsAt, Fails, Takes}
+use Rattle.esto_text.specs.Machine.{Symbol, ATerm, AnItem, MoreBody, AHead, HeadRest, constraint_start, class_at, first_fault, FailsAt, ConstraintFails, Fails, Takes}
 use Rattle.esto_text.specs.View.{item_of}
-use Rattle.esto_text.proofs.Runs.{seen, term_seen, item_runs, rule_body_runs}
+use Rattle.esto_text.proofs.Runs.{seen, term_seen, item_runs, rule_body_runs, head_runs, head_through, plain_or_denial}
+use Rattle.esto_text.proofs.Unique.{rule_body_one}
 use Rattle.esto_text.proofs.RowLemmas.{fails_along, fails_here, not_more_body, Grows, next, Goes, Ends, Ended, NoEnd, row_more}
 use Rattle.esto_text.proofs.ItemLemmas.{Named, body_cons}
 use Rattle.esto_text.proofs.PathLemmas.{next_is}
@@ -72,9 +74,42 @@ module _ (tokens rest : List Token) (name : Token) (h : Named tokens name rest) 
 
 -- ---- the whole constraint
 
-module _ (tokens rest : List Token) (body : List ItemTree) (h : Takes (IsRuleBody body) tokens rest) where
-  pub head_fails : (e : Stop) → FailsAt (AHead ∷ []) rest e → FailsAt constraint_start tokens e
-  head_fails e f = fails_along constraint_start (AHead ∷ []) tokens rest e (ap (first_fault constraint_start) h.1 ∙ rule_body_runs body h.0 (AHead ∷ []) rest h.2) f
+-- what stands behind a front stands
+pub back_stands : (P : Token → Type 0) (a b : List Token) → AllByRecursion P (a ++ b) → AllByRecursion P b
+back_stands P [] b h = h
+back_stands P (t ∷ a) b h = back_stands P a b h.1
 
-  pub constraint_is : (head : HeadTree) → IsHead head rest → IsConstraint (record { body = body; head = head }) tokens
-  constraint_is head g = (h.0, rest, h.1, h.2, g)
+module _ (IsFalse : Token → Type 0) (tokens : List Token) where
+  none_with_body : (left : ℕ) → Fails body_part tokens (Syntax left) → (tree : ConstraintTree) → ¬ IsConstraint IsFalse tree tokens
+  none_with_body left fails tree (body, head, e, b, h) =
+      let (s, through) = head_through IsFalse tree.head head h in
+      let (rest, stops, long) = fails s in
+      let none : first_fault (AnItem ∷ MoreBody ∷ s) tokens ≡ None =
+      ap (first_fault (AnItem ∷ MoreBody ∷ s)) e ∙ rule_body_runs tree.body body s head b ∙ through in
+      let same : None ≡ Some rest = sym none ∙ stops in absurd cc
+
+  pub no_body : (e : Stop) → Fails body_part tokens e → ConstraintFails IsFalse tokens e
+  no_body OutOfMemory fails = tt
+  no_body (Syntax left) fails = (none_with_body left fails, fails (AHead ∷ []))
+
+  module _ (rest : List Token) (body : List ItemTree) (h : Takes (IsRuleBody body) tokens rest) where
+    none_with_head : (left : ℕ) → ¬ IsHead IsFalse Never rest → FailsAt (AHead ∷ []) rest (Syntax left) → (tree : ConstraintTree) → ¬ IsConstraint IsFalse tree tokens
+    none_with_head left no_denial (stop, fails, long) tree (body', head', e', b', h') =
+        let same : rest ≡ head' = (rule_body_one body h.0 tree.body body' rest head' (sym h.1 ∙ e') h.2 b').1 in
+        elim (plain_or_denial IsFalse tree.head rest (subst (IsHead IsFalse tree.head) (sym same) h')) [
+          | inl plain ↦
+              let none : first_fault (AHead ∷ []) rest ≡ None = head_runs tree.head rest plain in
+              let both : None ≡ Some stop = sym none ∙ fails in absurd cc
+          | inr denial ↦ no_denial denial
+        ]
+
+    pub no_head : (e : Stop) → ¬ IsHead IsFalse Never rest → FailsAt (AHead ∷ []) rest e → ConstraintFails IsFalse tokens e
+    no_head OutOfMemory no_denial f = tt
+    no_head (Syntax left) no_denial f = (
+      none_with_head left no_denial f,
+      fails_along constraint_start (AHead ∷ []) tokens rest (Syntax left)
+          (ap (first_fault constraint_start) h.1 ∙ rule_body_runs body h.0 (AHead ∷ []) rest h.2) f,
+    )
+
+    pub constraint_is : (head : HeadTree) → IsHead IsFalse head rest → IsConstraint IsFalse (record { body = body; head = head }) tokens
+    constraint_is head g = (h.0, rest, h.1, h.2, g)

@@ -1,13 +1,13 @@
 -- What the grammar has, the machine goes through.
-use Rattle.std.proofs.Common.{◌≡◌, ◌≢◌, ℕ, suc, ◌<◌, inl, inr, Bool, cond, List, [], ◌∷◌, ◌++◌, Option, Some, None, refl, sym, ap, ◌∙◌, append_assoc}
+use Rattle.std.proofs.Common.{◌≡◌, ◌≢◌, ◌⊎◌, ℕ, suc, ◌<◌, inl, inr, Bool, cond, List, [], ◌∷◌, ◌++◌, Option, Some, None, refl, sym, ap, ◌∙◌, append_assoc}
 use Rattle.std.proofs.lemmas.List.{append-nil}
 use Rattle.std.proofs.lemmas.Bool.{lt-ltb}
 use Rattle.esto_text.specs.declared.token.Token.{Token}
 use Rattle.esto_text.specs.declared.token.TokenKind.{TokenKind}
 use Rattle.esto_text.specs.declared.token.TokenKind.TheVariants.{Name, Quoted, LeftParen, RightParen, LeftBrace, RightBrace, LeftBracket, RightBracket, Comma, Dot, Colon, Turnstile, Arrow, Equals, Stars}
 use Rattle.esto_text.specs.declared.tree.StepSyntax.{StepSyntax}
-use Rattle.esto_text.specs.Trees.{EntryTree, Value, Nested, EntryTrees, NoEntry, AndEntry, ItemTree, Atom, Part, Pattern, QueryTree, HeadTree, Items, Equality, ConstraintTree}
-use Rattle.esto_text.specs.Grammar.{class_of, step_at, IsName, IsTerm, IsRowEnd, IsRow, IsFirst, IsLater, IsPathEnd, IsPath, IsEntry, IsGroupEnd, IsGroup, IsItem, IsBodyEnd, IsBody, IsQuery, IsRuleBody, IsHead, IsConstraint}
+use Rattle.esto_text.specs.Trees.{EntryTree, Value, Nested, EntryTrees, NoEntry, AndEntry, ItemTree, Atom, Part, Pattern, QueryTree, HeadTree, Items, Equality, Never, ConstraintTree}
+use Rattle.esto_text.specs.Grammar.{class_of, step_at, IsName, IsTerm, IsRowEnd, IsRow, IsFirst, IsLater, IsPathEnd, IsPath, IsEntry, IsGroupEnd, IsGroup, IsItem, IsBodyEnd, IsBody, IsQuery, IsRuleBody, IsHead, NoFalse, IsConstraint}
 use Rattle.esto_text.specs.Machine.{Symbol, AName, ATerm, ANext, AParen, ABracket, MoreNames, MoreTerms, AnItem, ItemRest, MoreItems, MoreBody, AHead, HeadRest, AnEntry, PathRest, MoreEntries, after_head, start, constraint_start, step, class_at, advance, first_fault}
 
 -- ---- one token
@@ -129,6 +129,9 @@ query_runs q ts (paren, head, turnstile, body, e, n, p, h, t, b) =
     rw e (seen start q.name (paren ∷ (head ++ turnstile ∷ body)) Name n ∙ seen (AParen ∷ AName ∷ MoreNames ∷ after_head) paren (head ++ turnstile ∷ body) LeftParen p
     ∙ names_runs q.variables head after_head (turnstile ∷ body) h ∙ seen after_head turnstile body Turnstile t ∙ body_runs q.items body b)
 
+pub query_fits : (q : QueryTree) (ts rest : List Token) → IsQuery q ts → first_fault start ts ≡ Some rest → ⊥
+query_fits q ts rest h e = let none : first_fault start ts ≡ None = query_runs q ts h in cc
+
 -- ---- constraints
 
 pub rule_body_runs : (is : List ItemTree) (ts : List Token) (s : List Symbol) (ws : List Token) → IsRuleBody is ts → first_fault (AnItem ∷ MoreBody ∷ s) (ts ++ ws) ≡ first_fault s ws
@@ -156,7 +159,7 @@ item_begins (Atom name terms) a b (paren, more, e, p, q, r) = (name, paren ∷ (
 item_begins (Part name part terms) a b (dot, paren, more, e, p, q, r, t, h) = (name, dot ∷ part ∷ paren ∷ (more ++ b), ap (λ (l : List Token). l ++ b) e, p, λ z. cc)
 item_begins (Pattern name entries) a b (brace, more, e, p, q, r) = (name, brace ∷ (more ++ b), ap (λ (l : List Token). l ++ b) e, p, λ z. cc)
 
-head_runs : (h : HeadTree) (ts : List Token) → IsHead h ts → first_fault (AHead ∷ []) ts ≡ None
+pub head_runs : (h : HeadTree) (ts : List Token) → IsHead NoFalse h ts → first_fault (AHead ∷ []) ts ≡ None
 head_runs (Items []) ts h = absurd h
 head_runs (Items (i ∷ is)) ts (a, b, e, ha, hb) =
     let n = item_begins i a b ha in
@@ -164,6 +167,31 @@ head_runs (Items (i ∷ is)) ts (a, b, e, ha, hb) =
     ap (first_fault (AHead ∷ [])) whole ∙ side_runs n.0 n.1 n.3 n.4 ∙ ap (first_fault (AnItem ∷ MoreItems ∷ [])) (sym whole) ∙ body_runs (i ∷ is) ts (a, b, e, ha, hb)
 head_runs (Equality left right) ts (sign, e, n, c, t) =
     rw e (seen (AHead ∷ []) left (sign ∷ right ∷ []) Name n ∙ seen (HeadRest ∷ []) sign (right ∷ []) Equals c ∙ term_seen [] right [] t)
+head_runs Never ts h = absurd h.3
 
-pub constraint_runs : (c : ConstraintTree) (ts : List Token) → IsConstraint c ts → first_fault constraint_start ts ≡ None
-constraint_runs c ts (body, head, e, b, h) = ap (first_fault constraint_start) e ∙ rule_body_runs c.body body (AHead ∷ []) head b ∙ head_runs c.head head h
+module _ (IsFalse : Token → Type 0) where
+  -- a head is that of a denial, or one without the word `false`
+  pub plain_or_denial : (h : HeadTree) (ts : List Token) → IsHead IsFalse h ts → IsHead NoFalse h ts ⊎ IsHead IsFalse Never ts
+  plain_or_denial (Items is) ts h = inl h
+  plain_or_denial (Equality left right) ts h = inl h
+  plain_or_denial Never ts h = inr h
+
+  -- of a head, nothing is left but, behind the word `false`, what is to follow a name
+  pub head_fits : (h : HeadTree) (ts rest : List Token) → IsHead IsFalse h ts → first_fault (AHead ∷ []) ts ≡ Some rest → rest ≡ []
+  head_fits h ts rest g e = elim (plain_or_denial h ts g) [
+    | inl plain ↦ let none : first_fault (AHead ∷ []) ts ≡ None = head_runs h ts plain in absurd cc
+    | inr (word, is, n, f) ↦
+        let end : first_fault (AHead ∷ []) ts ≡ Some [] = ap (first_fault (AHead ∷ [])) is ∙ seen (AHead ∷ []) word [] Name n in
+        let same : Some rest ≡ Some [] = sym e ∙ end in cc
+  ]
+
+  -- some symbols go through a head to its end
+  pub head_through : (h : HeadTree) (ts : List Token) → IsHead IsFalse h ts → (s : List Symbol) × (first_fault s ts ≡ None)
+  head_through h ts g = elim (plain_or_denial h ts g) [
+    | inl plain ↦ (AHead ∷ [], head_runs h ts plain)
+    | inr (word, is, n, f) ↦ (AName ∷ [], ap (first_fault (AName ∷ [])) is ∙ seen (AName ∷ []) word [] Name n)
+  ]
+
+  pub constraint_fits : (c : ConstraintTree) (ts rest : List Token) → IsConstraint IsFalse c ts → first_fault constraint_start ts ≡ Some rest → rest ≡ []
+  constraint_fits c ts rest (body, head, e, b, h) f =
+      head_fits c.head head rest h (sym (ap (first_fault constraint_start) e ∙ rule_body_runs c.body body (AHead ∷ []) head b) ∙ f)

@@ -6,10 +6,10 @@ use Rattle.std.proofs.Math.Seq.{drop-append_seam}
 use Rattle.esto_text.specs.declared.fault.TextKind.TheVariants as kind
 use Rattle.esto_text.specs.declared.stop.Stop.TheVariants.{Syntax}
 use Rattle.esto_text.specs.declared.token.Token.{Token}
-use Rattle.esto_text.specs.Faults.{IsViable, Leaves, StopsAt, place_of, IsTextOf, IsFaultOf, IsOnlyTree, IsGrammarFault, IsConstraintGrammarFault, HaveOneTree, HaveNoFault, HaveOneFault}
+use Rattle.esto_text.specs.Faults.{IsViable, Leaves, StopsAt, place_of, IsTextOf, IsFaultOf, IsOnlyTree, IsGrammarFault, HaveOneTree, HaveNoFault, HaveOneFault}
 use Rattle.esto_text.specs.Grammar.{class_of, IsQuery, IsConstraint}
 use Rattle.esto_text.specs.Limits.{is_close, is_name, in_room, limited_row, limited}
-use Rattle.esto_text.specs.Machine.{Symbol, start, constraint_start, first_fault, FailsAt}
+use Rattle.esto_text.specs.Machine.{Symbol, start, constraint_start, first_fault, FailsAt, ConstraintFails}
 use Rattle.esto_text.specs.Tokens.{AreTokens}
 use Rattle.esto_text.proofs.Languages.{fault_is, constraint_fault_is}
 use Rattle.esto_text.proofs.Covering.{covers_unique}
@@ -66,30 +66,39 @@ module _ (marked : List Token → List Token) (kept : (ts : List Token) → star
         sym (drop-map (λ t. t.start) (length ts - length rest) ts) ∙ ap (λ (i : ℕ). drop i (starts ts)) k ∙ ap (drop (length (starts front))) starts_split ∙ drop-append_seam (starts front) (starts rest) in
         place_is rest n ∙ ap (λ (l : List ℕ). place_by l n) (sym d) ∙ sym (place_is (drop (length ts - length rest) ts) n)
 
-  module _ {T : Type 0} (IsTree : T → List Token → Type 0) (whole : List Symbol) (stops : (ts rest : List Token) → first_fault whole ts ≡ Some rest → StopsAt IsTree ts rest) where
-    left_is : (ts : List Token) (left : ℕ) → FailsAt whole (marked ts) (Syntax left) → left ≤ length ts
-    left_is ts left (rest, e, n) = let f = stops (marked ts) rest e in omega (arith, n, lengths ts f.0 rest f.1)
+  module _ {T : Type 0} (IsTree : T → List Token → Type 0) (whole : List Symbol) (ts : List Token)
+      (stops : (rest : List Token) → first_fault whole (marked ts) ≡ Some rest → StopsAt IsTree (marked ts) rest) where
+    left_is : (left : ℕ) → FailsAt whole (marked ts) (Syntax left) → left ≤ length ts
+    left_is left (rest, e, n) = let f = stops rest e in omega (arith, n, lengths ts f.0 rest f.1)
 
-    fault_at : (bytes : List ℕ) (ts : List Token) (left offset : ℕ) → AreTokens bytes ts → FailsAt whole (marked ts) (Syntax left) → offset ≡ place_of (drop (length ts - left) ts) (length bytes)
-        → IsFaultOf IsTree marked bytes (record { offset = offset; kind = kind.Syntax })
-    fault_at bytes ts left offset h (rest, e, n) p =
-        let f = stops (marked ts) rest e in
+    fault_at : (bytes : List ℕ) (left offset : ℕ) → AreTokens bytes ts → FailsAt whole (marked ts) (Syntax left)
+        → offset ≡ place_of (drop (length ts - left) ts) (length bytes) → IsFaultOf IsTree marked bytes (record { offset = offset; kind = kind.Syntax })
+    fault_at bytes left offset h (rest, e, n) p =
+        let f = stops rest e in
         let q : offset ≡ place_of rest (length bytes) = p ∙ ap (λ (i : ℕ). place_of (drop (length ts - i) ts) (length bytes)) n ∙ sym (place_same ts f.0 rest f.1 (length bytes)) in
         inr (ts, rest, h, f, ap (λ (i : ℕ). record { offset = i; kind = kind.Syntax }) q)
 
 pub left_fits : (ts : List Token) (left : ℕ) → FailsAt start (limited ts) (Syntax left) → left ≤ length ts
-left_fits = left_is limited starts_limited IsQuery start fault_is
+left_fits ts = left_is limited starts_limited IsQuery start ts (fault_is (limited ts))
 
 pub syntax_fault : (bytes : List ℕ) (ts : List Token) (left offset : ℕ) → AreTokens bytes ts → FailsAt start (limited ts) (Syntax left) → offset ≡ place_of (drop (length ts - left) ts) (length bytes)
     → IsGrammarFault bytes (record { offset = offset; kind = kind.Syntax })
-syntax_fault = fault_at limited starts_limited IsQuery start fault_is
+syntax_fault bytes ts = fault_at limited starts_limited IsQuery start ts (fault_is (limited ts)) bytes
 
-pub constraint_left_fits : (ts : List Token) (left : ℕ) → FailsAt constraint_start ts (Syntax left) → left ≤ length ts
-constraint_left_fits = left_is (λ ts. ts) (λ ts. refl) IsConstraint constraint_start constraint_fault_is
+module _ (IsFalse : Token → Type 0) (ts : List Token) (left : ℕ) (fails : ConstraintFails IsFalse ts (Syntax left)) where
+  abbrev all : List Token → List Token
+  all tokens = tokens
 
-pub constraint_syntax_fault : (bytes : List ℕ) (ts : List Token) (left offset : ℕ) → AreTokens bytes ts → FailsAt constraint_start ts (Syntax left) → offset ≡ place_of (drop (length ts - left) ts) (length bytes)
-    → IsConstraintGrammarFault bytes (record { offset = offset; kind = kind.Syntax })
-constraint_syntax_fault = fault_at (λ ts. ts) (λ ts. refl) IsConstraint constraint_start constraint_fault_is
+  stops : (rest : List Token) → first_fault constraint_start ts ≡ Some rest → StopsAt (IsConstraint IsFalse) ts rest
+  stops rest e = constraint_fault_is IsFalse ts rest fails.0 e
+
+  pub constraint_left_fits : left ≤ length ts
+  constraint_left_fits = left_is all (λ ts. refl) (IsConstraint IsFalse) constraint_start ts stops left fails.1
+
+  pub constraint_syntax_fault : (bytes : List ℕ) (offset : ℕ) → AreTokens bytes ts → offset ≡ place_of (drop (length ts - left) ts) (length bytes)
+      → IsFaultOf (IsConstraint IsFalse) all bytes (record { offset = offset; kind = kind.Syntax })
+  constraint_syntax_fault bytes offset h p =
+      fault_at all (λ ts. refl) (IsConstraint IsFalse) constraint_start ts stops bytes left offset h fails.1 p
 
 -- ---- one tree, or one fault
 

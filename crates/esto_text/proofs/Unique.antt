@@ -4,8 +4,8 @@ use Rattle.esto_text.specs.declared.token.Token.{Token}
 use Rattle.esto_text.specs.declared.token.TokenKind.{TokenKind}
 use Rattle.esto_text.specs.declared.token.TokenKind.TheVariants.{Colon, LeftBrace, LeftBracket, Comma, Equals}
 use Rattle.esto_text.specs.declared.tree.StepSyntax.{StepSyntax}
-use Rattle.esto_text.specs.Trees.{EntryTree, Value, Nested, EntryTrees, NoEntry, AndEntry, ItemTree, Atom, Part, Pattern, QueryTree, HeadTree, Items, Equality, ConstraintTree}
-use Rattle.esto_text.specs.Grammar.{class_of, step_at, IsName, IsTerm, IsNext, IsRowEnd, IsRow, IsFirst, IsLater, IsPathEnd, IsPath, IsEntry, IsGroupEnd, IsGroup, IsItem, IsBodyEnd, IsBody, IsQuery, IsHead, IsConstraint}
+use Rattle.esto_text.specs.Trees.{EntryTree, Value, Nested, EntryTrees, NoEntry, AndEntry, ItemTree, Atom, Part, Pattern, QueryTree, HeadTree, Items, Equality, Never, ConstraintTree}
+use Rattle.esto_text.specs.Grammar.{class_of, step_at, IsName, IsTerm, IsNext, IsRowEnd, IsRow, IsFirst, IsLater, IsPathEnd, IsPath, IsEntry, IsGroupEnd, IsGroup, IsItem, IsBodyEnd, IsBody, IsQuery, IsRuleBody, IsHead, IsConstraint}
 use Rattle.esto_text.specs.Machine.{class_at}
 use Rattle.esto_text.proofs.Runs.{item_begins}
 
@@ -211,24 +211,57 @@ no_equality i a b left sign rest e h q =
     let k : n.0 ∷ n.1 ≡ left ∷ sign ∷ rest = sym n.2 ∙ e in
     let g : n.1 ≡ sign ∷ rest = cc in n.4 (ap class_at g ∙ q)
 
-head_one : (h : HeadTree) (ts : List Token) (h' : HeadTree) (ts' : List Token) → ts ≡ ts' → IsHead h ts → IsHead h' ts' → h ≡ h'
-head_one (Items is) ts (Items is') ts' e h h' = ap Items (last_body_one is ts is' ts' e h h')
-head_one (Items []) ts (Equality l' r') ts' e h h' = absurd h
-head_one (Items (i ∷ is)) ts (Equality l' r') ts' e (a, b, p, ha, hb) (s', p', n', c', t') = absurd (no_equality i a b l' s' (r' ∷ []) (sym p ∙ e ∙ p') ha c')
-head_one (Equality l r) ts (Items []) ts' e h h' = absurd h'
-head_one (Equality l r) ts (Items (i' ∷ is')) ts' e (s, p, n, c, t) (a', b', p', ha', hb') = absurd (no_equality i' a' b' l s (r ∷ []) (sym p' ∙ sym e ∙ p) ha' c)
-head_one (Equality l r) ts (Equality l' r') ts' e (s, p, n, c, t) (s', p', n', c', t') =
-    let k : l ∷ s ∷ r ∷ [] ≡ l' ∷ s' ∷ r' ∷ [] = sym p ∙ e ∙ p' in
-    let left : l ≡ l' = cc in
-    let right : r ≡ r' = cc in cc (left, right)
+-- an item is no name alone
+no_lone : (i : ItemTree) (a b : List Token) (word : Token) → a ++ b ≡ word ∷ [] → ¬ IsItem i a
+no_lone (Atom name terms) a b word e (paren, more, p, n, q, r) =
+    let f : name ∷ paren ∷ (more ++ b) ≡ word ∷ [] = sym (ap (λ (l : List Token). l ++ b) p) ∙ e in
+    let g : paren ∷ (more ++ b) ≡ [] = cc in absurd cc
+no_lone (Part name part terms) a b word e (dot, paren, more, p, n, q, m, r, h) =
+    let f : name ∷ dot ∷ part ∷ paren ∷ (more ++ b) ≡ word ∷ [] = sym (ap (λ (l : List Token). l ++ b) p) ∙ e in
+    let g : dot ∷ part ∷ paren ∷ (more ++ b) ≡ [] = cc in absurd cc
+no_lone (Pattern name entries) a b word e (brace, more, p, n, q, r) =
+    let f : name ∷ brace ∷ (more ++ b) ≡ word ∷ [] = sym (ap (λ (l : List Token). l ++ b) p) ∙ e in
+    let g : brace ∷ (more ++ b) ≡ [] = cc in absurd cc
+
+module _ (IsFalse : Token → Type 0) where
+  -- a head of items or of an equality is no name alone
+  not_denial : (h : HeadTree) (ts : List Token) (word : Token) → ts ≡ word ∷ [] → IsHead IsFalse h ts → h ≡ Never
+  not_denial (Items []) ts word e h = absurd h
+  not_denial (Items (i ∷ is)) ts word e (a, b, p, ha, hb) = absurd (no_lone i a b word (sym p ∙ e) ha)
+  not_denial (Equality l r) ts word e (s, p, n, c, t) =
+      let f : l ∷ s ∷ r ∷ [] ≡ word ∷ [] = sym p ∙ e in
+      let g : s ∷ r ∷ [] ≡ [] = cc in absurd cc
+  not_denial Never ts word e h = refl
+
+  head_one : (h : HeadTree) (ts : List Token) (h' : HeadTree) (ts' : List Token) → ts ≡ ts' → IsHead IsFalse h ts → IsHead IsFalse h' ts' → h ≡ h'
+  head_one Never ts h' ts' e (word, p, n, f) g = sym (not_denial h' ts' word (sym e ∙ p) g)
+  head_one (Items is) ts Never ts' e h (word, p, n, f) = not_denial (Items is) ts word (e ∙ p) h
+  head_one (Equality l r) ts Never ts' e h (word, p, n, f) = not_denial (Equality l r) ts word (e ∙ p) h
+  head_one (Items is) ts (Items is') ts' e h h' = ap Items (last_body_one is ts is' ts' e h h')
+  head_one (Items []) ts (Equality l' r') ts' e h h' = absurd h
+  head_one (Items (i ∷ is)) ts (Equality l' r') ts' e (a, b, p, ha, hb) (s', p', n', c', t') =
+      absurd (no_equality i a b l' s' (r' ∷ []) (sym p ∙ e ∙ p') ha c')
+  head_one (Equality l r) ts (Items []) ts' e h h' = absurd h'
+  head_one (Equality l r) ts (Items (i' ∷ is')) ts' e (s, p, n, c, t) (a', b', p', ha', hb') =
+      absurd (no_equality i' a' b' l s (r ∷ []) (sym p' ∙ sym e ∙ p) ha' c)
+  head_one (Equality l r) ts (Equality l' r') ts' e (s, p, n, c, t) (s', p', n', c', t') =
+      let k : l ∷ s ∷ r ∷ [] ≡ l' ∷ s' ∷ r' ∷ [] = sym p ∙ e ∙ p' in
+      let left : l ≡ l' = cc in
+      let right : r ≡ r' = cc in cc (left, right)
+
+-- a body with its arrow, and what comes after it
+pub rule_body_one : (is : List ItemTree) (ts : List Token) (is' : List ItemTree) (ts' x y : List Token) → ts ++ x ≡ ts' ++ y → IsRuleBody is ts
+    → IsRuleBody is' ts' → (is ≡ is') × (x ≡ y)
+rule_body_one is ts is' ts' x y e (front, arrow, f, b, q) (front', arrow', f', b', q') =
+    let k = along ts x ts' y (front ++ arrow ∷ []) (front' ++ arrow' ∷ []) e f f' in
+    let g : front ++ (arrow ∷ x) ≡ front' ++ (arrow' ∷ y) = parts front (arrow ∷ []) front' (arrow' ∷ []) x y k in
+    let s = body_one is front is' front' (arrow ∷ x) (arrow' ∷ y) g (λ z. cc) (λ z. cc) b b' in
+    (s.0, cc s.1)
 
 constraint_same : (c c' : ConstraintTree) → c.body ≡ c'.body → c.head ≡ c'.head → c ≡ c'
 constraint_same c c' a b = λ i. record { body = a i; head = b i }
 
-pub constraint_one : (c c' : ConstraintTree) (ts : List Token) → IsConstraint c ts → IsConstraint c' ts → c ≡ c'
-constraint_one c c' ts (body, head, e, (front, arrow, f, b, q), h) (body', head', e', (front', arrow', f', b', q'), h') =
-    let k = along body head body' head' (front ++ arrow ∷ []) (front' ++ arrow' ∷ []) (sym e ∙ e') f f' in
-    let g : front ++ (arrow ∷ head) ≡ front' ++ (arrow' ∷ head') = parts front (arrow ∷ []) front' (arrow' ∷ []) head head' k in
-    let s = body_one c.body front c'.body front' (arrow ∷ head) (arrow' ∷ head') g (λ z. cc) (λ z. cc) b b' in
-    let u : head ≡ head' = cc s.1 in
-    constraint_same c c' s.0 (head_one c.head head c'.head head' u h h')
+pub constraint_one : (IsFalse : Token → Type 0) (c c' : ConstraintTree) (ts : List Token) → IsConstraint IsFalse c ts → IsConstraint IsFalse c' ts → c ≡ c'
+constraint_one IsFalse c c' ts (body, head, e, b, h) (body', head', e', b', h') =
+    let s = rule_body_one c.body body c'.body body' head head' (sym e ∙ e') b b' in
+    constraint_same c c' s.0 (head_one IsFalse c.head head c'.head head' s.1 h h')

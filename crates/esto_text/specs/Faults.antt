@@ -1,14 +1,16 @@
 -- The texts of the grammar, and the first place at which a text leaves it.
-use Rattle.std.specs.Prelude.{◌≡◌, ◌⊎◌, ℕ, true, List, [], ◌∷◌, ◌++◌, length, IsUtf8}
+use Rattle.std.specs.Prelude.{◌≡◌, ◌⊎◌, ℕ, true, List, [], ◌∷◌, ◌++◌, length, codes, IsUtf8}
 use Rattle.esto_text.specs.declared.fault.ReadError.{ReadError}
 use Rattle.esto_text.specs.declared.fault.ReadError.TheVariants.{Fault, OutOfMemory}
 use Rattle.esto_text.specs.declared.fault.TextFault.{TextFault}
 use Rattle.esto_text.specs.declared.fault.TextKind.TheVariants.{Syntax}
 use Rattle.esto_text.specs.declared.token.Token.{Token}
 use Rattle.esto_text.specs.declared.token.TokenKind.TheVariants.{Name, Quoted}
+use Rattle.esto_text.specs.declared.version.Version.{Version}
+use Rattle.esto_text.specs.declared.version.Version.TheVariants.{One, Two}
 use Rattle.esto_text.specs.Grammar.{is_term, IsQuery, IsConstraint}
 use Rattle.esto_text.specs.Limits.{limited}
-use Rattle.esto_text.specs.Tokens.{AreTokens, StandsIn, utf8_fault}
+use Rattle.esto_text.specs.Tokens.{AreTokens, StandsIn, text_of, utf8_fault}
 use Rattle.esto_text.specs.Trees.{QueryTree, EachOfQuery, ConstraintTree, EachOfConstraint}
 
 -- The tokens begin a text of the grammar: with some more they are one of its trees.
@@ -59,13 +61,18 @@ IsQueryText bytes query = IsTextOf IsQuery limited bytes query
 abbrev pub IsGrammarFault : List ℕ → TextFault → Type 0
 IsGrammarFault bytes fault = IsFaultOf IsQuery limited bytes fault
 
--- The bytes are a text of a constraint, with this tree.
-abbrev pub IsConstraintText : List ℕ → ConstraintTree → Type 0
-IsConstraintText bytes constraint = IsTextOf IsConstraint (λ tokens. tokens) bytes constraint
+-- The token is the word `false`, which version 2 has and version 1 has not.
+abbrev pub IsFalse : Version → List ℕ → Token → Type 0
+IsFalse One bytes token = ⊥
+IsFalse Two bytes token = text_of bytes token ≡ codes "false"
 
--- The first fault of bytes that are no text of a constraint.
-abbrev pub IsConstraintGrammarFault : List ℕ → TextFault → Type 0
-IsConstraintGrammarFault bytes fault = IsFaultOf IsConstraint (λ tokens. tokens) bytes fault
+-- The bytes are a text of a constraint in this version, with this tree.
+abbrev pub IsConstraintText : Version → List ℕ → ConstraintTree → Type 0
+IsConstraintText version bytes constraint = IsTextOf (IsConstraint (IsFalse version bytes)) (λ tokens. tokens) bytes constraint
+
+-- The first fault of bytes that are no text of a constraint in this version.
+abbrev pub IsConstraintGrammarFault : Version → List ℕ → TextFault → Type 0
+IsConstraintGrammarFault version bytes fault = IsFaultOf (IsConstraint (IsFalse version bytes)) (λ tokens. tokens) bytes fault
 
 -- The token is a name that stands in the bytes.
 abbrev pub IsNameIn : List ℕ → Token → Type 0

@@ -5,7 +5,7 @@ use Rattle.esto_text.specs.declared.token.TokenKind.{TokenKind}
 use Rattle.esto_text.specs.declared.token.TokenKind.TheVariants.{Name, Wildcard, Quoted, Number, LeftParen, RightParen, LeftBrace, RightBrace, LeftBracket, RightBracket, Comma, Dot, Colon, Turnstile, Arrow, Equals, Stars, Stray}
 use Rattle.esto_text.specs.declared.tree.StepSyntax.{StepSyntax}
 use Rattle.esto_text.specs.declared.tree.StepSyntax.TheVariants.{Field, Item, Below}
-use Rattle.esto_text.specs.Trees.{EntryTree, Value, Nested, EntryTrees, NoEntry, AndEntry, ItemTree, Atom, Part, Pattern, QueryTree, HeadTree, Items, Equality, ConstraintTree}
+use Rattle.esto_text.specs.Trees.{EntryTree, Value, Nested, EntryTrees, NoEntry, AndEntry, ItemTree, Atom, Part, Pattern, QueryTree, HeadTree, Items, Equality, Never, ConstraintTree}
 
 -- What a token of so many bytes is to the grammar: a name of more than 64 bytes fits nowhere.
 abbrev pub fitting : TokenKind → ℕ → TokenKind
@@ -130,13 +130,18 @@ IsQuery query tokens =
 abbrev pub IsRuleBody : List ItemTree → List Token → Type 0
 IsRuleBody items tokens = (front : List Token) × (arrow : Token) × (tokens ≡ front ++ arrow ∷ []) × IsBody items front × (class_of arrow ≡ Arrow)
 
--- items | name "=" term
-abbrev pub IsHead : HeadTree → List Token → Type 0
-IsHead (Items items) tokens = IsBody items tokens
-IsHead (Equality left right) tokens =
-    (sign : Token) × (tokens ≡ left ∷ sign ∷ right ∷ []) × IsName left × (class_of sign ≡ Equals) × IsTerm right
+-- No token is the word `false`.
+abbrev pub NoFalse : Token → Type 0
+NoFalse token = ⊥
 
--- constraint = items "->" ( items | name "=" term )
-abbrev pub IsConstraint : ConstraintTree → List Token → Type 0
-IsConstraint constraint tokens =
-    (body head : List Token) × (tokens ≡ body ++ head) × IsRuleBody constraint.body body × IsHead constraint.head head
+-- items | name "=" term | "false", where "false" is a name that is the word `false`
+abbrev pub IsHead : (Token → Type 0) → HeadTree → List Token → Type 0
+IsHead IsFalse (Items items) tokens = IsBody items tokens
+IsHead IsFalse (Equality left right) tokens =
+    (sign : Token) × (tokens ≡ left ∷ sign ∷ right ∷ []) × IsName left × (class_of sign ≡ Equals) × IsTerm right
+IsHead IsFalse Never tokens = (word : Token) × (tokens ≡ word ∷ []) × IsName word × IsFalse word
+
+-- constraint = items "->" ( items | name "=" term | "false" )
+abbrev pub IsConstraint : (Token → Type 0) → ConstraintTree → List Token → Type 0
+IsConstraint IsFalse constraint tokens =
+    (body head : List Token) × (tokens ≡ body ++ head) × IsRuleBody constraint.body body × IsHead IsFalse constraint.head head

@@ -5,7 +5,8 @@ use Rattle.esto_text.specs.declared.stop.Stop.TheVariants.{Syntax, OutOfMemory}
 use Rattle.esto_text.specs.declared.token.Token.{Token}
 use Rattle.esto_text.specs.declared.token.TokenKind.{TokenKind}
 use Rattle.esto_text.specs.declared.token.TokenKind.TheVariants.{Name, Quoted, LeftParen, RightParen, LeftBrace, RightBrace, LeftBracket, RightBracket, Comma, Dot, Colon, Turnstile, Arrow, Equals, Stars, Stray}
-use Rattle.esto_text.specs.Grammar.{class_of, is_term}
+use Rattle.esto_text.specs.Grammar.{class_of, is_term, IsConstraint}
+use Rattle.esto_text.specs.Trees.{ConstraintTree}
 
 -- A part of the grammar that is still to come. An entry and its rest have the number of open braces.
 pub data Symbol : Type 0 where
@@ -93,6 +94,11 @@ FaultLeaves xs ts left = (rest : List Token) × (first_fault xs ts ≡ Some rest
 abbrev pub FailsAt : List Symbol → List Token → Stop → Type 0
 FailsAt xs ts OutOfMemory = Unit {0}
 FailsAt xs ts (Syntax left) = FaultLeaves xs ts left
+
+-- Tokens were not read as a constraint for this cause: they are none, and there its symbols fail.
+abbrev pub ConstraintFails : (Token → Type 0) → List Token → Stop → Type 0
+ConstraintFails IsFalse ts OutOfMemory = Unit {0}
+ConstraintFails IsFalse ts (Syntax left) = ((tree : ConstraintTree) → ¬ IsConstraint IsFalse tree ts) × FaultLeaves constraint_start ts left
 
 -- A part of these symbols was not read for this cause, whatever is to follow it.
 abbrev pub Fails : List Symbol → List Token → Stop → Type 0

@@ -28,10 +28,11 @@ pub record QueryTree : Type 0 where
   pub variables : List Token
   pub items : List ItemTree
 
--- The head of a constraint is the items of a tuple rule, or the name and the term of an equality.
+-- The head of a constraint is the items of a tuple rule, the name and the term of an equality, or what makes it a denial.
 pub data HeadTree : Type 0 where
   Items : (items : List ItemTree) → HeadTree
   Equality : (left right : Token) → HeadTree
+  Never : HeadTree
 
 -- A constraint is the items of its body, and its head.
 pub record ConstraintTree : Type 0 where
@@ -69,6 +70,7 @@ EachOfQuery N F T query = N query.name × AllByRecursion N query.variables × Al
 abbrev pub EachOfHead : (Token → Type 0) → (Token → Type 0) → (Token → Type 0) → HeadTree → Type 0
 EachOfHead N F T (Items items) = AllByRecursion (EachOfItem N F T) items
 EachOfHead N F T (Equality left right) = N left × T right
+EachOfHead N F T Never = Unit {0}
 
 -- Each name of a constraint has the first property, each field name the second, and each term the third.
 abbrev pub EachOfConstraint : (Token → Type 0) → (Token → Type 0) → (Token → Type 0) → ConstraintTree → Type 0

@@ -9,7 +9,7 @@ use Rattle.esto_text.specs.declared.tree.QuerySyntax.{QuerySyntax}
 use Rattle.esto_text.specs.declared.tree.HeadSyntax.{HeadSyntax}
 use Rattle.esto_text.specs.declared.tree.HeadSyntax.TheVariants as head
 use Rattle.esto_text.specs.declared.tree.ConstraintSyntax.{ConstraintSyntax}
-use Rattle.esto_text.specs.Trees.{EntryTree, Value, Nested, EntryTrees, NoEntry, AndEntry, ItemTree, Atom, Part, Pattern, QueryTree, HeadTree, Items, Equality, ConstraintTree}
+use Rattle.esto_text.specs.Trees.{EntryTree, Value, Nested, EntryTrees, NoEntry, AndEntry, ItemTree, Atom, Part, Pattern, QueryTree, HeadTree, Items, Equality, Never, ConstraintTree}
 
 -- A list of entries as one tree.
 abbrev pub group_of : List EntryTree → EntryTrees
@@ -43,6 +43,7 @@ tree_of query = record { name = query.name; variables = query.variables; items =
 abbrev pub head_of : HeadSyntax → HeadTree
 head_of (head.Items items) = Items (map item_of items)
 head_of (head.Equality left right) = Equality left right
+head_of head.Never = Never
 
 -- The tree of a constraint.
 abbrev pub constraint_of : ConstraintSyntax → ConstraintTree

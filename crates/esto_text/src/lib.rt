@@ -15,9 +15,11 @@ mod syntax;
 mod token;
 mod tokens;
 mod tree;
+mod version;
 
 pub use fault::{ReadError, TextFault, TextKind};
 pub use syntax::{read_constraint_tree, read_query_tree, trees_are_determined};
 pub use token::{Token, TokenKind, Tokens};
 pub use tokens::{read_tokens, tokens_are_determined};
 pub use tree::{ConstraintSyntax, EntrySyntax, HeadSyntax, ItemSyntax, QuerySyntax, StepSyntax};
+pub use version::Version;

@@ -10,6 +10,7 @@ use crate::stop::Stop;
 use crate::token::Token;
 use crate::tokens::read_tokens;
 use crate::tree::{ConstraintSyntax, QuerySyntax};
+use crate::version::Version;
 use std::alloc::Global;
 
 /// The place at which the last `left` tokens begin, in a text of so many bytes.
@@ -56,34 +57,43 @@ pub fn read_query_tree(alloc: Global, bytes: &[u8]) -> Result<QuerySyntax, ReadE
     }
 }
 
-/// The syntax tree of a constraint. The fault Utf8, at offset 0, comes exactly where the bytes are not UTF-8; the
-/// fault Syntax exactly where the text is outside the grammar, at the start of the first token at which the tokens
-/// so far stop being a prefix of a text of the grammar, or at the end of a text that ends too early.
-pub fn read_constraint_tree(alloc: Global, bytes: &[u8]) -> Result<ConstraintSyntax, ReadError>
+/// The syntax tree of a constraint in this version. The fault Utf8, at offset 0, comes exactly where the bytes are not
+/// UTF-8; the fault Syntax exactly where the text is outside the version's grammar, at the start of the first token at
+/// which the tokens so far stop being a prefix of a text of it, or at the end of a text that ends too early.
+pub fn read_constraint_tree(
+    alloc: Global,
+    bytes: &[u8],
+    version: Version,
+) -> Result<ConstraintSyntax, ReadError>
     // The text is in the grammar, with this tree.
-    ensures tree { IfOk result (λ constraint. IsConstraintText bytes.now (constraint_of constraint)) }
+    ensures tree { IfOk result (λ constraint.
+        IsConstraintText version bytes.now (constraint_of constraint)) }
     // It is no other tree's.
-    ensures only { IfOk result (λ constraint. IsOnlyTree IsConstraintText bytes.now (constraint_of constraint)) }
+    ensures only { IfOk result (λ constraint.
+        IsOnlyTree (IsConstraintText version) bytes.now (constraint_of constraint)) }
     // Each token of the tree stands in the text.
-    ensures tokens { IfOk result (λ constraint. ConstraintStandsAt bytes.now (constraint_of constraint)) }
-    ensures error { IfErr result (λ e. IsErrorOf IsConstraintGrammarFault bytes.now e) }
+    ensures tokens { IfOk result (λ constraint.
+        ConstraintStandsAt bytes.now (constraint_of constraint)) }
+    ensures error { IfErr result (IsErrorOf (IsConstraintGrammarFault version) bytes.now) }
 {
     let tokens = read_tokens(alloc, bytes)?;
     let tokens = tokens.items();
-    match constraint(alloc, tokens) {
+    match constraint(alloc, bytes, tokens, version) {
         Ok(constraint) => Ok(constraint),
         Err(Stop::OutOfMemory) => Err(ReadError::OutOfMemory),
         Err(Stop::Syntax(left)) => Err(syntax_error(tokens, left, bytes.len())),
     }
 }
 
-/// A law: a text of a query or a view, or of a constraint, has at most one tree and at most one fault of its grammar,
-/// and never both.
+/// A law: a text of a query or a view, or of a constraint in one version, has at most one tree and at most one fault of
+/// its grammar, and never both.
 pub fn trees_are_determined()
     ensures tree { HaveOneTree IsQueryText }
     ensures apart { HaveNoFault IsQueryText IsGrammarFault }
     ensures fault { HaveOneFault IsGrammarFault }
-    ensures constraint_tree { HaveOneTree IsConstraintText }
-    ensures constraint_apart { HaveNoFault IsConstraintText IsConstraintGrammarFault }
-    ensures constraint_fault { HaveOneFault IsConstraintGrammarFault }
+    ensures constraint_tree { (version : Version) → HaveOneTree (IsConstraintText version) }
+    ensures constraint_apart { (version : Version) →
+        HaveNoFault (IsConstraintText version) (IsConstraintGrammarFault version) }
+    ensures constraint_fault { (version : Version) →
+        HaveOneFault (IsConstraintGrammarFault version) }
 {}

@@ -62,6 +62,8 @@ pub enum HeadSyntax {
     Items(List<ItemSyntax>),
     /// `left = right`, where the left side is a name.
     Equality { left: Token, right: Token },
+    /// `false`, from version 2 on: the constraint is a denial.
+    Never,
 }
 
 /// A constraint: the items of its body, and its head.

@@ -1,21 +1,33 @@
 use Rattle.std.proofs.Common.{sym, refl}
-use Rattle.esto_text.specs.View.{constraint_of}
-use Rattle.esto_text.proofs.SyntaxLemmas.{constraint_left_fits, constraint_syntax_fault, only_tree}
-use Rattle.esto_text.proofs.LeafLemmas.{constraint_stands}
-use Rattle.esto_text.proofs.Unique.{constraint_one}
+use Rattle.esto_text.specs.Faults.{IsFalse}
 use Rattle.esto_text.specs.Grammar.{IsConstraint}
+use Rattle.esto_text.specs.View.{constraint_of}
+use Rattle.esto_text.proofs.LeafLemmas.{tokens_stand, constraint_stands}
+use Rattle.esto_text.proofs.SyntaxLemmas.{constraint_left_fits, constraint_syntax_fault, only_tree}
+use Rattle.esto_text.proofs.Unique.{constraint_one}
 use Rattle.esto_text.proofs.syntax.read_constraint_tree.Goals as goal
+
+pub constraint-requires : goal.constraint-requires
+constraint-requires c = rw c.items-tokens.ensures (tokens_stand c.args.bytes.now c.in_ok-tokens.tokens c.in_ok-tokens.ensures.tokens.1)
 
 pub returns-in-Ok-clause-only : goal.returns-in-Ok-clause-only
 returns-in-Ok-clause-only c other h =
-    only_tree IsConstraint (λ tokens. tokens) constraint_one c.args.bytes.now c.in_ok-tokens.tokens (constraint_of c.in-Ok.constraint) c.in_ok-tokens.ensures.only (rw c.items-tokens.ensures at c.in-Ok.ensures.ok) other h
+    only_tree (IsConstraint (IsFalse c.args.version c.args.bytes.now)) (λ tokens. tokens) (constraint_one (IsFalse c.args.version c.args.bytes.now))
+    c.args.bytes.now c.in_ok-tokens.tokens (constraint_of c.in-Ok.constraint) c.in_ok-tokens.ensures.only
+    (rw c.items-tokens.ensures at c.in-Ok.ensures.ok) other h
 
 pub returns-in-Ok-clause-tokens : goal.returns-in-Ok-clause-tokens
-returns-in-Ok-clause-tokens c = constraint_stands c.args.bytes.now c.in_ok-tokens.tokens (constraint_of c.in-Ok.constraint) c.in_ok-tokens.ensures.tokens.1 (rw c.items-tokens.ensures at c.in-Ok.ensures.ok)
+returns-in-Ok-clause-tokens c =
+    constraint_stands c.args.bytes.now (IsFalse c.args.version c.args.bytes.now) c.in_ok-tokens.tokens (constraint_of c.in-Ok.constraint)
+    c.in_ok-tokens.ensures.tokens.1 (rw c.items-tokens.ensures at c.in-Ok.ensures.ok)
 
 pub syntax_error-requires : goal.syntax_error-requires
-syntax_error-requires c = constraint_left_fits c.items-tokens.result.now c.in-Err-Syntax.left (rw c.in-Err-Syntax.field-0-is at c.in-Err-Syntax.ensures.err)
+syntax_error-requires c =
+    constraint_left_fits (IsFalse c.args.version c.args.bytes.now) c.items-tokens.result.now c.in-Err-Syntax.left
+    (rw c.in-Err-Syntax.field-0-is at c.in-Err-Syntax.ensures.err)
 
 pub returns-clause-error : goal.returns-clause-error
 returns-clause-error c =
-    rw c.syntax_error.ensures (constraint_syntax_fault c.args.bytes.now c.items-tokens.result.now c.in-Err-Syntax.left _ (rw (sym c.items-tokens.ensures) at c.in_ok-tokens.ensures.tokens) (rw c.in-Err-Syntax.field-0-is at c.in-Err-Syntax.ensures.err) refl)
+    rw c.syntax_error.ensures
+    (constraint_syntax_fault (IsFalse c.args.version c.args.bytes.now) c.items-tokens.result.now c.in-Err-Syntax.left
+    (rw c.in-Err-Syntax.field-0-is at c.in-Err-Syntax.ensures.err) c.args.bytes.now _ (rw (sym c.items-tokens.ensures) at c.in_ok-tokens.ensures.tokens) refl)

@@ -1,3 +1,4 @@
+use Rattle.esto_text.specs.Faults.{IsFalse}
 use Rattle.esto_text.specs.Grammar.{IsQuery, IsConstraint}
 use Rattle.esto_text.specs.Limits.{limited}
 use Rattle.esto_text.proofs.SyntaxLemmas.{one_tree, no_fault, one_fault}
@@ -14,10 +15,10 @@ pub returns-clause-fault : goal.returns-clause-fault
 returns-clause-fault c = one_fault IsQuery limited
 
 pub returns-clause-constraint_tree : goal.returns-clause-constraint_tree
-returns-clause-constraint_tree c = one_tree IsConstraint (λ tokens. tokens) constraint_one
+returns-clause-constraint_tree c version bytes = one_tree (IsConstraint (IsFalse version bytes)) (λ tokens. tokens) (constraint_one (IsFalse version bytes)) bytes
 
 pub returns-clause-constraint_apart : goal.returns-clause-constraint_apart
-returns-clause-constraint_apart c = no_fault IsConstraint (λ tokens. tokens)
+returns-clause-constraint_apart c version bytes = no_fault (IsConstraint (IsFalse version bytes)) (λ tokens. tokens) bytes
 
 pub returns-clause-constraint_fault : goal.returns-clause-constraint_fault
-returns-clause-constraint_fault c = one_fault IsConstraint (λ tokens. tokens)
+returns-clause-constraint_fault c version bytes = one_fault (IsConstraint (IsFalse version bytes)) (λ tokens. tokens) bytes

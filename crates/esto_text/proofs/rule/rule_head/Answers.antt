@@ -1,6 +1,6 @@
 use Rattle.std.proofs.Common.{sym, false-eqb}
 use Rattle.esto_text.proofs.RuleLemmas.{side_end_fails}
-use Rattle.esto_text.proofs.rule.head.Goals as goal
+use Rattle.esto_text.proofs.rule.rule_head.Goals as goal
 
 pub returns-then-not-is_empty-clause-err : goal.returns-then-not-is_empty-clause-err
 returns-then-not-is_empty-clause-err c =
