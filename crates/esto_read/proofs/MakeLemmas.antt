@@ -20,7 +20,7 @@ use Rattle.esto_query.specs.declared.make.QueryFault.TheVariants.{Unsafe, Arity,
 use Rattle.esto_query.specs.declared.query.Name.{Name}
 use Rattle.esto_query.specs.declared.query.Query.{Query}
 use Rattle.esto_query.specs.declared.schema.Relation.{Relation}
-use Rattle.esto_constraint.specs.Making.{MakesTuple, MakesEquality}
+use Rattle.esto_constraint.specs.Making.{MakesTuple, MakesEquality, MakesDenial}
 use Rattle.esto_text.specs.Trees.{ItemTree, Atom, Part, Pattern}
 use Rattle.esto_read.specs.Items.{AreFitting, AreItems}
 use Rattle.esto_read.specs.declared.words.Word.{Word}
@@ -82,6 +82,13 @@ equality_is_made schema body left right names (Unsafe variable) one other over s
     missing side is (inl constant) = const_no_plain constant.0 variable (sym constant.1 ∙ is)
     missing side is (inr mentioned) = made.2.0 (subst (Mentions body) is mentioned)
 equality_is_made schema body left right names OutOfMemory one other over size made = made
+
+pub denial_is_made : (schema : List ℕ) (body : List (Fact Term)) (names : List Name) (fault : QueryFault) → AreOver schema body → length body ≤ MAX_ATOMS
+    → MakesDenial schema body names (Err fault) → ⊥
+denial_is_made schema body names (Arity place) over size made = no_misfit schema body place over made
+denial_is_made schema body names (TooLarge atoms) over size made = omega (arith, made.1, made.2)
+denial_is_made schema body names (Unsafe variable) over size made = made
+denial_is_made schema body names OutOfMemory over size made = made
 
 -- ---- what holds of the parts holds of the query
 

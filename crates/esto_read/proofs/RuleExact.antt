@@ -8,9 +8,10 @@ use Rattle.esto_semantics.specs.Maps.{IsFixedBy}
 use Rattle.esto_semantics.specs.declared.fact.Fact.{Fact}
 use Rattle.esto_term.specs.declared.term.Term.{Term}
 use Rattle.esto_text.specs.Faults as text
-use Rattle.esto_text.specs.Trees.{ItemTree, HeadTree, Items, Equality, ConstraintTree}
+use Rattle.esto_text.specs.Trees.{ItemTree, HeadTree, Items, Equality, Never as Nothing, ConstraintTree}
 use Rattle.esto_text.specs.declared.fault.TextFault.{TextFault}
 use Rattle.esto_text.specs.declared.token.Token.{Token}
+use Rattle.esto_text.specs.declared.version.Version.{Version}
 use Rattle.esto_read.specs.Constraints.{IsTupleRead, IsEqualityRead, IsUnsafeSide, IsRuleOf, IsConstraintReading, IsRuleHeadFault, IsRuleFault, IsConstraintFault, AreSameRule}
 use Rattle.esto_read.specs.Items.{AreFitting, AreItems}
 use Rattle.esto_read.specs.Terms.{AreTerms}
@@ -63,6 +64,13 @@ module _ (words : List Word) (apart : AllPairs ◌≢◌ (map (λ word. word.nam
   rule_one items (Equality left right) (Equal rule) (Tuple other) h g = absurd g
   rule_one items (Equality left right) (Equal rule) (Never other) h g = absurd g
   rule_one items (Equality left right) (Tuple rule) other h g = absurd h
+  rule_one items Nothing (Never rule) (Never other) h g =
+      let same = items_one words apart schema bytes [] items rule.body other.body rule.names other.names apart_none h.body_atoms g.body_atoms in
+      (same.0, same.1)
+  rule_one items Nothing (Never rule) (Tuple other) h g = absurd g
+  rule_one items Nothing (Never rule) (Equal other) h g = absurd g
+  rule_one items Nothing (Tuple rule) other h g = absurd h
+  rule_one items Nothing (Equal rule) other h g = absurd h
   rule_one items (Equality left right) (Never rule) other h g = absurd h
 
   -- ---- faults
@@ -75,6 +83,7 @@ module _ (words : List Word) (apart : AllPairs ◌≢◌ (map (λ word. word.nam
       subst (λ (l : List (Fact Term)). IsUnsafeSide l left right one other g.offset) (sym s.0)
       (subst (λ (x : Term). IsUnsafeSide body' left right x other g.offset) (sym s.1) (subst (λ (x : Term). IsUnsafeSide body' left right one' x g.offset) (sym s.2) side')) in
       fault_same f g (unsafe_one body left right one other f.offset g.offset side moved) (k ∙ sym k')
+  head_fault_one items Nothing f g h k = absurd h
 
   rule_fault_one : (tree : ConstraintTree) (f g : TextFault) → IsRuleFault words schema bytes tree f → IsRuleFault words schema bytes tree g → f ≡ g
   rule_fault_one tree f g (inl h) (inl k) = items_fault_one words apart schema bytes 0 tree.body f g h k
@@ -88,6 +97,7 @@ module _ (words : List Word) (apart : AllPairs ◌≢◌ (map (λ word. word.nam
   rule_or_head_fault items (Items head_items) (Never rule) f h k = h
   rule_or_head_fault items (Equality left right) (Tuple rule) f h k = h
   rule_or_head_fault items (Equality left right) (Never rule) f h k = h
+  rule_or_head_fault items Nothing rule f h k = k
   rule_or_head_fault items (Equality left right) (Equal rule) f (h, one_fixed, other_fixed) (body, one, other, names, g, k, side) =
       let s = equality_one items left right rule.body body rule.left rule.right one other rule.names names h g in
       fixed_no_unsafe body left right one other f.offset
@@ -101,6 +111,9 @@ module _ (words : List Word) (apart : AllPairs ◌≢◌ (map (λ word. word.nam
   body_fits items (Equality left right) (Tuple rule) h = absurd h
   body_fits items (Equality left right) (Never rule) h = absurd h
   body_fits items (Equality left right) (Equal rule) h = h.0.body_fits
+  body_fits items Nothing (Never rule) h = h.body_fits
+  body_fits items Nothing (Tuple rule) h = absurd h
+  body_fits items Nothing (Equal rule) h = absurd h
 
   rule_or_fault : (tree : ConstraintTree) (rule : Constraint) (f : TextFault) → IsRuleOf words schema bytes tree.body tree.head rule → ¬ IsRuleFault words schema bytes tree f
   rule_or_fault tree rule f h (inl k) = fitting_or_fault words apart schema bytes 0 tree.body f (body_fits tree.body tree.head rule h) k
@@ -108,23 +121,23 @@ module _ (words : List Word) (apart : AllPairs ◌≢◌ (map (λ word. word.nam
 
 -- ---- texts
 
-module _ (trees : text.HaveOneTree text.IsConstraintText) where
-  pub one_rule : (words : List Word) → AllPairs ◌≢◌ (map (λ word. word.name) words) → (schema bytes : List ℕ) (rule other : Constraint) → IsConstraintReading words schema bytes rule
-      → IsConstraintReading words schema bytes other → AreSameRule rule other
+module _ (version : Version) (trees : text.HaveOneTree (text.IsConstraintText version)) where
+  pub one_rule : (words : List Word) → AllPairs ◌≢◌ (map (λ word. word.name) words) → (schema bytes : List ℕ) (rule other : Constraint) → IsConstraintReading version words schema bytes rule
+      → IsConstraintReading version words schema bytes other → AreSameRule rule other
   one_rule words apart schema bytes rule other (tree, t, h) (tree', t', g) =
       let same : tree' ≡ tree = trees bytes tree' t' tree t in
       rule_one words apart schema bytes tree.body tree.head rule other h (subst (λ (x : ConstraintTree). IsRuleOf words schema bytes x.body x.head other) same g)
 
-  module _ (clean : text.HaveNoFault text.IsConstraintText text.IsConstraintGrammarFault) where
-    pub no_rule_fault : (words : List Word) → AllPairs ◌≢◌ (map (λ word. word.name) words) → (schema bytes : List ℕ) (rule : Constraint) (fault : TextFault) → IsConstraintReading words schema bytes rule
-        → ¬ IsConstraintFault words schema bytes fault
+  module _ (clean : text.HaveNoFault (text.IsConstraintText version) (text.IsConstraintGrammarFault version)) where
+    pub no_rule_fault : (words : List Word) → AllPairs ◌≢◌ (map (λ word. word.name) words) → (schema bytes : List ℕ) (rule : Constraint) (fault : TextFault) → IsConstraintReading version words schema bytes rule
+        → ¬ IsConstraintFault version words schema bytes fault
     no_rule_fault words apart schema bytes rule fault (tree, t, h) (inl g) = clean bytes tree fault t g
     no_rule_fault words apart schema bytes rule fault (tree, t, h) (inr (tree', t', g)) =
         let same : tree' ≡ tree = trees bytes tree' t' tree t in
         rule_or_fault words apart schema bytes tree rule fault h (subst (λ (x : ConstraintTree). IsRuleFault words schema bytes x fault) same g)
 
-    pub one_rule_fault : (grammar : text.HaveOneFault text.IsConstraintGrammarFault) (words : List Word) → AllPairs ◌≢◌ (map (λ word. word.name) words) → (schema bytes : List ℕ) (fault other : TextFault)
-        → IsConstraintFault words schema bytes fault → IsConstraintFault words schema bytes other → fault ≡ other
+    pub one_rule_fault : (grammar : text.HaveOneFault (text.IsConstraintGrammarFault version)) (words : List Word) → AllPairs ◌≢◌ (map (λ word. word.name) words) → (schema bytes : List ℕ) (fault other : TextFault)
+        → IsConstraintFault version words schema bytes fault → IsConstraintFault version words schema bytes other → fault ≡ other
     one_rule_fault grammar words apart schema bytes fault other (inl h) (inl g) = grammar bytes fault other h g
     one_rule_fault grammar words apart schema bytes fault other (inl h) (inr (tree, t, g)) = absurd (clean bytes tree fault t h)
     one_rule_fault grammar words apart schema bytes fault other (inr (tree, t, h)) (inl g) = absurd (clean bytes tree other t g)

@@ -4,34 +4,38 @@ use Rattle.std.specs.Prelude.{Contains, All}
 use Rattle.std.specs.List.{AllByRecursion}
 use Rattle.std.proofs.lemmas.List.{length-map}
 use Rattle.esto_constraint.specs.Constraints.{rule_of}
-use Rattle.esto_constraint.specs.Making.{MakesTuple, MakesEquality}
+use Rattle.esto_constraint.specs.Making.{MakesTuple, MakesEquality, MakesDenial}
 use Rattle.esto_constraint.specs.declared.rule.Constraint.{Constraint}
 use Rattle.esto_constraint.specs.declared.rule.Constraint.TheVariants.{Tuple, Equal, Never}
-use Rattle.esto_constraint.specs.Soundness.{IsSoundTuple, IsSoundEquality}
+use Rattle.esto_constraint.specs.Soundness.{IsSoundTuple, IsSoundEquality, IsSoundDenial}
 use Rattle.esto_query.specs.Schemas.{arities_of}
 use Rattle.esto_query.specs.Soundness.{AreNamed}
+use Rattle.esto_query.specs.declared.make.TheConstants.{MAX_ATOMS}
 use Rattle.esto_query.specs.declared.schema.Relation.{Relation}
 use Rattle.esto_query.specs.declared.query.Name.{Name}
 use Rattle.esto_semantics.specs.Maps.{AreFlat, IsFixedBy}
-use Rattle.esto_semantics.specs.Rules.{tuple, equality}
+use Rattle.esto_semantics.specs.Rules.{tuple, equality, denial}
 use Rattle.esto_semantics.specs.WellFormed.{AreOver, HaveUtf8, IsRuleOver}
 use Rattle.esto_semantics.specs.declared.fact.Fact.{Fact}
 use Rattle.esto_term.specs.declared.term.Term.{Term}
 use Rattle.esto_term.specs.declared.term.Term.TheVariants.{Const, Plain}
-use Rattle.esto_text.specs.Faults.{IsNameIn, IsFieldIn, IsTermIn, IsConstraintText, ConstraintStandsAt}
+use Rattle.esto_text.specs.Faults.{IsFalse, IsNameIn, IsFieldIn, IsTermIn, IsConstraintText, ConstraintStandsAt}
 use Rattle.esto_text.specs.Grammar.{is_term, IsBody, IsHead}
 use Rattle.esto_text.specs.Tokens.{text_of}
-use Rattle.esto_text.specs.Trees.{ItemTree, HeadTree, Items, Equality, ConstraintTree, EachOfHead}
+use Rattle.esto_text.specs.Trees.{ItemTree, HeadTree, Items, Equality, Never as Nothing, ConstraintTree, EachOfHead}
 use Rattle.esto_text.specs.declared.fault.ReadError.{ReadError}
 use Rattle.esto_text.specs.declared.fault.ReadError.TheVariants.{Fault, OutOfMemory}
 use Rattle.esto_text.specs.declared.fault.TextKind.TheVariants.{Unsafe}
 use Rattle.esto_text.specs.declared.token.Token.{Token}
-use Rattle.esto_read.specs.Constraints.{IsTupleRead, IsEqualityRead, IsUnsafeSide, IsRuleOf, IsConstraintReading, IsRuleHeadFault, IsConstraintError}
-use Rattle.esto_read.specs.Items.{AreFitting, IsBodyError}
+use Rattle.esto_text.specs.declared.version.Version.{Version}
+use Rattle.esto_read.specs.Constraints.{IsTupleRead, IsEqualityRead, IsDenialRead, IsUnsafeSide, IsRuleOf, IsConstraintReading, IsRuleHeadFault, IsConstraintError}
+use Rattle.esto_read.specs.Items.{AreFitting, AreItems, IsBodyError}
+use Rattle.esto_read.specs.Parts.{AreTupleParts, AreEqualityParts, AreDenialParts}
 use Rattle.esto_read.specs.Terms.{IsTermOf, AreTerms}
 use Rattle.esto_read.specs.Words.{IsVocabulary, HasRelations, AreTables}
 use Rattle.esto_read.specs.declared.words.DataModel.{DataModel}
 use Rattle.esto_read.specs.declared.words.Word.{Word}
+use Rattle.esto_read.proofs.MakeLemmas.{items_size}
 use Rattle.esto_read.proofs.ReadLemmas.{below_more, Good, ItemIn, AllGood, items_good, items_some, AllGrow, terms_grow}
 
 -- ---- the words
@@ -52,14 +56,14 @@ sides_are bytes before between after left right one other h g = (between, h, (af
 
 -- ---- what a text's constraint stands in
 
-module _ (bytes : List ℕ) (tree : ConstraintTree) (text : IsConstraintText bytes tree) where
+module _ (version : Version) (bytes : List ℕ) (tree : ConstraintTree) (text : IsConstraintText version bytes tree) where
   pub some_items : tree.body ≢ []
   some_items none = let (tokens, h, (body, head, e, (front, arrow, f, b, a), g)) = text in subst (λ (l : List ItemTree). IsBody l front) none b
 
   pub some_head : (items : List ItemTree) → tree.head ≡ Items items → items ≢ []
   some_head items is none =
       let (tokens, h, (body, head, e, b, g)) = text in
-      subst (λ (l : List ItemTree). IsBody l head) none (subst (λ (x : HeadTree). IsHead x head) is g)
+      subst (λ (l : List ItemTree). IsBody l head) none (subst (λ (x : HeadTree). IsHead (IsFalse version bytes) x head) is g)
 
 module _ (bytes : List ℕ) (tree : ConstraintTree) (stands : ConstraintStandsAt bytes tree) where
   pub head_stands : (h : HeadTree) → tree.head ≡ h → EachOfHead (IsNameIn bytes) (IsFieldIn bytes) (IsTermIn bytes) h
@@ -83,12 +87,19 @@ module _ (words : List Word) (schema bytes : List ℕ) (u : IsUtf8 bytes) where
   good_over : (n : ℕ) (atoms : List (Fact Term)) → AreGood n atoms → AreOver schema atoms
   good_over n atoms h atom k = (h atom k).0
 
+  -- items in which nothing is wrong give not too many atoms
+  few : (before : List Name) (items : List ItemTree) (atoms : List (Fact Term)) (after : List Name) → AreItems words schema bytes before items atoms after
+      → AreFitting words schema bytes 0 items → length atoms ≤ MAX_ATOMS
+  few before items atoms after are fits =
+      let size = items_size words schema bytes 0 before items atoms after (omega arith) are fits in omega (arith, size)
+
   good_texts : (n : ℕ) (atoms : List (Fact Term)) → AreGood n atoms → HaveUtf8 atoms
   good_texts n atoms h s (atom, k, l) = ((h atom k).1 (Const s) l).2 s refl
 
 -- ---- what a text's constraint keeps
 
-module _ (words : List Word) (schema bytes : List ℕ) (tree : ConstraintTree) (text : IsConstraintText bytes tree) (stands : ConstraintStandsAt bytes tree) where
+module _ (version : Version) (words : List Word) (schema bytes : List ℕ) (tree : ConstraintTree) (text : IsConstraintText version bytes tree)
+    (stands : ConstraintStandsAt bytes tree) where
   u : IsUtf8 bytes
   u = text.1.0
 
@@ -102,11 +113,11 @@ module _ (words : List Word) (schema bytes : List ℕ) (tree : ConstraintTree) (
     good_body : AreGood words schema bytes u (length names) body
     good_body = good_more words schema bytes u (length h.between) (length names) body in_head.0 (items_good words schema bytes u [] tree.body body h.between stands.0 h.body_atoms).1
 
-    pub tuple_sound : IsSoundTuple body head names
+    tuple_sound : IsSoundTuple body head names
     tuple_sound = record {
       rule = record {
-        has_body = items_some words schema bytes u [] tree.body body h.between stands.0 h.body_atoms (some_items bytes tree text);
-        has_head = items_some words schema bytes u h.between items head names head_stand h.head_atoms (some_head bytes tree text items is);
+        has_body = items_some words schema bytes u [] tree.body body h.between stands.0 h.body_atoms (some_items version bytes tree text);
+        has_head = items_some words schema bytes u h.between items head names head_stand h.head_atoms (some_head version bytes tree text items is);
         flat_body = good_flat words schema bytes u (length names) body good_body;
         flat_head = good_flat words schema bytes u (length names) head in_head.1;
       };
@@ -114,13 +125,21 @@ module _ (words : List Word) (schema bytes : List ℕ) (tree : ConstraintTree) (
       head_named = good_named words schema bytes u names head in_head.1;
     }
 
-    pub tuple_over : IsRuleOver schema (tuple body head)
+    tuple_over : IsRuleOver schema (tuple body head)
     tuple_over = (
       good_over words schema bytes u (length names) body good_body,
       good_over words schema bytes u (length names) head in_head.1,
       good_texts words schema bytes u (length names) body good_body,
       good_texts words schema bytes u (length names) head in_head.1,
     )
+
+    pub tuple_parts : AreTupleParts schema body head names
+    tuple_parts = record {
+      sound = tuple_sound;
+      over = tuple_over;
+      body_size = few words schema bytes u [] tree.body body h.between h.body_atoms h.body_fits;
+      head_size = few words schema bytes u h.between items head names h.head_atoms h.head_fits;
+    }
 
   module _ (left_token right_token : Token) (is : tree.head ≡ Equality left_token right_token) (body : List (Fact Term)) (left right : Term) (names : List Name)
       (h : IsEqualityRead words schema bytes tree.body left_token right_token body left right names) where
@@ -132,10 +151,10 @@ module _ (words : List Word) (schema bytes : List ℕ) (tree : ConstraintTree) (
     good_equality : AreGood words schema bytes u (length names) body
     good_equality = good_more words schema bytes u (length h.between) (length names) body in_sides.0 (items_good words schema bytes u [] tree.body body h.between stands.0 h.body_atoms).1
 
-    pub equality_sound : IsFixedBy body left × IsFixedBy body right → IsSoundEquality body left right names
+    equality_sound : IsFixedBy body left × IsFixedBy body right → IsSoundEquality body left right names
     equality_sound fixed = record {
       rule = record {
-        has_body = items_some words schema bytes u [] tree.body body h.between stands.0 h.body_atoms (some_items bytes tree text);
+        has_body = items_some words schema bytes u [] tree.body body h.between stands.0 h.body_atoms (some_items version bytes tree text);
         flat_body = good_flat words schema bytes u (length names) body good_equality;
         left_fixed = fixed.0;
         right_fixed = fixed.1;
@@ -143,13 +162,43 @@ module _ (words : List Word) (schema bytes : List ℕ) (tree : ConstraintTree) (
       named = good_named words schema bytes u names body good_equality;
     }
 
-    pub equality_over : IsRuleOver schema (equality body left right)
+    equality_over : IsRuleOver schema (equality body left right)
     equality_over = (
       good_over words schema bytes u (length names) body good_equality,
       good_texts words schema bytes u (length names) body good_equality,
       λ s e. (in_sides.1 left (0, omega arith, refl)).2 s e,
       λ s e. (in_sides.1 right (1, omega arith, refl)).2 s e,
     )
+
+    pub equality_parts : IsFixedBy body left × IsFixedBy body right → AreEqualityParts schema body left right names
+    equality_parts fixed = record {
+      sound = equality_sound fixed;
+      over = equality_over;
+      size = few words schema bytes u [] tree.body body h.between h.body_atoms h.body_fits;
+    }
+
+  module _ (body : List (Fact Term)) (names : List Name) (h : IsDenialRead words schema bytes tree.body body names) where
+    good_denial : AreGood words schema bytes u (length names) body
+    good_denial = (items_good words schema bytes u [] tree.body body names stands.0 h.body_atoms).1
+
+    denial_sound : IsSoundDenial body names
+    denial_sound = record {
+      rule = record {
+        has_body = items_some words schema bytes u [] tree.body body names stands.0 h.body_atoms (some_items version bytes tree text);
+        flat_body = good_flat words schema bytes u (length names) body good_denial;
+      };
+      named = good_named words schema bytes u names body good_denial;
+    }
+
+    denial_over : IsRuleOver schema (denial body)
+    denial_over = (good_over words schema bytes u (length names) body good_denial, good_texts words schema bytes u (length names) body good_denial)
+
+    pub denial_parts : AreDenialParts schema body names
+    denial_parts = record {
+      sound = denial_sound;
+      over = denial_over;
+      size = few words schema bytes u [] tree.body body names h.body_atoms h.body_fits;
+    }
 
 -- ---- rules that are made
 
@@ -168,11 +217,17 @@ module _ (schema : List ℕ) (names : List Name) where
   equality_made_over (Tuple rule) body left right made over = absurd made
   equality_made_over (Never rule) body left right made over = absurd made
 
+  pub denial_made_over : (rule : Constraint) (body : List (Fact Term)) → MakesDenial schema body names (Ok rule) → IsRuleOver schema (denial body)
+      → IsRuleOver schema (rule_of rule)
+  denial_made_over (Never rule) body made over = subst (λ (l : List (Fact Term)). IsRuleOver schema (denial l)) (sym made.2) over
+  denial_made_over (Tuple rule) body made over = absurd made
+  denial_made_over (Equal rule) body made over = absurd made
+
 -- ---- readings and errors
 
-module _ (words : List Word) (schema bytes : List ℕ) (tree : ConstraintTree) (text : IsConstraintText bytes tree) where
+module _ (version : Version) (words : List Word) (schema bytes : List ℕ) (tree : ConstraintTree) (text : IsConstraintText version bytes tree) where
   pub tuple_reading : (head_items : List ItemTree) (rule : Constraint) (body head : List (Fact Term)) (names : List Name) → MakesTuple schema body head names (Ok rule)
-      → tree.head ≡ Items head_items → IsTupleRead words schema bytes tree.body head_items body head names → IsConstraintReading words schema bytes rule
+      → tree.head ≡ Items head_items → IsTupleRead words schema bytes tree.body head_items body head names → IsConstraintReading version words schema bytes rule
   tuple_reading head_items (Tuple rule) body head names made is h =
       let bodies = subst (λ (l : List (Fact Term)). IsTupleRead words schema bytes tree.body head_items l head names) (sym made.3) h in
       let heads = subst (λ (l : List (Fact Term)). IsTupleRead words schema bytes tree.body head_items rule.body l names) (sym made.4) bodies in
@@ -182,7 +237,7 @@ module _ (words : List Word) (schema bytes : List ℕ) (tree : ConstraintTree) (
   tuple_reading head_items (Never rule) body head names made is h = absurd made
 
   pub equality_reading : (left right : Token) (rule : Constraint) (body : List (Fact Term)) (one other : Term) (names : List Name) → MakesEquality schema body one other names (Ok rule)
-      → tree.head ≡ Equality left right → IsEqualityRead words schema bytes tree.body left right body one other names → IsConstraintReading words schema bytes rule
+      → tree.head ≡ Equality left right → IsEqualityRead words schema bytes tree.body left right body one other names → IsConstraintReading version words schema bytes rule
   equality_reading left right (Equal rule) body one other names made is h =
       let bodies = subst (λ (l : List (Fact Term)). IsEqualityRead words schema bytes tree.body left right l one other names × IsFixedBy l one × IsFixedBy l other) (sym made.4) (h, made.2, made.3) in
       let lefts = subst (λ (x : Term). IsEqualityRead words schema bytes tree.body left right rule.body x other names × IsFixedBy rule.body x × IsFixedBy rule.body other) (sym made.5) bodies in
@@ -192,17 +247,26 @@ module _ (words : List Word) (schema bytes : List ℕ) (tree : ConstraintTree) (
   equality_reading left right (Tuple rule) body one other names made is h = absurd made
   equality_reading left right (Never rule) body one other names made is h = absurd made
 
-  pub body_error : (e : ReadError) → IsBodyError words schema bytes tree.body e → IsConstraintError words schema bytes e
+  pub denial_reading : (rule : Constraint) (body : List (Fact Term)) (names : List Name) → MakesDenial schema body names (Ok rule) → tree.head ≡ Nothing
+      → IsDenialRead words schema bytes tree.body body names → IsConstraintReading version words schema bytes rule
+  denial_reading (Never rule) body names made is h =
+      let bodies = subst (λ (l : List (Fact Term)). IsDenialRead words schema bytes tree.body l names) (sym made.2) h in
+      let whole = subst (λ (l : List Name). IsDenialRead words schema bytes tree.body rule.body l) (sym made.3) bodies in
+      (tree, text, subst (λ (x : HeadTree). IsRuleOf words schema bytes tree.body x (Never rule)) (sym is) whole)
+  denial_reading (Tuple rule) body names made is h = absurd made
+  denial_reading (Equal rule) body names made is h = absurd made
+
+  pub body_error : (e : ReadError) → IsBodyError words schema bytes tree.body e → IsConstraintError version words schema bytes e
   body_error OutOfMemory h = text.1.0
   body_error (Fault f) h = inr (tree, text, inl h)
 
   module _ (fits : AreFitting words schema bytes 0 tree.body) where
-    pub head_error : (head_items : List ItemTree) → tree.head ≡ Items head_items → (e : ReadError) → IsBodyError words schema bytes head_items e → IsConstraintError words schema bytes e
+    pub head_error : (head_items : List ItemTree) → tree.head ≡ Items head_items → (e : ReadError) → IsBodyError words schema bytes head_items e → IsConstraintError version words schema bytes e
     head_error head_items is OutOfMemory h = text.1.0
     head_error head_items is (Fault f) h = inr (tree, text, inr (fits, subst (λ (x : HeadTree). IsRuleHeadFault words schema bytes tree.body x f) (sym is) h))
 
     pub side_error : (left right : Token) (body : List (Fact Term)) (one other : Term) (names : List Name) (offset : ℕ) → tree.head ≡ Equality left right
         → IsEqualityRead words schema bytes tree.body left right body one other names → IsUnsafeSide body left right one other offset
-        → IsConstraintError words schema bytes (Fault (record { offset = offset; kind = Unsafe }))
+        → IsConstraintError version words schema bytes (Fault (record { offset = offset; kind = Unsafe }))
     side_error left right body one other names offset is h g =
         inr (tree, text, inr (fits, subst (λ (x : HeadTree). IsRuleHeadFault words schema bytes tree.body x (record { offset = offset; kind = Unsafe })) (sym is) (body, one, other, names, h, refl, g)))

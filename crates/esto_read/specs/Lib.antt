@@ -5,3 +5,4 @@ pub mod Heads
 pub mod Readings
 pub mod Naming
 pub mod Constraints
+pub mod Parts

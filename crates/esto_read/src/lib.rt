@@ -13,5 +13,5 @@ mod words;
 pub use read::{
     NamedQuery, read_query, read_view, readings_are_determined, views_name_their_columns,
 };
-pub use rule::{constraint_readings_are_determined, read_constraint};
+pub use rule::{constraint_readings_are_determined, read_constraint, read_constraint_2};
 pub use words::{DataModel, Vocabulary, Word};

@@ -1,13 +1,14 @@
 //! Queries and rules of parts in which nothing is wrong.
 ghost use Rattle.std.specs.Prelude.{◌≤◌, length, Ok};
-ghost use Rattle.esto_constraint.specs.Making.{MakesTuple, MakesEquality};
-ghost use Rattle.esto_constraint.specs.Soundness.{IsSoundTuple, IsSoundEquality};
+ghost use Rattle.esto_constraint.specs.Constraints.{rule_of};
+ghost use Rattle.esto_constraint.specs.Making.{MakesTuple, MakesEquality, MakesDenial};
 ghost use Rattle.esto_query.specs.Making.{MakesQuery};
 ghost use Rattle.esto_query.specs.Schemas.{arities_of};
 ghost use Rattle.esto_query.specs.Soundness.{IsSound};
-ghost use Rattle.esto_semantics.specs.WellFormed.{AreOver};
+ghost use Rattle.esto_semantics.specs.WellFormed.{AreOver, IsRuleOver};
+ghost use Rattle.esto_read.specs.Parts.{AreTupleParts, AreEqualityParts, AreDenialParts};
 
-use esto_constraint::{Constraint, make_equal_rule, make_tuple_rule};
+use esto_constraint::{Constraint, make_denial, make_equal_rule, make_tuple_rule};
 use esto_query::{MAX_ATOMS, Names, Query, Schema, make_query};
 use esto_semantics::Atoms;
 use esto_term::{Term, Terms};
@@ -34,12 +35,9 @@ pub fn tuple_rule(
     head: Atoms,
     names: Names,
 ) -> Constraint
-    requires sound { IsSoundTuple body head names }
-    requires body_over { AreOver (arities_of schema.now) body }
-    requires head_over { AreOver (arities_of schema.now) head }
-    requires body_size { length body ≤ MAX_ATOMS }
-    requires head_size { length head ≤ MAX_ATOMS }
-    ensures { MakesTuple (arities_of schema.now) body head names (Ok result) }
+    requires { AreTupleParts (arities_of schema.now) body head names }
+    ensures made { MakesTuple (arities_of schema.now) body head names (Ok result) }
+    ensures over { IsRuleOver (arities_of schema.now) (rule_of result) }
 {
     match make_tuple_rule(alloc, schema, body, head, names) {
         Ok(rule) => rule,
@@ -56,12 +54,23 @@ pub fn equal_rule(
     right: Term,
     names: Names,
 ) -> Constraint
-    requires sound { IsSoundEquality body left right names }
-    requires over { AreOver (arities_of schema.now) body }
-    requires size { length body ≤ MAX_ATOMS }
-    ensures { MakesEquality (arities_of schema.now) body left right names (Ok result) }
+    requires { AreEqualityParts (arities_of schema.now) body left right names }
+    ensures made { MakesEquality (arities_of schema.now) body left right names (Ok result) }
+    ensures over { IsRuleOver (arities_of schema.now) (rule_of result) }
 {
     match make_equal_rule(alloc, schema, body, left, right, names) {
+        Ok(rule) => rule,
+        Err(_) => unreachable!(),
+    }
+}
+
+/// The denial of this body and names.
+pub fn denial(alloc: Global, schema: &Schema, body: Atoms, names: Names) -> Constraint
+    requires { AreDenialParts (arities_of schema.now) body names }
+    ensures made { MakesDenial (arities_of schema.now) body names (Ok result) }
+    ensures over { IsRuleOver (arities_of schema.now) (rule_of result) }
+{
+    match make_denial(alloc, schema, body, names) {
         Ok(rule) => rule,
         Err(_) => unreachable!(),
     }

@@ -8,7 +8,7 @@ ghost use Rattle.esto_read.specs.Words.{IsVocabulary, AreTables};
 ghost use Rattle.esto_read.specs.Constraints.{IsUnsafeSide, IsConstraintReading, IsConstraintError, HaveOneRule, HaveNoRuleFault, HaveOneRuleFault};
 
 use crate::body::body;
-use crate::make::{equal_rule, tuple_rule};
+use crate::make::{denial, equal_rule, tuple_rule};
 use crate::term::term;
 use crate::words::Vocabulary;
 use esto_constraint::Constraint;
@@ -16,7 +16,8 @@ use esto_query::{Schema, mentions};
 use esto_semantics::Atom;
 use esto_term::{List, Term};
 use esto_text::{
-    HeadSyntax, ReadError, TextFault, TextKind, Token, read_constraint_tree, trees_are_determined,
+    HeadSyntax, ReadError, TextFault, TextKind, Token, Version, read_constraint_tree,
+    trees_are_determined,
 };
 use std::alloc::Global;
 
@@ -47,26 +48,24 @@ fn unsafe_side(
     None
 }
 
-/// The constraint that a text is, over the tables that the words name; or the text's first fault: Utf8, Syntax,
-/// then for each item in order, the body before the head, Unknown, Arity and TooLarge, then Unsafe. Unsafe comes for
-/// an equality alone, at the first side that is no constant and not in the body.
-pub fn read_constraint(
+/// The constraint that a text of this version is.
+fn read_rule(
     alloc: Global,
     bytes: &[u8],
     words: &Vocabulary,
     schema: &Schema,
+    version: Version,
 ) -> Result<Constraint, ReadError>
     requires words { IsVocabulary (arities_of schema.now) words.now }
     requires tables { AreTables words.now }
-    // The answer is the text's reading.
-    ensures reading { IfOk result (λ constraint. IsConstraintReading words.now (arities_of schema.now) bytes.now constraint) }
-    // It is over the schema, and its constants are UTF-8.
-    ensures over { IfOk result (λ constraint. IsRuleOver (arities_of schema.now) (rule_of constraint)) }
-    // A fault is the text's first fault.
-    ensures error { IfErr result (λ e. IsConstraintError words.now (arities_of schema.now) bytes.now e) }
+    ensures reading { IfOk result (IsConstraintReading
+        version words.now (arities_of schema.now) bytes.now) }
+    ensures over { IfOk result (λ rule. IsRuleOver (arities_of schema.now) (rule_of rule)) }
+    ensures error { IfErr result (IsConstraintError
+        version words.now (arities_of schema.now) bytes.now) }
 {
     let words = words.items();
-    let tree = read_constraint_tree(alloc, bytes)?;
+    let tree = read_constraint_tree(alloc, bytes, version)?;
     let mut names = List::new(alloc);
     let atoms = body(alloc, bytes, tree.body.items(), words, schema, &mut names)?;
     match &tree.head {
@@ -85,10 +84,56 @@ pub fn read_constraint(
                 None => Ok(equal_rule(alloc, schema, atoms, left_term, right_term, names)),
             }
         }
+        HeadSyntax::Never => Ok(denial(alloc, schema, atoms, names)),
     }
 }
 
-/// A law: a text of a constraint has at most one reading and at most one first fault, and never both.
+/// The constraint that a text of version 1 is, over the tables that the words name; or the text's first fault: Utf8,
+/// Syntax, then for each item in order, the body before the head, Unknown, Arity and TooLarge, then Unsafe. Unsafe comes
+/// for an equality alone, at the first side that is no constant and not in the body.
+pub fn read_constraint(
+    alloc: Global,
+    bytes: &[u8],
+    words: &Vocabulary,
+    schema: &Schema,
+) -> Result<Constraint, ReadError>
+    requires words { IsVocabulary (arities_of schema.now) words.now }
+    requires tables { AreTables words.now }
+    // The answer is the text's reading.
+    ensures reading { IfOk result (IsConstraintReading
+        Version.One words.now (arities_of schema.now) bytes.now) }
+    // It is over the schema, and its constants are UTF-8.
+    ensures over { IfOk result (λ rule. IsRuleOver (arities_of schema.now) (rule_of rule)) }
+    // A fault is the text's first fault.
+    ensures error { IfErr result (IsConstraintError
+        Version.One words.now (arities_of schema.now) bytes.now) }
+{
+    read_rule(alloc, bytes, words, schema, Version::One)
+}
+
+/// The constraint that a text of version 2 is, in which the head may be the one word `false`, which makes it a denial; or
+/// the text's first fault: those of version 1, of which Unsafe never comes for a denial.
+pub fn read_constraint_2(
+    alloc: Global,
+    bytes: &[u8],
+    words: &Vocabulary,
+    schema: &Schema,
+) -> Result<Constraint, ReadError>
+    requires words { IsVocabulary (arities_of schema.now) words.now }
+    requires tables { AreTables words.now }
+    // The answer is the text's reading.
+    ensures reading { IfOk result (IsConstraintReading
+        Version.Two words.now (arities_of schema.now) bytes.now) }
+    // It is over the schema, and its constants are UTF-8.
+    ensures over { IfOk result (λ rule. IsRuleOver (arities_of schema.now) (rule_of rule)) }
+    // A fault is the text's first fault.
+    ensures error { IfErr result (IsConstraintError
+        Version.Two words.now (arities_of schema.now) bytes.now) }
+{
+    read_rule(alloc, bytes, words, schema, Version::Two)
+}
+
+/// A law: in each version a text of a constraint has at most one reading and at most one first fault, and never both.
 pub fn constraint_readings_are_determined()
     ensures reading { HaveOneRule }
     ensures apart { HaveNoRuleFault }
