@@ -5,10 +5,10 @@ use Rattle.std.specs.Prelude.{MatchOption}
 use Rattle.std.specs.Cmp.{IsTotalOrder, IsStrictWeakOrder}
 use Rattle.std.specs.Fn.{Mut, Called, ComparesAs}
 use Rattle.std.specs.List.Sorted.{IsPartitionedBy, IsPartitionPoint, IsPermutation, IsSortedBy}
-use Rattle.std.specs.Ordering.{nat_cmp, ordering_then, ordering_reverse, is_lt}
+use Rattle.std.specs.Ordering.{nat_cmp, ordering_then, ordering_reverse, is_lt, is_eq}
 use Rattle.std.specs.declared.cmp.Ordering.{Ordering}
 use Rattle.std.specs.declared.cmp.Ordering.TheVariants.{Less, Equal, Greater}
-use Rattle.std.proofs.lemmas.Bool.{cases_lt, false≢true}
+use Rattle.std.proofs.lemmas.Bool.{cases_lt, cases_order, false≢true}
 use Rattle.std.proofs.lemmas.Bool.Decides.{nat_tests}
 use Rattle.std.proofs.lemmas.Cmp.{nat_cmp_total, on_total, then_total}
 use Rattle.std.proofs.lemmas.Fn.{always_returns_same}
@@ -65,9 +65,9 @@ pub entries_more : (terms : List Term) (place : ℕ) (term : Term) (now new : Li
 entries_more terms place term now new entry within is pushed term_is place_is so_far = record {
   has = λ k other at. elim (at_pushed (take place terms) term k other (subst (λ all. slice_get all k ≡ Some other) whole at)) [
     | inl earlier ↦ let found = so_far.has k other earlier in
-        (found.0, subst (λ all. Contains all found.0) (sym pushed) (Contains-append_left now (entry ∷ []) found.0 found.1), found.2)
+        (found.0, subst (λ all. Contains all found.0) (sym pushed) (Contains-append_left now (entry ∷ []) found.0 found.1), found.2, found.3)
     | inr same ↦
-        (entry, subst (λ all. Contains all entry) (sym pushed) (Contains-push now entry), (term_is ∙ same.1, place_is ∙ sym (same.0 ∙ count)))
+        (entry, subst (λ all. Contains all entry) (sym pushed) (Contains-push now entry), term_is ∙ same.1, place_is ∙ sym (same.0 ∙ count))
   ];
   only = λ it inside. elim (Contains-push_cases now entry it (subst (λ all. Contains all it) pushed inside)) [
     | inl earlier ↦ subst (λ all. slice_get all it.place ≡ Some it.term.now) (sym whole)
@@ -88,7 +88,7 @@ entries_more terms place term now new entry within is pushed term_is place_is so
 
 pub entries_moved : (terms : List Term) (entries index : List Entry) → AreEntries terms entries → IsPermutation entries index → AreEntries terms index
 entries_moved terms entries index are permuted = record {
-  has = λ place term at. let found = are.has place term at in (found.0, Contains-permutation entries index found.0 permuted found.1, found.2);
+  has = λ place term at. let found = are.has place term at in (found.0, Contains-permutation entries index found.0 permuted found.1, found.2, found.3);
   only = λ entry inside. are.only entry (Contains-permutation index entries entry (IsPermutation-sym entries index permuted) inside);
 }
 
@@ -159,13 +159,13 @@ module _ (index : List Entry) (term : Term) (order : IsInOrder index) where
 
       pub first-same : entry.term.now ≡ term → IsFirstEntry index term entry.place
       first-same same = (
-        (entry, (first, here, sym at), (same, refl)),
-        (λ other (found, (k, within, read), (is, place)).
+        (entry, (first, here, sym at), same, refl),
+        (λ other (found, (k, within, read), is, place).
         subst (λ it. entry.place ≤ it) place (places_rise entry found (same ∙ sym is) (later k found within read is))),
       )
 
       pub first-other : entry.term.now ≢ term → HasNoEntry index term
-      first-other apart place (found, (k, within, read), (is, _)) = by (term_cmp entry.term.now term) refl
+      first-other apart place (found, (k, within, read), is, _) = by (term_cmp entry.term.now term) refl
         where
           no_less : term_cmp entry.term.now term ≢ Less
           no_less = not_less (term_cmp entry.term.now term)
@@ -180,9 +180,22 @@ module _ (index : List Entry) (term : Term) (order : IsInOrder index) where
           by Greater told = no_greater (term_cmp_total.antisymm term entry.term.now ∙ ap ordering_reverse told)
 
     pub first-past : length index ≤ first → HasNoEntry index term
-    first-past past place (found, (k, within, read), (is, _)) =
+    first-past past place (found, (k, within, read), is, _) =
         let from : first ≤ k = not_before k found within read is in
         omega (arith, within, past, from)
+
+-- what the test says
+pub equal_told : (term other : Term) → is_eq (term_cmp term other) ≡ true → term ≡ other
+equal_told term other told = by (term_cmp term other) refl told
+  where
+    by : (answer : Ordering) → term_cmp term other ≡ answer → is_eq answer ≡ true → term ≡ other
+    by Less is told = absurd (false≢true told)
+    by Equal is told = term_cmp_exact term other is
+    by Greater is told = absurd (false≢true told)
+
+pub apart_told : (term other : Term) → is_eq (term_cmp term other) ≡ false → term ≢ other
+apart_told term other told same =
+    false≢true (sym told ∙ ap (λ it. is_eq (term_cmp term it)) (sym same) ∙ ap is_eq (tied term))
 
 -- ---- the first place of a term
 
@@ -204,10 +217,21 @@ take_has (x ∷ things) (suc count) (suc place) thing at less =
 
 pub first_of_index : (terms : List Term) (index : List Entry) (term : Term) (result : Option ℕ) → IsIndex terms index
     → MatchOption result (HasNoEntry index term) (IsFirstEntry index term) → MatchOption result (Contains terms term → ⊥) (IsFirstPlace terms term)
-first_of_index terms index term None is_index no_entry inside =
-    let at = place-from_Contains terms term inside in no_entry at.0 (is_index.entries.has at.0 term at.1)
-first_of_index terms index term (Some place) is_index ((entry, inside, (is, at)), least) = (
+first_of_index terms index term None is_index no_entry =
+    λ inside. let at = place-from_Contains terms term inside in no_entry at.0 (is_index.entries.has at.0 term at.1)
+first_of_index terms index term (Some place) is_index ((entry, inside, is, at), least) = (
   ap (slice_get terms) (sym at) ∙ is_index.entries.only entry inside ∙ ap Some is,
   (λ earlier. let found = in_take terms place term earlier in
   omega (arith, found.1, least found.0 (is_index.entries.has found.0 term found.2))),
 )
+
+-- where the term stands at a place that is not its first, it stands before
+pub not_first : (terms : List Term) (term : Term) (place first : ℕ) → slice_get terms place ≡ Some term → IsFirstPlace terms term first
+    → (first ≡ place → ⊥) → Contains (take place terms) term
+not_first terms term place first at is_first apart = elim (cases_order first place) [
+  | inl same ↦ absurd (apart same)
+  | inr other ↦ elim other [
+    | inl less ↦ take_has terms place first term is_first.0 less
+    | inr more ↦ absurd (is_first.1 (take_has terms first place term at more))
+  ]
+]

@@ -1,8 +1,6 @@
 -- The renaming of terms by place, and its way back.
-use Rattle.std.proofs.Common.{◌≡◌, ◌≢◌, zero, suc, ℕ, ◌+◌, Bool, true, false, cond, List, [], ◌∷◌, ◌++◌, drop, slice_get, Contains, Some, refl, sym, ap, ◌∙◌, subst, arith}
-use Rattle.std.specs.List.{AllPairs}
+use Rattle.std.proofs.Common.{◌≡◌, zero, suc, ℕ, ◌+◌, Bool, true, false, cond, List, [], ◌∷◌, ◌++◌, get_or, take, slice_get, Contains, Some, refl, sym, ap, ◌∙◌, subst, arith}
 use Rattle.std.specs.Option.{unwrap_or}
-use Rattle.std.proofs.lemmas.List.{drop_more}
 use Rattle.std.proofs.lemmas.List.Elements.{Contains-push}
 use Rattle.std.proofs.lemmas.Option.{slice_get_within, get_or_from_slice_get}
 use Rattle.esto_term.specs.declared.term.Term.{Term, out-Term}
@@ -25,7 +23,7 @@ apart_told term other apart = by (same_term term other) refl
     by true told = absurd (apart ((same_term-Decides term other).0 told))
     by false told = refl
 
-pub numbered-at : (number : ℕ) (seen : List Term) (place : ℕ) (term : Term) → slice_get seen place ≡ Some term → (Contains (take place seen) term → ⊥)
+numbered-at : (number : ℕ) (seen : List Term) (place : ℕ) (term : Term) → slice_get seen place ≡ Some term → (Contains (take place seen) term → ⊥)
     → numbered number seen term ≡ Plain (number + place)
 numbered-at number [] place term at first = absurd (cc)
 numbered-at number (one ∷ seen) zero term at first =
@@ -37,6 +35,10 @@ numbered-at number (one ∷ seen) (suc place) term at first =
     cond_is (same_term term one) false (Plain number) (numbered (number + 1) seen term)
     (apart_told term one (λ is. first (subst (Contains (one ∷ take place seen)) (sym is) (Contains-head one (take place seen)))))
     ∙ numbered-at (number + 1) seen place term at (λ inside. first (Contains-rest one (take place seen) term inside)) ∙ ap Plain same
+
+pub numbered_first : (seen : List Term) (place : ℕ) (term : Term) → slice_get seen place ≡ Some term → (Contains (take place seen) term → ⊥)
+    → numbered 0 seen term ≡ Plain place
+numbered_first seen place term at first = let same : 0 + place ≡ place = omega arith in numbered-at 0 seen place term at first ∙ ap Plain same
 
 pub numbered-outside : (number : ℕ) (seen : List Term) (term : Term) → (Contains seen term → ⊥) → numbered number seen term ≡ term
 numbered-outside number [] term outside = refl
@@ -61,8 +63,7 @@ seen_once terms seen are_seen place term at earlier =
 pub numbered_renames : (terms seen : List Term) → AreFirstOccurrences terms seen → IsRenaming seen (numbered 0 seen)
 numbered_renames terms seen are_seen = record {
   keeps = λ text. numbered-outside 0 seen (Const text) (λ inside. ((are_seen.exact (Const text)).0 inside).1 (text, refl));
-  numbers = λ place term at.
-      let same : 0 + place ≡ place = omega arith in numbered-at 0 seen place term at (seen_once terms seen are_seen place term at) ∙ ap Plain same;
+  numbers = λ place term at. numbered_first seen place term at (seen_once terms seen are_seen place term at);
 }
 
 -- ---- the way back

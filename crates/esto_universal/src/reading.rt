@@ -52,6 +52,17 @@ fn read_term(
     Ok(())
 }
 
+/// Those of the terms that are no constants, each once, by first occurrence.
+fn seen_in(alloc: Global, terms: &IndexedTerms) -> Result<Terms, OutOfMemory>
+    ensures { IfOk result (λ seen. AreFirstOccurrences terms.now seen) }
+{
+    let mut seen = List::new(alloc);
+    'terms: for (place, term) in terms.items().iter().enumerate() {
+        read_term(alloc, terms, place, term, &mut seen)?;
+    }
+    Ok(seen)
+}
+
 /// The terms that are no constants, each once, by their first occurrence in the rows, in order, and then in the
 /// head.
 pub fn first_occurrences(alloc: Global, rows: &Facts, head: &Terms) -> Result<Terms, OutOfMemory>
@@ -59,9 +70,6 @@ pub fn first_occurrences(alloc: Global, rows: &Facts, head: &Terms) -> Result<Te
 {
     let read = terms_read(alloc, rows, head)?;
     let terms = IndexedTerms::of(alloc, &read)?;
-    let mut seen = List::new(alloc);
-    'terms: for (place, term) in terms.items().iter().enumerate() {
-        read_term(alloc, &terms, place, term, &mut seen)?;
-    }
+    let seen = seen_in(alloc, &terms)?;
     Ok(seen)
 }

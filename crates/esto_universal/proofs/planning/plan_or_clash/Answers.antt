@@ -24,3 +24,12 @@ chase-requires-ranks c =
     let it = c.args.catalogue.now in
     let sound = c.catalogues_are_sound.ensures it in
     ranks_of_all (rules_of it.rules) (length it.schema) it.ranks sound.ranks_are
+
+pub stated_plan-requires : goal.stated_plan-requires
+stated_plan-requires c = ?
+
+pub returns-in-Left : goal.returns-in-Left
+returns-in-Left c = ?
+
+pub returns-in-Right : goal.returns-in-Right
+returns-in-Right c = ?
