@@ -2,6 +2,7 @@
 //! about. A line that asks is printed after `> `, and then what comes of it; a line that begins with `#` is a heading.
 #![tactic(auto)]
 
+mod chasing;
 mod contents;
 mod files;
 mod making;

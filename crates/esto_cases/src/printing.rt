@@ -43,13 +43,16 @@ fn put_term<R: Print>(rt: &R, term: &Term) {
         Term::Plain(number) => {
             let _ = print!(rt; "{number} ");
         }
-        Term::Made(_, _, _) => {
-            let _ = print!(rt; "made ");
+        Term::Made(rule, variable, frontier) => {
+            let count = frontier.len();
+            let nesting = term.nesting();
+            let _ = print!(rt; "made({rule},{variable},{count}):{nesting} ");
         }
     }
 }
 
-/// A line of terms: a constant after a quote, and a plain term by its number.
+/// A line of terms: a constant after a quote, a plain term by its number, and a made one by its rule, its variable, the
+/// length of its frontier and its nesting.
 pub fn put_row<R: Print>(rt: &R, row: &[Term]) {
     'terms: for term in row {
         put_term(rt, term);

@@ -1,5 +1,6 @@
 //! What matches, rules, plans and orders are asked about, and what is answered.
 
+use crate::chasing::put_chase;
 use crate::making::{
     RuleMade, denial_made, equal_rule_made, put_fault, query_made, tuple_rule_made,
 };
@@ -109,6 +110,11 @@ impl Stage {
         }
     }
 
+    fn chase<R: Print>(&self, rt: &R, alloc: Global, text: &str) -> Result<(), Refused> {
+        let query = query(alloc, &self.catalogue, text)?;
+        put_chase(rt, alloc, &self.catalogue.schema, &self.rules, &query)
+    }
+
     fn make_query<R: Print>(&self, rt: &R, alloc: Global, line: &str) -> Result<(), Refused> {
         match query_made(alloc, &self.catalogue.schema, line)? {
             Ok(_) => {
@@ -196,6 +202,7 @@ impl Stage {
             "active" => self.active(rt, alloc, rest),
             "active_of" => self.active_of(rt, alloc, rest),
             "meets" => put_broken(rt, alloc, &self.rules, &self.facts),
+            "chase" => self.chase(rt, alloc, rest),
             _ => self.ask_plan(rt, alloc, word, rest),
         }
     }
