@@ -4,9 +4,6 @@ use Rattle.std.specs.Prelude.{slice_index}
 use Rattle.std.proofs.Math.ListN.{get_or-eq_default}
 use Rattle.std.proofs.lemmas.Bool.{cases_lt}
 use Rattle.std.proofs.lemmas.List.{map-append, length-append, length-map}
-use Rattle.either.specs.Either.{MatchEither}
-use Rattle.either.specs.declared.Either.{Either}
-use Rattle.either.specs.declared.Either.TheVariants.{Left, Right}
 use Rattle.esto_term.specs.Nesting.{greatest_u64}
 use Rattle.esto_term.proofs.ListLemmas.{Contains-map_from}
 use Rattle.esto_semantics.specs.Queries.{ConjunctiveQuery}
@@ -81,11 +78,3 @@ module _ (rules : List Rule) (start : ConjunctiveQuery) where
 
 pub nothing-unsatisfiable : (rules : List Rule) (start : ConjunctiveQuery) → ReceivesNothing rules start → ¬ (IsSatisfiable rules start)
 nothing-unsatisfiable rules start nothing (database, meets, (row, (m, keeps, sends, is))) = nothing database meets m keeps sends
-
--- ---- outcomes
-
--- what follows for either outcome
-pub on_either : {A B : Type 0} {P Q : A → Type 0} {R S : B → Type 0} (outcome : Either A B) → ((left : A) → P left → Q left) → ((right : B) → R right → S right)
-    → MatchEither outcome P R → MatchEither outcome Q S
-on_either (Left left) there back told = there left told
-on_either (Right right) there back told = back right told

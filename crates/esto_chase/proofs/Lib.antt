@@ -2,3 +2,4 @@ pub mod MakingLemmas
 pub mod NextLemmas
 pub mod StepLemmas
 pub mod ChaseLemmas
+pub mod OutcomeLemmas

@@ -1,5 +1,6 @@
 -- The frontier as it is read, and what the rule makes of a term of its head.
-use Rattle.std.proofs.Common.{◌≡◌, ◌⊎◌, ◌↔◌, inl, inr, ℕ, ◌+◌, ◌<◌, Bool, true, false, cond, List, [], ◌∷◌, ◌++◌, map, length, get_or, take, None, Some, Option, refl, sym, ap, ◌∙◌, subst}
+use Rattle.std.proofs.Common.{◌≡◌, ◌⊎◌, ◌↔◌, inl, inr, ℕ, ◌+◌, ◌<◌, Bool, true, false, cond, List, [], ◌∷◌, ◌++◌}
+use Rattle.std.proofs.Common.{map, length, get_or, take, None, Some, Option, refl, sym, ap, ◌∙◌, subst}
 use Rattle.std.specs.Bool.{Decides}
 use Rattle.std.specs.FinMap.{get}
 use Rattle.std.specs.List.{filter}

@@ -130,7 +130,8 @@ fn make_all(
     valuation: &Valuation,
     head: &[Atom],
 ) -> Result<Facts, OutOfMemory>
-    ensures { IfOk result (λ it. it ≡ map (image (made_by number values.now valuation.now)) head.now) }
+    ensures { IfOk result (λ it.
+        it ≡ map (image (made_by number values.now valuation.now)) head.now) }
 {
     let mut facts = List::new(alloc);
     'atoms: for atom in head {
@@ -152,7 +153,8 @@ pub fn made_facts(
     valuation: &Valuation,
 ) -> Result<Facts, OutOfMemory>
     requires { IsOver rule.now.body valuation.now }
-    ensures { IfOk result (λ it. it ≡ made_facts number rule.now.body rule.now.head (map_of valuation.now)) }
+    ensures { IfOk result (λ it.
+        it ≡ made_facts number rule.now.body rule.now.head (map_of valuation.now)) }
 {
     rules_are_sound();
     let shared = frontier_of(alloc, rule.body.items(), rule.head.items())?;

@@ -38,7 +38,8 @@ fn first_of(
     kind: Kind,
 ) -> Result<Option<Broken>, OutOfMemory>
     ensures { IfOk result (λ outcome.
-        MatchOption outcome (AreMetBelow (rules_of rules.now) facts.now (number_of kind) (length rules.now))
+        MatchOption outcome
+        (AreMetBelow (rules_of rules.now) facts.now (number_of kind) (length rules.now))
         (λ broken. IsFirstOf (rules_of rules.now) facts.now (number_of kind) broken.rule
         broken.found.valuation broken.found.places)) }
 {

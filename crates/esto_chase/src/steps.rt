@@ -35,7 +35,8 @@ fn add_made(
     ensures facts { OnOk result ((state_of instance.new).body ≡ joined (state_of instance.old).body
         (made_facts number rule.now.body rule.now.head (map_of found.valuation))) }
     ensures head { OnOk result ((state_of instance.new).head ≡ (state_of instance.old).head) }
-    ensures trace { OnOk result (trace_of instance.new ≡ trace_of instance.old ++ Added number found ∷ []) }
+    ensures trace { OnOk result
+        (trace_of instance.new ≡ trace_of instance.old ++ Added number found ∷ []) }
 {
     let facts = made_facts(alloc, number, rule, &found.valuation)?;
     instance.add(alloc, number, found, &facts)?;
@@ -49,7 +50,8 @@ fn ordered_sides(
     valuation: &Valuation,
 ) -> Result<(Term, Term), OutOfMemory>
     requires { map_of valuation.now rule.now.left ≢ map_of valuation.now rule.now.right }
-    ensures sides { IfOk result (λ it. AreSides (map_of valuation.now) rule.now.left rule.now.right it.0 it.1) }
+    ensures sides { IfOk result (λ it.
+        AreSides (map_of valuation.now) rule.now.left rule.now.right it.0 it.1) }
     ensures lesser { IfOk result (λ it. term_cmp it.0 it.1 ≡ Less) }
 {
     let left = value_of(valuation, &rule.left);
@@ -87,7 +89,8 @@ fn merge_sides(
 ) -> Result<Option<Clash>, OutOfMemory>
     requires { map_of found.valuation rule.now.left ≢ map_of found.valuation rule.now.right }
     ensures { IfOk result (λ outcome.
-        MatchOption outcome (Merges rule.now.left rule.now.right number found instance.old instance.new)
+        MatchOption outcome
+        (Merges rule.now.left rule.now.right number found instance.old instance.new)
         (Clashes rule.now.left rule.now.right found)) }
 {
     let (to, from) = ordered_sides(alloc, rule, &found.valuation)?;
@@ -107,7 +110,8 @@ pub fn take_step(
 ) -> Result<Option<Clash>, OutOfMemory>
     requires { IsNextFound (rules_of rules.now) (state_of instance.old).body next.rule
         next.found.valuation next.found.places }
-    ensures { IfOk result (λ outcome. MatchOption outcome (IsTaken (rules_of rules.now) instance.old instance.new)
+    ensures { IfOk result (λ outcome. MatchOption outcome
+        (IsTaken (rules_of rules.now) instance.old instance.new)
         (HasClashed (rules_of rules.now) (state_of instance.old))) }
 {
     let number = next.rule;

@@ -2,7 +2,8 @@
 ghost use Rattle.std.specs.Prelude.{◌≡◌, [], ◌++◌, Bool, length, IfOk, OnOk};
 ghost use Rattle.esto_semantics.specs.Listed.{chosen};
 ghost use Rattle.esto_chase_laws.specs.Joined.{joined};
-ghost use Rattle.esto_instance.specs.Fresh.{fact_cmp, entry_cmp, IsOld, IsNew, Adds, AreEntries, IsInOrder, IsFirstRank, AreFresh};
+ghost use Rattle.esto_instance.specs.Fresh.{fact_cmp, entry_cmp, IsOld, IsNew, Adds, AreEntries};
+ghost use Rattle.esto_instance.specs.Fresh.{IsInOrder, IsFirstRank, AreFresh};
 
 use esto_semantics::{Atom, Facts};
 use esto_term::{List, OutOfMemory, Replicate, Values, compare_terms};

@@ -88,9 +88,11 @@ impl Instance {
         found: Found,
         facts: &Facts,
     ) -> Result<(), OutOfMemory>
-        ensures facts { OnOk result ((state_of self.new).body ≡ joined (state_of self.old).body facts.now) }
+        ensures facts { OnOk result
+            ((state_of self.new).body ≡ joined (state_of self.old).body facts.now) }
         ensures head { OnOk result ((state_of self.new).head ≡ (state_of self.old).head) }
-        ensures trace { OnOk result (trace_of self.new ≡ trace_of self.old ++ ChaseStep.Added rule found ∷ []) }
+        ensures trace { OnOk result
+            (trace_of self.new ≡ trace_of self.old ++ ChaseStep.Added rule found ∷ []) }
         ensures err { OnErr result (self.new ≡ self.old) }
     {
         let fresh = fresh_facts(alloc, self.facts.items(), facts.items())?;
@@ -116,9 +118,12 @@ impl Instance {
         from: Term,
         to: Term,
     ) -> Result<(), OutOfMemory>
-        ensures facts { OnOk result ((state_of self.new).body ≡ replaced_facts from to (state_of self.old).body) }
-        ensures head { OnOk result ((state_of self.new).head ≡ map (replaced from to) (state_of self.old).head) }
-        ensures trace { OnOk result (trace_of self.new ≡ trace_of self.old ++ ChaseStep.Merged rule found from to ∷ []) }
+        ensures facts { OnOk result
+            ((state_of self.new).body ≡ replaced_facts from to (state_of self.old).body) }
+        ensures head { OnOk result
+            ((state_of self.new).head ≡ map (replaced from to) (state_of self.old).head) }
+        ensures trace { OnOk result
+            (trace_of self.new ≡ trace_of self.old ++ ChaseStep.Merged rule found from to ∷ []) }
         ensures err { OnErr result (self.new ≡ self.old) }
     {
         let images = replace_in_facts(alloc, self.facts.items(), &from, &to)?;

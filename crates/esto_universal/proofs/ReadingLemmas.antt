@@ -1,5 +1,6 @@
 -- The terms by first occurrence, as they are read one after the other.
-use Rattle.std.proofs.Common.{◌≡◌, ◌⊎◌, inl, inr, ℕ, ◌<◌, ◌+◌, List, [], ◌∷◌, ◌++◌, length, take, drop, get_or, slice_get, Contains, Some, sym, ap, ◌∙◌, subst, arith}
+use Rattle.std.proofs.Common.{◌≡◌, ◌⊎◌, inl, inr, ℕ, ◌<◌, ◌+◌, List, [], ◌∷◌, ◌++◌}
+use Rattle.std.proofs.Common.{length, take, drop, get_or, slice_get, Contains, Some, sym, ap, ◌∙◌, subst, arith}
 use Rattle.std.specs.List.{flat_map}
 use Rattle.std.proofs.lemmas.List.{append-nil, append_assoc, take-append-drop, take_more}
 use Rattle.std.proofs.lemmas.List.Concat.{flat_map-append}
@@ -47,7 +48,10 @@ module _ (read seen : List Term) (term : Term) (so_far : AreFirstOccurrences rea
       (λ inside. let found = (so_far.exact other).0 inside in (Contains-append_left read (term ∷ []) other found.0, found.1)),
       (λ both. elim (Contains-push_cases read term other both.0) [
         | inl earlier ↦ (so_far.exact other).1 (earlier, both.1)
-        | inr same ↦ elim known [ inl constant ↦ absurd (both.1 (subst IsConstant same constant)) | inr inside ↦ (so_far.exact other).1 (subst (Contains read) same inside, both.1) ]
+        | inr same ↦ elim known [
+          | inl constant ↦ absurd (both.1 (subst IsConstant same constant))
+          | inr inside ↦ (so_far.exact other).1 (subst (Contains read) same inside, both.1)
+        ]
       ]),
     );
     ordered = λ i j d less within. occurs_more read (term ∷ []) _ _ (so_far.ordered i j d less within);

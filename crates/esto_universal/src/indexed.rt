@@ -49,7 +49,8 @@ impl<'a> IndexedTerms<'a> {
 
     /// The first place of the term, or None where it is not among the terms.
     pub fn first(&self, term: &Term) -> Option<usize>
-        ensures { MatchOption result (¬ (Contains self.now term.now)) (IsFirstPlace self.now term.now) }
+        ensures { MatchOption result
+            (¬ (Contains self.now term.now)) (IsFirstPlace self.now term.now) }
     {
         first_place(&self.index, term)
     }

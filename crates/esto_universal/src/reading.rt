@@ -24,8 +24,10 @@ fn terms_read(alloc: Global, rows: &Facts, head: &Terms) -> Result<Terms, OutOfM
 /// Whether the term, which stands at that place, is no constant and stands at none before.
 fn is_new(terms: &IndexedTerms, place: usize, term: &Term) -> bool
     requires { slice_get terms.now place ≡ Some term.now }
-    ensures new { result ≡ true → ¬ (IsConstant term.now) × ¬ (Contains (take place terms.now) term.now) }
-    ensures known { result ≡ false → IsConstant term.now ⊎ Contains (take place terms.now) term.now }
+    ensures new { result ≡ true
+        → ¬ (IsConstant term.now) × ¬ (Contains (take place terms.now) term.now) }
+    ensures known { result ≡ false
+        → IsConstant term.now ⊎ Contains (take place terms.now) term.now }
 {
     match terms.first(term) {
         Some(first) => first == place && !term.is_constant(),

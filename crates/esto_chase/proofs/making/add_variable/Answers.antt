@@ -4,7 +4,8 @@ use Rattle.std.proofs.Common.{Contains, refl, sym, ap, ◌∙◌, subst}
 use Rattle.std.proofs.lemmas.Bool.{false≢true}
 use Rattle.esto_term.specs.declared.term.Term.{Term}
 use Rattle.esto_chase.proofs.MakingLemmas.{not_a_variable, there_already, put_there}
-use Rattle.esto_chase.proofs.making.add_variable.Goals.{then-not-is_variable_of-via-then-not-is_variable_of, then-not-is_variable_of-via-else-not-is_variable_of+then-has_term}
+use Rattle.esto_chase.proofs.making.add_variable.Goals.{then-not-is_variable_of-via-then-not-is_variable_of}
+use Rattle.esto_chase.proofs.making.add_variable.Goals.{then-not-is_variable_of-via-else-not-is_variable_of+then-has_term}
 use Rattle.esto_chase.proofs.making.add_variable.Goals as goal
 
 -- src/making.rt:40:9

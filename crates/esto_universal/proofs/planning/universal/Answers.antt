@@ -2,7 +2,7 @@ use Rattle.std.proofs.Common.{tt}
 use Rattle.esto_query.specs.Making.{query_of}
 use Rattle.esto_constraint.specs.Constraints.{rules_of}
 use Rattle.esto_views.specs.Fragments.{views_of}
-use Rattle.esto_chase.proofs.ChaseLemmas.{on_either}
+use Rattle.esto_chase.proofs.OutcomeLemmas.{on_either}
 use Rattle.esto_universal.proofs.PlannedLemmas.{constraints-AreRules}
 use Rattle.esto_universal.proofs.planning.universal.Goals as goal
 
