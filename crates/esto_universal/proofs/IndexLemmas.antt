@@ -20,7 +20,7 @@ use Rattle.esto_term.specs.Order.{term_cmp}
 use Rattle.esto_term.specs.declared.term.Term.{Term}
 use Rattle.esto_term.proofs.ListLemmas.{Contains-nil, Contains-head, Contains-rest, at_left, at_end, at_pushed, place-from_Contains}
 use Rattle.esto_term.proofs.OrderLemmas.{term_cmp_total, term_cmp_exact}
-use Rattle.esto_universal.specs.Indexes.{entry_cmp, HasEntry, AreEntries, IsInOrder, IsIndex, HasNoEntry, IsFirstEntry, IsFirstPlace}
+use Rattle.esto_universal.specs.Indexes.{entry_cmp, AreEntries, IsInOrder, IsIndex, HasNoEntry, IsFirstEntry, IsFirstPlace}
 use Rattle.esto_universal.specs.declared.index.Entry.{Entry}
 
 -- ---- the order of entries

@@ -1,8 +1,5 @@
 -- The plan of a query's run: there is one, and it is universal, by the laws of runs and of stated plans.
 use Rattle.std.proofs.Common.{◌≡◌, ◌≢◌, ℕ, inl, inr, List, [], ◌∷◌, map, length, sym, ◌∙◌, subst}
-use Rattle.std.specs.List.{AllPairs}
-use Rattle.either.specs.Either.{MatchEither}
-use Rattle.either.specs.declared.Either.{Either}
 use Rattle.esto_term.proofs.ListLemmas.{Contains-map_from}
 use Rattle.esto_term.specs.declared.term.Term.{Term}
 use Rattle.esto_semantics.specs.Containment.{IsSatisfiable}

@@ -1,4 +1,3 @@
-use Rattle.std.proofs.Common.{tt}
 use Rattle.esto_query.specs.Making.{query_of}
 use Rattle.esto_constraint.specs.Constraints.{rules_of}
 use Rattle.esto_views.specs.Fragments.{views_of}
