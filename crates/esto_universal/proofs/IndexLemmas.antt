@@ -161,7 +161,7 @@ module _ (index : List Entry) (term : Term) (order : IsInOrder index) where
       first-same same = (
         (entry, (first, here, sym at), same, refl),
         (λ other (found, (k, within, read), is, place).
-        subst (λ it. entry.place ≤ it) place (places_rise entry found (same ∙ sym is) (later k found within read is))),
+            subst (λ it. entry.place ≤ it) place (places_rise entry found (same ∙ sym is) (later k found within read is))),
       )
 
       pub first-other : entry.term.now ≢ term → HasNoEntry index term
@@ -202,9 +202,11 @@ apart_told term other told same =
 pub in_take : {X : Type 0} (things : List X) (count : ℕ) (thing : X) → Contains (take count things) thing
     → (place : ℕ) × (place < count) × (slice_get things place ≡ Some thing)
 in_take things count thing inside =
-    let found = place-from_Contains (take count things) thing inside in
-    (found.0, omega (arith, length-take count things, slice_get_within (take count things) found.0 thing found.1),
-    subst (λ all. slice_get all found.0 ≡ Some thing) (take-append-drop count things) (at_left (take count things) (drop count things) found.0 thing found.1))
+    let found = place-from_Contains (take count things) thing inside in (
+      found.0,
+      omega (arith, length-take count things, slice_get_within (take count things) found.0 thing found.1),
+      subst (λ all. slice_get all found.0 ≡ Some thing) (take-append-drop count things) (at_left (take count things) (drop count things) found.0 thing found.1),
+    )
 
 pub take_has : {X : Type 0} (things : List X) (count place : ℕ) (thing : X) → slice_get things place ≡ Some thing → place < count
     → Contains (take count things) thing
@@ -222,7 +224,7 @@ first_of_index terms index term None is_index no_entry =
 first_of_index terms index term (Some place) is_index ((entry, inside, is, at), least) = (
   ap (slice_get terms) (sym at) ∙ is_index.entries.only entry inside ∙ ap Some is,
   (λ earlier. let found = in_take terms place term earlier in
-  omega (arith, found.1, least found.0 (is_index.entries.has found.0 term found.2))),
+      omega (arith, found.1, least found.0 (is_index.entries.has found.0 term found.2))),
 )
 
 -- where the term stands at a place that is not its first, it stands before

@@ -24,7 +24,8 @@ use Rattle.esto_universal.specs.Reading.{terms_read, AreFirstOccurrences}
 use Rattle.esto_universal.specs.Renamings.{IsRenaming, numbered, renamed_atom, name_of}
 use Rattle.esto_universal.specs.Stated.{IsStatedPlan, IsRenamedPlan}
 use Rattle.esto_universal.proofs.RenamingLemmas.{back, back-Const, back-Plain, numbered_renames}
-use Rattle.esto_term.proofs.ListLemmas.{Contains-at, Contains-flat, Contains-map, Contains-map_from, map_agree, map_at-from, map_itself, map_then, place-from_Contains}
+use Rattle.esto_term.proofs.ListLemmas.{Contains-at, Contains-flat, Contains-map, Contains-map_from}
+use Rattle.esto_term.proofs.ListLemmas.{map_agree, map_at-from, map_itself, map_then, place-from_Contains}
 
 -- ---- the terms that are read
 

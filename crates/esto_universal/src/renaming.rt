@@ -19,11 +19,7 @@ fn rename_term(alloc: Global, seen: &IndexedTerms, term: &Term) -> Result<Term, 
 }
 
 /// The row with its terms renamed.
-pub fn rename_row(
-    alloc: Global,
-    seen: &IndexedTerms,
-    row: &[Term],
-) -> Result<Terms, OutOfMemory>
+pub fn rename_row(alloc: Global, seen: &IndexedTerms, row: &[Term]) -> Result<Terms, OutOfMemory>
     ensures { IfOk result (λ renamed. renamed ≡ map (numbered 0 seen.now) row.now) }
 {
     let mut renamed = List::new(alloc);
