@@ -3,6 +3,7 @@ pub mod RowLemmas
 pub mod LeastLemmas
 pub mod DatasetLemmas
 pub mod ShapeLemmas
+pub mod AccessLemmas
 pub mod WalkLemmas
 pub mod OneLemmas
 pub mod ColumnLemmas

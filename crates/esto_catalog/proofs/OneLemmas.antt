@@ -1,5 +1,5 @@
 -- The walk has one outcome.
-use Rattle.std.proofs.Common.{◌≡◌, ◌≢◌, ◌⊎◌, ℕ, List, [], ◌∷◌, ◌++◌, map, Option, Some, None, Ordering, Less, Equal, Greater, inl, inr, refl, sym, ap, subst, ◌∙◌, codes}
+use Rattle.std.proofs.Common.{◌≡◌, ◌≢◌, ◌⊎◌, ℕ, pos, arith, List, [], ◌∷◌, ◌++◌, map, Option, Some, None, Ordering, Less, Equal, Greater, inl, inr, refl, sym, ap, subst, ◌∙◌, codes}
 use Rattle.std.specs.Prelude.{slice_get}
 use Rattle.std.specs.Ordering.{ordering_reverse}
 use Rattle.std.proofs.Math.Logic.{∥∥₁_prop}
@@ -30,6 +30,10 @@ use Rattle.esto_semantics.specs.declared.fact.Fact.{Fact}
 use Rattle.esto_term.specs.declared.term.Term.{Term}
 use Rattle.esto_views.specs.Fragments.{views_of, patterns_of, weights_of}
 use Rattle.esto_views.specs.declared.fragments.FragmentDef.{FragmentDef}
+use Rattle.esto_text.specs.declared.version.Version.{Version}
+use Rattle.esto_text.specs.declared.version.Version.TheVariants.{One, Two}
+use Rattle.esto_catalog.proofs.AccessLemmas.{patterns_one, weight_one}
+use Rattle.esto_catalog.specs.Access.{reads_patterns, allows_access, allows_weight}
 use Rattle.esto_catalog.specs.Constraints.{reads_rule, reads_constraint, adds_constraint, reads_constraints}
 use Rattle.esto_catalog.specs.Datasets.{name_row, model_row, columns_row, reads_dataset, adds_dataset, reads_datasets, schema_of, words_of}
 use Rattle.esto_catalog.proofs.DatasetLemmas.{read_set, set_words}
@@ -38,7 +42,7 @@ use Rattle.esto_catalog.specs.Fragments.{reads_view, view_row, store_columns, re
 use Rattle.esto_catalog.specs.Reading.{IsCatalogueError, IsCycleOf, IsMadeOf, is_acyclic, reads_catalogue}
 use Rattle.esto_catalog.specs.Rows.{IsWant, IsAny, fault_at, text_fault_at, IsLeastUnknown, knows_keys, needs_text, needs_texts, allows_text, top}
 use Rattle.esto_catalog.specs.Settings.{document_of}
-use Rattle.esto_catalog.specs.Whole.{reads_toml, reads_section, reads_whole}
+use Rattle.esto_catalog.specs.Whole.{number_of, reads_toml, reads_version, reads_section, reads_whole}
 use Rattle.esto_catalog.specs.declared.catalogue.Catalogue.{Catalogue}
 use Rattle.esto_catalog.specs.declared.dataset.Dataset.{Dataset}
 use Rattle.esto_catalog.specs.declared.fault.CatalogueError.{CatalogueError}
@@ -145,11 +149,24 @@ section_determined : (key : List ℕ) (section : Option (List (List Field))) →
 section_determined key None = refuses_determined _ _
 section_determined key (Some entries) = then_determined ◌≡◌ _ _ (demands_determined _ _) (λ unit few. gives_determined _ _)
 
+version_one : (version other : Version) → number_of version ≡ number_of other → version ≡ other
+version_one One One same = refl
+version_one One Two same = absurd (omega (arith, same))
+version_one Two One same = absurd (omega (arith, same))
+version_one Two Two same = refl
+
+version_determined : (setting : Option Setting) → IsDetermined (reads_version setting)
+version_determined setting = judges_determined ◌≡◌ _ _
+    (λ version other is is'. let same : Some (Integer (pos (number_of version))) ≡ Some (Integer (pos (number_of other))) = sym is ∙ is' in
+    version_one version other (cc same))
+    (λ error other (none, is) (none', is'). is ∙ sym is')
+    (λ version error is (none, is'). none version is)
+
 whole_determined : (bytes : List ℕ) → IsDetermined (reads_whole bytes)
 whole_determined bytes =
     then_determined ◌≡◌ _ _ (toml_determined bytes) (λ document goes.
     then_determined ◌≡◌ _ _ (keys_determined top document.fields) (λ unit known.
-    then_determined ◌≡◌ _ _ (demands_determined _ _) (λ unit' version.
+    then_determined ◌≡◌ _ _ (version_determined _) (λ version goes0.
     then_determined ◌≡◌ _ _ (section_determined _ document.datasets) (λ datasets goes1.
     then_determined ◌≡◌ _ _ (section_determined _ document.fragments) (λ fragments goes2.
     then_determined ◌≡◌ _ _ (section_determined _ document.constraints) (λ constraints goes3.
@@ -202,6 +219,27 @@ module _ (one : HaveOneReading) (no_fault : HaveNoFault) (one_fault : HaveOneFau
   store_columns_determined place view (Some (Texts columns)) = then_determined ◌≡◌ _ _ (demands_determined _ _) (λ u g. gives_determined _ _)
   store_columns_determined place view (Some Other) = refuses_determined _ _
 
+  patterns_determined : (place : Place) (columns : ℕ) (texts : List (List ℕ)) → IsDetermined (reads_patterns place columns texts)
+  patterns_determined place columns texts = judges_determined ◌≡◌ _ _ (patterns_one columns texts)
+      (λ error other (none, is) (none', is'). is ∙ sym is')
+      (λ patterns error are (none, is). none patterns are)
+
+  access_determined : (place : Place) (columns : ℕ) (setting : Option Setting) → IsDetermined (allows_access place columns setting)
+  access_determined place columns None = gives_determined _ _
+  access_determined place columns (Some (Text text)) = patterns_determined place columns (text ∷ [])
+  access_determined place columns (Some (Texts texts)) = patterns_determined place columns texts
+  access_determined place columns (Some (Integer n)) = refuses_determined _ _
+  access_determined place columns (Some Other) = refuses_determined _ _
+
+  weight_determined : (place : Place) (setting : Option Setting) → IsDetermined (allows_weight place setting)
+  weight_determined place None = gives_determined _ _
+  weight_determined place (Some (Integer number)) = judges_determined ◌≡◌ _ _ (weight_one number)
+      (λ error other (none, is) (none', is'). is ∙ sym is')
+      (λ weight error is (none, is'). none weight is)
+  weight_determined place (Some (Text text)) = refuses_determined _ _
+  weight_determined place (Some (Texts texts)) = refuses_determined _ _
+  weight_determined place (Some Other) = refuses_determined _ _
+
   fragment_determined : (place : Place) (earlier : Fragments) (entry : List Field) → IsDetermined (reads_fragment place datasets earlier.definitions entry)
   fragment_determined place earlier entry =
       then_determined ◌≡◌ _ _ (keys_determined place entry) (λ unit known.
@@ -210,7 +248,9 @@ module _ (one : HaveOneReading) (no_fault : HaveNoFault) (one_fault : HaveOneFau
       then_determined ◌≡◌ _ _ (text_determined place _ _) (λ file goes2.
       then_determined ◌≡◌ _ _ (store_columns_determined place view.query _) (λ columns goes3.
       then_determined ◌≡◌ _ _ (demands_determined _ _) (λ u g.
-      then_determined ◌≡◌ _ _ (demands_determined _ _) (λ v h. gives_determined _ _)))))))
+      then_determined ◌≡◌ _ _ (demands_determined _ _) (λ v h.
+      then_determined ◌≡◌ _ _ (access_determined place _ _) (λ access goes4.
+      then_determined ◌≡◌ _ _ (weight_determined place _) (λ weight goes5. gives_determined _ _)))))))))
 
   pub fragments_determined : (entries : List (List Field)) → IsDetermined (reads_fragments datasets entries)
   fragments_determined entries = each_determined (adds_fragment datasets)
@@ -224,22 +264,22 @@ module _ (one : HaveOneReading) (no_fault : HaveNoFault) (one_fault : HaveOneFau
 
 module _ (one : HaveOneRule) (no_fault : HaveNoRuleFault) (one_fault : HaveOneRuleFault) (datasets : List Dataset)
     (words : IsVocabulary (arities_of (schema_of datasets)) (words_of datasets)) where
-  rule_determined : (place : Place) (text : List ℕ) → IsDetermined (reads_rule place datasets text)
-  rule_determined place text = judges_determined ◌≡◌ _ _
-      (λ rule other reads reads'. rule_same rule other (one _ _ text rule other words reads reads'))
+  rule_determined : (version : Version) (place : Place) (text : List ℕ) → IsDetermined (reads_rule version place datasets text)
+  rule_determined version place text = judges_determined ◌≡◌ _ _
+      (λ rule other reads reads'. rule_same rule other (one version _ _ text rule other words reads reads'))
       (λ error other (fault, first, is) (fault', first', is'). is ∙ (ap (λ f. text_fault_at f place (codes "rule"))
-      (one_fault _ _ text fault fault' words first first') ∙ sym is'))
-      (λ rule error reads (fault, first, is). no_fault _ _ text rule fault words reads first)
+      (one_fault version _ _ text fault fault' words first first') ∙ sym is'))
+      (λ rule error reads (fault, first, is). no_fault version _ _ text rule fault words reads first)
 
-  constraint_determined : (place : Place) (entry : List Field) → IsDetermined (reads_constraint place datasets entry)
-  constraint_determined place entry =
+  constraint_determined : (version : Version) (place : Place) (entry : List Field) → IsDetermined (reads_constraint version place datasets entry)
+  constraint_determined version place entry =
       then_determined ◌≡◌ _ _ (keys_determined place entry) (λ unit known. then_determined ◌≡◌ _ _ (text_determined place _ _)
-      (λ text goes. rule_determined place text))
+      (λ text goes. rule_determined version place text))
 
-  pub constraints_determined : (entries : List (List Field)) → IsDetermined (reads_constraints datasets entries)
-  constraints_determined entries = each_determined (adds_constraint datasets)
-      (λ number earlier entry. then_determined ◌≡◌ (reads_constraint (record { section = section.Constraint; number = number }) datasets entry)
-      (λ rule. gives (earlier ++ rule ∷ [])) (constraint_determined (record { section = section.Constraint; number = number }) entry)
+  pub constraints_determined : (version : Version) (entries : List (List Field)) → IsDetermined (reads_constraints version datasets entries)
+  constraints_determined version entries = each_determined (adds_constraint version datasets)
+      (λ number earlier entry. then_determined ◌≡◌ (reads_constraint version (record { section = section.Constraint; number = number }) datasets entry)
+      (λ rule. gives (earlier ++ rule ∷ [])) (constraint_determined version (record { section = section.Constraint; number = number }) entry)
       (λ rule goes. gives_determined _ _)) 1 [] entries
 
 -- ---- the end of the walk
@@ -314,7 +354,7 @@ module _ (one : HaveOneReading) (no_fault : HaveNoFault) (one_fault : HaveOneFau
       then_determined AreSameCatalogue _ _ (fragments_determined one no_fault one_fault datasets (named sections.datasets datasets read) sections.fragments)
       (λ fragments goes1.
       then_determined AreSameCatalogue _ _ (constraints_determined one_rule no_rule_fault one_rule_fault datasets
-      (named sections.datasets datasets read) sections.constraints) (λ rules goes2.
+      (named sections.datasets datasets read) sections.version sections.constraints) (λ rules goes2.
       acyclic_determined one_ranks one_cycle datasets fragments rules)))) where
         named : (entries : List (List Field)) (datasets : List Dataset) → (reads_datasets entries).goes datasets
             → IsVocabulary (arities_of (schema_of datasets)) (words_of datasets)

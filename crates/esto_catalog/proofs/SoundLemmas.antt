@@ -7,7 +7,7 @@ use Rattle.std.proofs.Math.Logic.{∥∥₁_elim, ∥∥₁_map}
 use Rattle.std.proofs.lemmas.Bool.{eqb-true, false≢true}
 use Rattle.std.proofs.lemmas.Str.{IsUtf8-from_is_utf8, is_utf8-from_IsUtf8}
 use Rattle.esto_acyclic.proofs.EdgeLemmas.{joins_edges}
-use Rattle.esto_acyclic.specs.Graphs.{AreRanks, Arrives, IsWalk, Joins}
+use Rattle.esto_acyclic.specs.Graphs.{AreRanks, Arrives, IsWalk, IsWithin, Joins}
 use Rattle.esto_acyclic.specs.Relations.{IsEdge, edges_of}
 use Rattle.esto_constraint.specs.Constraints.{rules_of, rule_of}
 use Rattle.esto_constraint.specs.declared.rule.Constraint.{Constraint}
@@ -32,6 +32,7 @@ use Rattle.esto_views.specs.declared.fragments.FragmentDef.{FragmentDef}
 use Rattle.esto_catalog.specs.Datasets.{IsTableDataset, begins_plain}
 use Rattle.esto_catalog.specs.Soundness.{FitView, IsShapeFor, IsSoundCatalogue}
 use Rattle.esto_catalog.specs.declared.dataset.Dataset.{Dataset}
+use Rattle.esto_catalog.specs.declared.catalogue.Catalogue.{Catalogue}
 use Rattle.esto_catalog.specs.declared.catalogue.Shape.{Shape}
 use Rattle.esto_catalog.specs.declared.catalogue.Shape.TheVariants.{Table as FromTable}
 use Rattle.esto_catalog.specs.declared.catalogue.Store.{Store}
@@ -277,7 +278,9 @@ module _ (schema : List Relation) (words : List Word) (datasets : List Dataset) 
     tables = tables_known;
     fragments_are = fragment_known;
     views = λ fragment inside. query_known (query_of fragment.view) (∥∥₁_map sound (λ (kept : Kept). kept.views fragment inside));
-    outputs = λ fragment inside. ∥∥₁_elim sound (Coded-set (coded_list (coded_list coded_bool)) _ _) (λ kept. kept.outputs fragment inside);
+    few = λ fragment inside. ∥∥₁_elim sound le_prop (λ kept. kept.few fragment inside);
+    distinct = λ fragment inside i j d before below same. refute (λ kept. kept.distinct fragment inside i j d before below same);
+    light = λ fragment inside. ∥∥₁_elim sound le_prop (λ kept. kept.light fragment inside);
     stored = ∥∥₁_elim sound (Coded-set coded_ℕ _ _) (λ kept. kept.stored);
     shapes = λ number store fragment at_store at_fragment. shape_known store.shape fragment
         (∥∥₁_map sound (λ (kept : Kept). kept.shapes number store fragment at_store at_fragment));
@@ -286,3 +289,14 @@ module _ (schema : List Relation) (words : List Word) (datasets : List Dataset) 
     within = λ from to edge. (∥∥₁_elim sound le_prop (λ kept. (kept.within from to edge).0), ∥∥₁_elim sound le_prop (λ kept. (kept.within from to edge).1));
     ranks_are = ranks_known (rules_of rules) (length schema) ranks (∥∥₁_map sound (λ (kept : Kept). kept.ranks_are));
   }
+
+-- a catalogue's rules, over as many relations as there are ranks
+module _ (it : Catalogue) where
+  kept : IsSoundCatalogue it.schema it.words it.datasets it.fragments it.stores it.rules it.given it.ranks
+  kept = catalogue_known it.schema it.words it.datasets it.fragments it.stores it.rules it.given it.ranks it.sound
+
+  pub rules_ranked : IsWithin (length it.ranks) (IsEdge (rules_of it.rules))
+  rules_ranked = subst (λ n. IsWithin n (IsEdge (rules_of it.rules))) (sym kept.ranks_are.for_each) kept.within
+
+  pub ranks_ranked : AreRanks (IsEdge (rules_of it.rules)) (length it.ranks) it.ranks
+  ranks_ranked = subst (λ n. AreRanks (IsEdge (rules_of it.rules)) n it.ranks) (sym kept.ranks_are.for_each) kept.ranks_are

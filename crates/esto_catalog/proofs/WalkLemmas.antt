@@ -1,5 +1,5 @@
 -- What the end of the walk gives.
-use Rattle.std.proofs.Common.{◌≡◌, ◌<◌, ◌+◌, zero, suc, drop, get_or, length-append, ℕ, List, [], ◌∷◌, ◌++◌, ◌⊎◌, Some, length, false, inl, inr, refl, sym, ap, subst, ◌∙◌, arith, replicate}
+use Rattle.std.proofs.Common.{◌≡◌, ◌<◌, ◌≤◌, ◌+◌, suc, drop, get_or, length-append, ℕ, Bool, List, [], ◌∷◌, ◌++◌, ◌⊎◌, Some, length, inl, inr, refl, sym, ap, subst, ◌∙◌, arith}
 use Rattle.std.proofs.Math.ListN.{length-map}
 use Rattle.std.specs.Prelude.{slice_get}
 use Rattle.std.proofs.lemmas.List.Elements.{Contains-push_cases}
@@ -40,8 +40,11 @@ use Rattle.esto_read.specs.declared.read.Form.TheVariants.{View}
 use Rattle.esto_read.specs.declared.read.NamedQuery.{NamedQuery}
 use Rattle.esto_read.specs.declared.words.Word.{Word}
 use Rattle.esto_text.specs.declared.fault.TextFault.{TextFault}
+use Rattle.esto_text.specs.declared.version.Version.{Version}
+use Rattle.esto_catalog.proofs.AccessLemmas.{AreSoundPatterns}
+use Rattle.esto_catalog.specs.declared.access.TheConstants.{MAX_WEIGHT}
 use Rattle.esto_views.specs.declared.fragments.FragmentDef.{FragmentDef}
-use Rattle.esto_term.proofs.ListLemmas.{at_pushed, Contains-cases, Contains-map_from, Contains-nil}
+use Rattle.esto_term.proofs.ListLemmas.{at_pushed, Contains-map_from, Contains-nil}
 
 relation_below : (schema : List Relation) (atoms : List (Fact Term)) (relation : ℕ) → AreOver (arities_of schema) atoms → HasRelation atoms relation
     → relation < length schema
@@ -70,8 +73,8 @@ pub no_rules : (arities : List ℕ) → AreSoundRules arities []
 no_rules arities rule inside = absurd (Contains-nil rule inside)
 
 -- a turn of the loop over the entries of constraints
-module _ (tables : List Dataset) (entries : List (List Field)) (to : Course CatalogueError (List Constraint)) (index : ℕ) (rules : List Constraint)
-    (leads : Leads (each (adds_constraint tables) (suc index) rules (drop index entries)) to) (item : List Field) (below : index < length entries)
+module _ (version : Version) (tables : List Dataset) (entries : List (List Field)) (to : Course CatalogueError (List Constraint)) (index : ℕ)
+    (rules : List Constraint) (leads : Leads (each (adds_constraint version tables) (suc index) rules (drop index entries)) to) (item : List Field) (below : index < length entries)
     (is : item ≡ get_or entries index item)
     (place : Place) (there : place ≡ record { section = section.Constraint; number = index + 1 }) (entry : List Field) (fields : entry ≡ item) where
   abbrev rule_place : Place
@@ -81,18 +84,18 @@ module _ (tables : List Dataset) (entries : List (List Field)) (to : Course Cata
   rule_moved : (P : Place → List Field → Type 0) → P place entry → P rule_place item
   rule_moved P holds = subst (λ it. P it item) there (subst (P place) fields holds)
 
-  pub rule_turn : (rule : Constraint) → (reads_constraint place tables entry).goes rule
-      → Leads (each (adds_constraint tables) (suc (index + 1)) (rules ++ rule ∷ []) (drop (index + 1) entries)) to
+  pub rule_turn : (rule : Constraint) → (reads_constraint version place tables entry).goes rule
+      → Leads (each (adds_constraint version tables) (suc (index + 1)) (rules ++ rule ∷ []) (drop (index + 1) entries)) to
   rule_turn rule goes =
-      let here = rule_moved (λ (at : Place) (fields : List Field). (reads_constraint at tables fields).goes rule) goes in
-      turn_next (adds_constraint tables) entries to index rules leads item below is (rules ++ rule ∷ [])
-      (then_goes (reads_constraint rule_place tables item) (λ r. gives (rules ++ r ∷ [])) rule (rules ++ rule ∷ []) here (gives_goes CatalogueError _ _ refl))
+      let here = rule_moved (λ (at : Place) (fields : List Field). (reads_constraint version at tables fields).goes rule) goes in
+      turn_next (adds_constraint version tables) entries to index rules leads item below is (rules ++ rule ∷ [])
+      (then_goes (reads_constraint version rule_place tables item) (λ r. gives (rules ++ r ∷ [])) rule (rules ++ rule ∷ []) here (gives_goes CatalogueError _ _ refl))
 
-  pub rule_fails : (error : CatalogueError) → Stops IsWant IsAny (reads_constraint place tables entry) error → Stops IsWant IsAny to error
+  pub rule_fails : (error : CatalogueError) → Stops IsWant IsAny (reads_constraint version place tables entry) error → Stops IsWant IsAny to error
   rule_fails error stops =
-      let here = rule_moved (λ (at : Place) (fields : List Field). Stops IsWant IsAny (reads_constraint at tables fields) error) stops in
-      turn_stops (adds_constraint tables) entries to index rules leads item below is error
-      (first_stops (reads_constraint rule_place tables item) (λ r. gives (rules ++ r ∷ [])) here)
+      let here = rule_moved (λ (at : Place) (fields : List Field). Stops IsWant IsAny (reads_constraint version at tables fields) error) stops in
+      turn_stops (adds_constraint version tables) entries to index rules leads item below is error
+      (first_stops (reads_constraint version rule_place tables item) (λ r. gives (rules ++ r ∷ [])) here)
 
 -- a turn of the loop over the entries of fragments
 module _ (tables : List Dataset) (entries : List (List Field)) (to : Course CatalogueError Fragments) (index : ℕ) (fragments : Fragments)
@@ -156,28 +159,17 @@ no_fragments_sound arities = record {
   shapes = λ number store fragment at_store at_fragment. absurd (none-some store at_store);
 }
 
-length-replicate_false : (count : ℕ) → length (replicate count false) ≡ count
-length-replicate_false zero = refl
-length-replicate_false (suc count) = ap suc (length-replicate_false count)
-
--- the fragment of a view over the schema, stored under columns that fit the view
-pub stored_sound : (arities : List ℕ) (view : NamedQuery) (file : List ℕ) (columns : List (List ℕ)) (stored : Stored)
-    → stored ≡ stored_fragment view file columns → IsSoundView arities view
-    → FitView view.query columns → IsSoundStored arities stored
-stored_sound arities view file columns stored is (over, variables) fit = subst (IsSoundStored arities) (sym is) (record {
+-- the fragment of a view over the schema, stored under columns that fit the view, with patterns as wide as the view
+pub stored_sound : (arities : List ℕ) (view : NamedQuery) (file : List ℕ) (columns : List (List ℕ)) (access : List (List Bool)) (weight : ℕ) (stored : Stored)
+    → stored ≡ stored_fragment view file columns access weight → IsSoundView arities view → FitView view.query columns
+    → AreSoundPatterns (length view.query.head) access → weight ≤ MAX_WEIGHT → IsSoundStored arities stored
+stored_sound arities view file columns access weight stored is (over, variables) fit patterns light = subst (IsSoundStored arities) (sym is) (record {
   definition = record {
-    made = record {
-      has_pattern = λ none. cc;
-      variables = variables.0;
-      distinct = variables.1;
-      columns = λ pattern own.
-          elim (Contains-cases (replicate (length view.query.head) false) [] pattern own) [
-            | inl same ↦ ap length (sym same) ∙ length-replicate_false (length view.query.head)
-            | inr later ↦ absurd (Contains-nil pattern later)
-          ];
-    };
+    made = record { has_pattern = patterns.some; variables = variables.0; distinct = variables.1; columns = patterns.wide };
     view = over;
-    outputs = refl;
+    few = patterns.few;
+    distinct = patterns.distinct;
+    light = light;
   };
   shape = fit;
 })
@@ -195,7 +187,9 @@ sound_catalogue tables fragments rules ranks are sound over exact = record {
   tables = are.named;
   fragments_are = λ fragment inside. (sound.sound fragment inside).made;
   views = λ fragment inside. (sound.sound fragment inside).view;
-  outputs = λ fragment inside. (sound.sound fragment inside).outputs;
+  few = λ fragment inside. (sound.sound fragment inside).few;
+  distinct = λ fragment inside. (sound.sound fragment inside).distinct;
+  light = λ fragment inside. (sound.sound fragment inside).light;
   stored = sound.stored;
   shapes = sound.shapes;
   given_are = refl;
@@ -219,13 +213,13 @@ module _ (tables : Tables) (are : IsTables tables) (text : List ℕ) where
       → IsFirstFault View (words_of tables.datasets) (arities_of (schema_of tables.datasets)) text fault
   view_fault_over fault first = over_datasets (λ words arities. IsFirstFault View words arities text fault) first
 
-  pub rule_over : (rule : Constraint) → IsConstraintReading tables.words (arities_of tables.schema) text rule
-      → IsConstraintReading (words_of tables.datasets) (arities_of (schema_of tables.datasets)) text rule
-  rule_over rule reading = over_datasets (λ words arities. IsConstraintReading words arities text rule) reading
+  pub rule_over : (version : Version) (rule : Constraint) → IsConstraintReading version tables.words (arities_of tables.schema) text rule
+      → IsConstraintReading version (words_of tables.datasets) (arities_of (schema_of tables.datasets)) text rule
+  rule_over version rule reading = over_datasets (λ words arities. IsConstraintReading version words arities text rule) reading
 
-  pub rule_fault_over : (fault : TextFault) → IsConstraintFault tables.words (arities_of tables.schema) text fault
-      → IsConstraintFault (words_of tables.datasets) (arities_of (schema_of tables.datasets)) text fault
-  rule_fault_over fault first = over_datasets (λ words arities. IsConstraintFault words arities text fault) first
+  pub rule_fault_over : (version : Version) (fault : TextFault) → IsConstraintFault version tables.words (arities_of tables.schema) text fault
+      → IsConstraintFault version (words_of tables.datasets) (arities_of (schema_of tables.datasets)) text fault
+  rule_fault_over version fault first = over_datasets (λ words arities. IsConstraintFault version words arities text fault) first
 
 -- what holds of datasets and entries, by other names of them
 pub over_same : (P : List Dataset → List (List Field) → Type 0) (tables datasets : List Dataset) (seen entries : List (List Field)) → tables ≡ datasets
@@ -241,14 +235,15 @@ pub fragments_same_stops : (tables datasets : List Dataset) (seen entries : List
     → Stops IsWant IsAny (reads_fragments datasets entries) error
 fragments_same_stops tables datasets seen entries error = over_same (λ d e. Stops IsWant IsAny (reads_fragments d e) error) tables datasets seen entries
 
-pub rules_same : (tables datasets : List Dataset) (seen entries : List (List Field)) (rules : List Constraint) → tables ≡ datasets → seen ≡ entries
-    → (reads_constraints tables seen).goes rules → (reads_constraints datasets entries).goes rules
-rules_same tables datasets seen entries rules = over_same (λ d e. (reads_constraints d e).goes rules) tables datasets seen entries
+pub rules_same : (version : Version) (tables datasets : List Dataset) (seen entries : List (List Field)) (rules : List Constraint) → tables ≡ datasets
+    → seen ≡ entries → (reads_constraints version tables seen).goes rules → (reads_constraints version datasets entries).goes rules
+rules_same version tables datasets seen entries rules = over_same (λ d e. (reads_constraints version d e).goes rules) tables datasets seen entries
 
-pub rules_same_stops : (tables datasets : List Dataset) (seen entries : List (List Field)) (error : CatalogueError) → tables ≡ datasets → seen ≡ entries
-    → Stops IsWant IsAny (reads_constraints tables seen) error
-    → Stops IsWant IsAny (reads_constraints datasets entries) error
-rules_same_stops tables datasets seen entries error = over_same (λ d e. Stops IsWant IsAny (reads_constraints d e) error) tables datasets seen entries
+pub rules_same_stops : (version : Version) (tables datasets : List Dataset) (seen entries : List (List Field)) (error : CatalogueError) → tables ≡ datasets
+    → seen ≡ entries → Stops IsWant IsAny (reads_constraints version tables seen) error
+    → Stops IsWant IsAny (reads_constraints version datasets entries) error
+rules_same_stops version tables datasets seen entries error =
+    over_same (λ d e. Stops IsWant IsAny (reads_constraints version d e) error) tables datasets seen entries
 
 pub acyclic_same : (tables datasets : List Dataset) (fragments : Fragments) (rules : List Constraint) (catalogue : Catalogue) → tables ≡ datasets
     → (is_acyclic tables fragments rules).goes catalogue → (is_acyclic datasets fragments rules).goes catalogue

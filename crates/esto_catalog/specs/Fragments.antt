@@ -1,5 +1,5 @@
 -- The rows of a fragment.
-use Rattle.std.specs.Prelude.{◌≡◌, ℕ, List, [], ◌∷◌, ◌++◌, Option, Some, None, Bool, true, false, ◌||◌, length, map, replicate, slice_get, codes}
+use Rattle.std.specs.Prelude.{◌≡◌, ℕ, List, [], ◌∷◌, ◌++◌, Option, Some, None, Bool, true, false, ◌||◌, length, map, slice_get, codes}
 use Rattle.std.specs.List.{list_any}
 use Rattle.esto_course.specs.Course.{Course, judges, gives, refuses, demands, and_then, each}
 use Rattle.esto_query.specs.Schemas.{arities_of}
@@ -13,6 +13,7 @@ use Rattle.esto_term.specs.declared.term.Term.{Term}
 use Rattle.esto_term.specs.declared.term.Term.TheVariants.{Plain}
 use Rattle.esto_text.specs.declared.fault.TextFault.{TextFault}
 use Rattle.esto_views.specs.declared.fragments.FragmentDef.{FragmentDef}
+use Rattle.esto_catalog.specs.Access.{access_row, weight_row}
 use Rattle.esto_catalog.specs.Datasets.{AreColumns, has_dataset, schema_of, unfit_row, words_of}
 use Rattle.esto_catalog.specs.Rows.{fault_at, text_fault_at, knows_keys, needs_text}
 use Rattle.esto_catalog.specs.Settings.{is_same, setting_at}
@@ -82,14 +83,14 @@ store_columns place view (Some _) = refuses (fault_at WrongType place (codes "co
 abbrev pub store_columns_row : Place → Query → List Field → Course CatalogueError (List (List ℕ))
 store_columns_row place view entry = store_columns place view (setting_at (codes "columns") entry)
 
--- The fragment of a view and its store: its one pattern has no input, and one use weighs 1.
-abbrev pub stored_fragment : NamedQuery → List ℕ → List (List ℕ) → Stored
-stored_fragment view file columns = record {
-  definition = record { name = view.name; view = view.query; access = replicate (length view.query.head) false ∷ []; weight = 1 };
+-- The fragment of a view, its store, its binding patterns and its weight.
+abbrev pub stored_fragment : NamedQuery → List ℕ → List (List ℕ) → List (List Bool) → ℕ → Stored
+stored_fragment view file columns access weight = record {
+  definition = record { name = view.name; view = view.query; access = access; weight = weight };
   store = record { shape = Table columns; file = file };
 }
 
--- The rows of a fragment, in order: unknown keys, view, store, file, columns, layout, pattern. An access and a weight have been refused before.
+-- The rows of a fragment, in order: unknown keys, view, store, file, columns, layout, pattern, access, weight.
 abbrev pub reads_fragment : Place → List Dataset → List FragmentDef → List Field → Course CatalogueError Stored
 reads_fragment place datasets earlier entry =
     and_then (knows_keys place entry) (λ _.
@@ -99,7 +100,9 @@ reads_fragment place datasets earlier entry =
     and_then (store_columns_row place view.query entry) (λ columns.
     and_then (unfit_row (codes "layout") place entry) (λ _.
     and_then (unfit_row (codes "pattern") place entry) (λ _.
-    gives (stored_fragment view file columns))))))))
+    and_then (access_row place view.query entry) (λ access.
+    and_then (weight_row place entry) (λ weight.
+    gives (stored_fragment view file columns access weight))))))))))
 
 -- No fragment.
 abbrev pub no_fragments : Fragments

@@ -3,6 +3,7 @@ pub mod Rows
 pub mod Whole
 pub mod Datasets
 pub mod Tables
+pub mod Access
 pub mod Fragments
 pub mod Constraints
 pub mod Soundness

@@ -45,7 +45,7 @@ reads_catalogue bytes =
     and_then (reads_whole bytes) (λ sections.
     and_then (reads_datasets sections.datasets) (λ datasets.
     and_then (reads_fragments datasets sections.fragments) (λ fragments.
-    and_then (reads_constraints datasets sections.constraints) (λ rules.
+    and_then (reads_constraints sections.version datasets sections.constraints) (λ rules.
     is_acyclic datasets fragments rules))))
 
 -- The bytes say this catalogue: with it the walk ends.

@@ -1,8 +1,9 @@
 -- What catalogues keep.
-use Rattle.std.specs.Prelude.{◌≡◌, ◌≢◌, ℕ, List, [], ◌∷◌, Some, length, replicate, slice_get, AllPairs, Contains, false}
+use Rattle.std.specs.Prelude.{◌≡◌, ◌≢◌, ℕ, ◌≤◌, List, Some, length, slice_get, AllPairs, Contains}
 use Rattle.esto_acyclic.specs.Graphs.{IsWithin, AreRanks}
 use Rattle.esto_acyclic.specs.Relations.{IsEdge}
 use Rattle.esto_catalog.specs.Datasets.{IsTableDataset, begins_plain, words_of}
+use Rattle.esto_catalog.specs.declared.access.TheConstants.{MAX_PATTERNS, MAX_WEIGHT}
 use Rattle.esto_catalog.specs.declared.dataset.Dataset.{Dataset}
 use Rattle.esto_catalog.specs.declared.catalogue.Shape.{Shape}
 use Rattle.esto_catalog.specs.declared.catalogue.Shape.TheVariants.{Table}
@@ -28,11 +29,14 @@ use Rattle.esto_views.specs.declared.fragments.FragmentDef.{FragmentDef}
 abbrev pub IsSoundView : List ℕ → NamedQuery → Type 0
 IsSoundView schema view = IsQueryOver schema (query_of view.query) × HasVariables View view.query.head
 
--- A fragment is well made, its view is over the schema, and its one pattern has no input.
+-- A fragment is well made, and its view is over the schema. It has no more patterns than a fragment may have, and no two are the same; it weighs no more than a
+-- fragment may weigh.
 pub record IsSoundFragment (schema : List ℕ) (fragment : FragmentDef) : Type 0 where
   pub made : IsFragment fragment
   pub view : IsQueryOver schema (query_of fragment.view)
-  pub outputs : fragment.access ≡ replicate (length fragment.view.head) false ∷ []
+  pub few : length fragment.access ≤ MAX_PATTERNS
+  pub distinct : AllPairs ◌≢◌ fragment.access
+  pub light : fragment.weight ≤ MAX_WEIGHT
 
 -- Each rule is over the schema.
 abbrev pub AreSoundRules : List ℕ → List Constraint → Type 0
@@ -65,8 +69,9 @@ pub record AreSoundFragments (schema : List ℕ) (fragments : Fragments) : Type 
   pub stored : length fragments.stores ≡ length fragments.definitions
   pub shapes : AreShapes fragments.stores fragments.definitions
 
--- The relations are those of table datasets, and the words name them; the fragments are well made, their views are over the schema, the one pattern of each
--- has no input, and each has a store in a shape for it; the rules are the given ones and over the schema, and the ranks are those of the relations by them.
+-- The relations are those of table datasets, and the words name them; the fragments are well made, their views are over the schema, each has no more patterns
+-- than a fragment may have, no two the same, and weighs no more than a fragment may, and each has a store in a shape for it; the rules are the given ones and
+-- over the schema, and the ranks are those of the relations by them.
 pub record IsSoundCatalogue (schema : List Relation) (words : List Word) (datasets : List Dataset) (fragments : List FragmentDef) (stores : List Store)
     (rules : List Constraint) (given : ℕ) (ranks : List ℕ) : Type 0 where
   pub schema_is : IsSchema schema
@@ -76,7 +81,9 @@ pub record IsSoundCatalogue (schema : List Relation) (words : List Word) (datase
   pub tables : AreTables words
   pub fragments_are : AreFragments fragments
   pub views : (fragment : FragmentDef) → Contains fragments fragment → IsQueryOver (arities_of schema) (query_of fragment.view)
-  pub outputs : (fragment : FragmentDef) → Contains fragments fragment → fragment.access ≡ replicate (length fragment.view.head) false ∷ []
+  pub few : (fragment : FragmentDef) → Contains fragments fragment → length fragment.access ≤ MAX_PATTERNS
+  pub distinct : (fragment : FragmentDef) → Contains fragments fragment → AllPairs ◌≢◌ fragment.access
+  pub light : (fragment : FragmentDef) → Contains fragments fragment → fragment.weight ≤ MAX_WEIGHT
   pub stored : length stores ≡ length fragments
   pub shapes : AreShapes stores fragments
   pub given_are : given ≡ length rules

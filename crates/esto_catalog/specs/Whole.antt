@@ -3,11 +3,13 @@ use Rattle.std.specs.Prelude.{◌≡◌, ℕ, ◌≤◌, ◌||◌, pos, List, Op
 use Rattle.std.specs.List.{list_any}
 use Rattle.toml.specs.Data.{Members}
 use Rattle.esto_course.specs.Course.{Course, judges, gives, refuses, demands, and_then}
+use Rattle.esto_text.specs.declared.version.Version.{Version}
+use Rattle.esto_text.specs.declared.version.Version.TheVariants.{One, Two}
 use Rattle.esto_catalog.specs.Rows.{fault_at, top, knows_keys}
-use Rattle.esto_catalog.specs.Settings.{IsTable, document_of, setting_at, is_set_to, has_key}
+use Rattle.esto_catalog.specs.Settings.{IsTable, document_of, setting_at, is_set_to}
 use Rattle.esto_catalog.specs.declared.fault.CatalogueError.{CatalogueError}
 use Rattle.esto_catalog.specs.declared.fault.CatalogueError.TheVariants.{NotBuilt}
-use Rattle.esto_catalog.specs.declared.fault.CatalogueKind.TheVariants.{Toml, Version, WrongType, TooMany}
+use Rattle.esto_catalog.specs.declared.fault.CatalogueKind.TheVariants.{Toml, Version as NoVersion, WrongType, TooMany}
 use Rattle.esto_catalog.specs.declared.setting.Document.{Document}
 use Rattle.esto_catalog.specs.declared.setting.Field.{Field}
 use Rattle.esto_catalog.specs.declared.setting.Setting.{Setting}
@@ -21,9 +23,16 @@ reads_toml bytes =
     judges (λ document. (members : Members) × IsTable bytes members × (document ≡ document_of members))
     (λ error. ((members : Members) → ¬ IsTable bytes members) × (error ≡ fault_at Toml top (codes "-")))
 
--- The version is the integer 1; else Version.
-abbrev pub has_version : Option Setting → Course CatalogueError (Unit {0})
-has_version version = demands (version ≡ Some (Integer (pos 1))) (fault_at Version top (codes "version"))
+-- The number of a version.
+abbrev pub number_of : Version → ℕ
+number_of One = 1
+number_of Two = 2
+
+-- The version is set to the integer 1 or 2; else Version.
+abbrev pub reads_version : Option Setting → Course CatalogueError Version
+reads_version setting =
+    judges (λ version. setting ≡ Some (Integer (pos (number_of version))))
+    (λ error. ((version : Version) → ¬ (setting ≡ Some (Integer (pos (number_of version))))) × (error ≡ fault_at NoVersion top (codes "version")))
 
 -- A section is an array of tables; else WrongType. It has no more entries than a section may have; else TooMany.
 abbrev pub reads_section : List ℕ → Option (List (List Field)) → Course CatalogueError (List (List Field))
@@ -34,23 +43,19 @@ reads_section key (Some entries) = and_then (demands (length entries ≤ MAX_ENT
 abbrev pub is_no_table : List ℕ → List Field → Bool
 is_no_table key entry = is_set_to (codes "documents") (setting_at key entry) || is_set_to (codes "keys") (setting_at key entry)
 
--- The fragment is of a form that is not built yet: it is stored as documents or keys, or has an access or a weight.
-abbrev pub is_unbuilt : List Field → Bool
-is_unbuilt entry = is_no_table (codes "store") entry || (has_key (codes "access") entry || has_key (codes "weight") entry)
-
--- No dataset is documents or keys, and no fragment is of a form that is not built yet; else NotBuilt.
+-- No dataset is documents or keys, and no fragment is stored so; else NotBuilt.
 abbrev pub is_built : List (List Field) → List (List Field) → Course CatalogueError (Unit {0})
 is_built datasets fragments =
-    demands ((list_any (is_no_table (codes "model")) datasets || list_any is_unbuilt fragments) ≡ false) NotBuilt
+    demands ((list_any (is_no_table (codes "model")) datasets || list_any (is_no_table (codes "store")) fragments) ≡ false) NotBuilt
 
 -- The rows of the whole file, in order: TOML, unknown keys, the version, each section, and what is not built yet.
 abbrev pub reads_whole : List ℕ → Course CatalogueError Sections
 reads_whole bytes =
     and_then (reads_toml bytes) (λ document.
     and_then (knows_keys top document.fields) (λ _.
-    and_then (has_version (setting_at (codes "version") document.fields)) (λ _.
+    and_then (reads_version (setting_at (codes "version") document.fields)) (λ version.
     and_then (reads_section (codes "dataset") document.datasets) (λ datasets.
     and_then (reads_section (codes "fragment") document.fragments) (λ fragments.
     and_then (reads_section (codes "constraint") document.constraints) (λ constraints.
     and_then (is_built datasets fragments) (λ _.
-    gives (record { datasets = datasets; fragments = fragments; constraints = constraints }))))))))
+    gives (record { version = version; datasets = datasets; fragments = fragments; constraints = constraints }))))))))

@@ -29,7 +29,8 @@ pub type Stores = List<Store>;
 /// What a catalogue says: the relations of its datasets, the names that texts may use, the datasets, the fragments
 /// and where each is stored, and the rules, of which the first `given` are its own constraints, with the ranks of the
 /// relations by them. Words, views and rules are over the schema, the fragments are well made, and no relation leads
-/// back to itself by the rules.
+/// back to itself by the rules. A fragment has at most `MAX_PATTERNS` binding patterns, all distinct, and weighs at most
+/// `MAX_WEIGHT`.
 #[derive(Debug, Drop)]
 pub struct Catalogue {
     pub schema: Schema,

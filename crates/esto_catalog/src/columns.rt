@@ -51,8 +51,8 @@ fn has_text(text: &Text, texts: &[Text]) -> bool
     texts.iter().any(|other| is_same(other, text.as_str()))
 }
 
-// Whether no two of the texts are the same.
-fn are_distinct(texts: &[Text]) -> bool
+/// Whether no two of the texts are the same.
+pub fn are_distinct(texts: &[Text]) -> bool
     ensures { IsTrue result ↔ AllPairs ◌≢◌ texts.now }
 {
     let mut rest = texts;

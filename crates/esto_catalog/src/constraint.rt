@@ -1,7 +1,8 @@
 //! The rows of a constraint.
-ghost use Rattle.std.specs.Prelude.{IfOk};
+ghost use Rattle.std.specs.Prelude.{IfOk, IfErr};
 ghost use Rattle.esto_constraint.specs.Constraints.{rule_of};
 ghost use Rattle.esto_query.specs.Schemas.{arities_of};
+ghost use Rattle.esto_read.specs.Constraints.{IsConstraintReading, IsConstraintError};
 ghost use Rattle.esto_semantics.specs.WellFormed.{IsRuleOver};
 ghost use Rattle.esto_catalog.specs.Constraints.{reads_rule, rule_row, reads_constraint, reads_constraints};
 ghost use Rattle.esto_catalog.specs.Rows.{Walks};
@@ -13,23 +14,44 @@ use crate::row::{knows_keys, needs_text};
 use crate::setting::{Field, KeyList};
 use crate::tables::Tables;
 use esto_constraint::{Constraint, Rules};
-use esto_read::read_constraint;
+use esto_read::{read_constraint, read_constraint_2};
 use esto_term::{List, Text};
-use esto_text::ReadError;
+use esto_text::{ReadError, Version};
 use std::alloc::Global;
 
-// The constraint that the text is, or its first fault.
+// The constraint that the text of this version is, or why it is none.
+fn read_rule(
+    alloc: Global,
+    version: Version,
+    tables: &Tables,
+    text: &[u8],
+) -> Result<Constraint, ReadError>
+    requires { IsTables tables.now }
+    ensures rule { IfOk result (IsConstraintReading
+        version tables.now.words (arities_of tables.now.schema) text.now) }
+    ensures over { IfOk result (λ rule. IsRuleOver (arities_of tables.now.schema) (rule_of rule)) }
+    ensures error { IfErr result (IsConstraintError
+        version tables.now.words (arities_of tables.now.schema) text.now) }
+{
+    match version {
+        Version::One => read_constraint(alloc, text, &tables.words, &tables.schema),
+        Version::Two => read_constraint_2(alloc, text, &tables.words, &tables.schema),
+    }
+}
+
+// The constraint that the text of this version is, or its first fault.
 fn rule_of_text(
     alloc: Global,
+    version: Version,
     place: Place,
     tables: &Tables,
     text: &Text,
 ) -> Result<Constraint, CatalogueError>
     requires { IsTables tables.now }
-    ensures rule { Walks (reads_rule place tables.now.datasets text.now) result }
+    ensures rule { Walks (reads_rule version place tables.now.datasets text.now) result }
     ensures over { IfOk result (λ rule. IsRuleOver (arities_of tables.now.schema) (rule_of rule)) }
 {
-    match read_constraint(alloc, text.bytes(), &tables.words, &tables.schema) {
+    match read_rule(alloc, version, tables, text.bytes()) {
         Ok(rule) => Ok(rule),
         Err(ReadError::Fault(found)) => Err(fault(
             alloc,
@@ -46,16 +68,17 @@ fn rule_of_text(
 #[tactic(auto, using(crate::proofs::RowLemmas::rows))]
 fn rule(
     alloc: Global,
+    version: Version,
     place: Place,
     tables: &Tables,
     entry: &[Field],
 ) -> Result<Constraint, CatalogueError>
     requires { IsTables tables.now }
-    ensures rule { Walks (rule_row place tables.now.datasets entry.now) result }
+    ensures rule { Walks (rule_row version place tables.now.datasets entry.now) result }
     ensures over { IfOk result (λ rule. IsRuleOver (arities_of tables.now.schema) (rule_of rule)) }
 {
     let text = needs_text(alloc, place, "rule", entry)?;
-    let rule = rule_of_text(alloc, place, tables, &text)?;
+    let rule = rule_of_text(alloc, version, place, tables, &text)?;
     Ok(rule)
 }
 
@@ -63,34 +86,37 @@ fn rule(
 #[tactic(auto, using(crate::proofs::RowLemmas::rows))]
 fn read_entry(
     alloc: Global,
+    version: Version,
     place: Place,
     tables: &Tables,
     entry: &[Field],
 ) -> Result<Constraint, CatalogueError>
     requires { IsTables tables.now }
-    ensures rule { Walks (reads_constraint place tables.now.datasets entry.now) result }
+    ensures rule { Walks
+        (reads_constraint version place tables.now.datasets entry.now) result }
     ensures over { IfOk result (λ rule. IsRuleOver (arities_of tables.now.schema) (rule_of rule)) }
 {
     knows_keys(alloc, place, entry)?;
-    let rule = rule(alloc, place, tables, entry)?;
+    let rule = rule(alloc, version, place, tables, entry)?;
     Ok(rule)
 }
 
-/// The constraints of the entries, in order, counted from 1.
+/// The constraints of the entries by this version's grammar, in order, counted from 1.
 pub fn read_constraints(
     alloc: Global,
+    version: Version,
     tables: &Tables,
     entries: &[KeyList],
 ) -> Result<Rules, CatalogueError>
     requires { IsTables tables.now }
-    ensures rules { Walks (reads_constraints tables.now.datasets entries.now) result }
+    ensures rules { Walks (reads_constraints version tables.now.datasets entries.now) result }
     ensures over { IfOk result (AreSoundRules (arities_of tables.now.schema)) }
 {
     let mut rules = List::new(alloc);
     'entries: for (index, entry) in entries.iter().enumerate() {
         let place = Place::entry(Section::Constraint, index);
         let fields = entry.items();
-        let rule = read_entry(alloc, place, tables, fields)?;
+        let rule = read_entry(alloc, version, place, tables, fields)?;
         rules.push(rule)?;
     }
     Ok(rules)

@@ -50,7 +50,7 @@ pub enum CatalogueKind {
     Toml,
     /// The key is not one of the section's.
     UnknownKey,
-    /// The version is not the integer 1.
+    /// The version is neither the integer 1 nor 2.
     Version,
     /// The value has another type than the key wants.
     WrongType,
@@ -76,7 +76,8 @@ pub enum CatalogueKind {
     BadText,
     /// The pattern is no layout.
     BadPattern,
-    /// The access has a wrong length, or something else than `i` and `o`.
+    /// The access has no text, more than `MAX_PATTERNS` or two equal ones, or one with a wrong length or something else
+    /// than `i` and `o`.
     BadAccess,
     /// The weight is out of range.
     BadWeight,
@@ -100,7 +101,7 @@ pub enum CatalogueError {
     Fault(CatalogueFault),
     /// It has no fault, and a relation leads back to itself: this is the least cycle.
     NotAcyclic(Cycle),
-    /// It has a model, a store or a key that is not built yet. This comes before the faults of the entries.
+    /// It has a model or a store that is not built yet. This comes before the faults of the entries.
     NotBuilt,
     OutOfMemory,
 }

@@ -1,5 +1,5 @@
 //! The rows of a fragment.
-ghost use Rattle.std.specs.Prelude.{◌≡◌, ◌↔◌, ◌||◌, IsTrue, [], Some, option_copied, length, replicate, false, IfOk};
+ghost use Rattle.std.specs.Prelude.{◌≡◌, ◌↔◌, ◌||◌, IsTrue, [], Some, option_copied, length, IfOk};
 ghost use Rattle.esto_query.specs.Schemas.{arities_of};
 ghost use Rattle.esto_catalog.specs.Datasets.{AreColumns, has_dataset};
 ghost use Rattle.esto_catalog.specs.Fragments.{has_fragment, reads_view, view_row, store_row, file_row, column_of, head_columns, name_at, store_columns, store_columns_row, stored_fragment, reads_fragment, reads_fragments};
@@ -8,6 +8,7 @@ ghost use Rattle.esto_catalog.specs.Rows.{Walks};
 ghost use Rattle.esto_catalog.specs.Soundness.{IsSoundView, IsSoundStored, AreSoundFragments};
 ghost use Rattle.esto_catalog.specs.Tables.{IsTables};
 
+use crate::access::{access, weight};
 use crate::catalogue::{Shape, Store, Stores};
 use crate::columns::are_columns;
 use crate::dataset::has_dataset;
@@ -17,9 +18,9 @@ use crate::setting::{Field, KeyList, Setting, is_same, setting_at};
 use crate::tables::Tables;
 use esto_query::{Name, Query};
 use esto_read::{NamedQuery, read_view, views_name_their_columns};
-use esto_term::{List, OutOfMemory, Replicate, Term, Text, TextRow, Values};
+use esto_term::{List, OutOfMemory, Replicate, Term, Text, TextRow};
 use esto_text::ReadError;
-use esto_views::{Access, FragmentDef, FragmentDefs};
+use esto_views::{AccessList, FragmentDef, FragmentDefs};
 use std::alloc::Global;
 
 /// A fragment, and where it is stored.
@@ -203,45 +204,32 @@ fn columns(
     }
 }
 
-// For each column of the view, that it is no input.
-fn outputs(alloc: Global, view: &Query) -> Result<Access, OutOfMemory>
-    ensures { IfOk result (λ access. access ≡ replicate (length view.now.head) false) }
-{
-    let mut access = Values::new(alloc);
-    'terms: for _term in view.head.items() {
-        access.push(false)?;
-    }
-    Ok(access)
-}
-
-// The fragment of a view and its store.
+// The fragment of a view, its store, its binding patterns and its weight.
 fn stored_fragment(
-    alloc: Global,
     view: NamedQuery,
     file: Text,
     columns: TextRow,
-) -> Result<Stored, OutOfMemory>
-    ensures { IfOk result (λ it. it ≡ stored_fragment view file columns) }
+    access: AccessList,
+    weight: u64,
+) -> Stored
+    ensures { result ≡ stored_fragment view file columns access weight }
 {
     let NamedQuery { name, query } = view;
-    let mut access = List::new(alloc);
-    access.push(outputs(alloc, &query)?)?;
-    Ok(Stored {
+    Stored {
         definition: FragmentDef {
             name,
             view: query,
             access,
-            weight: 1,
+            weight,
         },
         store: Store {
             shape: Shape::Table(columns),
             file,
         },
-    })
+    }
 }
 
-// The rows of a fragment, in order: unknown keys, view, store, file, columns, layout, pattern. An access and a weight
-// have been refused before.
+// The rows of a fragment, in order: unknown keys, view, store, file, columns, layout, pattern, access, weight.
 #[tactic(auto, using(crate::proofs::RowLemmas::rows))]
 fn read_fragment(
     alloc: Global,
@@ -263,8 +251,9 @@ fn read_fragment(
     let columns = columns(alloc, place, &view.query, entry)?;
     unfit(alloc, "layout", place, entry)?;
     unfit(alloc, "pattern", place, entry)?;
-    let stored = stored_fragment(alloc, view, file, columns)?;
-    Ok(stored)
+    let access = access(alloc, place, &view.query, entry)?;
+    let weight = weight(alloc, place, entry)?;
+    Ok(stored_fragment(view, file, columns, access, weight))
 }
 
 /// The fragments of the entries, in order, counted from 1.

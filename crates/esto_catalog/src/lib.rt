@@ -1,6 +1,7 @@
 //! The catalogue: which datasets, fragments and constraints there are, read from the bytes of its file.
 #![tactic(auto)]
 
+mod access;
 mod catalogue;
 mod columns;
 mod constraint;
@@ -13,9 +14,12 @@ mod tables;
 mod walk;
 mod whole;
 
+pub use access::{MAX_PATTERNS, MAX_WEIGHT};
 pub use catalogue::{Catalogue, Shape, Store, Stores};
 pub use columns::{MARK, MAX_NAME};
 pub use dataset::{Dataset, Datasets};
 pub use fault::{CatalogueError, CatalogueFault, CatalogueKind, Section};
-pub use walk::{catalogues_are_determined, catalogues_are_sound, read_catalogue};
+pub use walk::{
+    catalogues_are_determined, catalogues_are_sound, catalogues_rank_their_rules, read_catalogue,
+};
 pub use whole::MAX_ENTRIES;

@@ -1,5 +1,8 @@
 //! The walk over the rows of the whole catalogue.
-ghost use Rattle.std.specs.Prelude.{IfOk, IfErr};
+ghost use Rattle.std.specs.Prelude.{length, IfOk, IfErr};
+ghost use Rattle.esto_acyclic.specs.Graphs.{IsWithin, AreRanks};
+ghost use Rattle.esto_acyclic.specs.Relations.{IsEdge};
+ghost use Rattle.esto_constraint.specs.Constraints.{rules_of};
 ghost use Rattle.esto_query.specs.Schemas.{arities_of};
 ghost use Rattle.esto_catalog.specs.Determined.{CataloguesAreSound, HaveOneCatalogue, HaveNoError, HaveOneError};
 ghost use Rattle.esto_catalog.specs.Reading.{IsCatalogueOf, IsCatalogueError, is_acyclic, reads_catalogue};
@@ -68,7 +71,7 @@ fn walk(alloc: Global, bytes: &[u8]) -> Result<Catalogue, CatalogueError>
     let fragment_entries = sections.fragments.items();
     let fragments = read_fragments(alloc, &tables, fragment_entries)?;
     let constraint_entries = sections.constraints.items();
-    let rules = read_constraints(alloc, &tables, constraint_entries)?;
+    let rules = read_constraints(alloc, sections.version, &tables, constraint_entries)?;
     let catalogue = judged(alloc, tables, fragments, rules)?;
     Ok(catalogue)
 }
@@ -87,6 +90,13 @@ pub fn read_catalogue(alloc: Global, bytes: &[u8]) -> Result<Catalogue, Catalogu
 /// A law: each catalogue keeps what its description says.
 pub fn catalogues_are_sound()
     ensures { CataloguesAreSound }
+{}
+
+/// A law: a catalogue's rules go between the relations that it ranks, and its ranks are theirs, as a chase by them asks.
+pub fn catalogues_rank_their_rules()
+    ensures within { (it : Catalogue) → IsWithin (length it.ranks) (IsEdge (rules_of it.rules)) }
+    ensures ranks { (it : Catalogue) →
+        AreRanks (IsEdge (rules_of it.rules)) (length it.ranks) it.ranks }
 {}
 
 /// A law: bytes say at most one catalogue, up to what its views and rules mean, or have at most one first fault, and

@@ -1,52 +1,68 @@
 //! The rows of the whole file, before its entries.
-ghost use Rattle.std.specs.Prelude.{◌≡◌, ◌||◌, ◌≤◌, ◌↔◌, IsTrue, Some, codes, pos, option_copied, length, IfOk};
+ghost use Rattle.std.specs.Prelude.{◌≡◌, ◌≢◌, ◌||◌, ◌≤◌, Some, codes, pos, option_copied, length, IfOk, MatchOption};
 ghost use Rattle.std.specs.List.{list_any};
 ghost use Rattle.esto_catalog.specs.Rows.{Walks};
 ghost use Rattle.esto_catalog.specs.Settings.{setting_at};
 ghost use Rattle.esto_catalog.specs.declared.setting.Setting.TheVariants.{Integer};
-ghost use Rattle.esto_catalog.specs.Whole.{has_version, reads_section, is_no_table, is_unbuilt, is_built, reads_whole};
+ghost use Rattle.esto_catalog.specs.Whole.{number_of, reads_version, reads_section, is_no_table, is_built, reads_whole};
 
-use crate::fault::{CatalogueError, CatalogueKind, TOP, demand, fault};
+use crate::fault::{CatalogueError, CatalogueKind, TOP, fault};
 use crate::row::knows_keys;
 use crate::setting::{
-    Document, Field, KeyList, SectionTables, Setting, has_key, is_set_to, read_toml, setting_at,
+    Document, Field, KeyList, SectionTables, Setting, is_set_to, read_toml, setting_at,
 };
+use esto_text::Version;
 use std::alloc::Global;
 
 /// The greatest number of entries of a section.
 pub const MAX_ENTRIES: usize = 256;
 
-/// The version of catalogues.
-const VERSION: i64 = 1;
-
-/// The entries of the three sections.
+/// The version, and the entries of the three sections.
 #[derive(Drop)]
 pub struct Sections {
+    pub version: Version,
     pub datasets: SectionTables,
     pub fragments: SectionTables,
     pub constraints: SectionTables,
 }
 
-// Whether the version is the integer 1.
-fn is_version(version: Option<&Setting>) -> bool
-    ensures { IsTrue result ↔ (option_copied version.entry ≡ Some (Integer (pos 1))) }
+// The version of this number, where there is one.
+fn version_of(number: i64) -> Option<Version>
+    ensures { MatchOption result ((version : Version) → number ≢ pos (number_of version))
+        (λ version. number ≡ pos (number_of version)) }
 {
-    match version {
-        Some(Setting::Integer(number)) => *number == VERSION,
-        Some(Setting::Text(_)) => false,
-        Some(Setting::Texts(_)) => false,
-        Some(Setting::Other) => false,
-        None => false,
+    match number {
+        1 => Some(Version::One),
+        2 => Some(Version::Two),
+        _ => None,
     }
 }
 
-// The version is the integer 1; else Version.
-#[tactic(auto, using(crate::proofs::RowLemmas::rows))]
-fn has_version(alloc: Global, entry: &[Field]) -> Result<(), CatalogueError>
-    ensures { Walks (has_version (setting_at (codes "version") entry.now)) result }
+// The version to whose number it is set, where it is so.
+fn set_version(setting: Option<&Setting>) -> Option<Version>
+    ensures { MatchOption result
+        ((version : Version) →
+        ¬ (option_copied setting.entry ≡ Some (Integer (pos (number_of version)))))
+        (λ version. option_copied setting.entry ≡ Some (Integer (pos (number_of version)))) }
 {
-    let holds = is_version(setting_at("version", entry));
-    demand(alloc, holds, CatalogueKind::Version, TOP, "version")
+    match setting {
+        Some(Setting::Integer(number)) => version_of(*number),
+        Some(Setting::Text(_)) => None,
+        Some(Setting::Texts(_)) => None,
+        Some(Setting::Other) => None,
+        None => None,
+    }
+}
+
+// The version, which is set to the integer 1 or 2; else Version.
+#[tactic(auto, using(crate::proofs::RowLemmas::rows))]
+fn read_version(alloc: Global, entry: &[Field]) -> Result<Version, CatalogueError>
+    ensures { Walks (reads_version (setting_at (codes "version") entry.now)) result }
+{
+    match set_version(setting_at("version", entry)) {
+        Some(version) => Ok(version),
+        None => Err(fault(alloc, CatalogueKind::Version, TOP, "version", None)),
+    }
 }
 
 // The entries of a section: WrongType where it is no array of tables, TooMany where it has
@@ -76,38 +92,22 @@ fn is_no_table(key: &str, entry: &KeyList) -> bool
     is_set_to("documents", key, entry.items()) || is_set_to("keys", key, entry.items())
 }
 
-// Whether the fragment is of a form that is not built yet.
-fn is_unbuilt(entry: &KeyList) -> bool
-    ensures { result ≡ is_unbuilt entry.now }
+// Whether one of the entries is set to documents or keys at this key.
+fn has_no_table(key: &str, entries: &[KeyList]) -> bool
+    ensures { result ≡ list_any (is_no_table key.now) entries.now }
 {
-    is_no_table("store", entry)
-        || has_key("access", entry.items())
-        || has_key("weight", entry.items())
+    entries.iter().any(|entry| is_no_table(key, entry))
 }
 
-// Whether a dataset is documents or keys.
-fn has_no_table(datasets: &[KeyList]) -> bool
-    ensures { result ≡ list_any (is_no_table (codes "model")) datasets.now }
-{
-    datasets.iter().any(|entry| is_no_table("model", entry))
-}
-
-// Whether a fragment is of a form that is not built yet.
-fn has_unbuilt(fragments: &[KeyList]) -> bool
-    ensures { result ≡ list_any is_unbuilt fragments.now }
-{
-    fragments.iter().any(|entry| is_unbuilt(entry))
-}
-
-// Whether a dataset or a fragment is of a form that is not built yet.
+// Whether a dataset is documents or keys, or a fragment is stored so.
 fn needs_more(datasets: &[KeyList], fragments: &[KeyList]) -> bool
-    ensures { result ≡ (list_any
-        (is_no_table (codes "model")) datasets.now || list_any is_unbuilt fragments.now) }
+    ensures { result ≡ (list_any (is_no_table (codes "model")) datasets.now
+        || list_any (is_no_table (codes "store")) fragments.now) }
 {
-    has_no_table(datasets) || has_unbuilt(fragments)
+    has_no_table("model", datasets) || has_no_table("store", fragments)
 }
 
-// No dataset is documents or keys, and no fragment is of a form that is not built yet; else NotBuilt.
+// No dataset is documents or keys, and no fragment is stored so; else NotBuilt.
 fn is_built(datasets: &[KeyList], fragments: &[KeyList]) -> Result<(), CatalogueError>
     ensures { Walks (is_built datasets.now fragments.now) result }
 {
@@ -132,7 +132,7 @@ pub fn read_whole(alloc: Global, bytes: &[u8]) -> Result<Sections, CatalogueErro
     } = document;
     let entry = fields.items();
     knows_keys(alloc, TOP, entry)?;
-    has_version(alloc, entry)?;
+    let version = read_version(alloc, entry)?;
     let datasets = read_section(alloc, "dataset", datasets)?;
     let fragments = read_section(alloc, "fragment", fragments)?;
     let constraints = read_section(alloc, "constraint", constraints)?;
@@ -140,6 +140,7 @@ pub fn read_whole(alloc: Global, bytes: &[u8]) -> Result<Sections, CatalogueErro
     let fragment_entries = fragments.items();
     is_built(dataset_entries, fragment_entries)?;
     Ok(Sections {
+        version,
         datasets,
         fragments,
         constraints,

@@ -28,7 +28,7 @@ returns-in_err-rules c =
     (then_stops _ _ _ c.in_ok-sections.ensures.whole
     (then_stops _ _ _ (rw c.items-dataset_entries.ensures at c.in_ok-datasets.ensures.datasets)
     (then_stops _ _ _ (fragments_same _ _ _ _ _ c.in_ok-tables.ensures.same c.items-fragment_entries.ensures c.in_ok-fragments.ensures.fragments)
-    (first_stops _ _ (rules_same_stops _ _ _ _ _ c.in_ok-tables.ensures.same c.items-constraint_entries.ensures c.in_err-rules.ensures.rules)))))
+    (first_stops _ _ (rules_same_stops _ _ _ _ _ _ c.in_ok-tables.ensures.same c.items-constraint_entries.ensures c.in_err-rules.ensures.rules)))))
 
 pub returns-in_err-catalogue : goal.returns-in_err-catalogue
 returns-in_err-catalogue c =
@@ -36,7 +36,7 @@ returns-in_err-catalogue c =
     (then_stops _ _ _ c.in_ok-sections.ensures.whole
     (then_stops _ _ _ (rw c.items-dataset_entries.ensures at c.in_ok-datasets.ensures.datasets)
     (then_stops _ _ _ (fragments_same _ _ _ _ _ c.in_ok-tables.ensures.same c.items-fragment_entries.ensures c.in_ok-fragments.ensures.fragments)
-    (then_stops _ _ _ (rules_same _ _ _ _ _ c.in_ok-tables.ensures.same c.items-constraint_entries.ensures c.in_ok-rules.ensures.rules)
+    (then_stops _ _ _ (rules_same _ _ _ _ _ _ c.in_ok-tables.ensures.same c.items-constraint_entries.ensures c.in_ok-rules.ensures.rules)
     (acyclic_same_stops _ _ _ _ _ c.in_ok-tables.ensures.same c.in_err-catalogue.ensures)))))
 
 pub returns : goal.returns
@@ -44,5 +44,5 @@ returns c =
     then_goes _ _ _ _ c.in_ok-sections.ensures.whole
     (then_goes _ _ _ _ (rw c.items-dataset_entries.ensures at c.in_ok-datasets.ensures.datasets)
     (then_goes _ _ _ _ (fragments_same _ _ _ _ _ c.in_ok-tables.ensures.same c.items-fragment_entries.ensures c.in_ok-fragments.ensures.fragments)
-    (then_goes _ _ _ _ (rules_same _ _ _ _ _ c.in_ok-tables.ensures.same c.items-constraint_entries.ensures c.in_ok-rules.ensures.rules)
+    (then_goes _ _ _ _ (rules_same _ _ _ _ _ _ c.in_ok-tables.ensures.same c.items-constraint_entries.ensures c.in_ok-rules.ensures.rules)
     (acyclic_same _ _ _ _ _ c.in_ok-tables.ensures.same c.in_ok-catalogue.ensures))))

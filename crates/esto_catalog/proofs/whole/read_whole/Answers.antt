@@ -12,30 +12,30 @@ returns-in_err-knows_keys-clause-whole c =
     row_exit (reads_whole c.args.bytes.now) _ _ c.from_residual-in_err-knows_keys.ensures.1
     (then_stops _ _ _ (c.in_ok-document.ensures) (first_stops _ _ ((rw c.items-entry.ensures at c.in_err-knows_keys.ensures))))
 
-pub returns-in_err-has_version-clause-whole : goal.returns-in_err-has_version-clause-whole
-returns-in_err-has_version-clause-whole c =
-    row_exit (reads_whole c.args.bytes.now) _ _ c.from_residual-in_err-has_version.ensures.1
+pub returns-in_err-version-clause-whole : goal.returns-in_err-version-clause-whole
+returns-in_err-version-clause-whole c =
+    row_exit (reads_whole c.args.bytes.now) _ _ c.from_residual-in_err-version.ensures.1
     (then_stops _ _ _ (c.in_ok-document.ensures) (then_stops _ _ _ ((rw c.items-entry.ensures at c.in_ok-knows_keys.ensures))
-    (first_stops _ _ ((rw c.items-entry.ensures at c.in_err-has_version.ensures)))))
+    (first_stops _ _ ((rw c.items-entry.ensures at c.in_err-version.ensures)))))
 
 pub returns-in_err-datasets-clause-whole : goal.returns-in_err-datasets-clause-whole
 returns-in_err-datasets-clause-whole c =
     row_exit (reads_whole c.args.bytes.now) _ _ c.from_residual-in_err-datasets.ensures.1
     (then_stops _ _ _ (c.in_ok-document.ensures) (then_stops _ _ _ ((rw c.items-entry.ensures at c.in_ok-knows_keys.ensures))
-    (then_stops _ _ _ ((rw c.items-entry.ensures at c.in_ok-has_version.ensures)) (first_stops _ _ (c.in_err-datasets.ensures.section)))))
+    (then_stops _ _ _ ((rw c.items-entry.ensures at c.in_ok-version.ensures)) (first_stops _ _ (c.in_err-datasets.ensures.section)))))
 
 pub returns-in_err-fragments-clause-whole : goal.returns-in_err-fragments-clause-whole
 returns-in_err-fragments-clause-whole c =
     row_exit (reads_whole c.args.bytes.now) _ _ c.from_residual-in_err-fragments.ensures.1
     (then_stops _ _ _ (c.in_ok-document.ensures) (then_stops _ _ _ ((rw c.items-entry.ensures at c.in_ok-knows_keys.ensures))
-    (then_stops _ _ _ ((rw c.items-entry.ensures at c.in_ok-has_version.ensures))
+    (then_stops _ _ _ ((rw c.items-entry.ensures at c.in_ok-version.ensures))
     (then_stops _ _ _ (c.in_ok-datasets.ensures.section) (first_stops _ _ (c.in_err-fragments.ensures.section))))))
 
 pub returns-in_err-constraints-clause-whole : goal.returns-in_err-constraints-clause-whole
 returns-in_err-constraints-clause-whole c =
     row_exit (reads_whole c.args.bytes.now) _ _ c.from_residual-in_err-constraints.ensures.1
     (then_stops _ _ _ (c.in_ok-document.ensures) (then_stops _ _ _ ((rw c.items-entry.ensures at c.in_ok-knows_keys.ensures))
-    (then_stops _ _ _ ((rw c.items-entry.ensures at c.in_ok-has_version.ensures))
+    (then_stops _ _ _ ((rw c.items-entry.ensures at c.in_ok-version.ensures))
     (then_stops _ _ _ (c.in_ok-datasets.ensures.section) (then_stops _ _ _ (c.in_ok-fragments.ensures.section)
     (first_stops _ _ (c.in_err-constraints.ensures.section)))))))
 
@@ -43,7 +43,7 @@ pub returns-in_err-is_built-clause-whole : goal.returns-in_err-is_built-clause-w
 returns-in_err-is_built-clause-whole c =
     row_exit (reads_whole c.args.bytes.now) _ _ c.from_residual-in_err-is_built.ensures.1
     (then_stops _ _ _ (c.in_ok-document.ensures) (then_stops _ _ _ ((rw c.items-entry.ensures at c.in_ok-knows_keys.ensures))
-    (then_stops _ _ _ ((rw c.items-entry.ensures at c.in_ok-has_version.ensures))
+    (then_stops _ _ _ ((rw c.items-entry.ensures at c.in_ok-version.ensures))
     (then_stops _ _ _ (c.in_ok-datasets.ensures.section) (then_stops _ _ _ (c.in_ok-fragments.ensures.section)
     (then_stops _ _ _ (c.in_ok-constraints.ensures.section)
     (first_stops _ _ ((rw (c.items-dataset_entries.ensures, c.items-fragment_entries.ensures) at c.in_err-is_built.ensures)))))))))
