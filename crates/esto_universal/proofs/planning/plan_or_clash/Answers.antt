@@ -1,4 +1,4 @@
-use Rattle.std.proofs.Common.{length, sym, subst}
+use Rattle.std.proofs.Common.{◌≢◌, [], length, sym, subst}
 use Rattle.esto_query.specs.Making.{query_of}
 use Rattle.esto_constraint.specs.Constraints.{rules_of}
 use Rattle.esto_chase_laws.specs.Runs.{IsStart}
@@ -29,7 +29,7 @@ pub stated_plan-requires : goal.stated_plan-requires
 stated_plan-requires c =
     let rules = c.args.catalogue.now.rules in
     let query = c.args.query.now in
-    rw c.head-head.ensures
+    subst (λ it. it ≢ []) (sym c.head-head.ensures)
     (head_of_end c.heads_go_along.ensures.heads c.queries_have_starts.ensures.start (rules_of rules) (query_of query) (state_of c.in_ok-start.start)
     c.in-Left.chased.instance (constraints-AreRules rules c.rules_are_sound.ensures.rules) (c.queries_are_sound.ensures query).query
     c.in_ok-start.ensures.state (rw c.in-Left.is at c.in_ok-outcome.ensures.run))
@@ -39,8 +39,8 @@ returns-in_ok-plan-in-Left c =
     let it = c.args.catalogue.now in
     let query = c.args.query.now in
     planned_from (rules_of it.rules) (views_of it.fragments) query.names (query_of query) (state_of c.in_ok-start.start) c.in-Left.chased.instance
-    c.in_ok-plan-in-Left.plan c.in_ok-start.ensures.state (rw c.in-Left.is at c.in_ok-outcome.ensures.run)
-    (rw (c.head-head.ensures, c.facts-facts.ensures) at c.in_ok-plan-in-Left.ensures)
+    c.facts-facts.result.now c.head-head.result.now c.in_ok-plan-in-Left.plan c.in_ok-start.ensures.state
+    (rw c.in-Left.is at c.in_ok-outcome.ensures.run) c.facts-facts.ensures c.head-head.ensures c.in_ok-plan-in-Left.ensures
 
 pub returns-in-Right : goal.returns-in-Right
 returns-in-Right c =
