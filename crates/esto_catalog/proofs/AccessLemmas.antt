@@ -6,7 +6,7 @@ use Rattle.std.proofs.lemmas.List.{length-map, map-append, take_more}
 use Rattle.std.proofs.lemmas.List.Elements.{Contains-push_cases}
 use Rattle.esto_course.specs.Course.{judges, gives, refuses}
 use Rattle.esto_term.proofs.ListLemmas.{Contains-cases, Contains-map_from, Contains-nil}
-use Rattle.esto_catalog.specs.Access.{letter_of, written_pattern, IsPattern, ArePatterns, IsWeight, reads_patterns, allows_access, reads_weight, allows_weight}
+use Rattle.esto_catalog.specs.Access.{letter_of, written_pattern, IsPattern, ArePatterns, IsWeight, allows_access, allows_weight}
 use Rattle.esto_catalog.specs.declared.access.TheConstants.{MAX_PATTERNS, MAX_WEIGHT}
 use Rattle.esto_catalog.specs.declared.fault.Place.{Place}
 use Rattle.esto_catalog.specs.declared.setting.Setting.{Setting}

@@ -74,7 +74,8 @@ no_rules arities rule inside = absurd (Contains-nil rule inside)
 
 -- a turn of the loop over the entries of constraints
 module _ (version : Version) (tables : List Dataset) (entries : List (List Field)) (to : Course CatalogueError (List Constraint)) (index : ℕ)
-    (rules : List Constraint) (leads : Leads (each (adds_constraint version tables) (suc index) rules (drop index entries)) to) (item : List Field) (below : index < length entries)
+    (rules : List Constraint) (leads : Leads (each (adds_constraint version tables) (suc index) rules (drop index entries)) to) (item : List Field)
+    (below : index < length entries)
     (is : item ≡ get_or entries index item)
     (place : Place) (there : place ≡ record { section = section.Constraint; number = index + 1 }) (entry : List Field) (fields : entry ≡ item) where
   abbrev rule_place : Place
@@ -89,7 +90,8 @@ module _ (version : Version) (tables : List Dataset) (entries : List (List Field
   rule_turn rule goes =
       let here = rule_moved (λ (at : Place) (fields : List Field). (reads_constraint version at tables fields).goes rule) goes in
       turn_next (adds_constraint version tables) entries to index rules leads item below is (rules ++ rule ∷ [])
-      (then_goes (reads_constraint version rule_place tables item) (λ r. gives (rules ++ r ∷ [])) rule (rules ++ rule ∷ []) here (gives_goes CatalogueError _ _ refl))
+      (then_goes (reads_constraint version rule_place tables item) (λ r. gives (rules ++ r ∷ [])) rule (rules ++ rule ∷ []) here
+      (gives_goes CatalogueError _ _ refl))
 
   pub rule_fails : (error : CatalogueError) → Stops IsWant IsAny (reads_constraint version place tables entry) error → Stops IsWant IsAny to error
   rule_fails error stops =

@@ -26,16 +26,32 @@ pub length_items : (items : List ItemSyntax) → length (map item_of items) ≡ 
 length_items [] = refl
 length_items (x ∷ xs) = ap suc (length_items xs)
 
-pub each_item : (P : ItemTree → Type 0) (items : List ItemSyntax) (n : ℕ) (x : ItemSyntax) → AllByRecursion P (map item_of items) → n < length items → x ≡ get_or items n x → P (item_of x)
+pub each_item : (P : ItemTree → Type 0) (items : List ItemSyntax) (n : ℕ) (x : ItemSyntax) → AllByRecursion P (map item_of items) → n < length items → x
+    ≡ get_or items n x → P (item_of x)
 each_item P items n x h lt e = subst P (item_at items n x e) (All-from_recursion P (map item_of items) h n (item_of x) (omega (arith, length_items items)))
 
 module _ (words : List Word) (schema bytes : List ℕ) where
-  items_then : (before between after : List Name) (items : List ItemTree) (atoms : List (Fact Term)) (item : ItemTree) (own : List (Fact Term)) → AreItems words schema bytes before items atoms between
+  items_then : (before between after : List Name) (items : List ItemTree) (atoms : List (Fact Term)) (item : ItemTree) (own : List (Fact Term))
+      → AreItems words schema bytes before items atoms between
       → IsItemOf words schema bytes between item own after → AreItems words schema bytes before (items ++ item ∷ []) (atoms ++ own) after
-  items_then before between after [] atoms item own (e, f) g =
-      (own, [], after, ap (λ (l : List (Fact Term)). l ++ own) e ∙ sym (append-nil own), subst (λ (l : List Name). IsItemOf words schema bytes l item own after) f g, (refl, refl))
-  items_then before between after (i ∷ is) atoms item own (first, rest, names, e, h, more) g =
-      (first, rest ++ own, names, ap (λ (l : List (Fact Term)). l ++ own) e ∙ append_assoc first rest own, h, items_then names between after is rest item own more g)
+  items_then before between after [] atoms item own (e, f) g = (
+    own,
+    [],
+    after,
+    ap (λ (l : List (Fact Term)). l ++ own) e ∙ sym (append-nil own),
+    subst (λ (l : List Name). IsItemOf words schema bytes l item own after)
+        f g,
+    (refl, refl),
+  )
+  items_then before between after (i ∷ is) atoms item own (first, rest, names, e, h, more) g = (
+    first,
+    rest ++ own,
+    names,
+    ap (λ (l : List (Fact Term)). l ++ own) e ∙ append_assoc first rest own,
+    h,
+    items_then names between after is rest item own
+        more g,
+  )
 
   pub record BodySoFar (before : List Name) (items : List ItemTree) (n : ℕ) (body : List (Fact Term)) (names : List Name) : Type 0 where
     pub read : AreItems words schema bytes before (take n items) body names
@@ -46,28 +62,38 @@ module _ (words : List Word) (schema bytes : List ℕ) where
   pub body_begins : (before : List Name) (items : List ItemTree) → BodySoFar before items 0 [] before
   body_begins before items = record { read = (refl, refl); count = refl; fits = λ h. h; fault = λ f h. h }
 
-  module _ (before : List Name) (items : List ItemTree) (n : ℕ) (body : List (Fact Term)) (names : List Name) (h : BodySoFar before items n body names) (lt : n < length items) (item : ItemTree)
+  module _ (before : List Name) (items : List ItemTree) (n : ℕ) (body : List (Fact Term)) (names : List Name) (h : BodySoFar before items n body names)
+      (lt : n < length items) (item : ItemTree)
       (e : get_or items n item ≡ item) where
     here : drop n items ≡ item ∷ drop (n + 1) items
     here = rw (add-one n) (drop-cons items n item lt ∙ ap (λ (i : ItemTree). i ∷ drop (suc n) items) e)
 
-    pub body_more : (atom : Fact Term) (after : List Name) → IsItemOf words schema bytes names item (atom ∷ []) after → IsFitting words schema bytes (length body) item → BodySoFar before items (n + 1) (body ++ atom ∷ []) after
+    pub body_more : (atom : Fact Term) (after : List Name) → IsItemOf words schema bytes names item (atom ∷ []) after
+        → IsFitting words schema bytes (length body) item → BodySoFar before items (n + 1) (body ++ atom ∷ []) after
     body_more atom after own fit =
         let fit' : IsFitting words schema bytes n item = subst (λ (k : ℕ). IsFitting words schema bytes k item) h.count fit in
         record {
-          read = subst (λ (l : List ItemTree). AreItems words schema bytes before l (body ++ atom ∷ []) after) (sym (take_more items n item lt ∙ ap (λ (i : ItemTree). take n items ++ i ∷ []) e))
+          read = subst (λ (l : List ItemTree). AreItems words schema bytes before l (body ++ atom ∷ []) after)
+              (sym (take_more items n item lt ∙ ap (λ (i : ItemTree). take n items ++ i ∷ []) e))
               (items_then before names after (take n items) body item (atom ∷ []) h.read own);
           count = omega (arith, length-append body (atom ∷ []), h.count);
-          fits = λ g. h.fits (subst (AreFitting words schema bytes n) (sym here) (fit', subst (λ (k : ℕ). AreFitting words schema bytes k (drop (n + 1) items)) (add-one n) g));
-          fault = λ f g. h.fault f (subst (λ (l : List ItemTree). IsFirstItemFault words schema bytes n l f) (sym here) (inr (fit', subst (λ (k : ℕ). IsFirstItemFault words schema bytes k (drop (n + 1) items) f) (add-one n) g)));
+          fits = λ g. h.fits (subst (AreFitting words schema bytes n) (sym here)
+              (fit', subst (λ (k : ℕ). AreFitting words schema bytes k (drop (n + 1) items)) (add-one n) g));
+          fault = λ f g. h.fault f (subst (λ (l : List ItemTree). IsFirstItemFault words schema bytes n l f) (sym here)
+              (inr (fit', subst (λ (k : ℕ). IsFirstItemFault words schema bytes k (drop (n + 1) items) f) (add-one n) g)));
         }
 
     pub body_fails : (x : ReadError) → IsItemError words schema bytes (length body) item x → IsBodyError words schema bytes items x
     body_fails OutOfMemory g = tt
     body_fails (Fault f) g =
-        h.fault f (subst (λ (l : List ItemTree). IsFirstItemFault words schema bytes n l f) (sym here) (inl (subst (λ (k : ℕ). IsItemError words schema bytes k item (Fault f)) h.count g)))
+        h.fault f (subst (λ (l : List ItemTree). IsFirstItemFault words schema bytes n l f) (sym here)
+        (inl (subst (λ (k : ℕ). IsItemError words schema bytes k item (Fault f)) h.count g)))
 
-  pub body_done : (before : List Name) (items : List ItemTree) (n : ℕ) (body : List (Fact Term)) (names : List Name) → BodySoFar before items n body names → length items ≤ n
+  pub body_done : (before : List Name) (items : List ItemTree) (n : ℕ) (body : List (Fact Term)) (names : List Name) → BodySoFar before items n body names
+      → length items ≤ n
       → AreItems words schema bytes before items body names × AreFitting words schema bytes 0 items
-  body_done before items n body names h le =
-      (subst (λ (l : List ItemTree). AreItems words schema bytes before l body names) (take_all n items le) h.read, h.fits (subst (AreFitting words schema bytes n) (sym (drop_all n items le)) tt))
+  body_done before items n body names h le = (
+    subst (λ (l : List ItemTree). AreItems words schema bytes before l body names) (take_all n items le) h.read,
+    h.fits
+        (subst (AreFitting words schema bytes n) (sym (drop_all n items le)) tt),
+  )

@@ -83,21 +83,25 @@ module _ (words : List Word) (apart : AllPairs ◌≢◌ (map (λ word. word.nam
 
   fit_no_misfit : (name : List ℕ) (columns atoms : ℕ) (k : TextKind) → IsFit words schema name columns atoms → ¬ IsMisfit words schema name columns atoms k
   fit_no_misfit name columns atoms Unknown (r, table, n, lt) h = h r table
-  fit_no_misfit name columns atoms Arity (r, table, n, lt) (s, table', no_fit) = no_fit (ap (slice_get schema) (table_one words apart name s r table' table) ∙ n)
+  fit_no_misfit name columns atoms Arity (r, table, n, lt) (s, table', no_fit) =
+      no_fit (ap (slice_get schema) (table_one words apart name s r table' table) ∙ n)
   fit_no_misfit name columns atoms TooLarge (r, table, n, lt) (s, table', m, le) = omega arith
   fit_no_misfit name columns atoms _ h g = absurd g
 
-  misfit_one : (name : List ℕ) (columns atoms : ℕ) (k l : TextKind) → IsMisfit words schema name columns atoms k → IsMisfit words schema name columns atoms l → k ≡ l
+  misfit_one : (name : List ℕ) (columns atoms : ℕ) (k l : TextKind) → IsMisfit words schema name columns atoms k → IsMisfit words schema name columns atoms l
+      → k ≡ l
   misfit_one name columns atoms Unknown Unknown h g = refl
   misfit_one name columns atoms Unknown Arity h (s, table, n) = absurd (h s table)
   misfit_one name columns atoms Unknown TooLarge h (s, table, n, le) = absurd (h s table)
   misfit_one name columns atoms Unknown _ h g = absurd g
   misfit_one name columns atoms Arity Unknown (r, table, n) g = absurd (g r table)
   misfit_one name columns atoms Arity Arity h g = refl
-  misfit_one name columns atoms Arity TooLarge (r, table, n) (s, table', m, le) = absurd (n (ap (slice_get schema) (table_one words apart name r s table table') ∙ m))
+  misfit_one name columns atoms Arity TooLarge (r, table, n) (s, table', m, le) =
+      absurd (n (ap (slice_get schema) (table_one words apart name r s table table') ∙ m))
   misfit_one name columns atoms Arity _ h g = absurd g
   misfit_one name columns atoms TooLarge Unknown (r, table, n, le) g = absurd (g r table)
-  misfit_one name columns atoms TooLarge Arity (r, table, n, le) (s, table', m) = absurd (m (ap (slice_get schema) (table_one words apart name s r table' table) ∙ n))
+  misfit_one name columns atoms TooLarge Arity (r, table, n, le) (s, table', m) =
+      absurd (m (ap (slice_get schema) (table_one words apart name s r table' table) ∙ n))
   misfit_one name columns atoms TooLarge TooLarge h g = refl
   misfit_one name columns atoms TooLarge _ h g = absurd g
   misfit_one name columns atoms _ l h g = absurd h
@@ -107,17 +111,20 @@ module _ (words : List Word) (apart : AllPairs ◌≢◌ (map (λ word. word.nam
   fitting_no_fault atoms (Part name part ts) f h g = h
   fitting_no_fault atoms (Pattern name es) f h g = h
 
-  item_fault_one : (atoms : ℕ) (item : ItemTree) (f g : TextFault) → IsItemFault words schema bytes atoms item f → IsItemFault words schema bytes atoms item g → f ≡ g
+  item_fault_one : (atoms : ℕ) (item : ItemTree) (f g : TextFault) → IsItemFault words schema bytes atoms item f → IsItemFault words schema bytes atoms item g
+      → f ≡ g
   item_fault_one atoms (Atom name ts) f g (o, m) (o', m') = fault_same f g (o ∙ sym o') (misfit_one (text_of bytes name) (length ts) atoms f.kind g.kind m m')
   item_fault_one atoms (Part name part ts) f g (o, k) (o', k') = fault_same f g (o ∙ sym o') (k ∙ sym k')
   item_fault_one atoms (Pattern name es) f g (o, k) (o', k') = fault_same f g (o ∙ sym o') (k ∙ sym k')
 
-  pub fitting_or_fault : (atoms : ℕ) (items : List ItemTree) (f : TextFault) → AreFitting words schema bytes atoms items → ¬ IsFirstItemFault words schema bytes atoms items f
+  pub fitting_or_fault : (atoms : ℕ) (items : List ItemTree) (f : TextFault) → AreFitting words schema bytes atoms items
+      → ¬ IsFirstItemFault words schema bytes atoms items f
   fitting_or_fault atoms [] f h g = g
   fitting_or_fault atoms (item ∷ items) f h (inl g) = fitting_no_fault atoms item f h.0 g
   fitting_or_fault atoms (item ∷ items) f h (inr g) = fitting_or_fault (suc atoms) items f h.1 g.1
 
-  pub items_fault_one : (atoms : ℕ) (items : List ItemTree) (f g : TextFault) → IsFirstItemFault words schema bytes atoms items f → IsFirstItemFault words schema bytes atoms items g → f ≡ g
+  pub items_fault_one : (atoms : ℕ) (items : List ItemTree) (f g : TextFault) → IsFirstItemFault words schema bytes atoms items f
+      → IsFirstItemFault words schema bytes atoms items g → f ≡ g
   items_fault_one atoms [] f g h k = absurd h
   items_fault_one atoms (item ∷ items) f g (inl h) (inl k) = item_fault_one atoms item f g h k
   items_fault_one atoms (item ∷ items) f g (inl h) (inr k) = absurd (fitting_no_fault atoms item f k.0 h)
@@ -126,19 +133,23 @@ module _ (words : List Word) (apart : AllPairs ◌≢◌ (map (λ word. word.nam
 
   -- ---- trees
 
-  read_one : (tree : QueryTree) (head head' : List Term) (body body' : List (Fact Term)) (names names' : List Name) → IsRead words schema bytes tree head body names → IsRead words schema bytes tree head' body' names'
+  read_one : (tree : QueryTree) (head head' : List Term) (body body' : List (Fact Term)) (names names' : List Name)
+      → IsRead words schema bytes tree head body names → IsRead words schema bytes tree head' body' names'
       → (head ≡ head') × (body ≡ body') × (names ≡ names')
   read_one tree head head' body body' names names' h g =
       let first = terms_one bytes [] tree.variables head head' h.between g.between apart_none h.head_terms g.head_terms in
-      let later = items_one words apart schema bytes h.between tree.items body body' names names' first.2 h.body_atoms (subst (λ (l : List Name). AreItems words schema bytes l tree.items body' names') (sym first.1) g.body_atoms) in
+      let later = items_one words apart schema bytes h.between tree.items body body' names names' first.2 h.body_atoms
+      (subst (λ (l : List Name). AreItems words schema bytes l tree.items body' names') (sym first.1) g.body_atoms) in
       (first.0, later.0, later.1)
 
   module _ (form : Form) (tree : QueryTree) where
-    head_moves : (head head' : List Term) (body body' : List (Fact Term)) (names names' : List Name) (f : TextFault) → IsRead words schema bytes tree head body names → IsRead words schema bytes tree head' body' names'
+    head_moves : (head head' : List Term) (body body' : List (Fact Term)) (names names' : List Name) (f : TextFault)
+        → IsRead words schema bytes tree head body names → IsRead words schema bytes tree head' body' names'
         → IsHeadFault form bytes tree.variables head' body' f → IsHeadFault form bytes tree.variables head body f
     head_moves head head' body body' names names' f h g k =
         let s = read_one tree head head' body body' names names' h g in
-        subst (λ (l : List Term). IsHeadFault form bytes tree.variables l body f) (sym s.0) (subst (λ (l : List (Fact Term)). IsHeadFault form bytes tree.variables head' l f) (sym s.1) k)
+        subst (λ (l : List Term). IsHeadFault form bytes tree.variables l body f) (sym s.0)
+        (subst (λ (l : List (Fact Term)). IsHeadFault form bytes tree.variables head' l f) (sym s.1) k)
 
     tree_fault_one : (f g : TextFault) → IsTreeFault form words schema bytes tree f → IsTreeFault form words schema bytes tree g → f ≡ g
     tree_fault_one f g (inl h) (inl k) = items_fault_one 0 tree.items f g h k
@@ -147,30 +158,37 @@ module _ (words : List Word) (apart : AllPairs ◌≢◌ (map (λ word. word.nam
     tree_fault_one f g (inr (head, body, names, r, h)) (inr (head', body', names', r', k)) =
         head_fault_one form bytes tree.variables head body f g h (head_moves head head' body body' names names' g r r' k)
 
-    read_or_fault : (head : List Term) (body : List (Fact Term)) (names : List Name) (f : TextFault) → IsRead words schema bytes tree head body names → IsHeadFit form bytes tree.variables head body → ¬ IsTreeFault form words schema bytes tree f
+    read_or_fault : (head : List Term) (body : List (Fact Term)) (names : List Name) (f : TextFault) → IsRead words schema bytes tree head body names
+        → IsHeadFit form bytes tree.variables head body → ¬ IsTreeFault form words schema bytes tree f
     read_or_fault head body names f r fit (inl h) = fitting_or_fault 0 tree.items f r.fits h
-    read_or_fault head body names f r fit (inr (head', body', names', r', h)) = fit_or_fault form bytes tree.variables head body f fit (head_moves head head' body body' names names' f r r' h)
+    read_or_fault head body names f r fit (inr (head', body', names', r', h)) =
+        fit_or_fault form bytes tree.variables head body f fit (head_moves head head' body body' names names' f r r' h)
 
 -- ---- texts
 
 module _ (trees : text.HaveOneTree text.IsQueryText) where
-  pub one_reading : (form : Form) (words : List Word) → AllPairs ◌≢◌ (map (λ word. word.name) words) → (schema bytes : List ℕ) (query other : NamedQuery) → IsReading form words schema bytes query → IsReading form words schema bytes other
+  pub one_reading : (form : Form) (words : List Word) → AllPairs ◌≢◌ (map (λ word. word.name) words) → (schema bytes : List ℕ) (query other : NamedQuery)
+      → IsReading form words schema bytes query → IsReading form words schema bytes other
       → AreSame query other
   one_reading form words apart schema bytes query other (tree, h) (tree', g) =
       let same : tree' ≡ tree = trees bytes tree' g.text tree h.text in
       let r = subst (λ (t : QueryTree). IsRead words schema bytes t other.query.head other.query.body other.query.names) same g.read in
-      let s = read_one words apart schema bytes tree query.query.head other.query.head query.query.body other.query.body query.query.names other.query.names h.read r in
+      let s = read_one words apart schema bytes tree query.query.head other.query.head query.query.body other.query.body query.query.names other.query.names
+      h.read r in
       (h.name ∙ ap (λ (t : QueryTree). text_of bytes t.name) (sym same) ∙ sym g.name, s.0, s.1, s.2)
 
   module _ (clean : text.HaveNoFault text.IsQueryText text.IsGrammarFault) where
-    pub no_fault : (form : Form) (words : List Word) → AllPairs ◌≢◌ (map (λ word. word.name) words) → (schema bytes : List ℕ) (query : NamedQuery) (fault : TextFault) → IsReading form words schema bytes query
+    pub no_fault : (form : Form) (words : List Word) → AllPairs ◌≢◌ (map (λ word. word.name) words)
+        → (schema bytes : List ℕ) (query : NamedQuery) (fault : TextFault) → IsReading form words schema bytes query
         → ¬ IsFirstFault form words schema bytes fault
     no_fault form words apart schema bytes query fault (tree, h) (inl g) = clean bytes tree fault h.text g
     no_fault form words apart schema bytes query fault (tree, h) (inr (tree', text', g)) =
         let same : tree' ≡ tree = trees bytes tree' text' tree h.text in
-        read_or_fault words apart schema bytes form tree query.query.head query.query.body query.query.names fault h.read h.fit (subst (λ (t : QueryTree). IsTreeFault form words schema bytes t fault) same g)
+        read_or_fault words apart schema bytes form tree query.query.head query.query.body query.query.names fault h.read h.fit
+        (subst (λ (t : QueryTree). IsTreeFault form words schema bytes t fault) same g)
 
-    pub one_fault : (grammar : text.HaveOneFault text.IsGrammarFault) (form : Form) (words : List Word) → AllPairs ◌≢◌ (map (λ word. word.name) words) → (schema bytes : List ℕ) (fault other : TextFault) → IsFirstFault form words schema bytes fault
+    pub one_fault : (grammar : text.HaveOneFault text.IsGrammarFault) (form : Form) (words : List Word) → AllPairs ◌≢◌ (map (λ word. word.name) words)
+        → (schema bytes : List ℕ) (fault other : TextFault) → IsFirstFault form words schema bytes fault
         → IsFirstFault form words schema bytes other → fault ≡ other
     one_fault grammar form words apart schema bytes fault other (inl h) (inl g) = grammar bytes fault other h g
     one_fault grammar form words apart schema bytes fault other (inl h) (inr (tree, t, g)) = absurd (clean bytes tree fault t h)

@@ -12,7 +12,8 @@ module _ (bytes : List ℕ) (variables : List Token) where
   NoneBefore place = (before : ℕ) (other : Token) → before < place → ¬ IsRepeat bytes variables before other
 
   module _ (place : ℕ) (d : Token) (lt : place < length variables) (none : NoneBefore place) where
-    pub repeat_found : HasText bytes (take place variables) (text_of bytes (get_or variables place d)) → IsFirstRepeat bytes variables (get_or variables place d).start
+    pub repeat_found : HasText bytes (take place variables) (text_of bytes (get_or variables place d))
+        → IsFirstRepeat bytes variables (get_or variables place d).start
     repeat_found h = (place, get_or variables place d, (slice_get-get_or variables place d lt, h), refl, none)
 
     pub none_more : ¬ HasText bytes (take place variables) (text_of bytes (get_or variables place d)) → NoneBefore (place + 1)
@@ -24,7 +25,8 @@ module _ (bytes : List ℕ) (variables : List Token) where
               let here : slice_get variables place ≡ Some other = subst (λ (k : ℕ). slice_get variables k ≡ Some other) at repeat.0 in
               let found : Some (get_or variables place d) ≡ Some other = sym (slice_get-get_or variables place d lt) ∙ here in
               let same : get_or variables place d ≡ other = cc in
-              n (subst (λ (t : Token). HasText bytes (take place variables) (text_of bytes t)) (sym same) (subst (λ (k : ℕ). HasText bytes (take k variables) (text_of bytes other)) at repeat.1))
+              n (subst (λ (t : Token). HasText bytes (take place variables) (text_of bytes t)) (sym same)
+              (subst (λ (k : ℕ). HasText bytes (take k variables) (text_of bytes other)) at repeat.1))
         ]
 
   pub none_at_all : (place : ℕ) → length variables ≤ place → NoneBefore place → AreDifferent bytes variables

@@ -28,7 +28,8 @@ use Rattle.esto_read.proofs.ReadLemmas.{const_no_plain}
 
 -- ---- what the makers ask for
 
-pub relations_within : (schema : List Relation) (atoms : List (Fact Term)) → AreOver (arities_of schema) atoms → All (λ (atom : Fact Term). atom.relation < length schema) atoms
+pub relations_within : (schema : List Relation) (atoms : List (Fact Term)) → AreOver (arities_of schema) atoms
+    → All (λ (atom : Fact Term). atom.relation < length schema) atoms
 relations_within schema atoms over k d lt =
     let inside : Contains atoms (get_or atoms k d) = (k, lt, get_or_default atoms k (get_or atoms k d) d lt) in
     let within = slice_get_within (arities_of schema) (get_or atoms k d).relation (length (get_or atoms k d).terms) (over (get_or atoms k d) inside) in
@@ -49,7 +50,8 @@ no_unsafe head body variable safe first = elim (safe (Plain variable) (Contains-
   | inr mentioned ↦ first.missing mentioned
 ]
 
-pub query_is_made : (schema : List ℕ) (head : List Term) (body : List (Fact Term)) (names : List Name) (fault : QueryFault) → IsSafe head body → AreOver schema body
+pub query_is_made : (schema : List ℕ) (head : List Term) (body : List (Fact Term)) (names : List Name) (fault : QueryFault) → IsSafe head body
+    → AreOver schema body
     → length body ≤ MAX_ATOMS → MakesQuery schema head body names (Err fault) → ⊥
 query_is_made schema head body names (Arity place) safe over size made = no_misfit schema body place over made
 query_is_made schema head body names (TooLarge atoms) safe over size made = omega (arith, made.1, made.2)
@@ -69,7 +71,8 @@ tuple_is_made schema body head names (TooLarge atoms) over head_over size head_s
 tuple_is_made schema body head names (Unsafe variable) over head_over size head_size made = made
 tuple_is_made schema body head names OutOfMemory over head_over size head_size made = omega (arith, made)
 
-pub equality_is_made : (schema : List ℕ) (body : List (Fact Term)) (left right : Term) (names : List Name) (fault : QueryFault) → IsFixedBy body left → IsFixedBy body right
+pub equality_is_made : (schema : List ℕ) (body : List (Fact Term)) (left right : Term) (names : List Name) (fault : QueryFault) → IsFixedBy body left
+    → IsFixedBy body right
     → AreOver schema body → length body ≤ MAX_ATOMS → MakesEquality schema body left right names (Err fault) → ⊥
 equality_is_made schema body left right names (Arity place) one other over size made = no_misfit schema body place over made
 equality_is_made schema body left right names (TooLarge atoms) one other over size made = omega (arith, made.1, made.2)
@@ -92,7 +95,8 @@ denial_is_made schema body names OutOfMemory over size made = made
 
 -- ---- what holds of the parts holds of the query
 
-pub query_along : (schema : List ℕ) (head : List Term) (body : List (Fact Term)) (names : List Name) (query : Query) (P : List Term → List (Fact Term) → List Name → Type 0)
+pub query_along : (schema : List ℕ) (head : List Term) (body : List (Fact Term)) (names : List Name) (query : Query) (P : List Term → List (Fact Term)
+    → List Name → Type 0)
     → MakesQuery schema head body names (Ok query) → P head body names → P query.head query.body query.names
 query_along schema head body names query P made p =
     subst (λ (l : List Name). P query.head query.body l) (sym made.5)

@@ -41,22 +41,26 @@ said_one (x ∷ s) (y ∷ t) e =
     elim (written_cases x) [
       | inl w ↦ elim (written_cases y) [
         | inl v ↦
-            let f : 39 ∷ 39 ∷ flat_map written s ≡ 39 ∷ 39 ∷ flat_map written t = sym (ap (λ (l : List ℕ). l ++ flat_map written s) w.2) ∙ e ∙ ap (λ (l : List ℕ). l ++ flat_map written t) v.2 in
+            let f : 39 ∷ 39 ∷ flat_map written s ≡ 39 ∷ 39 ∷ flat_map written t = sym (ap (λ (l : List ℕ). l ++ flat_map written s) w.2) ∙ e
+            ∙ ap (λ (l : List ℕ). l ++ flat_map written t) v.2 in
             let g : flat_map written s ≡ flat_map written t = cc in
             let r = said_one s t g in
             let h : x ≡ y = w.0 ∙ sym v.0 in cc
         | inr v ↦
-            let f : 39 ∷ 39 ∷ flat_map written s ≡ y ∷ flat_map written t = sym (ap (λ (l : List ℕ). l ++ flat_map written s) w.2) ∙ e ∙ ap (λ (l : List ℕ). l ++ flat_map written t) v.1 in
+            let f : 39 ∷ 39 ∷ flat_map written s ≡ y ∷ flat_map written t = sym (ap (λ (l : List ℕ). l ++ flat_map written s) w.2) ∙ e
+            ∙ ap (λ (l : List ℕ). l ++ flat_map written t) v.1 in
             let g : 39 ≡ y = cc in
             let r : true ≡ false = ap (λ (n : ℕ). eqb n 39) g ∙ v.0 in absurd cc
       ]
       | inr w ↦ elim (written_cases y) [
         | inl v ↦
-            let f : x ∷ flat_map written s ≡ 39 ∷ 39 ∷ flat_map written t = sym (ap (λ (l : List ℕ). l ++ flat_map written s) w.1) ∙ e ∙ ap (λ (l : List ℕ). l ++ flat_map written t) v.2 in
+            let f : x ∷ flat_map written s ≡ 39 ∷ 39 ∷ flat_map written t = sym (ap (λ (l : List ℕ). l ++ flat_map written s) w.1) ∙ e
+            ∙ ap (λ (l : List ℕ). l ++ flat_map written t) v.2 in
             let g : x ≡ 39 = cc in
             let r : false ≡ true = sym w.0 ∙ ap (λ (n : ℕ). eqb n 39) g in absurd cc
         | inr v ↦
-            let f : x ∷ flat_map written s ≡ y ∷ flat_map written t = sym (ap (λ (l : List ℕ). l ++ flat_map written s) w.1) ∙ e ∙ ap (λ (l : List ℕ). l ++ flat_map written t) v.1 in
+            let f : x ∷ flat_map written s ≡ y ∷ flat_map written t = sym (ap (λ (l : List ℕ). l ++ flat_map written s) w.1) ∙ e
+            ∙ ap (λ (l : List ℕ). l ++ flat_map written t) v.1 in
             let g : flat_map written s ≡ flat_map written t = cc in
             let h : x ≡ y = cc in
             let r = said_one s t g in cc
@@ -75,11 +79,13 @@ content_one text s t e f =
 abbrev Apart : List Name → Type 0
 Apart names = (i j : ℕ) (name : List ℕ) → slice_get names i ≡ Some (Given name) → slice_get names j ≡ Some (Given name) → i ≡ j
 
-last_cases : (names : List Name) (new name : Name) (i : ℕ) → slice_get (names ++ new ∷ []) i ≡ Some name → (slice_get names i ≡ Some name) ⊎ ((i ≡ length names) × (new ≡ name))
+last_cases : (names : List Name) (new name : Name) (i : ℕ) → slice_get (names ++ new ∷ []) i ≡ Some name → (slice_get names i ≡ Some name)
+    ⊎ ((i ≡ length names) × (new ≡ name))
 last_cases names new name i e =
     let n = length-append names (new ∷ []) in
     elim (cases_lt i (length names)) [
-      | inl lt ↦ inl (slice_get-get_or names i name lt ∙ ap (λ (x : Name). Some x) (sym (get_or_append_left names (new ∷ []) name i lt) ∙ get_or_from_slice_get (names ++ new ∷ []) i name name e))
+      | inl lt ↦ inl (slice_get-get_or names i name lt ∙ ap (λ (x : Name). Some x) (sym (get_or_append_left names (new ∷ []) name i lt)
+          ∙ get_or_from_slice_get (names ++ new ∷ []) i name name e))
       | inr le ↦
           let at : i ≡ length names = omega (arith, n, slice_get_within (names ++ new ∷ []) i name e) in
           inr (at, sym (get_or_at names new [] name i (sym at)) ∙ get_or_from_slice_get (names ++ new ∷ []) i name name e)
@@ -116,22 +122,27 @@ apart_same before after e h = subst Apart (sym e) h
 abbrev Same : List Name → List Name → Term → Term → Type 0
 Same after after' x x' = (x ≡ x') × (after ≡ after') × Apart after
 
-variable_one : (name : List ℕ) (before after after' : List Name) (x x' : Term) → Apart before → IsVariableOf name before x after → IsVariableOf name before x' after' → Same after after' x x'
+variable_one : (name : List ℕ) (before after after' : List Name) (x x' : Term) → Apart before → IsVariableOf name before x after
+    → IsVariableOf name before x' after' → Same after after' x x'
 variable_one name before after after' x x' h (inl (n, at, e, p)) (inl (m, at', e', p')) =
     (e ∙ ap Plain (h n m name at at') ∙ sym e', p ∙ sym p', apart_same before after p h)
 variable_one name before after after' x x' h (inl (n, at, e, p)) (inr (none, e', p')) = absurd (none (contained before n (Given name) at))
 variable_one name before after after' x x' h (inr (none, e, p)) (inl (m, at', e', p')) = absurd (none (contained before m (Given name) at'))
-variable_one name before after after' x x' h (inr (none, e, p)) (inr (none', e', p')) = (e ∙ sym e', p ∙ sym p', subst Apart (sym p) (apart_given before name none h))
+variable_one name before after after' x x' h (inr (none, e, p)) (inr (none', e', p')) =
+    (e ∙ sym e', p ∙ sym p', subst Apart (sym p) (apart_given before name none h))
 
-term_one : (k : TokenKind) (text : List ℕ) (before after after' : List Name) (x x' : Term) → Apart before → IsTermOf k text before x after → IsTermOf k text before x' after' → Same after after' x x'
+term_one : (k : TokenKind) (text : List ℕ) (before after after' : List Name) (x x' : Term) → Apart before → IsTermOf k text before x after
+    → IsTermOf k text before x' after' → Same after after' x x'
 term_one kind.Name text before after after' x x' h g g' = variable_one text before after after' x x' h g g'
 term_one kind.Wildcard text before after after' x x' h (e, p) (e', p') = (e ∙ sym e', p ∙ sym p', subst Apart (sym p) (apart_hidden before h))
-term_one kind.Quoted text before after after' x x' h (s, w, e, p) (t, w', e', p') = (e ∙ ap Const (content_one text s t w w') ∙ sym e', p ∙ sym p', apart_same before after p h)
+term_one kind.Quoted text before after after' x x' h (s, w, e, p) (t, w', e', p') =
+    (e ∙ ap Const (content_one text s t w w') ∙ sym e', p ∙ sym p', apart_same before after p h)
 term_one kind.Number text before after after' x x' h (e, p) (e', p') = (e ∙ sym e', p ∙ sym p', apart_same before after p h)
 term_one _ text before after after' x x' h g g' = absurd g
 
 module _ (bytes : List ℕ) where
-  pub terms_one : (before : List Name) (ts : List Token) (xs xs' : List Term) (after after' : List Name) → Apart before → AreTerms bytes before ts xs after → AreTerms bytes before ts xs' after'
+  pub terms_one : (before : List Name) (ts : List Token) (xs xs' : List Term) (after after' : List Name) → Apart before → AreTerms bytes before ts xs after
+      → AreTerms bytes before ts xs' after'
       → (xs ≡ xs') × (after ≡ after') × Apart after
   terms_one before [] [] [] after after' h g g' = (refl, g ∙ sym g', apart_same before after g h)
   terms_one before [] [] (y ∷ ys) after after' h g g' = absurd g'
@@ -146,7 +157,8 @@ module _ (bytes : List ℕ) where
 -- ---- items
 
 -- a name is one table's
-pub table_one : (words : List Word) → AllPairs ◌≢◌ (map (λ word. word.name) words) → (name : List ℕ) (r s : ℕ) → IsTableAt words name r → IsTableAt words name s → r ≡ s
+pub table_one : (words : List Word) → AllPairs ◌≢◌ (map (λ word. word.name) words) → (name : List ℕ) (r s : ℕ) → IsTableAt words name r → IsTableAt words name s
+    → r ≡ s
 table_one words apart name r s (w, (i, lt, at), n, m, b) (v, (j, lt', at'), n', m', b') =
     elim (cases_lt i j) [
       | inl less ↦ absurd (differ i j w v less lt' at at' (n ∙ sym n'))
@@ -171,10 +183,12 @@ table_one words apart name r s (w, (i, lt, at), n, m, b) (v, (j, lt', at'), n', 
         let one : slice_get words j ≡ Some v = slice_get-get_or words j v lt ∙ ap (λ (x : Word). Some x) at' in
         let here : get_or words j w ≡ v = get_or_from_slice_get words j v w one in
         apart i j w.name less (omega (arith, length_names words, lt))
-        (get_or-map (λ word. word.name) words i w ∙ ap (λ (x : Word). x.name) at ∙ e ∙ sym (get_or-map (λ word. word.name) words j w ∙ ap (λ (x : Word). x.name) here))
+        (get_or-map (λ word. word.name) words i w ∙ ap (λ (x : Word). x.name) at ∙ e
+        ∙ sym (get_or-map (λ word. word.name) words j w ∙ ap (λ (x : Word). x.name) here))
 
 module _ (words : List Word) (apart : AllPairs ◌≢◌ (map (λ word. word.name) words)) (schema bytes : List ℕ) where
-  item_one : (item : ItemTree) (before after after' : List Name) (own own' : List (Fact Term)) → Apart before → IsItemOf words schema bytes before item own after → IsItemOf words schema bytes before item own' after'
+  item_one : (item : ItemTree) (before after after' : List Name) (own own' : List (Fact Term)) → Apart before
+      → IsItemOf words schema bytes before item own after → IsItemOf words schema bytes before item own' after'
       → (own ≡ own') × (after ≡ after') × Apart after
   item_one (Atom name ts) before after after' own own' h (r, row, table, columns, g, e) (r', row', table', columns', g', e') =
       let s = terms_one bytes before ts row row' after after' h g g' in
@@ -186,12 +200,14 @@ module _ (words : List Word) (apart : AllPairs ◌≢◌ (map (λ word. word.nam
   item_one (Part name part ts) before after after' own own' h g g' = absurd g
   item_one (Pattern name es) before after after' own own' h g g' = absurd g
 
-  pub items_one : (before : List Name) (items : List ItemTree) (atoms atoms' : List (Fact Term)) (after after' : List Name) → Apart before → AreItems words schema bytes before items atoms after
+  pub items_one : (before : List Name) (items : List ItemTree) (atoms atoms' : List (Fact Term)) (after after' : List Name) → Apart before
+      → AreItems words schema bytes before items atoms after
       → AreItems words schema bytes before items atoms' after' → (atoms ≡ atoms') × (after ≡ after') × Apart after
   items_one before [] atoms atoms' after after' h (e, p) (e', p') = (e ∙ sym e', p ∙ sym p', apart_same before after p h)
   items_one before (item ∷ items) atoms atoms' after after' h (own, rest, between, e, g, more) (own', rest', between', e', g', more') =
       let first = item_one item before between between' own own' h g g' in
-      let later = items_one between items rest rest' after after' first.2 more (subst (λ (l : List Name). AreItems words schema bytes l items rest' after') (sym first.1) more') in
+      let later = items_one between items rest rest' after after' first.2 more
+      (subst (λ (l : List Name). AreItems words schema bytes l items rest' after') (sym first.1) more') in
       (e ∙ ap (λ (l : List (Fact Term)). l ++ rest) first.0 ∙ ap (λ (l : List (Fact Term)). own' ++ l) later.0 ∙ sym e', later.1, later.2)
 
 pub apart_none : Apart []

@@ -34,25 +34,38 @@ module _ (inside : List ℕ) (n : ℕ) (content : List ℕ) where
       let cut : get_or inside n 0 ∷ drop (n + 1) inside ≡ 39 ∷ flat_map written h.rest = rw (add-one n) (sym (drop-cons inside n 0 lt) ∙ left) in
       record { rest = h.rest; whole = h.whole; left = cc }
 
-  pub said_more : (b : Bool) → b ≡ false → n < length inside → SaidSoFar inside n content b → SaidSoFar inside (n + 1) (content ++ get_or inside n 0 ∷ []) (eqb (get_or inside n 0) 39)
+  pub said_more : (b : Bool) → b ≡ false → n < length inside → SaidSoFar inside n content b
+      → SaidSoFar inside (n + 1) (content ++ get_or inside n 0 ∷ []) (eqb (get_or inside n 0) 39)
   said_more b off lt h = go h.rest h.whole (subst (λ (x : Bool). Left x (drop n inside) h.rest) off h.left)
     where
-      go : (rest : List ℕ) → inside ≡ flat_map written (content ++ rest) → drop n inside ≡ flat_map written rest → SaidSoFar inside (n + 1) (content ++ get_or inside n 0 ∷ []) (eqb (get_or inside n 0) 39)
+      go : (rest : List ℕ) → inside ≡ flat_map written (content ++ rest) → drop n inside ≡ flat_map written rest
+          → SaidSoFar inside (n + 1) (content ++ get_or inside n 0 ∷ []) (eqb (get_or inside n 0) 39)
       go [] whole left = let e : get_or inside n 0 ∷ drop (n + 1) inside ≡ [] = rw (add-one n) (sym (drop-cons inside n 0 lt) ∙ left) in absurd cc
       go (x ∷ xs) whole left =
           let cut : get_or inside n 0 ∷ drop (n + 1) inside ≡ written x ++ flat_map written xs = rw (add-one n) (sym (drop-cons inside n 0 lt) ∙ left) in
-          let same : (y : ℕ) → y ≡ x → inside ≡ flat_map written ((content ++ y ∷ []) ++ xs) = λ y e. whole ∙ ap (flat_map written) (ap (λ (z : ℕ). content ++ z ∷ xs) (sym e) ∙ sym (append_assoc content (y ∷ []) xs)) in
+          let same : (y : ℕ) → y ≡ x → inside ≡ flat_map written ((content ++ y ∷ []) ++ xs) = λ y e. whole
+          ∙ ap (flat_map written) (ap (λ (z : ℕ). content ++ z ∷ xs) (sym e) ∙ sym (append_assoc content (y ∷ []) xs)) in
           elim (written_cases x) [
             | inl w ↦
                 let two : get_or inside n 0 ∷ drop (n + 1) inside ≡ 39 ∷ 39 ∷ flat_map written xs = cut ∙ ap (λ (l : List ℕ). l ++ flat_map written xs) w.2 in
                 let first : get_or inside n 0 ≡ x = cc in
                 let second : drop (n + 1) inside ≡ 39 ∷ flat_map written xs = cc in
-                record { rest = xs; whole = same (get_or inside n 0) first; left = subst (λ (z : Bool). Left z (drop (n + 1) inside) xs) (sym (ap (λ (y : ℕ). eqb y 39) first ∙ w.1)) second }
+                record {
+                  rest = xs;
+                  whole = same (get_or inside n 0) first;
+                  left =
+                      subst (λ (z : Bool). Left z (drop (n + 1) inside) xs) (sym (ap (λ (y : ℕ). eqb y 39) first ∙ w.1)) second;
+                }
             | inr w ↦
                 let one : get_or inside n 0 ∷ drop (n + 1) inside ≡ x ∷ flat_map written xs = cut ∙ ap (λ (l : List ℕ). l ++ flat_map written xs) w.1 in
                 let first : get_or inside n 0 ≡ x = cc in
                 let second : drop (n + 1) inside ≡ flat_map written xs = cc in
-                record { rest = xs; whole = same (get_or inside n 0) first; left = subst (λ (z : Bool). Left z (drop (n + 1) inside) xs) (sym (ap (λ (y : ℕ). eqb y 39) first ∙ w.0)) second }
+                record {
+                  rest = xs;
+                  whole = same (get_or inside n 0) first;
+                  left =
+                      subst (λ (z : Bool). Left z (drop (n + 1) inside) xs) (sym (ap (λ (y : ℕ). eqb y 39) first ∙ w.0)) second;
+                }
           ]
 
   pub said_ends : (b : Bool) → length inside ≤ n → SaidSoFar inside n content b → inside ≡ flat_map written content

@@ -39,7 +39,8 @@ pub names_are_terms : (bytes : List ℕ) (ts : List Token) → AllByRecursion (I
 names_are_terms bytes [] h = tt
 names_are_terms bytes (t ∷ ts) h = ((h.0.0, ap is_term h.0.1), names_are_terms bytes ts h.1)
 
-pub terms_length : (bytes : List ℕ) (before : List Name) (ts : List Token) (xs : List Term) (after : List Name) → AreTerms bytes before ts xs after → length xs ≡ length ts
+pub terms_length : (bytes : List ℕ) (before : List Name) (ts : List Token) (xs : List Term) (after : List Name) → AreTerms bytes before ts xs after → length xs
+    ≡ length ts
 terms_length bytes before [] [] after h = refl
 terms_length bytes before [] (x ∷ xs) after h = absurd h
 terms_length bytes before (t ∷ ts) [] after h = absurd h
@@ -80,9 +81,13 @@ one_more before after name x e p =
 as_before : (before after : List Name) (s : List ℕ) (x : Term) → x ≡ Const s → IsUtf8 s → after ≡ before → Grows before after x
 as_before before after s x e u p = (omega (arith, ap length p), const_below s (length after) x e u)
 
-term_grows : (bytes : List ℕ) → IsUtf8 bytes → (t : Token) → StandsIn bytes t → (k : TokenKind) → t.kind ≡ k → (before after : List Name) (x : Term) → IsTermOf k (text_of bytes t) before x after → Grows before after x
-term_grows bytes u t h kind.Name q before after x (inl (number, here, e, p)) =
-    (omega (arith, ap length p), plain_below number (length after) x e (omega (arith, ap length p, slice_get_within before number (Given (text_of bytes t)) here)))
+term_grows : (bytes : List ℕ) → IsUtf8 bytes → (t : Token) → StandsIn bytes t → (k : TokenKind) → t.kind ≡ k → (before after : List Name) (x : Term)
+    → IsTermOf k (text_of bytes t) before x after → Grows before after x
+term_grows bytes u t h kind.Name q before after x (inl (number, here, e, p)) = (
+  omega (arith, ap length p),
+  plain_below number (length after) x e (omega
+      (arith, ap length p, slice_get_within before number (Given (text_of bytes t)) here)),
+)
 term_grows bytes u t h kind.Name q before after x (inr (new, e, p)) = one_more before after (Given (text_of bytes t)) x e p
 term_grows bytes u t h kind.Wildcard q before after x (e, p) = one_more before after Hidden x e p
 term_grows bytes u t h kind.Quoted q before after x (content, w, e, p) =
@@ -100,7 +105,8 @@ no_item : {X : Type 0} → (y : X) → ¬ Contains [] y
 no_item y (k, lt, e) = omega arith
 
 module _ (bytes : List ℕ) (u : IsUtf8 bytes) where
-  pub terms_grow : (before : List Name) (ts : List Token) (xs : List Term) (after : List Name) → AllByRecursion (IsTermIn bytes) ts → AreTerms bytes before ts xs after → AllGrow before after xs
+  pub terms_grow : (before : List Name) (ts : List Token) (xs : List Term) (after : List Name) → AllByRecursion (IsTermIn bytes) ts
+      → AreTerms bytes before ts xs after → AllGrow before after xs
   terms_grow before [] [] after all h = (omega (arith, ap length h), λ x k. absurd (no_item x k))
   terms_grow before [] (x ∷ xs) after all h = absurd h
   terms_grow before (t ∷ ts) [] after all h = absurd h
@@ -108,7 +114,11 @@ module _ (bytes : List ℕ) (u : IsUtf8 bytes) where
       let first = term_grows bytes u t all.0.0 t.kind refl before between x h in
       let rest = terms_grow between ts xs after all.1 more in (
         omega (arith, first.0, rest.0),
-        λ y k. elim (cons_cases x y xs k) [ inl e ↦ subst (Below (length after)) (sym e) (below_more (length between) (length after) x rest.0 first.1) | inr l ↦ rest.1 y l ],
+        λ y k. elim (cons_cases x y xs k) [
+          | inl e ↦ subst (Below (length after)) (sym e) (below_more (length between) (length after) x rest.0 first.1)
+          | inr l ↦
+              rest.1 y l
+        ],
       )
 
 -- ---- bodies
@@ -124,7 +134,8 @@ module _ (words : List Word) (schema bytes : List ℕ) (u : IsUtf8 bytes) where
   abbrev pub AllGood : List Name → List Name → List (Fact Term) → Type 0
   AllGood before after atoms = (length before ≤ length after) × ((atom : Fact Term) → Contains atoms atom → Good (length after) atom)
 
-  item_good : (item : ItemTree) (before after : List Name) (atoms : List (Fact Term)) → ItemIn item → IsItemOf words schema bytes before item atoms after → AllGood before after atoms × (atoms ≢ [])
+  item_good : (item : ItemTree) (before after : List Name) (atoms : List (Fact Term)) → ItemIn item → IsItemOf words schema bytes before item atoms after
+      → AllGood before after atoms × (atoms ≢ [])
   item_good (Atom name ts) before after atoms in_text (relation, row, table, columns, h, e) =
       let g = terms_grow bytes u before ts row after in_text.1 h in
       let fact : Fact Term = record { relation = relation; terms = row } in
@@ -140,8 +151,13 @@ module _ (words : List Word) (schema bytes : List ℕ) (u : IsUtf8 bytes) where
   item_good (Part name part ts) before after atoms in_text h = absurd h
   item_good (Pattern name es) before after atoms in_text h = absurd h
 
-  pub items_good : (before : List Name) (items : List ItemTree) (atoms : List (Fact Term)) (after : List Name) → AllByRecursion ItemIn items → AreItems words schema bytes before items atoms after → AllGood before after atoms
-  items_good before [] atoms after in_text (e, f) = (omega (arith, ap length f), λ atom k. absurd (no_item atom (subst (λ (l : List (Fact Term)). Contains l atom) e k)))
+  pub items_good : (before : List Name) (items : List ItemTree) (atoms : List (Fact Term)) (after : List Name) → AllByRecursion ItemIn items
+      → AreItems words schema bytes before items atoms after → AllGood before after atoms
+  items_good before [] atoms after in_text (e, f) = (
+    omega (arith, ap length f),
+    λ atom k. absurd
+        (no_item atom (subst (λ (l : List (Fact Term)). Contains l atom) e k)),
+  )
   items_good before (item ∷ items) atoms after in_text (own, rest, between, e, h, more) =
       let first = (item_good item before between own in_text.0 h).0 in
       let later = items_good between items rest after in_text.1 more in (
@@ -152,7 +168,8 @@ module _ (words : List Word) (schema bytes : List ℕ) (u : IsUtf8 bytes) where
         ],
       )
 
-  pub items_some : (before : List Name) (items : List ItemTree) (atoms : List (Fact Term)) (after : List Name) → AllByRecursion ItemIn items → AreItems words schema bytes before items atoms after → items ≢ [] → atoms ≢ []
+  pub items_some : (before : List Name) (items : List ItemTree) (atoms : List (Fact Term)) (after : List Name) → AllByRecursion ItemIn items
+      → AreItems words schema bytes before items atoms after → items ≢ [] → atoms ≢ []
   items_some before [] atoms after in_text h ne = absurd (ne refl)
   items_some before (item ∷ items) atoms after in_text (own, rest, between, e, h, more) ne = go own e (item_good item before between own in_text.0 h).1
     where
@@ -171,7 +188,8 @@ module _ (words : List Word) (schema bytes : List ℕ) (u : IsUtf8 bytes) where
   some_head before after (t ∷ ts) xs h ne none = let n = terms_length bytes before (t ∷ ts) xs after h in omega (arith, n, ap length none)
 
   -- a query of what was read
-  module _ (tree : QueryTree) (head : List Term) (body : List (Fact Term)) (names : List Name) (text : IsQueryText bytes tree) (stands : StandsAt bytes tree) (h : IsRead words schema bytes tree head body names) where
+  module _ (tree : QueryTree) (head : List Term) (body : List (Fact Term)) (names : List Name) (text : IsQueryText bytes tree) (stands : StandsAt bytes tree)
+      (h : IsRead words schema bytes tree head body names) where
     head_grows : AllGrow [] h.between head
     head_grows = terms_grow bytes u [] tree.variables head h.between (names_are_terms bytes tree.variables stands.1) h.head_terms
 
@@ -211,7 +229,8 @@ keeps_more before new n name e =
 
 new_is_last : (before : List Name) (new : Name) → slice_get (before ++ new ∷ []) (length before) ≡ Some new
 new_is_last before new =
-    slice_get-get_or (before ++ new ∷ []) (length before) new (omega (arith, length-append before (new ∷ []))) ∙ ap (λ (x : Name). Some x) (get_or_at before new [] new (length before) refl)
+    slice_get-get_or (before ++ new ∷ []) (length before) new (omega (arith, length-append before (new ∷ [])))
+    ∙ ap (λ (x : Name). Some x) (get_or_at before new [] new (length before) refl)
 
 -- the term is the variable of that name
 abbrev pub IsNumbered : List Name → List ℕ → Term → Type 0
@@ -226,10 +245,13 @@ variable_numbered name before after x (inr (new, e, p)) = (
 )
 
 module _ (bytes : List ℕ) where
-  name_numbered : (t : Token) (k : TokenKind) → t.kind ≡ k → k ≡ kind.Name → (before after : List Name) (x : Term) → IsTermOf k (text_of bytes t) before x after → Keeps before after × IsNumbered after (text_of bytes t) x
-  name_numbered t k q e before after x h = variable_numbered (text_of bytes t) before after x (subst (λ (k : TokenKind). IsTermOf k (text_of bytes t) before x after) e h)
+  name_numbered : (t : Token) (k : TokenKind) → t.kind ≡ k → k ≡ kind.Name → (before after : List Name) (x : Term) → IsTermOf k (text_of bytes t) before x after
+      → Keeps before after × IsNumbered after (text_of bytes t) x
+  name_numbered t k q e before after x h = variable_numbered (text_of bytes t) before after x
+      (subst (λ (k : TokenKind). IsTermOf k (text_of bytes t) before x after) e h)
 
-  pub head_numbered : (before : List Name) (ts : List Token) (xs : List Term) (after : List Name) → AllByRecursion (IsNameIn bytes) ts → AreTerms bytes before ts xs after
+  pub head_numbered : (before : List Name) (ts : List Token) (xs : List Term) (after : List Name) → AllByRecursion (IsNameIn bytes) ts
+      → AreTerms bytes before ts xs after
       → Keeps before after × AllZip (λ t x. IsNumbered after (text_of bytes t) x) ts xs
   head_numbered before [] [] after all h = (λ k v f. subst (λ (l : List Name). slice_get l k ≡ Some v) (sym h) f, tt)
   head_numbered before [] (x ∷ xs) after all h = absurd h
@@ -240,7 +262,8 @@ module _ (bytes : List ℕ) where
       (λ k v f. rest.0 k v (first.0 k v f), ((first.1.0, first.1.1, rest.0 first.1.0 (Given (text_of bytes t)) first.1.2), rest.1))
 
 -- what stands at one place of two lists
-zip_at : {A B : Type 0} → (R : A → B → Type 0) (xs : List A) (ys : List B) (i : ℕ) (d : A) (e : B) → AllZip R xs ys → i < length ys → R (get_or xs i d) (get_or ys i e)
+zip_at : {A B : Type 0} → (R : A → B → Type 0) (xs : List A) (ys : List B) (i : ℕ) (d : A) (e : B) → AllZip R xs ys → i < length ys
+    → R (get_or xs i d) (get_or ys i e)
 zip_at R [] [] i d e h lt = absurd (omega arith)
 zip_at R [] (y ∷ ys) i d e h lt = absurd h
 zip_at R (x ∷ xs) [] i d e h lt = absurd h
@@ -253,7 +276,8 @@ zip_each R [] (z ∷ ys) y h k = absurd h
 zip_each R (x ∷ xs) [] y h k = absurd h
 zip_each {A} R (x ∷ xs) (z ∷ ys) y h k = elim (cons_cases z y ys k) [ inl e ↦ (x, subst (R x) (sym e) h.0) | inr l ↦ zip_each R xs ys y h.1 l ]
 
-module _ (bytes : List ℕ) (variables : List Token) (head : List Term) (names : List Name) (all : AllByRecursion (IsNameIn bytes) variables) (h : AreTerms bytes [] variables head names) where
+module _ (bytes : List ℕ) (variables : List Token) (head : List Term) (names : List Name) (all : AllByRecursion (IsNameIn bytes) variables)
+    (h : AreTerms bytes [] variables head names) where
   numbered : AllZip (λ t x. IsNumbered names (text_of bytes t) x) variables head
   numbered = (head_numbered bytes [] variables head names all h).1
 
@@ -267,7 +291,8 @@ module _ (bytes : List ℕ) (variables : List Token) (head : List Term) (names :
       let a = zip_at (λ t x. IsNumbered names (text_of bytes t) x) variables head i t d numbered (omega arith) in
       let b = zip_at (λ t x. IsNumbered names (text_of bytes t) x) variables head j t d numbered le in
       let number : a.0 ≡ b.0 = plain_one a.0 b.0 (sym a.1 ∙ same ∙ b.1) in
-      let given : Some (Given (text_of bytes (get_or variables i t))) ≡ Some (Given (text_of bytes (get_or variables j t))) = sym a.2 ∙ ap (slice_get names) number ∙ b.2 in
+      let given : Some (Given (text_of bytes (get_or variables i t))) ≡ Some (Given (text_of bytes (get_or variables j t))) = sym a.2
+      ∙ ap (slice_get names) number ∙ b.2 in
       let text : text_of bytes (get_or variables i t) ≡ text_of bytes (get_or variables j t) = cc in
       let at : slice_get variables i ≡ Some (get_or variables i t) = slice_get-get_or variables i t (omega arith) in
       let earlier : Contains (take j variables) (get_or variables i t) = (
@@ -283,6 +308,7 @@ module _ (bytes : List ℕ) (variables : List Token) (head : List Term) (names :
 
 -- ---- errors
 
-pub body_error : (form : Form) (words : List Word) (schema bytes : List ℕ) (tree : QueryTree) (e : ReadError) → IsQueryText bytes tree → IsBodyError words schema bytes tree.items e → IsReadError form words schema bytes e
+pub body_error : (form : Form) (words : List Word) (schema bytes : List ℕ) (tree : QueryTree) (e : ReadError) → IsQueryText bytes tree
+    → IsBodyError words schema bytes tree.items e → IsReadError form words schema bytes e
 body_error form words schema bytes tree OutOfMemory text h = text.1.0
 body_error form words schema bytes tree (Fault f) text h = inr (tree, text, inl h)

@@ -40,7 +40,8 @@ use Rattle.esto_read.proofs.ReadLemmas.{below_more, Good, ItemIn, AllGood, items
 
 -- ---- the words
 
-pub bases : (schema : List Relation) (words : List Word) → IsVocabulary (arities_of schema) words → AreTables words → All (λ word. word.base < length schema) words
+pub bases : (schema : List Relation) (words : List Word) → IsVocabulary (arities_of schema) words → AreTables words
+    → All (λ word. word.base < length schema) words
 bases schema words vocabulary tables k d lt =
     let base = subst (λ (model : DataModel). HasRelations (arities_of schema) model (get_or words k d).base) (tables k d lt) (vocabulary.relations k d lt) in
     omega (arith, length-map schema (λ relation. relation.arity))
@@ -50,7 +51,8 @@ bases schema words vocabulary tables k d lt =
 pub name_is_term : (bytes : List ℕ) (t : Token) → IsNameIn bytes t → IsTermIn bytes t
 name_is_term bytes t h = (h.0, ap is_term h.1)
 
-pub sides_are : (bytes : List ℕ) (before between after : List Name) (left right : Token) (one other : Term) → IsTermOf left.kind (text_of bytes left) before one between
+pub sides_are : (bytes : List ℕ) (before between after : List Name) (left right : Token) (one other : Term)
+    → IsTermOf left.kind (text_of bytes left) before one between
     → IsTermOf right.kind (text_of bytes right) between other after → AreTerms bytes before (left ∷ right ∷ []) (one ∷ other ∷ []) after
 sides_are bytes before between after left right one other h g = (between, h, (after, g, refl))
 
@@ -103,7 +105,8 @@ module _ (version : Version) (words : List Word) (schema bytes : List ℕ) (tree
   u : IsUtf8 bytes
   u = text.1.0
 
-  module _ (items : List ItemTree) (is : tree.head ≡ Items items) (body head : List (Fact Term)) (names : List Name) (h : IsTupleRead words schema bytes tree.body items body head names) where
+  module _ (items : List ItemTree) (is : tree.head ≡ Items items) (body head : List (Fact Term)) (names : List Name)
+      (h : IsTupleRead words schema bytes tree.body items body head names) where
     head_stand : AllByRecursion (ItemIn words schema bytes u) items
     head_stand = head_stands bytes tree stands (Items items) is
 
@@ -111,7 +114,8 @@ module _ (version : Version) (words : List Word) (schema bytes : List ℕ) (tree
     in_head = items_good words schema bytes u h.between items head names head_stand h.head_atoms
 
     good_body : AreGood words schema bytes u (length names) body
-    good_body = good_more words schema bytes u (length h.between) (length names) body in_head.0 (items_good words schema bytes u [] tree.body body h.between stands.0 h.body_atoms).1
+    good_body = good_more words schema bytes u (length h.between) (length names) body in_head.0
+        (items_good words schema bytes u [] tree.body body h.between stands.0 h.body_atoms).1
 
     tuple_sound : IsSoundTuple body head names
     tuple_sound = record {
@@ -149,7 +153,8 @@ module _ (version : Version) (words : List Word) (schema bytes : List ℕ) (tree
         terms_grow bytes u h.between (left_token ∷ right_token ∷ []) (left ∷ right ∷ []) names (name_is_term bytes left_token stand.0, (stand.1, tt)) h.sides
 
     good_equality : AreGood words schema bytes u (length names) body
-    good_equality = good_more words schema bytes u (length h.between) (length names) body in_sides.0 (items_good words schema bytes u [] tree.body body h.between stands.0 h.body_atoms).1
+    good_equality = good_more words schema bytes u (length h.between) (length names) body in_sides.0
+        (items_good words schema bytes u [] tree.body body h.between stands.0 h.body_atoms).1
 
     equality_sound : IsFixedBy body left × IsFixedBy body right → IsSoundEquality body left right names
     equality_sound fixed = record {
@@ -203,9 +208,11 @@ module _ (version : Version) (words : List Word) (schema bytes : List ℕ) (tree
 -- ---- rules that are made
 
 module _ (schema : List ℕ) (names : List Name) where
-  pub tuple_made_over : (rule : Constraint) (body head : List (Fact Term)) → MakesTuple schema body head names (Ok rule) → IsRuleOver schema (tuple body head) → IsRuleOver schema (rule_of rule)
+  pub tuple_made_over : (rule : Constraint) (body head : List (Fact Term)) → MakesTuple schema body head names (Ok rule) → IsRuleOver schema (tuple body head)
+      → IsRuleOver schema (rule_of rule)
   tuple_made_over (Tuple rule) body head made over =
-      subst (λ (l : List (Fact Term)). IsRuleOver schema (tuple rule.body l)) (sym made.4) (subst (λ (l : List (Fact Term)). IsRuleOver schema (tuple l head)) (sym made.3) over)
+      subst (λ (l : List (Fact Term)). IsRuleOver schema (tuple rule.body l)) (sym made.4)
+      (subst (λ (l : List (Fact Term)). IsRuleOver schema (tuple l head)) (sym made.3) over)
   tuple_made_over (Equal rule) body head made over = absurd made
   tuple_made_over (Never rule) body head made over = absurd made
 
@@ -213,7 +220,8 @@ module _ (schema : List ℕ) (names : List Name) where
       → IsRuleOver schema (equality body left right) → IsRuleOver schema (rule_of rule)
   equality_made_over (Equal rule) body left right made over =
       subst (λ (x : Term). IsRuleOver schema (equality rule.body rule.left x)) (sym made.6)
-      (subst (λ (x : Term). IsRuleOver schema (equality rule.body x right)) (sym made.5) (subst (λ (l : List (Fact Term)). IsRuleOver schema (equality l left right)) (sym made.4) over))
+      (subst (λ (x : Term). IsRuleOver schema (equality rule.body x right)) (sym made.5)
+      (subst (λ (l : List (Fact Term)). IsRuleOver schema (equality l left right)) (sym made.4) over))
   equality_made_over (Tuple rule) body left right made over = absurd made
   equality_made_over (Never rule) body left right made over = absurd made
 
@@ -226,7 +234,8 @@ module _ (schema : List ℕ) (names : List Name) where
 -- ---- readings and errors
 
 module _ (version : Version) (words : List Word) (schema bytes : List ℕ) (tree : ConstraintTree) (text : IsConstraintText version bytes tree) where
-  pub tuple_reading : (head_items : List ItemTree) (rule : Constraint) (body head : List (Fact Term)) (names : List Name) → MakesTuple schema body head names (Ok rule)
+  pub tuple_reading : (head_items : List ItemTree) (rule : Constraint) (body head : List (Fact Term)) (names : List Name)
+      → MakesTuple schema body head names (Ok rule)
       → tree.head ≡ Items head_items → IsTupleRead words schema bytes tree.body head_items body head names → IsConstraintReading version words schema bytes rule
   tuple_reading head_items (Tuple rule) body head names made is h =
       let bodies = subst (λ (l : List (Fact Term)). IsTupleRead words schema bytes tree.body head_items l head names) (sym made.3) h in
@@ -236,13 +245,19 @@ module _ (version : Version) (words : List Word) (schema bytes : List ℕ) (tree
   tuple_reading head_items (Equal rule) body head names made is h = absurd made
   tuple_reading head_items (Never rule) body head names made is h = absurd made
 
-  pub equality_reading : (left right : Token) (rule : Constraint) (body : List (Fact Term)) (one other : Term) (names : List Name) → MakesEquality schema body one other names (Ok rule)
-      → tree.head ≡ Equality left right → IsEqualityRead words schema bytes tree.body left right body one other names → IsConstraintReading version words schema bytes rule
+  pub equality_reading : (left right : Token) (rule : Constraint) (body : List (Fact Term)) (one other : Term) (names : List Name)
+      → MakesEquality schema body one other names (Ok rule)
+      → tree.head ≡ Equality left right → IsEqualityRead words schema bytes tree.body left right body one other names
+      → IsConstraintReading version words schema bytes rule
   equality_reading left right (Equal rule) body one other names made is h =
-      let bodies = subst (λ (l : List (Fact Term)). IsEqualityRead words schema bytes tree.body left right l one other names × IsFixedBy l one × IsFixedBy l other) (sym made.4) (h, made.2, made.3) in
-      let lefts = subst (λ (x : Term). IsEqualityRead words schema bytes tree.body left right rule.body x other names × IsFixedBy rule.body x × IsFixedBy rule.body other) (sym made.5) bodies in
-      let sides = subst (λ (x : Term). IsEqualityRead words schema bytes tree.body left right rule.body rule.left x names × IsFixedBy rule.body rule.left × IsFixedBy rule.body x) (sym made.6) lefts in
-      let whole = subst (λ (l : List Name). IsEqualityRead words schema bytes tree.body left right rule.body rule.left rule.right l × IsFixedBy rule.body rule.left × IsFixedBy rule.body rule.right) (sym made.7) sides in
+      let bodies = subst (λ (l : List (Fact Term)). IsEqualityRead words schema bytes tree.body left right l one other names × IsFixedBy l one
+      × IsFixedBy l other) (sym made.4) (h, made.2, made.3) in
+      let lefts = subst (λ (x : Term). IsEqualityRead words schema bytes tree.body left right rule.body x other names × IsFixedBy rule.body x
+      × IsFixedBy rule.body other) (sym made.5) bodies in
+      let sides = subst (λ (x : Term). IsEqualityRead words schema bytes tree.body left right rule.body rule.left x names × IsFixedBy rule.body rule.left
+      × IsFixedBy rule.body x) (sym made.6) lefts in
+      let whole = subst (λ (l : List Name). IsEqualityRead words schema bytes tree.body left right rule.body rule.left rule.right l
+      × IsFixedBy rule.body rule.left × IsFixedBy rule.body rule.right) (sym made.7) sides in
       (tree, text, subst (λ (x : HeadTree). IsRuleOf words schema bytes tree.body x (Equal rule)) (sym is) whole)
   equality_reading left right (Tuple rule) body one other names made is h = absurd made
   equality_reading left right (Never rule) body one other names made is h = absurd made
@@ -261,7 +276,8 @@ module _ (version : Version) (words : List Word) (schema bytes : List ℕ) (tree
   body_error (Fault f) h = inr (tree, text, inl h)
 
   module _ (fits : AreFitting words schema bytes 0 tree.body) where
-    pub head_error : (head_items : List ItemTree) → tree.head ≡ Items head_items → (e : ReadError) → IsBodyError words schema bytes head_items e → IsConstraintError version words schema bytes e
+    pub head_error : (head_items : List ItemTree) → tree.head ≡ Items head_items → (e : ReadError) → IsBodyError words schema bytes head_items e
+        → IsConstraintError version words schema bytes e
     head_error head_items is OutOfMemory h = text.1.0
     head_error head_items is (Fault f) h = inr (tree, text, inr (fits, subst (λ (x : HeadTree). IsRuleHeadFault words schema bytes tree.body x f) (sym is) h))
 
@@ -269,4 +285,12 @@ module _ (version : Version) (words : List Word) (schema bytes : List ℕ) (tree
         → IsEqualityRead words schema bytes tree.body left right body one other names → IsUnsafeSide body left right one other offset
         → IsConstraintError version words schema bytes (Fault (record { offset = offset; kind = Unsafe }))
     side_error left right body one other names offset is h g =
-        inr (tree, text, inr (fits, subst (λ (x : HeadTree). IsRuleHeadFault words schema bytes tree.body x (record { offset = offset; kind = Unsafe })) (sym is) (body, one, other, names, h, refl, g)))
+        inr (
+          tree,
+          text,
+          inr (
+            fits,
+            subst (λ (x : HeadTree). IsRuleHeadFault words schema bytes tree.body x (record { offset = offset; kind = Unsafe }))
+                (sym is) (body, one, other, names, h, refl, g),
+          ),
+        )

@@ -10,7 +10,8 @@ only_item x y (zero, lt, e) = sym e
 only_item x y (suc k, lt, e) = absurd (omega arith)
 
 module _ {X : Type 0} (P : X → Type 0) (xs : List X) where
-  pub each_more_at : (n : ℕ) (d : X) → n < length xs → P (get_or xs n d) → ((y : X) → Contains (take n xs) y → P y) → (y : X) → Contains (take (n + 1) xs) y → P y
+  pub each_more_at : (n : ℕ) (d : X) → n < length xs → P (get_or xs n d) → ((y : X) → Contains (take n xs) y → P y) → (y : X) → Contains (take (n + 1) xs) y
+      → P y
   each_more_at n d lt p before y h =
       elim (Contains-append_cases (take n xs) (get_or xs n d ∷ []) y (subst (λ (l : List X). Contains l y) (take_more xs n d lt) h)) [
         | inl k ↦ before y k

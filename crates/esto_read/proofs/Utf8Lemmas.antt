@@ -35,7 +35,8 @@ utf8_cut xs ys b lt u =
     let at : get_or bs (length xs) 0 ≡ b = get_or_at xs b ys 0 (length xs) refl in
     let inside : length xs < length bs = omega (arith, length-append xs (b ∷ ys)) in
     let small : get_or bs (length xs) 0 < 128 = subst (λ (n : ℕ). n < 128) (sym at) lt in
-    let back : IsUtf8 ys = subst IsUtf8 (drop-append-add xs (b ∷ ys) 1) (IsUtf8-drop bs (length xs + 1) u (IsCharBoundary-after_ascii bs (length xs) u inside small)) in
+    let back : IsUtf8 ys = subst IsUtf8 (drop-append-add xs (b ∷ ys) 1) (IsUtf8-drop bs (length xs + 1) u
+    (IsCharBoundary-after_ascii bs (length xs) u inside small)) in
     let rest : IsUtf8 (b ∷ ys) = IsUtf8-append (b ∷ []) ys (one_ascii b lt) back in
     (subst IsUtf8 (take_at xs (b ∷ ys) (length xs) refl) (IsUtf8-take bs (length xs) u (IsCharBoundary-at_seam bs xs (b ∷ ys) refl rest)), back)
 
@@ -49,7 +50,8 @@ said_after front (x ∷ xs) u =
           let first = utf8_cut front (39 ∷ flat_map written xs) 39 (omega arith) e in
           let second : IsUtf8 (flat_map written xs) = (utf8_cut [] (flat_map written xs) 39 (omega arith) first.1).1 in
           let rest : IsUtf8 xs = said_after [] xs second in
-          subst (λ (n : ℕ). IsUtf8 (front ++ n ∷ xs)) (sym w.0) (IsUtf8-append front (39 ∷ xs) first.0 (IsUtf8-append (39 ∷ []) xs (one_ascii 39 (omega arith)) rest))
+          subst (λ (n : ℕ). IsUtf8 (front ++ n ∷ xs)) (sym w.0) (IsUtf8-append front (39 ∷ xs) first.0
+          (IsUtf8-append (39 ∷ []) xs (one_ascii 39 (omega arith)) rest))
       | inr w ↦
           let e : IsUtf8 (front ++ (x ∷ flat_map written xs)) = subst (λ (l : List ℕ). IsUtf8 (front ++ (l ++ flat_map written xs))) w.1 u in
           let f : IsUtf8 ((front ++ x ∷ []) ++ flat_map written xs) = subst IsUtf8 (sym (append_assoc front (x ∷ []) (flat_map written xs))) e in
@@ -84,7 +86,8 @@ digit_small : (b : ℕ) → IsDigit b → b < 128
 digit_small b h = omega (arith, h.1)
 
 name_utf8 : (text : List ℕ) → IsNameText text → IsUtf8 text
-name_utf8 text h = subst IsUtf8 (sym h.is) (IsUtf8-from_ascii (h.first ∷ h.others) (ascii (h.first ∷ h.others) (letter_small h.first h.letter, all_small (IsIn Word) word_small h.others h.words)))
+name_utf8 text h = subst IsUtf8 (sym h.is) (IsUtf8-from_ascii (h.first ∷ h.others)
+    (ascii (h.first ∷ h.others) (letter_small h.first h.letter, all_small (IsIn Word) word_small h.others h.words)))
 
 number_utf8 : (text : List ℕ) → IsNumberText text → IsUtf8 text
 number_utf8 text h =
@@ -95,16 +98,19 @@ number_utf8 text h =
     ]
 
 closed_utf8 : (content : List ℕ) → IsUtf8 (flat_map written content) → IsUtf8 (39 ∷ closed content)
-closed_utf8 content u = IsUtf8-append (39 ∷ []) (closed content) (one_ascii 39 (omega arith)) (IsUtf8-append (flat_map written content) (39 ∷ []) u (one_ascii 39 (omega arith)))
+closed_utf8 content u = IsUtf8-append (39 ∷ []) (closed content) (one_ascii 39 (omega arith))
+    (IsUtf8-append (flat_map written content) (39 ∷ []) u (one_ascii 39 (omega arith)))
 
 -- what is between the quotes of a text
 pub inside_is : (text content : List ℕ) → text ≡ 39 ∷ closed content → take ((length text - 1) - 1) (drop 1 text) ≡ flat_map written content
 inside_is text content e =
     let n : (length text - 1) - 1 ≡ length (flat_map written content) = omega (arith, ap length e, length-append (flat_map written content) (39 ∷ [])) in
-    ap (λ (i : ℕ). take i (drop 1 text)) n ∙ ap (λ (l : List ℕ). take (length (flat_map written content)) (drop 1 l)) e ∙ take_at (flat_map written content) (39 ∷ []) (length (flat_map written content)) refl
+    ap (λ (i : ℕ). take i (drop 1 text)) n ∙ ap (λ (l : List ℕ). take (length (flat_map written content)) (drop 1 l)) e
+    ∙ take_at (flat_map written content) (39 ∷ []) (length (flat_map written content)) refl
 
 pub text_inside_utf8 : (text content : List ℕ) → text ≡ 39 ∷ closed content → IsUtf8 text → IsUtf8 (flat_map written content)
-text_inside_utf8 text content e u = inside_utf8 content [] (subst IsUtf8 (sym (append-nil (closed content))) (utf8_cut [] (closed content) 39 (omega arith) (subst IsUtf8 e u)).1)
+text_inside_utf8 text content e u = inside_utf8 content [] (subst IsUtf8 (sym (append-nil (closed content)))
+    (utf8_cut [] (closed content) 39 (omega arith) (subst IsUtf8 e u)).1)
 
 module _ (bytes : List ℕ) (u : IsUtf8 bytes) (t : Token) (h : StandsIn bytes t) where
   abbrev text : List ℕ
@@ -112,8 +118,10 @@ module _ (bytes : List ℕ) (u : IsUtf8 bytes) (t : Token) (h : StandsIn bytes t
 
   around : take t.start bytes ++ (text ++ drop t.end bytes) ≡ bytes
   around =
-      let end : drop (t.end - t.start) (drop t.start bytes) ≡ drop t.end bytes = drop-drop (t.end - t.start) t.start bytes ∙ ap (λ (i : ℕ). drop i bytes) (omega (arith, h.in_order)) in
-      ap (λ (l : List ℕ). take t.start bytes ++ (text ++ l)) (sym end) ∙ ap (λ (l : List ℕ). take t.start bytes ++ l) (take-append-drop (t.end - t.start) (drop t.start bytes)) ∙ take-append-drop t.start bytes
+      let end : drop (t.end - t.start) (drop t.start bytes) ≡ drop t.end bytes = drop-drop (t.end - t.start) t.start bytes
+      ∙ ap (λ (i : ℕ). drop i bytes) (omega (arith, h.in_order)) in
+      ap (λ (l : List ℕ). take t.start bytes ++ (text ++ l)) (sym end) ∙ ap (λ (l : List ℕ). take t.start bytes ++ l)
+      (take-append-drop (t.end - t.start) (drop t.start bytes)) ∙ take-append-drop t.start bytes
 
   pub name_token : t.kind ≡ Name → IsUtf8 text
   name_token e = let k = subst (λ (x : TokenKind). IsToken x text (drop t.end bytes)) e h.is_token in name_utf8 text k.stands

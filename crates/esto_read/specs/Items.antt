@@ -20,7 +20,8 @@ abbrev pub IsFit : List Word → List ℕ → List ℕ → ℕ → ℕ → Type 
 IsFit words schema name columns atoms =
     (relation : ℕ) × IsTableAt words name relation × (slice_get schema relation ≡ Some columns) × (atoms < MAX_ATOMS)
 
--- What is wrong with an item of this name and so many terms, where so many atoms come before it: no table has the name; else the table has another number of columns; else as many atoms as there may be come before.
+-- What is wrong with an item of this name and so many terms, where so many atoms come before it: no table has the name; else the table has another number of
+-- columns; else as many atoms as there may be come before.
 abbrev pub IsMisfit : List Word → List ℕ → List ℕ → ℕ → ℕ → TextKind → Type 0
 IsMisfit words schema name columns atoms Unknown = (relation : ℕ) → ¬ IsTableAt words name relation
 IsMisfit words schema name columns atoms Arity =

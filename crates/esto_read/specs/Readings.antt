@@ -21,7 +21,8 @@ use Rattle.esto_read.specs.declared.read.Form.TheVariants.{Query, View}
 use Rattle.esto_read.specs.declared.read.NamedQuery.{NamedQuery}
 use Rattle.esto_read.specs.declared.words.Word.{Word}
 
--- The head, the body and the names of variables that a tree means. Variables are numbered by first occurrence, in the head first and then in the body; nothing is wrong with any item.
+-- The head, the body and the names of variables that a tree means. Variables are numbered by first occurrence, in the head first and then in the body; nothing
+-- is wrong with any item.
 pub record IsRead (words : List Word) (schema bytes : List ℕ) (tree : QueryTree) (head : List Term) (body : List (Fact Term)) (names : List Name) : Type 0 where
   pub between : List Name
   pub head_terms : AreTerms bytes [] tree.variables head between

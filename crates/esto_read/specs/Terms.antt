@@ -22,7 +22,8 @@ IsVariableOf name before term after =
     ((number : ℕ) × (slice_get before number ≡ Some (Given name)) × (term ≡ Plain number) × (after ≡ before))
     ⊎ (¬ Contains before (Given name) × (term ≡ Plain (length before)) × (after ≡ before ++ Given name ∷ []))
 
--- The term that a token of the kind and text is, where these names came before it, and the names after it. A wildcard is a new variable with no name; a quoted constant says what is between its quotes, and a number itself.
+-- The term that a token of the kind and text is, where these names came before it, and the names after it. A wildcard is a new variable with no name; a quoted
+-- constant says what is between its quotes, and a number itself.
 abbrev pub IsTermOf : TokenKind → List ℕ → List Name → Term → List Name → Type 0
 IsTermOf kind.Name text before term after = IsVariableOf text before term after
 IsTermOf Wildcard text before term after = (term ≡ Plain (length before)) × (after ≡ before ++ Hidden ∷ [])

@@ -9,7 +9,8 @@ abbrev pub IsTableAt : List Word → List ℕ → ℕ → Type 0
 IsTableAt words name relation =
     (word : Word) × Contains words word × (word.name ≡ name) × (word.model ≡ Table) × (word.base ≡ relation)
 
--- The schema, which is the list of the relations' numbers of columns, has from this number on the relations of a dataset: one for a table, five of 1, 3, 2, 2 and 2 columns for documents, one of three columns for keys.
+-- The schema, which is the list of the relations' numbers of columns, has from this number on the relations of a dataset: one for a table, five of 1, 3, 2, 2
+-- and 2 columns for documents, one of three columns for keys.
 abbrev pub HasRelations : List ℕ → DataModel → ℕ → Type 0
 HasRelations schema Table base = base < length schema
 HasRelations schema Documents base =

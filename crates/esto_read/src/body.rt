@@ -29,7 +29,8 @@ fn relation_of(
     requires { All (λ word. word.base < length schema.now) words.now }
     ensures ok { IfOk result (λ relation. IsTableAt words.now name.now relation
         × (slice_get (arities_of schema.now) relation ≡ Some columns) × (atoms < MAX_ATOMS)) }
-    ensures err { IfErr result (λ kind. IsMisfit words.now (arities_of schema.now) name.now columns atoms kind) }
+    ensures err { IfErr result (λ kind. IsMisfit
+        words.now (arities_of schema.now) name.now columns atoms kind) }
 {
     let Some(relation) = table_of(words, name) else {
         return Err(TextKind::Unknown);
@@ -64,11 +65,15 @@ fn atom(
     names: &mut Names,
 ) -> Result<Atom, ReadError>
     requires utf8 { IsUtf8 bytes.now }
-    requires stands { EachOfItem (IsNameIn bytes.now) (IsFieldIn bytes.now) (IsTermIn bytes.now) (item_of item.now) }
+    requires stands { EachOfItem (IsNameIn bytes.now) (IsFieldIn bytes.now) (IsTermIn bytes.now)
+        (item_of item.now) }
     requires bases { All (λ word. word.base < length schema.now) words.now }
-    ensures ok { IfOk result (λ atom. IsItemOf words.now (arities_of schema.now) bytes.now names.old (item_of item.now) (atom ∷ []) names.new) }
-    ensures fits { IfOk result (λ atom. IsFitting words.now (arities_of schema.now) bytes.now atoms (item_of item.now)) }
-    ensures err { IfErr result (λ e. IsItemError words.now (arities_of schema.now) bytes.now atoms (item_of item.now) e) }
+    ensures ok { IfOk result (λ atom. IsItemOf words.now (arities_of schema.now)
+        bytes.now names.old (item_of item.now) (atom ∷ []) names.new) }
+    ensures fits { IfOk result (λ atom. IsFitting
+        words.now (arities_of schema.now) bytes.now atoms (item_of item.now)) }
+    ensures err { IfErr result (λ e. IsItemError
+        words.now (arities_of schema.now) bytes.now atoms (item_of item.now) e) }
 {
     match item {
         ItemSyntax::Atom {
@@ -98,11 +103,16 @@ pub fn body(
     names: &mut Names,
 ) -> Result<Atoms, ReadError>
     requires utf8 { IsUtf8 bytes.now }
-    requires stand { AllByRecursion (EachOfItem (IsNameIn bytes.now) (IsFieldIn bytes.now) (IsTermIn bytes.now)) (map item_of items.now) }
+    requires stand { AllByRecursion
+        (EachOfItem (IsNameIn bytes.now) (IsFieldIn bytes.now) (IsTermIn bytes.now))
+        (map item_of items.now) }
     requires bases { All (λ word. word.base < length schema.now) words.now }
-    ensures ok { IfOk result (λ body. AreItems words.now (arities_of schema.now) bytes.now names.old (map item_of items.now) body names.new) }
-    ensures fits { IfOk result (λ body. AreFitting words.now (arities_of schema.now) bytes.now 0 (map item_of items.now)) }
-    ensures err { IfErr result (λ e. IsBodyError words.now (arities_of schema.now) bytes.now (map item_of items.now) e) }
+    ensures ok { IfOk result (λ body. AreItems words.now (arities_of schema.now)
+        bytes.now names.old (map item_of items.now) body names.new) }
+    ensures fits { IfOk result (λ body. AreFitting
+        words.now (arities_of schema.now) bytes.now 0 (map item_of items.now)) }
+    ensures err { IfErr result (λ e. IsBodyError
+        words.now (arities_of schema.now) bytes.now (map item_of items.now) e) }
 {
     let mut body = List::new(alloc);
     'items: for item in items {

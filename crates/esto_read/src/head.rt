@@ -33,7 +33,8 @@ fn has_text(bytes: &[u8], tokens: &[Token], text: &[u8]) -> bool
 /// Where the first name stands that stands earlier in the head too.
 pub fn first_repeat(bytes: &[u8], variables: &[Token]) -> Option<u64>
     requires { AllByRecursion (IsNameIn bytes.now) variables.now }
-    ensures { MatchOption result (AreDifferent bytes.now variables.now) (IsFirstRepeat bytes.now variables.now) }
+    ensures { MatchOption result (AreDifferent bytes.now variables.now)
+        (IsFirstRepeat bytes.now variables.now) }
 {
     'variables: for (place, token) in variables.iter().enumerate() {
         let (earlier, _) = variables.split_at(place);
@@ -46,7 +47,8 @@ pub fn first_repeat(bytes: &[u8], variables: &[Token]) -> Option<u64>
 
 /// The place of the first term of the head that no atom of the body mentions.
 pub fn first_missing(head: &[Term], body: &[Atom]) -> Option<usize>
-    ensures { MatchOption result (AreMentioned body.now head.now) (IsFirstMissing body.now head.now) }
+    ensures { MatchOption result (AreMentioned body.now head.now)
+        (IsFirstMissing body.now head.now) }
 {
     'terms: for (place, term) in head.iter().enumerate() {
         if !mentions(body, term) {

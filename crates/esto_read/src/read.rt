@@ -47,7 +47,8 @@ fn head_fault(
 ) -> Option<TextFault>
     requires names { AllByRecursion (IsNameIn bytes.now) variables.now }
     requires lengths { length head.now ≡ length variables.now }
-    ensures { MatchOption result (IsHeadFit form bytes.now variables.now head.now body.now) (IsHeadFault form bytes.now variables.now head.now body.now) }
+    ensures { MatchOption result (IsHeadFit form bytes.now variables.now head.now body.now)
+        (IsHeadFault form bytes.now variables.now head.now body.now) }
 {
     if let Some(offset) = repeat(form, bytes, variables) {
         return Some(TextFault {
@@ -65,7 +66,8 @@ fn head_fault(
 /// Where the first name stands that a head of this form may not have again.
 fn repeat(form: Form, bytes: &[u8], variables: &[Token]) -> Option<u64>
     requires { AllByRecursion (IsNameIn bytes.now) variables.now }
-    ensures { MatchOption result (IsAllowed form bytes.now variables.now) (IsRefused form bytes.now variables.now) }
+    ensures { MatchOption result (IsAllowed form bytes.now variables.now)
+        (IsRefused form bytes.now variables.now) }
 {
     match form {
         Form::Query => None,
@@ -83,10 +85,13 @@ fn read(
 ) -> Result<NamedQuery, ReadError>
     requires words { IsVocabulary (arities_of schema.now) words.now }
     requires tables { AreTables words.now }
-    ensures reading { IfOk result (λ query. IsReading form words.now (arities_of schema.now) bytes.now query) }
-    ensures over { IfOk result (λ query. IsQueryOver (arities_of schema.now) (query_of query.query)) }
+    ensures reading { IfOk result (λ query. IsReading
+        form words.now (arities_of schema.now) bytes.now query) }
+    ensures over { IfOk result (λ query. IsQueryOver
+        (arities_of schema.now) (query_of query.query)) }
     ensures head { IfOk result (λ query. HasVariables form query.query.head) }
-    ensures error { IfErr result (λ e. IsReadError form words.now (arities_of schema.now) bytes.now e) }
+    ensures error { IfErr result (λ e. IsReadError
+        form words.now (arities_of schema.now) bytes.now e) }
 {
     let words = words.items();
     let tree = read_query_tree(alloc, bytes)?;
@@ -120,13 +125,16 @@ pub fn read_query(
     requires words { IsVocabulary (arities_of schema.now) words.now }
     requires tables { AreTables words.now }
     // The answer is the text's reading.
-    ensures reading { IfOk result (λ query. IsReading Form.Query words.now (arities_of schema.now) bytes.now query) }
+    ensures reading { IfOk result (λ query. IsReading
+        Form.Query words.now (arities_of schema.now) bytes.now query) }
     // It is over the schema, and its constants are UTF-8.
-    ensures over { IfOk result (λ query. IsQueryOver (arities_of schema.now) (query_of query.query)) }
+    ensures over { IfOk result (λ query. IsQueryOver
+        (arities_of schema.now) (query_of query.query)) }
     // Each term of its head is a variable.
     ensures head { IfOk result (λ query. HasVariables Form.Query query.query.head) }
     // A fault is the text's first fault.
-    ensures error { IfErr result (λ e. IsReadError Form.Query words.now (arities_of schema.now) bytes.now e) }
+    ensures error { IfErr result (λ e. IsReadError
+        Form.Query words.now (arities_of schema.now) bytes.now e) }
 {
     read(alloc, bytes, words, schema, Form::Query)
 }
@@ -142,13 +150,16 @@ pub fn read_view(
     requires words { IsVocabulary (arities_of schema.now) words.now }
     requires tables { AreTables words.now }
     // The answer is the text's reading.
-    ensures reading { IfOk result (λ query. IsReading Form.View words.now (arities_of schema.now) bytes.now query) }
+    ensures reading { IfOk result (λ query. IsReading
+        Form.View words.now (arities_of schema.now) bytes.now query) }
     // It is over the schema, and its constants are UTF-8.
-    ensures over { IfOk result (λ query. IsQueryOver (arities_of schema.now) (query_of query.query)) }
+    ensures over { IfOk result (λ query. IsQueryOver
+        (arities_of schema.now) (query_of query.query)) }
     // The terms of its head are different variables.
     ensures head { IfOk result (λ query. HasVariables Form.View query.query.head) }
     // A fault is the text's first fault.
-    ensures error { IfErr result (λ e. IsReadError Form.View words.now (arities_of schema.now) bytes.now e) }
+    ensures error { IfErr result (λ e. IsReadError
+        Form.View words.now (arities_of schema.now) bytes.now e) }
 {
     read(alloc, bytes, words, schema, Form::View)
 }

@@ -36,7 +36,8 @@ fn unsafe_side(
     right_term: &Term,
     body: &[Atom],
 ) -> Option<u64>
-    ensures { MatchOption result (IsFixedBy body.now left_term.now × IsFixedBy body.now right_term.now)
+    ensures { MatchOption result
+        (IsFixedBy body.now left_term.now × IsFixedBy body.now right_term.now)
         (IsUnsafeSide body.now left right left_term.now right_term.now) }
 {
     if !is_fixed(left_term, body) {

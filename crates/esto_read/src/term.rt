@@ -24,7 +24,8 @@ fn is_given(name: &Name, text: &[u8]) -> bool
 
 /// The number of the variable of that name. None comes exactly where there is none.
 fn number_of(names: &[Name], text: &[u8]) -> Option<usize>
-    ensures { MatchOption result (¬ Contains names.now (Given text.now)) (λ number. slice_get names.now number ≡ Some (Given text.now)) }
+    ensures { MatchOption result (¬ Contains names.now (Given text.now))
+        (λ number. slice_get names.now number ≡ Some (Given text.now)) }
 {
     'names: for (number, name) in names.iter().enumerate() {
         if is_given(name, text) {
@@ -56,7 +57,8 @@ pub fn term(
 ) -> Result<Term, OutOfMemory>
     requires utf8 { IsUtf8 bytes.now }
     requires stands { IsTermIn bytes.now token }
-    ensures { IfOk result (λ term. IsTermOf token.kind (text_of bytes.now token) names.old term names.new) }
+    ensures { IfOk result (λ term. IsTermOf
+        token.kind (text_of bytes.now token) names.old term names.new) }
 {
     let text = bytes_of(bytes, token);
     match token.kind {

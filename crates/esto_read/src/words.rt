@@ -40,7 +40,8 @@ fn is_table(word: &Word, name: &[u8]) -> bool
 
 /// The relation of the table of that name. None comes exactly where there is none.
 pub fn table_of(words: &[Word], name: &[u8]) -> Option<usize>
-    ensures { MatchOption result ((relation : ℕ) → ¬ IsTableAt words.now name.now relation) (IsTableAt words.now name.now) }
+    ensures { MatchOption result ((relation : ℕ) → ¬ IsTableAt words.now name.now relation)
+        (IsTableAt words.now name.now) }
 {
     'words: for word in words {
         if is_table(word, name) {

@@ -111,8 +111,10 @@ covers_unique at bytes [] (t' ∷ ts') h (gap', text', after', p', more') = absu
 covers_unique at bytes (t ∷ ts) [] (gap, text, after, p, more) h' = absurd (no_more at bytes t gap text after h' p)
 covers_unique at bytes (t ∷ ts) (t' ∷ ts') (gap, text, after, p, more) (gap', text', after', p', more') =
     let e : gap ++ (text ++ after) ≡ gap' ++ (text' ++ after') = sym p.parts ∙ p'.parts in
-    let g : gap ≡ gap' = gap_unique gap (text ++ after) gap' (text' ++ after') e p.is_gap p'.is_gap (token_no_gap t.kind text after p.is_token) (token_no_gap t'.kind text' after' p'.is_token) in
-    let e2 : text ++ after ≡ text' ++ after' = append_cancel_left gap (text ++ after) (text' ++ after') (e ∙ ap (λ (l : List ℕ). l ++ (text' ++ after')) (sym g)) in
+    let g : gap ≡ gap' = gap_unique gap (text ++ after) gap' (text' ++ after') e p.is_gap p'.is_gap (token_no_gap t.kind text after p.is_token)
+    (token_no_gap t'.kind text' after' p'.is_token) in
+    let e2 : text ++ after ≡ text' ++ after' = append_cancel_left gap (text ++ after) (text' ++ after')
+    (e ∙ ap (λ (l : List ℕ). l ++ (text' ++ after')) (sym g)) in
     let u = token_unique t.kind t'.kind text after text' after' e2 p.is_token p'.is_token in
     let e3 : after ≡ after' = append_cancel_left text after after' (e2 ∙ ap (λ (l : List ℕ). l ++ after') (sym u.1)) in
     let s : t.start ≡ t'.start = p.starts ∙ ap (λ (l : List ℕ). at + length l) g ∙ sym p'.starts in
@@ -136,10 +138,15 @@ is_token : (k : TokenKind) (t a : List ℕ) → IsLongest k t a → IsToken k t 
 is_token Stray t a h = absurd h.stands
 is_token _ t a h = h
 
-pub next_lexeme : (bytes : List ℕ) (start : ℕ) (kind : TokenKind) (len : ℕ) → start ≤ length bytes → Lexes (drop start bytes) (Some (kind, len)) → Next bytes kind start (start + len)
+pub next_lexeme : (bytes : List ℕ) (start : ℕ) (kind : TokenKind) (len : ℕ) → start ≤ length bytes → Lexes (drop start bytes) (Some (kind, len))
+    → Next bytes kind start (start + len)
 next_lexeme bytes start kind len le h =
-    let n : (start + len) - start ≡ len = omega arith in
-    (omega arith, omega (arith, h.0, length-drop start bytes), rw n (subst (λ (l : List ℕ). IsToken kind (take len (drop start bytes)) l) (drop-drop len start bytes) (is_token kind _ _ h.1)))
+    let n : (start + len) - start ≡ len = omega arith in (
+      omega arith,
+      omega (arith, h.0, length-drop start bytes),
+      rw n (subst (λ (l : List ℕ). IsToken kind (take len (drop start bytes)) l)
+          (drop-drop len start bytes) (is_token kind _ _ h.1)),
+    )
 
 no_gap_at : (l : List ℕ) → 0 < length l → get_or l 0 0 ≢ 35 → (IsIn Blank (get_or l 0 0) → ⊥) → BeginsNoGap l
 no_gap_at [] lt p q = tt
@@ -153,15 +160,18 @@ next_stray bytes start lt p q h =
     let end : drop (length bytes) bytes ≡ [] = drop_all (length bytes) bytes (omega arith) in
     (omega arith, omega arith, rw all (λ e. omega (arith, ap length e), end, no_gap_at (drop start bytes) (omega arith) p q, h))
 
-pub covers_more : (bytes : List ℕ) (ts : List Token) (at gap_len : ℕ) (t : Token) → CoversSoFar bytes ts at → gap_len ≤ length (drop at bytes) → IsGap (take gap_len (drop at bytes)) (drop gap_len (drop at bytes))
+pub covers_more : (bytes : List ℕ) (ts : List Token) (at gap_len : ℕ) (t : Token) → CoversSoFar bytes ts at → gap_len ≤ length (drop at bytes)
+    → IsGap (take gap_len (drop at bytes)) (drop gap_len (drop at bytes))
     → t.start ≡ at + gap_len → Next bytes t.kind t.start t.end → CoversSoFar bytes (ts ++ t ∷ []) t.end
 covers_more bytes ts at gap_len t h le g starts next = record {
   in_range = next.1;
   whole = λ more c.
       let text = take (t.end - t.start) (drop t.start bytes) in
       let d : drop gap_len (drop at bytes) ≡ drop t.start bytes = drop-drop gap_len at bytes ∙ ap (λ (i : ℕ). drop i bytes) (sym starts) in
-      let e : drop (t.end - t.start) (drop t.start bytes) ≡ drop t.end bytes = drop-drop (t.end - t.start) t.start bytes ∙ ap (λ (i : ℕ). drop i bytes) (omega (arith, next.0)) in
-      let f : text ++ drop t.end bytes ≡ drop gap_len (drop at bytes) = ap (λ (l : List ℕ). text ++ l) (sym e) ∙ take-append-drop (t.end - t.start) (drop t.start bytes) ∙ sym d in
+      let e : drop (t.end - t.start) (drop t.start bytes) ≡ drop t.end bytes = drop-drop (t.end - t.start) t.start bytes
+      ∙ ap (λ (i : ℕ). drop i bytes) (omega (arith, next.0)) in
+      let f : text ++ drop t.end bytes ≡ drop gap_len (drop at bytes) = ap (λ (l : List ℕ). text ++ l) (sym e)
+      ∙ take-append-drop (t.end - t.start) (drop t.start bytes) ∙ sym d in
       let n : length text ≡ t.end - t.start = length-take-le (t.end - t.start) (drop t.start bytes) (omega (arith, next.1, length-drop t.start bytes)) in
       let placed : Places at (drop at bytes) t (take gap_len (drop at bytes)) text (drop t.end bytes) = record {
         parts = sym (ap (λ (l : List ℕ). take gap_len (drop at bytes) ++ l) f ∙ take-append-drop gap_len (drop at bytes));

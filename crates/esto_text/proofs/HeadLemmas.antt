@@ -69,18 +69,24 @@ rest_of true room rest = limited_row room rest
 rest_of false room rest = rest
 
 pub no_room_fails : (rest : List Token) (e : Stop) → e ≡ Syntax (length rest) → Fails (AName ∷ MoreNames ∷ []) (limited_row 0 rest) e
-no_room_fails rest e q s = fails_here AName (MoreNames ∷ s) (limited_row 0 rest) e refl (not_name (class_at (limited_row 0 rest)) (no_room rest)) (q ∙ ap Syntax (sym (length_limited 0 rest)))
+no_room_fails rest e q s = fails_here AName (MoreNames ∷ s) (limited_row 0 rest) e refl (not_name (class_at (limited_row 0 rest)) (no_room rest))
+    (q ∙ ap Syntax (sym (length_limited 0 rest)))
 
-pub head_name_fails : (room : ℕ) (rest : List Token) (e : Stop) → (e ≡ Syntax (length rest)) × (class_at rest ≢ Name) → Fails (AName ∷ MoreNames ∷ []) (limited_row room rest) e
+pub head_name_fails : (room : ℕ) (rest : List Token) (e : Stop) → (e ≡ Syntax (length rest)) × (class_at rest ≢ Name)
+    → Fails (AName ∷ MoreNames ∷ []) (limited_row room rest) e
 head_name_fails room rest e (q, n) s =
-    fails_here AName (MoreNames ∷ s) (limited_row room rest) e refl (not_name (class_at (limited_row room rest)) (class_cases room rest (λ k. k ≢ Name) n (λ p. cc))) (q ∙ ap Syntax (sym (length_limited room rest)))
+    fails_here AName (MoreNames ∷ s) (limited_row room rest) e refl (not_name (class_at (limited_row room rest))
+    (class_cases room rest (λ k. k ≢ Name) n (λ p. cc))) (q ∙ ap Syntax (sym (length_limited room rest)))
 
-pub head_end_fails : (room : ℕ) (rest after' : List Token) (x : Token) (e : Stop) → (rest ≡ x ∷ after') × IsName x → NoEnd RightParen after' e → Fails (AName ∷ MoreNames ∷ []) (limited_row (suc room) rest) e
+pub head_end_fails : (room : ℕ) (rest after' : List Token) (x : Token) (e : Stop) → (rest ≡ x ∷ after') × IsName x → NoEnd RightParen after' e
+    → Fails (AName ∷ MoreNames ∷ []) (limited_row (suc room) rest) e
 head_end_fails room rest after' x e (r, p) (q, n, m) s =
     let left = limited_row room after' in
     let whole : limited_row (suc room) rest ≡ x ∷ left = ap (limited_row (suc room)) r ∙ at_name room x after' p in
-    fails_along (AName ∷ MoreNames ∷ s) (MoreNames ∷ s) (limited_row (suc room) rest) left e (ap (first_fault (AName ∷ MoreNames ∷ s)) whole ∙ seen (AName ∷ MoreNames ∷ s) x left Name p)
-    (fails_here MoreNames s left e refl (not_more_names (class_at left) (class_cases room after' (λ k. k ≢ Comma) n (λ z. cc)) (class_cases room after' (λ k. k ≢ RightParen) m (λ z. cc)))
+    fails_along (AName ∷ MoreNames ∷ s) (MoreNames ∷ s) (limited_row (suc room) rest) left e (ap (first_fault (AName ∷ MoreNames ∷ s)) whole
+    ∙ seen (AName ∷ MoreNames ∷ s) x left Name p)
+    (fails_here MoreNames s left e refl (not_more_names (class_at left) (class_cases room after' (λ k. k ≢ Comma) n (λ z. cc))
+    (class_cases room after' (λ k. k ≢ RightParen) m (λ z. cc)))
     (q ∙ ap Syntax (sym (length_limited room after'))))
 
 pub ended_rest : (room : ℕ) (more' : Bool) (t : Token) (left : List Token) → Ends RightParen more' t → limited_row room (t ∷ left) ≡ t ∷ rest_of more' room left
@@ -94,36 +100,47 @@ pub head_more : (tokens : List Token) (so_far : List Token) (room : ℕ) (rest :
 head_more tokens so_far room rest more on h x after' left more' (r, p) (t, e, q) =
     let here : rest_of more (suc room) rest ≡ limited_row (suc room) rest = ap (λ (b : Bool). rest_of b (suc room) rest) on in
     let whole : rest_of more (suc room) rest ≡ (x ∷ t ∷ []) ++ rest_of more' room left =
-    here ∙ ap (limited_row (suc room)) (r ∙ ap (λ (l : List Token). x ∷ l) e) ∙ at_name room x (t ∷ left) p ∙ ap (λ (l : List Token). x ∷ l) (ended_rest room more' t left q) in
-    row_more (IsRow IsName) (AName ∷ MoreNames ∷ []) tokens so_far (rest_of more (suc room) rest) more on h x (x ∷ t ∷ []) (rest_of more' room left) more' whole (row_grows IsName x t more' p q)
+    here ∙ ap (limited_row (suc room)) (r ∙ ap (λ (l : List Token). x ∷ l) e) ∙ at_name room x (t ∷ left) p
+    ∙ ap (λ (l : List Token). x ∷ l) (ended_rest room more' t left q) in
+    row_more (IsRow IsName) (AName ∷ MoreNames ∷ []) tokens so_far (rest_of more (suc room) rest) more on h x (x ∷ t ∷ []) (rest_of more' room left) more' whole
+    (row_grows IsName x t more' p q)
     (λ s. ap (first_fault (AName ∷ MoreNames ∷ s)) whole ∙ names_run s x t (rest_of more' room left) more' p q)
 
 module _ (tokens so_far : List Token) (r : ℕ) (rest : List Token) (more : Bool)
     (h : (s : List Symbol) → Goes (IsRow IsName) (AName ∷ MoreNames ∷ s) s tokens so_far (rest_of more r rest) more) where
   pub head_fails : more ≡ true → (e : Stop) → Fails (AName ∷ MoreNames ∷ []) (limited_row r rest) e → Fails (AName ∷ MoreNames ∷ []) tokens e
-  head_fails on e f = row_fails (IsRow IsName) (AName ∷ MoreNames ∷ []) tokens so_far (rest_of more r rest) more on h e (subst (λ (b : Bool). Fails (AName ∷ MoreNames ∷ []) (rest_of b r rest) e) (sym on) f)
+  head_fails on e f = row_fails (IsRow IsName) (AName ∷ MoreNames ∷ []) tokens so_far (rest_of more r rest) more on h e
+      (subst (λ (b : Bool). Fails (AName ∷ MoreNames ∷ []) (rest_of b r rest) e) (sym on) f)
 
   pub head_full_fails : more ≡ true → r ≡ 0 → Fails (AName ∷ MoreNames ∷ []) tokens (Syntax (length rest))
-  head_full_fails on z = head_fails on (Syntax (length rest)) (subst (λ (n : ℕ). Fails (AName ∷ MoreNames ∷ []) (limited_row n rest) (Syntax (length rest))) (sym z) (no_room_fails rest (Syntax (length rest)) refl))
+  head_full_fails on z = head_fails on (Syntax (length rest)) (subst (λ (n : ℕ). Fails (AName ∷ MoreNames ∷ []) (limited_row n rest) (Syntax (length rest)))
+      (sym z) (no_room_fails rest (Syntax (length rest)) refl))
 
-  pub head_next : more ≡ true → (room : ℕ) → r ≡ suc room → (x : Token) (after' left : List Token) (more' : Bool) → (rest ≡ x ∷ after') × IsName x → Ended RightParen more' after' left
+  pub head_next : more ≡ true → (room : ℕ) → r ≡ suc room → (x : Token) (after' left : List Token) (more' : Bool) → (rest ≡ x ∷ after') × IsName x
+      → Ended RightParen more' after' left
       → (s : List Symbol) → Goes (IsRow IsName) (AName ∷ MoreNames ∷ s) s tokens (so_far ++ x ∷ []) (rest_of more' room left) more'
-  head_next on room z = head_more tokens so_far room rest more on (λ s. subst (λ (n : ℕ). Goes (IsRow IsName) (AName ∷ MoreNames ∷ s) s tokens so_far (rest_of more n rest) more) z (h s))
+  head_next on room z = head_more tokens so_far room rest more on (λ s. subst
+      (λ (n : ℕ). Goes (IsRow IsName) (AName ∷ MoreNames ∷ s) s tokens so_far (rest_of more n rest) more) z (h s))
 
   pub head_done : more ≡ false → Takes (IsRow IsName so_far) tokens rest
-  head_done off = subst (λ (b : Bool). Takes (IsRow IsName so_far) tokens (rest_of b r rest)) off (goes_done (IsRow IsName) (AName ∷ MoreNames ∷ []) [] tokens so_far (rest_of more r rest) more off (h []))
+  head_done off = subst (λ (b : Bool). Takes (IsRow IsName so_far) tokens (rest_of b r rest)) off
+      (goes_done (IsRow IsName) (AName ∷ MoreNames ∷ []) [] tokens so_far (rest_of more r rest) more off (h []))
 
 -- ---- a query before its row of variables
 
-pub limited_name : (tokens rest : List Token) (name : Token) → (tokens ≡ name ∷ rest) × IsName name → (limited tokens ≡ name ∷ limited_row 32 rest) × IsName name
+pub limited_name : (tokens rest : List Token) (name : Token) → (tokens ≡ name ∷ rest) × IsName name → (limited tokens ≡ name ∷ limited_row 32 rest)
+    × IsName name
 limited_name tokens rest name (e, p) = (ap limited e, p)
 
-pub limited_paren : (tokens rest : List Token) (paren : Token) → (tokens ≡ paren ∷ rest) × (class_of paren ≡ LeftParen) → (limited_row 32 tokens ≡ paren ∷ limited_row 32 rest) × (class_of paren ≡ LeftParen)
+pub limited_paren : (tokens rest : List Token) (paren : Token) → (tokens ≡ paren ∷ rest) × (class_of paren ≡ LeftParen)
+    → (limited_row 32 tokens ≡ paren ∷ limited_row 32 rest) × (class_of paren ≡ LeftParen)
 limited_paren tokens rest paren (e, p) = (ap (limited_row 32) e ∙ at_paren 32 paren rest p, p)
 
-pub limited_not_name : (tokens : List Token) (e : Stop) → (e ≡ Syntax (length tokens)) × (class_at tokens ≢ Name) → (e ≡ Syntax (length (limited tokens))) × (class_at (limited tokens) ≢ Name)
+pub limited_not_name : (tokens : List Token) (e : Stop) → (e ≡ Syntax (length tokens)) × (class_at tokens ≢ Name) → (e ≡ Syntax (length (limited tokens)))
+    × (class_at (limited tokens) ≢ Name)
 limited_not_name [] e (q, n) = (q, n)
 limited_not_name (t ∷ ts) e (q, n) = (q ∙ ap (λ (k : ℕ). Syntax (suc k)) (sym (length_limited 32 ts)), n)
 
-pub limited_not_paren : (tokens : List Token) (e : Stop) → (e ≡ Syntax (length tokens)) × (class_at tokens ≢ LeftParen) → (e ≡ Syntax (length (limited_row 32 tokens))) × (class_at (limited_row 32 tokens) ≢ LeftParen)
+pub limited_not_paren : (tokens : List Token) (e : Stop) → (e ≡ Syntax (length tokens)) × (class_at tokens ≢ LeftParen)
+    → (e ≡ Syntax (length (limited_row 32 tokens))) × (class_at (limited_row 32 tokens) ≢ LeftParen)
 limited_not_paren tokens e (q, n) = (q ∙ ap Syntax (sym (length_limited 32 tokens)), class_cases 32 tokens (λ k. k ≢ LeftParen) n (λ p. cc))

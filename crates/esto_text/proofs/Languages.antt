@@ -31,7 +31,8 @@ Lang MoreBody ts = (is : List ItemTree) × (front : List Token) × (arrow : Toke
 Lang AHead ts = (h : HeadTree) × IsHead NoFalse h ts
 Lang HeadRest ts = (of : Token → HeadTree) × ((n : Token) → IsName n → IsHead NoFalse (of n) (n ∷ ts))
 Lang (AnEntry n) ts = (f : EntryTree) × IsEntry n f ts
-Lang (PathRest n) ts = (of : List StepSyntax → EntryTree) × ((path : List StepSyntax) (front : List Token) → IsPath path front → IsEntry n (of path) (front ++ ts))
+Lang (PathRest n) ts = (of : List StepSyntax → EntryTree) × ((path : List StepSyntax) (front : List Token) → IsPath path front
+    → IsEntry n (of path) (front ++ ts))
 Lang (MoreEntries n) ts = (fs : EntryTrees) × IsGroupEnd n fs ts
 
 abbrev Langs : List Symbol → List Token → Type 0
@@ -52,10 +53,12 @@ langs_split (x ∷ xs) ys ts (a, b, e, l, m) =
 
 -- ---- one token
 
-tail_back : (P : Token → Type 0) (t n : Token) (ws a b : List Token) (ns : List Token) → class_of t ≡ Comma → ws ≡ a ++ b → a ≡ n ∷ [] → P n → IsRowEnd P ns b → IsRowEnd P (n ∷ ns) (t ∷ ws)
+tail_back : (P : Token → Type 0) (t n : Token) (ws a b : List Token) (ns : List Token) → class_of t ≡ Comma → ws ≡ a ++ b → a ≡ n ∷ [] → P n → IsRowEnd P ns b
+    → IsRowEnd P (n ∷ ns) (t ∷ ws)
 tail_back P t n ws a b ns c e f p h = (t, b, ap (λ (w : List Token). t ∷ w) (e ∙ ap (λ (w : List Token). w ++ b) f), c, p, h)
 
-term_back : (t : Token) (c : TokenKind) (new : List Symbol) (ws : List Token) → class_of t ≡ c → cond (is_term c) (Some []) None ≡ Some new → Langs new ws → Lang ATerm (t ∷ ws)
+term_back : (t : Token) (c : TokenKind) (new : List Symbol) (ws : List Token) → class_of t ≡ c → cond (is_term c) (Some []) None ≡ Some new → Langs new ws
+    → Lang ATerm (t ∷ ws)
 term_back t c new ws p e h = go (is_term c) (ap is_term p) e
   where
     go : (b : Bool) → is_term (class_of t) ≡ b → cond b (Some []) None ≡ Some new → Lang ATerm (t ∷ ws)
@@ -66,23 +69,39 @@ term_back t c new ws p e h = go (is_term c) (ap is_term p) e
 group_parts : (n : ℕ) (ws : List Token) → Langs (AnEntry n ∷ MoreEntries n ∷ []) ws → (fs : EntryTrees) × IsGroup n fs ws
 group_parts n ws h = let r = two (AnEntry n) (MoreEntries n) ws h in (AndEntry r.3.0 r.4.0, (r.0, r.1, r.2, r.3.1, r.4.1))
 
-brace_back : (n : ℕ) (t : Token) (new : List Symbol) (ws : List Token) → class_of t ≡ LeftBrace → cond (ltb n 32) (Some (AnEntry (suc n) ∷ MoreEntries (suc n) ∷ [])) None ≡ Some new → Langs new ws → Lang (PathRest n) (t ∷ ws)
+brace_back : (n : ℕ) (t : Token) (new : List Symbol) (ws : List Token) → class_of t ≡ LeftBrace
+    → cond (ltb n 32) (Some (AnEntry (suc n) ∷ MoreEntries (suc n) ∷ [])) None ≡ Some new → Langs new ws → Lang (PathRest n) (t ∷ ws)
 brace_back n t new ws p e h = go (ltb n 32) refl e
   where
     go : (b : Bool) → ltb n 32 ≡ b → cond b (Some (AnEntry (suc n) ∷ MoreEntries (suc n) ∷ [])) None ≡ Some new → Lang (PathRest n) (t ∷ ws)
     go false f g = absurd cc
     go true f g =
         let q : AnEntry (suc n) ∷ MoreEntries (suc n) ∷ [] ≡ new = cc in
-        let r = two (AnEntry (suc n)) (MoreEntries (suc n)) ws (subst (λ (l : List Symbol). Langs l ws) (sym q) h) in
-        (λ path. Nested path (AndEntry r.3.0 r.4.0), λ path front h. (front, t, r.0, r.1, ap (λ (w : List Token). front ++ t ∷ w) r.2, h, p, ltb-true n 32 f, r.3.1, r.4.1))
+        let r = two (AnEntry (suc n)) (MoreEntries (suc n)) ws (subst (λ (l : List Symbol). Langs l ws) (sym q) h) in (
+          λ path. Nested path (AndEntry r.3.0 r.4.0),
+          λ path front h. (
+            front,
+            t,
+            r.0,
+            r.1,
+            ap (λ (w : List Token). front ++ t ∷ w) r.2,
+            h,
+            p,
+            ltb-true n 32 f,
+            r.3.1,
+            r.4.1,
+          ),
+        )
 
 -- ---- paths
 
-end_more : (path : List StepSyntax) (front : List Token) (s : StepSyntax) (l : List Token) → IsPathEnd path front → IsLater s l → IsPathEnd (path ++ s ∷ []) (front ++ l)
+end_more : (path : List StepSyntax) (front : List Token) (s : StepSyntax) (l : List Token) → IsPathEnd path front → IsLater s l
+    → IsPathEnd (path ++ s ∷ []) (front ++ l)
 end_more [] front s l e h = (l, [], ap (λ (w : List Token). w ++ l) e ∙ sym (append-nil l), h, refl)
 end_more (x ∷ path) front s l (a, b, e, f, g) h = (a, b ++ l, ap (λ (w : List Token). w ++ l) e ∙ append_assoc a b l, f, end_more path b s l g h)
 
-pub path_more : (path : List StepSyntax) (front : List Token) (s : StepSyntax) (l : List Token) → IsPath path front → IsLater s l → IsPath (path ++ s ∷ []) (front ++ l)
+pub path_more : (path : List StepSyntax) (front : List Token) (s : StepSyntax) (l : List Token) → IsPath path front → IsLater s l
+    → IsPath (path ++ s ∷ []) (front ++ l)
 path_more [] front s l h g = absurd h
 path_more (x ∷ path) front s l (a, b, e, f, g) h = (a, b ++ l, ap (λ (w : List Token). w ++ l) e ∙ append_assoc a b l, f, end_more path b s l g h)
 
@@ -90,7 +109,8 @@ path_more (x ∷ path) front s l (a, b, e, f, g) h = (a, b ++ l, ap (λ (w : Lis
 later_back : (n : ℕ) (s : StepSyntax) (l ts b : List Token) → ts ≡ l ++ b → IsLater s l → Lang (PathRest n) b → Lang (PathRest n) ts
 later_back n s l ts b e h (of, g) = (
   λ path. of (path ++ s ∷ []),
-  λ path front p. subst (IsEntry n (of (path ++ s ∷ []))) (append_assoc front l b ∙ ap (λ (w : List Token). front ++ w) (sym e)) (g (path ++ s ∷ []) (front ++ l) (path_more path front s l p h)),
+  λ path front p. subst (IsEntry n (of (path ++ s ∷ []))) (append_assoc front l b ∙ ap (λ (w : List Token). front ++ w) (sym e))
+      (g (path ++ s ∷ []) (front ++ l) (path_more path front s l p h)),
 )
 
 -- a first step that is one token
@@ -101,7 +121,8 @@ next_back : (t : Token) (s : StepSyntax) (new : List Symbol) (ws : List Token) �
 next_back t s new ws q h n = (t, s, ap (λ (l : List Token). t ∷ l) (subst (λ (l : List Symbol). Langs l ws) (sym q) h), n)
 
 -- `]` and the rest of an entry
-bracket_rest : (n : ℕ) (ws : List Token) → Langs (ABracket ∷ PathRest n ∷ []) ws → (r : Token) × (b : List Token) × (ws ≡ r ∷ b) × (class_of r ≡ RightBracket) × Lang (PathRest n) b
+bracket_rest : (n : ℕ) (ws : List Token) → Langs (ABracket ∷ PathRest n ∷ []) ws → (r : Token) × (b : List Token) × (ws ≡ r ∷ b) × (class_of r ≡ RightBracket)
+    × Lang (PathRest n) b
 bracket_rest n ws h =
     let k = two ABracket (PathRest n) ws h in
     (k.3.0, k.1, k.2 ∙ ap (λ (w : List Token). w ++ k.1) k.3.1, k.3.2, k.4)
@@ -120,15 +141,29 @@ later_bracket_back n t ws p h =
 dot_back : (n : ℕ) (t : Token) (ws : List Token) → class_of t ≡ Dot → Langs (ANext ∷ PathRest n ∷ []) ws → Lang (PathRest n) (t ∷ ws)
 dot_back n t ws p h =
     let k = two ANext (PathRest n) ws h in
-    later_back n k.3.1 (t ∷ k.3.0 ∷ []) (t ∷ ws) k.1 (ap (λ (w : List Token). t ∷ w) (k.2 ∙ ap (λ (w : List Token). w ++ k.1) k.3.2)) (inl (t, k.3.0, refl, p, k.3.3)) k.4
+    later_back n k.3.1 (t ∷ k.3.0 ∷ []) (t ∷ ws) k.1 (ap (λ (w : List Token). t ∷ w) (k.2 ∙ ap (λ (w : List Token). w ++ k.1) k.3.2))
+    (inl (t, k.3.0, refl, p, k.3.3)) k.4
 
 part_back : (t : Token) (ws : List Token) → class_of t ≡ Dot → Langs (AName ∷ AParen ∷ ATerm ∷ MoreTerms ∷ []) ws → Lang ItemRest (t ∷ ws)
 part_back t ws p (a0, b0, e0, (r, f0, p0), (a1, b1, e1, (c, f1, p1), last)) =
     let k = two ATerm MoreTerms b1 last in
-    let whole : ws ≡ r ∷ c ∷ b1 = e0 ∙ ap (λ (w : List Token). w ++ b0) f0 ∙ ap (λ (w : List Token). r ∷ w) (e1 ∙ ap (λ (w : List Token). w ++ b1) f1) in
-    (λ n. Part n r (k.3.0 ∷ k.4.0), λ n name. (t, c, b1, ap (λ (w : List Token). n ∷ t ∷ w) whole, name, p, p0, p1, (k.1, k.2 ∙ ap (λ (w : List Token). w ++ k.1) k.3.1, k.3.2, k.4.1)))
+    let whole : ws ≡ r ∷ c ∷ b1 = e0 ∙ ap (λ (w : List Token). w ++ b0) f0 ∙ ap (λ (w : List Token). r ∷ w) (e1 ∙ ap (λ (w : List Token). w ++ b1) f1) in (
+      λ n. Part n r (k.3.0 ∷ k.4.0),
+      λ n name. (
+        t,
+        c,
+        b1,
+        ap (λ (w : List Token). n ∷ t ∷ w) whole,
+        name,
+        p,
+        p0,
+        p1,
+        (k.1, k.2 ∙ ap (λ (w : List Token). w ++ k.1) k.3.1, k.3.2, k.4.1),
+      ),
+    )
 
-rest_back : (c : TokenKind) (t : Token) (new : List Symbol) (ws : List Token) → class_of t ≡ c → step ItemRest c ≡ Some new → Langs new ws → Lang ItemRest (t ∷ ws)
+rest_back : (c : TokenKind) (t : Token) (new : List Symbol) (ws : List Token) → class_of t ≡ c → step ItemRest c ≡ Some new → Langs new ws
+    → Lang ItemRest (t ∷ ws)
 rest_back LeftParen t new ws p e h =
     let q : ATerm ∷ MoreTerms ∷ [] ≡ new = cc in
     let r = two ATerm MoreTerms ws (subst (λ (l : List Symbol). Langs l ws) (sym q) h) in
@@ -156,28 +191,33 @@ body_comma_back t ws p h =
     )
 
 -- the rest of an item, and more items
-items_back : (c : TokenKind) (t : Token) (new : List Symbol) (ws : List Token) → class_of t ≡ c → step ItemRest c ≡ Some new → Langs (new ++ MoreItems ∷ []) ws → Lang HeadRest (t ∷ ws)
+items_back : (c : TokenKind) (t : Token) (new : List Symbol) (ws : List Token) → class_of t ≡ c → step ItemRest c ≡ Some new → Langs (new ++ MoreItems ∷ []) ws
+    → Lang HeadRest (t ∷ ws)
 items_back c t new ws p e h =
     let k = langs_split new (MoreItems ∷ []) ws h in
     let first = rest_back c t new k.0 p e k.3 in
     let others = one MoreItems k.1 k.4 in
     (λ n. Items (first.0 n ∷ others.0), λ n name. (n ∷ t ∷ k.0, k.1, ap (λ (w : List Token). n ∷ t ∷ w) k.2, first.1 n name, others.1))
 
-step_back : (x : Symbol) (c : TokenKind) (t : Token) (new : List Symbol) (ws : List Token) → class_of t ≡ c → step x c ≡ Some new → Langs new ws → Lang x (t ∷ ws)
+step_back : (x : Symbol) (c : TokenKind) (t : Token) (new : List Symbol) (ws : List Token) → class_of t ≡ c → step x c ≡ Some new → Langs new ws
+    → Lang x (t ∷ ws)
 step_back AName Name t new ws p e h = let q : [] ≡ new = cc in (t, ap (λ (l : List Token). t ∷ l) (subst (λ (l : List Symbol). Langs l ws) (sym q) h), p)
 step_back AParen LeftParen t new ws p e h = let q : [] ≡ new = cc in (t, ap (λ (l : List Token). t ∷ l) (subst (λ (l : List Symbol). Langs l ws) (sym q) h), p)
-step_back ATurnstile Turnstile t new ws p e h = let q : [] ≡ new = cc in (t, ap (λ (l : List Token). t ∷ l) (subst (λ (l : List Symbol). Langs l ws) (sym q) h), p)
+step_back ATurnstile Turnstile t new ws p e h = let q : [] ≡ new = cc in
+    (t, ap (λ (l : List Token). t ∷ l) (subst (λ (l : List Symbol). Langs l ws) (sym q) h), p)
 step_back ATerm c t new ws p e h = term_back t c new ws p e h
 step_back MoreNames Comma t new ws p e h =
     let q : AName ∷ MoreNames ∷ [] ≡ new = cc in
     let r = two AName MoreNames ws (subst (λ (l : List Symbol). Langs l ws) (sym q) h) in
     (r.3.0 ∷ r.4.0, tail_back IsName t r.3.0 ws r.0 r.1 r.4.0 p r.2 r.3.1 r.3.2 r.4.1)
-step_back MoreNames RightParen t new ws p e h = let q : [] ≡ new = cc in ([], (t, ap (λ (l : List Token). t ∷ l) (subst (λ (l : List Symbol). Langs l ws) (sym q) h), p))
+step_back MoreNames RightParen t new ws p e h = let q : [] ≡ new = cc in
+    ([], (t, ap (λ (l : List Token). t ∷ l) (subst (λ (l : List Symbol). Langs l ws) (sym q) h), p))
 step_back MoreTerms Comma t new ws p e h =
     let q : ATerm ∷ MoreTerms ∷ [] ≡ new = cc in
     let r = two ATerm MoreTerms ws (subst (λ (l : List Symbol). Langs l ws) (sym q) h) in
     (r.3.0 ∷ r.4.0, tail_back IsTerm t r.3.0 ws r.0 r.1 r.4.0 p r.2 r.3.1 r.3.2 r.4.1)
-step_back MoreTerms RightParen t new ws p e h = let q : [] ≡ new = cc in ([], (t, ap (λ (l : List Token). t ∷ l) (subst (λ (l : List Symbol). Langs l ws) (sym q) h), p))
+step_back MoreTerms RightParen t new ws p e h = let q : [] ≡ new = cc in
+    ([], (t, ap (λ (l : List Token). t ∷ l) (subst (λ (l : List Symbol). Langs l ws) (sym q) h), p))
 step_back AnItem Name t new ws p e h =
     let q : ItemRest ∷ [] ≡ new = cc in
     let r = one ItemRest ws (subst (λ (l : List Symbol). Langs l ws) (sym q) h) in (r.0 t, r.1 t p)
@@ -188,7 +228,15 @@ step_back MoreItems Comma t new ws p e h =
     (r.3.0 ∷ r.4.0, (t, r.0, r.1, ap (λ (w : List Token). t ∷ w) r.2, p, r.3.1, r.4.1))
 step_back MoreBody Comma t new ws p e h =
     let q : AnItem ∷ MoreBody ∷ [] ≡ new = cc in body_comma_back t ws p (subst (λ (l : List Symbol). Langs l ws) (sym q) h)
-step_back MoreBody Arrow t new ws p e h = let q : [] ≡ new = cc in ([], [], t, ap (λ (l : List Token). t ∷ l) (subst (λ (l : List Symbol). Langs l ws) (sym q) h), refl, p)
+step_back MoreBody Arrow t new ws p e h = let q : [] ≡ new = cc in (
+  [],
+  [],
+  t,
+  ap (λ (l : List Token). t ∷ l)
+      (subst (λ (l : List Symbol). Langs l ws) (sym q) h),
+  refl,
+  p,
+)
 step_back AHead Name t new ws p e h =
     let q : HeadRest ∷ [] ≡ new = cc in
     let r = one HeadRest ws (subst (λ (l : List Symbol). Langs l ws) (sym q) h) in (r.0 t, r.1 t p)
@@ -197,18 +245,23 @@ step_back HeadRest Equals t new ws p e h =
     let r = one ATerm ws (subst (λ (l : List Symbol). Langs l ws) (sym q) h) in
     (λ n. Equality n r.0, λ n name. (t, ap (λ (w : List Token). n ∷ t ∷ w) r.1, name, p, r.2))
 step_back HeadRest LeftParen t new ws p e h =
-    let q : ATerm ∷ MoreTerms ∷ MoreItems ∷ [] ≡ new = cc in items_back LeftParen t (ATerm ∷ MoreTerms ∷ []) ws p refl (subst (λ (l : List Symbol). Langs l ws) (sym q) h)
+    let q : ATerm ∷ MoreTerms ∷ MoreItems ∷ [] ≡ new = cc in items_back LeftParen t (ATerm ∷ MoreTerms ∷ []) ws p refl
+    (subst (λ (l : List Symbol). Langs l ws) (sym q) h)
 step_back HeadRest Dot t new ws p e h =
     let q : AName ∷ AParen ∷ ATerm ∷ MoreTerms ∷ MoreItems ∷ [] ≡ new = cc in
     items_back Dot t (AName ∷ AParen ∷ ATerm ∷ MoreTerms ∷ []) ws p refl (subst (λ (l : List Symbol). Langs l ws) (sym q) h)
 step_back HeadRest LeftBrace t new ws p e h =
-    let q : AnEntry 1 ∷ MoreEntries 1 ∷ MoreItems ∷ [] ≡ new = cc in items_back LeftBrace t (AnEntry 1 ∷ MoreEntries 1 ∷ []) ws p refl (subst (λ (l : List Symbol). Langs l ws) (sym q) h)
+    let q : AnEntry 1 ∷ MoreEntries 1 ∷ MoreItems ∷ [] ≡ new = cc in items_back LeftBrace t (AnEntry 1 ∷ MoreEntries 1 ∷ []) ws p refl
+    (subst (λ (l : List Symbol). Langs l ws) (sym q) h)
 step_back (AnEntry n) Name t new ws p e h =
-    let q : PathRest n ∷ [] ≡ new = cc in first_back n (Field t) t ws (ap (λ (k : TokenKind). step_at k t) p) (one (PathRest n) ws (subst (λ (l : List Symbol). Langs l ws) (sym q) h))
+    let q : PathRest n ∷ [] ≡ new = cc in first_back n (Field t) t ws (ap (λ (k : TokenKind). step_at k t) p)
+    (one (PathRest n) ws (subst (λ (l : List Symbol). Langs l ws) (sym q) h))
 step_back (AnEntry n) Quoted t new ws p e h =
-    let q : PathRest n ∷ [] ≡ new = cc in first_back n (Field t) t ws (ap (λ (k : TokenKind). step_at k t) p) (one (PathRest n) ws (subst (λ (l : List Symbol). Langs l ws) (sym q) h))
+    let q : PathRest n ∷ [] ≡ new = cc in first_back n (Field t) t ws (ap (λ (k : TokenKind). step_at k t) p)
+    (one (PathRest n) ws (subst (λ (l : List Symbol). Langs l ws) (sym q) h))
 step_back (AnEntry n) Stars t new ws p e h =
-    let q : PathRest n ∷ [] ≡ new = cc in first_back n Below t ws (ap (λ (k : TokenKind). step_at k t) p) (one (PathRest n) ws (subst (λ (l : List Symbol). Langs l ws) (sym q) h))
+    let q : PathRest n ∷ [] ≡ new = cc in first_back n Below t ws (ap (λ (k : TokenKind). step_at k t) p)
+    (one (PathRest n) ws (subst (λ (l : List Symbol). Langs l ws) (sym q) h))
 step_back (AnEntry n) LeftBracket t new ws p e h =
     let q : ABracket ∷ PathRest n ∷ [] ≡ new = cc in first_bracket_back n t ws p (subst (λ (l : List Symbol). Langs l ws) (sym q) h)
 step_back (PathRest n) LeftBracket t new ws p e h =
@@ -222,20 +275,23 @@ step_back (PathRest n) Colon t new ws p e h =
 step_back ANext Name t new ws p e h = let q : [] ≡ new = cc in next_back t (Field t) new ws q h (ap (λ (k : TokenKind). step_at k t) p)
 step_back ANext Quoted t new ws p e h = let q : [] ≡ new = cc in next_back t (Field t) new ws q h (ap (λ (k : TokenKind). step_at k t) p)
 step_back ANext Stars t new ws p e h = let q : [] ≡ new = cc in next_back t Below new ws q h (ap (λ (k : TokenKind). step_at k t) p)
-step_back ABracket RightBracket t new ws p e h = let q : [] ≡ new = cc in (t, ap (λ (l : List Token). t ∷ l) (subst (λ (l : List Symbol). Langs l ws) (sym q) h), p)
+step_back ABracket RightBracket t new ws p e h = let q : [] ≡ new = cc in
+    (t, ap (λ (l : List Token). t ∷ l) (subst (λ (l : List Symbol). Langs l ws) (sym q) h), p)
 step_back (PathRest n) LeftBrace t new ws p e h = brace_back n t new ws p e h
 step_back (MoreEntries n) Comma t new ws p e h =
     let q : AnEntry n ∷ MoreEntries n ∷ [] ≡ new = cc in
     let r = two (AnEntry n) (MoreEntries n) ws (subst (λ (l : List Symbol). Langs l ws) (sym q) h) in
     (AndEntry r.3.0 r.4.0, (t, r.0, r.1, ap (λ (w : List Token). t ∷ w) r.2, p, r.3.1, r.4.1))
-step_back (MoreEntries n) RightBrace t new ws p e h = let q : [] ≡ new = cc in (NoEntry, (t, ap (λ (l : List Token). t ∷ l) (subst (λ (l : List Symbol). Langs l ws) (sym q) h), p))
+step_back (MoreEntries n) RightBrace t new ws p e h = let q : [] ≡ new = cc in
+    (NoEntry, (t, ap (λ (l : List Token). t ∷ l) (subst (λ (l : List Symbol). Langs l ws) (sym q) h), p))
 step_back _ _ t new ws p e h = absurd cc
 
 advance_back : (xs : List Symbol) (t : Token) (new : List Symbol) (ws : List Token) → advance xs (class_of t) ≡ Some new → Langs new ws → Langs xs (t ∷ ws)
 advance_back [] t new ws e h = absurd cc
 advance_back (x ∷ xs) t new ws e h = go (step x (class_of t)) refl e
   where
-    go : (o : Option (List Symbol)) → step x (class_of t) ≡ o → elim o as (λ _. Option (List Symbol)) [ Some put ↦ Some (put ++ xs) | None ↦ None ] ≡ Some new → Langs (x ∷ xs) (t ∷ ws)
+    go : (o : Option (List Symbol)) → step x (class_of t) ≡ o → elim o as (λ _. Option (List Symbol)) [ Some put ↦ Some (put ++ xs) | None ↦ None ] ≡ Some new
+        → Langs (x ∷ xs) (t ∷ ws)
     go None f g = absurd cc
     go (Some put) f g =
         let q : put ++ xs ≡ new = cc in
@@ -250,7 +306,17 @@ a_token k = record { kind = k; start = 0; end = 0 }
 least_rest : (ts : List Token) × Lang ItemRest ts
 least_rest = (
   a_token LeftParen ∷ a_token Wildcard ∷ a_token RightParen ∷ [],
-  (λ n. Atom n (a_token Wildcard ∷ []), λ n name. (a_token LeftParen, a_token Wildcard ∷ a_token RightParen ∷ [], refl, name, refl, (a_token RightParen ∷ [], refl, refl, (a_token RightParen, refl, refl)))),
+  (
+    λ n. Atom n (a_token Wildcard ∷ []),
+    λ n name. (
+      a_token LeftParen,
+      a_token Wildcard ∷ a_token RightParen ∷ [],
+      refl,
+      name,
+      refl,
+      (a_token RightParen ∷ [], refl, refl, (a_token RightParen, refl, refl)),
+    ),
+  ),
 )
 
 least_end : (n : ℕ) → (ts : List Token) × Lang (PathRest n) ts
@@ -305,7 +371,8 @@ record Run (xs : List Symbol) (ts rest : List Token) : Type 0 where
 stops_here : (xs : List Symbol) (ts rest : List Token) → ts ≡ rest → IsStuck xs ts → Run xs ts rest
 stops_here xs ts rest e h = subst (Run xs ts) e (record { front = []; then = xs; split = refl; forward = λ ws. refl; backward = λ ws g. g; stuck = h })
 
-goes_on : (xs : List Symbol) (t : Token) (ts rest : List Token) (new : List Symbol) → advance xs (class_of t) ≡ Some new → Run new ts rest → Run xs (t ∷ ts) rest
+goes_on : (xs : List Symbol) (t : Token) (ts rest : List Token) (new : List Symbol) → advance xs (class_of t) ≡ Some new → Run new ts rest
+    → Run xs (t ∷ ts) rest
 goes_on xs t ts rest new f r = record {
   front = t ∷ r.front;
   then = r.then;
@@ -323,7 +390,8 @@ run_is : (ts rest : List Token) (xs : List Symbol) → first_fault xs ts ≡ Som
 run_is [] rest xs e = run_end rest xs (is_done xs) refl e
 run_is (t ∷ ts) rest xs e = go (advance xs (class_of t)) refl e (run_is ts rest)
   where
-    go : (o : Option (List Symbol)) → advance xs (class_of t) ≡ o → after o t ts ≡ Some rest → ((new : List Symbol) → first_fault new ts ≡ Some rest → Run new ts rest) → Run xs (t ∷ ts) rest
+    go : (o : Option (List Symbol)) → advance xs (class_of t) ≡ o → after o t ts ≡ Some rest
+        → ((new : List Symbol) → first_fault new ts ≡ Some rest → Run new ts rest) → Run xs (t ∷ ts) rest
     go None f g later = let q : t ∷ ts ≡ rest = cc in stops_here xs (t ∷ ts) rest q f
     go (Some new) f g later = goes_on xs t ts rest new f (later new g)
 
@@ -337,7 +405,9 @@ query_of ts (a0, b0, e0, (n, f0, p0), (a1, b1, e1, (paren, f1, p1), (a2, b2, e2,
         head,
         turn,
         b4,
-        e0 ∙ ap (λ (w : List Token). w ++ b0) f0 ∙ ap (λ (w : List Token). n ∷ w) (e1 ∙ ap (λ (w : List Token). w ++ b1) f1 ∙ ap (λ (w : List Token). paren ∷ w) (e2 ∙ ap (λ (w : List Token). w ++ b2) f2 ∙ ap (λ (w : List Token). v ∷ w) (e3 ∙ ap (λ (w : List Token). a3 ++ w) (e4 ∙ ap (λ (w : List Token). w ++ b4) f4)))),
+        e0 ∙ ap (λ (w : List Token). w ++ b0) f0 ∙ ap (λ (w : List Token). n ∷ w) (e1 ∙ ap (λ (w : List Token). w ++ b1) f1
+            ∙ ap (λ (w : List Token). paren ∷ w) (e2 ∙ ap (λ (w : List Token). w ++ b2) f2
+            ∙ ap (λ (w : List Token). v ∷ w) (e3 ∙ ap (λ (w : List Token). a3 ++ w) (e4 ∙ ap (λ (w : List Token). w ++ b4) f4)))),
         p0,
         p1,
         (a3, refl, p2, p3),

@@ -16,7 +16,8 @@ use Rattle.esto_text.specs.Trees.{EntryTree, Value, Nested, EntryTrees, NoEntry,
 
 -- ---- from the tokens to the tree
 
-module _ (P N F T : Token → Type 0) (name_leaf : (t : Token) → P t → IsName t → N t) (field_leaf : (t : Token) → P t → step_at (class_of t) t ≡ Some (Field t) → F t)
+module _ (P N F T : Token → Type 0) (name_leaf : (t : Token) → P t → IsName t → N t) (field_leaf : (t : Token) → P t → step_at (class_of t) t ≡ Some (Field t)
+    → F t)
     (term_leaf : (t : Token) → P t → IsTerm t → T t) where
   abbrev Every : List Token → Type 0
   Every = AllByRecursion P
@@ -83,8 +84,10 @@ module _ (P N F T : Token → Type 0) (name_leaf : (t : Token) → P t → IsNam
     entry_each (Nested path NoEntry) n ts h all = absurd h
     entry_each (Nested path (AndEntry first others)) n ts (front, brace, a, b, e, p, c, lt, ha, hb) all =
         let here = subst Every e all in
-        let inside = (back_of front (brace ∷ (a ++ b)) here).1 in
-        (path_each path front p (front_of front (brace ∷ (a ++ b)) here), (entry_each first (suc n) a ha (front_of a b inside), entries_each others (suc n) b hb (back_of a b inside)))
+        let inside = (back_of front (brace ∷ (a ++ b)) here).1 in (
+          path_each path front p (front_of front (brace ∷ (a ++ b)) here),
+          (entry_each first (suc n) a ha (front_of a b inside), entries_each others (suc n) b hb (back_of a b inside)),
+        )
 
     entries_each : (fs : EntryTrees) (n : ℕ) (ts : List Token) → IsGroupEnd n fs ts → Every ts → EachOfEntries F T fs
     entries_each NoEntry n ts h all = tt
@@ -117,8 +120,12 @@ module _ (P N F T : Token → Type 0) (name_leaf : (t : Token) → P t → IsNam
   pub query_each : (q : QueryTree) (ts : List Token) → IsQuery q ts → Every ts → EachOfQuery N F T q
   query_each q ts (paren, head, turnstile, body, e, n, p, h, t, b) all =
       let here = subst Every e all in
-      let behind = here.1.1 in
-      (name_leaf q.name here.0 n, row_each IsName N name_leaf q.variables head h (front_of head (turnstile ∷ body) behind), body_each q.items body b (back_of head (turnstile ∷ body) behind).1)
+      let behind = here.1.1 in (
+        name_leaf q.name here.0 n,
+        row_each IsName N name_leaf q.variables head h (front_of head (turnstile ∷ body) behind),
+        body_each q.items body b
+            (back_of head (turnstile ∷ body) behind).1,
+      )
 
   head_each : (W : Token → Type 0) (h : HeadTree) (ts : List Token) → IsHead W h ts → Every ts → EachOfHead N F T h
   head_each W (Items items) ts h all = body_each items ts h all
@@ -134,19 +141,23 @@ module _ (P N F T : Token → Type 0) (name_leaf : (t : Token) → P t → IsNam
 -- ---- tokens stand in the text
 
 module _ (bytes : List ℕ) where
-  stands_here : (at : ℕ) (t : Token) (gap text after : List ℕ) → at ≤ length bytes → Places at (drop at bytes) t gap text after → StandsIn bytes t × (drop t.end bytes ≡ after)
+  stands_here : (at : ℕ) (t : Token) (gap text after : List ℕ) → at ≤ length bytes → Places at (drop at bytes) t gap text after → StandsIn bytes t
+      × (drop t.end bytes ≡ after)
   stands_here at t gap text after le p =
       let n = length-append gap (text ++ after) in
       let m = length-append text after in
       let whole : drop t.start bytes ≡ text ++ after =
-      ap (λ (i : ℕ). drop i bytes) (p.starts ∙ omega arith) ∙ sym (drop-drop (length gap) at bytes) ∙ ap (drop (length gap)) p.parts ∙ drop-append_seam gap (text ++ after) in
+      ap (λ (i : ℕ). drop i bytes) (p.starts ∙ omega arith) ∙ sym (drop-drop (length gap) at bytes) ∙ ap (drop (length gap)) p.parts
+      ∙ drop-append_seam gap (text ++ after) in
       let end : drop t.end bytes ≡ after =
-      ap (λ (i : ℕ). drop i bytes) (p.ends ∙ omega arith) ∙ sym (drop-drop (length text) t.start bytes) ∙ ap (drop (length text)) whole ∙ drop-append_seam text after in
+      ap (λ (i : ℕ). drop i bytes) (p.ends ∙ omega arith) ∙ sym (drop-drop (length text) t.start bytes) ∙ ap (drop (length text)) whole
+      ∙ drop-append_seam text after in
       let said : text_of bytes t ≡ text = ap (take (t.end - t.start)) whole ∙ take_at text after (t.end - t.start) (omega (arith, p.ends)) in (
         record {
           in_order = omega (arith, p.ends);
           in_range = omega (arith, p.starts, p.ends, ap length p.parts, length-drop at bytes);
-          is_token = subst (λ (l : List ℕ). IsToken t.kind (text_of bytes t) l) (sym end) (subst (λ (l : List ℕ). IsToken t.kind l after) (sym said) p.is_token);
+          is_token = subst (λ (l : List ℕ). IsToken t.kind (text_of bytes t) l) (sym end)
+              (subst (λ (l : List ℕ). IsToken t.kind l after) (sym said) p.is_token);
         },
         end,
       )
@@ -205,14 +216,19 @@ module _ (bytes : List ℕ) where
   name_in t p h = (fits_stands t p (λ e. cc), fitting_name t.kind (t.end - t.start) h)
 
   field_in : (t : Token) → StandsOrNot t → step_at (class_of t) t ≡ Some (Field t) → IsFieldIn bytes t
-  field_in t p h = (fits_stands t p (λ e. let f : None ≡ Some (Field t) = sym (ap (λ (k : TokenKind). step_at k t) e) ∙ h in cc), fitting_field t.kind (t.end - t.start) t h)
+  field_in t p h = (
+    fits_stands t p (λ e. let f : None ≡ Some (Field t) = sym (ap (λ (k : TokenKind). step_at k t) e) ∙ h in
+        cc),
+    fitting_field t.kind (t.end - t.start) t h,
+  )
 
   term_in : (t : Token) → StandsOrNot t → IsTerm t → IsTermIn bytes t
   term_in t p h = (fits_stands t p (λ e. let f : false ≡ true = sym (ap is_term e) ∙ h in cc), fitting_term t.kind (t.end - t.start) h)
 
   pub tree_stands : (ts : List Token) (q : QueryTree) → Covers 0 bytes ts → IsQuery q (limited ts) → StandsAt bytes q
   tree_stands ts q h g =
-      query_each StandsOrNot (IsNameIn bytes) (IsFieldIn bytes) (IsTermIn bytes) name_in field_in term_in q (limited ts) g (limited_stands ts (stand_all 0 ts (omega arith) h))
+      query_each StandsOrNot (IsNameIn bytes) (IsFieldIn bytes) (IsTermIn bytes) name_in field_in term_in q (limited ts) g
+      (limited_stands ts (stand_all 0 ts (omega arith) h))
 
   pub tokens_stand : (ts : List Token) → Covers 0 bytes ts → AllByRecursion (StandsIn bytes) ts
   tokens_stand ts h = stand_all 0 ts (omega arith) h

@@ -50,7 +50,8 @@ abbrev sign_kind : ℕ → List ℕ → TokenKind
 sign_kind b u =
     if b == 95 then Wildcard else (if b == 39 then Quoted else (if b == 45 then after_minus u else (if b == 58 then after_colon u else (if b == 42 then Stars
     else (if b == 40 then LeftParen else (if b == 41 then RightParen else (if b == 123 then LeftBrace else (if b == 125 then RightBrace
-    else (if b == 91 then LeftBracket else (if b == 93 then RightBracket else (if b == 44 then Comma else (if b == 46 then Dot else (if b == 61 then Equals else Stray)))))))))))))
+    else (if b == 91 then LeftBracket else (if b == 93 then RightBracket else
+    (if b == 44 then Comma else (if b == 46 then Dot else (if b == 61 then Equals else Stray)))))))))))))
 
 -- a token's text tells its kind
 abbrev pub kind_of : List ℕ → TokenKind
@@ -82,7 +83,8 @@ pub nil_of : (k : TokenKind) (a : List ℕ) → ¬ IsLexeme k [] a
 nil_of k a h = subst (λ (x : TokenKind). IsLexeme x [] a) (sym (kind_is k [] a h)) h
 
 -- what a token at the front begins with
-pub starts : (k : TokenKind) (b : ℕ) (rest t a : List ℕ) → t ++ a ≡ b ∷ rest → IsLexeme k t a → (u : List ℕ) × (t ≡ b ∷ u) × (u ++ a ≡ rest) × (kind_of (b ∷ u) ≡ k)
+pub starts : (k : TokenKind) (b : ℕ) (rest t a : List ℕ) → t ++ a ≡ b ∷ rest → IsLexeme k t a → (u : List ℕ) × (t ≡ b ∷ u) × (u ++ a ≡ rest)
+    × (kind_of (b ∷ u) ≡ k)
 starts k b rest [] a e h = absurd (nil_of k a h)
 starts k b rest (x ∷ u) a e h =
     let p : x ≡ b = cc in let q : u ++ a ≡ rest = cc in
@@ -98,14 +100,16 @@ lexes_at kind b rest n le stands longest =
       omega arith,
       record {
         stands = stands;
-        longest = λ k t a e h. let e2 : t ++ a ≡ b ∷ rest = e ∙ ap (λ (l : List ℕ). b ∷ l) (take-append-drop n rest) in omega (arith, longest k t a e2 h, length-take-le n rest le);
+        longest = λ k t a e h. let e2 : t ++ a ≡ b ∷ rest = e ∙ ap (λ (l : List ℕ). b ∷ l) (take-append-drop n rest) in
+            omega (arith, longest k t a e2 h, length-take-le n rest le);
       },
     )
 
 -- ---- names, numbers and quoted constants
 
 module _ (b : ℕ) (rest : List ℕ) (n : ℕ) (le : n ≤ length rest) where
-  pub name_is : IsLetter b → ((k : ℕ) → k < n → IsIn Word (get_or rest k 0)) → (n < length rest → ¬ IsIn Word (get_or rest n 0)) → Lexes (b ∷ rest) (Some (Name, n + 1))
+  pub name_is : IsLetter b → ((k : ℕ) → k < n → IsIn Word (get_or rest k 0)) → (n < length rest → ¬ IsIn Word (get_or rest n 0))
+      → Lexes (b ∷ rest) (Some (Name, n + 1))
   name_is letter each stops =
       lexes_at Name b rest n le (record { first = b; others = take n rest; is = refl; letter = letter; words = run_all Word rest n le each }) (λ k t a e h.
       let s = starts k b rest t a e h in
@@ -113,9 +117,11 @@ module _ (b : ℕ) (rest : List ℕ) (n : ℕ) (le : n ≤ length rest) where
       let u-is : s.0 ≡ name.others = cc (sym s.1 ∙ name.is) in
       omega (arith, run_max Word rest n s.0 a s.2 (subst (AllByRecursion (IsIn Word)) (sym u-is) name.words) stops, ap length s.1))
 
-  pub number_is : IsDigit b → ((k : ℕ) → k < n → IsIn Digit (get_or rest k 0)) → (n < length rest → ¬ IsIn Digit (get_or rest n 0)) → Lexes (b ∷ rest) (Some (Number, n + 1))
+  pub number_is : IsDigit b → ((k : ℕ) → k < n → IsIn Digit (get_or rest k 0)) → (n < length rest → ¬ IsIn Digit (get_or rest n 0))
+      → Lexes (b ∷ rest) (Some (Number, n + 1))
   number_is digit each stops =
-      lexes_at Number b rest n le (record { first = b; others = take n rest; is = inl refl; digit = digit; digits = run_all Digit rest n le each }) (λ k t a e h.
+      lexes_at Number b rest n le (record { first = b; others = take n rest; is = inl refl; digit = digit; digits = run_all Digit rest n le each })
+      (λ k t a e h.
       let s = starts k b rest t a e h in
       let number : IsNumberText t = of_kind k Number t a (sym s.3 ∙ digit_kind b s.0 digit) h in
       elim number.is [
@@ -133,7 +139,8 @@ minus_is (y ∷ rest) free k (x ∷ u) a e p =
     let r : eqb x 62 ≡ false = grind (arith, free (omega arith), same) in
     sym p ∙ rw r refl
 
-minus_max : (rest : List ℕ) (n : ℕ) → (0 < length rest → get_or rest 0 0 ≢ 62) → (n < length rest → ¬ IsIn Digit (get_or rest n 0)) → (k : TokenKind) (t a : List ℕ) → t ++ a ≡ 45 ∷ rest → IsLexeme k t a → (0 < n) × (length t ≤ n + 1)
+minus_max : (rest : List ℕ) (n : ℕ) → (0 < length rest → get_or rest 0 0 ≢ 62) → (n < length rest → ¬ IsIn Digit (get_or rest n 0))
+    → (k : TokenKind) (t a : List ℕ) → t ++ a ≡ 45 ∷ rest → IsLexeme k t a → (0 < n) × (length t ≤ n + 1)
 minus_max rest n free stops k t a e h =
     let s = starts k 45 rest t a e h in
     let number : IsNumberText t = of_kind k Number t a (minus_is rest free k s.0 a s.2 s.3) h in
@@ -149,9 +156,11 @@ digits_are rest zero ne le all = absurd (ne refl)
 digits_are [] (suc n) ne le all = absurd (omega arith)
 digits_are (x ∷ rest) (suc n) ne le all = record { first = x; others = take n rest; is = inr refl; digit = all.0; digits = all.1 }
 
-pub negative_is : (rest : List ℕ) (n : ℕ) → (0 < length rest → get_or rest 0 0 ≢ 62) → n ≢ 0 → n ≤ length rest → ((k : ℕ) → k < n → IsIn Digit (get_or rest k 0)) → (n < length rest → ¬ IsIn Digit (get_or rest n 0))
+pub negative_is : (rest : List ℕ) (n : ℕ) → (0 < length rest → get_or rest 0 0 ≢ 62) → n ≢ 0 → n ≤ length rest
+    → ((k : ℕ) → k < n → IsIn Digit (get_or rest k 0)) → (n < length rest → ¬ IsIn Digit (get_or rest n 0))
     → Lexes (45 ∷ rest) (Some (Number, n + 1))
-negative_is rest n free ne le each stops = lexes_at Number 45 rest n le (digits_are rest n ne le (run_all Digit rest n le each)) (λ k t a e h. (minus_max rest n free stops k t a e h).1)
+negative_is rest n free ne le each stops = lexes_at Number 45 rest n le (digits_are rest n ne le (run_all Digit rest n le each))
+    (λ k t a e h. (minus_max rest n free stops k t a e h).1)
 
 pub no_number : (rest : List ℕ) → (0 < length rest → get_or rest 0 0 ≢ 62) → (0 < length rest → ¬ IsIn Digit (get_or rest 0 0)) → Lexes (45 ∷ rest) None
 no_number rest free stops k t a e h = omega (arith, (minus_max rest 0 free stops k t a e h).0)
@@ -164,7 +173,8 @@ quoted_rest rest k t a e h =
     (s.0, s.1, s.2, subst IsClosed (sym u-is) q.2)
 
 pub quoted_is : (rest : List ℕ) (n : ℕ) → LongestClosed rest (Some n) → Lexes (39 ∷ rest) (Some (Quoted, n + 1))
-quoted_is rest n h = lexes_at Quoted 39 rest n h.0 (take n rest, refl, h.1) (λ k t a e g. let q = quoted_rest rest k t a e g in omega (arith, h.2 q.0 a q.2 q.3, ap length q.1))
+quoted_is rest n h = lexes_at Quoted 39 rest n h.0 (take n rest, refl, h.1) (λ k t a e g. let q = quoted_rest rest k t a e g in
+    omega (arith, h.2 q.0 a q.2 q.3, ap length q.1))
 
 pub no_quoted : (rest : List ℕ) → LongestClosed rest None → Lexes (39 ∷ rest) None
 no_quoted rest h k t a e g = let q = quoted_rest rest k t a e g in h q.0 a q.2 q.3

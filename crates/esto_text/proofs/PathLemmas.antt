@@ -25,7 +25,8 @@ NoneStands rest e = (e ≡ Syntax (length rest)) × NoStep (class_at rest)
 
 -- ---- a step
 
-pub brackets_taken : (tokens left : List Token) (r : Token) → class_at tokens ≡ LeftBracket → (drop 1 tokens ≡ r ∷ left) × (class_of r ≡ RightBracket) → Takes (IsBrackets Item) tokens left
+pub brackets_taken : (tokens left : List Token) (r : Token) → class_at tokens ≡ LeftBracket → (drop 1 tokens ≡ r ∷ left) × (class_of r ≡ RightBracket)
+    → Takes (IsBrackets Item) tokens left
 brackets_taken tokens left r p (e, q) =
     let t = next_is tokens LeftBracket p (λ z. cc) in
     (t.0 ∷ r ∷ [], t.1 ∙ ap (λ (l : List Token). t.0 ∷ l) e, (refl, t.0, r, refl, t.2, q))
@@ -39,7 +40,8 @@ later_brackets tokens left (front, e, h) = (front, e, inr h)
 pub first_next : (tokens left : List Token) (s : StepSyntax) → (t : Token) × (tokens ≡ t ∷ left) × IsNext s t → Takes (IsFirst s) tokens left
 first_next tokens left s (t, e, h) = (t ∷ [], e, inl (t, refl, h))
 
-pub later_next : (tokens left : List Token) (s : StepSyntax) → class_at tokens ≡ Dot → (t : Token) × (drop 1 tokens ≡ t ∷ left) × IsNext s t → Takes (IsLater s) tokens left
+pub later_next : (tokens left : List Token) (s : StepSyntax) → class_at tokens ≡ Dot → (t : Token) × (drop 1 tokens ≡ t ∷ left) × IsNext s t
+    → Takes (IsLater s) tokens left
 later_next tokens left s p (t, e, h) =
     let d = next_is tokens Dot p (λ z. cc) in
     (d.0 ∷ t ∷ [], d.1 ∙ ap (λ (l : List Token). d.0 ∷ l) e, inl (d.0, t, refl, d.2, h))
@@ -50,7 +52,8 @@ first_fails tokens e (q, h) g n s = fails_here (AnEntry n) s tokens e refl (not_
 pub dot_fails : (tokens : List Token) (e : Stop) → class_at tokens ≡ Dot → NoneStands (drop 1 tokens) e → (n : ℕ) → Fails (PathRest n ∷ []) tokens e
 dot_fails tokens e p (q, h) n s =
     let d = next_is tokens Dot p (λ z. cc) in
-    fails_along (PathRest n ∷ s) (ANext ∷ PathRest n ∷ s) tokens (drop 1 tokens) e (ap (first_fault (PathRest n ∷ s)) d.1 ∙ seen (PathRest n ∷ s) d.0 (drop 1 tokens) Dot d.2)
+    fails_along (PathRest n ∷ s) (ANext ∷ PathRest n ∷ s) tokens (drop 1 tokens) e (ap (first_fault (PathRest n ∷ s)) d.1
+    ∙ seen (PathRest n ∷ s) d.0 (drop 1 tokens) Dot d.2)
     (fails_here ANext (PathRest n ∷ s) (drop 1 tokens) e refl (not_next (class_at (drop 1 tokens)) h) q)
 
 -- ---- a path
@@ -58,10 +61,12 @@ dot_fails tokens e p (q, h) n s =
 pub path_begins : (tokens rest : List Token) (s : StepSyntax) → Takes (IsFirst s) tokens rest → Takes (IsPath (s ∷ [])) tokens rest
 path_begins tokens rest s (front, e, h) = (front, e, (front, [], sym (append-nil front), h, refl))
 
-pub path_goes : (tokens rest left : List Token) (path : List StepSyntax) (s : StepSyntax) → Takes (IsPath path) tokens rest → Takes (IsLater s) rest left → Takes (IsPath (path ++ s ∷ [])) tokens left
+pub path_goes : (tokens rest left : List Token) (path : List StepSyntax) (s : StepSyntax) → Takes (IsPath path) tokens rest → Takes (IsLater s) rest left
+    → Takes (IsPath (path ++ s ∷ [])) tokens left
 path_goes tokens rest left path s (front, e, h) (more, f, g) =
     (front ++ more, e ∙ ap (λ (l : List Token). front ++ l) f ∙ sym (append_assoc front more left), path_more path front s more h g)
 
-pub path_fails : (tokens rest : List Token) (path : List StepSyntax) (e : Stop) → Takes (IsPath path) tokens rest → ((n : ℕ) → Fails (PathRest n ∷ []) rest e) → (n : ℕ) → Fails (AnEntry n ∷ []) tokens e
+pub path_fails : (tokens rest : List Token) (path : List StepSyntax) (e : Stop) → Takes (IsPath path) tokens rest → ((n : ℕ) → Fails (PathRest n ∷ []) rest e)
+    → (n : ℕ) → Fails (AnEntry n ∷ []) tokens e
 path_fails tokens rest path e (front, p, h) f n s =
     fails_along (AnEntry n ∷ s) (PathRest n ∷ s) tokens rest e (ap (first_fault (AnEntry n ∷ s)) p ∙ path_runs n path front s rest h) (f n s)

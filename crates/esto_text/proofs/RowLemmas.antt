@@ -22,7 +22,8 @@ pub stops_here : (x : Symbol) (s : List Symbol) (ts : List Token) → is_done (x
 stops_here x s [] d n = ([], ap (λ (b : Bool). cond {A = Option (List Token)} b None (Some [])) d, refl)
 stops_here x s (t ∷ ts) d n = (t ∷ ts, ap (λ (o : Option (List Symbol)). after (put o s) t ts) n, refl)
 
-pub fails_here : (x : Symbol) (s : List Symbol) (ts : List Token) (e : Stop) → is_done (x ∷ s) ≡ false → step x (class_at ts) ≡ None → e ≡ Syntax (length ts) → FailsAt (x ∷ s) ts e
+pub fails_here : (x : Symbol) (s : List Symbol) (ts : List Token) (e : Stop) → is_done (x ∷ s) ≡ false → step x (class_at ts) ≡ None → e ≡ Syntax (length ts)
+    → FailsAt (x ∷ s) ts e
 fails_here x s ts e d n q = subst (FailsAt (x ∷ s) ts) (sym q) (stops_here x s ts d n)
 
 pub not_name : (c : TokenKind) → c ≢ Name → step AName c ≡ None
@@ -110,20 +111,24 @@ abbrev pub next : Bool → List Symbol → List Symbol → List Symbol
 next true from to = from
 next false from to = to
 
-pub record Goes {X : Type 0} (Row : List X → List Token → Type 0) (from to : List Symbol) (tokens : List Token) (so_far : List X) (rest : List Token) (more : Bool) : Type 0 where
+pub record Goes {X : Type 0} (Row : List X → List Token → Type 0) (from to : List Symbol) (tokens : List Token) (so_far : List X) (rest : List Token)
+    (more : Bool) : Type 0 where
   pub front : List Token
   pub split : tokens ≡ front ++ rest
   pub grows : Grows Row so_far front more
   pub runs : first_fault from tokens ≡ first_fault (next more from to) rest
 
 module _ {X : Type 0} (Row : List X → List Token → Type 0) (from to : List Symbol) (tokens : List Token) where
-  grows_more : (so_far : List X) (front : List Token) (x : X) (b : List Token) (more : Bool) → Grows Row so_far front true → Grows Row (x ∷ []) b more → Grows Row (so_far ++ x ∷ []) (front ++ b) more
+  grows_more : (so_far : List X) (front : List Token) (x : X) (b : List Token) (more : Bool) → Grows Row so_far front true → Grows Row (x ∷ []) b more
+      → Grows Row (so_far ++ x ∷ []) (front ++ b) more
   grows_more so_far front x b true h g = λ xs ts r.
-      subst (λ (l : List X). Row l ((front ++ b) ++ ts)) (sym (append_assoc so_far (x ∷ []) xs)) (subst (Row (so_far ++ (x ∷ xs))) (sym (append_assoc front b ts)) (h (x ∷ xs) (b ++ ts) (g xs ts r)))
+      subst (λ (l : List X). Row l ((front ++ b) ++ ts)) (sym (append_assoc so_far (x ∷ []) xs))
+      (subst (Row (so_far ++ (x ∷ xs))) (sym (append_assoc front b ts)) (h (x ∷ xs) (b ++ ts) (g xs ts r)))
   grows_more so_far front x b false h g = h (x ∷ []) b g
 
   -- one more element, with the sign behind it
-  pub goes_more : (so_far : List X) (rest : List Token) (x : X) (b left : List Token) (more : Bool) → Goes Row from to tokens so_far rest true → rest ≡ b ++ left → Grows Row (x ∷ []) b more
+  pub goes_more : (so_far : List X) (rest : List Token) (x : X) (b left : List Token) (more : Bool) → Goes Row from to tokens so_far rest true → rest
+      ≡ b ++ left → Grows Row (x ∷ []) b more
       → first_fault from rest ≡ first_fault (next more from to) left → Goes Row from to tokens (so_far ++ x ∷ []) left more
   goes_more so_far rest x b left more h e g runs = record {
     front = h.front ++ b;
@@ -165,7 +170,8 @@ terms_run s x c left false p q = term_seen (MoreTerms ∷ s) x (c ∷ left) p �
 
 -- ---- the loops, whatever is to follow
 
-module _ {X : Type 0} (Row : List X → List Token → Type 0) (part : List Symbol) (tokens : List Token) (so_far : List X) (rest : List Token) (more : Bool) (on : more ≡ true)
+module _ {X : Type 0} (Row : List X → List Token → Type 0) (part : List Symbol) (tokens : List Token) (so_far : List X) (rest : List Token) (more : Bool)
+    (on : more ≡ true)
     (h : (s : List Symbol) → Goes Row (part ++ s) s tokens so_far rest more) where
   so : (s : List Symbol) → Goes Row (part ++ s) s tokens so_far rest true
   so s = subst (Goes Row (part ++ s) s tokens so_far rest) on (h s)
@@ -173,7 +179,8 @@ module _ {X : Type 0} (Row : List X → List Token → Type 0) (part : List Symb
   pub row_fails : (e : Stop) → Fails part rest e → Fails part tokens e
   row_fails e f s = goes_fails Row (part ++ s) s tokens so_far rest e (so s) (f s)
 
-  pub row_more : (x : X) (b left : List Token) (more' : Bool) → rest ≡ b ++ left → Grows Row (x ∷ []) b more' → ((s : List Symbol) → first_fault (part ++ s) rest ≡ first_fault (next more' (part ++ s) s) left)
+  pub row_more : (x : X) (b left : List Token) (more' : Bool) → rest ≡ b ++ left → Grows Row (x ∷ []) b more'
+      → ((s : List Symbol) → first_fault (part ++ s) rest ≡ first_fault (next more' (part ++ s) s) left)
       → (s : List Symbol) → Goes Row (part ++ s) s tokens (so_far ++ x ∷ []) left more'
   row_more x b left more' e g runs s = goes_more Row (part ++ s) s tokens so_far rest x b left more' (so s) e g (runs s)
 
@@ -187,12 +194,14 @@ NoEnd close ts e = (e ≡ Syntax (length ts)) × (class_at ts ≢ Comma) × (cla
 pub term_fails : (rest : List Token) (e : Stop) → (e ≡ Syntax (length rest)) × (is_term (class_at rest) ≡ false) → Fails (ATerm ∷ MoreTerms ∷ []) rest e
 term_fails rest e (q, n) s = fails_here ATerm (MoreTerms ∷ s) rest e refl (not_term (class_at rest) n) q
 
-pub term_end_fails : (rest after' : List Token) (x : Token) (e : Stop) → (rest ≡ x ∷ after') × IsTerm x → NoEnd RightParen after' e → Fails (ATerm ∷ MoreTerms ∷ []) rest e
+pub term_end_fails : (rest after' : List Token) (x : Token) (e : Stop) → (rest ≡ x ∷ after') × IsTerm x → NoEnd RightParen after' e
+    → Fails (ATerm ∷ MoreTerms ∷ []) rest e
 term_end_fails rest after' x e (r, p) (q, n, m) s =
     fails_along (ATerm ∷ MoreTerms ∷ s) (MoreTerms ∷ s) rest after' e (ap (first_fault (ATerm ∷ MoreTerms ∷ s)) r ∙ term_seen (MoreTerms ∷ s) x after' p)
     (fails_here MoreTerms s after' e refl (not_more_terms (class_at after') n m) q)
 
-pub term_more : (tokens : List Token) (so_far : List Token) (rest : List Token) (more : Bool) → more ≡ true → ((s : List Symbol) → Goes (IsRow IsTerm) (ATerm ∷ MoreTerms ∷ s) s tokens so_far rest more)
+pub term_more : (tokens : List Token) (so_far : List Token) (rest : List Token) (more : Bool) → more ≡ true
+    → ((s : List Symbol) → Goes (IsRow IsTerm) (ATerm ∷ MoreTerms ∷ s) s tokens so_far rest more)
     → (x : Token) (after' left : List Token) (more' : Bool) → (rest ≡ x ∷ after') × IsTerm x → Ended RightParen more' after' left
     → (s : List Symbol) → Goes (IsRow IsTerm) (ATerm ∷ MoreTerms ∷ s) s tokens (so_far ++ x ∷ []) left more'
 term_more tokens so_far rest more on h x after' left more' (r, p) (t, e, q) =

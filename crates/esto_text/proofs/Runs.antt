@@ -25,77 +25,96 @@ seen xs t ts kind p = ap (λ (k : TokenKind). after (advance xs k) t ts) p
 pub term_seen : (xs : List Symbol) (t : Token) (ts : List Token) → IsTerm t → first_fault (ATerm ∷ xs) (t ∷ ts) ≡ first_fault xs ts
 term_seen xs t ts p = ap (λ (b : Bool). after (put (cond {A = Option (List Symbol)} b (Some []) None) xs) t ts) p
 
-pub brace_seen : (n : ℕ) (xs : List Symbol) (t : Token) (ts : List Token) → class_of t ≡ LeftBrace → n < 32 → first_fault (PathRest n ∷ xs) (t ∷ ts) ≡ first_fault (AnEntry (suc n) ∷ MoreEntries (suc n) ∷ xs) ts
+pub brace_seen : (n : ℕ) (xs : List Symbol) (t : Token) (ts : List Token) → class_of t ≡ LeftBrace → n < 32 → first_fault (PathRest n ∷ xs) (t ∷ ts)
+    ≡ first_fault (AnEntry (suc n) ∷ MoreEntries (suc n) ∷ xs) ts
 brace_seen n xs t ts p lt =
-    seen (PathRest n ∷ xs) t ts LeftBrace p ∙ ap (λ (b : Bool). after (put (cond {A = Option (List Symbol)} b (Some (AnEntry (suc n) ∷ MoreEntries (suc n) ∷ [])) None) xs) t ts) (lt-ltb n 32 lt)
+    seen (PathRest n ∷ xs) t ts LeftBrace p ∙ ap (λ (b : Bool). after (put
+    (cond {A = Option (List Symbol)} b (Some (AnEntry (suc n) ∷ MoreEntries (suc n) ∷ [])) None) xs) t ts) (lt-ltb n 32 lt)
 
 -- ---- whole parts
 
-pub names_end_runs : (ns ts : List Token) (s : List Symbol) (ws : List Token) → IsRowEnd IsName ns ts → first_fault (MoreNames ∷ s) (ts ++ ws) ≡ first_fault s ws
+pub names_end_runs : (ns ts : List Token) (s : List Symbol) (ws : List Token) → IsRowEnd IsName ns ts → first_fault (MoreNames ∷ s) (ts ++ ws)
+    ≡ first_fault s ws
 names_end_runs [] ts s ws (close, e, h) = rw e (seen (MoreNames ∷ s) close ws RightParen h)
 names_end_runs (n ∷ ns) ts s ws (comma, more, e, c, p, rest) =
     rw e (seen (MoreNames ∷ s) comma (n ∷ (more ++ ws)) Comma c ∙ seen (AName ∷ MoreNames ∷ s) n (more ++ ws) Name p ∙ names_end_runs ns more s ws rest)
 
-pub terms_end_runs : (ns ts : List Token) (s : List Symbol) (ws : List Token) → IsRowEnd IsTerm ns ts → first_fault (MoreTerms ∷ s) (ts ++ ws) ≡ first_fault s ws
+pub terms_end_runs : (ns ts : List Token) (s : List Symbol) (ws : List Token) → IsRowEnd IsTerm ns ts → first_fault (MoreTerms ∷ s) (ts ++ ws)
+    ≡ first_fault s ws
 terms_end_runs [] ts s ws (close, e, h) = rw e (seen (MoreTerms ∷ s) close ws RightParen h)
 terms_end_runs (n ∷ ns) ts s ws (comma, more, e, c, p, rest) =
     rw e (seen (MoreTerms ∷ s) comma (n ∷ (more ++ ws)) Comma c ∙ term_seen (MoreTerms ∷ s) n (more ++ ws) p ∙ terms_end_runs ns more s ws rest)
 
-pub names_runs : (ns ts : List Token) (s : List Symbol) (ws : List Token) → IsRow IsName ns ts → first_fault (AName ∷ MoreNames ∷ s) (ts ++ ws) ≡ first_fault s ws
+pub names_runs : (ns ts : List Token) (s : List Symbol) (ws : List Token) → IsRow IsName ns ts → first_fault (AName ∷ MoreNames ∷ s) (ts ++ ws)
+    ≡ first_fault s ws
 names_runs [] ts s ws h = absurd h
 names_runs (n ∷ ns) ts s ws (more, e, p, rest) = rw e (seen (AName ∷ MoreNames ∷ s) n (more ++ ws) Name p ∙ names_end_runs ns more s ws rest)
 
-pub terms_runs : (ns ts : List Token) (s : List Symbol) (ws : List Token) → IsRow IsTerm ns ts → first_fault (ATerm ∷ MoreTerms ∷ s) (ts ++ ws) ≡ first_fault s ws
+pub terms_runs : (ns ts : List Token) (s : List Symbol) (ws : List Token) → IsRow IsTerm ns ts → first_fault (ATerm ∷ MoreTerms ∷ s) (ts ++ ws)
+    ≡ first_fault s ws
 terms_runs [] ts s ws h = absurd h
 terms_runs (n ∷ ns) ts s ws (more, e, p, rest) = rw e (term_seen (MoreTerms ∷ s) n (more ++ ws) p ∙ terms_end_runs ns more s ws rest)
 
 -- ---- paths
 
-next_seen : (k : TokenKind) (xs : List Symbol) (t : Token) (ts : List Token) (s : StepSyntax) → class_of t ≡ k → step_at k t ≡ Some s → first_fault (ANext ∷ xs) (t ∷ ts) ≡ first_fault xs ts
+next_seen : (k : TokenKind) (xs : List Symbol) (t : Token) (ts : List Token) (s : StepSyntax) → class_of t ≡ k → step_at k t ≡ Some s
+    → first_fault (ANext ∷ xs) (t ∷ ts) ≡ first_fault xs ts
 next_seen Name xs t ts s p e = seen (ANext ∷ xs) t ts Name p
 next_seen Quoted xs t ts s p e = seen (ANext ∷ xs) t ts Quoted p
 next_seen Stars xs t ts s p e = seen (ANext ∷ xs) t ts Stars p
 next_seen _ xs t ts s p e = absurd cc
 
-first_seen : (k : TokenKind) (n : ℕ) (xs : List Symbol) (t : Token) (ts : List Token) (s : StepSyntax) → class_of t ≡ k → step_at k t ≡ Some s → first_fault (AnEntry n ∷ xs) (t ∷ ts) ≡ first_fault (PathRest n ∷ xs) ts
+first_seen : (k : TokenKind) (n : ℕ) (xs : List Symbol) (t : Token) (ts : List Token) (s : StepSyntax) → class_of t ≡ k → step_at k t ≡ Some s
+    → first_fault (AnEntry n ∷ xs) (t ∷ ts) ≡ first_fault (PathRest n ∷ xs) ts
 first_seen Name n xs t ts s p e = seen (AnEntry n ∷ xs) t ts Name p
 first_seen Quoted n xs t ts s p e = seen (AnEntry n ∷ xs) t ts Quoted p
 first_seen Stars n xs t ts s p e = seen (AnEntry n ∷ xs) t ts Stars p
 first_seen _ n xs t ts s p e = absurd cc
 
-first_runs : (n : ℕ) (s : StepSyntax) (ts : List Token) (xs : List Symbol) (ws : List Token) → IsFirst s ts → first_fault (AnEntry n ∷ xs) (ts ++ ws) ≡ first_fault (PathRest n ∷ xs) ws
+first_runs : (n : ℕ) (s : StepSyntax) (ts : List Token) (xs : List Symbol) (ws : List Token) → IsFirst s ts → first_fault (AnEntry n ∷ xs) (ts ++ ws)
+    ≡ first_fault (PathRest n ∷ xs) ws
 first_runs n s ts xs ws (inl (t, e, h)) = rw e (first_seen (class_of t) n xs t ws s refl h)
 first_runs n s ts xs ws (inr (i, l, r, e, p, q)) = rw e (seen (AnEntry n ∷ xs) l (r ∷ ws) LeftBracket p ∙ seen (ABracket ∷ PathRest n ∷ xs) r ws RightBracket q)
 
-pub later_runs : (n : ℕ) (s : StepSyntax) (ts : List Token) (xs : List Symbol) (ws : List Token) → IsLater s ts → first_fault (PathRest n ∷ xs) (ts ++ ws) ≡ first_fault (PathRest n ∷ xs) ws
+pub later_runs : (n : ℕ) (s : StepSyntax) (ts : List Token) (xs : List Symbol) (ws : List Token) → IsLater s ts → first_fault (PathRest n ∷ xs) (ts ++ ws)
+    ≡ first_fault (PathRest n ∷ xs) ws
 later_runs n s ts xs ws (inl (d, t, e, p, h)) = rw e (seen (PathRest n ∷ xs) d (t ∷ ws) Dot p ∙ next_seen (class_of t) (PathRest n ∷ xs) t ws s refl h)
-later_runs n s ts xs ws (inr (i, l, r, e, p, q)) = rw e (seen (PathRest n ∷ xs) l (r ∷ ws) LeftBracket p ∙ seen (ABracket ∷ PathRest n ∷ xs) r ws RightBracket q)
+later_runs n s ts xs ws (inr (i, l, r, e, p, q)) = rw e (seen (PathRest n ∷ xs) l (r ∷ ws) LeftBracket p
+    ∙ seen (ABracket ∷ PathRest n ∷ xs) r ws RightBracket q)
 
-path_end_runs : (n : ℕ) (path : List StepSyntax) (ts : List Token) (xs : List Symbol) (ws : List Token) → IsPathEnd path ts → first_fault (PathRest n ∷ xs) (ts ++ ws) ≡ first_fault (PathRest n ∷ xs) ws
+path_end_runs : (n : ℕ) (path : List StepSyntax) (ts : List Token) (xs : List Symbol) (ws : List Token) → IsPathEnd path ts
+    → first_fault (PathRest n ∷ xs) (ts ++ ws) ≡ first_fault (PathRest n ∷ xs) ws
 path_end_runs n [] ts xs ws e = rw e refl
 path_end_runs n (s ∷ path) ts xs ws (a, b, e, h, g) = rw (e, append_assoc a b ws) (later_runs n s a xs (b ++ ws) h ∙ path_end_runs n path b xs ws g)
 
-pub path_runs : (n : ℕ) (path : List StepSyntax) (ts : List Token) (xs : List Symbol) (ws : List Token) → IsPath path ts → first_fault (AnEntry n ∷ xs) (ts ++ ws) ≡ first_fault (PathRest n ∷ xs) ws
+pub path_runs : (n : ℕ) (path : List StepSyntax) (ts : List Token) (xs : List Symbol) (ws : List Token) → IsPath path ts
+    → first_fault (AnEntry n ∷ xs) (ts ++ ws) ≡ first_fault (PathRest n ∷ xs) ws
 path_runs n [] ts xs ws h = absurd h
 path_runs n (s ∷ path) ts xs ws (a, b, e, h, g) = rw (e, append_assoc a b ws) (first_runs n s a xs (b ++ ws) h ∙ path_end_runs n path b xs ws g)
 
 -- ---- entries and what has them
 
 mutual
-  pub entry_runs : (f : EntryTree) (n : ℕ) (ts : List Token) (s : List Symbol) (ws : List Token) → IsEntry n f ts → first_fault (AnEntry n ∷ s) (ts ++ ws) ≡ first_fault s ws
+  pub entry_runs : (f : EntryTree) (n : ℕ) (ts : List Token) (s : List Symbol) (ws : List Token) → IsEntry n f ts → first_fault (AnEntry n ∷ s) (ts ++ ws)
+      ≡ first_fault s ws
   entry_runs (Value path term) n ts s ws (front, colon, e, p, q, r) =
-      rw (e, append_assoc front (colon ∷ term ∷ []) ws) (path_runs n path front s (colon ∷ term ∷ ws) p ∙ seen (PathRest n ∷ s) colon (term ∷ ws) Colon q ∙ term_seen s term ws r)
+      rw (e, append_assoc front (colon ∷ term ∷ []) ws) (path_runs n path front s (colon ∷ term ∷ ws) p ∙ seen (PathRest n ∷ s) colon (term ∷ ws) Colon q
+      ∙ term_seen s term ws r)
   entry_runs (Nested path NoEntry) n ts s ws h = absurd h
   entry_runs (Nested path (AndEntry first others)) n ts s ws (front, brace, a, b, e, p, q, lt, ha, hb) =
-      rw (e, append_assoc front (brace ∷ (a ++ b)) ws, append_assoc a b ws) (path_runs n path front s (brace ∷ (a ++ (b ++ ws))) p ∙ brace_seen n s brace (a ++ (b ++ ws)) q lt
+      rw (e, append_assoc front (brace ∷ (a ++ b)) ws, append_assoc a b ws) (path_runs n path front s (brace ∷ (a ++ (b ++ ws))) p
+      ∙ brace_seen n s brace (a ++ (b ++ ws)) q lt
       ∙ entry_runs first (suc n) a (MoreEntries (suc n) ∷ s) (b ++ ws) ha ∙ group_end_runs others (suc n) b s ws hb)
 
-  pub group_end_runs : (fs : EntryTrees) (n : ℕ) (ts : List Token) (s : List Symbol) (ws : List Token) → IsGroupEnd n fs ts → first_fault (MoreEntries n ∷ s) (ts ++ ws) ≡ first_fault s ws
+  pub group_end_runs : (fs : EntryTrees) (n : ℕ) (ts : List Token) (s : List Symbol) (ws : List Token) → IsGroupEnd n fs ts
+      → first_fault (MoreEntries n ∷ s) (ts ++ ws) ≡ first_fault s ws
   group_end_runs NoEntry n ts s ws (close, e, h) = rw e (seen (MoreEntries n ∷ s) close ws RightBrace h)
   group_end_runs (AndEntry first others) n ts s ws (comma, a, b, e, c, ha, hb) =
-      rw (e, append_assoc a b ws) (seen (MoreEntries n ∷ s) comma (a ++ (b ++ ws)) Comma c ∙ entry_runs first n a (MoreEntries n ∷ s) (b ++ ws) ha ∙ group_end_runs others n b s ws hb)
+      rw (e, append_assoc a b ws) (seen (MoreEntries n ∷ s) comma (a ++ (b ++ ws)) Comma c ∙ entry_runs first n a (MoreEntries n ∷ s) (b ++ ws) ha
+      ∙ group_end_runs others n b s ws hb)
 
-pub group_runs : (fs : EntryTrees) (n : ℕ) (ts : List Token) (s : List Symbol) (ws : List Token) → IsGroup n fs ts → first_fault (AnEntry n ∷ MoreEntries n ∷ s) (ts ++ ws) ≡ first_fault s ws
+pub group_runs : (fs : EntryTrees) (n : ℕ) (ts : List Token) (s : List Symbol) (ws : List Token) → IsGroup n fs ts
+    → first_fault (AnEntry n ∷ MoreEntries n ∷ s) (ts ++ ws) ≡ first_fault s ws
 group_runs NoEntry n ts s ws h = absurd h
 group_runs (AndEntry first others) n ts s ws (a, b, e, ha, hb) =
     rw (e, append_assoc a b ws) (entry_runs first n a (MoreEntries n ∷ s) (b ++ ws) ha ∙ group_end_runs others n b s ws hb)
@@ -105,19 +124,22 @@ item_runs (Atom name terms) ts s ws (paren, more, e, p, q, r) =
     rw e (seen (AnItem ∷ s) name (paren ∷ (more ++ ws)) Name p ∙ seen (ItemRest ∷ s) paren (more ++ ws) LeftParen q ∙ terms_runs terms more s ws r)
 item_runs (Part name part terms) ts s ws (dot, paren, more, e, p, q, r, t, h) =
     rw e (seen (AnItem ∷ s) name (dot ∷ part ∷ paren ∷ (more ++ ws)) Name p ∙ seen (ItemRest ∷ s) dot (part ∷ paren ∷ (more ++ ws)) Dot q
-    ∙ seen (AName ∷ AParen ∷ ATerm ∷ MoreTerms ∷ s) part (paren ∷ (more ++ ws)) Name r ∙ seen (AParen ∷ ATerm ∷ MoreTerms ∷ s) paren (more ++ ws) LeftParen t ∙ terms_runs terms more s ws h)
+    ∙ seen (AName ∷ AParen ∷ ATerm ∷ MoreTerms ∷ s) part (paren ∷ (more ++ ws)) Name r ∙ seen (AParen ∷ ATerm ∷ MoreTerms ∷ s) paren (more ++ ws) LeftParen t
+    ∙ terms_runs terms more s ws h)
 item_runs (Pattern name entries) ts s ws (brace, more, e, p, q, r) =
     rw e (seen (AnItem ∷ s) name (brace ∷ (more ++ ws)) Name p ∙ seen (ItemRest ∷ s) brace (more ++ ws) LeftBrace q ∙ group_runs entries 1 more s ws r)
 
 -- items, and then whatever the symbol that takes a comma and one more item takes beside it
 module _ (x : Symbol) (goes : step x Comma ≡ Some (AnItem ∷ x ∷ [])) where
-  items_end_runs : (is : List ItemTree) (ts : List Token) (s : List Symbol) (ws : List Token) → IsBodyEnd is ts → first_fault (x ∷ s) (ts ++ ws) ≡ first_fault (x ∷ s) ws
+  items_end_runs : (is : List ItemTree) (ts : List Token) (s : List Symbol) (ws : List Token) → IsBodyEnd is ts → first_fault (x ∷ s) (ts ++ ws)
+      ≡ first_fault (x ∷ s) ws
   items_end_runs [] ts s ws e = rw e refl
   items_end_runs (i ∷ is) ts s ws (comma, a, b, e, c, ha, hb) =
       rw (e, append_assoc a b ws) (seen (x ∷ s) comma (a ++ (b ++ ws)) Comma c ∙ ap (λ (o : Option (List Symbol)). after (put o s) comma (a ++ (b ++ ws))) goes
       ∙ item_runs i a (x ∷ s) (b ++ ws) ha ∙ items_end_runs is b s ws hb)
 
-  pub items_runs : (is : List ItemTree) (ts : List Token) (s : List Symbol) (ws : List Token) → IsBody is ts → first_fault (AnItem ∷ x ∷ s) (ts ++ ws) ≡ first_fault (x ∷ s) ws
+  pub items_runs : (is : List ItemTree) (ts : List Token) (s : List Symbol) (ws : List Token) → IsBody is ts → first_fault (AnItem ∷ x ∷ s) (ts ++ ws)
+      ≡ first_fault (x ∷ s) ws
   items_runs [] ts s ws h = absurd h
   items_runs (i ∷ is) ts s ws (a, b, e, ha, hb) = rw (e, append_assoc a b ws) (item_runs i a (x ∷ s) (b ++ ws) ha ∙ items_end_runs is b s ws hb)
 
@@ -126,7 +148,8 @@ body_runs is ts h = ap (first_fault (AnItem ∷ MoreItems ∷ [])) (sym (append-
 
 pub query_runs : (q : QueryTree) (ts : List Token) → IsQuery q ts → first_fault start ts ≡ None
 query_runs q ts (paren, head, turnstile, body, e, n, p, h, t, b) =
-    rw e (seen start q.name (paren ∷ (head ++ turnstile ∷ body)) Name n ∙ seen (AParen ∷ AName ∷ MoreNames ∷ after_head) paren (head ++ turnstile ∷ body) LeftParen p
+    rw e (seen start q.name (paren ∷ (head ++ turnstile ∷ body)) Name n ∙ seen (AParen ∷ AName ∷ MoreNames ∷ after_head) paren (head ++ turnstile ∷ body)
+    LeftParen p
     ∙ names_runs q.variables head after_head (turnstile ∷ body) h ∙ seen after_head turnstile body Turnstile t ∙ body_runs q.items body b)
 
 pub query_fits : (q : QueryTree) (ts rest : List Token) → IsQuery q ts → first_fault start ts ≡ Some rest → ⊥
@@ -134,7 +157,8 @@ query_fits q ts rest h e = let none : first_fault start ts ≡ None = query_runs
 
 -- ---- constraints
 
-pub rule_body_runs : (is : List ItemTree) (ts : List Token) (s : List Symbol) (ws : List Token) → IsRuleBody is ts → first_fault (AnItem ∷ MoreBody ∷ s) (ts ++ ws) ≡ first_fault s ws
+pub rule_body_runs : (is : List ItemTree) (ts : List Token) (s : List Symbol) (ws : List Token) → IsRuleBody is ts
+    → first_fault (AnItem ∷ MoreBody ∷ s) (ts ++ ws) ≡ first_fault s ws
 rule_body_runs is ts s ws (front, arrow, e, h, c) =
     rw (e, append_assoc front (arrow ∷ []) ws) (items_runs MoreBody refl is front s (arrow ∷ ws) h ∙ seen (MoreBody ∷ s) arrow ws Arrow c)
 
@@ -150,13 +174,16 @@ side_rest_runs : (rest : List Token) → class_at rest ≢ Equals → first_faul
 side_rest_runs [] h = refl
 side_rest_runs (t ∷ ts) h = ap (λ (o : Option (List Symbol)). after o t ts) (rest_same (class_of t) h)
 
-pub side_runs : (name : Token) (rest : List Token) → IsName name → class_at rest ≢ Equals → first_fault (AHead ∷ []) (name ∷ rest) ≡ first_fault (AnItem ∷ MoreItems ∷ []) (name ∷ rest)
+pub side_runs : (name : Token) (rest : List Token) → IsName name → class_at rest ≢ Equals → first_fault (AHead ∷ []) (name ∷ rest)
+    ≡ first_fault (AnItem ∷ MoreItems ∷ []) (name ∷ rest)
 side_runs name rest n h = seen (AHead ∷ []) name rest Name n ∙ side_rest_runs rest h ∙ sym (seen (AnItem ∷ MoreItems ∷ []) name rest Name n)
 
 -- an item begins with a name that has no `=` behind it
-pub item_begins : (i : ItemTree) (a b : List Token) → IsItem i a → (name : Token) × (rest : List Token) × (a ++ b ≡ name ∷ rest) × IsName name × (class_at rest ≢ Equals)
+pub item_begins : (i : ItemTree) (a b : List Token) → IsItem i a → (name : Token) × (rest : List Token) × (a ++ b ≡ name ∷ rest) × IsName name
+    × (class_at rest ≢ Equals)
 item_begins (Atom name terms) a b (paren, more, e, p, q, r) = (name, paren ∷ (more ++ b), ap (λ (l : List Token). l ++ b) e, p, λ z. cc)
-item_begins (Part name part terms) a b (dot, paren, more, e, p, q, r, t, h) = (name, dot ∷ part ∷ paren ∷ (more ++ b), ap (λ (l : List Token). l ++ b) e, p, λ z. cc)
+item_begins (Part name part terms) a b (dot, paren, more, e, p, q, r, t, h) =
+    (name, dot ∷ part ∷ paren ∷ (more ++ b), ap (λ (l : List Token). l ++ b) e, p, λ z. cc)
 item_begins (Pattern name entries) a b (brace, more, e, p, q, r) = (name, brace ∷ (more ++ b), ap (λ (l : List Token). l ++ b) e, p, λ z. cc)
 
 pub head_runs : (h : HeadTree) (ts : List Token) → IsHead NoFalse h ts → first_fault (AHead ∷ []) ts ≡ None
@@ -164,7 +191,8 @@ head_runs (Items []) ts h = absurd h
 head_runs (Items (i ∷ is)) ts (a, b, e, ha, hb) =
     let n = item_begins i a b ha in
     let whole : ts ≡ n.0 ∷ n.1 = e ∙ n.2 in
-    ap (first_fault (AHead ∷ [])) whole ∙ side_runs n.0 n.1 n.3 n.4 ∙ ap (first_fault (AnItem ∷ MoreItems ∷ [])) (sym whole) ∙ body_runs (i ∷ is) ts (a, b, e, ha, hb)
+    ap (first_fault (AHead ∷ [])) whole ∙ side_runs n.0 n.1 n.3 n.4 ∙ ap (first_fault (AnItem ∷ MoreItems ∷ [])) (sym whole)
+    ∙ body_runs (i ∷ is) ts (a, b, e, ha, hb)
 head_runs (Equality left right) ts (sign, e, n, c, t) =
     rw e (seen (AHead ∷ []) left (sign ∷ right ∷ []) Name n ∙ seen (HeadRest ∷ []) sign (right ∷ []) Equals c ∙ term_seen [] right [] t)
 head_runs Never ts h = absurd h.3

@@ -23,7 +23,8 @@ GapSoFar bytes n c = (gap : List ℕ) (after : List ℕ) → GapFrom c gap after
 pub gap_ends : (bytes : List ℕ) (n : ℕ) (c : Bool) → length bytes ≤ n → GapSoFar bytes n c → IsGap (take (length bytes) bytes) (drop (length bytes) bytes)
 gap_ends bytes n c le h =
     let nothing : GapFrom c [] [] = elim c as (λ b. GapFrom b [] []) [ true ↦ refl | false ↦ tt ] in
-    let whole : take n bytes ++ [] ≡ take (length bytes) bytes = append-nil (take n bytes) ∙ take_all n bytes le ∙ sym (take_all (length bytes) bytes (omega arith)) in
+    let whole : take n bytes ++ [] ≡ take (length bytes) bytes = append-nil (take n bytes) ∙ take_all n bytes le
+    ∙ sym (take_all (length bytes) bytes (omega arith)) in
     let rest : [] ≡ drop (length bytes) bytes = sym (drop_all (length bytes) bytes (omega arith)) in
     subst (λ (l : List ℕ). IsGap l (drop (length bytes) bytes)) whole (subst (λ (l : List ℕ). IsGap (take n bytes ++ []) l) rest (h [] [] nothing))
 
@@ -88,12 +89,20 @@ pub record QuoteSoFar (bytes : List ℕ) (n : ℕ) (found : Option ℕ) (last : 
 -- where no constant ends at the new place, what was found stays
 best_stays : (bytes : List ℕ) (n : ℕ) (found : Option ℕ) → Best bytes n found → (IsClosed (take (n + 1) bytes) → ⊥) → Best bytes (n + 1) found
 best_stays bytes n None h none = λ k le closed'.
-    elim (cases_lt k (n + 1)) [ inl lt ↦ h k (omega arith) closed' | inr ge ↦ let e : k ≡ n + 1 = omega arith in none (subst (λ (i : ℕ). IsClosed (take i bytes)) e closed') ]
+    elim (cases_lt k (n + 1)) [
+      | inl lt ↦ h k (omega arith) closed'
+      | inr ge ↦ let e : k ≡ n + 1 = omega arith in
+          none (subst (λ (i : ℕ). IsClosed (take i bytes)) e closed')
+    ]
 best_stays bytes n (Some m) h none = (
   omega (arith, h.0),
   h.1,
   λ k le closed'.
-      elim (cases_lt k (n + 1)) [ inl lt ↦ h.2 k (omega arith) closed' | inr ge ↦ let e : k ≡ n + 1 = omega arith in absurd (none (subst (λ (i : ℕ). IsClosed (take i bytes)) e closed')) ],
+      elim (cases_lt k (n + 1)) [
+        | inl lt ↦ h.2 k (omega arith) closed'
+        | inr ge ↦ let e : k ≡ n + 1 = omega arith in
+            absurd (none (subst (λ (i : ℕ). IsClosed (take i bytes)) e closed'))
+      ],
 )
 
 module _ (bytes : List ℕ) (n : ℕ) (found : Option ℕ) (lt : n < length bytes) where
@@ -112,19 +121,27 @@ module _ (bytes : List ℕ) (n : ℕ) (found : Option ℕ) (lt : n < length byte
   pub quote_reopens : QuoteSoFar bytes n found true → get_or bytes n 0 ≡ 39 → QuoteSoFar bytes (n + 1) found false
   quote_reopens h is =
       let to : (t : List ℕ) → StateQ false t → StateQ true (get_or bytes n 0 ∷ t) = λ t s. inr (t, ap (λ (b : ℕ). b ∷ t) is, s) in
-      let from : (t : List ℕ) → StateQ true (get_or bytes n 0 ∷ t) → StateQ false t = λ t. elim [ inl e ↦ absurd cc | inr s ↦ let e : t ≡ s.0 = cc in subst IsClosed (sym e) s.2 ] in
+      let from : (t : List ℕ) → StateQ true (get_or bytes n 0 ∷ t) → StateQ false t = λ t. elim [
+        | inl e ↦ absurd cc
+        | inr s ↦ let e : t ≡ s.0 = cc in
+            subst IsClosed (sym e) s.2
+      ] in
       quote_more true false found h to from (best_stays bytes n found h.best (λ s. not_closed_nil (from [] (at_next true h s))))
 
   pub quote_closes : QuoteSoFar bytes n found false → get_or bytes n 0 ≡ 39 → QuoteSoFar bytes (n + 1) (Some (n + 1)) true
   quote_closes h is =
-      let from : (t : List ℕ) → IsClosed (get_or bytes n 0 ∷ t) → StateQ true t = λ t s. elim (closed_cons (get_or bytes n 0) t s) [ inl w ↦ w.1 | inr w ↦ absurd (w.0 is) ] in
-      let here : IsClosed (take (n + 1) bytes) = subst IsClosed (sym (sym (append-nil (take (n + 1) bytes)) ∙ front_more bytes n [] lt)) (h.forth (get_or bytes n 0 ∷ []) (quote_cons (get_or bytes n 0) [] is (inl refl))) in
+      let from : (t : List ℕ) → IsClosed (get_or bytes n 0 ∷ t) → StateQ true t =
+      λ t s. elim (closed_cons (get_or bytes n 0) t s) [ inl w ↦ w.1 | inr w ↦ absurd (w.0 is) ] in
+      let here : IsClosed (take (n + 1) bytes) = subst IsClosed (sym (sym (append-nil (take (n + 1) bytes)) ∙ front_more bytes n [] lt))
+      (h.forth (get_or bytes n 0 ∷ []) (quote_cons (get_or bytes n 0) [] is (inl refl))) in
       quote_more false true (Some (n + 1)) h (λ t s. quote_cons (get_or bytes n 0) t is s) from (omega arith, here, λ k le s. le)
 
   pub quote_inside : QuoteSoFar bytes n found false → (get_or bytes n 0 ≢ 39) → 32 ≤ get_or bytes n 0 → QuoteSoFar bytes (n + 1) found false
   quote_inside h ne le =
-      let from : (t : List ℕ) → IsClosed (get_or bytes n 0 ∷ t) → StateQ false t = λ t s. elim (closed_cons (get_or bytes n 0) t s) [ inl w ↦ absurd (ne w.0) | inr w ↦ w.2 ] in
-      quote_more false false found h (λ t s. inside_cons (get_or bytes n 0) t ne le s) from (best_stays bytes n found h.best (λ s. not_closed_nil (from [] (at_next false h s))))
+      let from : (t : List ℕ) → IsClosed (get_or bytes n 0 ∷ t) → StateQ false t =
+      λ t s. elim (closed_cons (get_or bytes n 0) t s) [ inl w ↦ absurd (ne w.0) | inr w ↦ w.2 ] in
+      quote_more false false found h (λ t s. inside_cons (get_or bytes n 0) t ne le s) from
+      (best_stays bytes n found h.best (λ s. not_closed_nil (from [] (at_next false h s))))
 
 -- a text at the front is the front of its length
 pub front_is : (bytes text after : List ℕ) → text ++ after ≡ bytes → take (length text) bytes ≡ text
@@ -142,7 +159,8 @@ quote_ends bytes n found last le h stuck = go found h.best
               let long : length text ≤ length bytes = omega (arith, length-append text after, ap length e) in
               let parts : take (n + 1) text ++ drop (n + 1) text ≡ text = take-append-drop (n + 1) text in
               let same : take (n + 1) text ≡ take (n + 1) bytes = sym (take-append-le (n + 1) text after (omega arith)) ∙ ap (take (n + 1)) e in
-              let whole : text ≡ take n bytes ++ (get_or bytes n 0 ∷ drop (n + 1) text) = sym parts ∙ ap (λ (l : List ℕ). l ++ drop (n + 1) text) same ∙ front_more bytes n (drop (n + 1) text) (omega arith) in
+              let whole : text ≡ take n bytes ++ (get_or bytes n 0 ∷ drop (n + 1) text) = sym parts ∙ ap (λ (l : List ℕ). l ++ drop (n + 1) text) same
+              ∙ front_more bytes n (drop (n + 1) text) (omega arith) in
               absurd (stuck (omega arith) (drop (n + 1) text) (h.back (get_or bytes n 0 ∷ drop (n + 1) text) (subst IsClosed whole s)))
           | inr ge ↦ ge
         ]

@@ -63,7 +63,8 @@ module _ (marked : List Token → List Token) (kept : (ts : List Token) → star
     place_same n =
         let k : length ts - length rest ≡ length (starts front) = omega (arith, lengths, length_starts front) in
         let d : starts (drop (length ts - length rest) ts) ≡ starts rest =
-        sym (drop-map (λ t. t.start) (length ts - length rest) ts) ∙ ap (λ (i : ℕ). drop i (starts ts)) k ∙ ap (drop (length (starts front))) starts_split ∙ drop-append_seam (starts front) (starts rest) in
+        sym (drop-map (λ t. t.start) (length ts - length rest) ts) ∙ ap (λ (i : ℕ). drop i (starts ts)) k ∙ ap (drop (length (starts front))) starts_split
+        ∙ drop-append_seam (starts front) (starts rest) in
         place_is rest n ∙ ap (λ (l : List ℕ). place_by l n) (sym d) ∙ sym (place_is (drop (length ts - length rest) ts) n)
 
   module _ {T : Type 0} (IsTree : T → List Token → Type 0) (whole : List Symbol) (ts : List Token)
@@ -75,13 +76,15 @@ module _ (marked : List Token → List Token) (kept : (ts : List Token) → star
         → offset ≡ place_of (drop (length ts - left) ts) (length bytes) → IsFaultOf IsTree marked bytes (record { offset = offset; kind = kind.Syntax })
     fault_at bytes left offset h (rest, e, n) p =
         let f = stops rest e in
-        let q : offset ≡ place_of rest (length bytes) = p ∙ ap (λ (i : ℕ). place_of (drop (length ts - i) ts) (length bytes)) n ∙ sym (place_same ts f.0 rest f.1 (length bytes)) in
+        let q : offset ≡ place_of rest (length bytes) = p ∙ ap (λ (i : ℕ). place_of (drop (length ts - i) ts) (length bytes)) n
+        ∙ sym (place_same ts f.0 rest f.1 (length bytes)) in
         inr (ts, rest, h, f, ap (λ (i : ℕ). record { offset = i; kind = kind.Syntax }) q)
 
 pub left_fits : (ts : List Token) (left : ℕ) → FailsAt start (limited ts) (Syntax left) → left ≤ length ts
 left_fits ts = left_is limited starts_limited IsQuery start ts (fault_is (limited ts))
 
-pub syntax_fault : (bytes : List ℕ) (ts : List Token) (left offset : ℕ) → AreTokens bytes ts → FailsAt start (limited ts) (Syntax left) → offset ≡ place_of (drop (length ts - left) ts) (length bytes)
+pub syntax_fault : (bytes : List ℕ) (ts : List Token) (left offset : ℕ) → AreTokens bytes ts → FailsAt start (limited ts) (Syntax left) → offset
+    ≡ place_of (drop (length ts - left) ts) (length bytes)
     → IsGrammarFault bytes (record { offset = offset; kind = kind.Syntax })
 syntax_fault bytes ts = fault_at limited starts_limited IsQuery start ts (fault_is (limited ts)) bytes
 
@@ -116,15 +119,23 @@ module _ {T : Type 0} (IsTree : T → List Token → Type 0) where
 
   -- what begins a text that begins a text begins one
   viable_front : (pre : List Token) (x : Token) (front : List Token) → IsViable IsTree (pre ++ x ∷ front) → IsViable IsTree (pre ++ x ∷ [])
-  viable_front pre x front (q, more, h) = (q, front ++ more, subst (IsTree q) (append_assoc pre (x ∷ front) more ∙ sym (append_assoc pre (x ∷ []) (front ++ more))) h)
+  viable_front pre x front (q, more, h) = (
+    q,
+    front ++ more,
+    subst (IsTree q) (append_assoc pre (x ∷ front) more
+        ∙ sym (append_assoc pre (x ∷ []) (front ++ more))) h,
+  )
 
-  not_sooner : (pre : List Token) (rest : List Token) (x : Token) (front rest' : List Token) → rest ≡ x ∷ (front ++ rest') → Leaves IsTree (pre ++ []) rest → ¬ IsViable IsTree (pre ++ x ∷ front)
+  not_sooner : (pre : List Token) (rest : List Token) (x : Token) (front rest' : List Token) → rest ≡ x ∷ (front ++ rest') → Leaves IsTree (pre ++ []) rest
+      → ¬ IsViable IsTree (pre ++ x ∷ front)
   not_sooner pre [] x front rest' e leaves viable = absurd cc
   not_sooner pre (t ∷ rest) x front rest' e leaves viable =
       let same : x ≡ t = cc in
-      leaves (subst (λ (l : List Token). IsViable IsTree (l ++ t ∷ [])) (sym (append-nil pre)) (subst (λ (y : Token). IsViable IsTree (pre ++ y ∷ [])) same (viable_front pre x front viable)))
+      leaves (subst (λ (l : List Token). IsViable IsTree (l ++ t ∷ [])) (sym (append-nil pre))
+      (subst (λ (y : Token). IsViable IsTree (pre ++ y ∷ [])) same (viable_front pre x front viable)))
 
-  one_stop : (pre front rest front' rest' : List Token) → front ++ rest ≡ front' ++ rest' → IsViable IsTree (pre ++ front) → Leaves IsTree (pre ++ front) rest → IsViable IsTree (pre ++ front')
+  one_stop : (pre front rest front' rest' : List Token) → front ++ rest ≡ front' ++ rest' → IsViable IsTree (pre ++ front) → Leaves IsTree (pre ++ front) rest
+      → IsViable IsTree (pre ++ front')
       → Leaves IsTree (pre ++ front') rest' → rest ≡ rest'
   one_stop pre [] rest [] rest' e v l v' l' = e
   one_stop pre [] rest (x ∷ front') rest' e v l v' l' = absurd (not_sooner pre rest x front' rest' e l v')
@@ -133,7 +144,8 @@ module _ {T : Type 0} (IsTree : T → List Token → Type 0) where
       let same : x ≡ y = cc in
       let more : front ++ rest ≡ front' ++ rest' = cc in
       let whole : pre ++ y ∷ front' ≡ (pre ++ x ∷ []) ++ front' = ap (λ (z : Token). pre ++ z ∷ front') (sym same) ∙ along pre x front' in
-      one_stop (pre ++ x ∷ []) front rest front' rest' more (subst (IsViable IsTree) (along pre x front) v) (subst (λ (w : List Token). Leaves IsTree w rest) (along pre x front) l)
+      one_stop (pre ++ x ∷ []) front rest front' rest' more (subst (IsViable IsTree) (along pre x front) v)
+      (subst (λ (w : List Token). Leaves IsTree w rest) (along pre x front) l)
       (subst (IsViable IsTree) whole v') (subst (λ (w : List Token). Leaves IsTree w rest') whole l')
 
   module _ (marked : List Token → List Token) where
@@ -152,8 +164,10 @@ module _ {T : Type 0} (IsTree : T → List Token → Type 0) where
         p ∙ ap (λ (r : List Token). record { offset = place_of r (length bytes); kind = kind.Syntax }) same ∙ sym p'
 
     module _ (one : (q q' : T) (ts : List Token) → IsTree q ts → IsTree q' ts → q ≡ q') where
-      pub only_tree : (bytes : List ℕ) (ts : List Token) (q : T) → ((us : List Token) → AreTokens bytes us → ts ≡ us) → IsTree q (marked ts) → IsOnlyTree (IsTextOf IsTree marked) bytes q
-      only_tree bytes ts q only h other (us, tokens, g) = one q other (marked ts) h (subst (λ (l : List Token). IsTree other (marked l)) (sym (only us tokens)) g)
+      pub only_tree : (bytes : List ℕ) (ts : List Token) (q : T) → ((us : List Token) → AreTokens bytes us → ts ≡ us) → IsTree q (marked ts)
+          → IsOnlyTree (IsTextOf IsTree marked) bytes q
+      only_tree bytes ts q only h other (us, tokens, g) = one q other (marked ts) h
+          (subst (λ (l : List Token). IsTree other (marked l)) (sym (only us tokens)) g)
 
       pub one_tree : HaveOneTree (IsTextOf IsTree marked)
       one_tree bytes q (ts, h, g) = only_tree bytes ts q (λ us tokens. same_tokens bytes ts us h tokens) g

@@ -15,8 +15,10 @@ along a x a' y b b' e p q = sym (ap (λ (l : List Token). l ++ x) p) ∙ e ∙ a
 
 row_end_one : (P : Token → Type 0) (ns ts ns' ts' x y : List Token) → ts ++ x ≡ ts' ++ y → IsRowEnd P ns ts → IsRowEnd P ns' ts' → (ns ≡ ns') × (x ≡ y)
 row_end_one P [] ts [] ts' x y e (c, p, q) (c', p', q') = let f = along ts x ts' y (c ∷ []) (c' ∷ []) e p p' in (refl, cc)
-row_end_one P [] ts (n ∷ ns') ts' x y e (c, p, q) (c', more, p', q', h, r) = let f = along ts x ts' y (c ∷ []) (c' ∷ n ∷ more) e p p' in let g : c ≡ c' = cc in absurd cc
-row_end_one P (n ∷ ns) ts [] ts' x y e (c, more, p, q, h, r) (c', p', q') = let f = along ts x ts' y (c ∷ n ∷ more) (c' ∷ []) e p p' in let g : c ≡ c' = cc in absurd cc
+row_end_one P [] ts (n ∷ ns') ts' x y e (c, p, q) (c', more, p', q', h, r) = let f = along ts x ts' y (c ∷ []) (c' ∷ n ∷ more) e p p' in let g : c ≡ c' = cc in
+    absurd cc
+row_end_one P (n ∷ ns) ts [] ts' x y e (c, more, p, q, h, r) (c', p', q') = let f = along ts x ts' y (c ∷ n ∷ more) (c' ∷ []) e p p' in let g : c ≡ c' = cc in
+    absurd cc
 row_end_one P (n ∷ ns) ts (n' ∷ ns') ts' x y e (c, more, p, q, h, r) (c', more', p', q', h', r') =
     let f = along ts x ts' y (c ∷ n ∷ more) (c' ∷ n' ∷ more') e p p' in
     let g : more ++ x ≡ more' ++ y = cc in
@@ -48,7 +50,8 @@ next_no_bracket : (k : TokenKind) (t : Token) (s : StepSyntax) → class_of t �
 next_no_bracket LeftBracket t s p e q = absurd cc
 next_no_bracket _ t s p e q = absurd cc
 
-first_one : (s : StepSyntax) (ts : List Token) (s' : StepSyntax) (ts' x y : List Token) → ts ++ x ≡ ts' ++ y → IsFirst s ts → IsFirst s' ts' → (s ≡ s') × (x ≡ y)
+first_one : (s : StepSyntax) (ts : List Token) (s' : StepSyntax) (ts' x y : List Token) → ts ++ x ≡ ts' ++ y → IsFirst s ts → IsFirst s' ts' → (s ≡ s')
+    × (x ≡ y)
 first_one s ts s' ts' x y e (inl (t, p, h)) (inl (t', p', h')) =
     let f = along ts x ts' y (t ∷ []) (t' ∷ []) e p p' in let g : t ≡ t' = cc in (next_one s s' t h (rw g h'), cc)
 first_one s ts s' ts' x y e (inl (t, p, h)) (inr (i, l, r, p', q, q')) =
@@ -58,7 +61,8 @@ first_one s ts s' ts' x y e (inr (i, l, r, p, q, q')) (inl (t, p', h)) =
 first_one s ts s' ts' x y e (inr (i, l, r, p, q, q')) (inr (i', l', r', p', o, o')) =
     let f = along ts x ts' y (l ∷ r ∷ []) (l' ∷ r' ∷ []) e p p' in (i ∙ sym i', cc)
 
-later_one : (s : StepSyntax) (ts : List Token) (s' : StepSyntax) (ts' x y : List Token) → ts ++ x ≡ ts' ++ y → IsLater s ts → IsLater s' ts' → (s ≡ s') × (x ≡ y)
+later_one : (s : StepSyntax) (ts : List Token) (s' : StepSyntax) (ts' x y : List Token) → ts ++ x ≡ ts' ++ y → IsLater s ts → IsLater s' ts' → (s ≡ s')
+    × (x ≡ y)
 later_one s ts s' ts' x y e (inl (d, t, p, c, h)) (inl (d', t', p', c', h')) =
     let f = along ts x ts' y (d ∷ t ∷ []) (d' ∷ t' ∷ []) e p p' in let g : t ≡ t' = cc in (next_one s s' t h (rw g h'), cc)
 later_one s ts s' ts' x y e (inl (d, t, p, c, h)) (inr (i, l, r, p', q, q')) =
@@ -75,7 +79,8 @@ no_later s ts b x e (inl (d, t, p, c, h)) (inr q) = let f : class_at x ≡ class
 no_later s ts b x e (inr (i, l, r, p, c, c')) (inl q) = let f : class_at x ≡ class_of l = ap class_at (e ∙ ap (λ (w : List Token). w ++ b) p) in absurd cc
 no_later s ts b x e (inr (i, l, r, p, c, c')) (inr q) = let f : class_at x ≡ class_of l = ap class_at (e ∙ ap (λ (w : List Token). w ++ b) p) in absurd cc
 
-path_end_one : (path : List StepSyntax) (ts : List Token) (path' : List StepSyntax) (ts' x y : List Token) → ts ++ x ≡ ts' ++ y → EndsPath x → EndsPath y → IsPathEnd path ts → IsPathEnd path' ts'
+path_end_one : (path : List StepSyntax) (ts : List Token) (path' : List StepSyntax) (ts' x y : List Token) → ts ++ x ≡ ts' ++ y → EndsPath x → EndsPath y
+    → IsPathEnd path ts → IsPathEnd path' ts'
     → (path ≡ path') × (x ≡ y)
 path_end_one [] ts [] ts' x y e n n' p p' = (refl, along ts x ts' y [] [] e p p')
 path_end_one [] ts (s' ∷ path') ts' x y e n n' p (a', b', p', h', g') =
@@ -86,7 +91,8 @@ path_end_one (s ∷ path) ts (s' ∷ path') ts' x y e n n' (a, b, p, h, g) (a', 
     let k = later_one s a s' a' (b ++ x) (b' ++ y) (parts a b a' b' x y (along ts x ts' y (a ++ b) (a' ++ b') e p p')) h h' in
     let m = path_end_one path b path' b' x y k.1 n n' g g' in (cc (k.0, m.0), m.1)
 
-path_one : (path : List StepSyntax) (ts : List Token) (path' : List StepSyntax) (ts' x y : List Token) → ts ++ x ≡ ts' ++ y → EndsPath x → EndsPath y → IsPath path ts → IsPath path' ts'
+path_one : (path : List StepSyntax) (ts : List Token) (path' : List StepSyntax) (ts' x y : List Token) → ts ++ x ≡ ts' ++ y → EndsPath x → EndsPath y
+    → IsPath path ts → IsPath path' ts'
     → (path ≡ path') × (x ≡ y)
 path_one [] ts path' ts' x y e n n' h h' = absurd h
 path_one (s ∷ path) ts [] ts' x y e n n' h h' = absurd h'
@@ -95,7 +101,8 @@ path_one (s ∷ path) ts (s' ∷ path') ts' x y e n n' (a, b, p, h, g) (a', b', 
     let m = path_end_one path b path' b' x y k.1 n n' g g' in (cc (k.0, m.0), m.1)
 
 -- a path and what comes after it
-entry_path : (path : List StepSyntax) (ts u x : List Token) (path' : List StepSyntax) (ts' u' y : List Token) (whole whole' : List Token) → whole ++ x ≡ whole' ++ y → whole ≡ ts ++ u → whole' ≡ ts' ++ u'
+entry_path : (path : List StepSyntax) (ts u x : List Token) (path' : List StepSyntax) (ts' u' y : List Token) (whole whole' : List Token) → whole ++ x
+    ≡ whole' ++ y → whole ≡ ts ++ u → whole' ≡ ts' ++ u'
     → EndsPath (u ++ x) → EndsPath (u' ++ y) → IsPath path ts → IsPath path' ts' → (path ≡ path') × (u ++ x ≡ u' ++ y)
 entry_path path ts u x path' ts' u' y whole whole' e p p' n n' h h' =
     path_one path ts path' ts' (u ++ x) (u' ++ y) (parts ts u ts' u' x y (along whole x whole' y (ts ++ u) (ts' ++ u') e p p')) n n' h h'
@@ -103,7 +110,8 @@ entry_path path ts u x path' ts' u' y whole whole' e p p' n n' h h' =
 -- ---- entries
 
 mutual
-  entry_one : (f : EntryTree) (n : ℕ) (ts : List Token) (f' : EntryTree) (ts' x y : List Token) → ts ++ x ≡ ts' ++ y → IsEntry n f ts → IsEntry n f' ts' → (f ≡ f') × (x ≡ y)
+  entry_one : (f : EntryTree) (n : ℕ) (ts : List Token) (f' : EntryTree) (ts' x y : List Token) → ts ++ x ≡ ts' ++ y → IsEntry n f ts → IsEntry n f' ts'
+      → (f ≡ f') × (x ≡ y)
   entry_one (Value m t) n ts (Value m' t') ts' x y e (w, c, p, q, r, s) (w', c', p', q', r', s') =
       let k = entry_path m w (c ∷ t ∷ []) x m' w' (c' ∷ t' ∷ []) y ts ts' e p p' (inl r) (inl r') q q' in
       let h : t ≡ t' = cc k.1 in (cc (k.0, h), cc k.1)
@@ -114,14 +122,16 @@ mutual
   entry_one (Nested m (AndEntry f fs)) n ts (Value m' t') ts' x y e (w, c, a, b, p, q, r, l, ha, hb) (w', c', p', q', r', s') =
       let k = entry_path m w (c ∷ (a ++ b)) x m' w' (c' ∷ t' ∷ []) y ts ts' e p p' (inr r) (inl r') q q' in let g : c ≡ c' = cc k.1 in absurd cc
   entry_one (Nested m (AndEntry f fs)) n ts (Nested m' NoEntry) ts' x y e h h' = absurd h'
-  entry_one (Nested m (AndEntry f fs)) n ts (Nested m' (AndEntry f' fs')) ts' x y e (w, c, a, b, p, q, r, l, ha, hb) (w', c', a', b', p', q', r', l', ha', hb') =
+  entry_one (Nested m (AndEntry f fs)) n ts (Nested m' (AndEntry f' fs')) ts' x y e (w, c, a, b, p, q, r, l, ha, hb)
+      (w', c', a', b', p', q', r', l', ha', hb') =
       let k = entry_path m w (c ∷ (a ++ b)) x m' w' (c' ∷ (a' ++ b')) y ts ts' e p p' (inr r) (inr r') q q' in
       let g : (a ++ b) ++ x ≡ (a' ++ b') ++ y = cc k.1 in
       let s = entry_one f (suc n) a f' a' (b ++ x) (b' ++ y) (parts a b a' b' x y g) ha ha' in
       let t = group_end_one fs (suc n) b fs' b' x y s.1 hb hb' in
       (cc (s.0, t.0, k.0), t.1)
 
-  group_end_one : (fs : EntryTrees) (n : ℕ) (ts : List Token) (fs' : EntryTrees) (ts' x y : List Token) → ts ++ x ≡ ts' ++ y → IsGroupEnd n fs ts → IsGroupEnd n fs' ts' → (fs ≡ fs') × (x ≡ y)
+  group_end_one : (fs : EntryTrees) (n : ℕ) (ts : List Token) (fs' : EntryTrees) (ts' x y : List Token) → ts ++ x ≡ ts' ++ y → IsGroupEnd n fs ts
+      → IsGroupEnd n fs' ts' → (fs ≡ fs') × (x ≡ y)
   group_end_one NoEntry n ts NoEntry ts' x y e (c, p, q) (c', p', q') = let f = along ts x ts' y (c ∷ []) (c' ∷ []) e p p' in (refl, cc)
   group_end_one NoEntry n ts (AndEntry f' fs') ts' x y e (c, p, q) (c', a', b', p', q', ha', hb') =
       let f = along ts x ts' y (c ∷ []) (c' ∷ (a' ++ b')) e p p' in let g : c ≡ c' = cc in absurd cc
@@ -133,7 +143,8 @@ mutual
       let s = entry_one f n a f' a' (b ++ x) (b' ++ y) (parts a b a' b' x y g) ha ha' in
       let t = group_end_one fs n b fs' b' x y s.1 hb hb' in (cc (s.0, t.0), t.1)
 
-group_one : (fs : EntryTrees) (n : ℕ) (ts : List Token) (fs' : EntryTrees) (ts' x y : List Token) → ts ++ x ≡ ts' ++ y → IsGroup n fs ts → IsGroup n fs' ts' → (fs ≡ fs') × (x ≡ y)
+group_one : (fs : EntryTrees) (n : ℕ) (ts : List Token) (fs' : EntryTrees) (ts' x y : List Token) → ts ++ x ≡ ts' ++ y → IsGroup n fs ts → IsGroup n fs' ts'
+    → (fs ≡ fs') × (x ≡ y)
 group_one NoEntry n ts fs' ts' x y e h h' = absurd h
 group_one (AndEntry f fs) n ts NoEntry ts' x y e h h' = absurd h'
 group_one (AndEntry f fs) n ts (AndEntry f' fs') ts' x y e (a, b, p, ha, hb) (a', b', p', ha', hb') =
@@ -167,7 +178,8 @@ item_one (Pattern m fs) ts (Pattern m' fs') ts' x y e (c, more, p, q, r, h) (c',
     let s = group_one fs 1 more fs' more' x y g h h' in let m-is : m ≡ m' = cc in (cc (s.0, m-is), s.1)
 
 -- items, and what comes after them, which is no comma
-body_end_one : (is : List ItemTree) (ts : List Token) (is' : List ItemTree) (ts' x y : List Token) → ts ++ x ≡ ts' ++ y → class_at x ≢ Comma → class_at y ≢ Comma → IsBodyEnd is ts → IsBodyEnd is' ts'
+body_end_one : (is : List ItemTree) (ts : List Token) (is' : List ItemTree) (ts' x y : List Token) → ts ++ x ≡ ts' ++ y → class_at x ≢ Comma
+    → class_at y ≢ Comma → IsBodyEnd is ts → IsBodyEnd is' ts'
     → (is ≡ is') × (x ≡ y)
 body_end_one [] ts [] ts' x y e n n' h h' = (refl, along ts x ts' y [] [] e h h')
 body_end_one [] ts (i' ∷ is') ts' x y e n n' h (c', a', b', p', q', ha', hb') =
@@ -180,7 +192,8 @@ body_end_one (i ∷ is) ts (i' ∷ is') ts' x y e n n' (c, a, b, p, q, ha, hb) (
     let s = item_one i a i' a' (b ++ x) (b' ++ y) (parts a b a' b' x y g) ha ha' in
     let t = body_end_one is b is' b' x y s.1 n n' hb hb' in (cc (s.0, t.0), t.1)
 
-body_one : (is : List ItemTree) (ts : List Token) (is' : List ItemTree) (ts' x y : List Token) → ts ++ x ≡ ts' ++ y → class_at x ≢ Comma → class_at y ≢ Comma → IsBody is ts → IsBody is' ts'
+body_one : (is : List ItemTree) (ts : List Token) (is' : List ItemTree) (ts' x y : List Token) → ts ++ x ≡ ts' ++ y → class_at x ≢ Comma → class_at y ≢ Comma
+    → IsBody is ts → IsBody is' ts'
     → (is ≡ is') × (x ≡ y)
 body_one [] ts is' ts' x y e n n' h h' = absurd h
 body_one (i ∷ is) ts [] ts' x y e n n' h h' = absurd h'

@@ -38,7 +38,8 @@ IsTextOf IsTree marked bytes tree = (tokens : List Token) × AreTokens bytes tok
 -- The first token at which a text leaves the grammar, or its end.
 abbrev pub IsSyntaxFault : {T : Type 0} → (T → List Token → Type 0) → (List Token → List Token) → List ℕ → TextFault → Type 0
 IsSyntaxFault IsTree marked bytes fault =
-    (tokens rest : List Token) × AreTokens bytes tokens × StopsAt IsTree (marked tokens) rest × (fault ≡ record { offset = place_of rest (length bytes); kind = Syntax })
+    (tokens rest : List Token) × AreTokens bytes tokens × StopsAt IsTree (marked tokens) rest
+    × (fault ≡ record { offset = place_of rest (length bytes); kind = Syntax })
 
 -- The first fault of bytes that are no text of the grammar.
 abbrev pub IsFaultOf : {T : Type 0} → (T → List Token → Type 0) → (List Token → List Token) → List ℕ → TextFault → Type 0

@@ -85,7 +85,8 @@ abbrev mutual
       (front : List Token) × (colon : Token) × (tokens ≡ front ++ colon ∷ term ∷ []) × IsPath path front × (class_of colon ≡ Colon) × IsTerm term
   IsEntry depth (Nested path NoEntry) tokens = ⊥
   IsEntry depth (Nested path (AndEntry first others)) tokens =
-      (front : List Token) × (brace : Token) × (a b : List Token) × (tokens ≡ front ++ brace ∷ (a ++ b)) × IsPath path front × (class_of brace ≡ LeftBrace) × (depth < 32)
+      (front : List Token) × (brace : Token) × (a b : List Token) × (tokens ≡ front ++ brace ∷ (a ++ b)) × IsPath path front × (class_of brace ≡ LeftBrace)
+      × (depth < 32)
       × IsEntry (suc depth) first a × IsGroupEnd (suc depth) others b
 
   -- { "," entry } "}"

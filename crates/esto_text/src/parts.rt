@@ -43,7 +43,8 @@ pub fn class_at(tokens: &[Token]) -> TokenKind
 pub fn sign(tokens: &[Token], kind: TokenKind) -> Result<(Token, &[Token]), Stop>
     requires { kind ≢ TokenKind.Stray }
     ensures ok { IfOk result (λ x. (tokens.now ≡ x.0 ∷ x.1.now) × (class_of x.0 ≡ kind)) }
-    ensures err { IfErr result (λ e. (e ≡ Syntax (length tokens.now)) × (class_at tokens.now ≢ kind)) }
+    ensures err { IfErr result (λ e. (e ≡ Syntax (length tokens.now))
+        × (class_at tokens.now ≢ kind)) }
 {
     if class_at(tokens) == kind {
         let (_, rest) = tokens.split_at(1);
@@ -56,7 +57,8 @@ pub fn sign(tokens: &[Token], kind: TokenKind) -> Result<(Token, &[Token]), Stop
 /// The next token, which is to be a term, and what comes after it.
 pub fn term(tokens: &[Token]) -> Result<(Token, &[Token]), Stop>
     ensures ok { IfOk result (λ x. (tokens.now ≡ x.0 ∷ x.1.now) × (is_term (class_of x.0) ≡ true)) }
-    ensures err { IfErr result (λ e. (e ≡ Syntax (length tokens.now)) × (is_term (class_at tokens.now) ≡ false)) }
+    ensures err { IfErr result (λ e. (e ≡ Syntax (length tokens.now))
+        × (is_term (class_at tokens.now) ≡ false)) }
 {
     match class_at(tokens) {
         TokenKind::Name | TokenKind::Wildcard | TokenKind::Quoted | TokenKind::Number => {
@@ -72,7 +74,8 @@ pub fn separator(tokens: &[Token], close: TokenKind) -> Result<(bool, &[Token]),
     requires { close ≢ TokenKind.Stray }
     ensures ok { IfOk result (λ x. (t : Token) × (tokens.now ≡ t ∷ x.1.now)
         × (class_of t ≡ (if x.0 then TokenKind.Comma else close))) }
-    ensures err { IfErr result (λ e. (e ≡ Syntax (length tokens.now)) × (class_at tokens.now ≢ TokenKind.Comma)
+    ensures err { IfErr result (λ e. (e ≡ Syntax (length tokens.now))
+        × (class_at tokens.now ≢ TokenKind.Comma)
         × (class_at tokens.now ≢ close)) }
 {
     match sign(tokens, TokenKind::Comma) {
@@ -87,7 +90,8 @@ pub fn separator(tokens: &[Token], close: TokenKind) -> Result<(bool, &[Token]),
 /// The step that a name, a quoted constant or `**` says, and what comes after it.
 pub fn next_step(tokens: &[Token]) -> Result<(StepSyntax, &[Token]), Stop>
     ensures ok { IfOk result (λ x. (t : Token) × (tokens.now ≡ t ∷ x.1.now) × IsNext x.0 t) }
-    ensures err { IfErr result (λ e. (e ≡ Syntax (length tokens.now)) × ((t : Token) → step_at (class_at tokens.now) t ≡ None)) }
+    ensures err { IfErr result (λ e. (e ≡ Syntax (length tokens.now))
+        × ((t : Token) → step_at (class_at tokens.now) t ≡ None)) }
 {
     match class_at(tokens) {
         TokenKind::Name | TokenKind::Quoted => {

@@ -31,8 +31,10 @@ fn first_step(tokens: &[Token]) -> Result<(StepSyntax, &[Token]), Stop>
 
 /// A later step of a path, and what comes after it, or None where the path ends.
 fn later_step(tokens: &[Token]) -> Result<Option<(StepSyntax, &[Token])>, Stop>
-    ensures ok { IfOk result (λ x. MatchOption x (EndsPath tokens.now) (λ y. Takes (IsLater y.0) tokens.now y.1.now)) }
-    ensures shorter { IfOk result (λ x. MatchOption x Unit (λ y. length y.1.now < length tokens.now)) }
+    ensures ok { IfOk result (λ x. MatchOption x (EndsPath tokens.now)
+        (λ y. Takes (IsLater y.0) tokens.now y.1.now)) }
+    ensures shorter { IfOk result (λ x. MatchOption x Unit
+        (λ y. length y.1.now < length tokens.now)) }
     ensures err { IfErr result (λ e. (n : ℕ) → Fails (PathRest n ∷ []) tokens.now e) }
 {
     match class_at(tokens) {

@@ -85,12 +85,7 @@ fn is_denial(bytes: &[u8], tokens: &[Token], version: Version) -> bool
 }
 
 /// The head that the tokens are.
-fn head(
-    alloc: Global,
-    bytes: &[u8],
-    tokens: &[Token],
-    version: Version,
-) -> Result<HeadSyntax, Stop>
+fn head(alloc: Global, bytes: &[u8], tokens: &[Token], version: Version) -> Result<HeadSyntax, Stop>
     requires { AllByRecursion (StandsIn bytes.now) tokens.now }
     ensures ok { IfOk result (λ head. IsHead
         (IsFalse version bytes.now) (head_of head) tokens.now) }

@@ -54,7 +54,8 @@ pub fn run_len(bytes: &[u8], class: Class) -> usize
 pub fn gap_len(bytes: &[u8]) -> usize
     ensures in_range { result ≤ length bytes.now }
     ensures gap { IsGap (take result bytes.now) (drop result bytes.now) }
-    ensures stops { result < length bytes.now → (slice_index bytes.now result ≢ 35) × (¬ IsIn Class.Blank (slice_index bytes.now result)) }
+    ensures stops { result < length bytes.now → (slice_index bytes.now result ≢ 35)
+        × (¬ IsIn Class.Blank (slice_index bytes.now result)) }
 {
     let mut in_comment = false;
     'bytes: for (at, byte) in bytes.iter().enumerate() {

@@ -28,7 +28,11 @@ fn place(tokens: &[Token], left: usize, bytes: usize) -> u64
 /// The error of a text of so many bytes, where the last `left` tokens begin at the first that does not fit.
 fn syntax_error(tokens: &[Token], left: usize, bytes: usize) -> ReadError
     requires { left ≤ length tokens.now }
-    ensures { result ≡ ReadError.Fault (record { offset = place_of (drop (length tokens.now - left) tokens.now) bytes; kind = TextKind.Syntax }) }
+    ensures { result ≡ ReadError.Fault (record {
+      offset = place_of (drop (length tokens.now - left) tokens.now) bytes;
+      kind =
+          TextKind.Syntax;
+    }) }
 {
     ReadError::Fault(TextFault {
         offset: place(tokens, left, bytes),

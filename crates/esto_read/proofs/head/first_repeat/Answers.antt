@@ -6,7 +6,8 @@ use Rattle.esto_read.proofs.head.first_repeat.Goals as goal
 
 pub returns-then-has_text : goal.returns-then-has_text
 returns-then-has_text c =
-    repeat_found c.args.bytes.now c.args.variables.now c.variables.place (record { kind = Name; start = 0; end = 0 }) c.variables-test.true c.variables.invariant
+    repeat_found c.args.bytes.now c.args.variables.now c.variables.place (record { kind = Name; start = 0; end = 0 }) c.variables-test.true
+    c.variables.invariant
     (rw (c.split_at.ensures.front, c.bytes_of.ensures) at c.has_text.ensures.0 c.if-has_text.true)
 
 pub variables-preserved : goal.variables-preserved

@@ -9,11 +9,13 @@ use Rattle.esto_read.proofs.head.has_text.Goals as goal
 
 pub tokens-preserved : goal.tokens-preserved
 tokens-preserved c =
-    each_more_at (λ (token : Token). text_of c.args.bytes.now token ≢ c.args.text.now) c.args.tokens.now c.tokens.token-index (record { kind = Name; start = 0; end = 0 }) c.tokens-test.true
+    each_more_at (λ (token : Token). text_of c.args.bytes.now token ≢ c.args.text.now) c.args.tokens.now c.tokens.token-index
+    (record { kind = Name; start = 0; end = 0 }) c.tokens-test.true
     (λ is. false≢true (sym c.if-same.false ∙ c.same.ensures.1 (c.bytes_of.ensures ∙ is))) c.tokens.invariant
 
 pub returns : goal.returns
 returns c = (
   λ e. absurd (false≢true e),
-  λ (token, k, is). absurd (each_seen (λ (token : Token). text_of c.args.bytes.now token ≢ c.args.text.now) c.args.tokens.now c.tokens.token-index c.tokens-test.false c.tokens.invariant token k is),
+  λ (token, k, is). absurd (each_seen (λ (token : Token). text_of c.args.bytes.now token ≢ c.args.text.now) c.args.tokens.now c.tokens.token-index
+      c.tokens-test.false c.tokens.invariant token k is),
 )

@@ -14,4 +14,5 @@ make_query-requires c = record {
 
 pub unreachable-requires : goal.unreachable-requires
 unreachable-requires c =
-    query_is_made (arities_of c.args.schema.now) c.args.head c.args.body c.args.names c.in-Err.field-0 c.requires.sound.query.safe c.requires.over c.requires.size c.in-Err.ensures
+    query_is_made (arities_of c.args.schema.now) c.args.head c.args.body c.args.names c.in-Err.field-0 c.requires.sound.query.safe c.requires.over
+    c.requires.size c.in-Err.ensures

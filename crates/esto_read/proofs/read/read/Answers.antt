@@ -20,11 +20,13 @@ terms-requires-clause-stand c = rw c.items.ensures (names_are_terms c.args.bytes
 pub returns-in_err-body-clause-error : goal.returns-in_err-body-clause-error
 returns-in_err-body-clause-error c =
     let p = err_from_is_err_and c.from_residual-in_err-body.result c.from_residual-in_err-body.ensures.1 in
-    rw (p.1, p.2) (body_error c.args.form c.args.words.now (arities_of c.args.schema.now) c.args.bytes.now (tree_of c.in_ok-tree.tree) _ c.in_ok-tree.ensures.tree (rw (c.items-2.ensures, c.items-words.ensures) at c.in_err-body.ensures.err))
+    rw (p.1, p.2) (body_error c.args.form c.args.words.now (arities_of c.args.schema.now) c.args.bytes.now (tree_of c.in_ok-tree.tree) _
+    c.in_ok-tree.ensures.tree (rw (c.items-2.ensures, c.items-words.ensures) at c.in_err-body.ensures.err))
 
 pub head_fault-requires-clause-lengths : goal.head_fault-requires-clause-lengths
 head_fault-requires-clause-lengths c =
-    rw (c.items-3.ensures, c.items-4.ensures) (terms_length c.args.bytes.now c.new-names.result c.in_ok-tree.tree.variables c.in_ok-head.head c.terms.new.names (rw c.items.ensures at c.in_ok-head.ensures))
+    rw (c.items-3.ensures, c.items-4.ensures) (terms_length c.args.bytes.now c.new-names.result c.in_ok-tree.tree.variables c.in_ok-head.head c.terms.new.names
+    (rw c.items.ensures at c.in_ok-head.ensures))
 
 pub returns-in-Some-clause-error : goal.returns-in-Some-clause-error
 returns-in-Some-clause-error c =
@@ -50,39 +52,46 @@ returns-in-Some-clause-error c =
 pub query-requires-clause-sound : goal.query-requires-clause-sound
 query-requires-clause-sound c =
     let fit = rw (c.items-3.ensures, c.items-4.ensures, c.items-5.ensures) at c.in-None.ensures in
-    let read : IsRead c.args.words.now (arities_of c.args.schema.now) c.args.bytes.now (tree_of c.in_ok-tree.tree) c.in_ok-head.head c.in_ok-body.body c.body.new.names = record {
+    let read : IsRead c.args.words.now (arities_of c.args.schema.now) c.args.bytes.now (tree_of c.in_ok-tree.tree)
+    c.in_ok-head.head c.in_ok-body.body c.body.new.names = record {
       between = c.terms.new.names;
       head_terms = rw (c.new-names.ensures, c.items.ensures) at c.in_ok-head.ensures;
       body_atoms = rw (c.items-2.ensures, c.items-words.ensures) at c.in_ok-body.ensures.ok;
       fits = rw (c.items-2.ensures, c.items-words.ensures) at c.in_ok-body.ensures.fits;
     } in
-    sound c.args.words.now (arities_of c.args.schema.now) c.args.bytes.now c.in_ok-tree.ensures.tree.1.0 (tree_of c.in_ok-tree.tree) c.in_ok-head.head c.in_ok-body.body c.body.new.names c.in_ok-tree.ensures.tree c.in_ok-tree.ensures.tokens read fit.1
+    sound c.args.words.now (arities_of c.args.schema.now) c.args.bytes.now c.in_ok-tree.ensures.tree.1.0 (tree_of c.in_ok-tree.tree) c.in_ok-head.head
+    c.in_ok-body.body c.body.new.names c.in_ok-tree.ensures.tree c.in_ok-tree.ensures.tokens read fit.1
 
 pub query-requires-clause-over : goal.query-requires-clause-over
 query-requires-clause-over c =
-    let read : IsRead c.args.words.now (arities_of c.args.schema.now) c.args.bytes.now (tree_of c.in_ok-tree.tree) c.in_ok-head.head c.in_ok-body.body c.body.new.names = record {
+    let read : IsRead c.args.words.now (arities_of c.args.schema.now) c.args.bytes.now (tree_of c.in_ok-tree.tree)
+    c.in_ok-head.head c.in_ok-body.body c.body.new.names = record {
       between = c.terms.new.names;
       head_terms = rw (c.new-names.ensures, c.items.ensures) at c.in_ok-head.ensures;
       body_atoms = rw (c.items-2.ensures, c.items-words.ensures) at c.in_ok-body.ensures.ok;
       fits = rw (c.items-2.ensures, c.items-words.ensures) at c.in_ok-body.ensures.fits;
     } in
-    (over c.args.words.now (arities_of c.args.schema.now) c.args.bytes.now c.in_ok-tree.ensures.tree.1.0 (tree_of c.in_ok-tree.tree) c.in_ok-head.head c.in_ok-body.body c.body.new.names c.in_ok-tree.ensures.tree c.in_ok-tree.ensures.tokens read).over
+    (over c.args.words.now (arities_of c.args.schema.now) c.args.bytes.now c.in_ok-tree.ensures.tree.1.0 (tree_of c.in_ok-tree.tree) c.in_ok-head.head
+    c.in_ok-body.body c.body.new.names c.in_ok-tree.ensures.tree c.in_ok-tree.ensures.tokens read).over
 
 pub query-requires-clause-size : goal.query-requires-clause-size
 query-requires-clause-size c =
-    let read : IsRead c.args.words.now (arities_of c.args.schema.now) c.args.bytes.now (tree_of c.in_ok-tree.tree) c.in_ok-head.head c.in_ok-body.body c.body.new.names = record {
+    let read : IsRead c.args.words.now (arities_of c.args.schema.now) c.args.bytes.now (tree_of c.in_ok-tree.tree)
+    c.in_ok-head.head c.in_ok-body.body c.body.new.names = record {
       between = c.terms.new.names;
       head_terms = rw (c.new-names.ensures, c.items.ensures) at c.in_ok-head.ensures;
       body_atoms = rw (c.items-2.ensures, c.items-words.ensures) at c.in_ok-body.ensures.ok;
       fits = rw (c.items-2.ensures, c.items-words.ensures) at c.in_ok-body.ensures.fits;
     } in
-    let size = items_size c.args.words.now (arities_of c.args.schema.now) c.args.bytes.now 0 read.between (tree_of c.in_ok-tree.tree).items c.in_ok-body.body c.body.new.names (omega arith) read.body_atoms read.fits in
+    let size = items_size c.args.words.now (arities_of c.args.schema.now) c.args.bytes.now 0 read.between (tree_of c.in_ok-tree.tree).items c.in_ok-body.body
+    c.body.new.names (omega arith) read.body_atoms read.fits in
     omega (arith, size)
 
 pub returns-clause-reading : goal.returns-clause-reading
 returns-clause-reading c =
     let fit = rw (c.items-3.ensures, c.items-4.ensures, c.items-5.ensures) at c.in-None.ensures in
-    let read : IsRead c.args.words.now (arities_of c.args.schema.now) c.args.bytes.now (tree_of c.in_ok-tree.tree) c.in_ok-head.head c.in_ok-body.body c.body.new.names = record {
+    let read : IsRead c.args.words.now (arities_of c.args.schema.now) c.args.bytes.now (tree_of c.in_ok-tree.tree)
+    c.in_ok-head.head c.in_ok-body.body c.body.new.names = record {
       between = c.terms.new.names;
       head_terms = rw (c.new-names.ensures, c.items.ensures) at c.in_ok-head.ensures;
       body_atoms = rw (c.items-2.ensures, c.items-words.ensures) at c.in_ok-body.ensures.ok;
@@ -93,24 +102,31 @@ returns-clause-reading c =
       record {
         text = c.in_ok-tree.ensures.tree;
         name = c.in_ok-name.ensures ∙ c.bytes_of.ensures;
-        read = query_along (arities_of c.args.schema.now) c.in_ok-head.head c.in_ok-body.body c.body.new.names c.query.result (λ head body names. IsRead c.args.words.now (arities_of c.args.schema.now) c.args.bytes.now tree head body names) c.query.ensures read;
-        fit = query_along (arities_of c.args.schema.now) c.in_ok-head.head c.in_ok-body.body c.body.new.names c.query.result (λ head body names. IsHeadFit c.args.form c.args.bytes.now tree.variables head body) c.query.ensures fit;
+        read = query_along (arities_of c.args.schema.now) c.in_ok-head.head c.in_ok-body.body c.body.new.names c.query.result
+            (λ head body names. IsRead c.args.words.now (arities_of c.args.schema.now) c.args.bytes.now tree head body names) c.query.ensures read;
+        fit = query_along (arities_of c.args.schema.now) c.in_ok-head.head c.in_ok-body.body c.body.new.names c.query.result
+            (λ head body names. IsHeadFit c.args.form c.args.bytes.now tree.variables head body) c.query.ensures fit;
       },
     )
 
 pub returns-clause-over : goal.returns-clause-over
 returns-clause-over c =
-    let read : IsRead c.args.words.now (arities_of c.args.schema.now) c.args.bytes.now (tree_of c.in_ok-tree.tree) c.in_ok-head.head c.in_ok-body.body c.body.new.names = record {
+    let read : IsRead c.args.words.now (arities_of c.args.schema.now) c.args.bytes.now (tree_of c.in_ok-tree.tree)
+    c.in_ok-head.head c.in_ok-body.body c.body.new.names = record {
       between = c.terms.new.names;
       head_terms = rw (c.new-names.ensures, c.items.ensures) at c.in_ok-head.ensures;
       body_atoms = rw (c.items-2.ensures, c.items-words.ensures) at c.in_ok-body.ensures.ok;
       fits = rw (c.items-2.ensures, c.items-words.ensures) at c.in_ok-body.ensures.fits;
     } in
-    query_along (arities_of c.args.schema.now) c.in_ok-head.head c.in_ok-body.body c.body.new.names c.query.result (λ head body names. IsQueryOver (arities_of c.args.schema.now) (record { head = head; body = body })) c.query.ensures
-    (over c.args.words.now (arities_of c.args.schema.now) c.args.bytes.now c.in_ok-tree.ensures.tree.1.0 (tree_of c.in_ok-tree.tree) c.in_ok-head.head c.in_ok-body.body c.body.new.names c.in_ok-tree.ensures.tree c.in_ok-tree.ensures.tokens read)
+    query_along (arities_of c.args.schema.now) c.in_ok-head.head c.in_ok-body.body c.body.new.names c.query.result
+    (λ head body names. IsQueryOver (arities_of c.args.schema.now) (record { head = head; body = body })) c.query.ensures
+    (over c.args.words.now (arities_of c.args.schema.now) c.args.bytes.now c.in_ok-tree.ensures.tree.1.0 (tree_of c.in_ok-tree.tree) c.in_ok-head.head
+    c.in_ok-body.body c.body.new.names c.in_ok-tree.ensures.tree c.in_ok-tree.ensures.tokens read)
 
 pub returns-clause-head : goal.returns-clause-head
 returns-clause-head c =
     let fit = rw (c.items-3.ensures, c.items-4.ensures, c.items-5.ensures) at c.in-None.ensures in
-    query_along (arities_of c.args.schema.now) c.in_ok-head.head c.in_ok-body.body c.body.new.names c.query.result (λ head body names. HasVariables c.args.form head) c.query.ensures
-    (head_is c.args.bytes.now c.in_ok-tree.tree.variables c.in_ok-head.head c.terms.new.names c.in_ok-tree.ensures.tokens.1 (rw (c.new-names.ensures, c.items.ensures) at c.in_ok-head.ensures) c.args.form fit.0)
+    query_along (arities_of c.args.schema.now) c.in_ok-head.head c.in_ok-body.body c.body.new.names c.query.result
+    (λ head body names. HasVariables c.args.form head) c.query.ensures
+    (head_is c.args.bytes.now c.in_ok-tree.tree.variables c.in_ok-head.head c.terms.new.names c.in_ok-tree.ensures.tokens.1
+    (rw (c.new-names.ensures, c.items.ensures) at c.in_ok-head.ensures) c.args.form fit.0)

@@ -5,8 +5,10 @@ pub returns-clause-reading : goal.returns-clause-reading
 returns-clause-reading c form words schema bytes query other h = one_reading c.trees_are_determined.ensures.tree form words h.distinct schema bytes query other
 
 pub returns-clause-apart : goal.returns-clause-apart
-returns-clause-apart c form words schema bytes query fault h = no_fault c.trees_are_determined.ensures.tree c.trees_are_determined.ensures.apart form words h.distinct schema bytes query fault
+returns-clause-apart c form words schema bytes query fault h = no_fault c.trees_are_determined.ensures.tree c.trees_are_determined.ensures.apart form words
+    h.distinct schema bytes query fault
 
 pub returns-clause-fault : goal.returns-clause-fault
 returns-clause-fault c form words schema bytes fault other h =
-    one_fault c.trees_are_determined.ensures.tree c.trees_are_determined.ensures.apart c.trees_are_determined.ensures.fault form words h.distinct schema bytes fault other
+    one_fault c.trees_are_determined.ensures.tree c.trees_are_determined.ensures.apart c.trees_are_determined.ensures.fault form words h.distinct schema bytes
+    fault other

@@ -6,7 +6,8 @@ pub variable-requires : goal.variable-requires
 variable-requires c = rw c.bytes_of-text.ensures (name_token c.args.bytes.now c.requires.utf8 c.args.token c.requires.stands.0 c.in-Name.is)
 
 pub plain-requires : goal.plain-requires
-plain-requires c = rw c.bytes_of-text.ensures (number_token c.args.bytes.now c.requires.utf8 c.args.token c.requires.stands.0 (only_number c.args.token.kind c.requires.stands.1 c.in_default.not-Name c.in_default.not-Wildcard c.in_default.not-Quoted))
+plain-requires c = rw c.bytes_of-text.ensures (number_token c.args.bytes.now c.requires.utf8 c.args.token c.requires.stands.0
+    (only_number c.args.token.kind c.requires.stands.1 c.in_default.not-Name c.in_default.not-Wildcard c.in_default.not-Quoted))
 
 pub quoted-requires-clause-utf8 : goal.quoted-requires-clause-utf8
 quoted-requires-clause-utf8 c = rw c.bytes_of-text.ensures (quoted_token c.args.bytes.now c.requires.utf8 c.args.token c.requires.stands.0 c.in-Quoted.is)

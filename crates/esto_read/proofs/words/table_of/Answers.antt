@@ -7,8 +7,10 @@ use Rattle.esto_read.proofs.words.table_of.Goals as goal
 
 pub words-preserved : goal.words-preserved
 words-preserved c =
-    each_more (λ (word : Word). ¬ ((word.name ≡ c.args.name.now) × (word.model ≡ Table))) _ _ _ c.words-test.true c.word-item.is (λ same. false≢true (sym c.if-is_table.false ∙ c.is_table.ensures.1 same)) c.words.invariant
+    each_more (λ (word : Word). ¬ ((word.name ≡ c.args.name.now) × (word.model ≡ Table))) _ _ _ c.words-test.true c.word-item.is
+    (λ same. false≢true (sym c.if-is_table.false ∙ c.is_table.ensures.1 same)) c.words.invariant
 
 pub returns : goal.returns
 returns c relation (word, h, n, m, b) =
-    each_seen (λ (word : Word). ¬ ((word.name ≡ c.args.name.now) × (word.model ≡ Table))) c.args.words.now c.words.word-index c.words-test.false c.words.invariant word h (n, m)
+    each_seen (λ (word : Word). ¬ ((word.name ≡ c.args.name.now) × (word.model ≡ Table))) c.args.words.now c.words.word-index c.words-test.false
+    c.words.invariant word h (n, m)

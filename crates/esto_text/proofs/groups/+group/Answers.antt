@@ -10,29 +10,34 @@ use Rattle.esto_text.proofs.groups.+group.Goals as goal
 pub group-returns-in_err-entry-clause-err : goal.group-returns-in_err-entry-clause-err
 group-returns-in_err-entry-clause-err t c =
     let p = err_from_is_err_and c.from_residual.result c.from_residual.ensures.1 in
-    rw (p.1, p.2) (row_fails (AreGroup c.args.depth) (AnEntry c.args.depth ∷ MoreEntries c.args.depth ∷ []) c.args.tokens.now c.entries.entries c.entries.rest.now c.entries.more c.entries-test.true c.entries.invariant.goes _
+    rw (p.1, p.2) (row_fails (AreGroup c.args.depth) (AnEntry c.args.depth ∷ MoreEntries c.args.depth ∷ []) c.args.tokens.now c.entries.entries
+    c.entries.rest.now c.entries.more c.entries-test.true c.entries.invariant.goes _
     (entry_fails c.args.depth c.entries.rest.now _ c.in_err-entry.ensures.err))
 
 pub group-returns-in_err-more-clause-err : goal.group-returns-in_err-more-clause-err
 group-returns-in_err-more-clause-err t c =
     let p = err_from_is_err_and c.from_residual-in_err-more.result c.from_residual-in_err-more.ensures.1 in
-    rw (p.1, p.2) (row_fails (AreGroup c.args.depth) (AnEntry c.args.depth ∷ MoreEntries c.args.depth ∷ []) c.args.tokens.now c.entries.entries c.entries.rest.now c.entries.more c.entries-test.true c.entries.invariant.goes _
+    rw (p.1, p.2) (row_fails (AreGroup c.args.depth) (AnEntry c.args.depth ∷ MoreEntries c.args.depth ∷ []) c.args.tokens.now c.entries.entries
+    c.entries.rest.now c.entries.more c.entries-test.true c.entries.invariant.goes _
     (entry_end_fails c.args.depth c.entries.rest.now c.in_ok-entry.after.now c.in_ok-entry.entry _ c.in_ok-entry.ensures.ok c.in_err-more.ensures.err))
 
 pub group-entries-preserved : goal.group-entries-preserved
 group-entries-preserved t c =
     let e = c.in_ok-more.ensures.ok in
-    let n : length c.in_ok-more.field-0-1.now < length c.args.tokens.now = omega (arith, c.entries.invariant.left, c.in_ok-entry.ensures.shorter, ap length e.1) in
+    let n : length c.in_ok-more.field-0-1.now < length c.args.tokens.now =
+    omega (arith, c.entries.invariant.left, c.in_ok-entry.ensures.shorter, ap length e.1) in
     record {
       left = omega (arith, n);
       goes = rw c.in_ok-push.ensures.ok
-          (entry_more c.args.depth c.args.tokens.now c.entries.entries c.entries.rest.now c.entries.more c.entries-test.true c.entries.invariant.goes c.in_ok-entry.entry c.in_ok-entry.after.now _ _ c.in_ok-entry.ensures.ok e);
+          (entry_more c.args.depth c.args.tokens.now c.entries.entries c.entries.rest.now c.entries.more c.entries-test.true c.entries.invariant.goes
+          c.in_ok-entry.entry c.in_ok-entry.after.now _ _ c.in_ok-entry.ensures.ok e);
       shorter = λ _. n;
     }
 
 pub group-returns-clause-ok : goal.group-returns-clause-ok
 group-returns-clause-ok t c =
-    goes_done (AreGroup c.args.depth) (AnEntry c.args.depth ∷ MoreEntries c.args.depth ∷ []) [] c.args.tokens.now c.entries.entries c.entries.rest.now c.entries.more c.entries-test.false (c.entries.invariant.goes [])
+    goes_done (AreGroup c.args.depth) (AnEntry c.args.depth ∷ MoreEntries c.args.depth ∷ []) [] c.args.tokens.now c.entries.entries c.entries.rest.now
+    c.entries.more c.entries-test.false (c.entries.invariant.goes [])
 
 pub entry-returns-in_err-term-in-Colon-clause-err : goal.entry-returns-in_err-term-in-Colon-clause-err
 entry-returns-in_err-term-in-Colon-clause-err t c =
@@ -65,11 +70,13 @@ entry-returns-in_err-entries-in-LeftBrace-clause-err t c =
 pub entry-returns-in_ok-term-in-Colon-clause-ok : goal.entry-returns-in_ok-term-in-Colon-clause-ok
 entry-returns-in_ok-term-in-Colon-clause-ok t c =
     let b = next_is c.in_ok-path.rest.now Colon (sym c.in-Colon.ensures) (λ z. cc) in
-    rw value_entry (entry_term c.args.depth c.args.tokens.now c.in_ok-path.rest.now c.in_ok-path.path c.in_ok-path.ensures.ok b.0 c.in_ok-term-in-Colon.term c.in_ok-term-in-Colon.rest.now b.1 b.2
+    rw value_entry (entry_term c.args.depth c.args.tokens.now c.in_ok-path.rest.now c.in_ok-path.path c.in_ok-path.ensures.ok b.0 c.in_ok-term-in-Colon.term
+    c.in_ok-term-in-Colon.rest.now b.1 b.2
     (rw c.split_at.ensures.back at c.in_ok-term-in-Colon.ensures.ok))
 
 pub entry-returns-in_ok-entries-in-LeftBrace-clause-ok : goal.entry-returns-in_ok-entries-in-LeftBrace-clause-ok
 entry-returns-in_ok-entries-in-LeftBrace-clause-ok t c =
     let b = next_is c.in_ok-path.rest.now LeftBrace (sym c.in-LeftBrace.ensures) (λ z. cc) in
-    rw group_entry (entry_group c.args.depth c.args.tokens.now c.in_ok-path.rest.now c.in_ok-path.path c.in_ok-path.ensures.ok b.0 _ c.in_ok-entries-in-LeftBrace.rest.now b.1 b.2 (omega arith)
+    rw group_entry (entry_group c.args.depth c.args.tokens.now c.in_ok-path.rest.now c.in_ok-path.path c.in_ok-path.ensures.ok b.0 _
+    c.in_ok-entries-in-LeftBrace.rest.now b.1 b.2 (omega arith)
     (rw c.split_at-in-LeftBrace.ensures.back at c.in_ok-entries-in-LeftBrace.ensures.ok))

@@ -12,7 +12,12 @@ decreases-group l = 2 * length l.tokens.now + 1
 
 abbrev pub invariant-group-entries : goal.invariant-group-entries
 invariant-group-entries l =
-    record { left : length l.rest ≤ length l.tokens; goes : (s : List Symbol) → Goes (AreGroup l.depth) (AnEntry l.depth ∷ MoreEntries l.depth ∷ s) s l.tokens l.entries l.rest l.more; shorter : l.more ≡ false → length l.rest < length l.tokens }
+    record {
+      left : length l.rest ≤ length l.tokens;
+      goes : (s : List Symbol) → Goes (AreGroup l.depth) (AnEntry l.depth ∷ MoreEntries l.depth ∷ s) s l.tokens
+          l.entries l.rest l.more;
+      shorter : l.more ≡ false → length l.rest < length l.tokens;
+    }
 
 abbrev pub decreases-group-entries : goal.decreases-group-entries
 decreases-group-entries l = length l.rest

@@ -5,7 +5,8 @@ use Rattle.esto_text.proofs.paths.first_step.Goals as goal
 
 pub returns-in_ok-rest-in-LeftBracket-clause-ok : goal.returns-in_ok-rest-in-LeftBracket-clause-ok
 returns-in_ok-rest-in-LeftBracket-clause-ok c =
-    first_brackets _ _ (brackets_taken c.args.tokens.now c.in_ok-rest-in-LeftBracket.rest.now _ (sym c.in-LeftBracket.ensures) (rw c.split_at.ensures.back at c.in_ok-rest-in-LeftBracket.ensures.ok))
+    first_brackets _ _ (brackets_taken c.args.tokens.now c.in_ok-rest-in-LeftBracket.rest.now _ (sym c.in-LeftBracket.ensures)
+    (rw c.split_at.ensures.back at c.in_ok-rest-in-LeftBracket.ensures.ok))
 
 pub returns-in_err-step-in_default-clause-err : goal.returns-in_err-step-in_default-clause-err
 returns-in_err-step-in_default-clause-err c =
@@ -13,4 +14,5 @@ returns-in_err-step-in_default-clause-err c =
     rw (p.1, p.2) (first_fails c.args.tokens.now _ c.in_err-step-in_default.ensures.err (λ e. c.in_default.not-LeftBracket (c.class_at.ensures ∙ e)))
 
 pub returns-in_ok-step-in_default-clause-ok : goal.returns-in_ok-step-in_default-clause-ok
-returns-in_ok-step-in_default-clause-ok c = first_next c.args.tokens.now c.in_ok-step-in_default.rest.now c.in_ok-step-in_default.step c.in_ok-step-in_default.ensures.ok
+returns-in_ok-step-in_default-clause-ok c = first_next c.args.tokens.now c.in_ok-step-in_default.rest.now c.in_ok-step-in_default.step
+    c.in_ok-step-in_default.ensures.ok

@@ -10,8 +10,10 @@ returns-in_err-step-in-Dot-clause-err c =
 
 pub returns-in_ok-rest-in-LeftBracket-clause-ok : goal.returns-in_ok-rest-in-LeftBracket-clause-ok
 returns-in_ok-rest-in-LeftBracket-clause-ok c =
-    later_brackets _ _ (brackets_taken c.args.tokens.now c.in_ok-rest-in-LeftBracket.rest.now _ (sym c.in-LeftBracket.ensures) (rw c.split_at.ensures.back at c.in_ok-rest-in-LeftBracket.ensures.ok))
+    later_brackets _ _ (brackets_taken c.args.tokens.now c.in_ok-rest-in-LeftBracket.rest.now _ (sym c.in-LeftBracket.ensures)
+    (rw c.split_at.ensures.back at c.in_ok-rest-in-LeftBracket.ensures.ok))
 
 pub returns-in_ok-step-in-Dot-clause-ok : goal.returns-in_ok-step-in-Dot-clause-ok
 returns-in_ok-step-in-Dot-clause-ok c =
-    later_next c.args.tokens.now c.in_ok-step-in-Dot.rest.now c.in_ok-step-in-Dot.step (sym c.in-Dot.ensures) (rw c.split_at-in-Dot.ensures.back at c.in_ok-step-in-Dot.ensures.ok)
+    later_next c.args.tokens.now c.in_ok-step-in-Dot.rest.now c.in_ok-step-in-Dot.step (sym c.in-Dot.ensures)
+    (rw c.split_at-in-Dot.ensures.back at c.in_ok-step-in-Dot.ensures.ok)

@@ -13,6 +13,7 @@ steps-preserved c =
     let taken = rw c.in-Some.is at c.in_ok-step-2.ensures.ok in
     let shorter = rw c.in-Some.is at c.in_ok-step-2.ensures.shorter in
     record {
-      taken = rw c.in_ok-push-2.ensures.ok (path_goes c.args.tokens.now c.steps.rest.now c.in-Some.after.now c.steps.path c.in-Some.step c.steps.invariant.taken taken);
+      taken = rw c.in_ok-push-2.ensures.ok (path_goes c.args.tokens.now c.steps.rest.now c.in-Some.after.now c.steps.path c.in-Some.step c.steps.invariant.taken
+          taken);
       shorter = omega (arith, shorter, c.steps.invariant.shorter);
     }

@@ -10,7 +10,8 @@ returns-then-len-ge-MAX_NAMES-clause-err c = head_full_fails _ _ _ c.names.rest.
 pub returns-in_err-name-clause-err : goal.returns-in_err-name-clause-err
 returns-in_err-name-clause-err c =
     let p = err_from_is_err_and c.from_residual.result c.from_residual.ensures.1 in
-    rw (p.1, p.2) (head_fails _ _ _ c.names.rest.now c.names.more c.names.invariant c.names-test.true _ (head_name_fails _ c.names.rest.now _ c.in_err-name.ensures.err))
+    rw (p.1, p.2) (head_fails _ _ _ c.names.rest.now c.names.more c.names.invariant c.names-test.true _
+    (head_name_fails _ c.names.rest.now _ c.in_err-name.ensures.err))
 
 pub returns-in_err-more-clause-err : goal.returns-in_err-more-clause-err
 returns-in_err-more-clause-err c =
@@ -22,9 +23,11 @@ returns-in_err-more-clause-err c =
 pub names-preserved : goal.names-preserved
 names-preserved c =
     let room : 32 - length c.names.names ≡ suc (31 - length c.names.names) = omega arith in
-    let left : 32 - length (c.names.names ++ c.in_ok-name.name ∷ []) ≡ 31 - length c.names.names = omega (arith, length-append c.names.names (c.in_ok-name.name ∷ [])) in
+    let left : 32 - length (c.names.names ++ c.in_ok-name.name ∷ []) ≡ 31 - length c.names.names =
+    omega (arith, length-append c.names.names (c.in_ok-name.name ∷ [])) in
     rw (c.in_ok-push.ensures.ok, left)
-    (head_next _ _ _ c.names.rest.now c.names.more c.names.invariant c.names-test.true (31 - length c.names.names) room c.in_ok-name.name c.in_ok-name.after.now _ _ c.in_ok-name.ensures.ok c.in_ok-more.ensures.ok)
+    (head_next _ _ _ c.names.rest.now c.names.more c.names.invariant c.names-test.true (31 - length c.names.names) room c.in_ok-name.name c.in_ok-name.after.now
+    _ _ c.in_ok-name.ensures.ok c.in_ok-more.ensures.ok)
 
 pub returns-clause-ok : goal.returns-clause-ok
 returns-clause-ok c = head_done _ _ _ c.names.rest.now c.names.more c.names.invariant c.names-test.false

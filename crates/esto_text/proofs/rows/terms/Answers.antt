@@ -8,19 +8,23 @@ use Rattle.esto_text.proofs.rows.terms.Goals as goal
 pub returns-in_err-term-clause-err : goal.returns-in_err-term-clause-err
 returns-in_err-term-clause-err c =
     let p = err_from_is_err_and c.from_residual.result c.from_residual.ensures.1 in
-    rw (p.1, p.2) (row_fails (IsRow IsTerm) (ATerm ∷ MoreTerms ∷ []) c.args.tokens.now c.terms.terms c.terms.rest.now c.terms.more c.terms-test.true c.terms.invariant _
+    rw (p.1, p.2) (row_fails (IsRow IsTerm) (ATerm ∷ MoreTerms ∷ []) c.args.tokens.now c.terms.terms c.terms.rest.now c.terms.more c.terms-test.true
+    c.terms.invariant _
     (term_fails c.terms.rest.now _ c.in_err-term.ensures.err))
 
 pub returns-in_err-more-clause-err : goal.returns-in_err-more-clause-err
 returns-in_err-more-clause-err c =
     let p = err_from_is_err_and c.from_residual-in_err-more.result c.from_residual-in_err-more.ensures.1 in
-    rw (p.1, p.2) (row_fails (IsRow IsTerm) (ATerm ∷ MoreTerms ∷ []) c.args.tokens.now c.terms.terms c.terms.rest.now c.terms.more c.terms-test.true c.terms.invariant _
+    rw (p.1, p.2) (row_fails (IsRow IsTerm) (ATerm ∷ MoreTerms ∷ []) c.args.tokens.now c.terms.terms c.terms.rest.now c.terms.more c.terms-test.true
+    c.terms.invariant _
     (term_end_fails c.terms.rest.now c.in_ok-term.after.now c.in_ok-term.term _ c.in_ok-term.ensures.ok c.in_err-more.ensures.err))
 
 pub terms-preserved : goal.terms-preserved
 terms-preserved c =
     rw c.in_ok-push.ensures.ok
-    (term_more c.args.tokens.now c.terms.terms c.terms.rest.now c.terms.more c.terms-test.true c.terms.invariant c.in_ok-term.term c.in_ok-term.after.now _ _ c.in_ok-term.ensures.ok c.in_ok-more.ensures.ok)
+    (term_more c.args.tokens.now c.terms.terms c.terms.rest.now c.terms.more c.terms-test.true c.terms.invariant c.in_ok-term.term c.in_ok-term.after.now _ _
+    c.in_ok-term.ensures.ok c.in_ok-more.ensures.ok)
 
 pub returns-clause-ok : goal.returns-clause-ok
-returns-clause-ok c = goes_done (IsRow IsTerm) (ATerm ∷ MoreTerms ∷ []) [] c.args.tokens.now c.terms.terms c.terms.rest.now c.terms.more c.terms-test.false (c.terms.invariant [])
+returns-clause-ok c = goes_done (IsRow IsTerm) (ATerm ∷ MoreTerms ∷ []) [] c.args.tokens.now c.terms.terms c.terms.rest.now c.terms.more c.terms-test.false
+    (c.terms.invariant [])

@@ -4,5 +4,6 @@ use Rattle.esto_text.proofs.rule.rule_head.Goals as goal
 
 pub returns-then-not-is_empty-clause-err : goal.returns-then-not-is_empty-clause-err
 returns-then-not-is_empty-clause-err c =
-    side_end_fails c.args.tokens.now c.in_ok-left.rest.now c.in_ok-left.left c.in_ok-left.ensures.ok (sym c.in-Equals.ensures) c.in_ok-right-in-Equals.right c.in_ok-right-in-Equals.rest.now
+    side_end_fails c.args.tokens.now c.in_ok-left.rest.now c.in_ok-left.left c.in_ok-left.ensures.ok (sym c.in-Equals.ensures) c.in_ok-right-in-Equals.right
+    c.in_ok-right-in-Equals.rest.now
     (rw c.split_at.ensures.back at c.in_ok-right-in-Equals.ensures.ok) (false-eqb _ 0 c.if-not-is_empty.ensures)

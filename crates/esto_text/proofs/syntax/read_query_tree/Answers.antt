@@ -9,14 +9,17 @@ use Rattle.esto_text.proofs.syntax.read_query_tree.Goals as goal
 
 pub returns-in-Ok-clause-only : goal.returns-in-Ok-clause-only
 returns-in-Ok-clause-only c other h =
-    only_tree IsQuery limited query_one c.args.bytes.now c.in_ok-tokens.tokens (tree_of c.in-Ok.query) c.in_ok-tokens.ensures.only (rw c.items-tokens.ensures at c.in-Ok.ensures.ok) other h
+    only_tree IsQuery limited query_one c.args.bytes.now c.in_ok-tokens.tokens (tree_of c.in-Ok.query) c.in_ok-tokens.ensures.only
+    (rw c.items-tokens.ensures at c.in-Ok.ensures.ok) other h
 
 pub returns-in-Ok-clause-tokens : goal.returns-in-Ok-clause-tokens
-returns-in-Ok-clause-tokens c = tree_stands c.args.bytes.now c.in_ok-tokens.tokens (tree_of c.in-Ok.query) c.in_ok-tokens.ensures.tokens.1 (rw c.items-tokens.ensures at c.in-Ok.ensures.ok)
+returns-in-Ok-clause-tokens c = tree_stands c.args.bytes.now c.in_ok-tokens.tokens (tree_of c.in-Ok.query) c.in_ok-tokens.ensures.tokens.1
+    (rw c.items-tokens.ensures at c.in-Ok.ensures.ok)
 
 pub syntax_error-requires : goal.syntax_error-requires
 syntax_error-requires c = left_fits c.items-tokens.result.now c.in-Err-Syntax.left (rw c.in-Err-Syntax.field-0-is at c.in-Err-Syntax.ensures.err)
 
 pub returns-clause-error : goal.returns-clause-error
 returns-clause-error c =
-    rw c.syntax_error.ensures (syntax_fault c.args.bytes.now c.items-tokens.result.now c.in-Err-Syntax.left _ (rw (sym c.items-tokens.ensures) at c.in_ok-tokens.ensures.tokens) (rw c.in-Err-Syntax.field-0-is at c.in-Err-Syntax.ensures.err) refl)
+    rw c.syntax_error.ensures (syntax_fault c.args.bytes.now c.items-tokens.result.now c.in-Err-Syntax.left _
+    (rw (sym c.items-tokens.ensures) at c.in_ok-tokens.ensures.tokens) (rw c.in-Err-Syntax.field-0-is at c.in-Err-Syntax.ensures.err) refl)

@@ -15,7 +15,8 @@ pub returns-clause-fault : goal.returns-clause-fault
 returns-clause-fault c = one_fault IsQuery limited
 
 pub returns-clause-constraint_tree : goal.returns-clause-constraint_tree
-returns-clause-constraint_tree c version bytes = one_tree (IsConstraint (IsFalse version bytes)) (λ tokens. tokens) (constraint_one (IsFalse version bytes)) bytes
+returns-clause-constraint_tree c version bytes = one_tree (IsConstraint (IsFalse version bytes)) (λ tokens. tokens) (constraint_one (IsFalse version bytes))
+    bytes
 
 pub returns-clause-constraint_apart : goal.returns-clause-constraint_apart
 returns-clause-constraint_apart c version bytes = no_fault (IsConstraint (IsFalse version bytes)) (λ tokens. tokens) bytes

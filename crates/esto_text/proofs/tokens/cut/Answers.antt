@@ -23,11 +23,13 @@ places-preserved c =
     let bytes = c.args.bytes.now in
     let t : Token = record { kind = c.match-lexeme_at.kind.0; start = c.places.at + c.gap_len.result; end = c.match-lexeme_at.kind.1 } in
     rw c.in_ok-push.ensures.ok
-    (covers_more bytes c.places.tokens c.places.at c.gap_len.result t c.places.invariant (rw (take_rest bytes c.places.at) at c.gap_len.ensures.in_range) (rw (take_rest bytes c.places.at) at c.gap_len.ensures.gap) refl (next c))
+    (covers_more bytes c.places.tokens c.places.at c.gap_len.result t c.places.invariant (rw (take_rest bytes c.places.at) at c.gap_len.ensures.in_range)
+    (rw (take_rest bytes c.places.at) at c.gap_len.ensures.gap) refl (next c))
 
 pub returns : goal.returns
 returns c =
     covers_ends c.args.bytes.now c.places.tokens c.places.at c.places.invariant (elim c.places-test.branch [
       | else-places-test w ↦ nothing_left c.args.bytes.now c.places.at w.places-test.false
-      | then-places-test+then-start-bytes w ↦ only_gap_left c.args.bytes.now c.places.at w.gap_len.result w.if-start-bytes.true (rw (take_rest c.args.bytes.now c.places.at) at w.gap_len.ensures.gap)
+      | then-places-test+then-start-bytes w ↦ only_gap_left c.args.bytes.now c.places.at w.gap_len.result w.if-start-bytes.true
+          (rw (take_rest c.args.bytes.now c.places.at) at w.gap_len.ensures.gap)
     ])
