@@ -1,4 +1,6 @@
 pub mod StartLemmas
 pub mod SafetyLemmas
+pub mod CandidateLemmas
+pub mod VisitLemmas
 pub mod CompletionLemmas
 pub mod CompleteLemmas

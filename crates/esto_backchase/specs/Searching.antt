@@ -24,6 +24,6 @@ AreFailing count Pass sets = (set : List Bool) → Contains sets set → (length
 
 -- A set of the count that has the set's numbers and does not pass.
 pub record FailsWith (count : ℕ) (Pass : List Bool → Type 0) (set failed : List Bool) : Type 0 where
-  pub count : length failed ≡ count
+  pub same_length : length failed ≡ count
   pub within : Within set failed
   pub fails : ¬ (Pass failed)

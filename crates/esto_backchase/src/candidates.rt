@@ -73,23 +73,21 @@ fn sending(alloc: Global, terms: &Terms, targets: &Terms) -> Result<Option<Valua
 }
 
 /// Whether the query maps to the facts, and its head to the other head.
-fn maps_into(
-    alloc: Global,
-    query: &Query,
-    facts: &Facts,
-    head: &Terms,
-) -> Result<bool, OutOfMemory>
+fn maps_into(alloc: Global, query: &Query, facts: &Facts, head: &Terms) -> Result<bool, OutOfMemory>
     ensures { IfOk result (λ answer. IsTrue answer
         ↔ MapsTo (query_of query.now) (record { head = head.now; body = facts.now })) }
 {
     queries_are_sound();
     matches_send();
     valuations_are_maps();
-    let Some(start) = sending(alloc, &query.head, head)? else {
-        return Ok(false);
-    };
-    let found = first_match(alloc, &query.body, facts, &start)?;
-    Ok(found.is_some())
+    let outcome = sending(alloc, &query.head, head)?;
+    match outcome {
+        None => Ok(false),
+        Some(start) => {
+            let found = first_match(alloc, &query.body, facts, &start)?;
+            Ok(found.is_some())
+        }
+    }
 }
 
 /// The facts of the expansion that come from atoms of the set.

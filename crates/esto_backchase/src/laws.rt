@@ -7,9 +7,7 @@ ghost use Rattle.esto_semantics.specs.declared.fact.Fact.{Fact};
 ghost use Rattle.esto_backchase.specs.Completion.{MinimalCompletions};
 ghost use Rattle.esto_backchase.specs.Listing.{ListedCoverRewritings};
 
-use esto_semantics::{
-    executable_sets_unite, listed_sets_are_minimal, rewritings_map_onto_sets,
-};
+use esto_semantics::{executable_sets_unite, listed_sets_are_minimal, rewritings_map_onto_sets};
 
 /// A law: each query over fragments that is an executable rewriting of a satisfiable query maps to a universal plan of
 /// it, head to head, and onto a set of the plan's atoms that has one of the sets within it, where these are exactly the

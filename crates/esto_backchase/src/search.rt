@@ -40,18 +40,29 @@ fn superset_in(
     Ok(None)
 }
 
-/// The numbers that are in neither set.
-fn lacking(alloc: Global, set: &RowBits, other: &RowBits) -> Result<Places, OutOfMemory>
+/// The numbers that the set lacks, rising.
+fn absent(alloc: Global, set: &RowBits) -> Result<Places, OutOfMemory>
+    ensures { IfOk result (λ it. (number : ℕ) → Contains it number
+        ↔ ((number < length set.now) × ¬ (Has set.now number))) }
+{
+    let mut numbers = Values::new(alloc);
+    'numbers: for number in 0..set.count() {
+        if !set.has(number) {
+            numbers.push(number)?;
+        }
+    }
+    Ok(numbers)
+}
+
+/// The numbers that both sets lack, rising.
+fn absent_in_both(alloc: Global, set: &RowBits, other: &RowBits) -> Result<Places, OutOfMemory>
     requires { length other.now ≡ length set.now }
     ensures { IfOk result (λ it. (number : ℕ) → Contains it number
         ↔ ((number < length set.now) × ¬ (Has set.now number) × ¬ (Has other.now number))) }
 {
-    let mut numbers = Values::new(alloc);
-    'numbers: for number in 0..set.count() {
-        if !set.has(number) && !other.has(number) {
-            numbers.push(number)?;
-        }
-    }
+    let mut either = set.copy(alloc)?;
+    either.union(other);
+    let numbers = absent(alloc, &either)?;
     Ok(numbers)
 }
 
@@ -155,13 +166,18 @@ impl Search<'_> {
         if found.covered(set) {
             return Ok(());
         }
-        let Some(failed) = self.failing_with(alloc, set, failing)? else {
-            found.add(alloc, set)?;
-            return Ok(());
-        };
-        let numbers = lacking(alloc, &failed, left_out)?;
-        self.visit_by(alloc, set, left_out, numbers.items(), found, failing)?;
-        Ok(())
+        let outcome = self.failing_with(alloc, set, failing)?;
+        match outcome {
+            None => {
+                found.add(alloc, set)?;
+                Ok(())
+            }
+            Some(failed) => {
+                let numbers = absent_in_both(alloc, &failed, left_out)?;
+                self.visit_by(alloc, set, left_out, numbers.items(), found, failing)?;
+                Ok(())
+            }
+        }
     }
 
     /// Tries each set that has the set's numbers, none of those left out, and one of the further numbers.

@@ -1,0 +1,203 @@
+-- The candidate of a set, by what the plan's expansion has for the set.
+use Rattle.std.proofs.Common.{Option, None, Some, IsTrue, IfSome, IfNone, ◌≡◌, ◌≢◌, ◌↔◌, inl, inr, ℕ, ◌<◌, Bool, true, false, cond, List, [], ◌∷◌, length, slice_index_or, Contains, refl, sym, subst, ◌∙◌, arith}
+use Rattle.std.proofs.lemmas.Bool.{false≢true}
+use Rattle.std.proofs.lemmas.List.{length-map}
+use Rattle.std.specs.Bool.{⊤}
+use Rattle.std.specs.Option.{is_some}
+use Rattle.either.specs.Either.{MatchEither}
+use Rattle.either.specs.declared.Either.{Either}
+use Rattle.either.specs.declared.Either.TheVariants.{Left, Right}
+use Rattle.esto_term.specs.declared.term.Term.{Term}
+use Rattle.esto_term.specs.declared.term.Term.TheVariants.{Const}
+use Rattle.esto_term.proofs.ListLemmas.{Contains-at, Contains-cases, Contains-head, Contains-map, Contains-map_from, Contains-nil, Contains-rest, place-from_Contains}
+use Rattle.esto_semantics.specs.Containment.{IsContained, IsSatisfiable}
+use Rattle.esto_semantics.specs.ExpansionLaws.{ExpansionAnswers, ExpansionIsContained, PartExpandsCandidate}
+use Rattle.esto_semantics.specs.Expansions.{IsExpansion, IsPartOf}
+use Rattle.esto_semantics.specs.Facts.{image}
+use Rattle.esto_semantics.specs.Instances.{IsFinished, IsUniversalFor, MapsTo}
+use Rattle.esto_semantics.specs.Listed.{candidate}
+use Rattle.esto_semantics.specs.Maps.{AreFlat, IsFlat, Keeps, Sends}
+use Rattle.esto_semantics.specs.Matches.{IsMatch}
+use Rattle.esto_semantics.specs.Queries.{ConjunctiveQuery, IsAnswer}
+use Rattle.esto_semantics.specs.Rules.{Rule, AreRules, IsRule}
+use Rattle.esto_semantics.specs.Sets.{Has, numbers}
+use Rattle.esto_semantics.specs.Views.{IsFragmentAnswer}
+use Rattle.esto_semantics.specs.declared.fact.Fact.{Fact}
+use Rattle.esto_semantics.proofs.SetLemmas.{beyond, numbers_have}
+use Rattle.esto_chase_laws.specs.RunLaws.{StartsHaveTheBody}
+use Rattle.esto_chase_laws.specs.Runs.{IsStart, start_of}
+use Rattle.esto_constraint.specs.Constraints.{rule_of, rules_of}
+use Rattle.esto_constraint.specs.declared.rule.Constraint.{Constraint}
+use Rattle.esto_query.specs.Matches.{IsLeastMatch, HasNoMatch}
+use Rattle.esto_query.specs.Valuations.{Assignment, Extends, map_of}
+use Rattle.esto_query.specs.declared.matches.Found.{Found}
+use Rattle.esto_views.specs.Expanded.{Expands, facts_of}
+use Rattle.esto_views.specs.Fragments.{views_of}
+use Rattle.esto_views.specs.Plans.{fact_of, plan_query}
+use Rattle.esto_views.specs.Soundness.{IsNamed, IsSoundPlan}
+use Rattle.esto_views.specs.declared.expansion.ExpandedFact.{ExpandedFact}
+use Rattle.esto_views.specs.declared.fragments.FragmentDef.{FragmentDef}
+use Rattle.esto_views.specs.declared.plan.Plan.{Plan}
+use Rattle.esto_backchase.specs.Candidates as own
+
+-- ---- rules, and the form of a plan
+
+pub rules-are : (constraints : List Constraint) → ((constraint : Constraint) → IsRule (rule_of constraint)) → AreRules (rules_of constraints)
+rules-are constraints each rule inside = let from = Contains-map_from rule_of constraints rule inside in subst IsRule from.2 (each from.0)
+
+named-flat : (plan : Plan) (term : Term) → IsNamed plan.names term → IsFlat term
+named-flat plan term (inl constant) = inl constant
+named-flat plan term (inr (number, is, _)) = inr (number, is)
+
+pub plan-flat : (plan : Plan) → IsSoundPlan plan.atoms plan.head plan.names → AreFlat (plan_query plan).body
+plan-flat plan sound term (fact, there, inside) =
+    let atom = Contains-map_from fact_of plan.atoms fact there in
+    named-flat plan term (sound.named_atoms atom.0 atom.1 term (subst (λ (it : Fact Term). Contains it.terms term) (sym atom.2) inside))
+
+-- ---- sets with a number
+
+pub size-none : (set : List Bool) → length (numbers set) ≡ 0 → (number : ℕ) → Has set number → ⊥
+size-none set none number has = by (numbers set) none ((numbers_have set number).1 has)
+  where
+    by : (its : List ℕ) → length its ≡ 0 → Contains its number → ⊥
+    by [] zero inside = Contains-nil number inside
+    by (first ∷ rest) zero inside = omega (arith, zero)
+
+pub size-some : (set : List Bool) → length (numbers set) ≢ 0 → (number : ℕ) × Has set number
+size-some set some = by (numbers set) refl
+  where
+    by : (its : List ℕ) → numbers set ≡ its → (number : ℕ) × Has set number
+    by [] is = absurd (some (subst (λ its. length its ≡ 0) (sym is) refl))
+    by (first ∷ rest) is = (first, (numbers_have set first).0 (subst (λ its. Contains its first) (sym is) (Contains-head first rest)))
+
+-- ---- a match that says that a query maps to facts, head to head
+
+module _ (query target : ConjunctiveQuery) (start : Assignment) (is_start : own.IsStart query.head target.head start)
+    (send : (m : Term → Term) (body facts : List (Fact Term)) → Sends m body facts ↔ ((places : List ℕ) × IsMatch m body facts places))
+    (keeps : (valuation : Assignment) → Keeps Const (map_of valuation)) (extends : (valuation : Assignment) → Extends (map_of valuation) valuation) where
+  match-maps : (valuation : Assignment) (places : List ℕ) → IsLeastMatch query.body target.body start (λ _. ⊤) valuation places → MapsTo query target
+  match-maps valuation places least =
+      let m = map_of valuation in
+      let both = (least.is_found.exact m (keeps valuation)).0 (extends valuation) in
+      (m, keeps valuation, (send m query.body target.body).1 (places, both.1), (is_start m (keeps valuation)).0 both.0)
+
+  none-maps : HasNoMatch query.body target.body start (λ _. ⊤) → MapsTo query target → ⊥
+  none-maps none maps =
+      let there = (send maps.0 query.body target.body).0 maps.2 in
+      none maps.0 there.0 maps.1 ((is_start maps.0 maps.1).1 maps.3) there.1 tt
+
+  pub found-maps : (outcome : Option Found)
+      → IfSome outcome (λ found. IsLeastMatch query.body target.body start (λ _. ⊤) found.valuation found.places)
+      → IfNone outcome (HasNoMatch query.body target.body start (λ _. ⊤)) → (answer : Bool) → answer ≡ is_some outcome → IsTrue answer ↔ MapsTo query target
+  found-maps (Some found) some none answer is = (λ _. match-maps found.valuation found.places some, λ _. is)
+  found-maps None some none answer is = (λ holds. absurd (false≢true (sym is ∙ holds)), λ maps. absurd (none-maps none maps))
+
+pub mapped-at : (query : ConjunctiveQuery) (head other_head : List Term) (body other_body : List (Fact Term)) → head ≡ other_head → body ≡ other_body
+    → (answer : Bool) → IsTrue answer ↔ MapsTo query (record { head = head; body = body }) → IsTrue answer ↔ MapsTo query (record { head = other_head; body = other_body })
+mapped-at query head other_head body other_body same_head same_body answer says =
+    subst (λ facts. IsTrue answer ↔ MapsTo query (record { head = other_head; body = facts })) same_body
+    (subst (λ row. IsTrue answer ↔ MapsTo query (record { head = row; body = body })) same_head says)
+
+-- ---- what is said of the one side or the other
+
+pub left-says : {A B : Type 0} (outcome : Either A B) (P : A → Type 0) (Q : B → Type 0) (one : A) → MatchEither outcome P Q → outcome ≡ Left one → P one
+left-says outcome P Q one says is = subst (λ it. MatchEither it P Q) is says
+
+pub right-says : {A B : Type 0} (outcome : Either A B) (P : A → Type 0) (Q : B → Type 0) (other : B) → MatchEither outcome P Q → outcome ≡ Right other → Q other
+right-says outcome P Q other says is = subst (λ it. MatchEither it P Q) is says
+
+-- ---- the facts that come from atoms of a set
+
+-- the fact comes from an atom of the set
+abbrev IsFrom : List Bool → List ExpandedFact → Fact Term → Type 0
+IsFrom set expanded fact = (part : ExpandedFact) × Contains expanded part × Has set part.atom × (part.fact ≡ fact)
+
+chosen-from : (set : List Bool) (expanded : List ExpandedFact) (fact : Fact Term) → Contains (own.facts_chosen set expanded) fact → IsFrom set expanded fact
+chosen-from set [] fact inside = absurd (Contains-nil fact inside)
+chosen-from set (first ∷ rest) fact inside = by (λ later. chosen-from set rest fact later) (slice_index_or set first.atom false) refl inside
+  where
+    later : IsFrom set rest fact → IsFrom set (first ∷ rest) fact
+    later (part, there, has, is) = (part, Contains-rest first rest part there, has, is)
+
+    by : (Contains (own.facts_chosen set rest) fact → IsFrom set rest fact) → (answer : Bool) → slice_index_or set first.atom false ≡ answer
+        → Contains (cond answer (first.fact ∷ own.facts_chosen set rest) (own.facts_chosen set rest)) fact → IsFrom set (first ∷ rest) fact
+    by again true told inside = elim (Contains-cases first.fact (own.facts_chosen set rest) fact inside) [
+      | inl is ↦ (first, Contains-head first rest, told, is)
+      | inr more ↦ later (again more)
+    ]
+    by again false told inside = later (again inside)
+
+from-chosen : (set : List Bool) (expanded : List ExpandedFact) (part : ExpandedFact) → Contains expanded part → Has set part.atom
+    → Contains (own.facts_chosen set expanded) part.fact
+from-chosen set [] part there has = absurd (Contains-nil part there)
+from-chosen set (first ∷ rest) part there has = by (λ later. from-chosen set rest part later has) (slice_index_or set first.atom false) refl
+  where
+    by : (Contains rest part → Contains (own.facts_chosen set rest) part.fact) → (answer : Bool) → slice_index_or set first.atom false ≡ answer
+        → Contains (cond answer (first.fact ∷ own.facts_chosen set rest) (own.facts_chosen set rest)) part.fact
+    by again true told = elim (Contains-cases first rest part there) [
+      | inl is ↦ subst (λ (it : ExpandedFact). Contains (first.fact ∷ own.facts_chosen set rest) it.fact) is (Contains-head first.fact (own.facts_chosen set rest))
+      | inr more ↦ Contains-rest first.fact (own.facts_chosen set rest) part.fact (again more)
+    ]
+    by again false told = elim (Contains-cases first rest part there) [
+      | inl is ↦ absurd (false≢true (sym told ∙ subst (λ (it : ExpandedFact). Has set it.atom) (sym is) has))
+      | inr more ↦ again more
+    ]
+
+module _ (plan : Plan) (fragments : List FragmentDef) (expanded : List ExpandedFact) (expands : Expands plan fragments expanded) (set : List Bool)
+    (over : length set ≡ length plan.atoms) (begin : StartsHaveTheBody) where
+  abbrev pub chosen_start : ConjunctiveQuery
+  chosen_start = start_of (record { head = plan.head; body = own.facts_chosen set expanded })
+
+  chosen-in_start : (fact : Fact Term) → Contains chosen_start.body fact ↔ Contains (own.facts_chosen set expanded) fact
+  chosen-in_start fact = begin (record { head = plan.head; body = own.facts_chosen set expanded }) fact
+
+  -- the start has no made term
+  pub chosen-starts : AreFlat (facts_of expanded) → IsSoundPlan plan.atoms plan.head plan.names → IsStart chosen_start
+  chosen-starts flat sound = record {
+    flat_body = λ term (fact, there, inside).
+        let from = chosen-from set expanded fact ((chosen-in_start fact).0 there) in
+        flat term (from.0.fact, Contains-map (λ (it : ExpandedFact). it.fact) expanded from.0 from.1, subst (λ (it : Fact Term). Contains it.terms term) (sym from.3) inside);
+    flat_head = λ term inside. named-flat plan term (sound.named_head term inside);
+  }
+
+  -- it has the part of the expansion that is the set's
+  chosen-is_part : IsPartOf expands.of set chosen_start.body
+  chosen-is_part fact = (λ inside. there ((chosen-in_start fact).0 inside), λ found. (chosen-in_start fact).1 (back found))
+    where
+      Part : Type 0
+      Part = (number : ℕ) × Has set number × ((part : Fact Term) × Contains (expands.of.view number).body part × (image (expands.of.spread number) part ≡ fact))
+
+      there : Contains (own.facts_chosen set expanded) fact → Part
+      there inside =
+          let from = chosen-from set expanded fact inside in
+          let told = (expands.exact from.0).0 from.1 in
+          (from.0.atom, from.2, (told.1.0, Contains-at (expands.of.view from.0.atom).body from.0.place told.1.0 told.1.1, told.1.2 ∙ from.3))
+
+      back : Part → Contains (own.facts_chosen set expanded) fact
+      back (number, has, (part, inside, is)) =
+          let at = place-from_Contains (expands.of.view number).body part inside in
+          let whole : ExpandedFact = record { atom = number; place = at.0; fact = fact } in
+          let small : number < length plan.atoms = omega (arith, beyond set number has, over) in
+          from-chosen set expanded whole ((expands.exact whole).1 (small, (part, at.1, is))) has
+
+  module _ (rules : List Rule) (query : ConjunctiveQuery) (expand_candidates : PartExpandsCandidate) where
+    abbrev IsIn : Type 0
+    IsIn = IsContained rules (IsFragmentAnswer (views_of fragments) (candidate (plan_query plan) set)) (IsAnswer query)
+
+    chosen-expands : IsExpansion (views_of fragments) (candidate (plan_query plan) set) chosen_start.body
+    chosen-expands =
+        expand_candidates (views_of fragments) (plan_query plan) (facts_of expanded) expands.of set (over ∙ sym (length-map plan.atoms fact_of))
+        chosen_start.body chosen-is_part
+
+    -- the candidate is contained in the query where that maps to the end of a chase
+    pub contained-mapped : ExpansionIsContained → AreRules rules → (start end : ConjunctiveQuery) → start ≡ chosen_start → IsUniversalFor rules start end → IsFinished rules end
+        → IsIn ↔ MapsTo query end
+    contained-mapped decide are start end is universal finished =
+        decide rules (views_of fragments) (candidate (plan_query plan) set) chosen_start.body end query are chosen-expands
+        (subst (λ it. IsUniversalFor rules it end) is universal) finished
+
+    -- and where the chase clashes it has no answer
+    pub contained-clashed : ExpansionAnswers → (start : ConjunctiveQuery) → start ≡ chosen_start → ¬ (IsSatisfiable rules start) → IsIn
+    contained-clashed answers start is none database meets row answer =
+        let own_answer = (answers (views_of fragments) (candidate (plan_query plan) set) chosen_start.body chosen-expands database row).0 answer in
+        absurd (none (subst (IsSatisfiable rules) (sym is) (database, meets, (row, own_answer))))

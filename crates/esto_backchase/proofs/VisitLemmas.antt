@@ -1,0 +1,339 @@
+-- What a visit of sets leaves, and that at the end the kept sets are the minimal ones of those that pass.
+use Rattle.std.proofs.Common.{◌≡◌, ◌↔◌, ◌⊎◌, inl, inr, ℕ, zero, suc, ◌+◌, ◌<◌, ◌≤◌, Bool, true, false, cond, not, List, [], ◌∷◌, ◌++◌, length, filter, take, get_or, Contains, Option, Some, None, MatchOption, refl, sym, ap, subst, ◌∙◌, arith}
+use Rattle.std.proofs.lemmas.Bool.{cases_order, false≢true}
+use Rattle.std.proofs.lemmas.List.{take_more, take_all}
+use Rattle.std.proofs.lemmas.List.Elements.{Contains-append_left, Contains-push, Contains-push_cases}
+use Rattle.esto_term.proofs.ChoiceLemmas.{Decided, decided_below, decided_both, decided_not}
+use Rattle.esto_term.proofs.ListLemmas.{Contains-cases, Contains-filter_from, Contains-head, Contains-nil, Contains-rest}
+use Rattle.esto_semantics.specs.Sets.{Has, Within, Covers, IsMinimal, Rises}
+use Rattle.esto_semantics.proofs.SetLemmas.{beyond, decided_has, within_trans, within_same}
+use Rattle.esto_bits.specs.Kept.{IsAntichain, CoversAlso, is_covered, is_within, with_set}
+use Rattle.esto_bits.proofs.FamilyLemmas.{antichain-same}
+use Rattle.esto_backchase.specs.Searching.{AreFailing, FailsWith, HasOneOf, IsBetween, Visited}
+
+-- ---- how many numbers a set lacks
+
+abbrev pub lacks : List Bool → ℕ
+lacks [] = 0
+lacks (true ∷ rest) = lacks rest
+lacks (false ∷ rest) = lacks rest + 1
+
+one_more : (m n : ℕ) → m ≤ n → m + 1 ≤ n + 1
+one_more m n below = omega (arith, below)
+
+stays_below : (m n : ℕ) → m ≤ n → m ≤ n + 1
+stays_below m n below = omega (arith, below)
+
+less_more : (m n : ℕ) → m < n → m + 1 < n + 1
+less_more m n below = omega (arith, below)
+
+stays_less : (m n : ℕ) → m < n → m < n + 1
+stays_less m n below = omega (arith, below)
+
+less_one : (m n : ℕ) → m ≤ n → m < n + 1
+less_one m n below = omega (arith, below)
+
+lacks-within : (set more : List Bool) → length more ≡ length set → Within set more → lacks more ≤ lacks set
+lacks-within [] [] same within = omega arith
+lacks-within [] (y ∷ more) same within = absurd (omega (arith, same))
+lacks-within (x ∷ set) [] same within = absurd (omega (arith, same))
+lacks-within (x ∷ set) (y ∷ more) same within = by x y (within 0) (lacks-within set more (omega (arith, same)) (λ number. within (suc number)))
+  where
+    by : (x y : Bool) → (x ≡ true → y ≡ true) → lacks more ≤ lacks set → lacks (y ∷ more) ≤ lacks (x ∷ set)
+    by true true own rest = rest
+    by true false own rest = absurd (false≢true (own refl))
+    by false true own rest = stays_below (lacks more) (lacks set) rest
+    by false false own rest = one_more (lacks more) (lacks set) rest
+
+-- a set with one number more lacks fewer
+pub lacks-fewer : (set more : List Bool) (number : ℕ) → length more ≡ length set → Within set more → Has more number → (Has set number → ⊥) → lacks more < lacks set
+lacks-fewer set [] number same within has missing = absurd (false≢true has)
+lacks-fewer [] (y ∷ more) number same within has missing = absurd (omega (arith, same))
+lacks-fewer (x ∷ set) (y ∷ more) zero same within has missing = by x y has missing (lacks-within set more (omega (arith, same)) (λ number. within (suc number)))
+  where
+    by : (x y : Bool) → y ≡ true → (x ≡ true → ⊥) → lacks more ≤ lacks set → lacks (y ∷ more) < lacks (x ∷ set)
+    by true y own none rest = absurd (none refl)
+    by false true own none rest = less_one (lacks more) (lacks set) rest
+    by false false own none rest = absurd (false≢true own)
+lacks-fewer (x ∷ set) (y ∷ more) (suc number) same within has missing =
+    by x y (within 0) (lacks-fewer set more number (omega (arith, same)) (λ other. within (suc other)) has missing)
+  where
+    by : (x y : Bool) → (x ≡ true → y ≡ true) → lacks more < lacks set → lacks (y ∷ more) < lacks (x ∷ set)
+    by true true own rest = rest
+    by true false own rest = absurd (false≢true (own refl))
+    by false true own rest = stays_less (lacks more) (lacks set) rest
+    by false false own rest = less_more (lacks more) (lacks set) rest
+
+-- ---- what lies within a set, and what does not
+
+pub outside : (set other : List Bool) → Within set other ⊎ ((number : ℕ) × Has set number × ¬ (Has other number))
+outside set other = elim (decided_below Missing (length set) (λ k l. decided_both (decided_has set k) (decided_not (decided_has other k)))) [
+  | inl found ↦ inr (found.0, found.2.0, found.2.1)
+  | inr none ↦ inl (λ number has. elim (decided_has other number) [
+    | inl there ↦ there
+    | inr missing ↦ absurd (none (number, beyond set number has, (has, missing)))
+  ])
+]
+  where
+    Missing : ℕ → Type 0
+    Missing k = Has set k × ¬ (Has other k)
+
+decided_one : (numbers : List ℕ) (other : List Bool) → Decided (HasOneOf numbers other)
+decided_one [] other = inr (λ (number, inside, _). Contains-nil number inside)
+decided_one (first ∷ rest) other = elim (decided_has other first) [
+  | inl has ↦ inl (first, Contains-head first rest, has)
+  | inr missing ↦ elim (decided_one rest other) [
+    | inl (number, inside, has) ↦ inl (number, Contains-rest first rest number inside, has)
+    | inr none ↦ inr (λ (number, inside, has). elim (Contains-cases first rest number inside) [
+      | inl is ↦ missing (subst (Has other) (sym is) has)
+      | inr later ↦ none (number, later, has)
+    ])
+  ]
+]
+
+-- ---- the numbers that a set lacks
+
+module _ (set : List Bool) where
+  -- these are the ones below a number
+  abbrev pub AreAbsentBelow : ℕ → List ℕ → Type 0
+  AreAbsentBelow count numbers = (k : ℕ) → Contains numbers k ↔ ((k < count) × ¬ (Has set k))
+
+  pub absent-pushed : (count : ℕ) (numbers : List ℕ) → AreAbsentBelow count numbers → (Has set count → ⊥) → AreAbsentBelow (count + 1) (numbers ++ count ∷ [])
+  absent-pushed count numbers are missing k = (
+    λ inside. elim (Contains-push_cases numbers count k inside) [
+      | inl old ↦ (let before = (are k).0 old in (omega (arith, before.0), before.1))
+      | inr is ↦ (omega (arith, is), λ has. missing (subst (Has set) (sym is) has))
+    ],
+    λ (below, lacks_k). elim (cases_order k count) [
+      | inl is ↦ subst (Contains (numbers ++ count ∷ [])) (sym is) (Contains-push numbers count)
+      | inr apart ↦ elim apart [
+        | inl less ↦ Contains-append_left numbers (count ∷ []) k ((are k).1 (less, lacks_k))
+        | inr above ↦ absurd (omega (arith, below, above))
+      ]
+    ],
+  )
+
+  pub absent-stays : (count : ℕ) (numbers : List ℕ) → AreAbsentBelow count numbers → Has set count → AreAbsentBelow (count + 1) numbers
+  absent-stays count numbers are has k = (
+    λ inside. (let before = (are k).0 inside in (omega (arith, before.0), before.1)),
+    λ (below, lacks_k). elim (cases_order k count) [
+      | inl is ↦ absurd (lacks_k (subst (Has set) (sym is) has))
+      | inr apart ↦ elim apart [ inl less ↦ (are k).1 (less, lacks_k) | inr above ↦ absurd (omega (arith, below, above)) ]
+    ],
+  )
+
+  pub absent-none : (numbers : List ℕ) → numbers ≡ [] → AreAbsentBelow 0 numbers
+  absent-none numbers none k = (λ inside. absurd (Contains-nil k (subst (λ its. Contains its k) none inside)), λ (below, _). absurd (omega (arith, below)))
+
+  -- the numbers that a union lacks are those that both sets lack
+  pub absent-both : (copied other either : List Bool) (numbers : List ℕ) → copied ≡ set → length either ≡ length copied
+      → ((k : ℕ) → Has either k ↔ (Has copied k ⊎ Has other k)) → ((k : ℕ) → Contains numbers k ↔ ((k < length either) × ¬ (Has either k)))
+      → (k : ℕ) → Contains numbers k ↔ ((k < length set) × ¬ (Has set k) × ¬ (Has other k))
+  absent-both copied other either numbers same counted has are k =
+      let count : length either ≡ length set = counted ∙ ap length same in (
+        λ inside. (let it = (are k).0 inside in (
+          omega (arith, it.0, count),
+          λ own. it.1 ((has k).1 (inl (subst (λ row. Has row k) (sym same) own))),
+          λ others. it.1 ((has k).1 (inr others)),
+        )),
+        λ (below, lacks_set, lacks_other). (are k).1 (
+          omega (arith, below, count),
+          λ both. elim ((has k).0 both) [ inl own ↦ lacks_set (subst (λ row. Has row k) same own) | inr others ↦ lacks_other others ],
+        ),
+      )
+
+-- ---- families of sets
+
+module _ (set left_out : List Bool) where
+  -- the sets between that have one of the first few numbers
+  abbrev pub HasOneBelow : List ℕ → ℕ → List Bool → Type 0
+  HasOneBelow numbers count other = IsBetween set left_out other × HasOneOf (take count numbers) other
+
+  -- the numbers left out and the first few are earlier ones
+  abbrev pub AreEarlier : List ℕ → ℕ → List Bool → Type 0
+  AreEarlier numbers count earlier = (number : ℕ) → Has earlier number ↔ (Has left_out number ⊎ Contains (take count numbers) number)
+
+  module _ (numbers : List ℕ) (count number : ℕ) (below : count < length numbers) (read : number ≡ get_or numbers count 0) where
+    at_more : (k : ℕ) → Contains (take (count + 1) numbers) k → Contains (take count numbers) k ⊎ (number ≡ k)
+    at_more k inside = Contains-push_cases (take count numbers) number k (rw (take_more numbers count 0 below, ← read) at inside)
+
+    at_earlier : (k : ℕ) → Contains (take count numbers) k ⊎ (k ≡ number) → Contains (take (count + 1) numbers) k
+    at_earlier k inside = rw (take_more numbers count 0 below, ← read) (elim inside [
+      | inl old ↦ Contains-append_left (take count numbers) (number ∷ []) k old
+      | inr is ↦ subst (Contains (take count numbers ++ number ∷ [])) (sym is) (Contains-push (take count numbers) number)
+    ])
+
+    pub earlier-more : (earlier after : List Bool) → AreEarlier numbers count earlier → ((k : ℕ) → Has after k ↔ ((k ≡ number) ⊎ Has earlier k)) → AreEarlier numbers (count + 1) after
+    earlier-more earlier after are has k = (
+      λ h. elim ((has k).0 h) [
+        | inl is ↦ inr (at_earlier k (inr is))
+        | inr old ↦ elim ((are k).0 old) [ inl out ↦ inl out | inr inside ↦ inr (at_earlier k (inl inside)) ]
+      ],
+      λ h. (has k).1 (elim h [
+        | inl out ↦ inr ((are k).1 (inl out))
+        | inr inside ↦ elim (at_more k inside) [ inl old ↦ inr ((are k).1 (inr old)) | inr is ↦ inl (sym is) ]
+      ]),
+    )
+
+    -- such a set has one of the numbers before the next one, or it has that one and none before it
+    pub one-splits : (earlier more : List Bool) → AreEarlier numbers count earlier → length more ≡ length set → ((k : ℕ) → Has more k ↔ ((k ≡ number) ⊎ Has set k))
+        → (other : List Bool) → HasOneBelow numbers (count + 1) other → HasOneBelow numbers count other ⊎ IsBetween more earlier other
+    one-splits earlier more are same has_more other (between, (k, inside, has)) = elim (decided_one (take count numbers) other) [
+      | inl one ↦ inl (between, one)
+      | inr none ↦ inr (record {
+        same_length = between.same_length ∙ sym same;
+        has = λ j in_more. elim ((has_more j).0 in_more) [
+          | inl is ↦ subst (Has other) (sym is) (elim (at_more k inside) [
+            | inl old ↦ absurd (none (k, old, has))
+            | inr here ↦ subst (Has other) (sym here) has
+          ])
+          | inr own ↦ between.has j own
+        ];
+        lacks = λ j out in_other. elim ((are j).0 out) [
+          | inl left ↦ between.lacks j left in_other
+          | inr old ↦ none (j, old, in_other)
+        ];
+      })
+    ]
+
+  pub one-none : (numbers : List ℕ) (other : List Bool) → HasOneBelow numbers 0 other → ⊥
+  one-none numbers other (_, (k, inside, _)) = Contains-nil k inside
+
+  pub one-all : (numbers : List ℕ) (count : ℕ) → length numbers ≤ count → (other : List Bool) → IsBetween set left_out other × HasOneOf numbers other → HasOneBelow numbers count other
+  one-all numbers count all other (between, (k, inside, has)) = (between, (k, rw (take_all count numbers all) inside, has))
+
+  pub earlier-none : (numbers : List ℕ) → AreEarlier numbers 0 left_out
+  earlier-none numbers k = (λ h. inl h, λ h. elim h [ inl out ↦ out | inr inside ↦ absurd (Contains-nil k inside) ])
+
+-- all sets of a count are between the set of no number and all
+pub all-between : (none other : List Bool) → ((number : ℕ) → Has none number → ⊥) → length other ≡ length none → IsBetween none none other
+all-between none other empty same = record { same_length = same; has = λ number has. absurd (empty number has); lacks = λ number has _. empty number has }
+
+-- ---- what is kept after one set more
+
+-- it was kept before, or is the set
+added : (sets : List (List Bool)) (row set : List Bool) → Contains (with_set sets row) set → Contains sets set ⊎ (set ≡ row)
+added sets row set inside = by (is_covered sets row) inside
+  where
+    by : (covered : Bool) → Contains (cond covered sets (filter (λ other. not (is_within row other)) sets ++ row ∷ [])) set → Contains sets set ⊎ (set ≡ row)
+    by true inside = inl inside
+    by false inside = elim (Contains-push_cases (filter (λ other. not (is_within row other)) sets) row set inside) [
+      | inl kept ↦ inl (Contains-filter_from (λ other. not (is_within row other)) sets set kept).0
+      | inr is ↦ inr (sym is)
+    ]
+
+-- ---- sets that do not pass
+
+module _ (count : ℕ) (Pass : List Bool → Type 0) where
+  pub failing-none : AreFailing count Pass []
+  failing-none set inside = absurd (Contains-nil set inside)
+
+  pub failing-pushed : (failing : List (List Bool)) (failed : List Bool) → AreFailing count Pass failing → (length failed ≡ count) → (Pass failed → ⊥) → AreFailing count Pass (failing ++ failed ∷ [])
+  failing-pushed failing failed are same fails set inside = elim (Contains-push_cases failing failed set inside) [
+    | inl old ↦ are set old
+    | inr is ↦ (sym (ap length is) ∙ same, subst (λ it. ¬ (Pass it)) is fails)
+  ]
+
+  pub fails-known : (failing : List (List Bool)) (set failed : List Bool) → AreFailing count Pass failing → Contains failing failed → Within set failed → FailsWith count Pass set failed
+  fails-known failing set failed are inside within = record { same_length = (are failed inside).0; within = within; fails = (are failed inside).1 }
+
+  pub fails-own : (set : List Bool) → length set ≡ count → (Pass set → ⊥) → FailsWith count Pass set set
+  fails-own set same fails = record { same_length = same; within = λ number has. has; fails = fails }
+
+  pub fails-further : (set failed after : List Bool) → FailsWith count Pass set failed → FailsWith count Pass failed after → FailsWith count Pass set after
+  fails-further set failed after first second = record { same_length = second.same_length; within = within_trans set failed after first.within second.within; fails = second.fails }
+
+  pub some-fails : (outcome : Option (List Bool)) (set failed : List Bool) → MatchOption outcome (Pass set) (FailsWith count Pass set) → outcome ≡ Some failed → FailsWith count Pass set failed
+  some-fails outcome set failed says is = subst (λ it. MatchOption it (Pass set) (FailsWith count Pass set)) is says
+
+  pub none-passes : (outcome : Option (List Bool)) (set : List Bool) → MatchOption outcome (Pass set) (FailsWith count Pass set) → outcome ≡ None → Pass set
+  none-passes outcome set says is = subst (λ it. MatchOption it (Pass set) (FailsWith count Pass set)) is says
+
+  -- a set between that passes has a number that is outside of one that fails
+  pub passing-has : Rises count Pass → (set left_out failed : List Bool) → FailsWith count Pass set failed → length set ≡ count
+      → (numbers : List ℕ) → ((number : ℕ) → Contains numbers number ↔ ((number < length failed) × ¬ (Has failed number) × ¬ (Has left_out number)))
+      → (other : List Bool) → IsBetween set left_out other → Pass other → HasOneOf numbers other
+  passing-has rises set left_out failed fails same numbers exact other between passes =
+      let counted : length other ≡ count = between.same_length ∙ same in
+      elim (outside other failed) [
+        | inl within ↦ absurd (fails.fails (rises other failed counted fails.same_length within passes))
+        | inr (number, has, missing) ↦ (
+          number,
+          (exact number).1 (omega (arith, beyond other number has, counted, fails.same_length), missing, λ out. between.lacks number out has),
+          has,
+        )
+      ]
+
+-- ---- visits
+
+module _ (Pass : List Bool → Type 0) where
+  -- a family whose sets are covered already
+  pub visited-covered : (Family : List Bool → Type 0) (sets : List (List Bool)) (row : List Bool) → Covers sets row → ((set : List Bool) → Family set → Within row set)
+      → Visited Pass Family sets sets
+  visited-covered Family sets row covered within = record {
+    each = λ set inside. inl inside;
+    still = λ set covers. covers;
+    covers = λ set is_in passes. (covered.0, covered.1, within_trans covered.0 row set covered.2 (within set is_in));
+  }
+
+  -- a family of no set
+  pub visited-none : (Family : List Bool → Type 0) (sets : List (List Bool)) → ((set : List Bool) → Family set → ⊥) → Visited Pass Family sets sets
+  visited-none Family sets none = record {
+    each = λ set inside. inl inside;
+    still = λ set covers. covers;
+    covers = λ set is_in passes. absurd (none set is_in);
+  }
+
+  -- a family whose sets all have one within them that passes and is added
+  pub visited-added : (Family : List Bool → Type 0) (sets later : List (List Bool)) (row : List Bool) → Pass row → ((set : List Bool) → Family set → Within row set)
+      → later ≡ with_set sets row → CoversAlso sets row later → Visited Pass Family sets later
+  visited-added Family sets later row passes within is also = record {
+    each = λ set inside. elim (added sets row set (subst (λ family. Contains family set) is inside)) [
+      | inl old ↦ inl old
+      | inr same ↦ inr (subst Pass (sym same) passes)
+    ];
+    still = λ set covers. (also set).1 (inl covers);
+    covers = λ set is_in _. (also set).1 (inr (within set is_in));
+  }
+
+  -- a family whose sets that pass are of another family
+  pub visited-as : (Family Other : List Bool → Type 0) (sets later : List (List Bool)) → Visited Pass Other sets later
+      → ((set : List Bool) → Family set → Pass set → Other set) → Visited Pass Family sets later
+  visited-as Family Other sets later visited goes = record {
+    each = visited.each;
+    still = visited.still;
+    covers = λ set is_in passes. visited.covers set (goes set is_in passes) passes;
+  }
+
+  -- one family after another
+  pub visited-both : (Family First Second : List Bool → Type 0) (sets middle later : List (List Bool)) → Visited Pass First sets middle → Visited Pass Second middle later
+      → ((set : List Bool) → Family set → First set ⊎ Second set) → Visited Pass Family sets later
+  visited-both Family First Second sets middle later first second splits = record {
+    each = λ set inside. elim (second.each set inside) [ inl old ↦ first.each set old | inr passes ↦ inr passes ];
+    still = λ set covers. second.still set (first.still set covers);
+    covers = λ set is_in passes. elim (splits set is_in) [
+      | inl one ↦ second.still set (first.covers set one passes)
+      | inr other ↦ second.covers set other passes
+    ];
+  }
+
+  -- at the end the kept sets are the minimal ones of those that pass
+  pub visited-minimal : (count : ℕ) (Family : List Bool → Type 0) (sets : List (List Bool)) → ((set : List Bool) → Pass set → length set ≡ count)
+      → ((set : List Bool) → Pass set → Family set) → IsAntichain sets → Visited Pass Family [] sets
+      → (set : List Bool) → Contains sets set ↔ IsMinimal Pass set
+  visited-minimal count Family sets counted all antichain visited set = (
+    λ inside. (
+      passes set inside,
+      λ other passes_other within.
+          let by = visited.covers other (all other passes_other) passes_other in
+          let same : by.0 ≡ set = antichain-same sets antichain by.0 set by.1 inside (within_trans by.0 other set by.2 within) in
+          within_same other set (counted other passes_other ∙ sym (counted set (passes set inside))) within
+          (subst (λ low. Within low other) same by.2),
+    ),
+    λ minimal.
+        let by = visited.covers set (all set minimal.0) minimal.0 in
+        subst (Contains sets) (minimal.1 by.0 (passes by.0 by.1) by.2) by.1,
+  )
+    where
+      passes : (kept : List Bool) → Contains sets kept → Pass kept
+      passes kept inside = elim (visited.each kept inside) [ inl old ↦ absurd (Contains-nil kept old) | inr is ↦ is ]

@@ -1,0 +1,71 @@
+use Rattle.std.proofs.Common.{◌<◌, Contains, refl, sym, ap, subst, ◌∙◌}
+use Rattle.std.specs.Bool.{⊤}
+use Rattle.esto_acyclic.specs.Graphs.{AreRanks, IsWithin}
+use Rattle.esto_acyclic.specs.Relations.{IsEdge}
+use Rattle.esto_chase.specs.Chased.{IsFinishedRun, RunClashes}
+use Rattle.esto_chase.specs.declared.chasing.Chased.{Chased}
+use Rattle.esto_semantics.specs.Containment.{IsSatisfiable}
+use Rattle.esto_semantics.specs.Instances.{IsUniversalFor}
+use Rattle.esto_chase_laws.specs.Runs.{IsStart, start_of}
+use Rattle.esto_constraint.specs.Constraints.{rules_of}
+use Rattle.esto_query.specs.Making.{query_of}
+use Rattle.esto_instance.specs.Instances.{state_of}
+use Rattle.esto_backchase.specs.Candidates.{facts_chosen}
+use Rattle.esto_backchase.proofs.CandidateLemmas.{chosen-starts, contained-clashed, contained-mapped, left-says, mapped-at, right-says, rules-are}
+use Rattle.esto_backchase.proofs.candidates.Search.is_contained.Goals as goal
+
+pub facts_chosen-requires : goal.facts_chosen-requires
+facts_chosen-requires c = λ fact inside.
+    subst (λ count. fact.atom < count) (sym c.requires.count)
+    ((c.requires.search.expands.exact fact).0 (subst (λ facts. Contains facts fact) c.items.ensures inside)).0
+
+pub chase-requires-clause-start : goal.chase-requires-clause-start
+chase-requires-clause-start c =
+    let it = c.args.self.now in
+    subst IsStart (sym (c.in_ok-start.ensures.state
+    ∙ ap (λ facts. start_of (record { head = it.plan.now.head; body = facts })) (c.in_ok-facts.ensures ∙ ap (facts_chosen c.args.set.now) c.items.ensures)))
+    (chosen-starts it.plan.now it.catalogue.now.fragments it.expanded.now c.requires.search.expands c.args.set.now c.requires.count
+    c.queries_have_starts.ensures.body c.requires.search.flat (c.plans_are_sound.ensures it.plan.now))
+
+pub chase-requires-clause-within : goal.chase-requires-clause-within
+chase-requires-clause-within c =
+    let sound = c.catalogues_are_sound.ensures c.args.self.now.catalogue.now in
+    subst (λ count. IsWithin count (IsEdge (rules_of c.args.self.now.catalogue.now.rules))) (sym sound.ranks_are.for_each) sound.within
+
+pub chase-requires-clause-ranks : goal.chase-requires-clause-ranks
+chase-requires-clause-ranks c =
+    let sound = c.catalogues_are_sound.ensures c.args.self.now.catalogue.now in
+    subst (λ count. AreRanks (IsEdge (rules_of c.args.self.now.catalogue.now.rules)) count c.args.self.now.catalogue.now.ranks)
+    (sym sound.ranks_are.for_each) sound.ranks_are
+
+pub returns-in-Left : goal.returns-in-Left
+returns-in-Left c =
+    let it = c.args.self.now in
+    let rules = rules_of it.catalogue.now.rules in
+    let start_is = c.in_ok-start.ensures.state
+    ∙ ap (λ facts. start_of (record { head = it.plan.now.head; body = facts })) (c.in_ok-facts.ensures ∙ ap (facts_chosen c.args.set.now) c.items.ensures) in
+    let end = state_of c.in-Left.chased.instance in
+    let run = left-says c.in_ok-outcome.outcome (λ (chased : Chased). IsFinishedRun rules (state_of c.in_ok-start.start) chased.instance)
+    (RunClashes rules (state_of c.in_ok-start.start)) c.in-Left.chased c.in_ok-outcome.ensures.run c.in-Left.is in
+    let universal = left-says c.in_ok-outcome.outcome (λ (chased : Chased). IsUniversalFor rules (state_of c.in_ok-start.start) (state_of chased.instance))
+    (λ _. ⊤) c.in-Left.chased c.in_ok-outcome.ensures.universal c.in-Left.is in
+    let contained = contained-mapped it.plan.now it.catalogue.now.fragments it.expanded.now c.requires.search.expands c.args.set.now c.requires.count
+    c.queries_have_starts.ensures.body rules (query_of it.query.now) c.an_expansion_of_a_plan_expands_its_candidates.ensures
+    c.an_expansion_means_the_same.ensures.contained (rules-are it.catalogue.now.rules c.rules_are_sound.ensures.rules)
+    (state_of c.in_ok-start.start) end start_is universal run.finished in
+    let mapped = mapped-at (query_of it.query.now) c.head.result.now end.head c.facts-in-Left.result.now end.body c.head.ensures c.facts-in-Left.ensures
+    c.in_ok-mapped-in-Left.mapped c.in_ok-mapped-in-Left.ensures in
+    (λ holds. contained.1 (mapped.0 holds), λ is. mapped.1 (contained.0 is))
+
+pub returns : goal.returns
+returns c =
+    let it = c.args.self.now in
+    let rules = rules_of it.catalogue.now.rules in
+    let start_is = c.in_ok-start.ensures.state
+    ∙ ap (λ facts. start_of (record { head = it.plan.now.head; body = facts })) (c.in_ok-facts.ensures ∙ ap (facts_chosen c.args.set.now) c.items.ensures) in
+    let none = right-says c.in_ok-outcome.outcome (λ _. IsSatisfiable rules (state_of c.in_ok-start.start)) (λ _. ¬ (IsSatisfiable rules (state_of c.in_ok-start.start)))
+    c.in-Right.field-0 c.in_ok-outcome.ensures.satisfiable c.in-Right.is in
+    let contained = contained-clashed it.plan.now it.catalogue.now.fragments it.expanded.now c.requires.search.expands c.args.set.now c.requires.count
+    c.queries_have_starts.ensures.body rules (query_of it.query.now) c.an_expansion_of_a_plan_expands_its_candidates.ensures
+    c.an_expansion_means_the_same.ensures.answers (state_of c.in_ok-start.start) start_is none in
+    (λ _. contained, λ _. refl)
