@@ -41,9 +41,12 @@ module _ (atoms : List PlanAtom) (number : ℕ) (atom : PlanAtom) (at : slice_ge
 -- ---- what holds of each number of a list
 
 -- what holds of none of the first few numbers holds of no number of the list, where these are all
-pub holds_of_none : (P : ℕ → Type 0) (numbers : List ℕ) (count : ℕ) → length numbers ≤ count → ((k : ℕ) → k < count → ¬ (P (get_or numbers k 0))) → (number : ℕ) → Contains numbers number → ¬ (P number)
+pub holds_of_none : (P : ℕ → Type 0) (numbers : List ℕ) (count : ℕ) → length numbers ≤ count → ((k : ℕ) → k < count → ¬ (P (get_or numbers k 0))) → (number : ℕ)
+    → Contains numbers number → ¬ (P number)
 holds_of_none P numbers count l none number h holds = none h.0 (omega (arith, h.1, l)) (subst P (sym (get_or_default numbers h.0 0 number h.1 ∙ h.2)) holds)
 
 -- what holds at each of the first few places holds at each place, where these are all
-pub holds_at_each : (P : ℕ → ℕ → Type 0) (numbers : List ℕ) (count : ℕ) → length numbers ≤ count → ((k : ℕ) → k < count → P k (get_or numbers k 0)) → (place number : ℕ) → slice_get numbers place ≡ Some number → P place number
-holds_at_each P numbers count l each place number e = subst (P place) (get_or_from_slice_get numbers place number 0 e) (each place (omega (arith, slice_get_within numbers place number e, l)))
+pub holds_at_each : (P : ℕ → ℕ → Type 0) (numbers : List ℕ) (count : ℕ) → length numbers ≤ count → ((k : ℕ) → k < count → P k (get_or numbers k 0))
+    → (place number : ℕ) → slice_get numbers place ≡ Some number → P place number
+holds_at_each P numbers count l each place number e = subst (P place) (get_or_from_slice_get numbers place number 0 e)
+    (each place (omega (arith, slice_get_within numbers place number e, l)))

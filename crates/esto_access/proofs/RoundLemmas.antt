@@ -17,7 +17,8 @@ use Rattle.esto_access.specs.Rounds.{IsNextIn, InRounds, RoundsAreEnough, LastRo
 
 module _ (patterns : Patterns) (atoms : List (Fact Term)) (set : List Bool) where
   -- what is next after chosen atoms is next after more of them
-  pub next_more : (P Q : ℕ → Type 0) → ((number : ℕ) → P number → Q number) → (number : ℕ) → IsNextIn patterns atoms set P number → IsNextIn patterns atoms set Q number
+  pub next_more : (P Q : ℕ → Type 0) → ((number : ℕ) → P number → Q number) → (number : ℕ) → IsNextIn patterns atoms set P number
+      → IsNextIn patterns atoms set Q number
   next_more P Q more number (has, (atom, at, accessible)) = (has, (atom, at, accessible_more patterns atoms P Q more atom accessible))
 
   module _ (part : List Bool) (is_part : IsAccessiblePart patterns atoms set part) where
@@ -45,7 +46,8 @@ module _ (patterns : Patterns) (atoms : List (Fact Term)) (set : List Bool) wher
 
   module _ (other : List Bool) (order : List ℕ) (is_order : IsOrder patterns atoms other order) where
     -- the numbers of an order of a subset are reached in as many rounds as there are places up to theirs
-    pub order_in_rounds : Within other set → (rounds place number : ℕ) → place < rounds → slice_get order place ≡ Some number → InRounds patterns atoms set rounds number
+    pub order_in_rounds : Within other set → (rounds place number : ℕ) → place < rounds → slice_get order place ≡ Some number
+        → InRounds patterns atoms set rounds number
     order_in_rounds within zero place number l e = absurd (omega (arith, l))
     order_in_rounds within (suc rounds) place number l e =
         let there : Has other number = (is_order.names number).0 (Contains-at order place number e) in
@@ -55,7 +57,8 @@ module _ (patterns : Patterns) (atoms : List (Fact Term)) (set : List Bool) wher
             found.0,
             found.1,
             accessible_more patterns atoms (IsEarlier order place) (InRounds patterns atoms set rounds)
-                (λ earlier h. order_in_rounds within rounds h.0 earlier (omega (arith, h.1, l)) h.2) found.0 (is_order.accessible place number found.0 e found.1),
+                (λ earlier h. order_in_rounds within rounds h.0 earlier (omega (arith, h.1, l)) h.2) found.0
+                    (is_order.accessible place number found.0 e found.1),
           ),
         )
 
@@ -71,12 +74,15 @@ module _ (patterns : Patterns) (atoms : List (Fact Term)) (set : List Bool) wher
           (
             found.0,
             found.1,
-            accessible_more patterns atoms (IsEarlier order place) P (λ earlier h. order_in_closed within P closed bound h.0 earlier (omega (arith, h.1, l)) h.2) found.0 (is_order.accessible place number found.0 e found.1),
+            accessible_more patterns atoms (IsEarlier order place) P
+                (λ earlier h. order_in_closed within P closed bound h.0 earlier (omega (arith, h.1, l)) h.2) found.0
+                (is_order.accessible place number found.0 e found.1),
           ),
         )
 
     -- and so they are reached in the last round
-    pub order_in_last : Within other set → (rounds : ℕ) → ((number : ℕ) → InRounds patterns atoms set (suc rounds) number → InRounds patterns atoms set rounds number)
+    pub order_in_last : Within other set → (rounds : ℕ)
+        → ((number : ℕ) → InRounds patterns atoms set (suc rounds) number → InRounds patterns atoms set rounds number)
         → (place number : ℕ) → slice_get order place ≡ Some number → InRounds patterns atoms set (suc rounds) number
     order_in_last within rounds closed place number e =
         let there : Has other number = (is_order.names number).0 (Contains-at order place number e) in
@@ -86,7 +92,8 @@ module _ (patterns : Patterns) (atoms : List (Fact Term)) (set : List Bool) wher
             found.0,
             found.1,
             accessible_more patterns atoms (IsEarlier order place) (InRounds patterns atoms set rounds)
-                (λ earlier h. order_in_closed within (InRounds patterns atoms set rounds) closed (suc h.0) h.0 earlier (omega arith) h.2) found.0 (is_order.accessible place number found.0 e found.1),
+                (λ earlier h. order_in_closed within (InRounds patterns atoms set rounds) closed (suc h.0) h.0 earlier (omega arith) h.2) found.0
+                    (is_order.accessible place number found.0 e found.1),
           ),
         )
 
@@ -99,7 +106,8 @@ module _ (patterns : Patterns) (atoms : List (Fact Term)) (set : List Bool) wher
 
 pub rounds_are_enough : PartExists → RoundsAreEnough
 rounds_are_enough exist patterns atoms set over number = (
-  λ reached. let part = exist patterns atoms set in record { over = over; part = part.0; is_part = part.1; has = rounds_in_part patterns atoms set part.0 part.1 (length atoms) number reached },
+  λ reached. let part = exist patterns atoms set in record
+      { over = over; part = part.0; is_part = part.1; has = rounds_in_part patterns atoms set part.0 part.1 (length atoms) number reached },
   λ reached.
       let order = ((reached.is_part).executable).0 in
       let is_order = ((reached.is_part).executable).1 in
@@ -111,7 +119,8 @@ rounds_are_enough exist patterns atoms set over number = (
 
 pub last_round_is_enough : PartExists → LastRoundIsEnough
 last_round_is_enough exist patterns atoms set over rounds closed number = (
-  λ reached. let part = exist patterns atoms set in record { over = over; part = part.0; is_part = part.1; has = rounds_in_part patterns atoms set part.0 part.1 (suc rounds) number reached },
+  λ reached. let part = exist patterns atoms set in record
+      { over = over; part = part.0; is_part = part.1; has = rounds_in_part patterns atoms set part.0 part.1 (suc rounds) number reached },
   λ reached.
       let order = ((reached.is_part).executable).0 in
       let is_order = ((reached.is_part).executable).1 in

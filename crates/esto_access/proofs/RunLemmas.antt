@@ -32,7 +32,8 @@ pub earlier_anywhere : (order : List ℕ) (place number : ℕ) → IsEarlier ord
 earlier_anywhere order place number h = Contains-at order h.0 number h.2
 
 pub anywhere_earlier : (order : List ℕ) (place number : ℕ) → length order ≤ place → Contains order number → IsEarlier order place number
-anywhere_earlier order place number l h = let at = place-from_Contains order number h in let within = slice_get_within order at.0 number at.1 in (at.0, omega (arith, l, within), at.1)
+anywhere_earlier order place number l h = let at = place-from_Contains order number h in let within = slice_get_within order at.0 number
+    at.1 in (at.0, omega (arith, l, within), at.1)
 
 earlier_kept : (order : List ℕ) (more place number : ℕ) → IsEarlier order place number → IsEarlier (order ++ more ∷ []) place number
 earlier_kept order more place number h = (h.0, h.1, at_left order (more ∷ []) h.0 number h.2)
@@ -86,12 +87,14 @@ module _ (patterns : Patterns) (atoms : List (Fact Term)) (set : List Bool) wher
 
       grown : IsRun patterns atoms set (slice_set part number true) (order ++ number ∷ [])
       grown = record {
-        within = λ other h. elim ((has_set part number inside other).0 h) [ inl e ↦ subst (Has set) e (first.follows).chosen | inr there ↦ run.within other there ];
+        within = λ other h. elim ((has_set part number inside other).0 h)
+            [ inl e ↦ subst (Has set) e (first.follows).chosen | inr there ↦ run.within other there ];
         is_order = order_grows patterns atoms part order number run.is_order (first.follows).there absent
             (ready_more patterns atoms (Contains order) (Has part) (λ other h. (named other).0 h) number (first.follows).ready);
         least = λ place at e lesser atom below has there accessible. elim (at_pushed order number place at e) [
           | inl old ↦ earlier_kept order number place lesser (run.least place at old lesser atom below has there
-              (accessible_more patterns atoms _ _ (λ other h. earlier_before order number place other (omega (arith, slice_get_within order place at old)) h) atom accessible))
+              (accessible_more patterns atoms _ _ (λ other h. earlier_before order number place other (omega (arith, slice_get_within order place at old)) h)
+                  atom accessible))
           | inr last ↦ earlier_kept order number place lesser (anywhere_earlier order place lesser (omega (arith, last.0)) (elim (decided_has part lesser) [
             | inl chosen ↦ (named lesser).1 chosen
             | inr left ↦ absurd (first.least lesser (subst (λ n. lesser < n) (sym last.1) below) (record {
@@ -99,7 +102,9 @@ module _ (patterns : Patterns) (atoms : List (Fact Term)) (set : List Bool) wher
               chosen = has;
               absent = λ h. left ((named lesser).0 h);
               ready = λ other d. subst (IsAccessible patterns atoms (Contains order)) (same_Some atom other (sym there ∙ d))
-                  (accessible_more patterns atoms _ _ (λ earlier h. earlier_anywhere order place earlier (earlier_before order number place earlier (omega (arith, last.0)) h)) atom accessible);
+                  (accessible_more patterns atoms _ _
+                      (λ earlier h. earlier_anywhere order place earlier (earlier_before order number place earlier (omega (arith, last.0)) h)) atom
+                      accessible);
             }))
           ]))
         ];
@@ -117,7 +122,8 @@ module _ (patterns : Patterns) (atoms : List (Fact Term)) (set : List Bool) wher
     ]
 
   -- a turn of the run, where the order is read as a given list
-  module _ (order new given : List ℕ) (same : given ≡ order) (number : ℕ) (first : IsFirstFollower patterns atoms set given number) (e : new ≡ order ++ number ∷ []) (run : RunsSoFar order) where
+  module _ (order new given : List ℕ) (same : given ≡ order) (number : ℕ) (first : IsFirstFollower patterns atoms set given number)
+      (e : new ≡ order ++ number ∷ []) (run : RunsSoFar order) where
     first_here : IsFirstFollower patterns atoms set order number
     first_here = subst (λ it. IsFirstFollower patterns atoms set it number) same first
 
@@ -135,7 +141,8 @@ module _ (patterns : Patterns) (atoms : List (Fact Term)) (set : List Bool) wher
 
   -- ---- what the end of a run shows, where its order is read as a given list
 
-  module _ (order given : List ℕ) (same_list : given ≡ order) (none : NoneFollows patterns atoms set order) (run : (part : List Bool) × IsRun patterns atoms set part order) where
+  module _ (order given : List ℕ) (same_list : given ≡ order) (none : NoneFollows patterns atoms set order)
+      (run : (part : List Bool) × IsRun patterns atoms set part order) where
     in_part : (number : ℕ) → Contains given number ↔ Has run.0 number
     in_part number = subst (λ it. Contains it number ↔ Has run.0 number) (sym same_list) (((run.1).is_order).names number)
 
@@ -144,7 +151,8 @@ module _ (patterns : Patterns) (atoms : List (Fact Term)) (set : List Bool) wher
         let has = (in_part (get_or given i d)).0 (Contains-get_or given i d l) in
         subst (λ n. get_or given i d < n) (((run.1).is_order).over ∙ sym e) (beyond run.0 (get_or given i d) has)
 
-    pub part_of_run : (reached : List Bool) → length reached ≡ length atoms → ((number : ℕ) → Has reached number ↔ Contains given number) → IsAccessiblePart patterns atoms set reached
+    pub part_of_run : (reached : List Bool) → length reached ≡ length atoms → ((number : ℕ) → Has reached number ↔ Contains given number)
+        → IsAccessiblePart patterns atoms set reached
     part_of_run reached over has = subst (IsAccessiblePart patterns atoms set) same (record {
       within = (run.1).within;
       executable = (order, (run.1).is_order);
@@ -173,27 +181,32 @@ module _ (patterns : Patterns) (atoms : List (Fact Term)) (set : List Bool) wher
   abbrev pub EachFollows : List ℕ → Type 0
   EachFollows order = (place number : ℕ) → slice_get order place ≡ Some number → CanFollow patterns atoms set (take place order) number
 
-  pub order_from_places : (order : List ℕ) → length set ≡ length atoms → ((number : ℕ) → Has set number → Contains order number) → EachFollows order → IsOrder patterns atoms set order
+  pub order_from_places : (order : List ℕ) → length set ≡ length atoms → ((number : ℕ) → Has set number → Contains order number) → EachFollows order
+      → IsOrder patterns atoms set order
   order_from_places order over all each = record {
     over = over;
     names = λ number. (λ h. let at = place-from_Contains order number h in (each at.0 number at.1).chosen, all number);
     once = λ i j d less within e. (each j (get_or order j d) (slice_get-get_or order j d within)).absent
         (earlier_take order j (get_or order j d) (i, less, slice_get-get_or order i d (omega (arith, less, within)) ∙ ap Some e));
-    accessible = λ place number atom at at_atom. accessible_more patterns atoms (Contains (take place order)) (IsEarlier order place) (take_earlier order place) atom ((each place number at).ready atom at_atom);
+    accessible = λ place number atom at at_atom. accessible_more patterns atoms (Contains (take place order)) (IsEarlier order place) (take_earlier order place)
+        atom ((each place number at).ready atom at_atom);
   }
 
   pub places_from_order : (order : List ℕ) → IsOrder patterns atoms set order → EachFollows order
   places_from_order order is_order place number at = record {
     there = subst (λ n. number < n) is_order.over (beyond set number chosen);
     chosen = chosen;
-    absent = λ h. let before = take_earlier order place number h in let same = one_place order is_order.once before.0 place number before.2 at in omega (arith, same, before.1);
-    ready = λ atom at_atom. accessible_more patterns atoms (IsEarlier order place) (Contains (take place order)) (earlier_take order place) atom (is_order.accessible place number atom at at_atom);
+    absent = λ h. let before = take_earlier order place number h in let same = one_place order is_order.once before.0 place number before.2 at in omega
+        (arith, same, before.1);
+    ready = λ atom at_atom. accessible_more patterns atoms (IsEarlier order place) (Contains (take place order)) (earlier_take order place) atom
+        (is_order.accessible place number atom at at_atom);
   }
     where
       chosen : Has set number
       chosen = (is_order.names number).0 (Contains-at order place number at)
 
-  pub order_by_places : (order given again : List ℕ) → given ≡ order → again ≡ order → length set ≡ length atoms → ((number : ℕ) → Has set number → Contains given number)
+  pub order_by_places : (order given again : List ℕ) → given ≡ order → again ≡ order → length set ≡ length atoms
+      → ((number : ℕ) → Has set number → Contains given number)
       → (answer : Bool) → IsTrue answer ↔ EachFollows again → IsTrue answer ↔ IsOrder patterns atoms set order
   order_by_places order given again same same_again over all answer told = (
     λ yes. order_from_places order over (λ number h. subst (λ it. Contains it number) same (all number h)) (subst EachFollows same_again (told.0 yes)),

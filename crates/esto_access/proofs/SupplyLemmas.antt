@@ -33,7 +33,8 @@ module _ (patterns : Patterns) (atoms : List (Fact Term)) where
     pub made_start : (none : List Kept) → none ≡ [] → AreMadeBelow 0 none
     made_start none is = (ap length is, λ number products at. absurd (none-some products (subst (λ it. slice_get it number ≡ Some products) is at)))
 
-    pub made_grows : (count : ℕ) (next after : List Kept) (products : Kept) → after ≡ next ++ products ∷ [] → IsMade count products → AreMadeBelow count next → AreMadeBelow (count + 1) after
+    pub made_grows : (count : ℕ) (next after : List Kept) (products : Kept) → after ≡ next ++ products ∷ [] → IsMade count products → AreMadeBelow count next
+        → AreMadeBelow (count + 1) after
     made_grows count next after products is made (same, each) = (
       ap length is ∙ length-append next (products ∷ []) ∙ ap (λ n. n + 1) same,
       λ number found at. elim (at_pushed next products number found (subst (λ it. slice_get it number ≡ Some found) is at)) [
@@ -44,7 +45,8 @@ module _ (patterns : Patterns) (atoms : List (Fact Term)) where
 
     module _ (next : List Kept) (made : AreMadeBelow (length atoms) next) where
       pub made_supplies : AreSupplies atoms next
-      made_supplies = record { each = made.0; counts = λ number products at. (made.1 number products at).count; kept = λ number products at. ((made.1 number products at).over, (made.1 number products at).antichain) }
+      made_supplies = record { each = made.0; counts = λ number products at. (made.1 number products at).count; kept = λ number products at.
+          ((made.1 number products at).over, (made.1 number products at).antichain) }
 
       pub made_round : AreOneRound patterns atoms supplies next
       made_round set number = elim (cases_lt number (length next)) [
@@ -60,7 +62,8 @@ module _ (patterns : Patterns) (atoms : List (Fact Term)) where
 
   -- ---- round after round
 
-  nothing_at : (count number : ℕ) (products : Kept) → slice_get (replicate count (kept (length atoms) [])) number ≡ Some products → products ≡ kept (length atoms) []
+  nothing_at : (count number : ℕ) (products : Kept) → slice_get (replicate count (kept (length atoms) [])) number ≡ Some products
+      → products ≡ kept (length atoms) []
   nothing_at zero number products at = absurd (none-some products at)
   nothing_at (suc count) zero products at = sym (same_Some (kept (length atoms) []) products at)
   nothing_at (suc count) (suc number) products at = nothing_at count number products at
@@ -85,17 +88,21 @@ module _ (patterns : Patterns) (atoms : List (Fact Term)) where
     (λ set number. (λ h. absurd (covers_none set (subst (λ it. Covers it set) (nothing_kept (length atoms) number) h)), λ h. absurd h)),
   )
 
-  pub after_more : (rounds : ℕ) (before after : List Kept) → AreAfter rounds before → AreSupplies atoms after → AreOneRound patterns atoms before after → AreAfter (rounds + 1) after
+  pub after_more : (rounds : ℕ) (before after : List Kept) → AreAfter rounds before → AreSupplies atoms after → AreOneRound patterns atoms before after
+      → AreAfter (rounds + 1) after
   after_more rounds before after (_, so_far) are round = subst (λ n. AreAfter n after) (sym (add-one rounds)) (
     are,
     λ set number. (
-      λ h. next_more patterns atoms set (IsSupplied before set) (InRounds patterns atoms set rounds) (λ other. (so_far set other).0) number ((round set number).0 h),
-      λ h. (round set number).1 (next_more patterns atoms set (InRounds patterns atoms set rounds) (IsSupplied before set) (λ other. (so_far set other).1) number h),
+      λ h. next_more patterns atoms set (IsSupplied before set) (InRounds patterns atoms set rounds) (λ other. (so_far set other).0) number
+          ((round set number).0 h),
+      λ h. (round set number).1 (next_more patterns atoms set (InRounds patterns atoms set rounds) (IsSupplied before set) (λ other. (so_far set other).1)
+          number h),
     ),
   )
 
   -- as many rounds as there are atoms tell what is reached
-  pub all_tell : RoundsAreEnough → (rounds : ℕ) → rounds ≡ length atoms → (supplies : List Kept) → AreRounds patterns atoms rounds supplies → TellAllReached patterns atoms supplies
+  pub all_tell : RoundsAreEnough → (rounds : ℕ) → rounds ≡ length atoms → (supplies : List Kept) → AreRounds patterns atoms rounds supplies
+      → TellAllReached patterns atoms supplies
   all_tell enough rounds all supplies so_far set over number =
       let reached = enough patterns atoms set over number in (
         λ h. reached.0 (subst (λ n. InRounds patterns atoms set n number) all ((so_far set number).0 h)),
@@ -103,17 +110,20 @@ module _ (patterns : Patterns) (atoms : List (Fact Term)) where
       )
 
   -- and so does a round that adds nothing
-  pub last_tells : LastRoundIsEnough → (rounds : ℕ) (before after : List Kept) → AreRounds patterns atoms rounds before → AreOneRound patterns atoms before after → AddNothing before after → TellAllReached patterns atoms after
+  pub last_tells : LastRoundIsEnough → (rounds : ℕ) (before after : List Kept) → AreRounds patterns atoms rounds before
+      → AreOneRound patterns atoms before after → AddNothing before after → TellAllReached patterns atoms after
   last_tells enough rounds before after so_far round nothing set over number =
       let reached = enough patterns atoms set over rounds (λ other h. (so_far set other).0 (nothing set other ((round set other).1 (back other h)))) number in (
-        λ h. reached.0 (next_more patterns atoms set (IsSupplied before set) (InRounds patterns atoms set rounds) (λ it. (so_far set it).0) number ((round set number).0 h)),
+        λ h. reached.0 (next_more patterns atoms set (IsSupplied before set) (InRounds patterns atoms set rounds) (λ it. (so_far set it).0) number
+            ((round set number).0 h)),
         λ h. (round set number).1 (back number (reached.1 h)),
       )
     where
       back : (other : ℕ) → InRounds patterns atoms set (suc rounds) other → IsNextIn patterns atoms set (IsSupplied before set) other
       back other = next_more patterns atoms set (InRounds patterns atoms set rounds) (IsSupplied before set) (λ it. (so_far set it).1) other
 
-  module _ (supplies : List Kept) (are : AreSupplies atoms supplies) (tell : TellAllReached patterns atoms supplies) (number : ℕ) (products : Kept) (at : slice_get supplies number ≡ Some products) where
+  module _ (supplies : List Kept) (are : AreSupplies atoms supplies) (tell : TellAllReached patterns atoms supplies) (number : ℕ) (products : Kept)
+      (at : slice_get supplies number ≡ Some products) where
     pub product_tells : TellHolds (length atoms) (IsReachedIn patterns atoms number) products.sets
     product_tells set over =
         let own = sets_there supplies number products at in (
@@ -145,13 +155,16 @@ abbrev pub AddNothingBelow : List Kept → List Kept → ℕ → Type 0
 AddNothingBelow before after count = (number : ℕ) → number < count → (set : List Bool) → IsSupplied after set number → IsSupplied before set number
 
 module _ (before after : List Kept) (number : ℕ) (own other : Kept) (at : slice_get before number ≡ Some own) (at' : slice_get after number ≡ Some other) where
-  pub nothing_here : ((set : List Bool) → Covers other.sets set → Covers own.sets set) → (set : List Bool) → IsSupplied after set number → IsSupplied before set number
+  pub nothing_here : ((set : List Bool) → Covers other.sets set → Covers own.sets set) → (set : List Bool) → IsSupplied after set number
+      → IsSupplied before set number
   nothing_here covers set supplied =
-      subst (λ it. Covers it set) (sym (sets_there before number own at)) (covers set (subst (λ it. Covers it set) (sets_there after number other at') supplied))
+      subst (λ it. Covers it set) (sym (sets_there before number own at))
+          (covers set (subst (λ it. Covers it set) (sets_there after number other at') supplied))
 
   pub here_nothing : AddNothing before after → (set : List Bool) → Covers other.sets set → Covers own.sets set
   here_nothing nothing set covered =
-      subst (λ it. Covers it set) (sets_there before number own at) (nothing set number (subst (λ it. Covers it set) (sym (sets_there after number other at')) covered))
+      subst (λ it. Covers it set) (sets_there before number own at)
+          (nothing set number (subst (λ it. Covers it set) (sym (sets_there after number other at')) covered))
 
 pub nothing_at_all : (before after : List Kept) (count : ℕ) → length after ≤ count → AddNothingBelow before after count → AddNothing before after
 nothing_at_all before after count l so_far set number supplied =

@@ -17,7 +17,8 @@ MeetsOneOf atoms Chosen atom patterns = (pattern : List Bool) × Contains patter
 
 -- The number is one of the set's, and its atom is accessible after the chosen ones.
 abbrev pub IsNextIn : Patterns → List (Fact Term) → List Bool → (ℕ → Type 0) → ℕ → Type 0
-IsNextIn patterns atoms set Chosen number = Has set number × ((atom : Fact Term) × (slice_get atoms number ≡ Some atom) × IsAccessible patterns atoms Chosen atom)
+IsNextIn patterns atoms set Chosen number = Has set number
+    × ((atom : Fact Term) × (slice_get atoms number ≡ Some atom) × IsAccessible patterns atoms Chosen atom)
 
 -- The atom of the number is reached in so many rounds, of which each takes the atoms of the set that are accessible after those of one round less.
 abbrev pub InRounds : Patterns → List (Fact Term) → List Bool → ℕ → ℕ → Type 0
@@ -32,7 +33,8 @@ pub record AreSupplies (atoms : List (Fact Term)) (supplies : List Kept) : Type 
 
 -- One round more: a number is supplied in a set exactly where it is next after those that were.
 abbrev pub AreOneRound : Patterns → List (Fact Term) → List Kept → List Kept → Type 0
-AreOneRound patterns atoms before after = (set : List Bool) (number : ℕ) → IsSupplied after set number ↔ IsNextIn patterns atoms set (IsSupplied before set) number
+AreOneRound patterns atoms before after = (set : List Bool) (number : ℕ)
+    → IsSupplied after set number ↔ IsNextIn patterns atoms set (IsSupplied before set) number
 
 -- So many rounds: a number is supplied in a set exactly where it is reached in so many.
 abbrev pub AreRounds : Patterns → List (Fact Term) → ℕ → List Kept → Type 0

@@ -23,7 +23,8 @@ pub(crate) fn is_input(pattern: &Access, column: usize) -> bool
 /// Whether the plan has an atom of this number, and the term occurs in it.
 fn occurs_at(plan: &Plan, number: usize, term: &Term) -> bool
     ensures { IsTrue result ↔ ((atom : Fact Term)
-        × (slice_get (plan_query plan.now).body number ≡ Some atom) × Contains atom.terms term.now) }
+        × (slice_get (plan_query plan.now).body number ≡ Some atom)
+        × Contains atom.terms term.now) }
 {
     if number >= plan.atoms.len() {
         return false;

@@ -19,7 +19,8 @@ fn next_number(
 ) -> Option<usize>
     ensures { MatchOption result
         (NoneFollows (patterns_of fragments.now) (plan_query plan.now).body set.now earlier.now)
-        (IsFirstFollower (patterns_of fragments.now) (plan_query plan.now).body set.now earlier.now) }
+        (IsFirstFollower (patterns_of fragments.now) (plan_query plan.now).body set.now
+        earlier.now) }
 {
     'numbers: for number in 0..plan.atoms.len() {
         if can_follow(set, plan, fragments, earlier, number) {

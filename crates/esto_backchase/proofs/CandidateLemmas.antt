@@ -93,7 +93,8 @@ module _ (query target : ConjunctiveQuery) (start : Assignment) (is_start : own.
   found-maps None some none answer is = (λ holds. absurd (false≢true (sym is ∙ holds)), λ maps. absurd (none-maps none maps))
 
 pub mapped-at : (query : ConjunctiveQuery) (head other_head : List Term) (body other_body : List (Fact Term)) → head ≡ other_head → body ≡ other_body
-    → (answer : Bool) → IsTrue answer ↔ MapsTo query (record { head = head; body = body }) → IsTrue answer ↔ MapsTo query (record { head = other_head; body = other_body })
+    → (answer : Bool) → IsTrue answer ↔ MapsTo query (record { head = head; body = body })
+        → IsTrue answer ↔ MapsTo query (record { head = other_head; body = other_body })
 mapped-at query head other_head body other_body same_head same_body answer says =
     subst (λ facts. IsTrue answer ↔ MapsTo query (record { head = other_head; body = facts })) same_body
     (subst (λ row. IsTrue answer ↔ MapsTo query (record { head = row; body = body })) same_head says)
@@ -135,7 +136,8 @@ from-chosen set (first ∷ rest) part there has = by (λ later. from-chosen set 
     by : (Contains rest part → Contains (own.facts_chosen set rest) part.fact) → (answer : Bool) → slice_index_or set first.atom false ≡ answer
         → Contains (cond answer (first.fact ∷ own.facts_chosen set rest) (own.facts_chosen set rest)) part.fact
     by again true told = elim (Contains-cases first rest part there) [
-      | inl is ↦ subst (λ (it : ExpandedFact). Contains (first.fact ∷ own.facts_chosen set rest) it.fact) is (Contains-head first.fact (own.facts_chosen set rest))
+      | inl is ↦ subst (λ (it : ExpandedFact). Contains (first.fact ∷ own.facts_chosen set rest) it.fact) is
+          (Contains-head first.fact (own.facts_chosen set rest))
       | inr more ↦ Contains-rest first.fact (own.facts_chosen set rest) part.fact (again more)
     ]
     by again false told = elim (Contains-cases first rest part there) [
@@ -156,7 +158,8 @@ module _ (plan : Plan) (fragments : List FragmentDef) (expanded : List ExpandedF
   chosen-starts flat sound = record {
     flat_body = λ term (fact, there, inside).
         let from = chosen-from set expanded fact ((chosen-in_start fact).0 there) in
-        flat term (from.0.fact, Contains-map (λ (it : ExpandedFact). it.fact) expanded from.0 from.1, subst (λ (it : Fact Term). Contains it.terms term) (sym from.3) inside);
+        flat term (from.0.fact, Contains-map (λ (it : ExpandedFact). it.fact) expanded from.0 from.1, subst (λ (it : Fact Term). Contains it.terms term)
+            (sym from.3) inside);
     flat_head = λ term inside. named-flat plan term (sound.named_head term inside);
   }
 
@@ -190,7 +193,8 @@ module _ (plan : Plan) (fragments : List FragmentDef) (expanded : List ExpandedF
         chosen_start.body chosen-is_part
 
     -- the candidate is contained in the query where that maps to the end of a chase
-    pub contained-mapped : ExpansionIsContained → AreRules rules → (start end : ConjunctiveQuery) → start ≡ chosen_start → IsUniversalFor rules start end → IsFinished rules end
+    pub contained-mapped : ExpansionIsContained → AreRules rules → (start end : ConjunctiveQuery) → start ≡ chosen_start → IsUniversalFor rules start end
+        → IsFinished rules end
         → IsIn ↔ MapsTo query end
     contained-mapped decide are start end is universal finished =
         decide rules (views_of fragments) (candidate (plan_query plan) set) chosen_start.body end query are chosen-expands

@@ -15,7 +15,8 @@ use Rattle.esto_backchase.specs.Completion.{HaveOwn, IsCompletedIn, IsOneComplet
 module _ (supplies : List Kept) (low : List Bool) where
   -- each set covers where the first few numbers of the low set are supplied
   abbrev pub AreCompletedBelow : ℕ → List (List Bool) → Type 0
-  AreCompletedBelow count found = (set : List Bool) → Covers found set ↔ (Within low set × ((number : ℕ) → number < count → Has low number → IsSupplied supplies set number))
+  AreCompletedBelow count found = (set : List Bool)
+      → Covers found set ↔ (Within low set × ((number : ℕ) → number < count → Has low number → IsSupplied supplies set number))
 
   pub completed_start : (found : List (List Bool)) → ((set : List Bool) → Covers found set ↔ Within low set) → AreCompletedBelow 0 found
   completed_start found covers set = (λ h. ((covers set).0 h, λ number below. absurd (omega (arith, below))), λ (within, _). (covers set).1 within)
@@ -32,7 +33,9 @@ module _ (supplies : List Kept) (low : List Bool) where
               | inr apart ↦ elim apart [ inl earlier ↦ before.1 number earlier in_low | inr after ↦ absurd (omega (arith, below, after)) ]
             ],
           ),
-          λ (within, each). (both set).1 ((so_far set).1 (within, λ number below in_low. each number (omega (arith, below)) in_low), subst (λ it. Covers it set) own (each count (omega arith) has)),
+          λ (within, each). (both set).1
+              ((so_far set).1 (within, λ number below in_low. each number (omega (arith, below)) in_low), subst (λ it. Covers it set) own
+              (each count (omega arith) has)),
         )
 
     -- where the number is not in the low set, or is supplied in it
@@ -41,14 +44,16 @@ module _ (supplies : List Kept) (low : List Bool) where
       λ h. let before = (so_far set).0 h in (
         before.0,
         λ number below in_low. elim (cases_order number count) [
-          | inl same ↦ (let here = supplied (subst (Has low) same in_low) in subst (IsSupplied supplies set) (sym same) (here.0, here.1, within_trans here.0 low set here.2 before.0))
+          | inl same ↦ (let here = supplied (subst (Has low) same in_low) in subst (IsSupplied supplies set) (sym same)
+              (here.0, here.1, within_trans here.0 low set here.2 before.0))
           | inr apart ↦ elim apart [ inl earlier ↦ before.1 number earlier in_low | inr after ↦ absurd (omega (arith, below, after)) ]
         ],
       ),
       λ (within, each). (so_far set).1 (within, λ number below in_low. each number (omega (arith, below)) in_low),
     )
 
-  pub completed_end : HaveOwn supplies → (count : ℕ) (found : List (List Bool)) → length low ≤ count → AreCompletedBelow count found → CoversWhere (IsCompletedIn supplies low) found
+  pub completed_end : HaveOwn supplies → (count : ℕ) (found : List (List Bool)) → length low ≤ count → AreCompletedBelow count found
+      → CoversWhere (IsCompletedIn supplies low) found
   completed_end own count found l so_far set = (
     λ h number in_low. ((so_far set).0 h).1 number (omega (arith, beyond low number in_low, l)) in_low,
     λ each. (so_far set).1 (
@@ -65,16 +70,19 @@ module _ (supplies : List Kept) (lows : List (List Bool)) where
   AreAllCompletedBelow count found = (set : List Bool) → Covers found set ↔ SomeBelow (λ _ low. IsCompletedIn supplies low set) lows count
 
   pub all_completed_start : (none : List (List Bool)) → none ≡ [] → AreAllCompletedBelow 0 none
-  all_completed_start none is set = (λ h. absurd (covers_none set (subst (λ it. Covers it set) is h)), λ h. absurd (some_none (λ _ low. IsCompletedIn supplies low set) lows h))
+  all_completed_start none is set =
+      (λ h. absurd (covers_none set (subst (λ it. Covers it set) is h)), λ h. absurd (some_none (λ _ low. IsCompletedIn supplies low set) lows h))
 
   pub all_completed_grows : (count : ℕ) (low : List Bool) → slice_get lows count ≡ Some low → (found completed after : List (List Bool))
-      → CoversWhere (IsCompletedIn supplies low) completed → CoversEither found completed after → AreAllCompletedBelow count found → AreAllCompletedBelow (count + 1) after
+      → CoversWhere (IsCompletedIn supplies low) completed → CoversEither found completed after → AreAllCompletedBelow count found
+          → AreAllCompletedBelow (count + 1) after
   all_completed_grows count low at found completed after completes also so_far set =
       let step = some_step (λ _ it. IsCompletedIn supplies it set) lows count low at in (
         λ h. step.1 (elim ((also set).0 h) [ inl before ↦ inl ((so_far set).0 before) | inr now ↦ inr ((completes set).0 now) ]),
         λ h. (also set).1 (elim (step.0 h) [ inl before ↦ inl ((so_far set).1 before) | inr now ↦ inr ((completes set).1 now) ]),
       )
 
-  pub all_completed_end : (count : ℕ) (found : List (List Bool)) → length lows ≤ count → AreAllCompletedBelow count found → CoversWhere (IsOneCompletedIn supplies lows) found
+  pub all_completed_end : (count : ℕ) (found : List (List Bool)) → length lows ≤ count → AreAllCompletedBelow count found
+      → CoversWhere (IsOneCompletedIn supplies lows) found
   all_completed_end count found l so_far set =
       let all = some_contained (λ low. IsCompletedIn supplies low set) lows count l in (λ h. all.0 ((so_far set).0 h), λ h. (so_far set).1 (all.1 h))

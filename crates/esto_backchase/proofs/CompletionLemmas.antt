@@ -19,16 +19,20 @@ use Rattle.esto_backchase.specs.Completion.{AreAccessSupplies, HaveOwn, IsComple
 
 -- ---- what the completions cover
 
-covers_combined : (count : ℕ) (families : List (List (List Bool))) (set : List Bool) → Covers (combined count families) set ↔ ((family : List (List Bool)) → Contains families family → Covers family set)
-covers_combined count [] set = (λ _ family inside. absurd (Contains-nil family inside), λ _. (replicate count false, Contains-head (replicate count false) [], none_within count set))
+covers_combined : (count : ℕ) (families : List (List (List Bool))) (set : List Bool)
+    → Covers (combined count families) set ↔ ((family : List (List Bool)) → Contains families family → Covers family set)
+covers_combined count [] set =
+    (λ _ family inside. absurd (Contains-nil family inside), λ _. (replicate count false, Contains-head (replicate count false) [], none_within count set))
 covers_combined count (first ∷ families) set =
     let rest = covers_combined count families set in
     let both = covers_unions first (combined count families) set in (
-      λ h family inside. elim (Contains-cases first families family inside) [ inl is ↦ subst (λ it. Covers it set) is (both.0 h).0 | inr later ↦ rest.0 (both.0 h).1 family later ],
+      λ h family inside. elim (Contains-cases first families family inside)
+          [ inl is ↦ subst (λ it. Covers it set) is (both.0 h).0 | inr later ↦ rest.0 (both.0 h).1 family later ],
       λ each. both.1 (each first (Contains-head first families), rest.1 (λ family inside. each family (Contains-rest first families family inside))),
     )
 
-covers_completions_of : (count : ℕ) (supplies : List Kept) (low set : List Bool) → Covers (completions_of count supplies low) set ↔ IsCompletedIn supplies low set
+covers_completions_of : (count : ℕ) (supplies : List Kept) (low set : List Bool)
+    → Covers (completions_of count supplies low) set ↔ IsCompletedIn supplies low set
 covers_completions_of count supplies low set =
     let all = covers_combined count (map (sets_at supplies) (numbers low)) set in (
       λ h number has. all.0 h (sets_at supplies number) (Contains-map (sets_at supplies) (numbers low) number ((numbers_have low number).1 has)),
@@ -37,7 +41,8 @@ covers_completions_of count supplies low set =
           subst (λ it. Covers it set) from.2 (each from.0 ((numbers_have low from.0).0 from.1))),
     )
 
-pub covers_completions : (count : ℕ) (supplies : List Kept) (lows : List (List Bool)) (set : List Bool) → Covers (completions count supplies lows) set ↔ IsOneCompletedIn supplies lows set
+pub covers_completions : (count : ℕ) (supplies : List Kept) (lows : List (List Bool)) (set : List Bool)
+    → Covers (completions count supplies lows) set ↔ IsOneCompletedIn supplies lows set
 covers_completions count supplies [] set = (λ h. absurd (covers_none set h), λ h. absurd (Contains-nil h.0 h.1))
 covers_completions count supplies (first ∷ lows) set =
     let rest = covers_completions count supplies lows set in
@@ -68,10 +73,13 @@ module _ (count : ℕ) where
     | inr later ↦ unions-count family others (λ it there. own it (Contains-rest one family it there)) other_own set later
   ]
 
-  combined-count : (families : List (List (List Bool))) → ((family : List (List Bool)) → Contains families family → AreOf family) → AreOf (combined count families)
-  combined-count [] own set inside = elim (Contains-cases (replicate count false) [] set inside) [ inl is ↦ sym (ap length is) ∙ length-replicate count false | inr later ↦ absurd (Contains-nil set later) ]
+  combined-count : (families : List (List (List Bool))) → ((family : List (List Bool)) → Contains families family → AreOf family)
+      → AreOf (combined count families)
+  combined-count [] own set inside = elim (Contains-cases (replicate count false) [] set inside)
+      [ inl is ↦ sym (ap length is) ∙ length-replicate count false | inr later ↦ absurd (Contains-nil set later) ]
   combined-count (first ∷ families) own set inside =
-      unions-count first (combined count families) (own first (Contains-head first families)) (combined-count families (λ family there. own family (Contains-rest first families family there))) set inside
+      unions-count first (combined count families) (own first (Contains-head first families))
+          (combined-count families (λ family there. own family (Contains-rest first families family there))) set inside
 
   module _ (supplies : List Kept) (over : EachIs (λ _ products. AreOf products.sets) supplies) where
     supplied-count : (number : ℕ) → AreOf (sets_at supplies number)
@@ -81,20 +89,26 @@ module _ (count : ℕ) where
 
     completions-count : (lows : List (List Bool)) → AreOf (completions count supplies lows)
     completions-count [] set inside = absurd (Contains-nil set inside)
-    completions-count (first ∷ lows) set inside = elim (Contains-append_cases (completions_of count supplies first) (completions count supplies lows) set inside) [
+    completions-count (first ∷ lows) set inside = elim
+        (Contains-append_cases (completions_of count supplies first) (completions count supplies lows) set inside) [
       | inl here ↦ combined-count (map (sets_at supplies) (numbers first)) (λ family there it at.
-          let from = Contains-map_from (sets_at supplies) (numbers first) family there in supplied-count from.0 it (subst (λ fam. Contains fam it) (sym from.2) at)) set here
+          let from = Contains-map_from (sets_at supplies) (numbers first) family there in supplied-count from.0 it
+              (subst (λ fam. Contains fam it) (sym from.2) at)) set here
       | inr later ↦ completions-count lows set later
     ]
 
     pub completions-over : (lows : List (List Bool)) → AreOver count (completions count supplies lows)
-    completions-over lows k d below = completions-count lows (slice_index_or (completions count supplies lows) k d) (Contains-get_or (completions count supplies lows) k d below)
+    completions-over lows k d below = completions-count lows (slice_index_or (completions count supplies lows) k d)
+        (Contains-get_or (completions count supplies lows) k d below)
 
 -- an antichain that covers where one of the low sets is completed has the minimal completions
-pub completed_is_minimal : (count : ℕ) (supplies : List Kept) → EachIs (λ _ products. AreOver count products.sets) supplies → (lows found : List (List Bool)) → AreOver count found → IsAntichain found
-    → ((set : List Bool) → Covers found set ↔ IsOneCompletedIn supplies lows set) → (set : List Bool) → Contains found set ↔ IsMinimal (Contains (completions count supplies lows)) set
+pub completed_is_minimal : (count : ℕ) (supplies : List Kept) → EachIs (λ _ products. AreOver count products.sets) supplies → (lows found : List (List Bool))
+    → AreOver count found → IsAntichain found
+    → ((set : List Bool) → Covers found set ↔ IsOneCompletedIn supplies lows set) → (set : List Bool)
+        → Contains found set ↔ IsMinimal (Contains (completions count supplies lows)) set
 completed_is_minimal count supplies over lows found found_over antichain covers set =
-    let each : EachIs (λ _ products. AreOf count products.sets) supplies = (λ number products at it inside. All-contains (λ one. length one ≡ count) products.sets it (over number products at) inside) in
+    let each : EachIs (λ _ products. AreOf count products.sets) supplies =
+        (λ number products at it inside. All-contains (λ one. length one ≡ count) products.sets it (over number products at) inside) in
     let own = antichain_is_minimal count P (λ it h. h.0) found found_over (λ it l. (λ h. (l, (covers it).0 h), λ h. (covers it).1 h.1)) antichain set in
     let told = told_are_minimal count P (λ it h. h.0) (completions count supplies lows) (completions-over count supplies each lows)
     (λ it l. let all = covers_completions count supplies lows it in (λ h. (l, all.0 h), λ h. all.1 h.1)) set in
@@ -105,12 +119,15 @@ completed_is_minimal count supplies over lows found found_over antichain covers 
 
 -- ---- the law
 
-module _ (exist : PartExists) (patterns : Patterns) (atoms : List (Fact Term)) (P : List Bool → Type 0) (sets : List (List Bool)) (tells : TellHolds (length atoms) P sets)
+module _ (exist : PartExists) (patterns : Patterns) (atoms : List (Fact Term)) (P : List Bool → Type 0) (sets : List (List Bool))
+    (tells : TellHolds (length atoms) P sets)
     (supplies : List Kept) (are : AreAccessSupplies patterns atoms supplies) where
-  supplied : (set : List Bool) → length set ≡ length atoms → (number : ℕ) → number < length atoms → IsSupplied supplies set number ↔ IsReachedIn patterns atoms number set
+  supplied : (set : List Bool) → length set ≡ length atoms → (number : ℕ) → number < length atoms
+      → IsSupplied supplies set number ↔ IsReachedIn patterns atoms number set
   supplied set over number below =
       let there = thing_at supplies number (omega (arith, are.each, below)) in
-      subst (λ its. Covers its set ↔ IsReachedIn patterns atoms number set) (sym (sets_there supplies number there.0 there.1)) (are.tell number there.0 there.1 set over)
+      subst (λ its. Covers its set ↔ IsReachedIn patterns atoms number set) (sym (sets_there supplies number there.0 there.1))
+          (are.tell number there.0 there.1 set over)
 
   -- one of the sets is completed in a set of the atoms exactly where P holds of its accessible part
   completed_tells : (set : List Bool) → length set ≡ length atoms → IsOneCompletedIn supplies sets set ↔ HoldsOfPart patterns atoms P set
@@ -142,10 +159,12 @@ module _ (exist : PartExists) (patterns : Patterns) (atoms : List (Fact Term)) (
             ),
       )
 
-  pub executable_by_completion : (set : List Bool) → IsMinimal (HoldsExecutably patterns atoms P) set ↔ IsMinimal (Contains (completions (length atoms) supplies sets)) set
+  pub executable_by_completion : (set : List Bool)
+      → IsMinimal (HoldsExecutably patterns atoms P) set ↔ IsMinimal (Contains (completions (length atoms) supplies sets)) set
   executable_by_completion set =
       let parts = minimal_of_parts patterns atoms P set in
-      let each : EachIs (λ _ products. AreOf (length atoms) products.sets) supplies = (λ number products at it inside. (((are.least number products at it).0 inside).0).over) in
+      let each : EachIs (λ _ products. AreOf (length atoms) products.sets) supplies =
+          (λ number products at it inside. (((are.least number products at it).0 inside).0).over) in
       let told = told_are_minimal (length atoms) (HoldsOfPart patterns atoms P) (λ it of_part. of_part.over) (completions (length atoms) supplies sets)
       (completions-over (length atoms) supplies each sets)
       (λ it over.
@@ -159,7 +178,8 @@ minimal_completions exist patterns atoms P sets supplies tells are = executable_
 
 -- ---- access products are of the count, and have their own atom
 
-module _ (patterns : Patterns) (atoms : List (Fact Term)) (supplies : List Kept) (least : EachIs (λ number products. AreAccessProducts patterns atoms number products.sets) supplies) where
+module _ (patterns : Patterns) (atoms : List (Fact Term)) (supplies : List Kept)
+    (least : EachIs (λ number products. AreAccessProducts patterns atoms number products.sets) supplies) where
   pub products-over : (count : ℕ) → length atoms ≡ count → EachIs (λ _ products. AreOver count products.sets) supplies
   products-over count same number products at k d below =
       (((least number products at (slice_index_or products.sets k d)).0 (Contains-get_or products.sets k d below)).0).over ∙ same

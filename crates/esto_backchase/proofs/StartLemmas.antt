@@ -40,14 +40,17 @@ module _ (terms targets : List Term) where
   match-row m (suc place ∷ []) matches = absurd (none-some (row_fact (map m terms)) matches.0)
   match-row m (place ∷ other ∷ places) matches = absurd matches.1
 
-  module _ (body facts : List (Fact Term)) (body_is : body ≡ row_fact terms ∷ []) (facts_are : facts ≡ row_fact targets ∷ []) (start : Assignment) (start_is : start ≡ empty) where
+  module _ (body facts : List (Fact Term)) (body_is : body ≡ row_fact terms ∷ []) (facts_are : facts ≡ row_fact targets ∷ []) (start : Assignment)
+      (start_is : start ≡ empty) where
     moved : (m : Term → Term) (places : List ℕ) → IsMatch m body facts places ↔ IsMatch m (row_fact terms ∷ []) (row_fact targets ∷ []) places
     moved m places = (
       λ matches. subst (λ atoms. IsMatch m atoms (row_fact targets ∷ []) places) body_is (subst (λ others. IsMatch m body others places) facts_are matches),
-      λ matches. subst (λ others. IsMatch m body others places) (sym facts_are) (subst (λ atoms. IsMatch m atoms (row_fact targets ∷ []) places) (sym body_is) matches),
+      λ matches. subst (λ others. IsMatch m body others places) (sym facts_are)
+          (subst (λ atoms. IsMatch m atoms (row_fact targets ∷ []) places) (sym body_is) matches),
     )
 
-    pub match-starts : (keeps : (valuation : Assignment) → Keeps Const (map_of valuation)) → (extends : (valuation : Assignment) → Extends (map_of valuation) valuation)
+    pub match-starts : (keeps : (valuation : Assignment) → Keeps Const (map_of valuation))
+        → (extends : (valuation : Assignment) → Extends (map_of valuation) valuation)
         → (valuation : Assignment) (places : List ℕ) → IsLeastMatch body facts start (λ _. ⊤) valuation places → IsStart terms targets valuation
     match-starts keeps extends valuation places least m keeps_m =
         let own = (least.is_found.exact (map_of valuation) (keeps valuation)).0 (extends valuation) in

@@ -46,7 +46,8 @@ lacks-within (x ∷ set) (y ∷ more) same within = by x y (within 0) (lacks-wit
     by false false own rest = one_more (lacks more) (lacks set) rest
 
 -- a set with one number more lacks fewer
-pub lacks-fewer : (set more : List Bool) (number : ℕ) → length more ≡ length set → Within set more → Has more number → (Has set number → ⊥) → lacks more < lacks set
+pub lacks-fewer : (set more : List Bool) (number : ℕ) → length more ≡ length set → Within set more → Has more number → (Has set number → ⊥)
+    → lacks more < lacks set
 lacks-fewer set [] number same within has missing = absurd (false≢true has)
 lacks-fewer [] (y ∷ more) number same within has missing = absurd (omega (arith, same))
 lacks-fewer (x ∷ set) (y ∷ more) zero same within has missing = by x y has missing (lacks-within set more (omega (arith, same)) (λ number. within (suc number)))
@@ -163,7 +164,8 @@ module _ (set left_out : List Bool) where
       | inr is ↦ subst (Contains (take count numbers ++ number ∷ [])) (sym is) (Contains-push (take count numbers) number)
     ])
 
-    pub earlier-more : (earlier after : List Bool) → AreEarlier numbers count earlier → ((k : ℕ) → Has after k ↔ ((k ≡ number) ⊎ Has earlier k)) → AreEarlier numbers (count + 1) after
+    pub earlier-more : (earlier after : List Bool) → AreEarlier numbers count earlier → ((k : ℕ) → Has after k ↔ ((k ≡ number) ⊎ Has earlier k))
+        → AreEarlier numbers (count + 1) after
     earlier-more earlier after are has k = (
       λ h. elim ((has k).0 h) [
         | inl is ↦ inr (at_earlier k (inr is))
@@ -176,7 +178,8 @@ module _ (set left_out : List Bool) where
     )
 
     -- such a set has one of the numbers before the next one, or it has that one and none before it
-    pub one-splits : (earlier more : List Bool) → AreEarlier numbers count earlier → length more ≡ length set → ((k : ℕ) → Has more k ↔ ((k ≡ number) ⊎ Has set k))
+    pub one-splits : (earlier more : List Bool) → AreEarlier numbers count earlier → length more ≡ length set
+        → ((k : ℕ) → Has more k ↔ ((k ≡ number) ⊎ Has set k))
         → (other : List Bool) → HasOneBelow numbers (count + 1) other → HasOneBelow numbers count other ⊎ IsBetween more earlier other
     one-splits earlier more are same has_more other (between, (k, inside, has)) = elim (decided_one (take count numbers) other) [
       | inl one ↦ inl (between, one)
@@ -199,7 +202,8 @@ module _ (set left_out : List Bool) where
   pub one-none : (numbers : List ℕ) (other : List Bool) → HasOneBelow numbers 0 other → ⊥
   one-none numbers other (_, (k, inside, _)) = Contains-nil k inside
 
-  pub one-all : (numbers : List ℕ) (count : ℕ) → length numbers ≤ count → (other : List Bool) → IsBetween set left_out other × HasOneOf numbers other → HasOneBelow numbers count other
+  pub one-all : (numbers : List ℕ) (count : ℕ) → length numbers ≤ count → (other : List Bool) → IsBetween set left_out other × HasOneOf numbers other
+      → HasOneBelow numbers count other
   one-all numbers count all other (between, (k, inside, has)) = (between, (k, rw (take_all count numbers all) inside, has))
 
   pub earlier-none : (numbers : List ℕ) → AreEarlier numbers 0 left_out
@@ -228,22 +232,26 @@ module _ (count : ℕ) (Pass : List Bool → Type 0) where
   pub failing-none : AreFailing count Pass []
   failing-none set inside = absurd (Contains-nil set inside)
 
-  pub failing-pushed : (failing : List (List Bool)) (failed : List Bool) → AreFailing count Pass failing → (length failed ≡ count) → (Pass failed → ⊥) → AreFailing count Pass (failing ++ failed ∷ [])
+  pub failing-pushed : (failing : List (List Bool)) (failed : List Bool) → AreFailing count Pass failing → (length failed ≡ count) → (Pass failed → ⊥)
+      → AreFailing count Pass (failing ++ failed ∷ [])
   failing-pushed failing failed are same fails set inside = elim (Contains-push_cases failing failed set inside) [
     | inl old ↦ are set old
     | inr is ↦ (sym (ap length is) ∙ same, subst (λ it. ¬ (Pass it)) is fails)
   ]
 
-  pub fails-known : (failing : List (List Bool)) (set failed : List Bool) → AreFailing count Pass failing → Contains failing failed → Within set failed → FailsWith count Pass set failed
+  pub fails-known : (failing : List (List Bool)) (set failed : List Bool) → AreFailing count Pass failing → Contains failing failed → Within set failed
+      → FailsWith count Pass set failed
   fails-known failing set failed are inside within = record { same_length = (are failed inside).0; within = within; fails = (are failed inside).1 }
 
   pub fails-own : (set : List Bool) → length set ≡ count → (Pass set → ⊥) → FailsWith count Pass set set
   fails-own set same fails = record { same_length = same; within = λ number has. has; fails = fails }
 
   pub fails-further : (set failed after : List Bool) → FailsWith count Pass set failed → FailsWith count Pass failed after → FailsWith count Pass set after
-  fails-further set failed after first second = record { same_length = second.same_length; within = within_trans set failed after first.within second.within; fails = second.fails }
+  fails-further set failed after first second = record
+      { same_length = second.same_length; within = within_trans set failed after first.within second.within; fails = second.fails }
 
-  pub some-fails : (outcome : Option (List Bool)) (set failed : List Bool) → MatchOption outcome (Pass set) (FailsWith count Pass set) → outcome ≡ Some failed → FailsWith count Pass set failed
+  pub some-fails : (outcome : Option (List Bool)) (set failed : List Bool) → MatchOption outcome (Pass set) (FailsWith count Pass set) → outcome ≡ Some failed
+      → FailsWith count Pass set failed
   some-fails outcome set failed says is = subst (λ it. MatchOption it (Pass set) (FailsWith count Pass set)) is says
 
   pub none-passes : (outcome : Option (List Bool)) (set : List Bool) → MatchOption outcome (Pass set) (FailsWith count Pass set) → outcome ≡ None → Pass set
@@ -268,7 +276,8 @@ module _ (count : ℕ) (Pass : List Bool → Type 0) where
 
 module _ (Pass : List Bool → Type 0) where
   -- a family whose sets are covered already
-  pub visited-covered : (Family : List Bool → Type 0) (sets : List (List Bool)) (row : List Bool) → Covers sets row → ((set : List Bool) → Family set → Within row set)
+  pub visited-covered : (Family : List Bool → Type 0) (sets : List (List Bool)) (row : List Bool) → Covers sets row
+      → ((set : List Bool) → Family set → Within row set)
       → Visited Pass Family sets sets
   visited-covered Family sets row covered within = record {
     each = λ set inside. inl inside;
@@ -285,7 +294,8 @@ module _ (Pass : List Bool → Type 0) where
   }
 
   -- a family whose sets all have one within them that passes and is added
-  pub visited-added : (Family : List Bool → Type 0) (sets later : List (List Bool)) (row : List Bool) → Pass row → ((set : List Bool) → Family set → Within row set)
+  pub visited-added : (Family : List Bool → Type 0) (sets later : List (List Bool)) (row : List Bool) → Pass row
+      → ((set : List Bool) → Family set → Within row set)
       → later ≡ with_set sets row → CoversAlso sets row later → Visited Pass Family sets later
   visited-added Family sets later row passes within is also = record {
     each = λ set inside. elim (added sets row set (subst (λ family. Contains family set) is inside)) [
@@ -306,7 +316,8 @@ module _ (Pass : List Bool → Type 0) where
   }
 
   -- one family after another
-  pub visited-both : (Family First Second : List Bool → Type 0) (sets middle later : List (List Bool)) → Visited Pass First sets middle → Visited Pass Second middle later
+  pub visited-both : (Family First Second : List Bool → Type 0) (sets middle later : List (List Bool)) → Visited Pass First sets middle
+      → Visited Pass Second middle later
       → ((set : List Bool) → Family set → First set ⊎ Second set) → Visited Pass Family sets later
   visited-both Family First Second sets middle later first second splits = record {
     each = λ set inside. elim (second.each set inside) [ inl old ↦ first.each set old | inr passes ↦ inr passes ];

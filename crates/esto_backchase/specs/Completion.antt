@@ -1,4 +1,5 @@
--- Completions: sets of atoms in which something holds, made executable. Source: backchase with provenance (Ileana, Cautis, Deutsch and Katsis 2014), where the atoms have binding patterns.
+-- Completions: sets of atoms in which something holds, made executable. Source: backchase with provenance (Ileana, Cautis, Deutsch and Katsis 2014), where the
+-- atoms have binding patterns.
 use Rattle.std.specs.Prelude.{◌≡◌, ◌↔◌, ℕ, Bool, false, List, [], ◌∷◌, ◌++◌, map, length, replicate, Contains}
 use Rattle.esto_term.specs.declared.term.Term.{Term}
 use Rattle.esto_semantics.specs.Access.{Patterns, HoldsExecutably}

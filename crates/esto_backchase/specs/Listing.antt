@@ -14,7 +14,8 @@ use Rattle.esto_semantics.specs.Sets.{Covers}
 abbrev pub MapsOntoOne : ConjunctiveQuery → ConjunctiveQuery → List (List Bool) → Type 0
 MapsOntoOne other plan sets = (set : List Bool) × MapsOnto other plan set × Covers sets set
 
--- Each executable rewriting of a satisfiable query, with any variables and of any size, maps onto a set of a universal plan's atoms that has a listed set within it.
+-- Each executable rewriting of a satisfiable query, with any variables and of any size, maps onto a set of a universal plan's atoms that has a listed set
+-- within it.
 abbrev pub ListedCoverRewritings : Type 0
 ListedCoverRewritings =
     (rules : List Rule) (views : List ConjunctiveQuery) (patterns : Patterns) (query plan other : ConjunctiveQuery) (sets : List (List Bool))

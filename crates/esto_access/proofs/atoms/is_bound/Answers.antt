@@ -9,7 +9,8 @@ use Rattle.esto_access.proofs.atoms.is_bound.Goals as goal
 
 pub returns-then-occurs_at : goal.returns-then-occurs_at
 returns-then-occurs_at c = (
-  λ _. inr (get_or c.args.earlier.now c.numbers.number-index 0, Contains-get_or c.args.earlier.now c.numbers.number-index 0 c.numbers-test.true, c.occurs_at.ensures.0 c.if-occurs_at.true),
+  λ _. inr (get_or c.args.earlier.now c.numbers.number-index 0, Contains-get_or c.args.earlier.now c.numbers.number-index 0 c.numbers-test.true,
+      c.occurs_at.ensures.0 c.if-occurs_at.true),
   λ _. refl,
 )
 
@@ -21,7 +22,8 @@ returns c = (
   λ e. absurd (false≢true e),
   λ bound. elim bound [
     | inl constant ↦ absurd (false≢true (sym c.if-is_constant.false ∙ c.is_constant.ensures.1 constant))
-    | inr named ↦ absurd (holds_of_none (λ number. (atom : Fact Term) × (slice_get (plan_query c.args.plan.now).body number ≡ Some atom) × Contains atom.terms c.args.term.now)
+    | inr named ↦ absurd (holds_of_none
+        (λ number. (atom : Fact Term) × (slice_get (plan_query c.args.plan.now).body number ≡ Some atom) × Contains atom.terms c.args.term.now)
         c.args.earlier.now c.numbers.number-index c.numbers-test.false c.numbers.invariant named.0 named.1 named.2)
   ],
 )

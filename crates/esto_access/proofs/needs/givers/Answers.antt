@@ -11,18 +11,23 @@ atoms-preserved c =
     subst (λ terms. IsTrue c.has_term.result ↔ Contains terms c.args.term.now) c.items.ensures c.has_term.ensures in
     elim c.if-has_term.branch [
       | then-has_term+in_ok-add_all w ↦
-          subst (λ (it : Kept). (it.count ≡ length c.args.plan.now.atoms) × AreGivenBelow c.args.plan.now.atoms c.args.supplies.now c.args.term.now (c.atoms.number + 1) it.sets) (sym w.found-is) (
+          subst (λ (it : Kept). (it.count ≡ length c.args.plan.now.atoms) × AreGivenBelow c.args.plan.now.atoms c.args.supplies.now c.args.term.now
+              (c.atoms.number + 1) it.sets) (sym w.found-is) (
             w.add_all.ensures.count ∙ c.atoms.invariant.0,
-            given_grows c.args.plan.now.atoms c.args.supplies.now c.args.term.now c.atoms.number c.item.result.now c.item.ensures c.atoms.found.sets c.atoms.invariant.1 (told.0 w.if-has_term.true)
+            given_grows c.args.plan.now.atoms c.args.supplies.now c.args.term.now c.atoms.number c.item.result.now c.item.ensures c.atoms.found.sets
+                c.atoms.invariant.1 (told.0 w.if-has_term.true)
                 w.item-then-has_term.result.now w.item-then-has_term.ensures w.add_all.new.self.sets w.in_ok-add_all.ensures.covers,
           )
       | else-has_term w ↦
-          subst (λ (it : Kept). (it.count ≡ length c.args.plan.now.atoms) × AreGivenBelow c.args.plan.now.atoms c.args.supplies.now c.args.term.now (c.atoms.number + 1) it.sets) (sym w.found-is) (
+          subst (λ (it : Kept). (it.count ≡ length c.args.plan.now.atoms) × AreGivenBelow c.args.plan.now.atoms c.args.supplies.now c.args.term.now
+              (c.atoms.number + 1) it.sets) (sym w.found-is) (
             c.atoms.invariant.0,
-            given_stays c.args.plan.now.atoms c.args.supplies.now c.args.term.now c.atoms.number c.item.result.now c.item.ensures c.atoms.found.sets c.atoms.invariant.1
+            given_stays c.args.plan.now.atoms c.args.supplies.now c.args.term.now c.atoms.number c.item.result.now c.item.ensures c.atoms.found.sets
+                c.atoms.invariant.1
                 (λ occurs. false≢true (sym w.if-has_term.false ∙ told.1 occurs)),
           )
     ]
 
 pub returns-clause-covers : goal.returns-clause-covers
-returns-clause-covers c = given_end c.args.plan.now.atoms c.args.supplies.now c.args.term.now c.atoms.number c.atoms.found.sets (omega (arith, c.atoms-test.false, c.len-number-end.ensures)) c.atoms.invariant.1
+returns-clause-covers c = given_end c.args.plan.now.atoms c.args.supplies.now c.args.term.now c.atoms.number c.atoms.found.sets
+    (omega (arith, c.atoms-test.false, c.len-number-end.ensures)) c.atoms.invariant.1

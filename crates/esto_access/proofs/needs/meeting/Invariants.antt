@@ -4,4 +4,5 @@ use Rattle.esto_access.proofs.NeedLemmas.{AreMetBelow}
 use Rattle.esto_access.proofs.needs.meeting.Given as goal
 
 abbrev pub invariant-columns : goal.invariant-columns
-invariant-columns l = (l.found.count ≡ length l.plan.atoms) × AreMetBelow (plan_query l.plan).body l.supplies l.number (fact_of l.atom) l.pattern l.column l.found.sets
+invariant-columns l = (l.found.count ≡ length l.plan.atoms) × AreMetBelow (plan_query l.plan).body l.supplies l.number (fact_of l.atom) l.pattern l.column
+    l.found.sets

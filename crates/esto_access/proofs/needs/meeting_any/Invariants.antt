@@ -4,4 +4,5 @@ use Rattle.esto_access.proofs.NeedLemmas.{AreMetByBelow}
 use Rattle.esto_access.proofs.needs.meeting_any.Given as goal
 
 abbrev pub invariant-patterns : goal.invariant-patterns
-invariant-patterns l = (l.found.count ≡ length l.plan.atoms) × AreMetByBelow (plan_query l.plan).body l.supplies l.number (fact_of l.atom) l.pattern-items l.pattern-index l.found.sets
+invariant-patterns l = (l.found.count ≡ length l.plan.atoms) × AreMetByBelow (plan_query l.plan).body l.supplies l.number (fact_of l.atom) l.pattern-items
+    l.pattern-index l.found.sets

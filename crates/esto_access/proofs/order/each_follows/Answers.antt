@@ -10,6 +10,7 @@ places-preserved c = below_more _ _ c.places.invariant (c.can_follow.ensures.0 c
 
 pub returns : goal.returns
 returns c = (
-  λ _. holds_at_each (λ place number. CanFollow (patterns_of c.args.fragments.now) (plan_query c.args.plan.now).body c.args.set.now (take place c.args.order.now) number) c.args.order.now c.places.place c.places-test.false c.places.invariant,
+  λ _. holds_at_each (λ place number. CanFollow (patterns_of c.args.fragments.now) (plan_query c.args.plan.now).body c.args.set.now
+      (take place c.args.order.now) number) c.args.order.now c.places.place c.places-test.false c.places.invariant,
   λ _. refl,
 )

@@ -7,7 +7,8 @@ use Rattle.esto_access.proofs.supply.next_supplies.Goals as goal
 
 pub numbers-preserved : goal.numbers-preserved
 numbers-preserved c =
-    made_grows (patterns_of c.args.fragments.now) (plan_query c.args.plan.now).body c.args.supplies.now c.numbers.number c.numbers.next c.push.new.self c.in_ok-next_products.field-0 c.in_ok-push.ensures.ok
+    made_grows (patterns_of c.args.fragments.now) (plan_query c.args.plan.now).body c.args.supplies.now c.numbers.number c.numbers.next c.push.new.self
+        c.in_ok-next_products.field-0 c.in_ok-push.ensures.ok
     (record {
       count = c.in_ok-next_products.ensures.count ∙ sym (length-map c.args.plan.now.atoms fact_of);
       over = c.in_ok-next_products.ensures.kept.0;
@@ -15,7 +16,9 @@ numbers-preserved c =
       covers = c.in_ok-next_products.ensures.covers;
     }) c.numbers.invariant
 
-all_made : (c : goal.After-numbers) → AreMadeBelow (patterns_of c.args.fragments.now) (plan_query c.args.plan.now).body c.args.supplies.now (length (plan_query c.args.plan.now).body) c.numbers.next
+all_made : (c : goal.After-numbers)
+    → AreMadeBelow (patterns_of c.args.fragments.now) (plan_query c.args.plan.now).body c.args.supplies.now (length (plan_query c.args.plan.now).body)
+    c.numbers.next
 all_made c =
     let same = length-map c.args.plan.now.atoms fact_of in
     subst (λ count. AreMadeBelow (patterns_of c.args.fragments.now) (plan_query c.args.plan.now).body c.args.supplies.now count c.numbers.next)

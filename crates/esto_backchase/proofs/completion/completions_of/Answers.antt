@@ -10,17 +10,21 @@ use Rattle.esto_backchase.proofs.completion.completions_of.Goals as goal
 pub numbers-preserved : goal.numbers-preserved
 numbers-preserved c = elim c.if-has.branch [
   | then-has+then-not-covered+in_ok-found-2 w ↦
-      subst (λ (it : Kept). (it.count ≡ length c.args.low.now) × AreCompletedBelow c.args.supplies.now c.args.low.now (c.numbers.number + 1) it.sets) (sym w.found-is) (
+      subst (λ (it : Kept). (it.count ≡ length c.args.low.now) × AreCompletedBelow c.args.supplies.now c.args.low.now (c.numbers.number + 1) it.sets)
+          (sym w.found-is) (
         w.in_ok-found-2.ensures.count ∙ c.numbers.invariant.0,
-        completed_grows c.args.supplies.now c.args.low.now c.numbers.number c.numbers.found.sets c.numbers.invariant.1 (c.has.ensures.0 w.if-has.true) w.item-then-not-covered.result.now w.item-then-not-covered.ensures
+        completed_grows c.args.supplies.now c.args.low.now c.numbers.number c.numbers.found.sets c.numbers.invariant.1 (c.has.ensures.0 w.if-has.true)
+            w.item-then-not-covered.result.now w.item-then-not-covered.ensures
             w.in_ok-found-2.found.sets w.in_ok-found-2.ensures.covers,
       )
   | else-has w ↦
-      subst (λ (it : Kept). (it.count ≡ length c.args.low.now) × AreCompletedBelow c.args.supplies.now c.args.low.now (c.numbers.number + 1) it.sets) (sym w.found-is) (
+      subst (λ (it : Kept). (it.count ≡ length c.args.low.now) × AreCompletedBelow c.args.supplies.now c.args.low.now (c.numbers.number + 1) it.sets)
+          (sym w.found-is) (
         c.numbers.invariant.0,
         completed_stays c.args.supplies.now c.args.low.now c.numbers.number c.numbers.found.sets c.numbers.invariant.1 (λ has. elim w.else-has.branch [
           | else-has-via-then-has+else-not-covered w' ↦
-              subst (λ its. Covers its c.args.low.now) (sym (sets_there c.args.supplies.now c.numbers.number w'.item.result.now w'.item.ensures)) (w'.covered.ensures.0 w'.if-not-covered.false)
+              subst (λ its. Covers its c.args.low.now) (sym (sets_there c.args.supplies.now c.numbers.number w'.item.result.now w'.item.ensures))
+                  (w'.covered.ensures.0 w'.if-not-covered.false)
           | else-has-via-else-has w' ↦ absurd (false≢true (sym w'.if-has.false ∙ c.has.ensures.1 has))
         ]),
       )
@@ -28,4 +32,5 @@ numbers-preserved c = elim c.if-has.branch [
 
 pub returns-clause-covers : goal.returns-clause-covers
 returns-clause-covers c =
-    completed_end c.args.supplies.now c.args.low.now c.requires.own c.numbers.number c.numbers.found.sets (omega (arith, c.numbers-test.false, c.count-number-end.ensures)) c.numbers.invariant.1
+    completed_end c.args.supplies.now c.args.low.now c.requires.own c.numbers.number c.numbers.found.sets
+        (omega (arith, c.numbers-test.false, c.count-number-end.ensures)) c.numbers.invariant.1

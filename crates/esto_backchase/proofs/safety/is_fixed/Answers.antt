@@ -18,7 +18,8 @@ atoms-preserved c =
     holds_more (λ number atom. Has c.args.set.now number → Contains atom.terms c.args.term.now → ⊥) c.args.atoms.now c.atoms.number c.index-atoms-number.result
     c.atoms-test.true c.index-atoms-number.is c.atoms.invariant
     (λ has inside. elim c.else-has.branch [
-      | else-has-via-then-has+else-has_term w ↦ false≢true (sym w.if-has_term.false ∙ w.has_term.ensures.1 (subst (λ terms. Contains terms c.args.term.now) (sym w.items.ensures) inside))
+      | else-has-via-then-has+else-has_term w ↦ false≢true
+          (sym w.if-has_term.false ∙ w.has_term.ensures.1 (subst (λ terms. Contains terms c.args.term.now) (sym w.items.ensures) inside))
       | else-has-via-else-has w ↦ false≢true (sym w.if-has.false ∙ c.has.ensures.1 has)
     ])
 
