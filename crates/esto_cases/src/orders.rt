@@ -2,8 +2,9 @@
 
 use crate::printing::{put_numbers, put_row, put_set, put_sets};
 use crate::reading::{Refused, numbers, set_of};
+use either::{Left, Right};
 use esto_access::{access_products, is_order, order_of, reached};
-use esto_catalog::{Catalogue, catalogues_are_sound};
+use esto_catalog::Catalogue;
 use esto_query::Query;
 use esto_term::{List, Replicate};
 use esto_universal::universal;
@@ -27,11 +28,13 @@ pub fn fragments_with(
     Ok(fragments)
 }
 
-/// The universal plan of a query over the catalogue's fragments; it does not depend on their patterns.
+/// The universal plan of a query over the catalogue's fragments; it does not depend on their patterns. A query that is not
+/// satisfiable has none.
 pub fn plan_of(alloc: Global, catalogue: &Catalogue, query: &Query) -> Result<Plan, Refused> {
-    catalogues_are_sound();
-    let plan = universal(alloc, query, &catalogue.fragments)?;
-    Ok(plan)
+    match universal(alloc, query, catalogue)? {
+        Left(plan) => Ok(plan),
+        Right(_) => Err(Refused),
+    }
 }
 
 /// The plan's atoms, one a line: the number, the name of the fragment, and the terms.

@@ -8,3 +8,4 @@ mod text;
 mod weight;
 
 pub use listing::{Listed, Listing};
+pub use printing::put_constant;

@@ -62,8 +62,8 @@ fn put_bytes(text: &mut Bytes, bytes: &[u8]) -> Result<(), OutOfMemory>
     Ok(())
 }
 
-/// Puts a constant at the end, between quotes.
-fn put_constant(text: &mut Bytes, constant: &Text) -> Result<(), OutOfMemory>
+/// Puts a constant at the end, between quotes, with each quote in it doubled.
+pub fn put_constant(text: &mut Bytes, constant: &Text) -> Result<(), OutOfMemory>
     ensures { OnOk result (text.new ≡ text.old ++ constant_text constant.now) }
 {
     text.append(b"'")?;

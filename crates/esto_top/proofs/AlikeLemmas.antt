@@ -1,7 +1,10 @@
--- Catalogues that say the same, queries that are the same, and their lists.
+-- Catalogues that say the same, queries that are the same, and their plans, clashes and lists.
 use Rattle.std.proofs.Common.{◌≡◌, ℕ, List, All, refl, sym, ap, subst, ◌∙◌}
 use Rattle.esto_catalog.specs.Determined.{AreSame}
 use Rattle.esto_catalog.specs.declared.catalogue.Catalogue.{Catalogue}
+use Rattle.esto_chase.specs.Chased.{RunClashes}
+use Rattle.esto_chase_laws.specs.Runs.{start_of}
+use Rattle.esto_chase_laws.specs.declared.clash.Clash.{Clash}
 use Rattle.esto_constraint.specs.Constraints.{rules_of}
 use Rattle.esto_list.specs.Items.{sets_of}
 use Rattle.esto_list.specs.declared.listing.Listed.{Listed}
@@ -14,11 +17,11 @@ use Rattle.esto_read.specs.declared.read.NamedQuery.{NamedQuery}
 use Rattle.esto_read.specs.declared.words.Word.{Word}
 use Rattle.esto_semantics.specs.Access.{Patterns, IsStatedOrder}
 use Rattle.esto_semantics.specs.Listed.{AreListed, IsWeight, chosen}
-use Rattle.esto_universal.specs.Stated.{IsStatedPlan}
+use Rattle.esto_universal.specs.Planned.{IsPlanOfRun}
 use Rattle.esto_views.specs.Fragments.{views_of, patterns_of}
 use Rattle.esto_views.specs.Plans.{plan_query}
 use Rattle.esto_views.specs.declared.plan.Plan.{Plan}
-use Rattle.esto_top.specs.Listing.{IsListing, IsListOf, HasListedSets}
+use Rattle.esto_top.specs.Listing.{IsClash, IsListing, IsListOf, IsPlanned, HasListedSets}
 use Rattle.esto_top.proofs.OneListLemmas.{same_text}
 
 -- two queries with one head, one body and the same names
@@ -46,12 +49,18 @@ same_reading one_reading {words} {schema} vocabulary bytes query other here ther
     }
 
 module _ (catalogue other : Catalogue) (alike : AreSame catalogue other) (query other_query : Query) (same : IsSameQuery query other_query) where
-  stated_moved : (plan : Plan) → IsStatedPlan other_query.names (views_of other.fragments) (query_of other_query) plan
-      → IsStatedPlan query.names (views_of catalogue.fragments) (query_of query) plan
-  stated_moved plan stated =
-      subst (λ names. IsStatedPlan names (views_of catalogue.fragments) (query_of query) plan) (sym same.names)
-      (subst (λ views. IsStatedPlan other_query.names views (query_of query) plan) (sym alike.views)
-      (subst (λ end. IsStatedPlan other_query.names (views_of other.fragments) end plan) (sym (same_query query other_query same)) stated))
+  -- a plan and a clash over the other catalogue are ones over this
+  pub planned_moved : (plan : Plan) → IsPlanned other other_query plan → IsPlanned catalogue query plan
+  planned_moved plan planned =
+      subst (λ names. IsPlanOfRun (rules_of catalogue.rules) (views_of catalogue.fragments) names (query_of query) plan) (sym same.names)
+      (subst (λ it. IsPlanOfRun (rules_of catalogue.rules) (views_of catalogue.fragments) other_query.names it plan) (sym (same_query query other_query same))
+      (subst (λ views. IsPlanOfRun (rules_of catalogue.rules) views other_query.names (query_of other_query) plan) (sym alike.views)
+      (subst (λ rules. IsPlanOfRun rules (views_of other.fragments) other_query.names (query_of other_query) plan) (sym alike.rules) planned)))
+
+  pub clash_moved : (clash : Clash) → IsClash other other_query clash → IsClash catalogue query clash
+  clash_moved clash clashes =
+      subst (λ it. RunClashes (rules_of catalogue.rules) (start_of it) clash) (sym (same_query query other_query same))
+      (subst (λ rules. RunClashes rules (start_of (query_of other_query)) clash) (sym alike.rules) clashes)
 
   sets_moved : (plan : Plan) (items : List Listed) → HasListedSets other other_query plan items → HasListedSets catalogue query plan items
   sets_moved plan items listed =
@@ -74,16 +83,13 @@ module _ (catalogue other : Catalogue) (alike : AreSame catalogue other) (query 
   }
 
   -- a list over the other catalogue is one over this
-  pub listing_moved : (text : List ℕ) → IsListing other other_query text → IsListing catalogue query text
-  listing_moved text listing = record {
-    plan = listing.plan;
+  pub listing_moved : (plan : Plan) (text : List ℕ) → IsListing other other_query plan text → IsListing catalogue query plan text
+  listing_moved plan text listing = record {
     items = listing.items;
-    stated = stated_moved listing.plan listing.stated;
-    list = list_moved listing.plan listing.items listing.list;
+    list = list_moved plan listing.items listing.list;
     printed = (
       listing.printed.0,
       listing.printed.1,
-      listing.printed.2
-          ∙ same_text other.fragments catalogue.fragments (sym alike.names) listing.plan listing.plan listing.items listing.printed.0 refl refl refl,
+      listing.printed.2 ∙ same_text other.fragments catalogue.fragments (sym alike.names) plan plan listing.items listing.printed.0 refl refl refl,
     );
   }

@@ -7,7 +7,8 @@ use Rattle.esto_catalog.specs.Reading.{IsCatalogueOf, IsCatalogueError}
 use Rattle.esto_catalog.specs.declared.catalogue.Catalogue.{Catalogue}
 use Rattle.esto_catalog.specs.declared.fault.CatalogueError.{CatalogueError}
 use Rattle.esto_catalog.specs.declared.fault.CatalogueError.TheVariants as error
-use Rattle.esto_constraint.specs.Constraints.{rules_of}
+use Rattle.esto_constraint.specs.Constraints.{rule_of, rules_of}
+use Rattle.esto_constraint.specs.declared.rule.Constraint.{Constraint}
 use Rattle.esto_list.specs.Items.{sets_of, IsPickOf}
 use Rattle.esto_list.specs.Text.{list_text}
 use Rattle.esto_list.specs.declared.listing.Listed.{Listed}
@@ -22,8 +23,9 @@ use Rattle.esto_semantics.specs.AccessLaws.{StatedOrderIsOne}
 use Rattle.esto_semantics.specs.Listed.{AreListed}
 use Rattle.esto_semantics.specs.ListedLaws.{ListedIsOne, PickIsOne, WeightIsOne}
 use Rattle.esto_semantics.specs.Queries.{ConjunctiveQuery}
+use Rattle.esto_semantics.specs.Rules.{AreRules, IsRule}
 use Rattle.esto_text.specs.declared.fault.TextFault.{TextFault}
-use Rattle.esto_universal.specs.StatedLaws.{StatedPlanIsOne}
+use Rattle.esto_universal.specs.PlannedLaws.{PlanOfRunIsOne, ClashOfRunIsOne, PlanExcludesClash}
 use Rattle.esto_views.specs.Fragments.{views_of, patterns_of, weights_of}
 use Rattle.esto_views.specs.Plans.{plan_query}
 use Rattle.esto_views.specs.declared.plan.Plan.{Plan}
@@ -34,26 +36,34 @@ use Rattle.esto_top.specs.Answers.{IsCaused}
 use Rattle.esto_top.specs.Determined.{OutcomesAreDetermined, ExactWhereTold}
 use Rattle.esto_top.specs.Grammar.{Request, request_of, course_of_request, course_of_asked}
 use Rattle.esto_top.specs.Grammar.Request.{CheckOf, ListFor, Unbuilt}
-use Rattle.esto_top.specs.List.{has_no_constraint, prints_list, list_course}
+use Rattle.esto_top.specs.List.{plans_query, prints_list, lists_query, list_course}
 use Rattle.esto_top.specs.Listing.{IsListing, IsListOf}
 use Rattle.esto_top.specs.Outcome.{CompleteWhereTold}
 use Rattle.esto_top.specs.Opening.{status_of, reads_catalogue, opens_catalogue, reads_query, opens_query}
 use Rattle.esto_top.specs.declared.ending.Reply.TheVariants.{Done}
 use Rattle.esto_top.specs.declared.status.Status.{Status}
 use Rattle.esto_top.specs.declared.status.Status.TheVariants as status
-use Rattle.esto_top.proofs.AlikeLemmas.{IsSameQuery, same_reading, listing_moved}
+use Rattle.esto_top.proofs.AlikeLemmas.{IsSameQuery, same_reading, planned_moved, clash_moved, listing_moved}
 use Rattle.esto_top.proofs.AgreeLemmas.{AgreeCalmly, fetches-agree, says-agree}
 use Rattle.esto_top.proofs.OneListLemmas.{HasOrder, HasWeight, same_items, same_pick, same_atoms, same_text}
 use Rattle.esto_top.specs.declared.opening.TheConstants.{CATALOGUE_LIMIT, QUERY_LIMIT}
+use Rattle.esto_top.proofs.RuleLemmas.{are_rules}
 use Rattle.esto_top.proofs.Steps.{never_wanting}
 
 -- the laws of lists
 pub record ListLaws : Type 0 where
-  pub plans : StatedPlanIsOne
+  pub rules : (constraint : Constraint) → IsRule (rule_of constraint)
+  pub plan : PlanOfRunIsOne
+  pub clash : ClashOfRunIsOne
+  pub apart : PlanExcludesClash
   pub sets : ListedIsOne
   pub orders : StatedOrderIsOne
   pub weights : WeightIsOne
   pub picks : PickIsOne
+
+-- two plans of the same atoms and head, with the same names
+abbrev IsSamePlan : Plan → Plan → Type 0
+IsSamePlan plan other = (plan_query plan ≡ plan_query other) × (plan.names ≡ other.names)
 
 -- ---- the text of a list
 
@@ -73,19 +83,19 @@ module _ (laws : ListLaws) (catalogue : Catalogue) (query : Query) where
       (subst (λ it. All (HasWeight laws.orders laws.weights (patterns_of catalogue.fragments) (weights_of catalogue.fragments) it.body) others)
       (sym plans) other_list.weights)
 
-  texts_one : (text other_text : List ℕ) → IsListing catalogue query text → IsListing catalogue query other_text → text ≡ other_text
-  texts_one text other_text listing other_listing =
-      let plans = laws.plans query.names (views_of catalogue.fragments) (query_of query) listing.plan other_listing.plan listing.stated other_listing.stated in
-      let items : listing.items ≡ other_listing.items = items_one listing.plan other_listing.plan plans.0 listing.items
-      other_listing.items listing.list other_listing.list in
+  texts_one : (plan other_plan : Plan) → IsSamePlan plan other_plan → (text other_text : List ℕ) → IsListing catalogue query plan text
+      → IsListing catalogue query other_plan other_text → text ≡ other_text
+  texts_one plan other_plan plans text other_text listing other_listing =
+      let items : listing.items ≡ other_listing.items = items_one plan other_plan plans.0 listing.items other_listing.items listing.list
+      other_listing.list in
       let pick = same_pick laws.picks other_listing.items listing.printed.0 other_listing.printed.0
       (subst (λ it. IsPickOf it listing.printed.0) items listing.printed.1) other_listing.printed.1 in
-      let texts : list_text catalogue.fragments listing.plan listing.items listing.printed.0
-      ≡ list_text catalogue.fragments listing.plan other_listing.items other_listing.printed.0 =
-      λ i. list_text catalogue.fragments listing.plan (items i) (pick i) in
+      let texts : list_text catalogue.fragments plan listing.items listing.printed.0
+      ≡ list_text catalogue.fragments plan other_listing.items other_listing.printed.0 =
+      λ i. list_text catalogue.fragments plan (items i) (pick i) in
       listing.printed.2 ∙ texts
-      ∙ same_text catalogue.fragments catalogue.fragments refl listing.plan other_listing.plan other_listing.items other_listing.printed.0
-      (same_atoms listing.plan.atoms other_listing.plan.atoms (ap (λ (it : ConjunctiveQuery). it.body) plans.0))
+      ∙ same_text catalogue.fragments catalogue.fragments refl plan other_plan other_listing.items other_listing.printed.0
+      (same_atoms plan.atoms other_plan.atoms (ap (λ (it : ConjunctiveQuery). it.body) plans.0))
       (ap (λ (it : ConjunctiveQuery). it.head) plans.0) plans.1
       ∙ sym other_listing.printed.2
 
@@ -122,10 +132,6 @@ module _ (sound : CataloguesAreSound) (one : HaveOneCatalogue) (apart : HaveNoEr
       (λ bytes other goes same. subst (λ it. AgreeCalmly AreSame (reads_catalogue bytes) (reads_catalogue it)) same (catalogues_agree bytes))
 
   module _ (catalogue other : Catalogue) (alike : AreSame catalogue other) where
-    constraints_agree : AgreeCalmly (λ _ _. Unit {0}) (has_no_constraint catalogue) (has_no_constraint other)
-    constraints_agree = judges_agree _ _ _ _ _ _ (λ value other_value here there. tt) (λ said other_said caused other_caused here there. here.1 ∙ sym there.1)
-        (λ value said caused here there. there.0 (sym alike.given ∙ here)) (λ value said caused here there. there.0 (alike.given ∙ here))
-
     -- a reading and a fault over the other catalogue are ones over this
     reading_back : (bytes : List ℕ) (named : NamedQuery) → IsReading form.Query other.words (arities_of other.schema) bytes named
         → IsReading form.Query catalogue.words (arities_of catalogue.schema) bytes named
@@ -156,23 +162,39 @@ module _ (sound : CataloguesAreSound) (one : HaveOneCatalogue) (apart : HaveNoEr
         then_agree _ ◌≡◌ IsSameQuery _ _ _ _ (fetches-agree files name QUERY_LIMIT)
         (λ bytes other_bytes goes same. subst (λ it. AgreeCalmly IsSameQuery (reads_query catalogue bytes) (reads_query other it)) same (read_agree bytes))
 
-    printed_agree : (query other_query : Query) → IsSameQuery query other_query
-        → AgreeCalmly ◌≡◌ (and_then (prints_list catalogue query) (λ text. gives (Done text)))
-        (and_then (prints_list other other_query) (λ text. gives (Done text)))
-    printed_agree query other_query same =
-        then_agree _ ◌≡◌ ◌≡◌ _ _ _ _
-        (judges_agree _ _ _ _ _ _ (λ text other_text here there. texts_one laws catalogue query text other_text here
-        (listing_moved catalogue other alike query other_query same other_text there)) (λ said other_said caused other_caused here there. absurd here)
-        (λ value said caused here there. there) (λ value said caused here there. there))
-        (λ text other_text goes texts. gives_agree _ (Done text) (Done other_text) (ap Done texts))
+    module _ (query other_query : Query) (same : IsSameQuery query other_query) where
+      rules_are : AreRules (rules_of catalogue.rules)
+      rules_are = are_rules laws.rules catalogue.rules
+
+      plans_agree : AgreeCalmly IsSamePlan (plans_query catalogue query) (plans_query other other_query)
+      plans_agree = judges_agree _ _ _ _ _ _
+          (λ plan other_plan here there. laws.plan (rules_of catalogue.rules) (views_of catalogue.fragments) query.names (query_of query) plan other_plan
+          rules_are here (planned_moved catalogue other alike query other_query same other_plan there))
+          (λ said other_said caused other_caused here there. here.2 ∙ ap status.Unsatisfiable (laws.clash (rules_of catalogue.rules) (query_of query)
+          here.0 there.0 rules_are here.1 (clash_moved catalogue other alike query other_query same there.0 there.1)) ∙ sym there.2)
+          (λ plan said caused here there. laws.apart (rules_of catalogue.rules) (views_of catalogue.fragments) query.names (query_of query) plan there.0
+          rules_are here (clash_moved catalogue other alike query other_query same there.0 there.1))
+          (λ plan said caused here there. laws.apart (rules_of catalogue.rules) (views_of catalogue.fragments) query.names (query_of query) plan there.0
+          rules_are (planned_moved catalogue other alike query other_query same plan here) there.1)
+
+      printed_agree : (plan other_plan : Plan) → IsSamePlan plan other_plan
+          → AgreeCalmly ◌≡◌ (prints_list catalogue query plan) (prints_list other other_query other_plan)
+      printed_agree plan other_plan plans = judges_agree _ _ _ _ _ _
+          (λ text other_text here there. texts_one laws catalogue query plan other_plan plans text other_text here
+          (listing_moved catalogue other alike query other_query same other_plan other_text there))
+          (λ said other_said caused other_caused here there. absurd here)
+          (λ value said caused here there. there) (λ value said caused here there. there)
+
+      listed_agree : AgreeCalmly ◌≡◌ (lists_query catalogue query) (lists_query other other_query)
+      listed_agree = then_agree _ IsSamePlan ◌≡◌ _ _ _ _ plans_agree (λ plan other_plan goes plans. printed_agree plan other_plan plans)
 
   list_agrees : (catalogue_name query_name : List ℕ) → AgreeCalmly ◌≡◌ (list_course (Some files) catalogue_name query_name)
       (list_course (Some files) catalogue_name query_name)
   list_agrees catalogue_name query_name =
       then_agree _ AreSame ◌≡◌ _ _ _ _ (opened_agree catalogue_name) (λ catalogue other goes alike.
-      then_agree _ (λ _ _. Unit {0}) ◌≡◌ _ _ _ _ (constraints_agree catalogue other alike) (λ _ _ goes1 _.
-      then_agree _ IsSameQuery ◌≡◌ _ _ _ _ (queries_agree catalogue other alike query_name)
-      (λ query other_query goes2 same. printed_agree catalogue other alike query other_query same)))
+      then_agree _ IsSameQuery ◌≡◌ _ _ _ _ (queries_agree catalogue other alike query_name) (λ query other_query goes1 same.
+      then_agree _ ◌≡◌ ◌≡◌ _ _ _ _ (listed_agree catalogue other alike query other_query same)
+      (λ text other_text goes2 texts. gives_agree _ (Done text) (Done other_text) (ap Done texts))))
 
   check_agrees : (name : List ℕ) → AgreeCalmly ◌≡◌ (check_course (Some files) name) (check_course (Some files) name)
   check_agrees name =

@@ -1,105 +1,138 @@
--- What `list` answers where the files say a catalogue without constraints and a query over it.
-use Rattle.std.proofs.Common.{◌≡◌, ℕ, Bool, List, [], Contains, Option, Some, None, inl, inr, sym, ap, subst, ◌∙◌}
-use Rattle.esto_term.specs.declared.term.Term.{Term}
+-- What `list` answers where the files say a catalogue and a query over it.
+use Rattle.std.proofs.Common.{◌≡◌, ℕ, Bool, List, [], ◌∷◌, All, Contains, Option, Some, None, inl, inr, refl, sym, ap, subst, ◌∙◌}
+use Rattle.std.specs.List.{AllZip}
+use Rattle.std.proofs.lemmas.List.Elements.{All-head, All-tail}
 use Rattle.esto_catalog.specs.Determined.{CataloguesAreSound, HaveOneCatalogue, HaveNoError}
 use Rattle.esto_catalog.specs.Reading.{IsCatalogueOf, IsCatalogueError}
 use Rattle.esto_catalog.specs.declared.catalogue.Catalogue.{Catalogue}
 use Rattle.esto_catalog.specs.declared.fault.CatalogueError.{CatalogueError}
-use Rattle.esto_constraint.specs.Constraints.{rules_of}
-use Rattle.esto_list.specs.Items.{sets_of}
+use Rattle.esto_backchase.specs.Listing.{ListedCoverRewritings}
+use Rattle.esto_chase_laws.specs.declared.clash.Clash.{Clash}
+use Rattle.esto_constraint.specs.Constraints.{rule_of, rules_of}
+use Rattle.esto_constraint.specs.declared.rule.Constraint.{Constraint}
+use Rattle.esto_list.specs.Items.{sets_of, totals_of}
+use Rattle.esto_list.specs.declared.listing.Listed.{Listed}
 use Rattle.esto_ports.specs.Files.{Files}
 use Rattle.esto_query.specs.Making.{query_of}
 use Rattle.esto_query.specs.Schemas.{arities_of}
+use Rattle.esto_query.specs.Soundness.{IsSound}
 use Rattle.esto_query.specs.declared.query.Query.{Query}
 use Rattle.esto_read.specs.Readings.{IsReading, IsFirstFault, HaveOneReading, HaveNoFault}
 use Rattle.esto_read.specs.declared.read.Form.TheVariants as form
 use Rattle.esto_read.specs.declared.read.NamedQuery.{NamedQuery}
 use Rattle.esto_read.specs.declared.words.Word.{Word}
-use Rattle.esto_semantics.specs.Containment.{IsSatisfiable}
-use Rattle.esto_semantics.specs.Instances.{IsUniversalFor, IsFinished}
-use Rattle.esto_semantics.specs.Listed.{AreListed, IsExecutableRewriting}
-use Rattle.esto_semantics.specs.Maps.{AreFlat}
+use Rattle.esto_semantics.specs.Access.{Patterns}
+use Rattle.esto_semantics.specs.Instances.{IsUniversalFor}
+use Rattle.esto_semantics.specs.Listed.{chosen, IsWeight}
+use Rattle.esto_semantics.specs.ListedLaws.{AreWeights, NoRewritingExists, PickWeighsLeastOfAll}
 use Rattle.esto_semantics.specs.Plans.{IsUniversalPlan}
 use Rattle.esto_semantics.specs.Queries.{ConjunctiveQuery}
-use Rattle.esto_semantics.specs.Rewritings.{MapsOnto}
-use Rattle.esto_semantics.specs.Rules.{Rule}
-use Rattle.esto_semantics.specs.Sets.{Covers}
-use Rattle.esto_semantics.specs.declared.fact.Fact.{Fact}
-use Rattle.esto_universal.specs.Stated.{IsStatedPlan}
-use Rattle.esto_universal.specs.StatedLaws.{StatedPlanIsUniversal}
-use Rattle.esto_views.specs.Fragments.{views_of, patterns_of}
-use Rattle.esto_views.specs.Plans.{fact_of, plan_query}
+use Rattle.esto_semantics.specs.Rewritings.{IsPlanFor}
+use Rattle.esto_semantics.specs.Rules.{Rule, AreRules, IsRule}
+use Rattle.esto_universal.specs.PlannedLaws.{PlannedIsSatisfiable, ClashedIsUnsatisfiable, PlanOfRunReceivesUnions, PlanOfRunIsUniversal}
+use Rattle.esto_views.specs.Fragments.{views_of, patterns_of, weights_of}
+use Rattle.esto_views.specs.Plans.{plan_query}
 use Rattle.esto_views.specs.Soundness.{IsSoundPlan}
 use Rattle.esto_views.specs.declared.plan.Plan.{Plan}
 use Rattle.esto_text.specs.declared.fault.TextFault.{TextFault}
 use Rattle.esto_course.specs.Course.{and_then, gives}
 use Rattle.esto_top.specs.Answers.{IsCaused}
-use Rattle.esto_top.specs.Headline.{FilesSay, PrintsExactly, IsExactList, OutcomesAreLists, ListsWhereTold}
-use Rattle.esto_top.specs.List.{has_no_constraint, prints_list, list_course}
-use Rattle.esto_top.specs.Listing.{IsListing}
+use Rattle.esto_top.specs.Headline.{FilesSay, HasAnswers, PrintsExactly, IsExactList, IsExactRefusal, SaidOfLists, OutcomesAreLists, OutcomesAreRefusals, HoldsOfLists}
+use Rattle.esto_top.specs.Line.{line_of}
+use Rattle.esto_top.specs.List.{plans_query, prints_list, lists_query, list_course}
+use Rattle.esto_top.specs.Listing.{IsClash, IsListing, IsPlanned}
 use Rattle.esto_top.specs.Opening.{status_of, reads_catalogue, opens_catalogue, reads_query, opens_query}
-use Rattle.esto_top.specs.Outcome.{Says, CompleteWhereTold, reply_status, reply_text}
+use Rattle.esto_top.specs.Outcome.{Outcome, Says, CompleteWhereTold, reply_status, reply_text}
 use Rattle.esto_top.specs.Grammar.{course_of}
 use Rattle.esto_top.specs.declared.ending.Reply.{Reply}
 use Rattle.esto_top.specs.declared.ending.Reply.TheVariants.{Done}
 use Rattle.esto_top.specs.declared.status.Status.{Status}
 use Rattle.esto_top.specs.declared.status.Status.TheVariants as status
-use Rattle.esto_top.proofs.AlikeLemmas.{same_reading, listing_moved}
-use Rattle.esto_top.proofs.LeadLemmas.{Leads, then-leads, gives-leads, judges-leads, fetches-leads, says-leads}
-use Rattle.esto_top.proofs.PlainLemmas.{no_rules}
-use Rattle.esto_term.proofs.ListLemmas.{Contains-map_from, Contains-nil}
-use Rattle.esto_semantics.specs.Access.{Patterns}
+use Rattle.esto_top.proofs.AlikeLemmas.{IsSameQuery, same_reading, planned_moved, clash_moved, listing_moved}
+use Rattle.esto_top.proofs.FormLemmas.{plan_form}
+use Rattle.esto_top.proofs.LeadLemmas.{Leads, then-leads, leads-more, gives-leads, judges-leads, fetches-leads, says-leads}
+use Rattle.esto_top.proofs.RuleLemmas.{are_rules}
 use Rattle.esto_top.specs.declared.opening.TheConstants.{CATALOGUE_LIMIT, QUERY_LIMIT}
 use Rattle.esto_top.proofs.Steps.{never_wanting}
 
+-- ---- the items
+
+-- what holds of each item holds of the sets and the weights, pair by pair
+items_zip : (P : List Bool → ℕ → Type 0) (items : List Listed) → All (λ (item : Listed). P item.set item.weight) items
+    → AllZip P (sets_of items) (totals_of items)
+items_zip P [] all = tt
+items_zip P (item ∷ items) all =
+    (All-head (λ (it : Listed). P it.set it.weight) item items all, items_zip P items (All-tail (λ (it : Listed). P it.set it.weight) item items all))
+
+no_item : (items : List Listed) → sets_of items ≡ [] → items ≡ []
+no_item [] none = refl
+no_item (item ∷ items) none = absurd (cc)
+
 -- ---- the text
 
--- the laws of plans and of listed sets
-pub record PlanLaws : Type 0 where
+-- the laws of runs, of their plans and of listed sets
+pub record ListingLaws : Type 0 where
+  pub queries : (query : Query) → IsSound query.head query.body query.names
+  pub rules : (constraint : Constraint) → IsRule (rule_of constraint)
+  pub satisfiable : PlannedIsSatisfiable
+  pub unsatisfiable : ClashedIsUnsatisfiable
   pub sound : (plan : Plan) → IsSoundPlan plan.atoms plan.head plan.names
   pub own : (query : ConjunctiveQuery) → IsUniversalFor [] query query
-  pub finished : (query : ConjunctiveQuery) → IsFinished [] query
-  pub satisfiable : (query : ConjunctiveQuery) → IsSatisfiable [] query
-  pub universal : StatedPlanIsUniversal
-  pub covers : (rules : List Rule) (views : List ConjunctiveQuery) (patterns : Patterns) (query plan other : ConjunctiveQuery)
-      (sets : List (List Bool)) → AreFlat plan.body → IsUniversalPlan rules views query plan → IsSatisfiable rules query
-      → AreListed rules views patterns query plan sets → IsExecutableRewriting rules views patterns query other
-      → (set : List Bool) × MapsOnto other plan set × Covers sets set
+  pub unions : PlanOfRunReceivesUnions
+  pub universal : PlanOfRunIsUniversal
+  pub covers : ListedCoverRewritings
+  pub none : NoRewritingExists
+  pub lightest : PickWeighsLeastOfAll
 
--- a plan's atoms are over constants and variables
-flat_atoms : (plan : Plan) → IsSoundPlan plan.atoms plan.head plan.names → AreFlat (plan_query plan).body
-flat_atoms plan sound term (fact, there, inside) =
-    let atom = Contains-map_from fact_of plan.atoms fact there in
-    elim (sound.named_atoms atom.0 atom.1 term (subst (λ (it : Fact Term). Contains it.terms term) (sym atom.2) inside)) [
-      | inl constant ↦ inl constant
-      | inr variable ↦ inr (variable.0, variable.1)
-    ]
+module _ (laws : ListingLaws) (catalogue : Catalogue) (query : Query) where
+  rules_are : AreRules (rules_of catalogue.rules)
+  rules_are = are_rules laws.rules catalogue.rules
 
-module _ (laws : PlanLaws) (sound : CataloguesAreSound) (catalogue : Catalogue) (query : Query) (no_constraint : catalogue.given ≡ 0) where
-  rules_are : rules_of catalogue.rules ≡ []
-  rules_are = no_rules catalogue.rules catalogue.given (sound catalogue).given_are no_constraint
+  -- a clash excludes answers
+  pub clash_excludes : (clash : Clash) → IsClash catalogue query clash → ¬ (HasAnswers catalogue query)
+  clash_excludes clash = laws.unsatisfiable (rules_of catalogue.rules) (query_of query) clash rules_are (laws.queries query).query
 
-  stated_universal : (plan : Plan) → IsStatedPlan query.names (views_of catalogue.fragments) (query_of query) plan
-      → IsUniversalPlan (rules_of catalogue.rules) (views_of catalogue.fragments) (query_of query) (plan_query plan)
-  stated_universal plan stated =
-      subst (λ rules. IsUniversalPlan rules (views_of catalogue.fragments) (query_of query) (plan_query plan)) (sym rules_are)
-      (laws.universal [] query.names (views_of catalogue.fragments) (query_of query) (query_of query) plan (λ rule inside. absurd (Contains-nil rule inside))
-      (laws.own (query_of query)) (laws.finished (query_of query)) stated)
+  module _ (plan : Plan) (planned : IsPlanned catalogue query plan) where
+    -- a plan tells that there are answers
+    pub plan_tells : HasAnswers catalogue query
+    plan_tells =
+        laws.satisfiable (rules_of catalogue.rules) (views_of catalogue.fragments) query.names (query_of query) plan rules_are (laws.queries query).query planned
 
-  pub prints-exactly : (text : List ℕ) → IsListing catalogue query text → PrintsExactly catalogue query text
-  prints-exactly text listing = record {
-    plan = listing.plan;
-    items = listing.items;
-    printed = listing.printed;
-    stated = listing.stated;
-    list = listing.list;
-    universal = stated_universal listing.plan listing.stated;
-    complete = λ other rewriting.
-        laws.covers (rules_of catalogue.rules) (views_of catalogue.fragments) (patterns_of catalogue.fragments) (query_of query)
-        (plan_query listing.plan) other (sets_of listing.items)
-        (flat_atoms listing.plan (laws.sound listing.plan)) (stated_universal listing.plan listing.stated)
-        (subst (λ rules. IsSatisfiable rules (query_of query)) (sym rules_are) (laws.satisfiable (query_of query))) listing.list.sets rewriting;
-  }
+    is_for : IsPlanFor (query_of query) (plan_query plan)
+    is_for =
+        plan_form (λ it. (laws.own it).maps) (rules_of catalogue.rules) (views_of catalogue.fragments) (query_of query) plan (laws.sound plan)
+        (laws.unions (rules_of catalogue.rules) (views_of catalogue.fragments) query.names (query_of query) plan rules_are (laws.queries query).query planned)
+        plan_tells
+
+    universal : IsUniversalPlan (rules_of catalogue.rules) (views_of catalogue.fragments) (query_of query) (plan_query plan)
+    universal =
+        laws.universal (rules_of catalogue.rules) (views_of catalogue.fragments) query.names (query_of query) plan rules_are (laws.queries query).query planned
+
+    module _ (text : List ℕ) (listing : IsListing catalogue query plan text) where
+      weights_are : AreWeights (weights_of catalogue.fragments) (plan_query plan) (sets_of listing.items) (totals_of listing.items)
+      weights_are = items_zip (λ set weight. IsWeight (weights_of catalogue.fragments) (chosen set (plan_query plan).body) weight) listing.items
+          listing.list.weights
+
+      pub prints-exactly : PrintsExactly catalogue query text
+      prints-exactly =
+          let none = laws.none (rules_of catalogue.rules) (views_of catalogue.fragments) (patterns_of catalogue.fragments) (query_of query)
+          (plan_query plan) (sets_of listing.items) is_for universal plan_tells listing.list.sets in
+          record {
+            plan = plan;
+            items = listing.items;
+            planned = planned;
+            list = listing.list;
+            printed = listing.printed;
+            universal = universal;
+            complete = λ other rewriting.
+                laws.covers (rules_of catalogue.rules) (views_of catalogue.fragments) (patterns_of catalogue.fragments) (query_of query) (plan_query plan)
+                other (sets_of listing.items) is_for.flat_body universal plan_tells listing.list.sets rewriting;
+            lightest = λ pick is_pick other weight rewriting weighs.
+                laws.lightest (rules_of catalogue.rules) (views_of catalogue.fragments) (patterns_of catalogue.fragments) (query_of query)
+                (plan_query plan) (sets_of listing.items) (weights_of catalogue.fragments) (totals_of listing.items) is_for.flat_body universal plan_tells
+                listing.list.sets weights_are pick is_pick other weight rewriting weighs;
+            empty = (λ empty. none.0 (ap sets_of empty), λ absent. no_item listing.items (none.1 absent));
+          }
 
 -- ---- the course
 
@@ -107,16 +140,31 @@ module _ (laws : PlanLaws) (sound : CataloguesAreSound) (catalogue : Catalogue) 
 abbrev IsQueryOf : Catalogue → List ℕ → Query → Type 0
 IsQueryOf catalogue bytes query = (named : NamedQuery) × IsReading form.Query catalogue.words (arities_of catalogue.schema) bytes named × (query ≡ named.query)
 
+-- what `list` makes of a query
+record HasText (catalogue : Catalogue) (query : Query) (text : List ℕ) : Type 0 where
+  plan : Plan
+  planned : IsPlanned catalogue query plan
+  listing : IsListing catalogue query plan text
+
 -- what a whole run of `list` read and printed
-record IsRun (catalogue_bytes query_bytes : List ℕ) (reply : Reply) : Type 0 where
+record HasPrinted (catalogue_bytes query_bytes : List ℕ) (reply : Reply) : Type 0 where
   catalogue : Catalogue
   is_catalogue : IsCatalogueOf catalogue_bytes catalogue
-  no_constraint : catalogue.given ≡ 0
   query : Query
   is_query : IsQueryOf catalogue query_bytes query
   text : List ℕ
-  listing : IsListing catalogue query text
+  has_text : HasText catalogue query text
   reply_is : reply ≡ Done text
+
+-- what `list` read, and why it refused the query
+record HasRefused (catalogue_bytes query_bytes : List ℕ) (refusal : Status) : Type 0 where
+  catalogue : Catalogue
+  is_catalogue : IsCatalogueOf catalogue_bytes catalogue
+  query : Query
+  is_query : IsQueryOf catalogue query_bytes query
+  clash : Clash
+  clashes : IsClash catalogue query clash
+  refusal_is : refusal ≡ status.Unsatisfiable clash
 
 -- a reading over words and a schema is one over the same
 reading-same : (words others : List Word) (schema other : List ℕ) (bytes : List ℕ) (named : NamedQuery) → words ≡ others → schema ≡ other
@@ -127,11 +175,19 @@ reading-same words others schema other bytes named words_are schema_is reading =
 module _ (sound : CataloguesAreSound) (one : HaveOneCatalogue) (apart : HaveNoError) (one_reading : HaveOneReading) (no_fault : HaveNoFault)
     (files : Files) (catalogue_name query_name : List ℕ) (catalogue : Catalogue) (query : Query)
     (say : FilesSay files catalogue_name query_name catalogue query) where
+  abbrev Printed : Reply → Type 0
+  Printed = HasPrinted say.catalogue_bytes say.query_bytes
+
+  abbrev Refused : Status → Type 0
+  Refused = HasRefused say.catalogue_bytes say.query_bytes
+
   -- the catalogue is fetched and read
-  catalogue_leads : Leads (opens_catalogue (Some files) catalogue_name) (IsCatalogueOf say.catalogue_bytes)
+  catalogue_leads : Leads (opens_catalogue (Some files) catalogue_name) (IsCatalogueOf say.catalogue_bytes) Refused
   catalogue_leads =
-      then-leads _ _ (λ bytes. bytes ≡ say.catalogue_bytes) _ (fetches-leads files catalogue_name CATALOGUE_LIMIT say.catalogue_bytes say.has_catalogue)
-      (λ bytes is. subst (λ it. Leads (reads_catalogue it) (IsCatalogueOf say.catalogue_bytes)) (sym is) (judges-leads _ _ no_error))
+      then-leads _ _ (λ bytes. bytes ≡ say.catalogue_bytes) _ _
+      (fetches-leads files catalogue_name CATALOGUE_LIMIT say.catalogue_bytes say.has_catalogue Refused)
+      (λ bytes is. subst (λ it. Leads (reads_catalogue it) (IsCatalogueOf say.catalogue_bytes) Refused) (sym is)
+      (judges-leads _ _ Refused (λ refusal caused stop. absurd (no_error refusal caused stop))))
     where
       no_error : (refusal : Status) → IsCaused ⊥ refusal → (cause : CatalogueError) × IsCatalogueError say.catalogue_bytes cause
           × (refusal ≡ status_of cause) → ⊥
@@ -140,12 +196,6 @@ module _ (sound : CataloguesAreSound) (one : HaveOneCatalogue) (apart : HaveNoEr
           never_wanting ⊥ refusal wanting caused
 
   module _ (other : Catalogue) (is_other : IsCatalogueOf say.catalogue_bytes other) where
-    given_none : other.given ≡ 0
-    given_none = sym (one say.catalogue_bytes catalogue other say.is_catalogue is_other).given ∙ say.no_constraint
-
-    constraint_leads : Leads (has_no_constraint other) (λ _. other.given ≡ 0)
-    constraint_leads = judges-leads _ _ (λ refusal caused stop. stop.0 given_none)
-
     reading : IsReading form.Query other.words (arities_of other.schema) say.query_bytes say.named
     reading =
         let same = one say.catalogue_bytes catalogue other say.is_catalogue is_other in
@@ -153,71 +203,125 @@ module _ (sound : CataloguesAreSound) (one : HaveOneCatalogue) (apart : HaveNoEr
         (ap arities_of same.schema) say.is_query
 
     -- the query is fetched and read
-    query_leads : Leads (opens_query (Some files) query_name other) (IsQueryOf other say.query_bytes)
+    query_leads : Leads (opens_query (Some files) query_name other) (IsQueryOf other say.query_bytes) Refused
     query_leads =
-        then-leads _ _ (λ bytes. bytes ≡ say.query_bytes) _ (fetches-leads files query_name QUERY_LIMIT say.query_bytes say.has_query)
-        (λ bytes is. subst (λ it. Leads (reads_query other it) (IsQueryOf other say.query_bytes)) (sym is) (judges-leads _ _ none))
+        then-leads _ _ (λ bytes. bytes ≡ say.query_bytes) _ _ (fetches-leads files query_name QUERY_LIMIT say.query_bytes say.has_query Refused)
+        (λ bytes is. subst (λ it. Leads (reads_query other it) (IsQueryOf other say.query_bytes) Refused) (sym is)
+        (judges-leads _ _ Refused (λ refusal caused stop. absurd (none refusal caused stop))))
       where
         none : (refusal : Status) → IsCaused ⊥ refusal
             → (fault : TextFault) × IsFirstFault form.Query other.words (arities_of other.schema) say.query_bytes fault × (refusal ≡ status.BadQuery fault) → ⊥
         none refusal caused (fault, first, is) =
             no_fault form.Query other.words (arities_of other.schema) say.query_bytes say.named fault (sound other).vocabulary reading first
 
-    -- the list is printed
-    text_leads : (read : Query) → IsQueryOf other say.query_bytes read
-        → Leads (and_then (prints_list other read) (λ text. gives (Done text))) (IsRun say.catalogue_bytes say.query_bytes)
-    text_leads read is_query =
-        then-leads _ _ (IsListing other read) _ (judges-leads _ _ (λ refusal caused stop. stop))
-        (λ text listing. record {
-          goes = λ reply goes. record {
+    module _ (read : Query) (is_query : IsQueryOf other say.query_bytes read) where
+      -- the query has a plan, or is refused
+      plan_leads : Leads (plans_query other read) (IsPlanned other read) Refused
+      plan_leads = judges-leads _ _ Refused (λ refusal caused stop. record {
+        catalogue = other;
+        is_catalogue = is_other;
+        query = read;
+        is_query = is_query;
+        clash = stop.0;
+        clashes = stop.1;
+        refusal_is = stop.2;
+      })
+
+      -- the list is printed
+      text_leads : Leads (lists_query other read) (HasText other read) Refused
+      text_leads = then-leads _ _ (IsPlanned other read) _ _ plan_leads (λ plan planned.
+          leads-more _ (IsListing other read plan) _ Refused (λ text listing. record { plan = plan; planned = planned; listing = listing })
+          (judges-leads _ _ Refused (λ refusal caused stop. absurd stop)))
+
+      reply_leads : (text : List ℕ) → HasText other read text → Leads (gives (Done text)) Printed Refused
+      reply_leads text has_text =
+          leads-more _ (λ reply. reply ≡ Done text) _ Refused (λ reply reply_is. record {
             catalogue = other;
             is_catalogue = is_other;
-            no_constraint = given_none;
             query = read;
             is_query = is_query;
             text = text;
-            listing = listing;
-            reply_is = (gives-leads (Done text)).goes reply goes;
-          };
-          stops = (gives-leads (Done text)).stops;
-        })
+            has_text = has_text;
+            reply_is = reply_is;
+          }) (gives-leads (Done text) Refused)
 
-  list_leads : Leads (list_course (Some files) catalogue_name query_name) (IsRun say.catalogue_bytes say.query_bytes)
+  list_leads : Leads (list_course (Some files) catalogue_name query_name) Printed Refused
   list_leads =
-      then-leads _ _ _ _ catalogue_leads (λ other is_other.
-      then-leads _ _ _ _ (constraint_leads other is_other) (λ _ none.
-      then-leads _ _ _ _ (query_leads other is_other) (λ read is_query. text_leads other is_other read is_query)))
+      then-leads _ _ _ _ _ catalogue_leads (λ other is_other.
+      then-leads _ _ _ _ _ (query_leads other is_other) (λ read is_query.
+      then-leads _ _ _ _ _ (text_leads other is_other read is_query) (λ text has_text. reply_leads other is_other read is_query text has_text)))
 
-  -- what was read and printed is the list of the query over the catalogue
-  run_lists : (reply : Reply) (run : IsRun say.catalogue_bytes say.query_bytes reply) → IsListing catalogue query run.text
-  run_lists reply run =
-      let alike = one say.catalogue_bytes catalogue run.catalogue say.is_catalogue run.is_catalogue in
-      let same = same_reading one_reading (sound run.catalogue).vocabulary say.query_bytes query run.query
-      (say.named, reading run.catalogue run.is_catalogue, say.query_is) run.is_query in
-      listing_moved catalogue run.catalogue alike query run.query same run.text run.listing
+  -- what was read is the catalogue and the query that the files say
+  same_as_read : (other : Catalogue) → IsCatalogueOf say.catalogue_bytes other → (read : Query) → IsQueryOf other say.query_bytes read → IsSameQuery query read
+  same_as_read other is_other read is_query =
+      same_reading one_reading (sound other).vocabulary say.query_bytes query read (say.named, reading other is_other, say.query_is) is_query
 
-  pub exact_list : PlanLaws → (said : Status) (text : List ℕ) → Says (list_course (Some files) catalogue_name query_name) ⊥ said text
-      → IsExactList catalogue query said text
-  exact_list laws said text says =
-      let whole = says-leads _ (IsRun say.catalogue_bytes say.query_bytes) said text list_leads says in
-      let run = whole.1 in (
-        whole.2 ∙ ap reply_status run.reply_is,
-        subst (PrintsExactly catalogue query) (sym (whole.3 ∙ ap reply_text run.reply_is))
-            (prints-exactly laws sound catalogue query say.no_constraint run.text (run_lists whole.0 run)),
-      )
+  module _ (laws : ListingLaws) where
+    -- where the list was printed, the query is satisfiable and the text is exact
+    printed_exact : (reply : Reply) → Printed reply → HasAnswers catalogue query × IsExactList catalogue query (reply_status reply) (reply_text reply)
+    printed_exact reply run =
+        let alike = one say.catalogue_bytes catalogue run.catalogue say.is_catalogue run.is_catalogue in
+        let same = same_as_read run.catalogue run.is_catalogue run.query run.is_query in
+        let plan = run.has_text.plan in
+        let planned = planned_moved catalogue run.catalogue alike query run.query same plan run.has_text.planned in
+        let listing = listing_moved catalogue run.catalogue alike query run.query same plan run.text run.has_text.listing in (
+          plan_tells laws catalogue query plan planned,
+          (
+            ap reply_status run.reply_is,
+            subst (PrintsExactly catalogue query) (sym (ap reply_text run.reply_is)) (prints-exactly laws catalogue query plan planned run.text listing),
+          ),
+        )
+
+    -- where the query was refused, it is unsatisfiable and the clash is exact
+    refused_exact : (said : Status) (text : List ℕ) → Refused said → text ≡ line_of said
+        → ¬ (HasAnswers catalogue query) × IsExactRefusal catalogue query said text
+    refused_exact said text run text_is =
+        let alike = one say.catalogue_bytes catalogue run.catalogue say.is_catalogue run.is_catalogue in
+        let same = same_as_read run.catalogue run.is_catalogue run.query run.is_query in
+        let clashes = clash_moved catalogue run.catalogue alike query run.query same run.clash run.clashes in
+        (clash_excludes laws catalogue query run.clash clashes, (run.clash, clashes, run.refusal_is, text_is ∙ ap line_of run.refusal_is))
+
+    module _ (said : Status) (text : List ℕ) (says : Says (list_course (Some files) catalogue_name query_name) ⊥ said text) where
+      -- a satisfiable query has its exact list
+      pub exact_list : HasAnswers catalogue query → IsExactList catalogue query said text
+      exact_list answers = elim (says-leads _ Printed Refused said text list_leads says) [
+        | inl whole ↦ (
+            let exact = (printed_exact whole.0 whole.1).1 in
+            (whole.2 ∙ exact.0, subst (PrintsExactly catalogue query) (sym whole.3) exact.1)
+          )
+        | inr refused ↦ absurd ((refused_exact said text refused.0 refused.1).0 answers)
+      ]
+
+      -- a query is refused, with its clash, exactly where it is unsatisfiable
+      pub exact_refusal : ¬ (HasAnswers catalogue query) → IsExactRefusal catalogue query said text
+      exact_refusal none = elim (says-leads _ Printed Refused said text list_leads says) [
+        | inl whole ↦ absurd (none (printed_exact whole.0 whole.1).0)
+        | inr refused ↦ (refused_exact said text refused.0 refused.1).1
+      ]
 
 -- ---- the outcomes
 
-pub outcomes_are_lists : CataloguesAreSound → HaveOneCatalogue → HaveNoError → HaveOneReading → HaveNoFault → PlanLaws → OutcomesAreLists
-outcomes_are_lists sound one apart one_reading no_fault laws words files catalogue_name query_name catalogue query said text asks say outcome =
-    exact_list sound one apart one_reading no_fault files catalogue_name query_name catalogue query say laws said text
-    (subst (λ it. Says (course_of it (Some files)) ⊥ said text) asks outcome)
+module _ (sound : CataloguesAreSound) (one : HaveOneCatalogue) (apart : HaveNoError) (one_reading : HaveOneReading) (no_fault : HaveNoFault)
+    (laws : ListingLaws) where
+  pub outcomes_are_lists : OutcomesAreLists
+  outcomes_are_lists words files catalogue_name query_name catalogue query said text asks say outcome =
+      exact_list sound one apart one_reading no_fault files catalogue_name query_name catalogue query say laws said text
+      (subst (λ it. Says (course_of it (Some files)) ⊥ said text) asks outcome)
 
-pub lists_told : OutcomesAreLists → (words : List (List ℕ)) (files : Option Files) (rose sink_rose : Type 0) (old new : Option (List ℕ)) (result : Status)
-    → CompleteWhereTold words files rose sink_rose old new result → ListsWhereTold words files rose sink_rose old new result
-lists_told lists words None rose sink_rose old new result complete = tt
-lists_told lists words (Some files) rose sink_rose old new result complete = λ calm sink_calm catalogue_name query_name catalogue query asks say.
+  pub outcomes_are_refusals : OutcomesAreRefusals
+  outcomes_are_refusals words files catalogue_name query_name catalogue query said text asks say outcome = (
+    exact_refusal sound one apart one_reading no_fault files catalogue_name query_name catalogue query say laws said text
+        (subst (λ it. Says (course_of it (Some files)) ⊥ said text) asks outcome),
+    λ refusal. clash_excludes laws catalogue query refusal.0 refusal.1,
+  )
+
+-- what is said of each outcome holds of what was put
+pub holds_of_lists : (Fact : Catalogue → Query → Status → List ℕ → Type 0) → SaidOfLists Fact
+    → (words : List (List ℕ)) (files : Option Files) (rose sink_rose : Type 0) (old new : Option (List ℕ)) (result : Status)
+    → CompleteWhereTold words files rose sink_rose old new result → HoldsOfLists Fact words files rose sink_rose old new result
+holds_of_lists Fact is_said words None rose sink_rose old new result complete = tt
+holds_of_lists Fact is_said words (Some files) rose sink_rose old new result complete = λ calm sink_calm catalogue_name query_name catalogue query asks say.
     elim (complete calm sink_calm) [
-      | inl whole ↦ inl (whole.0, lists words files catalogue_name query_name catalogue query result whole.0 asks say whole.1, whole.2)
+      | inl whole ↦ inl (whole.0, is_said words files catalogue_name query_name catalogue query result whole.0 asks say whole.1, whole.2)
       | inr wanting ↦ inr wanting
     ]

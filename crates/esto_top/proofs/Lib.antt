@@ -2,7 +2,8 @@ pub mod Steps
 pub mod Mediation
 pub mod CheckLemmas
 pub mod OpeningLemmas
-pub mod PlainLemmas
+pub mod RuleLemmas
+pub mod FormLemmas
 pub mod LeadLemmas
 pub mod OneListLemmas
 pub mod AlikeLemmas

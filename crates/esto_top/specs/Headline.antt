@@ -1,11 +1,12 @@
--- What `list` answers where nothing is wrong.
-use Rattle.std.specs.Prelude.{◌≡◌, ◌⊎◌, ℕ, ◌≤◌, Bool, List, [], ◌∷◌, length, Option, Some, None, codes}
+-- What `list` answers where nothing is wrong with the files.
+use Rattle.std.specs.Prelude.{◌≡◌, ◌⊎◌, ◌↔◌, ℕ, ◌≤◌, Bool, List, [], ◌∷◌, length, slice_index_or, Option, Some, None, codes}
 use Rattle.std.specs.FinMap.{get}
 use Rattle.std.specs.Io.KnownBytes.{Appends, Keeps}
 use Rattle.esto_catalog.specs.Reading.{IsCatalogueOf}
 use Rattle.esto_catalog.specs.declared.catalogue.Catalogue.{Catalogue}
+use Rattle.esto_chase_laws.specs.declared.clash.Clash.{Clash}
 use Rattle.esto_constraint.specs.Constraints.{rules_of}
-use Rattle.esto_list.specs.Items.{sets_of}
+use Rattle.esto_list.specs.Items.{sets_of, totals_of}
 use Rattle.esto_list.specs.Text.{IsListText}
 use Rattle.esto_list.specs.declared.listing.Listed.{Listed}
 use Rattle.esto_ports.specs.Files.{Files}
@@ -15,76 +16,128 @@ use Rattle.esto_query.specs.declared.query.Query.{Query}
 use Rattle.esto_read.specs.Readings.{IsReading}
 use Rattle.esto_read.specs.declared.read.Form.TheVariants as form
 use Rattle.esto_read.specs.declared.read.NamedQuery.{NamedQuery}
-use Rattle.esto_semantics.specs.Listed.{IsExecutableRewriting}
+use Rattle.esto_semantics.specs.Containment.{IsSatisfiable}
+use Rattle.esto_semantics.specs.Listed.{IsExecutableRewriting, IsPick, IsWeight}
 use Rattle.esto_semantics.specs.Plans.{IsUniversalPlan}
 use Rattle.esto_semantics.specs.Queries.{ConjunctiveQuery}
 use Rattle.esto_semantics.specs.Rewritings.{MapsOnto}
 use Rattle.esto_semantics.specs.Sets.{Covers}
-use Rattle.esto_universal.specs.Stated.{IsStatedPlan}
-use Rattle.esto_views.specs.Fragments.{views_of, patterns_of}
+use Rattle.esto_views.specs.Fragments.{views_of, patterns_of, weights_of}
 use Rattle.esto_views.specs.Plans.{plan_query}
 use Rattle.esto_views.specs.declared.plan.Plan.{Plan}
 use Rattle.esto_top.specs.Fetch.{without_mark}
-use Rattle.esto_top.specs.Listing.{IsListOf}
+use Rattle.esto_top.specs.Line.{line_of}
+use Rattle.esto_top.specs.Listing.{IsClash, IsListOf, IsPlanned}
 use Rattle.esto_top.specs.Outcome.{Outcome}
 use Rattle.esto_top.specs.declared.status.Status.{Status}
 use Rattle.esto_top.specs.declared.status.Status.TheVariants as status
 use Rattle.esto_top.specs.declared.opening.TheConstants.{CATALOGUE_LIMIT, QUERY_LIMIT}
 
+-- ---- the files
+
 -- The file of that name has at most so many bytes, and these after one leading mark.
 abbrev pub HasWithin : Files → List ℕ → ℕ → List ℕ → Type 0
 HasWithin files name limit bytes = (file : List ℕ) × (get files name ≡ Some file) × (length file ≤ limit) × (bytes ≡ without_mark file)
 
--- The files say this catalogue, which has no constraint, and this query over it.
+-- The files say this catalogue, and this query over it.
 pub record FilesSay (files : Files) (catalogue_name query_name : List ℕ) (catalogue : Catalogue) (query : Query) : Type 0 where
   pub catalogue_bytes : List ℕ
   pub has_catalogue : HasWithin files catalogue_name CATALOGUE_LIMIT catalogue_bytes
   pub is_catalogue : IsCatalogueOf catalogue_bytes catalogue
-  pub no_constraint : catalogue.given ≡ 0
   pub query_bytes : List ℕ
   pub has_query : HasWithin files query_name QUERY_LIMIT query_bytes
   pub named : NamedQuery
   pub is_query : IsReading form.Query catalogue.words (arities_of catalogue.schema) query_bytes named
   pub query_is : query ≡ named.query
 
+-- ---- satisfiable queries
+
+-- Some database that meets the catalogue's rules gives the query an answer.
+abbrev pub HasAnswers : Catalogue → Query → Type 0
+HasAnswers catalogue query = IsSatisfiable (rules_of catalogue.rules) (query_of query)
+
+-- The query over fragments is an executable rewriting of the query under the catalogue's rules.
+abbrev pub Rewrites : Catalogue → Query → ConjunctiveQuery → Type 0
+Rewrites catalogue query other =
+    IsExecutableRewriting (rules_of catalogue.rules) (views_of catalogue.fragments) (patterns_of catalogue.fragments) (query_of query) other
+
 -- Every executable rewriting of the query, with whatever variables and of whatever size, maps onto a set of the plan's atoms that has a printed set within it.
 abbrev pub CoversRewritings : Catalogue → Query → Plan → List Listed → Type 0
 CoversRewritings catalogue query plan items =
-    (other : ConjunctiveQuery)
-    → IsExecutableRewriting (rules_of catalogue.rules) (views_of catalogue.fragments) (patterns_of catalogue.fragments) (query_of query) other
+    (other : ConjunctiveQuery) → Rewrites catalogue query other
     → (set : List Bool) × MapsOnto other (plan_query plan) set × Covers (sets_of items) set
 
--- The text is that of the plan that is stated for the query, and of its list; the plan is universal, and its listed sets cover the executable rewritings.
+-- No executable rewriting of the query, with whatever variables and of whatever size, weighs less than the pick.
+abbrev pub PicksLightest : Catalogue → Query → List Listed → Type 0
+PicksLightest catalogue query items =
+    (pick : ℕ) → IsPick (totals_of items) pick → (other : ConjunctiveQuery) (weight : ℕ) → Rewrites catalogue query other
+    → IsWeight (weights_of catalogue.fragments) other.body weight → slice_index_or (totals_of items) pick 0 ≤ weight
+
+-- No set is printed exactly where the query has no executable rewriting.
+abbrev pub IsEmptyWithoutRewriting : Catalogue → Query → List Listed → Type 0
+IsEmptyWithoutRewriting catalogue query items = (items ≡ []) ↔ ((other : ConjunctiveQuery) → ¬ (Rewrites catalogue query other))
+
+-- The text is that of the plan of the query's run, and of its list. The plan is universal; its listed sets cover the executable rewritings, of which none
+-- weighs less than the pick, and there are none where no set is listed.
 pub record PrintsExactly (catalogue : Catalogue) (query : Query) (text : List ℕ) : Type 0 where
   pub plan : Plan
   pub items : List Listed
-  pub stated : IsStatedPlan query.names (views_of catalogue.fragments) (query_of query) plan
+  pub planned : IsPlanned catalogue query plan
   pub list : IsListOf catalogue query plan items
   pub printed : IsListText catalogue.fragments plan items text
   pub universal : IsUniversalPlan (rules_of catalogue.rules) (views_of catalogue.fragments) (query_of query) (plan_query plan)
   pub complete : CoversRewritings catalogue query plan items
+  pub lightest : PicksLightest catalogue query items
+  pub empty : IsEmptyWithoutRewriting catalogue query items
 
 -- The status is Done, and the text prints exactly the list of the query over the catalogue.
 abbrev pub IsExactList : Catalogue → Query → Status → List ℕ → Type 0
 IsExactList catalogue query said text = (said ≡ status.Done) × PrintsExactly catalogue query text
 
--- Each outcome of `list C Q` is the list of the query over the catalogue that the files say, where it has no constraint.
-abbrev pub OutcomesAreLists : Type 0
-OutcomesAreLists =
+-- ---- queries that are not satisfiable
+
+-- The status tells that the query is unsatisfiable, with the clash at which its run ends, and the text is its line.
+abbrev pub IsExactRefusal : Catalogue → Query → Status → List ℕ → Type 0
+IsExactRefusal catalogue query said text =
+    (clash : Clash) × IsClash catalogue query clash × (said ≡ status.Unsatisfiable clash) × (text ≡ line_of (status.Unsatisfiable clash))
+
+-- ---- outcomes
+
+-- What is said of each outcome of `list C Q`, where the files say a catalogue and a query over it.
+abbrev pub SaidOfLists : (Catalogue → Query → Status → List ℕ → Type 0) → Type 0
+SaidOfLists Fact =
     (words : List (List ℕ)) (files : Files) (catalogue_name query_name : List ℕ) (catalogue : Catalogue) (query : Query) (said : Status) (text : List ℕ)
     → words ≡ codes "list" ∷ catalogue_name ∷ query_name ∷ [] → FilesSay files catalogue_name query_name catalogue query → Outcome words files said text
-    → IsExactList catalogue query said text
+    → Fact catalogue query said text
 
--- Such a text was put; or memory was refused, and nothing was put.
-abbrev pub ListsExactly : Catalogue → Query → Option (List ℕ) → Option (List ℕ) → Status → Type 0
-ListsExactly catalogue query old new result =
-    ((text : List ℕ) × IsExactList catalogue query result text × Appends old new text) ⊎ ((result ≡ status.OutOfMemory) × Keeps old new)
+-- It is the list of the query over the catalogue, where the query is satisfiable.
+abbrev pub OutcomesAreLists : Type 0
+OutcomesAreLists = SaidOfLists (λ catalogue query said text. HasAnswers catalogue query → IsExactList catalogue query said text)
 
--- The headline: where the words are `list C Q`, the files are told and say a catalogue without constraints and a query over it, and neither count rose,
--- `list` prints exactly the list of that query over that catalogue.
-abbrev pub ListsWhereTold : List (List ℕ) → Option Files → Type 0 → Type 0 → Option (List ℕ) → Option (List ℕ) → Status → Type 0
-ListsWhereTold words None rose sink_rose old new result = Unit {0}
-ListsWhereTold words (Some files) rose sink_rose old new result =
+-- It is the refusal of the query exactly where the query is unsatisfiable.
+abbrev pub OutcomesAreRefusals : Type 0
+OutcomesAreRefusals = SaidOfLists (λ catalogue query said text. ¬ (HasAnswers catalogue query) ↔ IsExactRefusal catalogue query said text)
+
+-- The fact holds of the status and of a text that was put; or memory was refused, and nothing was put.
+abbrev pub HoldsOfPut : (Status → List ℕ → Type 0) → Option (List ℕ) → Option (List ℕ) → Status → Type 0
+HoldsOfPut Fact old new result = ((text : List ℕ) × Fact result text × Appends old new text) ⊎ ((result ≡ status.OutOfMemory) × Keeps old new)
+
+-- It does where the words are `list C Q`, the files are told and say a catalogue and a query over it, and neither count rose.
+abbrev pub HoldsOfLists : (Catalogue → Query → Status → List ℕ → Type 0) → List (List ℕ) → Option Files → Type 0 → Type 0 → Option (List ℕ) → Option (List ℕ)
+    → Status → Type 0
+HoldsOfLists Fact words None rose sink_rose old new result = Unit {0}
+HoldsOfLists Fact words (Some files) rose sink_rose old new result =
     ¬ rose → ¬ sink_rose → (catalogue_name query_name : List ℕ) (catalogue : Catalogue) (query : Query)
     → words ≡ codes "list" ∷ catalogue_name ∷ query_name ∷ [] → FilesSay files catalogue_name query_name catalogue query
-    → ListsExactly catalogue query old new result
+    → HoldsOfPut (Fact catalogue query) old new result
+
+-- The headline: there `list` prints exactly the list of the query over the catalogue, where the query is satisfiable.
+abbrev pub ListsWhereTold : List (List ℕ) → Option Files → Type 0 → Type 0 → Option (List ℕ) → Option (List ℕ) → Status → Type 0
+ListsWhereTold words files rose sink_rose old new result =
+    HoldsOfLists (λ catalogue query said text. HasAnswers catalogue query → IsExactList catalogue query said text) words files rose sink_rose old new result
+
+-- There `list` refuses the query, with the clash of its run, exactly where the query is unsatisfiable.
+abbrev pub RefusesWhereTold : List (List ℕ) → Option Files → Type 0 → Type 0 → Option (List ℕ) → Option (List ℕ) → Status → Type 0
+RefusesWhereTold words files rose sink_rose old new result =
+    HoldsOfLists (λ catalogue query said text. ¬ (HasAnswers catalogue query) ↔ IsExactRefusal catalogue query said text) words files rose sink_rose old new
+    result

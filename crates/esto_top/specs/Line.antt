@@ -1,5 +1,5 @@
 -- The code and the line of a status.
-use Rattle.std.specs.Prelude.{ℕ, ◌-◌, List, [], ◌∷◌, ◌++◌, take, length, Option, Some, None, codes}
+use Rattle.std.specs.Prelude.{ℕ, ◌+◌, ◌-◌, List, [], ◌∷◌, ◌++◌, take, length, Option, Some, None, codes}
 use Rattle.std.specs.Fmt.{decimal}
 use Rattle.std.specs.List.{flat_map}
 use Rattle.csv.specs.Writing.{default_writer, row_text}
@@ -7,11 +7,14 @@ use Rattle.esto_catalog.specs.declared.fault.CatalogueKind.{CatalogueKind}
 use Rattle.esto_catalog.specs.declared.fault.CatalogueKind.TheVariants as catalogue
 use Rattle.esto_catalog.specs.declared.fault.Section.{Section}
 use Rattle.esto_catalog.specs.declared.fault.Section.TheVariants.{Top, Dataset, Fragment, Constraint}
+use Rattle.esto_chase_laws.specs.declared.clash.Clash.{Clash}
+use Rattle.esto_chase_laws.specs.declared.clash.Clash.TheVariants.{Equal, Denied}
+use Rattle.esto_list.specs.Text.{constant_text}
 use Rattle.esto_text.specs.declared.fault.TextFault.{TextFault}
 use Rattle.esto_text.specs.declared.fault.TextKind.{TextKind}
 use Rattle.esto_text.specs.declared.fault.TextKind.TheVariants.{Utf8, Syntax, Unknown, Arity, TooLarge, SameVariable, Unsafe}
 use Rattle.esto_top.specs.declared.status.Status.{Status}
-use Rattle.esto_top.specs.declared.status.Status.TheVariants.{Done, OutOfMemory, Usage, ReadFault, WriteFault, TooLong, BadCatalogue, BadQuery, NotAcyclic, NotBuilt}
+use Rattle.esto_top.specs.declared.status.Status.TheVariants.{Done, OutOfMemory, Usage, ReadFault, WriteFault, TooLong, BadCatalogue, BadQuery, NotAcyclic, Unsatisfiable, NotBuilt}
 
 -- A cell as the record of this one cell has it, without the line feed that ends the record. The empty cell is two quotes.
 abbrev pub cell_of : List ℕ → List ℕ
@@ -28,6 +31,7 @@ code_of (TooLong name limit) = 5
 code_of (BadCatalogue fault) = 6
 code_of (BadQuery fault) = 7
 code_of (NotAcyclic cycle) = 8
+code_of (Unsatisfiable clash) = 10
 code_of NotBuilt = 18
 
 -- The word that names a kind of fault.
@@ -77,6 +81,11 @@ abbrev pub way_text : List (List ℕ) → List ℕ
 way_text [] = []
 way_text (first ∷ rest) = first ++ flat_map (λ name. codes " -> " ++ name) (rest ++ first ∷ [])
 
+-- What clashes: two constants, the lesser first, or a denial by its number among all rules, counted from 1.
+abbrev pub clash_text : Clash → List ℕ
+clash_text (Equal one other) = constant_text one ++ (codes " " ++ constant_text other)
+clash_text (Denied rule) = codes "constraint " ++ decimal (rule + 1)
+
 -- The line that names a status, of which Done and OutOfMemory have none.
 abbrev pub line_of : Status → List ℕ
 line_of Done = []
@@ -90,4 +99,5 @@ line_of (BadCatalogue fault) =
     ++ cell_of fault.key ++ within_text fault.text ++ codes "\n"
 line_of (BadQuery fault) = codes "BadQuery " ++ (decimal fault.offset ++ (codes " " ++ (kind_word fault.kind ++ codes "\n")))
 line_of (NotAcyclic cycle) = codes "NotAcyclic " ++ way_text cycle.names ++ codes "\n"
+line_of (Unsatisfiable clash) = codes "Unsatisfiable " ++ clash_text clash ++ codes "\n"
 line_of NotBuilt = codes "NotBuilt\n"

@@ -1,30 +1,40 @@
 //! Laws of outcomes.
 ghost use Rattle.esto_top.specs.Determined.{OutcomesAreDetermined};
-ghost use Rattle.esto_top.specs.Headline.{OutcomesAreLists};
+ghost use Rattle.esto_top.specs.Headline.{OutcomesAreLists, OutcomesAreRefusals};
 
 use esto_backchase::listed_sets_cover_rewritings;
 use esto_catalog::{catalogues_are_determined, catalogues_are_sound};
+use esto_constraint::rules_are_sound;
+use esto_query::queries_are_sound;
 use esto_read::readings_are_determined;
 use esto_semantics::{
     listed_sets_are_minimal, picks_exist, queries_are_their_own_instances, stated_orders_exist,
-    universal_instances_satisfy_queries, weights_exist,
+    weights_exist,
 };
-use esto_universal::{stated_plans_are_one, stated_plans_are_universal};
+use esto_universal::{
+    plans_of_runs_are_universal, plans_tell_satisfiable_queries, runs_have_one_outcome,
+};
 use esto_views::plans_are_sound;
 
-/// A law: where the files say a catalogue without constraints and a query over it, each outcome of `list` prints a
-/// universal plan of the query and exactly its listed sets, and every executable rewriting maps onto a superset of one.
+/// A law: where the files say a catalogue and a query over it, each outcome of `list` prints a universal plan of the query
+/// and exactly its listed sets, which every executable rewriting maps onto a superset of, or refuses the query. It prints
+/// where the query is satisfiable, and refuses exactly where it is not.
 pub(crate) fn lists_are_exact()
-    ensures { OutcomesAreLists }
+    ensures lists { OutcomesAreLists }
+    ensures refusals { OutcomesAreRefusals }
 {
     catalogues_are_sound();
     catalogues_are_determined();
+    queries_are_sound();
+    rules_are_sound();
     readings_are_determined();
+    plans_tell_satisfiable_queries();
+    plans_of_runs_are_universal();
     plans_are_sound();
     queries_are_their_own_instances();
-    universal_instances_satisfy_queries();
-    stated_plans_are_universal();
     listed_sets_cover_rewritings();
+    listed_sets_are_minimal();
+    picks_exist();
 }
 
 /// A law: the same words over the same files have at most one outcome.
@@ -33,8 +43,9 @@ pub fn outcomes_are_determined()
 {
     catalogues_are_sound();
     catalogues_are_determined();
+    rules_are_sound();
     readings_are_determined();
-    stated_plans_are_one();
+    runs_have_one_outcome();
     listed_sets_are_minimal();
     stated_orders_exist();
     weights_exist();

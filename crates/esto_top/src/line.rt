@@ -1,13 +1,17 @@
 //! The line that names a status.
-ghost use Rattle.std.specs.Prelude.{◌≡◌, ◌++◌, IfOk, OnOk, codes};
+ghost use Rattle.std.specs.Prelude.{◌≡◌, ◌+◌, ◌++◌, IfOk, OnOk, codes};
+ghost use Rattle.std.specs.Fmt.{decimal};
 ghost use Rattle.std.specs.List.{flat_map};
-ghost use Rattle.esto_top.specs.Line.{catalogue_word, kind_word, line_of, section_word, way_text, within_text};
+ghost use Rattle.esto_top.specs.Line.{catalogue_word, clash_text, kind_word, line_of, section_word, way_text, within_text};
+ghost use Rattle.esto_list.specs.Text.{constant_text};
 ghost use Rattle.esto_top.specs.declared.status.Status.TheVariants as status;
 
 use crate::cell::cell_text;
 use crate::status::Status;
 use esto_acyclic::Cycle;
 use esto_catalog::{CatalogueFault, CatalogueKind, Section};
+use esto_chase::Clash;
+use esto_list::put_constant;
 use esto_term::{Bytes, OutOfMemory, Text};
 use esto_text::{TextFault, TextKind};
 use std::alloc::Global;
@@ -173,9 +177,49 @@ fn not_acyclic_line(alloc: Global, cycle: &Cycle) -> Result<Bytes, OutOfMemory>
     Ok(line)
 }
 
+// Puts two constants at the end.
+fn put_constants(line: &mut Bytes, one: &Text, other: &Text) -> Result<(), OutOfMemory>
+    ensures { OnOk result (line.new ≡ line.old
+        ++ (constant_text one.now ++ (codes " " ++ constant_text other.now))) }
+{
+    put_constant(line, one)?;
+    line.append(b" ")?;
+    put_constant(line, other)
+}
+
+// Puts the number of a denial at the end, counted from 1.
+fn put_denial(alloc: Global, line: &mut Bytes, rule: usize) -> Result<(), OutOfMemory>
+    ensures { OnOk result (line.new ≡ line.old ++ (codes "constraint " ++ decimal (rule + 1))) }
+{
+    let number = rule as u128 + 1;
+    let text = format!(in alloc; "constraint {number}")?;
+    line.append(text.as_str().as_bytes())
+}
+
+// Puts what clashes at the end.
+fn put_clash(alloc: Global, line: &mut Bytes, clash: &Clash) -> Result<(), OutOfMemory>
+    ensures { OnOk result (line.new ≡ line.old ++ clash_text clash.now) }
+{
+    match clash {
+        Clash::Equal(one, other) => put_constants(line, one, other),
+        Clash::Denied(rule) => put_denial(alloc, line, *rule),
+    }
+}
+
+// The line of a clash.
+fn unsatisfiable_line(alloc: Global, clash: &Clash) -> Result<Bytes, OutOfMemory>
+    ensures { IfOk result (λ line. line ≡ line_of (status.Unsatisfiable clash.now)) }
+{
+    let mut line = Bytes::from_slice(alloc, b"Unsatisfiable ")?;
+    put_clash(alloc, &mut line, clash)?;
+    line.append(b"\n")?;
+    Ok(line)
+}
+
 /// The line of a status, ended by a line feed. Done and OutOfMemory have none. The name of a file and the key of a
 /// catalogue are written as one CSV cell. A cycle is written as the names of its relations with arrows between them,
-/// back to the first.
+/// back to the first. Of a clash two constants are written as a list writes them, the lesser first, and a denial as
+/// `constraint` and its number among all rules, counted from 1.
 pub fn status_line(alloc: Global, status: &Status) -> Result<Bytes, OutOfMemory>
     ensures { IfOk result (λ line. line ≡ line_of status.now) }
 {
@@ -189,6 +233,7 @@ pub fn status_line(alloc: Global, status: &Status) -> Result<Bytes, OutOfMemory>
         Status::BadCatalogue(fault) => bad_catalogue_line(alloc, fault),
         Status::BadQuery(fault) => bad_query_line(alloc, *fault),
         Status::NotAcyclic(cycle) => not_acyclic_line(alloc, cycle),
+        Status::Unsatisfiable(clash) => unsatisfiable_line(alloc, clash),
         Status::NotBuilt => Bytes::from_slice(alloc, b"NotBuilt\n"),
     }
 }

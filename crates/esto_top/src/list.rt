@@ -1,84 +1,103 @@
 //! The command `list`.
-ghost use Rattle.std.specs.Prelude.{◌≡◌, ◌≤◌, [], IfOk, OnOk};
+ghost use Rattle.std.specs.Prelude.{◌≡◌, ◌≤◌, IfOk};
 ghost use Rattle.esto_ports.specs.Faults.{Rises};
-ghost use Rattle.esto_query.specs.Making.{query_of};
-ghost use Rattle.esto_semantics.specs.Plans.{IsUniversalPlan};
-ghost use Rattle.esto_universal.specs.Stated.{IsStatedPlan};
-ghost use Rattle.esto_views.specs.Fragments.{views_of};
-ghost use Rattle.esto_views.specs.Plans.{plan_query, IsPlanOver};
 ghost use Rattle.esto_top.specs.Answers.{Answers};
-ghost use Rattle.esto_top.specs.List.{has_no_constraint, prints_list, list_course};
-ghost use Rattle.esto_top.specs.Listing.{IsListOf, IsListing};
+ghost use Rattle.esto_top.specs.List.{plans_query, prints_list, lists_query, list_course};
+ghost use Rattle.esto_top.specs.Listing.{IsListOf, IsListing, IsPlanned};
 
 use crate::ending::Reply;
 use crate::opening::{open_catalogue, open_query};
 use crate::status::Status;
+use either::{Left, Right};
 use esto_backchase::minimal_sets_plain;
 use esto_catalog::{Catalogue, catalogues_are_sound};
+use esto_constraint::rules_are_sound;
 use esto_list::Listing;
 use esto_ports::Shelf;
-use esto_query::Query;
+use esto_query::{Query, queries_are_sound};
+use esto_semantics::queries_are_their_own_instances;
 use esto_term::{Bytes, OutOfMemory, Text};
-use esto_universal::{stated_plans_have_distinct_atoms, universal};
-use esto_views::Plan;
+use esto_universal::{
+    plans_of_runs_are_over_fragments, plans_of_runs_are_universal, plans_tell_satisfiable_queries,
+    universal,
+};
+use esto_views::{Plan, plans_are_sound};
 use std::alloc::Global;
 
-// Refuses a catalogue that has a constraint.
-fn check_constraints(catalogue: &Catalogue) -> Result<(), Status>
-    ensures course { Answers (has_no_constraint catalogue.now) ⊥ result }
-    ensures none { OnOk result (catalogue.now.given ≡ 0) }
+// The plan of the query's run, or the status of the clash at which the run ends.
+fn plan_of(alloc: Global, query: &Query, catalogue: &Catalogue) -> Result<Plan, Status>
+    ensures course { Answers (plans_query catalogue.now query.now) ⊥ result }
+    ensures planned { IfOk result (IsPlanned catalogue.now query.now) }
 {
-    if catalogue.given == 0 {
-        Ok(())
-    } else {
-        Err(Status::NotBuilt)
+    match universal(alloc, query, catalogue)? {
+        Left(plan) => Ok(plan),
+        Right(clash) => Err(Status::Unsatisfiable(clash)),
     }
 }
 
-// The list of a plan for the query.
+// The list of the plan.
 fn listing_of(
     alloc: Global,
     plan: &Plan,
     query: &Query,
     catalogue: &Catalogue,
 ) -> Result<Listing, OutOfMemory>
-    requires no_constraint { catalogue.now.given ≡ 0 }
-    requires stated { IsStatedPlan query.now.names (views_of catalogue.now.fragments)
-        (query_of query.now) plan.now }
-    requires over { IsPlanOver plan.now catalogue.now.fragments }
-    requires universal { IsUniversalPlan [] (views_of catalogue.now.fragments) (query_of query.now)
-        (plan_query plan.now) }
+    requires { IsPlanned catalogue.now query.now plan.now }
     ensures { IfOk result (IsListOf catalogue.now query.now plan.now) }
 {
     catalogues_are_sound();
-    stated_plans_have_distinct_atoms();
-    let sets = minimal_sets_plain(alloc, plan, query, &catalogue.fragments)?;
+    queries_are_sound();
+    rules_are_sound();
+    plans_of_runs_are_over_fragments();
+    plans_of_runs_are_universal();
+    plans_tell_satisfiable_queries();
+    plans_are_sound();
+    queries_are_their_own_instances();
+    let sets = minimal_sets_plain(alloc, plan, query, catalogue)?;
     let listing = Listing::of(alloc, &sets, plan, &catalogue.fragments)?;
     Ok(listing)
 }
 
-// The text of the list for the query.
-fn list_text(alloc: Global, query: &Query, catalogue: &Catalogue) -> Result<Bytes, OutOfMemory>
-    requires { catalogue.now.given ≡ 0 }
-    ensures { IfOk result (IsListing catalogue.now query.now) }
+// The text of the plan and of its list.
+fn list_text(
+    alloc: Global,
+    plan: &Plan,
+    query: &Query,
+    catalogue: &Catalogue,
+) -> Result<Bytes, OutOfMemory>
+    requires { IsPlanned catalogue.now query.now plan.now }
+    ensures { IfOk result (IsListing catalogue.now query.now plan.now) }
 {
-    catalogues_are_sound();
-    let plan = universal(alloc, query, &catalogue.fragments)?;
-    let listing = listing_of(alloc, &plan, query, catalogue)?;
-    let text = listing.text(alloc, &plan, &catalogue.fragments)?;
+    let listing = listing_of(alloc, plan, query, catalogue)?;
+    let text = listing.text(alloc, plan, &catalogue.fragments)?;
     Ok(text)
 }
 
-// What the command prints.
-fn text_of(alloc: Global, query: &Query, catalogue: &Catalogue) -> Result<Bytes, Status>
-    requires { catalogue.now.given ≡ 0 }
-    ensures { Answers (prints_list catalogue.now query.now) ⊥ result }
+// The text that the command prints of a plan.
+fn text_of(
+    alloc: Global,
+    plan: &Plan,
+    query: &Query,
+    catalogue: &Catalogue,
+) -> Result<Bytes, Status>
+    requires { IsPlanned catalogue.now query.now plan.now }
+    ensures { Answers (prints_list catalogue.now query.now plan.now) ⊥ result }
 {
-    let text = list_text(alloc, query, catalogue)?;
+    let text = list_text(alloc, plan, query, catalogue)?;
     Ok(text)
 }
 
-/// Fetches and reads the catalogue, then the query, and prints the plan and the list.
+// What the command prints, or the status of the clash at which the query's run ends.
+#[tactic(auto, using(crate::proofs::Steps::steps))]
+fn listed(alloc: Global, query: &Query, catalogue: &Catalogue) -> Result<Bytes, Status>
+    ensures { Answers (lists_query catalogue.now query.now) ⊥ result }
+{
+    let plan = plan_of(alloc, query, catalogue)?;
+    let text = text_of(alloc, &plan, query, catalogue)?;
+    Ok(text)
+}
+
+/// Fetches and reads the catalogue, then the query, makes the query's plan, and prints the plan and the list.
 #[tactic(auto, using(crate::proofs::Steps::steps))]
 pub fn list<S: Shelf>(
     alloc: Global,
@@ -92,8 +111,7 @@ pub fn list<S: Shelf>(
     ensures later { S.faults shelf.old ≤ S.faults shelf.new }
 {
     let catalogue = open_catalogue(alloc, shelf, catalogue)?;
-    check_constraints(&catalogue)?;
     let query = open_query(alloc, shelf, query, &catalogue)?;
-    let text = text_of(alloc, &query, &catalogue)?;
+    let text = listed(alloc, &query, &catalogue)?;
     Ok(Reply::Done(text))
 }

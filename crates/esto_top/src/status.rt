@@ -5,6 +5,7 @@ ghost use Rattle.esto_top.specs.declared.status.Status.TheVariants as status;
 
 use esto_acyclic::Cycle;
 use esto_catalog::CatalogueFault;
+use esto_chase::Clash;
 use esto_term::{OutOfMemory, Text};
 use esto_text::TextFault;
 
@@ -29,6 +30,8 @@ pub enum Status {
     BadQuery(TextFault),
     /// By the catalogue's constraints a relation leads back to itself, along this cycle.
     NotAcyclic(Cycle),
+    /// No database that meets the catalogue's rules gives the query an answer: its chase ends with this clash.
+    Unsatisfiable(Clash),
     /// The command, or the form of the catalogue, is not built yet.
     NotBuilt,
 }
@@ -56,6 +59,7 @@ impl Status {
             Status::BadCatalogue(_) => 6,
             Status::BadQuery(_) => 7,
             Status::NotAcyclic(_) => 8,
+            Status::Unsatisfiable(_) => 10,
             Status::NotBuilt => 18,
         }
     }

@@ -4,7 +4,7 @@ ghost use Rattle.esto_ports.specs.Faults.{Rises};
 ghost use Rattle.esto_top.specs.Answers.{Answers};
 ghost use Rattle.esto_top.specs.Determined.{ExactWhereTold};
 ghost use Rattle.esto_top.specs.Grammar.{course_of};
-ghost use Rattle.esto_top.specs.Headline.{ListsWhereTold};
+ghost use Rattle.esto_top.specs.Headline.{ListsWhereTold, RefusesWhereTold};
 ghost use Rattle.esto_top.specs.Outcome.{Mediates, CompleteWhereTold, CausedReadFault, CausedWriteFault};
 
 use crate::command::{command_of, obey};
@@ -50,11 +50,17 @@ pub fn mediate<S: Shelf, O: Sink>(
         (Rises S.faults shelf.old shelf.new) (Rises O.faults out.old out.new) (O.written out.old)
         (O.written out.new) result }
 
-    // The headline. Where the files say a catalogue without constraints and a query over it, `list` prints exactly the
-    // plan that is stated for the query and its listed sets, each once, in order, with orders, weights and the pick. The
-    // plan is universal, and each executable rewriting of the query, with any variables and of any size, maps onto a set
-    // of its atoms that has a listed set within it.
+    // The headline. Where the files say a catalogue and a satisfiable query over it, `list` prints exactly the plan of the
+    // query's run and its listed sets, each once, in order, with orders, weights and the pick. The plan is universal, and
+    // each executable rewriting of the query, with any variables and of any size, maps onto a set of its atoms that has a
+    // listed set within it, and weighs no less than the pick. No set is listed exactly where there is no such rewriting.
     ensures headline { ListsWhereTold words.now (S.files shelf.old)
+        (Rises S.faults shelf.old shelf.new) (Rises O.faults out.old out.new) (O.written out.old)
+        (O.written out.new) result }
+
+    // Where the files say a catalogue and a query over it, the status is Unsatisfiable, with the clash of the query's run,
+    // exactly where no database that meets the catalogue's rules gives the query an answer.
+    ensures refusal { RefusesWhereTold words.now (S.files shelf.old)
         (Rises S.faults shelf.old shelf.new) (Rises O.faults out.old out.new) (O.written out.old)
         (O.written out.new) result }
 

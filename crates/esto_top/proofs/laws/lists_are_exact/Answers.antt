@@ -1,15 +1,38 @@
-use Rattle.esto_top.proofs.HeadlineLemmas.{outcomes_are_lists}
+use Rattle.esto_top.proofs.HeadlineLemmas.{ListingLaws, outcomes_are_lists, outcomes_are_refusals}
 use Rattle.esto_top.proofs.laws.lists_are_exact.Goals as goal
 
-pub returns : goal.returns
-returns c =
+pub returns-clause-lists : goal.returns-clause-lists
+returns-clause-lists c =
     outcomes_are_lists c.catalogues_are_sound.ensures c.catalogues_are_determined.ensures.catalogue c.catalogues_are_determined.ensures.apart
     c.readings_are_determined.ensures.reading c.readings_are_determined.ensures.apart
     (record {
+      queries = c.queries_are_sound.ensures;
+      rules = c.rules_are_sound.ensures.rules;
+      satisfiable = c.plans_tell_satisfiable_queries.ensures.plan;
+      unsatisfiable = c.plans_tell_satisfiable_queries.ensures.clash;
       sound = c.plans_are_sound.ensures;
       own = c.queries_are_their_own_instances.ensures.universal;
-      finished = c.queries_are_their_own_instances.ensures.finished;
-      satisfiable = c.universal_instances_satisfy_queries.ensures.without_rules;
-      universal = c.stated_plans_are_universal.ensures.universal;
+      unions = c.plans_of_runs_are_universal.ensures.unions;
+      universal = c.plans_of_runs_are_universal.ensures.universal;
       covers = c.listed_sets_cover_rewritings.ensures;
+      none = c.listed_sets_are_minimal.ensures.no_rewriting;
+      lightest = c.picks_exist.ensures.least_of_all;
+    })
+
+pub returns-clause-refusals : goal.returns-clause-refusals
+returns-clause-refusals c =
+    outcomes_are_refusals c.catalogues_are_sound.ensures c.catalogues_are_determined.ensures.catalogue c.catalogues_are_determined.ensures.apart
+    c.readings_are_determined.ensures.reading c.readings_are_determined.ensures.apart
+    (record {
+      queries = c.queries_are_sound.ensures;
+      rules = c.rules_are_sound.ensures.rules;
+      satisfiable = c.plans_tell_satisfiable_queries.ensures.plan;
+      unsatisfiable = c.plans_tell_satisfiable_queries.ensures.clash;
+      sound = c.plans_are_sound.ensures;
+      own = c.queries_are_their_own_instances.ensures.universal;
+      unions = c.plans_of_runs_are_universal.ensures.unions;
+      universal = c.plans_of_runs_are_universal.ensures.universal;
+      covers = c.listed_sets_cover_rewritings.ensures;
+      none = c.listed_sets_are_minimal.ensures.no_rewriting;
+      lightest = c.picks_exist.ensures.least_of_all;
     })

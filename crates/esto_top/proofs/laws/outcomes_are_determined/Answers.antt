@@ -7,7 +7,10 @@ returns c =
     c.catalogues_are_determined.ensures.error
     c.readings_are_determined.ensures.reading c.readings_are_determined.ensures.apart c.readings_are_determined.ensures.fault
     (record {
-      plans = c.stated_plans_are_one.ensures;
+      rules = c.rules_are_sound.ensures.rules;
+      plan = c.runs_have_one_outcome.ensures.plan;
+      clash = c.runs_have_one_outcome.ensures.clash;
+      apart = c.runs_have_one_outcome.ensures.apart;
       sets = c.listed_sets_are_minimal.ensures.one;
       orders = c.stated_orders_exist.ensures.one;
       weights = c.weights_exist.ensures.one;

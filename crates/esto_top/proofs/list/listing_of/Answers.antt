@@ -1,19 +1,53 @@
 use Rattle.esto_constraint.specs.Constraints.{rules_of}
 use Rattle.esto_query.specs.Making.{query_of}
-use Rattle.esto_views.specs.Fragments.{views_of, patterns_of}
-use Rattle.esto_views.specs.Plans.{plan_query}
-use Rattle.esto_top.proofs.PlainLemmas.{no_rules, listed_sets}
+use Rattle.esto_views.specs.Fragments.{views_of}
+use Rattle.esto_top.proofs.FormLemmas.{plan_form}
+use Rattle.esto_top.proofs.RuleLemmas.{are_rules}
 use Rattle.esto_top.proofs.list.listing_of.Goals as goal
+
+pub minimal_sets_plain-requires-clause-over : goal.minimal_sets_plain-requires-clause-over
+minimal_sets_plain-requires-clause-over c =
+    let catalogue = c.args.catalogue.now in
+    let sound = c.catalogues_are_sound.ensures catalogue in
+    c.plans_of_runs_are_over_fragments.ensures.over (rules_of catalogue.rules) catalogue.fragments c.args.query.now.names (query_of c.args.query.now)
+    c.args.plan.now sound.fragments_are c.requires
+
+pub minimal_sets_plain-requires-clause-satisfiable : goal.minimal_sets_plain-requires-clause-satisfiable
+minimal_sets_plain-requires-clause-satisfiable c =
+    let catalogue = c.args.catalogue.now in
+    c.plans_tell_satisfiable_queries.ensures.plan (rules_of catalogue.rules) (views_of catalogue.fragments) c.args.query.now.names
+    (query_of c.args.query.now) c.args.plan.now (are_rules c.rules_are_sound.ensures.rules catalogue.rules)
+    (c.queries_are_sound.ensures c.args.query.now).query c.requires
+
+pub minimal_sets_plain-requires-clause-universal : goal.minimal_sets_plain-requires-clause-universal
+minimal_sets_plain-requires-clause-universal c =
+    let catalogue = c.args.catalogue.now in
+    c.plans_of_runs_are_universal.ensures.universal (rules_of catalogue.rules) (views_of catalogue.fragments) c.args.query.now.names
+    (query_of c.args.query.now) c.args.plan.now (are_rules c.rules_are_sound.ensures.rules catalogue.rules)
+    (c.queries_are_sound.ensures c.args.query.now).query c.requires
+
+pub minimal_sets_plain-requires-clause-same_length : goal.minimal_sets_plain-requires-clause-same_length
+minimal_sets_plain-requires-clause-same_length c =
+    let catalogue = c.args.catalogue.now in
+    let rules = are_rules c.rules_are_sound.ensures.rules catalogue.rules in
+    let is_query = (c.queries_are_sound.ensures c.args.query.now).query in
+    let form = plan_form (λ it. (c.queries_are_their_own_instances.ensures.universal it).maps) (rules_of catalogue.rules) (views_of catalogue.fragments)
+    (query_of c.args.query.now) c.args.plan.now (c.plans_are_sound.ensures c.args.plan.now)
+    (c.plans_of_runs_are_universal.ensures.unions (rules_of catalogue.rules) (views_of catalogue.fragments) c.args.query.now.names
+    (query_of c.args.query.now) c.args.plan.now rules is_query c.requires)
+    (c.plans_tell_satisfiable_queries.ensures.plan (rules_of catalogue.rules) (views_of catalogue.fragments) c.args.query.now.names
+    (query_of c.args.query.now) c.args.plan.now rules is_query c.requires) in
+    form.same_length
 
 pub returns : goal.returns
 returns c =
-    let catalogue = c.args.catalogue.now in
-    let sound = c.catalogues_are_sound.ensures c.args.catalogue.now in
+    let members = c.in_ok-listing.ensures.members in
+    let listed = c.in_ok-sets.ensures.listed in
     record {
-      sets = listed_sets (rules_of catalogue.rules) (views_of catalogue.fragments) (patterns_of catalogue.fragments) (query_of c.args.query.now)
-          (plan_query c.args.plan.now) _ _
-          (no_rules catalogue.rules catalogue.given sound.given_are c.requires.no_constraint) c.in_ok-listing.ensures.members c.in_ok-sets.ensures.listed
-          c.in_ok-listing.ensures.in_order;
+      sets = record {
+        exact = λ set. (λ inside. (listed set).0 ((members set).0 inside), λ is_listed. (members set).1 ((listed set).1 is_listed));
+        ordered = c.in_ok-listing.ensures.in_order;
+      };
       orders = c.in_ok-listing.ensures.orders;
-      weights = c.in_ok-listing.ensures.weights (c.stated_plans_have_distinct_atoms.ensures _ _ _ c.args.plan.now c.requires.stated);
+      weights = c.in_ok-listing.ensures.weights (c.plans_of_runs_are_over_fragments.ensures.distinct _ _ _ _ c.args.plan.now c.requires);
     }

@@ -1,5 +1,5 @@
 use Rattle.esto_top.proofs.DeterminedLemmas.{exact}
-use Rattle.esto_top.proofs.HeadlineLemmas.{lists_told}
+use Rattle.esto_top.proofs.HeadlineLemmas.{holds_of_lists}
 use Rattle.esto_top.proofs.Mediation.{mediates, complete, read_fault, write_fault}
 use Rattle.esto_top.proofs.top.mediate.Goals as goal
 
@@ -17,7 +17,12 @@ returns-clause-read_fault g c = read_fault _ _ _ _ _ _ (mediates _ _ _ _ _ _ _ c
 
 pub returns-clause-headline : goal.returns-clause-headline
 returns-clause-headline g c =
-    lists_told c.lists_are_exact.ensures c.args.words.now _ _ _ _ _ _
+    holds_of_lists _ c.lists_are_exact.ensures.lists c.args.words.now _ _ _ _ _ _
+    (complete c.args.words.now _ _ _ _ _ _ (mediates _ _ _ _ _ _ _ c.answer-answer.ensures.answer c.finish.ensures.put))
+
+pub returns-clause-refusal : goal.returns-clause-refusal
+returns-clause-refusal g c =
+    holds_of_lists _ c.lists_are_exact.ensures.refusals c.args.words.now _ _ _ _ _ _
     (complete c.args.words.now _ _ _ _ _ _ (mediates _ _ _ _ _ _ _ c.answer-answer.ensures.answer c.finish.ensures.put))
 
 pub returns-clause-exact : goal.returns-clause-exact
