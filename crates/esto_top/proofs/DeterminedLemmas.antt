@@ -30,7 +30,6 @@ use Rattle.esto_views.specs.Fragments.{views_of, patterns_of, weights_of}
 use Rattle.esto_views.specs.Plans.{plan_query}
 use Rattle.esto_views.specs.declared.plan.Plan.{Plan}
 use Rattle.esto_top.specs.Check.{check_text, check_course, count_lines, rank_lines}
-use Rattle.esto_course.specs.Course.{gives, and_then}
 use Rattle.esto_course.proofs.Determined.{then_agree, gives_agree, refuses_agree, judges_agree}
 use Rattle.esto_top.specs.Answers.{IsCaused}
 use Rattle.esto_top.specs.Determined.{OutcomesAreDetermined, ExactWhereTold}

@@ -1,5 +1,5 @@
 -- What `list` answers where the files say a catalogue and a query over it.
-use Rattle.std.proofs.Common.{◌≡◌, ℕ, Bool, List, [], ◌∷◌, All, Contains, Option, Some, None, inl, inr, refl, sym, ap, subst, ◌∙◌}
+use Rattle.std.proofs.Common.{◌≡◌, ℕ, Bool, List, [], ◌∷◌, All, Option, Some, None, inl, inr, refl, sym, ap, subst, ◌∙◌}
 use Rattle.std.specs.List.{AllZip}
 use Rattle.std.proofs.lemmas.List.Elements.{All-head, All-tail}
 use Rattle.esto_catalog.specs.Determined.{CataloguesAreSound, HaveOneCatalogue, HaveNoError}
@@ -21,28 +21,27 @@ use Rattle.esto_read.specs.Readings.{IsReading, IsFirstFault, HaveOneReading, Ha
 use Rattle.esto_read.specs.declared.read.Form.TheVariants as form
 use Rattle.esto_read.specs.declared.read.NamedQuery.{NamedQuery}
 use Rattle.esto_read.specs.declared.words.Word.{Word}
-use Rattle.esto_semantics.specs.Access.{Patterns}
 use Rattle.esto_semantics.specs.Instances.{IsUniversalFor}
 use Rattle.esto_semantics.specs.Listed.{chosen, IsWeight}
 use Rattle.esto_semantics.specs.ListedLaws.{AreWeights, NoRewritingExists, PickWeighsLeastOfAll}
 use Rattle.esto_semantics.specs.Plans.{IsUniversalPlan}
 use Rattle.esto_semantics.specs.Queries.{ConjunctiveQuery}
 use Rattle.esto_semantics.specs.Rewritings.{IsPlanFor}
-use Rattle.esto_semantics.specs.Rules.{Rule, AreRules, IsRule}
+use Rattle.esto_semantics.specs.Rules.{AreRules, IsRule}
 use Rattle.esto_universal.specs.PlannedLaws.{PlannedIsSatisfiable, ClashedIsUnsatisfiable, PlanOfRunReceivesUnions, PlanOfRunIsUniversal}
 use Rattle.esto_views.specs.Fragments.{views_of, patterns_of, weights_of}
 use Rattle.esto_views.specs.Plans.{plan_query}
 use Rattle.esto_views.specs.Soundness.{IsSoundPlan}
 use Rattle.esto_views.specs.declared.plan.Plan.{Plan}
 use Rattle.esto_text.specs.declared.fault.TextFault.{TextFault}
-use Rattle.esto_course.specs.Course.{and_then, gives}
+use Rattle.esto_course.specs.Course.{gives}
 use Rattle.esto_top.specs.Answers.{IsCaused}
 use Rattle.esto_top.specs.Headline.{FilesSay, HasAnswers, PrintsExactly, IsExactList, IsExactRefusal, SaidOfLists, OutcomesAreLists, OutcomesAreRefusals, HoldsOfLists}
 use Rattle.esto_top.specs.Line.{line_of}
-use Rattle.esto_top.specs.List.{plans_query, prints_list, lists_query, list_course}
+use Rattle.esto_top.specs.List.{plans_query, lists_query, list_course}
 use Rattle.esto_top.specs.Listing.{IsClash, IsListing, IsPlanned}
 use Rattle.esto_top.specs.Opening.{status_of, reads_catalogue, opens_catalogue, reads_query, opens_query}
-use Rattle.esto_top.specs.Outcome.{Outcome, Says, CompleteWhereTold, reply_status, reply_text}
+use Rattle.esto_top.specs.Outcome.{Says, CompleteWhereTold, reply_status, reply_text}
 use Rattle.esto_top.specs.Grammar.{course_of}
 use Rattle.esto_top.specs.declared.ending.Reply.{Reply}
 use Rattle.esto_top.specs.declared.ending.Reply.TheVariants.{Done}
@@ -96,7 +95,8 @@ module _ (laws : ListingLaws) (catalogue : Catalogue) (query : Query) where
     -- a plan tells that there are answers
     pub plan_tells : HasAnswers catalogue query
     plan_tells =
-        laws.satisfiable (rules_of catalogue.rules) (views_of catalogue.fragments) query.names (query_of query) plan rules_are (laws.queries query).query planned
+        laws.satisfiable (rules_of catalogue.rules) (views_of catalogue.fragments) query.names (query_of query) plan rules_are
+        (laws.queries query).query planned
 
     is_for : IsPlanFor (query_of query) (plan_query plan)
     is_for =
@@ -288,7 +288,7 @@ module _ (sound : CataloguesAreSound) (one : HaveOneCatalogue) (apart : HaveNoEr
         | inl whole ↦ (
             let exact = (printed_exact whole.0 whole.1).1 in
             (whole.2 ∙ exact.0, subst (PrintsExactly catalogue query) (sym whole.3) exact.1)
-          )
+            )
         | inr refused ↦ absurd ((refused_exact said text refused.0 refused.1).0 answers)
       ]
 

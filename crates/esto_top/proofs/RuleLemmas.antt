@@ -1,8 +1,8 @@
 -- The rules of a catalogue.
-use Rattle.std.proofs.Common.{◌≡◌, List, Contains, subst}
+use Rattle.std.proofs.Common.{List, subst}
 use Rattle.esto_constraint.specs.Constraints.{rule_of, rules_of}
 use Rattle.esto_constraint.specs.declared.rule.Constraint.{Constraint}
-use Rattle.esto_semantics.specs.Rules.{Rule, AreRules, IsRule}
+use Rattle.esto_semantics.specs.Rules.{AreRules, IsRule}
 use Rattle.esto_term.proofs.ListLemmas.{Contains-map_from}
 
 -- the meaning of each constraint is a rule, so that of a list of them is a list of rules

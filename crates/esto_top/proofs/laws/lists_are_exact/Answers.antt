@@ -1,4 +1,4 @@
-use Rattle.esto_top.proofs.HeadlineLemmas.{ListingLaws, outcomes_are_lists, outcomes_are_refusals}
+use Rattle.esto_top.proofs.HeadlineLemmas.{outcomes_are_lists, outcomes_are_refusals}
 use Rattle.esto_top.proofs.laws.lists_are_exact.Goals as goal
 
 pub returns-clause-lists : goal.returns-clause-lists
