@@ -5,9 +5,10 @@ use Rattle.std.specs.Prelude.{MatchOption}
 use Rattle.std.proofs.lemmas.List.{get_or_default, take_more, take_all, append_assoc, length-map}
 use Rattle.std.proofs.lemmas.List.Elements.{Contains-append_left, Contains-append_right, Contains-append_cases, Contains-push_cases}
 use Rattle.std.proofs.lemmas.Option.{same_Some, get_or_from_slice_get}
-use Rattle.esto_semantics.proofs.ContainsLemmas.{Contains-at, Contains-nil, Contains-head, Contains-rest, Contains-filter, Contains-filter_from}
+use Rattle.esto_term.proofs.ListLemmas.{Contains-at, Contains-nil, Contains-head, Contains-rest, Contains-filter, Contains-filter_from}
 use Rattle.esto_columns.specs.declared.fragment.Input.{Input}
 use Rattle.esto_columns.specs.Asked.{holds_all}
+use Rattle.esto_columns.specs.Indexed.{IsNumberOf}
 use Rattle.esto_plan.specs.declared.steps.Get.{Get}
 use Rattle.esto_plan.specs.declared.steps.Link.{Link}
 use Rattle.esto_plan.specs.declared.steps.Source.{Source}
@@ -128,9 +129,9 @@ pub push_row_more : (start into new rows : List (List ℕ)) (count : ℕ) (row :
 push_row_more start into new rows count row below at so_far is =
     is ∙ ap (λ them. them ++ row ∷ []) so_far ∙ append_assoc start (take count rows) (row ∷ []) ∙ ap (λ them. start ++ them) (sym (take_more rows count row below ∙ ap (λ it. take count rows ++ it ∷ []) (get_or_from_slice_get rows count row row at)))
 
-pub key_seen : (seen : List (List ℕ)) (key : List ℕ) (found : Option ℕ) → MatchOption found (¬ (Contains seen key)) (λ number. slice_get seen number ≡ Some key) → true ≡ is_some found → Contains seen key
+pub key_seen : (seen : List (List ℕ)) (key : List ℕ) (found : Option ℕ) → MatchOption found (¬ (Contains seen key)) (IsNumberOf seen key) → true ≡ is_some found → Contains seen key
 key_seen seen key None told some = absurd (cc)
-key_seen seen key (Some number) told some = Contains-at seen number key told
+key_seen seen key (Some number) told some = Contains-at seen number key told.0
 
 pub inputs_turn : (links items : List Link) (codes : List ℕ) (inputs new : List Input) (count : ℕ) (default : Link) → items ≡ links → length codes ≡ length links → count < length items → inputs ≡ inputs_with (take count items) codes
     → new ≡ inputs ++ record { column = (get_or items count default).column; code = get_or codes count 0 } ∷ [] → new ≡ inputs_with (take (count + 1) items) codes

@@ -3,8 +3,8 @@ use Rattle.std.proofs.Common.{◌≡◌, ◌⊎◌, ◌↔◌, inl, inr, ℕ, �
 use Rattle.std.proofs.lemmas.List.{take_more, take_all}
 use Rattle.std.proofs.lemmas.List.Elements.{Contains-append_left, Contains-push, Contains-push_cases}
 use Rattle.std.proofs.lemmas.Option.{same_Some}
-use Rattle.esto_semantics.proofs.ContainsLemmas.{Contains-at}
-use Rattle.esto_semantics.proofs.PlaceLemmas.{place-from_Contains}
+use Rattle.esto_term.proofs.ListLemmas.{Contains-at}
+use Rattle.esto_term.proofs.ListLemmas.{place-from_Contains}
 use Rattle.esto_plan.specs.declared.steps.Get.{Get}
 use Rattle.esto_plan.specs.declared.steps.Source.{Source}
 use Rattle.esto_plan.specs.Meaning.{Follows}
@@ -69,11 +69,11 @@ follower_pushed get cells rows old new place row both at follows is grown it = (
 )
 
 -- the places of a key have all followers
-pub followers_found : (get : Get) (cells : List ℕ) (rows old new : List (List ℕ)) (sources columns : List Source) (keys groups : List (List ℕ)) (key places : List ℕ) → NamesCodes cells sources key
+pub followers_found : (get : Get) (cells : List ℕ) (rows old new : List (List ℕ)) (sources columns : List Source) (key places : List ℕ) → NamesCodes cells sources key
     → ((row : List ℕ) → Follows get cells row → (codes : List ℕ) × NamesCodes cells sources codes × NamesCodes row columns codes)
     → ((place : ℕ) (row : List ℕ) → slice_get rows place ≡ Some row → NamesCodes row columns key → Contains places place)
     → GainsOnly old new (λ both. (place : ℕ) × Contains places place × IsFollowerAt get cells rows place both) → GainsOnly old new (IsFollower get cells rows)
-followers_found get cells rows old new sources columns keys groups key places named names there gains it = (
+followers_found get cells rows old new sources columns key places named names there gains it = (
   λ has. elim ((gains it).0 has) [
     | inl before ↦ inl before
     | inr (place, among, follower) ↦ inr (follower.0, Contains-at rows place follower.0 follower.1, follower.2, follower.3)

@@ -4,8 +4,8 @@ use Rattle.std.proofs.lemmas.List.{drop_more, drop_all, length-map, get_or-map}
 use Rattle.std.proofs.lemmas.List.Elements.{Contains-append_left, Contains-push, Contains-push_cases}
 use Rattle.std.proofs.lemmas.Option.{same_Some, slice_get_within, slice_get-get_or}
 use Rattle.esto_semantics.specs.declared.fact.Fact.{Fact}
-use Rattle.esto_semantics.proofs.ContainsLemmas.{Contains-nil, Contains-head, Contains-cases}
-use Rattle.esto_semantics.proofs.PlaceLemmas.{map_at}
+use Rattle.esto_term.proofs.ListLemmas.{Contains-nil, Contains-head, Contains-cases}
+use Rattle.esto_term.proofs.ListLemmas.{map_at}
 use Rattle.esto_columns.specs.Asked.{Shape, IsAllowed}
 use Rattle.esto_plan.specs.declared.steps.Get.{Get}
 use Rattle.esto_plan.specs.declared.steps.Source.{Source}

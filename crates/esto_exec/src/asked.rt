@@ -48,10 +48,17 @@ fn ask<F: Fragment>(
 ) -> Result<(), OutOfMemory>
     requires allowed { IsAllowed (F.shape fragment.now) (map (λ link. link.column) get.now.inputs) }
     requires sources { sources.now ≡ map (λ link. link.source) get.now.inputs }
-    ensures kept { OnOk result ((row : List ℕ) → Contains asked.old row → Contains asked.new row) }
-    ensures sound { OnOk result ((row : List ℕ) → Contains asked.new row → Contains asked.old row ⊎ Contains (F.rows fragment.now) row) }
-    ensures answered { OnOk result (AreAnswered get.now.inputs (F.rows fragment.now) seen.old asked.old → AreAnswered get.now.inputs (F.rows fragment.now) seen.new asked.new) }
-    ensures complete { OnOk result (AreAnswered get.now.inputs (F.rows fragment.now) seen.old asked.old → (row : List ℕ) → Contains (F.rows fragment.now) row → Follows get.now cells.now row → Contains asked.new row) }
+    ensures kept { OnOk result ((row : List ℕ)
+        → Contains asked.old row → Contains asked.new row) }
+    ensures sound { OnOk result ((row : List ℕ) → Contains asked.new row
+        → Contains asked.old row ⊎ Contains (F.rows fragment.now) row) }
+    ensures answered { OnOk result
+        (AreAnswered get.now.inputs (F.rows fragment.now) seen.old asked.old
+            → AreAnswered get.now.inputs (F.rows fragment.now) seen.new asked.new) }
+    ensures complete { OnOk result
+        (AreAnswered get.now.inputs (F.rows fragment.now) seen.old asked.old
+            → (row : List ℕ) → Contains (F.rows fragment.now) row
+            → Follows get.now cells.now row → Contains asked.new row) }
 {
     let Some(key) = codes_at(alloc, cells, sources)? else {
         return Ok(());
@@ -73,8 +80,10 @@ pub(crate) fn asked_rows<F: Fragment>(
     so_far: &CodeRows,
 ) -> Result<CodeRows, OutOfMemory>
     requires { IsAllowed (F.shape fragment.now) (map (λ link. link.column) get.now.inputs) }
-    ensures sound { IfOk result (λ it. (row : List ℕ) → Contains it row → Contains (F.rows fragment.now) row) }
-    ensures complete { IfOk result (λ it. (cells row : List ℕ) → Contains so_far.now cells → Contains (F.rows fragment.now) row → Follows get.now cells row → Contains it row) }
+    ensures sound { IfOk result (λ it. (row : List ℕ)
+        → Contains it row → Contains (F.rows fragment.now) row) }
+    ensures complete { IfOk result (λ it. (cells row : List ℕ) → Contains so_far.now cells
+        → Contains (F.rows fragment.now) row → Follows get.now cells row → Contains it row) }
 {
     let sources = sources_of(alloc, &get.inputs)?;
     let mut seen = Keys::new(alloc);

@@ -27,7 +27,9 @@ pub(crate) fn codes_at(
     cells: &[u64],
     sources: &Sources,
 ) -> Result<Option<Values<u64>>, OutOfMemory>
-    ensures { IfOk result (λ it. MatchOption it (¬ ((codes : List ℕ) × NamesCodes cells.now sources.now codes)) (NamesCodes cells.now sources.now)) }
+    ensures { IfOk result (λ it. MatchOption it
+        (¬ ((codes : List ℕ) × NamesCodes cells.now sources.now codes))
+        (NamesCodes cells.now sources.now)) }
 {
     let mut codes = Values::new(alloc);
     'sources: for source in sources.items() {
@@ -51,7 +53,8 @@ fn is_met(cells: &[u64], row: &[u64], link: &Link) -> bool
 
 /// Whether the row meets each of the links.
 pub(crate) fn each_met(cells: &[u64], row: &[u64], links: &Links) -> bool
-    ensures { IsTrue result ↔ ((link : Link) → Contains links.now link → IsMet cells.now row.now link) }
+    ensures { IsTrue result
+        ↔ ((link : Link) → Contains links.now link → IsMet cells.now row.now link) }
 {
     'links: for link in links.items() {
         if !is_met(cells, row, link) {

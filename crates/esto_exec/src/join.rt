@@ -1,15 +1,17 @@
 //! Rows so far joined with rows of a fragment.
 ghost use Rattle.std.specs.Prelude.{◌≡◌, ◌↔◌, ◌++◌, List, ℕ, Contains, IfOk, OnOk, IsTrue};
 ghost use Rattle.esto_plan.specs.Meaning.{Follows};
-ghost use Rattle.esto_exec.specs.Indexed.{IsIndexOf};
+ghost use Rattle.esto_plan.specs.declared.steps.Source.{Source};
+ghost use Rattle.esto_exec.specs.Indexed.{FindsRows};
 ghost use Rattle.esto_exec.specs.Joined.{IsJoin, IsFollower, IsFollowerAt, GainsOnly};
 ghost use Rattle.esto_exec.specs.Named.{NamesCodes};
 
 use crate::codes::{CodeRows, codes_at, each_met};
-use crate::index::{Index, group_of, index_of};
+use crate::index::index_of;
 use crate::links::{columns_of, early_links, least_len, sources_of};
-use esto_term::{List, OutOfMemory, Values};
+use esto_columns::Index;
 use esto_plan::{Get, Sources};
+use esto_term::{List, OutOfMemory, Values};
 use std::alloc::Global;
 
 /// The cells with those of the row after them.
@@ -40,7 +42,8 @@ fn push_follower(
     place: usize,
     into: &mut CodeRows,
 ) -> Result<(), OutOfMemory>
-    ensures { OnOk result (GainsOnly into.old into.new (IsFollowerAt get.now cells.now rows.now place)) }
+    ensures { OnOk result
+        (GainsOnly into.old into.new (IsFollowerAt get.now cells.now rows.now place)) }
 {
     if place >= rows.len() {
         return Ok(());
@@ -62,7 +65,8 @@ fn push_followers(
     places: &[usize],
     into: &mut CodeRows,
 ) -> Result<(), OutOfMemory>
-    ensures { OnOk result (GainsOnly into.old into.new (λ both. (place : ℕ) × Contains places.now place × IsFollowerAt get.now cells.now rows.now place both)) }
+    ensures { OnOk result (GainsOnly into.old into.new (λ both. (place : ℕ)
+        × Contains places.now place × IsFollowerAt get.now cells.now rows.now place both)) }
 {
     'places: for place in places {
         push_follower(alloc, get, cells, rows, *place, into)?;
@@ -80,14 +84,15 @@ fn push_joined(
     index: &Index,
     into: &mut CodeRows,
 ) -> Result<(), OutOfMemory>
-    requires index { IsIndexOf rows.now index.now.columns index.now.keys index.now.groups.items }
-    requires named { (row : List ℕ) → Follows get.now cells.now row → (codes : List ℕ) × NamesCodes cells.now sources.now codes × NamesCodes row index.now.columns codes }
+    requires { (columns : List Source) × FindsRows rows.now columns index.now
+        × ((row : List ℕ) → Follows get.now cells.now row → (codes : List ℕ)
+            × NamesCodes cells.now sources.now codes × NamesCodes row columns codes) }
     ensures { OnOk result (GainsOnly into.old into.new (IsFollower get.now cells.now rows.now)) }
 {
     let Some(key) = codes_at(alloc, cells, sources)? else {
         return Ok(());
     };
-    push_followers(alloc, get, cells, rows, group_of(index, key.items()), into)
+    push_followers(alloc, get, cells, rows, index.places(key.items()), into)
 }
 
 /// The rows so far, each with every one of the rows that follows it after it.
@@ -97,11 +102,13 @@ pub(crate) fn joined(
     so_far: &CodeRows,
     rows: &CodeRows,
 ) -> Result<CodeRows, OutOfMemory>
-    ensures { IfOk result (λ it. (both : List ℕ) → Contains it both ↔ IsJoin get.now so_far.now rows.now both) }
+    ensures { IfOk result (λ it. (both : List ℕ)
+        → Contains it both ↔ IsJoin get.now so_far.now rows.now both) }
 {
     let links = early_links(alloc, get, least_len(so_far))?;
     let sources = sources_of(alloc, &links)?;
-    let index = index_of(alloc, rows, columns_of(alloc, &links)?)?;
+    let columns = columns_of(alloc, &links)?;
+    let index = index_of(alloc, rows, &columns)?;
     let mut joined = List::new(alloc);
     'rows: for cells in so_far.items() {
         push_joined(

@@ -33,7 +33,8 @@ fn is_early(source: &Source, width: usize) -> bool
 
 /// Puts the link at the end, if its source is early.
 fn push_early(links: &mut Links, link: &Link, width: usize) -> Result<(), OutOfMemory>
-    ensures { OnOk result ((it : Link) → Contains links.new it → Contains links.old it ⊎ (IsEarly width link.now.source × (it ≡ link.now))) }
+    ensures { OnOk result ((it : Link) → Contains links.new it
+        → Contains links.old it ⊎ (IsEarly width link.now.source × (it ≡ link.now))) }
 {
     if !is_early(&link.source, width) {
         return Ok(());
@@ -44,7 +45,9 @@ fn push_early(links: &mut Links, link: &Link, width: usize) -> Result<(), OutOfM
 /// The links of the get that any row which follows cells of at least the width meets by the cells alone: the inputs, and
 /// the filters whose sources are among the first cells.
 pub(crate) fn early_links(alloc: Global, get: &Get, width: usize) -> Result<Links, OutOfMemory>
-    ensures { IfOk result (λ links. (cells row : List ℕ) → width ≤ length cells → Follows get.now cells row → (link : Link) → Contains links link → IsMet cells row link) }
+    ensures { IfOk result (λ links. (cells row : List ℕ) → width ≤ length cells
+        → Follows get.now cells row
+        → (link : Link) → Contains links link → IsMet cells row link) }
 {
     let mut links = List::new(alloc);
     'inputs: for link in get.inputs.items() {

@@ -3,7 +3,7 @@ ghost use Rattle.std.specs.Prelude.{◌≡◌, ◌↔◌, ◌<◌, List, ℕ, le
 ghost use Rattle.esto_columns.specs.Asked.{IsAllowed};
 ghost use Rattle.esto_columns.specs.CodedRows.{CodedRows};
 ghost use Rattle.esto_plan.specs.Meaning.{IsResult};
-ghost use Rattle.esto_plan.specs.Rows.{IsRowOf};
+ghost use Rattle.esto_plan.specs.Rows.{IsRowOf, held_by};
 ghost use Rattle.esto_exec.specs.Joined.{IsJoin, GainsOnly};
 ghost use Rattle.esto_exec.specs.Runnable.{AreRunnable};
 ghost use Rattle.esto_exec.specs.Named.{NamesCodes};
@@ -24,7 +24,8 @@ fn followed<F: Fragment>(
     so_far: &CodeRows,
 ) -> Result<CodeRows, OutOfMemory>
     requires { IsAllowed (F.shape fragment.now) (map (λ link. link.column) get.now.inputs) }
-    ensures { IfOk result (λ it. (both : List ℕ) → Contains it both ↔ IsJoin get.now so_far.now (F.rows fragment.now) both) }
+    ensures { IfOk result (λ it. (both : List ℕ)
+        → Contains it both ↔ IsJoin get.now so_far.now (F.rows fragment.now) both) }
 {
     let asked = asked_rows(alloc, get, fragment, so_far)?;
     let rows = joined(alloc, get, so_far, &asked)?;
@@ -40,7 +41,8 @@ fn push_projected(
 ) -> Result<(), OutOfMemory>
     requires { into.old.arity ≡ length head.now }
     ensures arity { OnOk result (into.new.arity ≡ into.old.arity) }
-    ensures rows { OnOk result (GainsOnly into.old.rows into.new.rows (NamesCodes cells.now head.now)) }
+    ensures rows { OnOk result
+        (GainsOnly into.old.rows into.new.rows (NamesCodes cells.now head.now)) }
 {
     let Some(row) = codes_at(alloc, cells, head)? else {
         return Ok(());
@@ -50,7 +52,9 @@ fn push_projected(
 
 /// The codes of the head in each of the rows.
 fn projected(alloc: Global, head: &Sources, rows: &CodeRows) -> Result<Rows, OutOfMemory>
-    ensures { IfOk result (λ it. (row : List ℕ) → Contains it.rows row ↔ ((end : List ℕ) × Contains rows.now end × NamesCodes end head.now row)) }
+    ensures arity { IfOk result (λ it. it.arity ≡ length head.now) }
+    ensures rows { IfOk result (λ it. (row : List ℕ) → Contains it.rows row
+        ↔ ((end : List ℕ) × Contains rows.now end × NamesCodes end head.now row)) }
 {
     let mut projected = Rows::new(alloc, head.len())?;
     'rows: for cells in rows.items() {
@@ -59,15 +63,18 @@ fn projected(alloc: Global, head: &Sources, rows: &CodeRows) -> Result<Rows, Out
     Ok(projected)
 }
 
-/// Runs the steps over the fragments. The rows, read as a set, are exactly what the steps mean over the rows of the
-/// fragments; what the steps mean rests on the rows of those fragments alone that they name.
+/// Runs the steps over the fragments, which a get names by number and asks in one of their ways. The rows, read as a
+/// set, are exactly what the steps mean over the rows of the fragments, so they rest on those fragments alone that the
+/// steps name. Rows are joined by codes, found by an index of the codes that a join compares.
 pub fn run_plan<F: Fragment>(
     alloc: Global,
     steps: &Steps,
     fragments: &[F],
 ) -> Result<Rows, OutOfMemory>
     requires { AreRunnable (map F.shape fragments.now) steps.now.gets }
-    ensures { IfOk result (λ it. (row : List ℕ) → Contains it.rows row ↔ IsResult (IsRowOf (λ number. slice_index_or (map F.rows fragments.now) number [])) steps.now row) }
+    ensures arity { IfOk result (λ it. it.arity ≡ length steps.now.head) }
+    ensures rows { IfOk result (λ it. (row : List ℕ) → Contains it.rows row
+        ↔ IsResult (IsRowOf (held_by (map F.rows fragments.now))) steps.now row) }
 {
     let mut so_far = List::new(alloc);
     so_far.push(Values::new(alloc))?;

@@ -12,9 +12,9 @@ use Rattle.esto_semantics.specs.declared.fact.Value.{Value}
 use Rattle.esto_semantics.specs.declared.fact.Value.TheVariants.{Text, Node}
 use Rattle.esto_semantics.specs.Queries.{ConjunctiveQuery, IsAnswerInto}
 use Rattle.esto_semantics.specs.declared.fact.Fact.{Fact}
-use Rattle.esto_semantics.proofs.ContainsLemmas.{Contains-at, Contains-head, Contains-rest, Contains-map, Contains-map_from, map_agree, map_then}
+use Rattle.esto_term.proofs.ListLemmas.{Contains-at, Contains-head, Contains-rest, Contains-map, Contains-map_from, map_agree, map_then}
 use Rattle.esto_semantics.proofs.FactLemmas.{image_agree, image_then}
-use Rattle.esto_semantics.proofs.PlaceLemmas.{place-from_Contains, map_at, map_at-from}
+use Rattle.esto_term.proofs.ListLemmas.{place-from_Contains, map_at, map_at-from}
 use Rattle.esto_semantics.proofs.TermLemmas.{mended, mended-Keeps, mended-same}
 use Rattle.esto_plan.specs.declared.steps.Steps.{Steps}
 use Rattle.esto_plan.specs.Meaning.{IsResult}

@@ -10,9 +10,10 @@ use Rattle.esto_semantics.specs.Facts.{Mentions, image}
 use Rattle.esto_semantics.specs.Maps.{Keeps, SendsInto}
 use Rattle.esto_semantics.specs.Queries.{ConjunctiveQuery, IsAnswerInto}
 use Rattle.esto_semantics.specs.declared.fact.Fact.{Fact}
-use Rattle.esto_semantics.proofs.ContainsLemmas.{Contains-at, Contains-nil, Contains-head, Contains-rest, Contains-cases, map_agree}
-use Rattle.esto_semantics.proofs.PlaceLemmas.{place-from_Contains, map_at}
-use Rattle.esto_semantics.proofs.TermLemmas.{Const-same, same_term, same_term-Decides, mended, mended-Keeps}
+use Rattle.esto_term.proofs.ListLemmas.{Contains-at, Contains-nil, Contains-head, Contains-rest, Contains-cases, map_agree}
+use Rattle.esto_term.proofs.ListLemmas.{place-from_Contains, map_at, at_left}
+use Rattle.esto_semantics.proofs.TermLemmas.{Const-same, same_term-Decides, mended, mended-Keeps}
+use Rattle.esto_term.specs.Order.{same_term}
 use Rattle.esto_plan.specs.declared.steps.Get.{Get}
 use Rattle.esto_plan.specs.declared.steps.Link.{Link}
 use Rattle.esto_plan.specs.declared.steps.Source.{Source}
@@ -24,11 +25,6 @@ use Rattle.esto_plan.specs.Planned.{IsSource, IsLink, IsNew, IsGetOf, AreStepsAf
 
 -- ---- lists
 
-pub kept : {A : Type 0} (xs ys : List A) (place : ℕ) (x : A) → slice_get xs place ≡ Some x → slice_get (xs ++ ys) place ≡ Some x
-kept [] ys place x e = absurd (none-some x e)
-kept (first ∷ xs) ys zero x e = e
-kept (first ∷ xs) ys (suc place) x e = kept xs ys place x e
-
 -- terms bound so far and those before a column are among those bound so far and all
 pub front : {A : Type 0} (bound terms : List A) (column : ℕ) → (bound ++ take column terms) ++ drop column terms ≡ bound ++ terms
 front bound terms column = append_assoc bound (take column terms) (drop column terms) ∙ ap (λ it. bound ++ it) (take-append-drop column terms)
@@ -38,7 +34,7 @@ front bound terms column = append_assoc bound (take column terms) (drop column t
 pub more_bound : (texts : List (List ℕ)) (bound more : List Term) (term : Term) (source : Source) → IsSource texts bound term source → IsSource texts (bound ++ more) term source
 more_bound texts bound more term source told = elim told [
   | inl constant ↦ inl constant
-  | inr found ↦ inr (found.0, kept bound more found.0 term found.1, found.2, found.3)
+  | inr found ↦ inr (found.0, at_left bound more found.0 term found.1, found.2, found.3)
 ]
 
 module _ (texts : List (List ℕ)) (code : List ℕ → ℕ) (numbering : IsNumbering texts code) where
@@ -128,7 +124,7 @@ module _ (texts : List (List ℕ)) (code : List ℕ → ℕ) (numbering : IsNumb
 
     in_all : (bound : List Term) (all row : List ℕ) (m : Term → ℕ) → all ≡ map m bound ++ row → (source : Source) (found : ℕ) → code_at (map m bound) source ≡ Some found → code_at all source ≡ Some found
     in_all bound all row m same (Code number) found e = e
-    in_all bound all row m same (Cell place) found e = ap (λ it. slice_get it place) same ∙ kept (map m bound) row place found e
+    in_all bound all row m same (Cell place) found e = ap (λ it. slice_get it place) same ∙ at_left (map m bound) row place found e
 
     -- a map that keeps constants can be changed at new terms so that it sends the terms to the row
     extends : (bound terms : List Term) (all row : List ℕ) (m : Term → ℕ) → Keeps code m → all ≡ map m bound ++ row → length terms ≡ length row
@@ -153,7 +149,7 @@ module _ (texts : List (List ℕ)) (code : List ℕ → ℕ) (numbering : IsNumb
 
     code_more : (cells more : List ℕ) (source : Source) (found : ℕ) → code_at cells source ≡ Some found → code_at (cells ++ more) source ≡ Some found
     code_more cells more (Code number) found e = e
-    code_more cells more (Cell place) found e = kept cells more place found e
+    code_more cells more (Cell place) found e = at_left cells more place found e
 
     -- a row that follows settles each column
     settles : (own : List (List Bool)) (bound : List Term) (atom : Fact Term) (get : Get) (cells row : List ℕ) → IsGetOf texts own bound atom get → Follows get cells row

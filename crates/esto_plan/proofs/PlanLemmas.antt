@@ -9,7 +9,7 @@ use Rattle.esto_term.specs.declared.term.Term.{Term}
 use Rattle.esto_term.specs.declared.term.Term.TheVariants.{Const}
 use Rattle.esto_semantics.specs.Maps.{IsFixedBy}
 use Rattle.esto_semantics.specs.declared.fact.Fact.{Fact}
-use Rattle.esto_semantics.proofs.ContainsLemmas.{Contains-nil, Contains-cases}
+use Rattle.esto_term.proofs.ListLemmas.{Contains-nil, Contains-cases, at_left, at_right}
 use Rattle.esto_plan.specs.declared.steps.Get.{Get}
 use Rattle.esto_plan.specs.declared.steps.Link.{Link}
 use Rattle.esto_plan.specs.declared.steps.Source.{Source}
@@ -17,7 +17,6 @@ use Rattle.esto_plan.specs.declared.steps.Source.TheVariants.{Cell}
 use Rattle.esto_plan.specs.Planned.{IsSource, IsLink, IsNew, IsKnown, CanMeet, IsFirstMet, IsGetOf, AreStepsAfter, CanPlan, atoms_of, inputs_from, inputs_of}
 use Rattle.esto_plan.specs.Planning.{IsLinkMade, IsGetBelow}
 use Rattle.esto_columns.specs.Interned.{Grows}
-use Rattle.esto_plan.proofs.MeaningLemmas.{kept}
 
 -- ---- growing texts
 
@@ -29,7 +28,7 @@ grows_then old mid new first next = (first.0 ++ next.0, next.1 ∙ ap (λ them. 
 
 pub source_grows : (old new : List (List ℕ)) (bound : List Term) (term : Term) (source : Source) → Grows old new → IsSource old bound term source → IsSource new bound term source
 source_grows old new bound term source grown told = elim told [
-  | inl constant ↦ inl (constant.0, constant.1, constant.2, ap (λ them. slice_get them constant.1) grown.1 ∙ kept old grown.0 constant.1 constant.0 constant.3, constant.4)
+  | inl constant ↦ inl (constant.0, constant.1, constant.2, ap (λ them. slice_get them constant.1) grown.1 ∙ at_left old grown.0 constant.1 constant.0 constant.3, constant.4)
   | inr found ↦ inr found
 ]
 
@@ -62,20 +61,10 @@ head_grows old new bound (term ∷ head) (source ∷ sources) grown told = (sour
 -- ---- sources
 
 pub bound_place : (texts : List (List ℕ)) (bound own : List Term) (term : Term) (place : ℕ) → ((text : List ℕ) → term ≡ Const text → ⊥) → slice_get bound place ≡ Some term → IsSource texts (bound ++ own) term (Cell place)
-bound_place texts bound own term place variable at = inr (place, kept bound own place term at, refl, λ constant. variable constant.0 constant.1)
-
-after_at : {X : Type 0} (xs ys : List X) (place : ℕ) (x : X) → slice_get ys place ≡ Some x → slice_get (xs ++ ys) (length xs + place) ≡ Some x
-after_at [] ys place x at = ap (slice_get ys) (omega_zero place) ∙ at
-  where
-    omega_zero : (n : ℕ) → 0 + n ≡ n
-    omega_zero n = omega arith
-after_at (first ∷ xs) ys place x at = ap (slice_get (first ∷ xs ++ ys)) (step (length xs) place) ∙ after_at xs ys place x at
-  where
-    step : (n m : ℕ) → suc n + m ≡ suc (n + m)
-    step n m = omega arith
+bound_place texts bound own term place variable at = inr (place, at_left bound own place term at, refl, λ constant. variable constant.0 constant.1)
 
 pub own_place : (texts : List (List ℕ)) (bound own : List Term) (term : Term) (place sum : ℕ) → ((text : List ℕ) → term ≡ Const text → ⊥) → slice_get own place ≡ Some term → length bound + place ≡ sum → IsSource texts (bound ++ own) term (Cell sum)
-own_place texts bound own term place sum variable at is = inr (length bound + place, after_at bound own place term at, ap Cell (sym is), λ constant. variable constant.0 constant.1)
+own_place texts bound own term place sum variable at is = inr (length bound + place, at_right bound own place term at, ap Cell (sym is), λ constant. variable constant.0 constant.1)
 
 -- ---- inputs
 

@@ -3,6 +3,8 @@ use Rattle.std.specs.Prelude.{◌≡◌, ◌⊎◌, ℕ, ◌<◌, ◌+◌, Bool,
 use Rattle.std.specs.List.{AllZip}
 use Rattle.esto_term.specs.declared.term.Term.{Term}
 use Rattle.esto_term.specs.declared.term.Term.TheVariants.{Const}
+use Rattle.esto_semantics.specs.Access.{Patterns, IsOrder}
+use Rattle.esto_semantics.specs.Listed.{IsSafe}
 use Rattle.esto_semantics.specs.Maps.{IsConstant}
 use Rattle.esto_semantics.specs.Queries.{ConjunctiveQuery}
 use Rattle.esto_semantics.specs.declared.fact.Fact.{Fact}
@@ -59,7 +61,7 @@ pub record IsGetOf (texts : List (List ℕ)) (patterns : List (List Bool)) (boun
       → IsNew (bound ++ take column atom.terms) term ⊎ ((link : Link) × (link.column ≡ column) × (Contains get.inputs link ⊎ Contains get.filters link))
 
 -- The gets are those of the atoms, one each, after the bound terms, and the sources give the head at the end.
-abbrev pub AreStepsAfter : List (List ℕ) → List (List (List Bool)) → List Term → List Source → List Term → List (Fact Term) → List Get → Type 0
+abbrev pub AreStepsAfter : List (List ℕ) → Patterns → List Term → List Source → List Term → List (Fact Term) → List Get → Type 0
 AreStepsAfter texts patterns head sources bound [] [] = AllZip (IsSource texts bound) head sources
 AreStepsAfter texts patterns head sources bound [] (get ∷ gets) = ⊥
 AreStepsAfter texts patterns head sources bound (atom ∷ atoms) [] = ⊥
@@ -67,7 +69,7 @@ AreStepsAfter texts patterns head sources bound (atom ∷ atoms) (get ∷ gets) 
     IsGetOf texts (slice_index_or patterns atom.relation []) bound atom get × AreStepsAfter texts patterns head sources (bound ++ atom.terms) atoms gets
 
 -- The steps are those of the query over fragments, whose atoms are taken in order.
-abbrev pub AreStepsOf : List (List ℕ) → List (List (List Bool)) → ConjunctiveQuery → Steps → Type 0
+abbrev pub AreStepsOf : List (List ℕ) → Patterns → ConjunctiveQuery → Steps → Type 0
 AreStepsOf texts patterns query steps = AreStepsAfter texts patterns query.head steps.head [] query.body steps.gets
 
 -- A fact that holds has as many values as an atom of its relation has terms.
@@ -84,9 +86,13 @@ abbrev pub ordered : ConjunctiveQuery → List ℕ → ConjunctiveQuery
 ordered query order = record { head = query.head; body = atoms_of query.body order }
 
 -- The atoms can be planned after the bound terms: each has a pattern that can be met at its place, and its patterns have as many columns as it has terms.
-abbrev pub CanPlan : List (List (List Bool)) → List Term → List (Fact Term) → Type 0
+abbrev pub CanPlan : Patterns → List Term → List (Fact Term) → Type 0
 CanPlan patterns bound [] = Unit {0}
 CanPlan patterns bound (atom ∷ atoms) =
     ((pattern : List Bool) × Contains (slice_index_or patterns atom.relation []) pattern × CanMeet bound atom.terms pattern)
     × ((pattern : List Bool) → Contains (slice_index_or patterns atom.relation []) pattern → length pattern ≡ length atom.terms)
     × CanPlan patterns (bound ++ atom.terms) atoms
+
+-- The order is one of a safe set of the plan's atoms.
+abbrev pub IsSafeOrder : Patterns → ConjunctiveQuery → List ℕ → Type 0
+IsSafeOrder patterns plan order = (set : List Bool) × IsOrder patterns plan.body set order × IsSafe plan set

@@ -3,24 +3,23 @@ ghost use Rattle.std.specs.Prelude.{◌≡◌, ◌<◌, ◌≤◌, ◌+◌, ◌+
 ghost use Rattle.std.specs.List.{AllZip};
 ghost use Rattle.esto_term.specs.declared.term.Term.{Term};
 ghost use Rattle.esto_semantics.specs.Maps.{IsFixedBy};
-ghost use Rattle.esto_views.specs.Plans.{fact_of, plan_query};
-ghost use Rattle.esto_plan.specs.Planned.{IsSource, IsNew, IsKnown, CanMeet, IsFirstMet, IsGetOf, AreStepsOf, CanPlan, atoms_of, ordered};
+ghost use Rattle.esto_views.specs.Fragments.{patterns_of};
+ghost use Rattle.esto_views.specs.Plans.{fact_of, plan_query, IsPlanOver};
+ghost use Rattle.esto_plan.specs.Planned.{IsSource, IsNew, IsKnown, CanMeet, IsFirstMet, IsGetOf, AreStepsOf, CanPlan, atoms_of, ordered, IsSafeOrder};
 ghost use Rattle.esto_plan.specs.Planning.{IsGetBelow, IsLinkMade};
 ghost use Rattle.esto_columns.specs.Interned.{Grows};
 
 use crate::steps::{Get, Link, Links, Source, Sources, Steps};
 use esto_access::Order;
-use esto_term::{List, OutOfMemory, Replicate, Term, Terms};
-use esto_views::{Access, Plan, PlanAtom};
 use esto_columns::Codes;
+use esto_term::{List, OutOfMemory, Replicate, Term, Terms};
+use esto_views::{Access, AccessList, FragmentDefs, Plan, PlanAtom};
 use std::alloc::Global;
-
-/// The binding patterns of a fragment, in the order of the catalogue.
-pub type AccessList = List<Access>;
 
 /// The first place of the term among the terms.
 fn place_of(terms: &[Term], term: &Term) -> Option<usize>
-    ensures { MatchOption result (¬ (Contains terms.now term.now)) (λ place. slice_get terms.now place ≡ Some term.now) }
+    ensures { MatchOption result (¬ (Contains terms.now term.now))
+        (λ place. slice_get terms.now place ≡ Some term.now) }
 {
     'terms: for (place, other) in terms.iter().enumerate() {
         if other.equal(term) {
@@ -37,7 +36,9 @@ fn source_of(
     own: &[Term],
     codes: &mut Codes,
 ) -> Result<Option<Source>, OutOfMemory>
-    ensures source { IfOk result (λ it. MatchOption it (IsNew (bound.now ++ own.now) term.now) (IsSource codes.new (bound.now ++ own.now) term.now)) }
+    ensures source { IfOk result (λ it. MatchOption it
+        (IsNew (bound.now ++ own.now) term.now)
+        (IsSource codes.new (bound.now ++ own.now) term.now)) }
     ensures grown { Grows codes.old codes.new }
 {
     if let Term::Const(text) = term {
@@ -69,7 +70,8 @@ fn push_link(
 ) -> Result<(), OutOfMemory>
     requires column { column < length terms.now }
     requires count { count ≤ column }
-    ensures made { OnOk result (IsLinkMade codes.new (bound.now ++ take count terms.now) terms.now column links.old links.new) }
+    ensures made { OnOk result (IsLinkMade codes.new (bound.now ++ take count terms.now)
+        terms.now column links.old links.new) }
     ensures grown { Grows codes.old codes.new }
 {
     let Some(source) = source_of(&terms[column], bound, &terms[..count], codes)? else {
@@ -90,7 +92,8 @@ fn add_column(
     requires column { column < length terms.now }
     requires columns { length access.now ≡ length terms.now }
     requires known { CanMeet bound.now terms.now access.now }
-    ensures below { OnOk result (IsGetBelow codes.old access.now bound.now terms.now column get.old → IsGetBelow codes.new access.now bound.now terms.now (column + 1) get.new) }
+    ensures below { OnOk result (IsGetBelow codes.old access.now bound.now terms.now column get.old
+        → IsGetBelow codes.new access.now bound.now terms.now (column + 1) get.new) }
     ensures fragment { get.new.fragment ≡ get.old.fragment }
     ensures grown { Grows codes.old codes.new }
 {
@@ -124,10 +127,14 @@ fn can_meet(access: &Access, terms: &[Term], bound: &[Term]) -> bool
 }
 
 /// The number of the first pattern that can be met after the bound terms.
-fn first_met(accesses: &AccessList, terms: &[Term], bound: &[Term]) -> Option<usize>
-    ensures { MatchOption result ((pattern : List Bool) → Contains accesses.now pattern → ¬ (CanMeet bound.now terms.now pattern)) (λ number. (pattern : List Bool) × (slice_get accesses.now number ≡ Some pattern) × IsFirstMet accesses.now bound.now terms.now pattern) }
+fn first_met(patterns: &AccessList, terms: &[Term], bound: &[Term]) -> Option<usize>
+    ensures { MatchOption result
+        ((pattern : List Bool) → Contains patterns.now pattern
+            → ¬ (CanMeet bound.now terms.now pattern))
+        (λ number. (pattern : List Bool) × (slice_get patterns.now number ≡ Some pattern)
+            × IsFirstMet patterns.now bound.now terms.now pattern) }
 {
-    'patterns: for (number, access) in accesses.items().iter().enumerate() {
+    'patterns: for (number, access) in patterns.items().iter().enumerate() {
         if can_meet(access, terms, bound) {
             return Some(number);
         }
@@ -139,20 +146,23 @@ fn first_met(accesses: &AccessList, terms: &[Term], bound: &[Term]) -> Option<us
 fn get_of(
     alloc: Global,
     atom: &PlanAtom,
-    accesses: &AccessList,
+    patterns: &AccessList,
     bound: &[Term],
     codes: &mut Codes,
 ) -> Result<Get, OutOfMemory>
-    requires met { (pattern : List Bool) × Contains accesses.now pattern × CanMeet bound.now atom.now.terms pattern }
-    requires columns { (pattern : List Bool) → Contains accesses.now pattern → length pattern ≡ length atom.now.terms }
-    ensures get { IfOk result (λ it. IsGetOf codes.new accesses.now bound.now (fact_of atom.now) it) }
+    requires met { (pattern : List Bool)
+        × Contains patterns.now pattern × CanMeet bound.now atom.now.terms pattern }
+    requires columns { (pattern : List Bool)
+        → Contains patterns.now pattern → length pattern ≡ length atom.now.terms }
+    ensures get { IfOk result (λ it.
+        IsGetOf codes.new patterns.now bound.now (fact_of atom.now) it) }
     ensures grown { Grows codes.old codes.new }
 {
-    let number = match first_met(accesses, atom.terms.items(), bound) {
+    let number = match first_met(patterns, atom.terms.items(), bound) {
         Some(number) => number,
         None => unreachable!(),
     };
-    let access = accesses.item(number);
+    let access = patterns.item(number);
     let mut get = Get {
         fragment: atom.fragment,
         inputs: List::new(alloc),
@@ -185,35 +195,53 @@ fn head_of(
     Ok(sources)
 }
 
-/// The steps of an order of a plan's atoms: a get for each atom, in order, which asks the fragment by the first of its
-/// patterns that can be met there and filters what else is known, and the sources of the head. Constants get codes.
-pub fn plan_of(
+/// The steps of the atoms of these numbers, in order.
+fn steps_of(
     alloc: Global,
     order: &Order,
     plan: &Plan,
-    accesses: &List<AccessList>,
+    fragments: &FragmentDefs,
     codes: &mut Codes,
 ) -> Result<Steps, OutOfMemory>
     requires named { (number : ℕ) → Contains order.now number → number < length plan.now.atoms }
-    requires can { CanPlan accesses.now [] (atoms_of (plan_query plan.now).body order.now) }
-    requires safe { (term : Term) → Contains plan.now.head term → IsFixedBy (atoms_of (plan_query plan.now).body order.now) term }
-    ensures steps { IfOk result (λ steps. AreStepsOf codes.new accesses.now (ordered (plan_query plan.now) order.now) steps) }
+    requires can { CanPlan (patterns_of fragments.now) []
+        (atoms_of (plan_query plan.now).body order.now) }
+    requires safe { (term : Term) → Contains plan.now.head term
+        → IsFixedBy (atoms_of (plan_query plan.now).body order.now) term }
+    ensures steps { IfOk result (AreStepsOf codes.new (patterns_of fragments.now)
+        (ordered (plan_query plan.now) order.now)) }
     ensures grown { Grows codes.old codes.new }
 {
     let mut bound: Terms = List::new(alloc);
     let mut gets = List::new(alloc);
     'atoms: for number in order.items() {
         let atom = plan.atoms.item(*number);
-        let get = get_of(
-            alloc,
-            atom,
-            accesses.item(atom.fragment),
-            bound.items(),
-            codes,
-        )?;
+        let patterns = &fragments.item(atom.fragment).access;
+        let get = get_of(alloc, atom, patterns, bound.items(), codes)?;
         gets.push(get)?;
         bound.append(atom.terms.copy(alloc)?)?;
     }
     let head = head_of(alloc, &plan.head, bound.items(), codes)?;
     Ok(Steps { gets, head })
+}
+
+/// The steps of an order of a safe set of a plan's atoms: a get for each atom, in order, and the sources of the head.
+/// A get asks its fragment by the first of its patterns that can be met there, in the catalogue's order; constants
+/// and equal terms that stand in other columns are filtered. Constants get codes. After a refusal the codes are the
+/// old ones, perhaps with more texts after them.
+pub fn plan_of(
+    alloc: Global,
+    order: &Order,
+    plan: &Plan,
+    fragments: &FragmentDefs,
+    codes: &mut Codes,
+) -> Result<Steps, OutOfMemory>
+    requires over { IsPlanOver plan.now fragments.now }
+    requires order { IsSafeOrder (patterns_of fragments.now) (plan_query plan.now) order.now }
+    ensures steps { IfOk result (AreStepsOf codes.new (patterns_of fragments.now)
+        (ordered (plan_query plan.now) order.now)) }
+    ensures grown { Grows codes.old codes.new }
+{
+    let steps = steps_of(alloc, order, plan, fragments, codes)?;
+    Ok(steps)
 }

@@ -1,4 +1,4 @@
-use Rattle.esto_semantics.proofs.ProgramLemmas.{HoldsBelow}
+use Rattle.esto_term.proofs.ListLemmas.{HoldsBelow}
 use Rattle.esto_plan.specs.Meaning.{IsMet}
 use Rattle.esto_exec.proofs.codes.each_met.Given as goal
 

@@ -1,5 +1,5 @@
 use Rattle.std.proofs.Common.{◌≤◌, length}
-use Rattle.esto_semantics.proofs.ProgramLemmas.{HoldsBelow}
+use Rattle.esto_term.proofs.ListLemmas.{HoldsBelow}
 use Rattle.esto_exec.proofs.links.least_len.Given as goal
 
 abbrev pub invariant-rows : goal.invariant-rows

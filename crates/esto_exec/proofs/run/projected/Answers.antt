@@ -12,8 +12,8 @@ rows-preserved c = (
   c.in_ok-push_projected.ensures.arity ∙ c.rows.invariant.1,
 )
 
-pub returns : goal.returns
-returns c =
+pub returns-clause-rows : goal.returns-clause-rows
+returns-clause-rows c =
     subst (λ (them : List (List ℕ)). (row : List ℕ) → (Contains c.rows.projected.rows row → (end : List ℕ) × Contains them end × NamesCodes end c.args.head.now row) × ((end : List ℕ) × Contains them end × NamesCodes end c.args.head.now row → Contains c.rows.projected.rows row)) c.items-cells-items.ensures
     (gains_from_none c.rows.projected.rows (λ row. (end : List ℕ) × Contains c.items-cells-items.result.now end × NamesCodes end c.args.head.now row)
     (gains_all (λ cells. NamesCodes cells c.args.head.now) c.items-cells-items.result.now [] c.rows.projected.rows c.rows.cells-index c.rows-test.false c.rows.invariant.0))

@@ -28,8 +28,8 @@ gets-preserved g c =
     c.index-fragments-get.is)
     c.gets.invariant c.in_ok-so_far.ensures
 
-pub returns : goal.returns
-returns g c =
+pub returns-clause-rows : goal.returns-clause-rows
+returns-clause-rows g c =
     IfOk-weaker c.projected.result _ _
     (λ it. leads_all (IsRowOf (λ number. get_or (map g.F.Fragment.rows c.args.fragments.now) number [])) c.args.steps.now c.items-get-items.result.now c.gets.get-index c.gets.so_far it.rows c.items-get-items.ensures c.gets-test.false c.gets.invariant)
-    c.projected.ensures
+    c.projected.ensures.rows

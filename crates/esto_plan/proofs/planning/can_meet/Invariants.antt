@@ -1,5 +1,5 @@
 use Rattle.std.proofs.Common.{◌≡◌, Some, true, slice_get}
-use Rattle.esto_semantics.proofs.ProgramLemmas.{HoldsBelow}
+use Rattle.esto_term.proofs.ListLemmas.{HoldsBelow}
 use Rattle.esto_plan.specs.Planned.{IsKnown}
 use Rattle.esto_plan.proofs.planning.can_meet.Given as goal
 

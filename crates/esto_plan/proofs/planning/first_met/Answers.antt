@@ -1,7 +1,7 @@
 use Rattle.std.proofs.Common.{Contains, sym, subst, ◌∙◌}
 use Rattle.std.proofs.lemmas.Bool.{false≢true}
-use Rattle.esto_semantics.proofs.PlaceLemmas.{place-from_Contains}
-use Rattle.esto_semantics.proofs.ProgramLemmas.{holds_more, holds_all}
+use Rattle.esto_term.proofs.ListLemmas.{place-from_Contains}
+use Rattle.esto_term.proofs.ListLemmas.{holds_more, holds_all}
 use Rattle.esto_plan.specs.Planned.{CanMeet}
 use Rattle.esto_plan.proofs.planning.first_met.Goals as goal
 

@@ -1,4 +1,4 @@
-use Rattle.esto_semantics.proofs.ProgramLemmas.{HoldsBelow}
+use Rattle.esto_term.proofs.ListLemmas.{HoldsBelow}
 use Rattle.esto_plan.specs.Planned.{CanMeet}
 use Rattle.esto_plan.proofs.planning.first_met.Given as goal
 

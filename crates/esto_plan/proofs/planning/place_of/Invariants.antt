@@ -1,5 +1,5 @@
 use Rattle.std.proofs.Common.{◌≡◌}
-use Rattle.esto_semantics.proofs.ProgramLemmas.{HoldsBelow}
+use Rattle.esto_term.proofs.ListLemmas.{HoldsBelow}
 use Rattle.esto_plan.proofs.planning.place_of.Given as goal
 
 abbrev pub invariant-terms : goal.invariant-terms

@@ -1,61 +1,19 @@
-use Rattle.std.proofs.Common.{◌≡◌, ◌++◌, [], map, get_or, Contains, refl, sym, ap, ◌∙◌, subst}
-use Rattle.std.specs.List.{AllZip}
-use Rattle.std.proofs.lemmas.List.Elements.{Contains-get_or}
-use Rattle.std.proofs.lemmas.Option.{get_or_from_slice_get}
-use Rattle.esto_semantics.specs.Maps.{IsFixedBy}
-use Rattle.esto_semantics.proofs.PlaceLemmas.{map_at}
-use Rattle.esto_views.specs.Plans.{fact_of}
-use Rattle.esto_plan.specs.Planned.{CanMeet, IsGetOf, IsKnown, IsSource, AreStepsAfter, atoms_of}
-use Rattle.esto_plan.proofs.PlanLemmas.{planned_more, can_here, fragment_there, head_known, planned_all}
+use Rattle.std.proofs.Common.{ℕ, length, ◌<◌, sym, subst, map}
+use Rattle.std.proofs.lemmas.List.{length-map}
+use Rattle.esto_views.specs.Fragments.{patterns_of}
+use Rattle.esto_views.specs.Plans.{plan_query, fact_of}
+use Rattle.esto_plan.proofs.OrderLemmas.{order_named, order_can_plan, pattern_columns, fixed_in_order}
 use Rattle.esto_plan.proofs.planning.plan_of.Goals as goal
 
-pub item-atom-requires : goal.item-atom-requires
-item-atom-requires c =
-    c.requires.named (get_or c.items-number-items.result.now c.atoms.number-index 0)
-    (subst (λ them. Contains them (get_or c.items-number-items.result.now c.atoms.number-index 0)) c.items-number-items.ensures (Contains-get_or c.items-number-items.result.now c.atoms.number-index 0 c.atoms-test.true))
+pub steps_of-requires-clause-named : goal.steps_of-requires-clause-named
+steps_of-requires-clause-named c = λ number inside.
+    subst (λ it. number < it) (length-map c.args.plan.now.atoms fact_of)
+    (order_named (patterns_of c.args.fragments.now) (plan_query c.args.plan.now) c.requires.order.0 c.args.order.now c.requires.order.1 number inside)
 
-pub item-requires : goal.item-requires
-item-requires c =
-    fragment_there c.args.accesses.now (map fact_of c.args.plan.now.atoms) c.items-number-items.result.now c.atoms.number-index c.args.codes.now c.atoms.codes c.atoms.bound c.atoms.gets c.atoms.invariant
-    (get_or c.items-number-items.result.now c.atoms.number-index 0) (fact_of c.item-atom.result.now) c.atoms-test.true refl
-    (map_at fact_of c.args.plan.now.atoms (get_or c.items-number-items.result.now c.atoms.number-index 0) c.item-atom.result.now c.item-atom.ensures)
+pub steps_of-requires-clause-can : goal.steps_of-requires-clause-can
+steps_of-requires-clause-can c =
+    order_can_plan (patterns_of c.args.fragments.now) (plan_query c.args.plan.now).body (pattern_columns c.args.plan.now c.args.fragments.now c.requires.over) c.requires.order.0 c.args.order.now c.requires.order.1
 
-pub get_of-requires-clause-met : goal.get_of-requires-clause-met
-get_of-requires-clause-met c =
-    let here = can_here c.args.accesses.now (map fact_of c.args.plan.now.atoms) c.items-number-items.result.now c.atoms.number-index c.args.codes.now c.atoms.codes c.atoms.bound c.atoms.gets c.atoms.invariant
-    (get_or c.items-number-items.result.now c.atoms.number-index 0) (fact_of c.item-atom.result.now) c.atoms-test.true refl
-    (map_at fact_of c.args.plan.now.atoms (get_or c.items-number-items.result.now c.atoms.number-index 0) c.item-atom.result.now c.item-atom.ensures) in
-    let same : get_or c.args.accesses.now c.item-atom.result.now.fragment [] ≡ c.item.result.now = get_or_from_slice_get c.args.accesses.now c.item-atom.result.now.fragment c.item.result.now [] c.item.ensures in
-    (here.0.0, subst (λ them. Contains them here.0.0) same here.0.1, subst (λ them. CanMeet them c.item-atom.result.now.terms here.0.0) (sym c.items.ensures) here.0.2)
-
-pub get_of-requires-clause-columns : goal.get_of-requires-clause-columns
-get_of-requires-clause-columns c = λ pattern among.
-    let here = can_here c.args.accesses.now (map fact_of c.args.plan.now.atoms) c.items-number-items.result.now c.atoms.number-index c.args.codes.now c.atoms.codes c.atoms.bound c.atoms.gets c.atoms.invariant
-    (get_or c.items-number-items.result.now c.atoms.number-index 0) (fact_of c.item-atom.result.now) c.atoms-test.true refl
-    (map_at fact_of c.args.plan.now.atoms (get_or c.items-number-items.result.now c.atoms.number-index 0) c.item-atom.result.now c.item-atom.ensures) in
-    let same : get_or c.args.accesses.now c.item-atom.result.now.fragment [] ≡ c.item.result.now = get_or_from_slice_get c.args.accesses.now c.item-atom.result.now.fragment c.item.result.now [] c.item.ensures in
-    here.1 pattern (subst (λ them. Contains them pattern) (sym same) among)
-
-pub atoms-preserved : goal.atoms-preserved
-atoms-preserved c =
-    let same : get_or c.args.accesses.now c.item-atom.result.now.fragment [] ≡ c.item.result.now = get_or_from_slice_get c.args.accesses.now c.item-atom.result.now.fragment c.item.result.now [] c.item.ensures in
-    planned_more c.args.accesses.now (map fact_of c.args.plan.now.atoms) c.items-number-items.result.now c.atoms.number-index c.args.codes.now c.atoms.codes c.atoms.bound c.atoms.gets c.atoms.invariant
-    (get_or c.items-number-items.result.now c.atoms.number-index 0) (fact_of c.item-atom.result.now) c.atoms-test.true refl
-    (map_at fact_of c.args.plan.now.atoms (get_or c.items-number-items.result.now c.atoms.number-index 0) c.item-atom.result.now c.item-atom.ensures)
-    c.get_of.new.codes c.in_ok-get.get c.append.new.self c.push.new.self c.get_of.ensures.grown
-    (subst (λ them. IsGetOf c.get_of.new.codes them c.atoms.bound (fact_of c.item-atom.result.now) c.in_ok-get.get) (sym same)
-    (subst (λ them. IsGetOf c.get_of.new.codes c.item.result.now them (fact_of c.item-atom.result.now) c.in_ok-get.get) c.items.ensures c.in_ok-get.ensures.get))
-    (c.in_ok-append.ensures.ok ∙ ap (λ them. c.atoms.bound ++ them) c.in_ok-copy.ensures) c.in_ok-push.ensures.ok
-
-pub head_of-requires : goal.head_of-requires
-head_of-requires c = λ term inside.
-    subst (λ them. IsKnown them term) (sym c.items-2.ensures)
-    (head_known c.args.accesses.now (map fact_of c.args.plan.now.atoms) c.items-number-items.result.now c.atoms.number-index c.args.codes.now c.atoms.codes c.atoms.bound c.atoms.gets c.atoms.invariant c.atoms-test.false term
-    (subst (λ them. IsFixedBy (atoms_of (map fact_of c.args.plan.now.atoms) them) term) (sym c.items-number-items.ensures) (c.requires.safe term inside)))
-
-pub returns-clause-steps : goal.returns-clause-steps
-returns-clause-steps c =
-    subst (λ them. AreStepsAfter c.head_of.new.codes c.args.accesses.now c.args.plan.now.head c.in_ok-head.head [] (atoms_of (map fact_of c.args.plan.now.atoms) them) c.atoms.gets) c.items-number-items.ensures
-    (planned_all c.args.accesses.now (map fact_of c.args.plan.now.atoms) c.items-number-items.result.now c.atoms.number-index c.args.codes.now c.atoms.codes c.atoms.bound c.atoms.gets c.atoms.invariant c.atoms-test.false
-    c.head_of.new.codes c.args.plan.now.head c.in_ok-head.head c.head_of.ensures.grown
-    (subst (λ them. AllZip (IsSource c.head_of.new.codes them) c.args.plan.now.head c.in_ok-head.head) c.items-2.ensures c.in_ok-head.ensures.head))
+pub steps_of-requires-clause-safe : goal.steps_of-requires-clause-safe
+steps_of-requires-clause-safe c = λ term inside.
+    fixed_in_order (patterns_of c.args.fragments.now) (plan_query c.args.plan.now).body c.requires.order.0 c.args.order.now c.requires.order.1 term (c.requires.order.2 term inside)
