@@ -42,7 +42,7 @@ abbrev pub AreLow : Stock → ℕ → (ℕ → ℕ) → List (Fact Term) → Typ
 AreLow stock width rank facts =
     (fact : Fact Term) → Contains facts fact → (term : Term) → Contains fact.terms term → IsLow stock width (rank fact.relation) term
 
-above_le : (values : List Term) (bound : ℕ) → ((term : Term) → Contains values term → nesting term < bound) → nesting_above (map nesting values) ≤ bound
+pub above_le : (values : List Term) (bound : ℕ) → ((term : Term) → Contains values term → nesting term < bound) → nesting_above (map nesting values) ≤ bound
 above_le [] bound below = omega arith
 above_le (first ∷ rest) bound below =
     let here = below first (Contains-head first rest) in
