@@ -33,3 +33,11 @@ module _ (P : Claim → List Bool → Type 0) (expanded : List ExpandedFact) (ru
 
     pub all_derived : (entry : Entry) → Contains entries entry → P entry.claim entry.product
     all_derived entry inside = let at = place-from_Contains entries entry inside in upto (suc at.0) at.0 entry (omega arith) at.1
+
+-- what stands at a place of the first few stands there in all
+pub taken_at : {X : Type 0} (xs : List X) (count place : ℕ) (x : X) → slice_get (take count xs) place ≡ Some x → slice_get xs place ≡ Some x
+taken_at [] zero place x at = at
+taken_at [] (suc count) place x at = at
+taken_at (first ∷ rest) zero place x at = absurd (cc)
+taken_at (first ∷ rest) (suc count) zero x at = at
+taken_at (first ∷ rest) (suc count) (suc place) x at = taken_at rest count place x at
