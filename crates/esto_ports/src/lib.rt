@@ -1,13 +1,15 @@
-//! The outside: where files are fetched from, and where text is put. In memory both are exact; over the machine
-//! only the count of faults is known.
+//! The outside: where files are fetched from, where text is put, and what is wrong with a file's content. In memory
+//! shelf and sink are exact; over the machine only the count of faults is known.
 #![tactic(auto)]
 
+mod file_fault;
 mod folder_shelf;
 mod memory_shelf;
 mod memory_sink;
 mod out_sink;
 mod ports;
 
+pub use file_fault::{FileError, FileFault, FileKind};
 pub use folder_shelf::FolderShelf;
 pub use memory_shelf::MemoryShelf;
 pub use memory_sink::MemorySink;
