@@ -16,7 +16,7 @@ use Rattle.esto_ports.specs.declared.file_fault.FileError.TheVariants.{Fault}
 use Rattle.esto_ports.specs.declared.file_fault.FileKind.{FileKind}
 use Rattle.esto_ports.specs.declared.file_fault.FileKind.TheVariants.{NotUtf8}
 use Rattle.esto_lines.specs.Faults.{fault_at, Gives}
-use Rattle.esto_stores.specs.Rows.{Row, are_texts, first_fault, ReadsRow}
+use Rattle.esto_stores.specs.Rows.{Row, are_texts, first_fault, PutsCell, ReadsRow}
 use Rattle.esto_stores.specs.Left.{Takes}
 use Rattle.esto_stores.specs.Table.{cells_at}
 
@@ -34,15 +34,13 @@ pub texts_stop : (cells : Row) (i : ℕ) → i < length cells → is_utf8 (get_o
 texts_stop cells i h e = at_drop_more are_texts cells i [] h ∙ rw e refl
 
 -- The same of the cells at places.
-pub places_go : (places : List ℕ) (cells : Row) (i : ℕ) (cell : List ℕ) → i < length places → cell ≡ get_or cells (get_or places i 0) [] → IsUtf8 cell
+pub places_go : (places : List ℕ) (cells : Row) (i : ℕ) (cell : List ℕ) → i < length places → cell ≡ get_or cells (get_or places i 0) [] → is_utf8 cell ≡ true
     → are_texts (cells_at (drop i places) cells) ≡ are_texts (cells_at (drop (i + 1) places) cells)
-places_go places cells i cell h e text =
-    at_drop_more (λ ps. are_texts (cells_at ps cells)) places i 0 h ∙ rw (← e, is_utf8-from_IsUtf8 _ text) refl
+places_go places cells i cell h e text = at_drop_more (λ ps. are_texts (cells_at ps cells)) places i 0 h ∙ rw (← e, text) refl
 
-pub places_stop : (places : List ℕ) (cells : Row) (i : ℕ) (cell : List ℕ) → i < length places → cell ≡ get_or cells (get_or places i 0) [] → ¬ IsUtf8 cell
+pub places_stop : (places : List ℕ) (cells : Row) (i : ℕ) (cell : List ℕ) → i < length places → cell ≡ get_or cells (get_or places i 0) [] → is_utf8 cell ≡ false
     → are_texts (cells_at (drop i places) cells) ≡ false
-places_stop places cells i cell h e text =
-    at_drop_more (λ ps. are_texts (cells_at ps cells)) places i 0 h ∙ rw (← e, utf8_false _ text) refl
+places_stop places cells i cell h e text = at_drop_more (λ ps. are_texts (cells_at ps cells)) places i 0 h ∙ rw (← e, text) refl
 
 pub places_more : (places : List ℕ) (cells : Row) (i : ℕ) (cell : List ℕ) → i < length places → cell ≡ get_or cells (get_or places i 0) []
     → cells_at (take (i + 1) places) cells ≡ cells_at (take i places) cells ++ cell ∷ []
@@ -75,10 +73,18 @@ pub on_ok : {P : Type 0} {T E : Type 0} (r : Result T E) → is_err r ≡ false 
 on_ok (Ok x) e h = h
 on_ok (Err x) e h = cc e
 
--- A cell that gives no text.
-pub row_error : (cells : Row) (bytes : List ℕ) (e : TextError) → ReadsText bytes (Err e) → (¬ IsUtf8 bytes → are_texts cells ≡ false) → ReadsRow cells (Err e)
-row_error cells bytes text.NotUtf8 h f = f h
-row_error cells bytes text.OutOfMemory h f = tt
+-- What a cell gives as a text is what it puts.
+pub cell_put : (old new : Row) (cell text : List ℕ) → (text ≡ cell) × IsUtf8 cell → new ≡ old ++ text ∷ [] → (new ≡ old ++ cell ∷ []) × (is_utf8 cell ≡ true)
+cell_put old new cell text h e = (e ∙ ap (λ (c : List ℕ). old ++ c ∷ []) h.0, is_utf8-from_IsUtf8 cell h.1)
+
+pub cell_error : (old new : Row) (cell : List ℕ) (e : TextError) → ReadsText cell (Err e) → PutsCell old cell new (Err e)
+cell_error old new cell text.NotUtf8 h = utf8_false cell h
+cell_error old new cell text.OutOfMemory h = tt
+
+-- A cell that is no text.
+pub row_error : (cells old new : Row) (cell : List ℕ) (e : TextError) → PutsCell old cell new (Err e) → (is_utf8 cell ≡ false → are_texts cells ≡ false) → ReadsRow cells (Err e)
+row_error cells old new cell text.NotUtf8 h f = f h
+row_error cells old new cell text.OutOfMemory h f = tt
 
 -- An answer that is a fault.
 pub gives_fault : {A : Type 0} (value : A) (fault : Option FileFault) (found : FileFault) (error : FileError) → error ≡ Fault found → fault ≡ Some found
@@ -128,13 +134,13 @@ taken_none before after false cells t e = t
 abbrev pub lent : List (Bor (List ℕ)) → Row
 lent cells = map (λ cell. cell.now) cells
 
-pub lent_go : (cells : List (Bor (List ℕ))) (i : ℕ) (d : Bor (List ℕ)) → i < length cells → IsUtf8 (get_or cells i d).now
+pub lent_go : (cells : List (Bor (List ℕ))) (i : ℕ) (d : Bor (List ℕ)) → i < length cells → is_utf8 (get_or cells i d).now ≡ true
     → are_texts (lent (drop i cells)) ≡ are_texts (lent (drop (i + 1) cells))
-lent_go cells i d h text = at_drop_more (λ cs. are_texts (lent cs)) cells i d h ∙ rw (is_utf8-from_IsUtf8 _ text) refl
+lent_go cells i d h text = at_drop_more (λ cs. are_texts (lent cs)) cells i d h ∙ rw text refl
 
-pub lent_stop : (cells : List (Bor (List ℕ))) (i : ℕ) (d : Bor (List ℕ)) → i < length cells → ¬ IsUtf8 (get_or cells i d).now
+pub lent_stop : (cells : List (Bor (List ℕ))) (i : ℕ) (d : Bor (List ℕ)) → i < length cells → is_utf8 (get_or cells i d).now ≡ false
     → are_texts (lent (drop i cells)) ≡ false
-lent_stop cells i d h text = at_drop_more (λ cs. are_texts (lent cs)) cells i d h ∙ rw (utf8_false _ text) refl
+lent_stop cells i d h text = at_drop_more (λ cs. are_texts (lent cs)) cells i d h ∙ rw text refl
 
 pub lent_more : (cells : List (Bor (List ℕ))) (i : ℕ) (d : Bor (List ℕ)) (cell : List ℕ) (row new : Row) → i < length cells → cell ≡ (get_or cells i d).now
     → row ≡ lent (take i cells) → new ≡ row ++ cell ∷ [] → new ≡ lent (take (i + 1) cells)

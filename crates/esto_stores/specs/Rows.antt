@@ -1,5 +1,5 @@
 -- Rows of cells, and the first fault of rows.
-use Rattle.std.specs.Prelude.{◌≡◌, ◌==◌, ◌+◌, ℕ, Bool, true, false, if◌then◌else◌, List, [], ◌∷◌, length, Option, Some, None, Result, Ok, Err}
+use Rattle.std.specs.Prelude.{◌≡◌, ◌==◌, ◌+◌, ℕ, Bool, true, false, if◌then◌else◌, List, [], ◌∷◌, ◌++◌, length, Option, Some, None, Result, Ok, Err}
 use Rattle.std.specs.List.{list_all}
 use Rattle.std.specs.Str.{is_utf8}
 use Rattle.esto_term.specs.declared.text.TextError.{TextError}
@@ -26,6 +26,12 @@ first_fault kind width taken number (cells ∷ rest) =
     (if are_texts (taken cells) then first_fault kind width taken (number + 1) rest
     else Some (fault_at NotUtf8 number))
     else Some (fault_at kind number)
+
+-- The cell is a text and is put at the end of the row, or it is no text; or memory is wanting.
+abbrev pub PutsCell : Row → List ℕ → Row → Result (Unit {0}) TextError → Type 0
+PutsCell old cell new (Ok _) = (new ≡ old ++ cell ∷ []) × (is_utf8 cell ≡ true)
+PutsCell old cell new (Err text.NotUtf8) = is_utf8 cell ≡ false
+PutsCell old cell new (Err text.OutOfMemory) = Unit {0}
 
 -- The cells are texts and give this row, or one of them is no text; or memory is wanting.
 abbrev pub ReadsRow : Row → Result Row TextError → Type 0

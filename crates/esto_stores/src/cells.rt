@@ -2,7 +2,7 @@
 ghost use Rattle.std.specs.Prelude.{◌≡◌, [], slice_index_or};
 ghost use Rattle.std.specs.Str.{is_utf8};
 ghost use Rattle.csv.specs.Records.{fields_of};
-ghost use Rattle.esto_stores.specs.Rows.{are_texts, ReadsRow};
+ghost use Rattle.esto_stores.specs.Rows.{are_texts, PutsCell, ReadsRow};
 ghost use Rattle.esto_stores.specs.Table.{cells_at};
 
 use csv::ByteRecord;
@@ -39,20 +39,26 @@ pub fn all_are_texts(cells: &ByteRecord) -> bool
     true
 }
 
+/// Puts a cell at the end of a row, if it is a text.
+pub fn push_cell(alloc: Global, row: &mut TextRow, cell: &[u8]) -> Result<(), TextError>
+    ensures { PutsCell row.old cell.now row.new result }
+{
+    match Text::from_bytes(alloc, cell) {
+        Ok(text) => match row.push(text) {
+            Ok(()) => Ok(()),
+            Err(_) => Err(TextError::OutOfMemory),
+        },
+        Err(error) => Err(error),
+    }
+}
+
 /// The row of the cells at these places, if they are texts.
 pub fn text_row(alloc: Global, cells: &ByteRecord, places: &[usize]) -> Result<TextRow, TextError>
     ensures { ReadsRow (cells_at places.now (fields_of cells.now)) result }
 {
     let mut row = List::new(alloc);
     'places: for place in places {
-        match Text::from_bytes(alloc, cell_at(cells, *place)) {
-            Ok(text) => {
-                if row.push(text).is_err() {
-                    return Err(TextError::OutOfMemory);
-                }
-            }
-            Err(error) => return Err(error),
-        }
+        push_cell(alloc, &mut row, cell_at(cells, *place))?;
     }
     Ok(row)
 }

@@ -5,9 +5,10 @@ ghost use Rattle.esto_lines.specs.Faults.{Gives};
 ghost use Rattle.esto_stores.specs.Rows.{ReadsRow};
 ghost use Rattle.esto_stores.specs.Keys.{tab, without_return, key_rows, key_fault};
 
+use crate::cells::push_cell;
 use esto_lines::{cut_line, fault};
 use esto_ports::{FileError, FileKind};
-use esto_term::{List, OutOfMemory, Text, TextError, TextRow, TextRows};
+use esto_term::{List, OutOfMemory, TextError, TextRow, TextRows};
 use std::alloc::{AllocError, Global};
 
 // The line without one carriage return at its end.
@@ -47,14 +48,7 @@ fn text_cells(alloc: Global, cells: &[&[u8]]) -> Result<TextRow, TextError>
 {
     let mut row = List::new(alloc);
     'cells: for cell in cells {
-        match Text::from_bytes(alloc, cell) {
-            Ok(text) => {
-                if row.push(text).is_err() {
-                    return Err(TextError::OutOfMemory);
-                }
-            }
-            Err(error) => return Err(error),
-        }
+        push_cell(alloc, &mut row, cell)?;
     }
     Ok(row)
 }
