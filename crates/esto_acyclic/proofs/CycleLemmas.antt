@@ -83,7 +83,8 @@ same_numbers (x ∷ xs) (y ∷ ys) long same =
 
 pub one_list_of_ranks : (Edge : ℕ → ℕ → Type 0) (count : ℕ) (ranks others : List ℕ) → AreRanks Edge count ranks → AreRanks Edge count others → ranks ≡ others
 one_list_of_ranks Edge count ranks others one two = same_numbers ranks others (one.for_each ∙ sym two.for_each)
-    (λ k below. IsRank-one Edge k (slice_index ranks k) (slice_index others k) (one.exact k (subst (λ c. k < c) one.for_each below)) (two.exact k (subst (λ c. k < c) one.for_each below)))
+    (λ k below. IsRank-one Edge k (slice_index ranks k) (slice_index others k) (one.exact k (subst (λ c. k < c) one.for_each below))
+    (two.exact k (subst (λ c. k < c) one.for_each below)))
 
 -- ---- the least cycle
 

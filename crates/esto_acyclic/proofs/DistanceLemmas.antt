@@ -15,8 +15,10 @@ use Rattle.esto_acyclic.proofs.CycleLemmas.{IsAtMost-nil, IsAtMost-less, IsAtMos
 Leads-next : (Edge : ℕ → ℕ → Type 0) (from next edges target : ℕ) → Edge from next → Leads Edge next edges target → Leads Edge from (edges + 1) target
 Leads-next Edge from next edges target edge (relations, walk, long) = (from ∷ relations, (next, refl, edge, walk), omega arith)
 
-module _ (Edge : ℕ → ℕ → Type 0) (target : ℕ) (distances : List ℕ) (from to : ℕ) (from_below : from < length distances) (to_below : to < length distances) (edge : Edge from to) where
-  AreNear-set : slice_index distances to + 1 < slice_index distances from → AreNear Edge target distances → AreNear Edge target (set distances from (slice_index distances to + 1))
+module _ (Edge : ℕ → ℕ → Type 0) (target : ℕ) (distances : List ℕ) (from to : ℕ) (from_below : from < length distances) (to_below : to < length distances)
+    (edge : Edge from to) where
+  AreNear-set : slice_index distances to + 1 < slice_index distances from → AreNear Edge target distances
+      → AreNear Edge target (set distances from (slice_index distances to + 1))
   AreNear-set lower near = record {
     zero = get_or-set_other distances from target (slice_index distances to + 1) 0 apart ∙ near.zero;
     held = λ relation below small.
@@ -30,7 +32,8 @@ module _ (Edge : ℕ → ℕ → Type 0) (target : ℕ) (distances : List ℕ) (
       apart : target ≢ from
       apart same = let none : get_or distances from 0 ≡ 0 = subst (λ x. get_or distances x 0 ≡ 0) same near.zero in omega arith
 
-sum-lowered : (distances : List ℕ) (place number : ℕ) → place < length distances → number < slice_index distances place → sum (set distances place number) < sum distances
+sum-lowered : (distances : List ℕ) (place number : ℕ) → place < length distances → number < slice_index distances place
+    → sum (set distances place number) < sum distances
 sum-lowered distances place number below less = omega (arith, sum_by-set (λ y. y) distances place number 0 below)
 
 -- ---- a round over the edges
@@ -44,7 +47,8 @@ pub record SunkSoFar (edges : List (ℕ × ℕ)) (old now : List ℕ) (fell : Bo
   pub less : fell ≡ true → sum now < sum old
   pub still : fell ≡ false → (place : ℕ) → place < done → FallsAt edges now place
 
-module _ (edges : List (ℕ × ℕ)) (old now : List ℕ) (fell : Bool) (done from to : ℕ) (far : SunkSoFar edges old now fell done) (below : done < length edges) (is : slice_index_or edges done (0, 0) ≡ (from, to)) where
+module _ (edges : List (ℕ × ℕ)) (old now : List ℕ) (fell : Bool) (done from to : ℕ) (far : SunkSoFar edges old now fell done) (below : done < length edges)
+    (is : slice_index_or edges done (0, 0) ≡ (from, to)) where
   edge : Joins edges from to
   edge = subst (Contains edges) is (Contains-get_or edges done (0, 0) below)
 
@@ -95,22 +99,27 @@ AreNear-start Edge count target below = record {
     far : (relation : ℕ) → relation < count → get_or (replicate count count) relation 0 < count → ⊥
     far relation under fits = let greatest : get_or (replicate count count) relation 0 ≡ count = get_or-replicate count relation count 0 under in omega arith
 
-pub AreDistances-still : (edges : List (ℕ × ℕ)) (target : ℕ) (distances : List ℕ) → AreNear (Joins edges) target distances → ((place : ℕ) → place < length edges → FallsAt edges distances place) → AreDistances (Joins edges) target distances
+pub AreDistances-still : (edges : List (ℕ × ℕ)) (target : ℕ) (distances : List ℕ) → AreNear (Joins edges) target distances
+    → ((place : ℕ) → place < length edges → FallsAt edges distances place) → AreDistances (Joins edges) target distances
 AreDistances-still edges target distances near still = record { near = near; falls = falls }
   where
     falls : (from to : ℕ) → Joins edges from to → slice_index distances from ≤ slice_index distances to + 1
-    falls from to (place, below, is) = subst (λ e. slice_index distances e.0 ≤ slice_index distances e.1 + 1) (get_or_default edges place (0, 0) (from, to) below ∙ is) (still place below)
+    falls from to (place, below, is) =
+        subst (λ e. slice_index distances e.0 ≤ slice_index distances e.1 + 1) (get_or_default edges place (0, 0) (from, to) below ∙ is) (still place below)
 
 -- no walk to the target has fewer edges than the distance
-pub walk_is_far : (Edge : ℕ → ℕ → Type 0) (target : ℕ) (distances : List ℕ) → AreDistances Edge target distances → (from : ℕ) (relations : List ℕ) → IsWalk Edge from relations target → slice_index distances from ≤ length relations
-walk_is_far Edge target distances exact from [] same = let none : slice_index distances from ≡ 0 = subst (λ x. slice_index distances x ≡ 0) (sym same) exact.near.zero in omega arith
+pub walk_is_far : (Edge : ℕ → ℕ → Type 0) (target : ℕ) (distances : List ℕ) → AreDistances Edge target distances → (from : ℕ) (relations : List ℕ)
+    → IsWalk Edge from relations target → slice_index distances from ≤ length relations
+walk_is_far Edge target distances exact from [] same = let none : slice_index distances from ≡ 0 =
+    subst (λ x. slice_index distances x ≡ 0) (sym same) exact.near.zero in omega arith
 walk_is_far Edge target distances exact from (here ∷ rest) (next, is, edge, walk) =
     let further = walk_is_far Edge target distances exact next rest walk in
     let step = exact.falls from next edge in
     omega arith
 
 -- where no edge from the relation leads near it, no cycle is there
-pub HasNoCycle-far : (Edge : ℕ → ℕ → Type 0) (count start : ℕ) (distances : List ℕ) → IsWithin count Edge → start < count → AreDistances Edge start distances → ((next : ℕ) → Edge start next → count ≤ slice_index distances next) → HasNoCycle Edge start
+pub HasNoCycle-far : (Edge : ℕ → ℕ → Type 0) (count start : ℕ) (distances : List ℕ) → IsWithin count Edge → start < count → AreDistances Edge start distances
+    → ((next : ℕ) → Edge start next → count ≤ slice_index distances next) → HasNoCycle Edge start
 HasNoCycle-far Edge count start distances within below exact far relations (some, walk) =
     no (short_walk Edge count within (length relations) start start relations below (omega arith) some walk)
   where
@@ -138,10 +147,13 @@ pub record WalkedSoFar (Edge : ℕ → ℕ → Type 0) (start edges : ℕ) (dist
   pub completes : (rest : List ℕ) → IsLeastWalk Edge here left start rest → IsLeastWalk Edge start edges start (path ++ rest)
 
 module _ (Edge : ℕ → ℕ → Type 0) (start : ℕ) (distances : List ℕ) (exact : AreDistances Edge start distances) where
-  IsLeastWalk-cons : (here next k : ℕ) → ((other : ℕ) → Edge here other → suc k ≤ slice_index distances other + 1) → Edge here next → ((other : ℕ) → Edge here other → slice_index distances other ≡ k → next ≤ other) → (rest : List ℕ) → IsLeastWalk Edge next k start rest → IsLeastWalk Edge here (suc k) start (here ∷ rest)
+  IsLeastWalk-cons : (here next k : ℕ) → ((other : ℕ) → Edge here other → suc k ≤ slice_index distances other + 1) → Edge here next
+      → ((other : ℕ) → Edge here other → slice_index distances other ≡ k → next ≤ other) → (rest : List ℕ) → IsLeastWalk Edge next k start rest
+      → IsLeastWalk Edge here (suc k) start (here ∷ rest)
   IsLeastWalk-cons here next k tight edge low rest is = record { walk = (next, refl, edge, is.walk); long = ap suc is.long; least = least }
     where
-      apart : (other : ℕ) (first second : List ℕ) → IsWalk Edge next first start → IsWalk Edge other second start → length second ≡ length first → next < other → IsAtMost first second
+      apart : (other : ℕ) (first second : List ℕ) → IsWalk Edge next first start → IsWalk Edge other second start → length second ≡ length first → next < other
+          → IsAtMost first second
       apart other [] second walk more same less = IsAtMost-nil second
       apart other (x ∷ xs) [] walk more same less = absurd (omega arith)
       apart other (x ∷ xs) (y ∷ ys) (a, xe, b, c) (d, ye, e, f) same less = IsAtMost-less x y xs ys (omega arith)
@@ -160,8 +172,10 @@ module _ (Edge : ℕ → ℕ → Type 0) (start : ℕ) (distances : List ℕ) (e
       least [] walk long = absurd (omega arith)
       least (y ∷ others) (other, ye, e, walk) long = IsAtMost-same here y rest others (sym ye) (rest_least other others e walk (omega arith))
 
-  module _ (edges : ℕ) (path : List ℕ) (here left next : ℕ) (within : IsWithin (length distances) Edge) (far : WalkedSoFar Edge start edges distances path here left) (some : 0 < left)
-      (low : (other : ℕ) → Edge here other → slice_index distances other ≡ left - 1 → next ≤ other) (is : next < length distances → Edge here next × (slice_index distances next ≡ left - 1)) where
+  module _ (edges : ℕ) (path : List ℕ) (here left next : ℕ) (within : IsWithin (length distances) Edge)
+      (far : WalkedSoFar Edge start edges distances path here left) (some : 0 < left)
+      (low : (other : ℕ) → Edge here other → slice_index distances other ≡ left - 1 → next ≤ other)
+      (is : next < length distances → Edge here next × (slice_index distances next ≡ left - 1)) where
     candidate : Leads Edge here left start → (other : ℕ) × Edge here other × (slice_index distances other ≡ left - 1)
     candidate ([], walk, long) = absurd (omega arith)
     candidate (x ∷ rest, (other, xe, e, walk), long) =
@@ -178,26 +192,32 @@ module _ (Edge : ℕ → ℕ → Type 0) (start : ℕ) (distances : List ℕ) (e
     walked_next = record {
       inside = next_inside;
       fits = (let fits = far.fits in omega arith);
-      leads = subst (λ k. Leads Edge next k start) (is next_inside).1 (exact.near.held next next_inside (let fits = far.fits in let at = (is next_inside).1 in omega arith));
+      leads = subst (λ k. Leads Edge next k start) (is next_inside).1
+          (exact.near.held next next_inside (let fits = far.fits in let at = (is next_inside).1 in omega arith));
       tight = λ other e. (let at = (is next_inside).1 in let falls = exact.falls next other e in omega arith);
       completes = λ rest least.
           subst (IsLeastWalk Edge start edges start) (sym (append_assoc path (here ∷ []) rest))
-          (far.completes (here ∷ rest) (subst (λ k. IsLeastWalk Edge here k start (here ∷ rest)) back (IsLeastWalk-cons here next (left - 1) (λ other e. (let out = far.tight other e in omega arith)) (is next_inside).0 low rest least)));
+          (far.completes (here ∷ rest) (subst (λ k. IsLeastWalk Edge here k start (here ∷ rest)) back
+          (IsLeastWalk-cons here next (left - 1) (λ other e. (let out = far.tight other e in omega arith)) (is next_inside).0 low rest least)));
     }
       where
         back : suc (left - 1) ≡ left
         back = omega arith
 
-  pub walked_start : (near : ℕ) → start < length distances → IsWithin (length distances) Edge → ((next : ℕ) → Edge start next → near ≤ slice_index distances next) → near < length distances → (next : ℕ) × Edge start next × (slice_index distances next ≡ near) → WalkedSoFar Edge start (near + 1) distances [] start (near + 1)
+  pub walked_start : (near : ℕ) → start < length distances → IsWithin (length distances) Edge
+      → ((next : ℕ) → Edge start next → near ≤ slice_index distances next) → near < length distances
+      → (next : ℕ) × Edge start next × (slice_index distances next ≡ near) → WalkedSoFar Edge start (near + 1) distances [] start (near + 1)
   walked_start near below within low small (next, edge, is) = record {
     inside = below;
     fits = omega arith;
-    leads = Leads-next Edge start next near start edge (subst (λ k. Leads Edge next k start) is (exact.near.held next (within start next edge).1 (omega arith)));
+    leads = Leads-next Edge start next near start edge
+        (subst (λ k. Leads Edge next k start) is (exact.near.held next (within start next edge).1 (omega arith)));
     tight = λ other e. (let least = low other e in omega arith);
     completes = λ rest least. least;
   }
 
-  pub walked_end : (near : ℕ) (path : List ℕ) (here : ℕ) → ((next : ℕ) → Edge start next → near ≤ slice_index distances next) → WalkedSoFar Edge start (near + 1) distances path here 0 → IsLeastCycleAt Edge start path
+  pub walked_end : (near : ℕ) (path : List ℕ) (here : ℕ) → ((next : ℕ) → Edge start next → near ≤ slice_index distances next)
+      → WalkedSoFar Edge start (near + 1) distances path here 0 → IsLeastCycleAt Edge start path
   walked_end near path here low far = whole (subst (IsLeastWalk Edge start (near + 1) start) (append-nil path) (far.completes [] (stay far.leads)))
     where
       stay : Leads Edge here 0 start → IsLeastWalk Edge here 0 start []
@@ -222,16 +242,21 @@ module _ (Edge : ℕ → ℕ → Type 0) (start : ℕ) (distances : List ℕ) (e
 
 -- how far the search over the edges has come: the least key among ends of edges from the relation that have a property
 pub record LeastSoFar (edges : List (ℕ × ℕ)) (relation : ℕ) (P : ℕ → Type 0) (key : ℕ → ℕ) (bound best done : ℕ) : Type 0 where
-  pub least : (place : ℕ) → place < done → (slice_index_or edges place (0, 0)).0 ≡ relation → P (slice_index_or edges place (0, 0)).1 → best ≤ key (slice_index_or edges place (0, 0)).1
+  pub least : (place : ℕ) → place < done → (slice_index_or edges place (0, 0)).0 ≡ relation → P (slice_index_or edges place (0, 0)).1
+      → best ≤ key (slice_index_or edges place (0, 0)).1
   pub is : best < bound → (next : ℕ) × Joins edges relation next × P next × (key next ≡ best)
 
 pub least_start : (edges : List (ℕ × ℕ)) (relation : ℕ) (P : ℕ → Type 0) (key : ℕ → ℕ) (bound : ℕ) → LeastSoFar edges relation P key bound bound 0
 least_start edges relation P key bound = record { least = λ place none. absurd (omega arith); is = λ none. absurd (omega arith) }
 
-module _ (edges : List (ℕ × ℕ)) (relation : ℕ) (P : ℕ → Type 0) (key : ℕ → ℕ) (bound best done : ℕ) (far : LeastSoFar edges relation P key bound best done) where
-  pub least_next : done < length edges → (from to : ℕ) → slice_index_or edges done (0, 0) ≡ (from, to) → (new : ℕ) → new ≤ best → (from ≡ relation → P to → new ≤ key to) → (new ≡ best) ⊎ ((from ≡ relation) × P to × (key to ≡ new)) → LeastSoFar edges relation P key bound new (done + 1)
+module _ (edges : List (ℕ × ℕ)) (relation : ℕ) (P : ℕ → Type 0) (key : ℕ → ℕ) (bound best done : ℕ)
+    (far : LeastSoFar edges relation P key bound best done) where
+  pub least_next : done < length edges → (from to : ℕ) → slice_index_or edges done (0, 0) ≡ (from, to) → (new : ℕ) → new ≤ best
+      → (from ≡ relation → P to → new ≤ key to) → (new ≡ best) ⊎ ((from ≡ relation) × P to × (key to ≡ new))
+      → LeastSoFar edges relation P key bound new (done + 1)
   least_next below from to is new low here which = record {
-    least = so_far (λ place. (slice_index_or edges place (0, 0)).0 ≡ relation → P (slice_index_or edges place (0, 0)).1 → new ≤ key (slice_index_or edges place (0, 0)).1) done
+    least = so_far (λ place. (slice_index_or edges place (0, 0)).0 ≡ relation → P (slice_index_or edges place (0, 0)).1
+        → new ≤ key (slice_index_or edges place (0, 0)).1) done
         (λ place before at has. (let so = far.least place before at has in omega arith))
         (subst (λ e. e.0 ≡ relation → P e.1 → new ≤ key e.1) (sym is) here);
     is = λ small. found small which;
@@ -239,13 +264,15 @@ module _ (edges : List (ℕ × ℕ)) (relation : ℕ) (P : ℕ → Type 0) (key 
     where
       found : new < bound → (new ≡ best) ⊎ ((from ≡ relation) × P to × (key to ≡ new)) → (next : ℕ) × Joins edges relation next × P next × (key next ≡ new)
       found small (inl same) = let old = far.is (omega arith) in (old.0, old.1, old.2, old.3 ∙ sym same)
-      found small (inr (at, has, equal)) = (to, subst (λ x. Contains edges (x, to)) at (subst (Contains edges) is (Contains-get_or edges done (0, 0) below)), has, equal)
+      found small (inr (at, has, equal)) =
+          (to, subst (λ x. Contains edges (x, to)) at (subst (Contains edges) is (Contains-get_or edges done (0, 0) below)), has, equal)
 
   pub least_whole : length edges ≤ done → (next : ℕ) → Joins edges relation next → P next → best ≤ key next
   least_whole all next (place, below, is) =
       subst (λ e. e.0 ≡ relation → P e.1 → best ≤ key e.1) (get_or_default edges place (0, 0) (relation, next) below ∙ is) (far.least place (omega arith)) refl
 
-pub ends_within : (edges : List (ℕ × ℕ)) (count place : ℕ) → IsWithin count (Joins edges) → place < length edges → ((slice_index_or edges place (0, 0)).0 < count) × ((slice_index_or edges place (0, 0)).1 < count)
+pub ends_within : (edges : List (ℕ × ℕ)) (count place : ℕ) → IsWithin count (Joins edges) → place < length edges
+    → ((slice_index_or edges place (0, 0)).0 < count) × ((slice_index_or edges place (0, 0)).1 < count)
 ends_within edges count place within below = within _ _ (Contains-get_or edges place (0, 0) below)
 
 -- ---- some cycle

@@ -15,12 +15,14 @@ use Rattle.esto_term.proofs.ListLemmas.{Contains-cases, Contains-flat, Contains-
 abbrev edge_of : ℕ → ℕ → ℕ × ℕ
 edge_of from to = (from, to)
 
-edges_from-is : (relation : ℕ) (head : List (Fact Term)) (from to : ℕ) → Contains (edges_from relation head) (edge_of from to) → (relation ≡ from) × HasRelation head to
+edges_from-is : (relation : ℕ) (head : List (Fact Term)) (from to : ℕ) → Contains (edges_from relation head) (edge_of from to)
+    → (relation ≡ from) × HasRelation head to
 edges_from-is relation head from to inside =
     let found = Contains-flat_from (λ (atom : Fact Term). edge_of relation atom.relation ∷ []) head (edge_of from to) inside in
     by found.0 found.1 (Contains-cases (edge_of relation found.0.relation) [] (edge_of from to) found.2)
   where
-    by : (atom : Fact Term) → Contains head atom → (edge_of relation atom.relation ≡ edge_of from to) ⊎ Contains [] (edge_of from to) → (relation ≡ from) × HasRelation head to
+    by : (atom : Fact Term) → Contains head atom → (edge_of relation atom.relation ≡ edge_of from to) ⊎ Contains [] (edge_of from to)
+        → (relation ≡ from) × HasRelation head to
     by atom at (inl same) = (ap (λ (edge : ℕ × ℕ). edge.0) same, (atom, at, ap (λ (edge : ℕ × ℕ). edge.1) same))
     by atom at (inr none) = absurd (Contains-nil (edge_of from to) none)
 
@@ -29,7 +31,8 @@ edges_from-has relation head to (atom, at, is) =
     Contains-flat (λ (other : Fact Term). edge_of relation other.relation ∷ []) head atom (edge_of relation to) at
     (subst (λ end. Contains (edge_of relation atom.relation ∷ []) (edge_of relation end)) is (Contains-head (edge_of relation atom.relation) []))
 
-rule_joins : (rule : Rule) (from to : ℕ) → Contains (edges_of_rule rule) (edge_of from to) → (body : List (Fact Term)) × (head : List (Fact Term)) × (rule ≡ tuple body head) × HasRelation body from × HasRelation head to
+rule_joins : (rule : Rule) (from to : ℕ) → Contains (edges_of_rule rule) (edge_of from to)
+    → (body : List (Fact Term)) × (head : List (Fact Term)) × (rule ≡ tuple body head) × HasRelation body from × HasRelation head to
 rule_joins (tuple body head) from to inside =
     let found = Contains-flat_from (λ (atom : Fact Term). edges_from atom.relation head) body (edge_of from to) inside in
     let ends = edges_from-is found.0.relation head from to found.2 in
@@ -37,7 +40,8 @@ rule_joins (tuple body head) from to inside =
 rule_joins (equality body left right) from to inside = absurd (Contains-nil (edge_of from to) inside)
 rule_joins (denial body) from to inside = absurd (Contains-nil (edge_of from to) inside)
 
-tuple_joins : (body head : List (Fact Term)) (from to : ℕ) → HasRelation body from → HasRelation head to → Contains (edges_of_rule (tuple body head)) (edge_of from to)
+tuple_joins : (body head : List (Fact Term)) (from to : ℕ) → HasRelation body from → HasRelation head to
+    → Contains (edges_of_rule (tuple body head)) (edge_of from to)
 tuple_joins body head from to (atom, at, is) ends =
     Contains-flat (λ (other : Fact Term). edges_from other.relation head) body atom (edge_of from to) at
     (subst (λ start. Contains (edges_from atom.relation head) (edge_of start to)) is (edges_from-has atom.relation head to ends))
@@ -53,12 +57,14 @@ joins_edges rules from to = (
 
 -- ---- the relations of a cycle
 
-starts_below : (Edge : ℕ → ℕ → Type 0) (count : ℕ) → IsWithin count Edge → (from : ℕ) (relations : List ℕ) (to : ℕ) → IsWalk Edge from relations to → AllByRecursion (λ relation. relation < count) relations
+starts_below : (Edge : ℕ → ℕ → Type 0) (count : ℕ) → IsWithin count Edge → (from : ℕ) (relations : List ℕ) (to : ℕ) → IsWalk Edge from relations to
+    → AllByRecursion (λ relation. relation < count) relations
 starts_below Edge count within from [] to same = tt
 starts_below Edge count within from (here ∷ rest) to (next, is, edge, walk) =
     (subst (λ relation. relation < count) (sym is) (within from next edge).0, starts_below Edge count within next rest to walk)
 
-pub cycle_below : (Edge : ℕ → ℕ → Type 0) (count : ℕ) → IsWithin count Edge → (relations : List ℕ) → IsLeastCycle Edge relations → All (λ relation. relation < count) relations
+pub cycle_below : (Edge : ℕ → ℕ → Type 0) (count : ℕ) → IsWithin count Edge → (relations : List ℕ) → IsLeastCycle Edge relations
+    → All (λ relation. relation < count) relations
 cycle_below Edge count within relations is =
     All-from_recursion (λ relation. relation < count) relations (starts_below Edge count within is.start relations is.start is.here.cycle.1)
 
@@ -75,7 +81,8 @@ module _ (rules : List Rule) (edges : List (ℕ × ℕ)) (is : edges ≡ edges_o
   joined_within count number same within = subst (λ n. IsWithin n (Joins edges)) (sym same) (IsWithin-same (Joins edges) (IsEdge rules) joined count within)
 
   pub judged_ranks : (count number : ℕ) → number ≡ count → (ranks : List ℕ) → AreRanks (Joins edges) number ranks → AreRanks (IsEdge rules) count ranks
-  judged_ranks count number same ranks are = AreRanks-same (Joins edges) (IsEdge rules) joined count ranks (subst (λ n. AreRanks (Joins edges) n ranks) same are)
+  judged_ranks count number same ranks are =
+      AreRanks-same (Joins edges) (IsEdge rules) joined count ranks (subst (λ n. AreRanks (Joins edges) n ranks) same are)
 
   pub judged_cycle : (relations : List ℕ) → IsLeastCycle (Joins edges) relations → IsLeastCycle (IsEdge rules) relations
   judged_cycle relations cycle = IsLeastCycle-same (Joins edges) (IsEdge rules) joined relations cycle

@@ -12,7 +12,8 @@ use Rattle.esto_acyclic.proofs.WalkLemmas.{same_or_apart, walk_rises, Arrives-ne
 -- ---- numbers in a list, of which one is set
 
 -- what holds of the new number at its place, and of each old one at another, holds of the number at each place
-pub set_at_each : (P : ℕ → ℕ → Type 0) (numbers : List ℕ) (place number : ℕ) → place < length numbers → P place number → (k : ℕ) → (k ≢ place → P k (slice_index numbers k)) → P k (slice_index (set numbers place number) k)
+pub set_at_each : (P : ℕ → ℕ → Type 0) (numbers : List ℕ) (place number : ℕ) → place < length numbers → P place number → (k : ℕ)
+    → (k ≢ place → P k (slice_index numbers k)) → P k (slice_index (set numbers place number) k)
 set_at_each P numbers place number below new k old = elim (same_or_apart k place) [
   | inl same ↦ subst (λ j. P j (get_or (set numbers place number) j 0)) (sym same) (subst (P place) (sym (get_or-set_same numbers place number 0 below)) new)
   | inr apart ↦ subst (P k) (sym (get_or-set_other numbers place k number 0 apart)) (old apart)
@@ -27,11 +28,13 @@ so_far P bound before here k below = elim (same_or_apart k bound) [
 
 -- ---- one edge
 
-module _ (Edge : ℕ → ℕ → Type 0) (ranks : List ℕ) (from to : ℕ) (within : IsWithin (length ranks) Edge) (reached : AreReached Edge ranks) (edge : Edge from to) where
+module _ (Edge : ℕ → ℕ → Type 0) (ranks : List ℕ) (from to : ℕ) (within : IsWithin (length ranks) Edge) (reached : AreReached Edge ranks)
+    (edge : Edge from to) where
   AreReached-set : slice_index ranks from + 1 < length ranks → AreReached Edge (set ranks to (slice_index ranks from + 1))
   AreReached-set fits relation below =
       let same = length-set ranks to (slice_index ranks from + 1) in
-      subst (λ count. Arrives Edge relation (slice_index (set ranks to (slice_index ranks from + 1)) relation) × (slice_index (set ranks to (slice_index ranks from + 1)) relation < count)) (sym same)
+      subst (λ count. Arrives Edge relation (slice_index (set ranks to (slice_index ranks from + 1)) relation)
+      × (slice_index (set ranks to (slice_index ranks from + 1)) relation < count)) (sym same)
       (set_at_each (λ r rank. Arrives Edge r rank × (rank < length ranks)) ranks to (slice_index ranks from + 1) (within from to edge).1
       (Arrives-next Edge from to (slice_index ranks from) (reached from (within from to edge).0).0 edge, fits)
       relation (λ apart. reached relation (subst (λ count. relation < count) same below)))
@@ -56,7 +59,8 @@ pub record RaisedSoFar (edges : List (ℕ × ℕ)) (old now : List ℕ) (rose : 
   pub more : rose ≡ true → sum old < sum now
   pub still : rose ≡ false → (place : ℕ) → place < done → RisesAt edges now place
 
-module _ (edges : List (ℕ × ℕ)) (old now : List ℕ) (rose : Bool) (done from to : ℕ) (far : RaisedSoFar edges old now rose done) (below : done < length edges) (is : slice_index_or edges done (0, 0) ≡ (from, to)) where
+module _ (edges : List (ℕ × ℕ)) (old now : List ℕ) (rose : Bool) (done from to : ℕ) (far : RaisedSoFar edges old now rose done) (below : done < length edges)
+    (is : slice_index_or edges done (0, 0) ≡ (from, to)) where
   edge : Joins edges from to
   edge = subst (Contains edges) is (Contains-get_or edges done (0, 0) below)
 
@@ -102,12 +106,15 @@ AreReached-start Edge count ranks is = (same, λ relation below. reached relatio
     same = ap length is ∙ length-replicate count zero
 
     zero_at : (relation : ℕ) → relation < length ranks → get_or ranks relation zero ≡ zero
-    zero_at relation below = ap (λ l. get_or l relation zero) is ∙ get_or-replicate count relation zero zero (subst (λ c. relation < c) (ap length is ∙ length-replicate count zero) below)
+    zero_at relation below = ap (λ l. get_or l relation zero) is
+        ∙ get_or-replicate count relation zero zero (subst (λ c. relation < c) (ap length is ∙ length-replicate count zero) below)
 
-    reached : (relation : ℕ) → relation < length ranks → get_or ranks relation zero ≡ zero → Arrives Edge relation (get_or ranks relation zero) × (get_or ranks relation zero < length ranks)
+    reached : (relation : ℕ) → relation < length ranks → get_or ranks relation zero ≡ zero
+        → Arrives Edge relation (get_or ranks relation zero) × (get_or ranks relation zero < length ranks)
     reached relation below z = subst (λ rank. Arrives Edge relation rank × (rank < length ranks)) (sym z) ((relation, [], refl, refl), omega arith)
 
-pub AreRanks-still : (edges : List (ℕ × ℕ)) (count : ℕ) (ranks : List ℕ) → length ranks ≡ count → AreReached (Joins edges) ranks → ((place : ℕ) → place < length edges → RisesAt edges ranks place) → AreRanks (Joins edges) count ranks
+pub AreRanks-still : (edges : List (ℕ × ℕ)) (count : ℕ) (ranks : List ℕ) → length ranks ≡ count → AreReached (Joins edges) ranks
+    → ((place : ℕ) → place < length edges → RisesAt edges ranks place) → AreRanks (Joins edges) count ranks
 AreRanks-still edges count ranks same reached still = record {
   for_each = same;
   exact = λ relation below. record {
@@ -117,10 +124,14 @@ AreRanks-still edges count ranks same reached still = record {
 }
   where
     rises : (from to : ℕ) → Joins edges from to → slice_index ranks from < slice_index ranks to
-    rises from to (place, below, is) = subst (λ e. slice_index ranks e.0 < slice_index ranks e.1) (get_or_default edges place (0, 0) (from, to) below ∙ is) (still place below)
+    rises from to (place, below, is) =
+        subst (λ e. slice_index ranks e.0 < slice_index ranks e.1) (get_or_default edges place (0, 0) (from, to) below ∙ is) (still place below)
 
 sum-bound : (Edge : ℕ → ℕ → Type 0) (count : ℕ) (ranks : List ℕ) → length ranks ≡ count → AreReached Edge ranks → sum ranks ≤ count * count
-sum-bound Edge count ranks same reached = subst (λ m. sum ranks ≤ m * count) same (sum_by-le (λ x. x) count ranks (All-from_get_or (λ x. x ≤ count) ranks 0 (λ relation below. omega (arith, (reached relation below).1))))
+sum-bound Edge count ranks same reached =
+    subst (λ m. sum ranks ≤ m * count) same
+    (sum_by-le (λ x. x) count ranks (All-from_get_or (λ x. x ≤ count) ranks 0 (λ relation below. omega (arith, (reached relation below).1))))
 
-pub room_falls : (Edge : ℕ → ℕ → Type 0) (count : ℕ) (old new : List ℕ) → length new ≡ count → AreReached Edge new → sum old < sum new → count * count - sum new < count * count - sum old
+pub room_falls : (Edge : ℕ → ℕ → Type 0) (count : ℕ) (old new : List ℕ) → length new ≡ count → AreReached Edge new → sum old < sum new
+    → count * count - sum new < count * count - sum old
 room_falls Edge count old new same reached grew = let bound = sum-bound Edge count new same reached in omega arith

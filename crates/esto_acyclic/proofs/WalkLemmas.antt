@@ -14,7 +14,8 @@ same_or_apart i j = elim (eqb_tells i j) [ inl (t, same) ↦ inl same | inr (f, 
 
 -- ---- walks joined
 
-pub IsWalk-append : (Edge : ℕ → ℕ → Type 0) (from : ℕ) (first : List ℕ) (middle : ℕ) (second : List ℕ) (to : ℕ) → IsWalk Edge from first middle → IsWalk Edge middle second to → IsWalk Edge from (first ++ second) to
+pub IsWalk-append : (Edge : ℕ → ℕ → Type 0) (from : ℕ) (first : List ℕ) (middle : ℕ) (second : List ℕ) (to : ℕ) → IsWalk Edge from first middle
+    → IsWalk Edge middle second to → IsWalk Edge from (first ++ second) to
 IsWalk-append Edge from [] middle second to same more = subst (λ at. IsWalk Edge at second to) (sym same) more
 IsWalk-append Edge from (here ∷ rest) middle second to (next, is, edge, walk) more =
     (next, is, edge, IsWalk-append Edge next rest middle second to walk more)
@@ -28,7 +29,8 @@ Arrives-next Edge from to edges (start, relations, walk, long) edge = (
 )
 
 -- numbers that rise along each edge rise along a walk by the number of its edges at least
-pub walk_rises : (Edge : ℕ → ℕ → Type 0) (number : ℕ → ℕ) → ((from to : ℕ) → Edge from to → number from < number to) → (from : ℕ) (relations : List ℕ) (to : ℕ) → IsWalk Edge from relations to → number from + length relations ≤ number to
+pub walk_rises : (Edge : ℕ → ℕ → Type 0) (number : ℕ → ℕ) → ((from to : ℕ) → Edge from to → number from < number to) → (from : ℕ) (relations : List ℕ) (to : ℕ)
+    → IsWalk Edge from relations to → number from + length relations ≤ number to
 walk_rises Edge number rises from [] to same = let equal = ap number same in omega arith
 walk_rises Edge number rises from (here ∷ rest) to (next, is, edge, walk) =
     let step = rises from next edge in
@@ -54,13 +56,16 @@ PartsAt Edge from relations to cut =
 -- a walk in three parts, the second of which is a cycle
 abbrev pub Loops : (ℕ → ℕ → Type 0) → ℕ → List ℕ → ℕ → Type 0
 Loops Edge from relations to =
-    (cut : ℕ) × (before : List ℕ) × (cycle : List ℕ) × (after : List ℕ) × IsWalk Edge from before cut × IsCycleAt Edge cut cycle × IsWalk Edge cut after to × (length relations ≡ length before + length cycle + length after)
+    (cut : ℕ) × (before : List ℕ) × (cycle : List ℕ) × (after : List ℕ) × IsWalk Edge from before cut × IsCycleAt Edge cut cycle × IsWalk Edge cut after to
+    × (length relations ≡ length before + length cycle + length after)
 
-cut_here : (Edge : ℕ → ℕ → Type 0) (from : ℕ) (relations : List ℕ) (to cut : ℕ) → IsWalk Edge from relations to → cut ≡ from → PartsAt Edge from relations to cut
+cut_here : (Edge : ℕ → ℕ → Type 0) (from : ℕ) (relations : List ℕ) (to cut : ℕ) → IsWalk Edge from relations to → cut ≡ from
+    → PartsAt Edge from relations to cut
 cut_here Edge from relations to cut walk is =
     ([], relations, sym is, subst (λ at. IsWalk Edge at relations to) (sym is) walk, omega arith)
 
-cut_later : (Edge : ℕ → ℕ → Type 0) (from here next : ℕ) (rest : List ℕ) (to cut : ℕ) → here ≡ from → Edge from next → PartsAt Edge next rest to cut → PartsAt Edge from (here ∷ rest) to cut
+cut_later : (Edge : ℕ → ℕ → Type 0) (from here next : ℕ) (rest : List ℕ) (to cut : ℕ) → here ≡ from → Edge from next → PartsAt Edge next rest to cut
+    → PartsAt Edge from (here ∷ rest) to cut
 cut_later Edge from here next rest to cut is edge (before, after, one, two, long) =
     (here ∷ before, after, (next, is, edge, one), two, omega arith)
 
@@ -71,14 +76,16 @@ any_later first rest fails some = subst (λ t. (t || rest) ≡ true) fails some
 no_any : (first : Bool) → first ≡ false → (first || false) ≡ true → ⊥
 no_any first fails some = let never : false ≡ true = any_later first false fails some in cc
 
-cut_at : (Edge : ℕ → ℕ → Type 0) (from : ℕ) (relations : List ℕ) (to cut : ℕ) → IsWalk Edge from relations to → list_any (eqb cut) (stops relations to) ≡ true → PartsAt Edge from relations to cut
+cut_at : (Edge : ℕ → ℕ → Type 0) (from : ℕ) (relations : List ℕ) (to cut : ℕ) → IsWalk Edge from relations to → list_any (eqb cut) (stops relations to) ≡ true
+    → PartsAt Edge from relations to cut
 cut_at Edge from [] to cut walk stands = elim (eqb_tells cut to) [
   | inl (t, same) ↦ cut_here Edge from [] to cut walk (same ∙ sym walk)
   | inr (f, apart) ↦ absurd (no_any (eqb cut to) f stands)
 ]
 cut_at Edge from (here ∷ rest) to cut (next, is, edge, walk) stands = elim (eqb_tells cut here) [
   | inl (t, same) ↦ cut_here Edge from (here ∷ rest) to cut (next, is, edge, walk) (same ∙ is)
-  | inr (f, apart) ↦ cut_later Edge from here next rest to cut is edge (cut_at Edge next rest to cut walk (any_later (eqb cut here) (list_any (eqb cut) (stops rest to)) f stands))
+  | inr (f, apart) ↦ cut_later Edge from here next rest to cut is edge
+      (cut_at Edge next rest to cut walk (any_later (eqb cut here) (list_any (eqb cut) (stops rest to)) f stands))
 ]
 
 -- ---- a walk that comes to no relation twice, or has a cycle
@@ -98,14 +105,16 @@ IsDistinct-more : (here : ℕ) (others : List ℕ) → list_any (eqb here) other
 unfolding IsDistinct
 IsDistinct-more here others none distinct = (none_same here others none, distinct)
 
-distinct_or_loops : (Edge : ℕ → ℕ → Type 0) (from : ℕ) (relations : List ℕ) (to : ℕ) → IsWalk Edge from relations to → IsDistinct eqb (stops relations to) ⊎ Loops Edge from relations to
+distinct_or_loops : (Edge : ℕ → ℕ → Type 0) (from : ℕ) (relations : List ℕ) (to : ℕ) → IsWalk Edge from relations to
+    → IsDistinct eqb (stops relations to) ⊎ Loops Edge from relations to
 distinct_or_loops Edge from [] to walk = inl (IsDistinct-one to)
 distinct_or_loops Edge from (here ∷ rest) to (next, is, edge, walk) = elim (distinct_or_loops Edge next rest to walk) [
   | inr (cut, before, cycle, after, one, two, three, long) ↦ inr (cut, here ∷ before, cycle, after, (next, is, edge, one), two, three, omega arith)
   | inl distinct ↦ by distinct (list_any (eqb here) (stops rest to)) refl
 ]
   where
-    by : IsDistinct eqb (stops rest to) → (again : Bool) → list_any (eqb here) (stops rest to) ≡ again → IsDistinct eqb (here ∷ stops rest to) ⊎ Loops Edge from (here ∷ rest) to
+    by : IsDistinct eqb (stops rest to) → (again : Bool) → list_any (eqb here) (stops rest to) ≡ again
+        → IsDistinct eqb (here ∷ stops rest to) ⊎ Loops Edge from (here ∷ rest) to
     by distinct false none = inl (IsDistinct-more here (stops rest to) none distinct)
     by distinct true again = back (cut_at Edge next rest to here walk again)
       where
@@ -113,7 +122,8 @@ distinct_or_loops Edge from (here ∷ rest) to (next, is, edge, walk) = elim (di
         back (before, after, one, two, long) =
             inr (here, [], here ∷ before, after, sym is, (omega arith, (next, refl, subst (λ at. Edge at next) (sym is) edge, one)), two, omega arith)
 
-stops_below : (Edge : ℕ → ℕ → Type 0) (count : ℕ) → IsWithin count Edge → (from : ℕ) (relations : List ℕ) (to : ℕ) → to < count → IsWalk Edge from relations to → (stop : ℕ) → list_any (eqb stop) (stops relations to) ≡ true → stop < count
+stops_below : (Edge : ℕ → ℕ → Type 0) (count : ℕ) → IsWithin count Edge → (from : ℕ) (relations : List ℕ) (to : ℕ) → to < count → IsWalk Edge from relations to
+    → (stop : ℕ) → list_any (eqb stop) (stops relations to) ≡ true → stop < count
 stops_below Edge count within from [] to below walk stop stands = elim (eqb_tells stop to) [
   | inl (t, same) ↦ omega arith
   | inr (f, apart) ↦ absurd (no_any (eqb stop to) f stands)
@@ -124,20 +134,27 @@ stops_below Edge count within from (here ∷ rest) to below (next, is, edge, wal
 ]
 
 -- a walk of as many edges as there are relations has a cycle
-pub long_walk_loops : (Edge : ℕ → ℕ → Type 0) (count : ℕ) → IsWithin count Edge → (from : ℕ) (relations : List ℕ) (to : ℕ) → to < count → IsWalk Edge from relations to → count ≤ length relations → Loops Edge from relations to
+pub long_walk_loops : (Edge : ℕ → ℕ → Type 0) (count : ℕ) → IsWithin count Edge → (from : ℕ) (relations : List ℕ) (to : ℕ) → to < count
+    → IsWalk Edge from relations to → count ≤ length relations → Loops Edge from relations to
 long_walk_loops Edge count within from relations to below walk long = elim (distinct_or_loops Edge from relations to walk) [
   | inr found ↦ found
-  | inl distinct ↦ absurd (omega (arith, length-le_from_distinct_below (stops relations to) count distinct (stops_below Edge count within from relations to below walk), length-stops relations to))
+  | inl distinct ↦ absurd (omega (
+    arith,
+    length-le_from_distinct_below (stops relations to) count distinct (stops_below Edge count within from relations to below walk),
+    length-stops relations to,
+  ))
 ]
 
-pub walk_is_short : (Edge : ℕ → ℕ → Type 0) (count : ℕ) → IsWithin count Edge → IsAcyclic Edge → (from : ℕ) (relations : List ℕ) (to : ℕ) → to < count → IsWalk Edge from relations to → length relations < count
+pub walk_is_short : (Edge : ℕ → ℕ → Type 0) (count : ℕ) → IsWithin count Edge → IsAcyclic Edge → (from : ℕ) (relations : List ℕ) (to : ℕ) → to < count
+    → IsWalk Edge from relations to → length relations < count
 walk_is_short Edge count within acyclic from relations to below walk = elim (le_or_more count (length relations)) [
   | inr short ↦ short
   | inl long ↦ let found = long_walk_loops Edge count within from relations to below walk long in absurd (acyclic found.0 found.2 found.5)
 ]
 
 -- where a walk of at least one edge leads, a walk of at most as many edges as there are relations does
-pub short_walk : (Edge : ℕ → ℕ → Type 0) (count : ℕ) → IsWithin count Edge → (bound from to : ℕ) (relations : List ℕ) → to < count → length relations ≤ bound → 0 < length relations → IsWalk Edge from relations to → (others : List ℕ) × (0 < length others) × (length others ≤ count) × IsWalk Edge from others to
+pub short_walk : (Edge : ℕ → ℕ → Type 0) (count : ℕ) → IsWithin count Edge → (bound from to : ℕ) (relations : List ℕ) → to < count → length relations ≤ bound
+    → 0 < length relations → IsWalk Edge from relations to → (others : List ℕ) × (0 < length others) × (length others ≤ count) × IsWalk Edge from others to
 short_walk Edge count within zero from to relations below fits some walk = absurd (omega arith)
 short_walk Edge count within (suc bound) from to [] below fits some walk = absurd (omega arith)
 short_walk Edge count within (suc bound) from to (here ∷ rest) below fits some (next, is, edge, walk) =
@@ -151,7 +168,9 @@ short_walk Edge count within (suc bound) from to (here ∷ rest) below fits some
       (next, is, edge, IsWalk-append Edge next before cut after to one three),
     )
 
-    go : ((others : List ℕ) → length others ≤ bound → 0 < length others → IsWalk Edge from others to → (found : List ℕ) × (0 < length found) × (length found ≤ count) × IsWalk Edge from found to) → (count ≤ length rest) ⊎ (length rest < count) → (found : List ℕ) × (0 < length found) × (length found ≤ count) × IsWalk Edge from found to
+    go : ((others : List ℕ) → length others ≤ bound → 0 < length others → IsWalk Edge from others to
+        → (found : List ℕ) × (0 < length found) × (length found ≤ count) × IsWalk Edge from found to) → (count ≤ length rest) ⊎ (length rest < count)
+        → (found : List ℕ) × (0 < length found) × (length found ≤ count) × IsWalk Edge from found to
     go again (inr short) = (here ∷ rest, omega arith, omega arith, (next, is, edge, walk))
     go again (inl long) =
         let cut = without_cycle (long_walk_loops Edge count within next rest to below walk long) in

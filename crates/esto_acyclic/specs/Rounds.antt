@@ -39,7 +39,8 @@ Leads Edge from edges to = (relations : List ℕ) × IsWalk Edge from relations 
 -- The distance at the target is 0, and each distance below the number of relations is that of some walk to the target.
 pub record AreNear (Edge : ℕ → ℕ → Type 0) (target : ℕ) (distances : List ℕ) : Type 0 where
   pub zero : slice_index distances target ≡ 0
-  pub held : (relation : ℕ) → relation < length distances → slice_index distances relation < length distances → Leads Edge relation (slice_index distances relation) target
+  pub held : (relation : ℕ) → relation < length distances → slice_index distances relation < length distances
+      → Leads Edge relation (slice_index distances relation) target
 
 -- They are so, and fall by at most one along each edge.
 pub record AreDistances (Edge : ℕ → ℕ → Type 0) (target : ℕ) (distances : List ℕ) : Type 0 where

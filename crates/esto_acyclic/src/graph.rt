@@ -70,7 +70,8 @@ fn filled(alloc: Global, number: usize, count: usize) -> Result<Vec<usize>, OutO
 /// The ranks; None where some walk has as many edges as there are relations.
 fn ranks_of(alloc: Global, count: usize, edges: &[Edge]) -> Result<Option<Vec<usize>>, OutOfMemory>
     requires { IsWithin count (Joins edges.now) }
-    ensures { IfOk result (λ it. MatchOption it (IsLong (Joins edges.now) count) (λ ranks. AreRanks (Joins edges.now) count ranks.items)) }
+    ensures { IfOk result (λ it. MatchOption it (IsLong (Joins edges.now) count)
+        (λ ranks. AreRanks (Joins edges.now) count ranks.items)) }
 {
     let mut ranks = filled(alloc, 0, count)?;
     'rounds: loop {
@@ -99,7 +100,8 @@ fn lower(from: usize, to: usize, distances: &mut Vec<usize>) -> bool
 fn sink(edges: &[Edge], distances: &mut Vec<usize>) -> bool
     requires { IsWithin (length distances.old.items) (Joins edges.now) }
     ensures same { length distances.new.items ≡ length distances.old.items }
-    ensures near { (target : ℕ) → AreNear (Joins edges.now) target distances.old.items → AreNear (Joins edges.now) target distances.new.items }
+    ensures near { (target : ℕ) → AreNear (Joins edges.now) target distances.old.items
+        → AreNear (Joins edges.now) target distances.new.items }
     ensures sinks { Sinks edges.now distances.old.items distances.new.items result }
 {
     let mut fell = false;
@@ -139,7 +141,8 @@ fn nearer(edge: Edge, distances: &[usize], relation: usize, best: usize) -> usiz
     requires { edge.1 < length distances.now }
     ensures within { result ≤ best }
     ensures least { edge.0 ≡ relation → result ≤ slice_index distances.now edge.1 }
-    ensures is { (result ≡ best) ⊎ ((edge.0 ≡ relation) × (slice_index distances.now edge.1 ≡ result)) }
+    ensures is { (result ≡ best) ⊎ ((edge.0 ≡ relation)
+        × (slice_index distances.now edge.1 ≡ result)) }
 {
     let (from, to) = edge;
     if from != relation {
@@ -155,8 +158,10 @@ fn nearer(edge: Edge, distances: &[usize], relation: usize, best: usize) -> usiz
 /// The least distance of a relation to which an edge leads from this one, or the number of relations.
 fn nearest(edges: &[Edge], distances: &[usize], relation: usize) -> usize
     requires { IsWithin (length distances.now) (Joins edges.now) }
-    ensures least { (next : ℕ) → Joins edges.now relation next → result ≤ slice_index distances.now next }
-    ensures is { result < length distances.now → (next : ℕ) × Joins edges.now relation next × (slice_index distances.now next ≡ result) }
+    ensures least { (next : ℕ) → Joins edges.now relation next
+        → result ≤ slice_index distances.now next }
+    ensures is { result < length distances.now
+        → (next : ℕ) × Joins edges.now relation next × (slice_index distances.now next ≡ result) }
 {
     let mut best = distances.len();
     'edges: for edge in edges {
@@ -170,8 +175,10 @@ fn nearest(edges: &[Edge], distances: &[usize], relation: usize) -> usize
 fn lesser(edge: Edge, distances: &[usize], relation: usize, distance: usize, best: usize) -> usize
     requires { edge.1 < length distances.now }
     ensures within { result ≤ best }
-    ensures least { edge.0 ≡ relation → slice_index distances.now edge.1 ≡ distance → result ≤ edge.1 }
-    ensures is { (result ≡ best) ⊎ ((edge.0 ≡ relation) × (slice_index distances.now edge.1 ≡ distance) × (edge.1 ≡ result)) }
+    ensures least { edge.0 ≡ relation → slice_index distances.now edge.1 ≡ distance
+        → result ≤ edge.1 }
+    ensures is { (result ≡ best) ⊎ ((edge.0 ≡ relation)
+        × (slice_index distances.now edge.1 ≡ distance) × (edge.1 ≡ result)) }
 {
     let (from, to) = edge;
     if from != relation {
@@ -186,8 +193,10 @@ fn lesser(edge: Edge, distances: &[usize], relation: usize, distance: usize, bes
 /// The least relation at that distance to which an edge leads from this one, or the number of relations.
 fn least_next(edges: &[Edge], distances: &[usize], relation: usize, distance: usize) -> usize
     requires { IsWithin (length distances.now) (Joins edges.now) }
-    ensures least { (next : ℕ) → Joins edges.now relation next → slice_index distances.now next ≡ distance → result ≤ next }
-    ensures is { result < length distances.now → Joins edges.now relation result × (slice_index distances.now result ≡ distance) }
+    ensures least { (next : ℕ) → Joins edges.now relation next
+        → slice_index distances.now next ≡ distance → result ≤ next }
+    ensures is { result < length distances.now
+        → Joins edges.now relation result × (slice_index distances.now result ≡ distance) }
 {
     let mut best = distances.len();
     'edges: for edge in edges {
@@ -206,7 +215,8 @@ fn cycle_by_distances(
     requires within { IsWithin (length distances.now) (Joins edges.now) }
     requires start { start < length distances.now }
     requires exact { AreDistances (Joins edges.now) start distances.now }
-    ensures { IfOk result (λ it. MatchOption it (HasNoCycle (Joins edges.now) start) (λ cycle. IsLeastCycleAt (Joins edges.now) start cycle)) }
+    ensures { IfOk result (λ it. MatchOption it (HasNoCycle (Joins edges.now) start)
+        (λ cycle. IsLeastCycleAt (Joins edges.now) start cycle)) }
 {
     let near = nearest(edges, distances, start);
     if near >= distances.len() {
@@ -232,7 +242,8 @@ fn cycle_at(
 ) -> Result<Option<Places>, OutOfMemory>
     requires within { IsWithin count (Joins edges.now) }
     requires start { start < count }
-    ensures { IfOk result (λ it. MatchOption it (HasNoCycle (Joins edges.now) start) (λ cycle. IsLeastCycleAt (Joins edges.now) start cycle)) }
+    ensures { IfOk result (λ it. MatchOption it (HasNoCycle (Joins edges.now) start)
+        (λ cycle. IsLeastCycleAt (Joins edges.now) start cycle)) }
 {
     let distances = distances_to(alloc, count, edges, start)?;
     let found = cycle_by_distances(alloc, edges, distances.as_slice(), start)?;
@@ -262,7 +273,9 @@ pub fn judge_edges(
     edges: &[Edge],
 ) -> Result<Either<Vec<usize>, Places>, OutOfMemory>
     requires { IsWithin count (Joins edges.now) }
-    ensures judged { IfOk result (λ it. MatchEither it (λ ranks. AreRanks (Joins edges.now) count ranks.items) (λ cycle. IsLeastCycle (Joins edges.now) cycle)) }
+    ensures judged { IfOk result (λ it. MatchEither it
+        (λ ranks. AreRanks (Joins edges.now) count ranks.items)
+        (λ cycle. IsLeastCycle (Joins edges.now) cycle)) }
 {
     let found = ranks_of(alloc, count, edges)?;
     match found {

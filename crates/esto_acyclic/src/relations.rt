@@ -128,9 +128,14 @@ pub fn judge(
     rules: &Rules,
 ) -> Result<Either<Ranks, Cycle>, OutOfMemory>
     requires { IsWithin (length schema.now) (IsEdge (rules_of rules.now)) }
-    ensures acyclic { IfOk result (λ judged. MatchEither judged (λ _. IsAcyclic (IsEdge (rules_of rules.now))) (λ _. ¬ (IsAcyclic (IsEdge (rules_of rules.now))))) }
-    ensures ranks { IfOk result (λ judged. MatchEither judged (λ ranks. AreRanks (IsEdge (rules_of rules.now)) (length schema.now) ranks) (λ _. ⊤)) }
-    ensures cycle { IfOk result (λ judged. MatchEither judged (λ _. ⊤) (λ cycle. IsLeastCycle (IsEdge (rules_of rules.now)) cycle.relations × AreNamesOf schema.now cycle.relations cycle.names)) }
+    ensures acyclic { IfOk result (λ judged. MatchEither judged
+        (λ _. IsAcyclic (IsEdge (rules_of rules.now)))
+        (λ _. ¬ (IsAcyclic (IsEdge (rules_of rules.now))))) }
+    ensures ranks { IfOk result (λ judged. MatchEither judged
+        (λ ranks. AreRanks (IsEdge (rules_of rules.now)) (length schema.now) ranks) (λ _. ⊤)) }
+    ensures cycle { IfOk result (λ judged. MatchEither judged (λ _. ⊤)
+        (λ cycle. IsLeastCycle (IsEdge (rules_of rules.now)) cycle.relations
+        × AreNamesOf schema.now cycle.relations cycle.names)) }
 {
     let edges = edges_of(alloc, rules.items())?;
     let judged = judge_edges(alloc, schema.len(), edges.items())?;
@@ -145,13 +150,23 @@ pub fn judge(
 
 /// A law: ranks rise along every edge, and each is below the number of relations.
 pub fn ranks_rise()
-    ensures rise { (rules : List Rule) (count : ℕ) (ranks : List ℕ) → IsWithin count (IsEdge rules) → AreRanks (IsEdge rules) count ranks → (from to : ℕ) → IsEdge rules from to → slice_index ranks from < slice_index ranks to }
-    ensures small { (rules : List Rule) (count : ℕ) (ranks : List ℕ) → IsWithin count (IsEdge rules) → AreRanks (IsEdge rules) count ranks → (relation : ℕ) → relation < count → slice_index ranks relation < count }
+    ensures rise { (rules : List Rule) (count : ℕ) (ranks : List ℕ) → IsWithin count (IsEdge rules)
+        → AreRanks (IsEdge rules) count ranks → (from to : ℕ) → IsEdge rules from to
+        → slice_index ranks from < slice_index ranks to }
+    ensures small { (rules : List Rule) (count : ℕ) (ranks : List ℕ) → IsWithin count (IsEdge rules)
+        → AreRanks (IsEdge rules) count ranks → (relation : ℕ) → relation < count
+        → slice_index ranks relation < count }
 {}
 
 /// A law: where there are ranks no cycle is there; there is one list of ranks, and one least cycle.
 pub fn judgements_are_exact()
-    ensures acyclic { (rules : List Rule) (count : ℕ) (ranks : List ℕ) → IsWithin count (IsEdge rules) → AreRanks (IsEdge rules) count ranks → IsAcyclic (IsEdge rules) }
-    ensures ranks { (rules : List Rule) (count : ℕ) (ranks others : List ℕ) → AreRanks (IsEdge rules) count ranks → AreRanks (IsEdge rules) count others → ranks ≡ others }
-    ensures cycles { (rules : List Rule) (relations others : List ℕ) → IsLeastCycle (IsEdge rules) relations → IsLeastCycle (IsEdge rules) others → relations ≡ others }
+    ensures acyclic { (rules : List Rule) (count : ℕ) (ranks : List ℕ)
+        → IsWithin count (IsEdge rules) → AreRanks (IsEdge rules) count ranks
+        → IsAcyclic (IsEdge rules) }
+    ensures ranks { (rules : List Rule) (count : ℕ) (ranks others : List ℕ)
+        → AreRanks (IsEdge rules) count ranks → AreRanks (IsEdge rules) count others
+        → ranks ≡ others }
+    ensures cycles { (rules : List Rule) (relations others : List ℕ)
+        → IsLeastCycle (IsEdge rules) relations → IsLeastCycle (IsEdge rules) others
+        → relations ≡ others }
 {}

@@ -56,7 +56,8 @@ module _ (words : List ℕ) (count : ℕ) (row : List Bool) (keep : Keep words c
   numbers_from-bit : (number : ℕ) → length (later_numbers number row) ≡ bit_of words number + length (later_numbers (number + 1) row)
   numbers_from-bit number = go (slice_index_or row number false) refl
     where
-      go : (is_in : Bool) → slice_index_or row number false ≡ is_in → length (later_numbers number row) ≡ bit_of words number + length (later_numbers (number + 1) row)
+      go : (is_in : Bool) → slice_index_or row number false ≡ is_in
+          → length (later_numbers number row) ≡ bit_of words number + length (later_numbers (number + 1) row)
       go true is =
           let one : bit_of words number ≡ 1 = (Has-bit words count row keep number).0 is in
           omega (arith, ap length (later_numbers-has row number is), one)

@@ -33,7 +33,8 @@ module _ (set : List Bool) where
   covered_from_test [] passes = absurd (false-not_true passes)
   covered_from_test (first ∷ rest) passes = go (is_within first set) refl passes (covered_from_test rest)
     where
-      go : (test : Bool) → is_within first set ≡ test → test || is_covered rest set ≡ true → (is_covered rest set ≡ true → Covers rest set) → Covers (first ∷ rest) set
+      go : (test : Bool) → is_within first set ≡ test → test || is_covered rest set ≡ true → (is_covered rest set ≡ true → Covers rest set)
+          → Covers (first ∷ rest) set
       go true is either later = (first, (0, omega arith, refl), Within-from_test first set is)
       go false is either later = let found = later either in (found.0, (suc found.1.0, omega (arith, found.1.1), found.1.2), found.2)
 
@@ -50,7 +51,8 @@ module _ (set : List Bool) where
 
 -- ---- a walk over a family that looks for a member which covers
 
-module _ (sets : List (List Bool)) (row : List Bool) (place : ℕ) (set : List Bool) (small : place < length sets) (is : set ≡ slice_index_or sets place set) where
+module _ (sets : List (List Bool)) (row : List Bool) (place : ℕ) (set : List Bool) (small : place < length sets)
+    (is : set ≡ slice_index_or sets place set) where
   rests : is_covered (drop place sets) row ≡ is_within set row || is_covered (drop (place + 1) sets) row
   rests =
       ap (λ family. is_covered family row) (drop-cons sets place set small)
@@ -68,7 +70,8 @@ pub covered_says : (family : List (List Bool)) (set : List Bool) (answer : Bool)
 covered_says family set answer is = (λ holds. covered_from_test set family (sym is ∙ holds), λ covered. is ∙ test_from_covered set family covered)
 
 -- where a set is covered, it covers nothing that isn't
-pub covered-already : (family : List (List Bool)) (row : List Bool) → is_covered family row ≡ true → (set : List Bool) → Covers family set ↔ (Covers family set ⊎ Within row set)
+pub covered-already : (family : List (List Bool)) (row : List Bool) → is_covered family row ≡ true → (set : List Bool)
+    → Covers family set ↔ (Covers family set ⊎ Within row set)
 covered-already family row passes set = (
   λ covered. inl covered,
   λ either. elim either [
@@ -80,11 +83,14 @@ covered-already family row passes set = (
 -- ---- antichains
 
 -- of two members of an antichain the one is a subset of the other only where they are one
-pub antichain-same : (sets : List (List Bool)) → IsAntichain sets → (set other : List Bool) → Contains sets set → Contains sets other → Within set other → set ≡ other
+pub antichain-same : (sets : List (List Bool)) → IsAntichain sets → (set other : List Bool) → Contains sets set → Contains sets other → Within set other
+    → set ≡ other
 antichain-same sets antichain set other has has' within = elim (cases_lt has.0 has'.0) [
-  | inl less ↦ absurd ((antichain has.0 has'.0 set less has'.1).0 (λ number is. subst (λ row. Has row number) (sym (other_at set)) (within number (subst (λ row. Has row number) (set_at set) is))))
+  | inl less ↦ absurd ((antichain has.0 has'.0 set less has'.1).0
+      (λ number is. subst (λ row. Has row number) (sym (other_at set)) (within number (subst (λ row. Has row number) (set_at set) is))))
   | inr above ↦ elim (cases_lt has'.0 has.0) [
-    | inl more ↦ absurd ((antichain has'.0 has.0 set more has.1).1 (λ number is. subst (λ row. Has row number) (sym (other_at set)) (within number (subst (λ row. Has row number) (set_at set) is))))
+    | inl more ↦ absurd ((antichain has'.0 has.0 set more has.1).1
+        (λ number is. subst (λ row. Has row number) (sym (other_at set)) (within number (subst (λ row. Has row number) (set_at set) is))))
     | inr same ↦ let one_place : has.0 ≡ has'.0 = omega arith in sym (set_at set) ∙ ap (λ place. slice_index_or sets place set) one_place ∙ other_at set
   ]
 ]
@@ -106,14 +112,16 @@ module _ (sets : List (List Bool)) (row : List Bool) where
   Contains-with_set set =
       by_cases (λ kept. Contains kept set → Contains sets set ⊎ (set ≡ row)) (is_covered sets row) sets (others ++ row ∷ [])
       (λ covered has. inl has)
-      (λ uncovered has. elim (Contains-push_cases others row set has) [ inl kept ↦ inl (Contains-filter_from (λ s. not (is_within row s)) sets set kept).0 | inr is ↦ inr (sym is) ])
+      (λ uncovered has. elim (Contains-push_cases others row set has)
+      [ inl kept ↦ inl (Contains-filter_from (λ s. not (is_within row s)) sets set kept).0 | inr is ↦ inr (sym is) ])
 
   -- a set is covered afterwards exactly where it was, or where the new set covers it
   pub covered-with_set : (set : List Bool) → Covers (with_set sets row) set ↔ (Covers sets set ⊎ Within row set)
   covered-with_set set = (there, back)
     where
       there : Covers (with_set sets row) set → Covers sets set ⊎ Within row set
-      there covered = elim (Contains-with_set covered.0 covered.1) [ inl kept ↦ inl (covered.0, kept, covered.2) | inr is ↦ inr (subst (λ member. Within member set) is covered.2) ]
+      there covered = elim (Contains-with_set covered.0 covered.1)
+          [ inl kept ↦ inl (covered.0, kept, covered.2) | inr is ↦ inr (subst (λ member. Within member set) is covered.2) ]
 
       -- a kept set stays, or the new one is a subset of it
       stays : Covers sets set → Covers (others ++ row ∷ []) set
@@ -121,7 +129,12 @@ module _ (sets : List (List Bool)) (row : List Bool) where
         where
           go : (test : Bool) → is_within row covered.0 ≡ test → Covers (others ++ row ∷ []) set
           go true is = (row, Contains-push others row, within_trans row covered.0 set (Within-from_test row covered.0 is) covered.2)
-          go false is = (covered.0, Contains-append_left others (row ∷ []) covered.0 (Contains-filter (λ s. not (is_within row s)) sets covered.0 covered.1 (false-not _ is)), covered.2)
+          go false is = (
+            covered.0,
+            Contains-append_left others (row ∷ []) covered.0
+                (Contains-filter (λ s. not (is_within row s)) sets covered.0 covered.1 (false-not _ is)),
+            covered.2,
+          )
 
       back : Covers sets set ⊎ Within row set → Covers (with_set sets row) set
       back either =
@@ -172,7 +185,8 @@ keeps-none count = record {
   covers = λ set has. absurd (Contains-nil set has);
 }
 
-keeps-one_more : (count : ℕ) (family sets : List (List Bool)) (row : List Bool) → length row ≡ count → KeepsOf count family sets → KeepsOf count (family ++ row ∷ []) (with_set sets row)
+keeps-one_more : (count : ℕ) (family sets : List (List Bool)) (row : List Bool) → length row ≡ count → KeepsOf count family sets
+    → KeepsOf count (family ++ row ∷ []) (with_set sets row)
 keeps-one_more count family sets row is keeps = record {
   over = All-push (λ set. length set ≡ count) family row keeps.over is;
   antichain = antichain-with_set sets row keeps.antichain;
@@ -186,7 +200,8 @@ keeps-one_more count family sets row is keeps = record {
   ]);
 }
 
-keeps-all : (count : ℕ) (more family sets : List (List Bool)) → AreOver count more → KeepsOf count family sets → KeepsOf count (family ++ more) (with_sets sets more)
+keeps-all : (count : ℕ) (more family sets : List (List Bool)) → AreOver count more → KeepsOf count family sets
+    → KeepsOf count (family ++ more) (with_sets sets more)
 keeps-all count [] family sets over keeps = subst (λ all. KeepsOf count all sets) (sym (append-nil family)) keeps
 keeps-all count (row ∷ rows) family sets over keeps =
     subst (λ all. KeepsOf count all (with_sets (with_set sets row) rows)) (append_assoc family (row ∷ []) rows)
@@ -197,7 +212,8 @@ minimal_from_keeps : (count : ℕ) (family sets : List (List Bool)) → KeepsOf 
 minimal_from_keeps count family sets keeps = record {
   counted = λ set other has has'. count_of set has ∙ sym (count_of other has');
   exact = λ set. (there set, back set);
-  once = λ i j d less within same. (keeps.antichain i j d less within).0 (subst (Within (slice_index_or sets i d)) same (within_refl (slice_index_or sets i d)));
+  once = λ i j d less within same. (keeps.antichain i j d less within).0
+      (subst (Within (slice_index_or sets i d)) same (within_refl (slice_index_or sets i d)));
 }
   where
     count_of : (set : List Bool) → Contains family set → length set ≡ count
@@ -244,7 +260,8 @@ keeps_from_minimal count family sets over minimal = record {
 
 pub one_more_is_minimal : OneMoreIsMinimal
 one_more_is_minimal count family sets row over is minimal =
-    minimal_from_keeps count (family ++ row ∷ []) (with_set sets row) (keeps-one_more count family sets row is (keeps_from_minimal count family sets over minimal))
+    minimal_from_keeps count (family ++ row ∷ []) (with_set sets row)
+    (keeps-one_more count family sets row is (keeps_from_minimal count family sets over minimal))
 
 -- ---- a walk over a list that removes what doesn't pass a test
 
@@ -269,7 +286,8 @@ pub All-next : {A : Type 0} (P : A → Type 0) (items : List A) (place : ℕ) (i
     → All P (take place items) → P item → All P (take (place + 1) items)
 All-next P items place item small is all here = All-more P items place item small all (subst P is here)
 
-module _ {A : Type 0} (test : A → Bool) (items : List A) (place : ℕ) (item : A) (small : place < length items) (is : item ≡ slice_index_or items place item) where
+module _ {A : Type 0} (test : A → Bool) (items : List A) (place : ℕ) (item : A) (small : place < length items)
+    (is : item ≡ slice_index_or items place item) where
   -- to remove an item that doesn't pass leaves what the filter keeps
   pub filter-remove : test item ≡ false → filter test (remove items place) ≡ filter test items
   filter-remove fails =
@@ -287,9 +305,11 @@ module _ {A : Type 0} (test : A → Bool) (items : List A) (place : ℕ) (item :
 -- ---- the code that adds a set
 
 -- a set that isn't covered goes to the end, and then its proper supersets are dropped
-pub with_set-left_by : (sets : List (List Bool)) (row : List Bool) → is_covered sets row ≡ false → filter (is_left_by row) (sets ++ row ∷ []) ≡ with_set sets row
+pub with_set-left_by : (sets : List (List Bool)) (row : List Bool) → is_covered sets row ≡ false
+    → filter (is_left_by row) (sets ++ row ∷ []) ≡ with_set sets row
 with_set-left_by sets row fails =
-    filter-append (is_left_by row) sets (row ∷ []) ∙ ap (λ kept. kept ++ filter (is_left_by row) (row ∷ [])) (same sets fails) ∙ ap (λ kept. others sets row ++ kept) itself
+    filter-append (is_left_by row) sets (row ∷ []) ∙ ap (λ kept. kept ++ filter (is_left_by row) (row ∷ [])) (same sets fails)
+    ∙ ap (λ kept. others sets row ++ kept) itself
     ∙ ap (λ test. cond test sets (others sets row ++ row ∷ [])) (sym fails)
   where
     itself : filter (is_left_by row) (row ∷ []) ≡ row ∷ []
@@ -310,16 +330,19 @@ with_set-left_by sets row fails =
         go false is either later = rw (later either, is, or-false) refl
 
 -- so the code keeps an antichain of the count, and it is what is kept after one set more
-pub added : (count : ℕ) (sets pushed left : List (List Bool)) (row : List Bool) → AreOver count sets × IsAntichain sets → is_covered sets row ≡ false → length row ≡ count
+pub added : (count : ℕ) (sets pushed left : List (List Bool)) (row : List Bool) → AreOver count sets × IsAntichain sets → is_covered sets row ≡ false
+    → length row ≡ count
     → pushed ≡ sets ++ row ∷ [] → left ≡ filter (is_left_by row) pushed → (left ≡ with_set sets row) × AreOver count left × IsAntichain left
-added count sets pushed left row holds fails is pushed_is left_is = (now, subst (AreOver count) (sym now) (over-with_set sets row count holds.0 is), subst IsAntichain (sym now) (antichain-with_set sets row holds.1))
+added count sets pushed left row holds fails is pushed_is left_is =
+    (now, subst (AreOver count) (sym now) (over-with_set sets row count holds.0 is), subst IsAntichain (sym now) (antichain-with_set sets row holds.1))
   where
     now : left ≡ with_set sets row
     now = left_is ∙ ap (filter (is_left_by row)) pushed_is ∙ with_set-left_by sets row fails
 
 -- ---- an antichain that tells where something holds has the minimal sets in which it holds
 
-module _ (count : ℕ) (P : List Bool → Type 0) (counted : HaveCount count P) (sets : List (List Bool)) (over : AreOver count sets) (tell : TellHolds count P sets) where
+module _ (count : ℕ) (P : List Bool → Type 0) (counted : HaveCount count P) (sets : List (List Bool)) (over : AreOver count sets)
+    (tell : TellHolds count P sets) where
   pub told_itself : (set : List Bool) → Contains sets set → P set
   told_itself set inside = (tell set (All-contains (λ it. length it ≡ count) sets set over inside)).0 (set, inside, within_refl set)
 

@@ -18,14 +18,19 @@ covers_itself family set inside = (set, inside, within_refl set)
 
 pub covers_cons : (one : List Bool) (family : List (List Bool)) (set : List Bool) → Covers (one ∷ family) set ↔ (Within one set ⊎ Covers family set)
 covers_cons one family set = (
-  λ (low, inside, within). elim (Contains-cases one family low inside) [ inl is ↦ inl (subst (λ it. Within it set) (sym is) within) | inr later ↦ inr (low, later, within) ],
+  λ (low, inside, within). elim (Contains-cases one family low inside)
+      [ inl is ↦ inl (subst (λ it. Within it set) (sym is) within) | inr later ↦ inr (low, later, within) ],
   λ h. elim h [ inl within ↦ (one, Contains-head one family, within) | inr (low, inside, within) ↦ (low, Contains-rest one family low inside, within) ],
 )
 
 pub covers_append : (family others : List (List Bool)) (set : List Bool) → Covers (family ++ others) set ↔ (Covers family set ⊎ Covers others set)
 covers_append family others set = (
   λ (low, inside, within). elim (Contains-append_cases family others low inside) [ inl left ↦ inl (low, left, within) | inr right ↦ inr (low, right, within) ],
-  λ h. elim h [ inl (low, inside, within) ↦ (low, Contains-append_left family others low inside, within) | inr (low, inside, within) ↦ (low, Contains-append_right family others low inside, within) ],
+  λ h. elim h [
+    | inl (low, inside, within) ↦ (low, Contains-append_left family others low inside, within)
+    | inr (low, inside, within) ↦
+        (low, Contains-append_right family others low inside, within)
+  ],
 )
 
 pub within_united : (one other set : List Bool) → Within (united one other) set ↔ (Within one set × Within other set)
@@ -34,7 +39,8 @@ within_united one other set = (
   λ (left, right) number has. elim ((has_united one other number).0 has) [ inl here ↦ left number here | inr there ↦ right number there ],
 )
 
-pub covers_united : (one : List Bool) (others : List (List Bool)) (set : List Bool) → Covers (map (united one) others) set ↔ (Within one set × Covers others set)
+pub covers_united : (one : List Bool) (others : List (List Bool)) (set : List Bool)
+    → Covers (map (united one) others) set ↔ (Within one set × Covers others set)
 covers_united one others set = (
   λ (low, inside, within).
       let from = Contains-map_from (united one) others low inside in
@@ -96,12 +102,14 @@ module _ (start sets after items : List (List Bool)) (index : ℕ) (set : List B
   pub joined_next : (others : List (List Bool)) → after ≡ with_sets sets (map (united set) others) → sets ≡ with_sets start (unions (take index items) others)
       → after ≡ with_sets start (unions (take (index + 1) items) others)
   joined_next others now before =
-      now ∙ ap (λ kept. with_sets kept (map (united set) others)) before ∙ sym (with_sets-append start (unions (take index items) others) (map (united set) others))
+      now ∙ ap (λ kept. with_sets kept (map (united set) others)) before
+      ∙ sym (with_sets-append start (unions (take index items) others) (map (united set) others))
       ∙ ap (with_sets start) (sym (unions-push (take index items))) ∙ ap (λ some. with_sets start (unions some others)) (sym taken)
     where
       unions-push : (family : List (List Bool)) → unions (family ++ set ∷ []) others ≡ unions family others ++ map (united set) others
       unions-push [] = append-nil (map (united set) others)
-      unions-push (one ∷ family) = ap (λ rest. map (united one) others ++ rest) (unions-push family) ∙ sym (append_assoc (map (united one) others) (unions family others) (map (united set) others))
+      unions-push (one ∷ family) = ap (λ rest. map (united one) others ++ rest) (unions-push family)
+          ∙ sym (append_assoc (map (united one) others) (unions family others) (map (united set) others))
 
 -- what products that were joined from none cover
 pub covers-joined : (one other : List (List Bool)) → CoversBoth one other (with_sets [] (unions one other))

@@ -43,14 +43,17 @@ from_below-first from (false ∷ others) first rest is = omega (arith, from_belo
 
 -- ---- the first number in which two sets of one size differ decides
 
-number_first : (number : ℕ) (after others : List ℕ) → 0 < length others → ((first : ℕ) (rest : List ℕ) → others ≡ first ∷ rest → number < first) → slice_cmp nat_cmp (number ∷ after) others ≡ Less
+number_first : (number : ℕ) (after others : List ℕ) → 0 < length others → ((first : ℕ) (rest : List ℕ) → others ≡ first ∷ rest → number < first)
+    → slice_cmp nat_cmp (number ∷ after) others ≡ Less
 number_first number after [] some later = absurd (omega arith)
-number_first number after (first ∷ rest) some later = let less : number < first = later first rest refl in ap (λ order. ordering_then order (slice_cmp nat_cmp after rest)) (is_less less)
+number_first number after (first ∷ rest) some later = let less : number < first = later first rest refl in
+    ap (λ order. ordering_then order (slice_cmp nat_cmp after rest)) (is_less less)
   where
     is_less : {a b : ℕ} → a < b → nat_cmp a b ≡ Less
     is_less less = grind (arith, nat_tests)
 
-number_second : (number : ℕ) (after others : List ℕ) → 0 < length others → ((first : ℕ) (rest : List ℕ) → others ≡ first ∷ rest → number < first) → slice_cmp nat_cmp others (number ∷ after) ≡ Greater
+number_second : (number : ℕ) (after others : List ℕ) → 0 < length others → ((first : ℕ) (rest : List ℕ) → others ≡ first ∷ rest → number < first)
+    → slice_cmp nat_cmp others (number ∷ after) ≡ Greater
 number_second number after [] some later = absurd (omega arith)
 number_second number after (first ∷ rest) some later =
     let less : number < first = later first rest refl in ap (λ order. ordering_then order (slice_cmp nat_cmp rest after)) (is_greater less)
@@ -81,7 +84,8 @@ module _ (row other : List Bool) (number : ℕ) (sizes : length (later_numbers n
   -- where both have the number, or neither, what follows decides
   pub cmp-next : slice_index_or row number false ≡ slice_index_or other number false
       → (length (later_numbers (number + 1) row) ≡ length (later_numbers (number + 1) other))
-      × (slice_cmp nat_cmp (later_numbers (number + 1) row) (later_numbers (number + 1) other) ≡ slice_cmp nat_cmp (later_numbers number row) (later_numbers number other))
+      × (slice_cmp nat_cmp (later_numbers (number + 1) row) (later_numbers (number + 1) other) ≡ slice_cmp nat_cmp (later_numbers number row)
+      (later_numbers number other))
   cmp-next same = go (slice_index_or row number false) refl
     where
       same_first : (rest rest' : List ℕ) → slice_cmp nat_cmp (number ∷ rest) (number ∷ rest') ≡ slice_cmp nat_cmp rest rest'
@@ -92,11 +96,14 @@ module _ (row other : List Bool) (number : ℕ) (sizes : length (later_numbers n
 
       go : (is_in : Bool) → slice_index_or row number false ≡ is_in
           → (length (later_numbers (number + 1) row) ≡ length (later_numbers (number + 1) other))
-          × (slice_cmp nat_cmp (later_numbers (number + 1) row) (later_numbers (number + 1) other) ≡ slice_cmp nat_cmp (later_numbers number row) (later_numbers number other))
+          × (slice_cmp nat_cmp (later_numbers (number + 1) row) (later_numbers (number + 1) other) ≡ slice_cmp nat_cmp (later_numbers number row)
+          (later_numbers number other))
       go true is =
           let mine = later_numbers-has row number is in
-          let theirs = later_numbers-has other number (sym same ∙ is) in
-          (omega (arith, sizes, ap length mine, ap length theirs), sym (rw (mine, theirs) (same_first (later_numbers (number + 1) row) (later_numbers (number + 1) other))))
+          let theirs = later_numbers-has other number (sym same ∙ is) in (
+            omega (arith, sizes, ap length mine, ap length theirs),
+            sym (rw (mine, theirs) (same_first (later_numbers (number + 1) row) (later_numbers (number + 1) other))),
+          )
       go false is =
           let mine = later_numbers-lacks row number is in
           let theirs = later_numbers-lacks other number (sym same ∙ is) in

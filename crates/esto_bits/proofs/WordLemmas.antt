@@ -62,14 +62,16 @@ module _ (words : List ℕ) (count : ℕ) (row : List Bool) (keep : Keep words c
   word_is number word small is = is ∙ get_or_default_zero words (number / 64) word (word_within number small)
 
   -- the bit that the code reads says whether the set has the number
-  pub bit_read : (number word : ℕ) → number < length row → word ≡ slice_index_or words (number / 64) word → IsTrue (bit_and (word / 2 ^ (number % 64)) 1 == 1) ↔ Has row number
+  pub bit_read : (number word : ℕ) → number < length row → word ≡ slice_index_or words (number / 64) word
+      → IsTrue (bit_and (word / 2 ^ (number % 64)) 1 == 1) ↔ Has row number
   bit_read number word small is =
       let read : bit_and (word / 2 ^ (number % 64)) 1 ≡ bit_of words number =
       shr_and_one word (number % 64) ∙ ap (λ w. bit_at w (number % 64)) (word_is number word small is) in
       (λ passes. (Has-bit number).1 (sym read ∙ test-one _ passes), λ has. one-test _ (read ∙ (Has-bit number).0 has))
 
 -- two sets of one count are equal where they have the same numbers: words keep each set that has just the numbers whose bit is 1
-keep_from : (words : List ℕ) (count : ℕ) (row : List Bool) → AreWordsBelow words count → count ≡ length row → ((number : ℕ) → Has row number ↔ (bit_of words number ≡ 1)) → Keep words count row
+keep_from : (words : List ℕ) (count : ℕ) (row : List Bool) → AreWordsBelow words count → count ≡ length row
+    → ((number : ℕ) → Has row number ↔ (bit_of words number ≡ 1)) → Keep words count row
 keep_from words count row below counts has = record {
   below = below;
   is = within_same (set_of words count) row (length-set_of words count ∙ counts)
@@ -91,11 +93,13 @@ bit_of-empty many number = ap (λ word. bit_at word (number % 64)) (word (number
 pub keep-empty : (many count : ℕ) → many ≡ (count + 63) / 64 → Keep (replicate many 0) count (replicate count false)
 keep-empty many count enough =
     keep_from (replicate many 0) count (replicate count false) (length-replicate many 0 ∙ enough, λ number beyond. bit_of-empty many number)
-    (sym (length-replicate count false)) (λ number. (λ has. absurd (Has-replicate count number has), λ one. absurd (omega (arith, one, bit_of-empty many number))))
+    (sym (length-replicate count false))
+    (λ number. (λ has. absurd (Has-replicate count number has), λ one. absurd (omega (arith, one, bit_of-empty many number))))
 
 -- ---- one number more
 
-module _ (words : List ℕ) (count : ℕ) (row : List Bool) (keep : Keep words count row) (added word : ℕ) (small : added < length row) (is : word ≡ slice_index_or words (added / 64) word) where
+module _ (words : List ℕ) (count : ℕ) (row : List Bool) (keep : Keep words count row) (added word : ℕ) (small : added < length row)
+    (is : word ≡ slice_index_or words (added / 64) word) where
   -- the words with the bit of the added number
   abbrev changed : List ℕ
   changed = set words (added / 64) (bit_or word (1 * 2 ^ (added % 64) % 2 ^ 64))
@@ -122,7 +126,8 @@ module _ (words : List ℕ) (count : ℕ) (row : List Bool) (keep : Keep words c
   bit_of-other : (number : ℕ) → number ≢ added → bit_of changed number ≡ bit_of words number
   bit_of-other number differs = elim (cases_lt (number / 64) (added / 64)) [
     | inl less ↦ bit_of-far number (omega arith)
-    | inr above ↦ elim (cases_lt (added / 64) (number / 64)) [ inl more ↦ bit_of-far number (omega arith) | inr same ↦ bit_of-near number (omega arith) differs ]
+    | inr above ↦ elim (cases_lt (added / 64) (number / 64))
+        [ inl more ↦ bit_of-far number (omega arith) | inr same ↦ bit_of-near number (omega arith) differs ]
   ]
 
   bit_of-changed : (number : ℕ) → ((number ≡ added) ⊎ (bit_of words number ≡ 1)) ↔ (bit_of changed number ≡ 1)
@@ -132,24 +137,32 @@ module _ (words : List ℕ) (count : ℕ) (row : List Bool) (keep : Keep words c
   ]
     where
       apart : number ≢ added → ((number ≡ added) ⊎ (bit_of words number ≡ 1)) ↔ (bit_of changed number ≡ 1)
-      apart differs = (λ either. elim either [ inl same ↦ absurd (differs same) | inr one ↦ bit_of-other number differs ∙ one ], λ one. inr (sym (bit_of-other number differs) ∙ one))
+      apart differs = (
+        λ either. elim either [ inl same ↦ absurd (differs same) | inr one ↦ bit_of-other number differs ∙ one ],
+        λ one. inr (sym (bit_of-other number differs) ∙ one),
+      )
 
       together : number ≡ added → ((number ≡ added) ⊎ (bit_of words number ≡ 1)) ↔ (bit_of changed number ≡ 1)
       together same = (λ either. ap (bit_of changed) same ∙ bit_of-added, λ one. inl same)
 
   pub keep-changed : Keep changed count (set row added true)
   keep-changed =
-      keep_from changed count (set row added true)
-      (length-set words (added / 64) _ ∙ keep.below.0, λ number beyond. bit_of-other number (omega (arith, count_is words count row keep)) ∙ keep.below.1 number beyond)
+      keep_from changed count (set row added true) (
+        length-set words (added / 64) _ ∙ keep.below.0,
+        λ number beyond. bit_of-other number (omega (arith, count_is words count row keep)) ∙ keep.below.1 number beyond,
+      )
       (count_is words count row keep ∙ sym (length-set row added true))
       (λ number. (
-        λ has. (bit_of-changed number).0 (elim ((Has-set row added number small).0 has) [ inl same ↦ inl same | inr had ↦ inr ((Has-bit words count row keep number).0 had) ]),
-        λ one. (Has-set row added number small).1 (elim ((bit_of-changed number).1 one) [ inl same ↦ inl same | inr had ↦ inr ((Has-bit words count row keep number).1 had) ]),
+        λ has. (bit_of-changed number).0
+            (elim ((Has-set row added number small).0 has) [ inl same ↦ inl same | inr had ↦ inr ((Has-bit words count row keep number).0 had) ]),
+        λ one. (Has-set row added number small).1
+            (elim ((bit_of-changed number).1 one) [ inl same ↦ inl same | inr had ↦ inr ((Has-bit words count row keep number).1 had) ]),
       ))
 
 -- ---- two sets of one count
 
-module _ (words : List ℕ) (count : ℕ) (row : List Bool) (keep : Keep words count row) (words' : List ℕ) (count' : ℕ) (row' : List Bool) (keep' : Keep words' count' row') (counts : length row ≡ length row') where
+module _ (words : List ℕ) (count : ℕ) (row : List Bool) (keep : Keep words count row) (words' : List ℕ) (count' : ℕ) (row' : List Bool)
+    (keep' : Keep words' count' row') (counts : length row ≡ length row') where
   -- sets of one count have equally many words
   pub same_length : length words ≡ length words'
   same_length = omega (arith, keep.below.0, keep'.below.0, count_is words count row keep, count_is words' count' row' keep')
@@ -183,7 +196,8 @@ module _ (words : List ℕ) (count : ℕ) (row : List Bool) (keep : Keep words c
           ∙ (Has-bit words' count' row' keep' (64 * place + low)).0
           (within (64 * place + low) ((Has-bit words count row keep (64 * place + low)).1 (bit_of-place words place low small ∙ one)))
 
-      bits : (low : ℕ) → low < 64 → min (bit_at (slice_index_or words place 0) low) (bit_at (slice_index_or words' place 0) low) ≡ bit_at (slice_index_or words place 0) low
+      bits : (low : ℕ) → low < 64 → min (bit_at (slice_index_or words place 0) low) (bit_at (slice_index_or words' place 0) low) ≡ bit_at
+          (slice_index_or words place 0) low
       bits low small = elim (cases_lt (bit_at (slice_index_or words place 0) low) 1) [
         | inl none ↦ omega arith
         | inr some ↦
@@ -206,7 +220,8 @@ module _ (words : List ℕ) (count : ℕ) (row : List Bool) (keep : Keep words c
 
     bit_of-joined : (number : ℕ) → bit_of joined number ≡ max (bit_of words number) (bit_of words' number)
     bit_of-joined number =
-        ap (λ w. bit_at w (number % 64)) (bits (number / 64)) ∙ bit_at_or (slice_index_or words (number / 64) 0) (slice_index_or words' (number / 64) 0) (number % 64)
+        ap (λ w. bit_at w (number % 64)) (bits (number / 64))
+        ∙ bit_at_or (slice_index_or words (number / 64) 0) (slice_index_or words' (number / 64) 0) (number % 64)
 
     either_bit : (number : ℕ) → ((bit_of words number ≡ 1) ⊎ (bit_of words' number ≡ 1)) ↔ (bit_of joined number ≡ 1)
     either_bit number =
@@ -227,6 +242,10 @@ module _ (words : List ℕ) (count : ℕ) (row : List Bool) (keep : Keep words c
     keep-joined =
         keep_from joined count (united row row') (many ∙ keep.below.0, beyond_none) (count_is words count row keep ∙ sym (length-united row row' counts))
         (λ number. (
-          λ has. (either_bit number).0 (elim ((has_united row row' number).0 has) [ inl had ↦ inl ((Has-bit words count row keep number).0 had) | inr had ↦ inr ((Has-bit words' count' row' keep' number).0 had) ]),
-          λ one. (has_united row row' number).1 (elim ((either_bit number).1 one) [ inl had ↦ inl ((Has-bit words count row keep number).1 had) | inr had ↦ inr ((Has-bit words' count' row' keep' number).1 had) ]),
+          λ has. (either_bit number).0 (elim
+              ((has_united row row' number).0 has)
+              [ inl had ↦ inl ((Has-bit words count row keep number).0 had) | inr had ↦ inr ((Has-bit words' count' row' keep' number).0 had) ]),
+          λ one. (has_united row row' number).1
+              (elim ((either_bit number).1 one)
+              [ inl had ↦ inl ((Has-bit words count row keep number).1 had) | inr had ↦ inr ((Has-bit words' count' row' keep' number).1 had) ]),
         ))

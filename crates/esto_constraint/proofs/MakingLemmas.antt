@@ -19,7 +19,8 @@ module _ (schema : List ℕ) where
   pub IsFirstMisfit-body : (body head : List (Fact Term)) (place : ℕ) → IsFirstMisfit schema body place → IsFirstMisfit schema (body ++ head) place
   IsFirstMisfit-body body head place first = record {
     atom = first.atom;
-    there = slice_get-get_or (body ++ head) place first.atom (omega (arith, within, length-append body head)) ∙ ap Some (get_or_append_left body head first.atom place within ∙ get_or_from_slice_get body place first.atom first.atom first.there);
+    there = slice_get-get_or (body ++ head) place first.atom (omega (arith, within, length-append body head))
+        ∙ ap Some (get_or_append_left body head first.atom place within ∙ get_or_from_slice_get body place first.atom first.atom first.there);
     misfit = first.misfit;
     before = subst (AreOver schema) (sym (take-append-le place body head (omega (arith, within)))) first.before;
   }
@@ -27,10 +28,12 @@ module _ (schema : List ℕ) where
       within : place < length body
       within = slice_get_within body place first.atom first.there
 
-  pub IsFirstMisfit-head : (body head : List (Fact Term)) (place : ℕ) → AreOver schema body → IsFirstMisfit schema head place → IsFirstMisfit schema (body ++ head) (length body + place)
+  pub IsFirstMisfit-head : (body head : List (Fact Term)) (place : ℕ) → AreOver schema body → IsFirstMisfit schema head place
+      → IsFirstMisfit schema (body ++ head) (length body + place)
   IsFirstMisfit-head body head place over first = record {
     atom = first.atom;
-    there = slice_get-get_or (body ++ head) (length body + place) first.atom (omega (arith, within, length-append body head)) ∙ ap Some (get_or-append-add body head place first.atom ∙ get_or_from_slice_get head place first.atom first.atom first.there);
+    there = slice_get-get_or (body ++ head) (length body + place) first.atom (omega (arith, within, length-append body head))
+        ∙ ap Some (get_or-append-add body head place first.atom ∙ get_or_from_slice_get head place first.atom first.atom first.there);
     misfit = first.misfit;
     before = subst (AreOver schema) (sym (take-append-add body head place)) (AreOver-append body (take place head) over first.before);
   }

@@ -53,14 +53,20 @@ module _ (body : List (Fact Term)) (valuation : Assignment) (flat : AreFlat body
   Extends-agree m more extends same variable term at =
       sym (same (Plain variable) ((over variable).0 (subst IsSome (sym at) refl))) ∙ extends variable term at
 
-  pub lacks_told : (head facts : List (Fact Term)) (outcome : Option Found) → IfSome outcome (λ found. IsLeastMatch head facts valuation (λ _. ⊤) found.valuation found.places) → IfNone outcome (HasNoMatch head facts valuation (λ _. ⊤)) → Tells valuation (HasExtension body head facts) (is_none outcome)
+  pub lacks_told : (head facts : List (Fact Term)) (outcome : Option Found)
+      → IfSome outcome (λ found. IsLeastMatch head facts valuation (λ _. ⊤) found.valuation found.places)
+      → IfNone outcome (HasNoMatch head facts valuation (λ _. ⊤)) → Tells valuation (HasExtension body head facts) (is_none outcome)
   lacks_told head facts None least none = λ m keeps extends extension.
       let places = match-Sends extension.0 head facts extension.3 in
       none extension.0 places.0 extension.1 (Extends-agree m extension.0 extends extension.2) places.1 tt
   lacks_told head facts (Some found) least none = λ m keeps extends.
       let more = map_of found.valuation in
-      let whole = (least.is_found.exact more (Keeps-map_of found.valuation)).0 (Extends-map_of found.valuation) in
-      (more, Keeps-map_of found.valuation, maps_agree m more keeps (Keeps-map_of found.valuation) extends whole.0, Sends-match more head facts found.places whole.1)
+      let whole = (least.is_found.exact more (Keeps-map_of found.valuation)).0 (Extends-map_of found.valuation) in (
+        more,
+        Keeps-map_of found.valuation,
+        maps_agree m more keeps (Keeps-map_of found.valuation) extends whole.0,
+        Sends-match more head facts found.places whole.1,
+      )
 
   value_fixed : (m : Term → Term) → Keeps Const m → Extends m valuation → (term : Term) → IsFixedBy body term → m term ≡ map_of valuation term
   value_fixed m keeps extends term (inl constant) =
@@ -68,7 +74,8 @@ module _ (body : List (Fact Term)) (valuation : Assignment) (flat : AreFlat body
   value_fixed m keeps extends term (inr mentioned) =
       maps_agree m (map_of valuation) keeps (Keeps-map_of valuation) extends (Extends-map_of valuation) term mentioned
 
-  pub apart_told : (left right : Term) → IsFixedBy body left → IsFixedBy body right → (same : Bool) → IsTrue same ↔ (map_of valuation left ≡ map_of valuation right) → Tells valuation (λ m. m left ≡ m right) (not same)
+  pub apart_told : (left right : Term) → IsFixedBy body left → IsFixedBy body right → (same : Bool)
+      → IsTrue same ↔ (map_of valuation left ≡ map_of valuation right) → Tells valuation (λ m. m left ≡ m right) (not same)
   apart_told left right left_fixed right_fixed true is = λ m keeps extends.
       value_fixed m keeps extends left left_fixed ∙ is.0 refl ∙ sym (value_fixed m keeps extends right right_fixed)
   apart_told left right left_fixed right_fixed false is = λ m keeps extends equal.
@@ -103,7 +110,8 @@ module _ (body facts : List (Fact Term)) (start : Assignment) (Property : (Term 
   any_extends : (m : Term → Term) → Extends m start
   any_extends m variable term at = absurd (none-some term (sym (none_at_start variable) ∙ at))
 
-  pub first_candidate : (outcome : Option Found) → IfSome outcome (λ found. IsLeastMatch body facts start (λ _. ⊤) found.valuation found.places) → IfNone outcome (HasNoMatch body facts start (λ _. ⊤)) → Candidate body facts start Property outcome
+  pub first_candidate : (outcome : Option Found) → IfSome outcome (λ found. IsLeastMatch body facts start (λ _. ⊤) found.valuation found.places)
+      → IfNone outcome (HasNoMatch body facts start (λ _. ⊤)) → Candidate body facts start Property outcome
   first_candidate (Some found) least none = record {
     is_found = least.is_found;
     least = λ m others keeps match. inr (least.least m others keeps (any_extends m) match tt);
@@ -142,7 +150,8 @@ module _ (body facts : List (Fact Term)) (start : Assignment) (Property : (Term 
         ]
       ]
 
-      pub next_candidate : (outcome : Option Found) → IfSome outcome (λ next. IsLeastMatch body facts start (IsBefore found.places) next.valuation next.places) → IfNone outcome (HasNoMatch body facts start (IsBefore found.places)) → Candidate body facts start Property outcome
+      pub next_candidate : (outcome : Option Found) → IfSome outcome (λ next. IsLeastMatch body facts start (IsBefore found.places) next.valuation next.places)
+          → IfNone outcome (HasNoMatch body facts start (IsBefore found.places)) → Candidate body facts start Property outcome
       next_candidate (Some next) least none = record {
         is_found = least.is_found;
         least = λ m others keeps match. elim (behind m others keeps match) [
@@ -158,14 +167,19 @@ module _ (body facts : List (Fact Term)) (start : Assignment) (Property : (Term 
     rank_fits : rank (length facts) found.places < power (length facts) (length body)
     rank_fits = subst (λ long. rank (length facts) found.places < power (length facts) long) places_long (rank-below (length facts) found.places places_below)
 
-  pub fewer_left : (found : Found) → IsCandidate body facts start Property found → (outcome : Option Found) → Candidate body facts start Property outcome → IfSome outcome (λ next. IsLeastMatch body facts start (IsBefore found.places) next.valuation next.places) → left (length facts) (length body) outcome < left (length facts) (length body) (Some found)
+  pub fewer_left : (found : Found) → IsCandidate body facts start Property found → (outcome : Option Found) → Candidate body facts start Property outcome
+      → IfSome outcome (λ next. IsLeastMatch body facts start (IsBefore found.places) next.valuation next.places)
+      → left (length facts) (length body) outcome < left (length facts) (length body) (Some found)
   fewer_left found candidate None after least = omega (arith, rank_fits found candidate)
   fewer_left found candidate (Some next) after least =
-      let before = rank-before (length facts) found.places next.places (places_below found candidate) (places_long found candidate ∙ sym (places_long next after)) least.within in
+      let before = rank-before (length facts) found.places next.places (places_below found candidate)
+      (places_long found candidate ∙ sym (places_long next after)) least.within in
       omega (arith, before, rank_fits next after)
 
 -- the first match under which the rule does not hold is its least active match
-pub active_here : (rule : Rule) (facts : List (Fact Term)) (start : Assignment) → start ≡ empty → (found : Found) → IsCandidate (body_of rule) facts start (Holds facts rule) found → Tells found.valuation (Holds facts rule) true → IsLeastActive rule facts found.valuation found.places
+pub active_here : (rule : Rule) (facts : List (Fact Term)) (start : Assignment) → start ≡ empty → (found : Found)
+    → IsCandidate (body_of rule) facts start (Holds facts rule) found → Tells found.valuation (Holds facts rule) true
+    → IsLeastActive rule facts found.valuation found.places
 active_here rule facts start is_empty found candidate tells = record {
   is_found = subst (λ s. IsFound (body_of rule) facts s found.valuation found.places) is_empty candidate.is_found;
   active = tells;
@@ -181,7 +195,8 @@ module _ (facts : List (Fact Term)) (rules : List Constraint) (number : ℕ) whe
   rule_at : (constraint : Constraint) → slice_get rules number ≡ Some constraint → slice_get (rules_of rules) number ≡ Some (rule_of constraint)
   rule_at constraint at = slice_get-map rule_of rules number ∙ ap (option_map rule_of) at
 
-  pub met_more : (constraint : Constraint) → slice_get rules number ≡ Some constraint → IsMet facts (rule_of constraint) → AreMet facts (take number (rules_of rules)) → AreMet facts (take (number + 1) (rules_of rules))
+  pub met_more : (constraint : Constraint) → slice_get rules number ≡ Some constraint → IsMet facts (rule_of constraint)
+      → AreMet facts (take number (rules_of rules)) → AreMet facts (take (number + 1) (rules_of rules))
   met_more constraint at here before =
       each_more (IsMet facts) (rules_of rules) number (rule_of constraint)
       (slice_get_within (rules_of rules) number (rule_of constraint) (rule_at constraint at))
@@ -191,7 +206,9 @@ module _ (facts : List (Fact Term)) (rules : List Constraint) (number : ℕ) whe
   pub met_all : length rules ≤ number → AreMet facts (take number (rules_of rules)) → AreMet facts (rules_of rules)
   met_all all before = each_seen (IsMet facts) (rules_of rules) number (subst (λ long. long ≤ number) (sym (length-map rules rule_of)) all) before
 
-  pub first_broken : (constraint : Constraint) (valuation : Assignment) (places : List ℕ) → slice_get rules number ≡ Some constraint → IsLeastActive (rule_of constraint) facts valuation places → AreMet facts (take number (rules_of rules)) → IsFirstBroken (rules_of rules) facts number valuation places
+  pub first_broken : (constraint : Constraint) (valuation : Assignment) (places : List ℕ) → slice_get rules number ≡ Some constraint
+      → IsLeastActive (rule_of constraint) facts valuation places → AreMet facts (take number (rules_of rules))
+      → IsFirstBroken (rules_of rules) facts number valuation places
   first_broken constraint valuation places at active before = record {
     rule = rule_of constraint;
     there = rule_at constraint at;

@@ -29,7 +29,8 @@ rank-below base [] below = omega arith
 rank-below base (place ∷ places) below =
     omega (arith, rank-below base places below.1, next_block place base (power base (length places)) below.0)
 
-pub rank-before : (base : ℕ) (places others : List ℕ) → AllBelow base places → length places ≡ length others → IsBefore places others → rank base places < rank base others
+pub rank-before : (base : ℕ) (places others : List ℕ) → AllBelow base places → length places ≡ length others → IsBefore places others
+    → rank base places < rank base others
 rank-before base [] [] below long before = let never : Equal ≡ Less = before in absurd (cc)
 rank-before base [] (q ∷ qs) below long before = absurd (omega arith)
 rank-before base (p ∷ ps) [] below long before = absurd (omega arith)

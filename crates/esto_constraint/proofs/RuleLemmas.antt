@@ -59,7 +59,8 @@ with_sides body left right names kept = record {
     has_head = λ none. cc;
     has_body = kept.rule.has_body;
     flat_head = λ term inside.
-        of_sides IsFlat left right term (flat_fixed body left kept.rule.flat_body kept.rule.left_fixed) (flat_fixed body right kept.rule.flat_body kept.rule.right_fixed) inside;
+        of_sides IsFlat left right term (flat_fixed body left kept.rule.flat_body kept.rule.left_fixed)
+        (flat_fixed body right kept.rule.flat_body kept.rule.right_fixed) inside;
     flat_body = kept.rule.flat_body;
     safe = λ term inside. of_sides (IsFixedBy body) left right term kept.rule.left_fixed kept.rule.right_fixed inside;
   };
@@ -70,8 +71,10 @@ with_sides body left right names kept = record {
 
 pub tuple_sound : (body head : List (Fact Term)) (names : List Name) → ∥ IsSoundTuple body head names ∥₁ → IsSoundTuple body head names
 tuple_sound body head names sound =
-    let of_body = sound_of constant body names (∥∥₁_map sound (λ (kept : IsSoundTuple body head names). with_constant body names kept.rule.has_body kept.rule.flat_body kept.body_named)) in
-    let of_head = sound_of constant head names (∥∥₁_map sound (λ (kept : IsSoundTuple body head names). with_constant head names kept.rule.has_head kept.rule.flat_head kept.head_named)) in
+    let of_body = sound_of constant body names
+    (∥∥₁_map sound (λ (kept : IsSoundTuple body head names). with_constant body names kept.rule.has_body kept.rule.flat_body kept.body_named)) in
+    let of_head = sound_of constant head names
+    (∥∥₁_map sound (λ (kept : IsSoundTuple body head names). with_constant head names kept.rule.has_head kept.rule.flat_head kept.head_named)) in
     record {
       rule = record {
         has_body = of_body.query.has_body;
@@ -83,9 +86,11 @@ tuple_sound body head names sound =
       head_named = of_head.named;
     }
 
-pub equality_sound : (body : List (Fact Term)) (left right : Term) (names : List Name) → ∥ IsSoundEquality body left right names ∥₁ → IsSoundEquality body left right names
+pub equality_sound : (body : List (Fact Term)) (left right : Term) (names : List Name) → ∥ IsSoundEquality body left right names ∥₁
+    → IsSoundEquality body left right names
 equality_sound body left right names sound =
-    let whole = sound_of (left ∷ right ∷ []) body names (∥∥₁_map sound (λ (kept : IsSoundEquality body left right names). with_sides body left right names kept)) in
+    let whole = sound_of (left ∷ right ∷ []) body names
+    (∥∥₁_map sound (λ (kept : IsSoundEquality body left right names). with_sides body left right names kept)) in
     record {
       rule = record {
         has_body = whole.query.has_body;
@@ -98,7 +103,8 @@ equality_sound body left right names sound =
 
 pub denial_sound : (body : List (Fact Term)) (names : List Name) → ∥ IsSoundDenial body names ∥₁ → IsSoundDenial body names
 denial_sound body names sound =
-    let whole = sound_of constant body names (∥∥₁_map sound (λ (kept : IsSoundDenial body names). with_constant body names kept.rule.has_body kept.rule.flat_body kept.named)) in
+    let whole = sound_of constant body names
+    (∥∥₁_map sound (λ (kept : IsSoundDenial body names). with_constant body names kept.rule.has_body kept.rule.flat_body kept.named)) in
     record {
       rule = record { has_body = whole.query.has_body; flat_body = whole.query.flat_body };
       named = whole.named;

@@ -19,7 +19,8 @@ abbrev pub IsFirstTooLarge : List (Fact Term) → List (Fact Term) → ℕ → T
 IsFirstTooLarge body head atoms =
     (MAX_ATOMS < atoms) × ((atoms ≡ length body) ⊎ ((length body ≤ MAX_ATOMS) × (atoms ≡ length head)))
 
--- What comes of making a tuple rule: the rule, where each atom has the right number of terms and neither body nor head has too many atoms; else the first of these that fails, where the body's atoms are counted before the head's. Memory is wanting only where a place of an atom passes every number of a machine.
+-- What comes of making a tuple rule: the rule, where each atom has the right number of terms and neither body nor head has too many atoms; else the first of
+-- these that fails, where the body's atoms are counted before the head's. Memory is wanting only where a place of an atom passes every number of a machine.
 abbrev pub MakesTuple : List ℕ → List (Fact Term) → List (Fact Term) → List Name → Result Constraint QueryFault → Type 0
 MakesTuple schema body head names (Ok (Tuple rule)) =
     AreOver schema (body ++ head) × (length body ≤ MAX_ATOMS) × (length head ≤ MAX_ATOMS) × (rule.body ≡ body) × (rule.head ≡ head) × (rule.names ≡ names)
@@ -35,7 +36,8 @@ abbrev pub IsFirstUnsafe : Term → Term → List (Fact Term) → ℕ → Type 0
 IsFirstUnsafe left right body variable =
     ¬ (Mentions body (Plain variable)) × ((left ≡ Plain variable) ⊎ (IsFixedBy body left × (right ≡ Plain variable)))
 
--- What comes of making an equality rule: the rule, where each atom has the right number of terms, there are not too many atoms and each side is a constant or in the body; else the first of these that fails. Memory is never wanting.
+-- What comes of making an equality rule: the rule, where each atom has the right number of terms, there are not too many atoms and each side is a constant or
+-- in the body; else the first of these that fails. Memory is never wanting.
 abbrev pub MakesEquality : List ℕ → List (Fact Term) → Term → Term → List Name → Result Constraint QueryFault → Type 0
 MakesEquality schema body left right names (Ok (Tuple rule)) = ⊥
 MakesEquality schema body left right names (Ok (Equal rule)) =
@@ -48,7 +50,8 @@ MakesEquality schema body left right names (Err (Unsafe variable)) =
     AreOver schema body × (length body ≤ MAX_ATOMS) × IsFirstUnsafe left right body variable
 MakesEquality schema body left right names (Err OutOfMemory) = ⊥
 
--- What comes of making a denial: the denial, where each atom has the right number of terms and there are not too many atoms; else the first of these that fails. It has no head, so nothing is unsafe, and memory is never wanting.
+-- What comes of making a denial: the denial, where each atom has the right number of terms and there are not too many atoms; else the first of these that
+-- fails. It has no head, so nothing is unsafe, and memory is never wanting.
 abbrev pub MakesDenial : List ℕ → List (Fact Term) → List Name → Result Constraint QueryFault → Type 0
 MakesDenial schema body names (Ok (Tuple rule)) = ⊥
 MakesDenial schema body names (Ok (Equal rule)) = ⊥

@@ -82,7 +82,8 @@ lt_false Greater apart = refl
 
 in_order_from_sort : (facts : List (Fact Term)) (index : List Entry) → IsSortedBy (λ (x y : Entry). is_lt (entry_cmp facts x y)) index → IsInOrder facts index
 in_order_from_sort facts index up i j d le lt =
-    not_less (entry_cmp facts (get_or index j d) (get_or index i d)) (sorted_far (λ (x y : Entry). is_lt (entry_cmp facts x y)) (entries_weak facts) index up i j d le lt)
+    not_less (entry_cmp facts (get_or index j d) (get_or index i d))
+    (sorted_far (λ (x y : Entry). is_lt (entry_cmp facts x y)) (entries_weak facts) index up i j d le lt)
 
 pub in_order_from_sort_by : {F : Type 0} {g : Mut F (Bor Entry × (Bor Entry × Unit {0})) Ordering} {f : F} (facts : List (Fact Term)) (index : List Entry)
     → ((lt : Entry → Entry → Bool) → IsStrictWeakOrder lt → ComparesAs g lt f → IsSortedBy lt index)
@@ -122,20 +123,27 @@ module _ (facts : List (Fact Term)) (xs : List Entry) (key : FactKey) (order : I
   low_parted i j d le lt e =
       let x = get_or xs i d in
       let y = get_or xs j d in
-      less_is (key_cmp (key_at facts x) key) (below_by key_cmp key_cmp_total (key_at facts x) (key_at facts y) key (key_cmp (key_at facts x) (key_at facts y)) refl (keys_rise facts x y (order i j d le lt)) (is_less (key_cmp (key_at facts y) key) e))
+      less_is (key_cmp (key_at facts x) key)
+      (below_by key_cmp key_cmp_total (key_at facts x) (key_at facts y) key (key_cmp (key_at facts x) (key_at facts y)) refl
+      (keys_rise facts x y (order i j d le lt)) (is_less (key_cmp (key_at facts y) key) e))
 
   pub high_parted : IsPartitionedBy (λ (entry : Entry). is_ge (key_cmp key (key_at facts entry))) xs
   high_parted i j d le lt e =
       let x = get_or xs i d in
       let y = get_or xs j d in
-      not_ge (key_cmp key (key_at facts x)) (λ less. ge_not (key_cmp key (key_at facts y)) e (above_by key_cmp key_cmp_total (key_at facts x) (key_at facts y) key (key_cmp (key_at facts x) (key_at facts y)) refl (keys_rise facts x y (order i j d le lt)) less))
+      not_ge (key_cmp key (key_at facts x))
+      (λ less. ge_not (key_cmp key (key_at facts y)) e
+      (above_by key_cmp key_cmp_total (key_at facts x) (key_at facts y) key (key_cmp (key_at facts x) (key_at facts y)) refl
+      (keys_rise facts x y (order i j d le lt)) less))
 
   key_is : (x : Entry) → is_lt (key_cmp (key_at facts x) key) ≡ false → is_ge (key_cmp key (key_at facts x)) ≡ true → key_cmp (key_at facts x) key ≡ Equal
-  key_is x low high = equal_by key_cmp key_cmp_total (key_at facts x) key (key_cmp (key_at facts x) key) refl (not_less (key_cmp (key_at facts x) key) low) (ge_not (key_cmp key (key_at facts x)) high)
+  key_is x low high = equal_by key_cmp key_cmp_total (key_at facts x) key (key_cmp (key_at facts x) key) refl (not_less (key_cmp (key_at facts x) key) low)
+      (ge_not (key_cmp key (key_at facts x)) high)
 
   places_rise : (x y : Entry) → key_cmp (key_at facts x) key ≡ Equal → key_cmp (key_at facts y) key ≡ Equal → entry_cmp facts y x ≢ Less → x.place ≤ y.place
   places_rise x y e f up =
-      least_place x.place y.place (λ less. up (ap (λ o. ordering_then o (nat_cmp y.place x.place)) (equal_two key_cmp key_cmp_total (key_at facts y) (key_at facts x) key f e) ∙ less))
+      least_place x.place y.place (λ less. up
+      (ap (λ o. ordering_then o (nat_cmp y.place x.place)) (equal_two key_cmp key_cmp_total (key_at facts y) (key_at facts x) key f e) ∙ less))
 
 -- the list from a place on
 tail_read : (xs : List Entry) (low k : ℕ) (d : Entry) → k < length xs - low → get_or (take (length xs - low) (drop low xs)) k d ≡ get_or xs (low + k) d
@@ -152,7 +160,8 @@ tail_in_order facts xs low order i j d le lt =
 pub range_is : (facts : List (Fact Term)) (xs : List Entry) (key : FactKey) (low count : ℕ) → IsInOrder facts xs
     → IsPartitionPoint (λ (e : Entry). is_lt (key_cmp (key_at facts e) key) ≡ true) (λ (e : Entry). is_lt (key_cmp (key_at facts e) key) ≡ false) xs low
     → count ≤ length (take (length xs - low) (drop low xs))
-    → IsPartitionPoint (λ (e : Entry). is_ge (key_cmp key (key_at facts e)) ≡ true) (λ (e : Entry). is_ge (key_cmp key (key_at facts e)) ≡ false) (take (length xs - low) (drop low xs)) count
+    → IsPartitionPoint (λ (e : Entry). is_ge (key_cmp key (key_at facts e)) ≡ true) (λ (e : Entry). is_ge (key_cmp key (key_at facts e)) ≡ false)
+    (take (length xs - low) (drop low xs)) count
     → IsRangeOf facts xs key (take count (take (length xs - low) (drop low xs)))
 range_is facts xs key low count order lows bound highs = record { complete = complete; rising = rising }
   where
@@ -161,29 +170,38 @@ range_is facts xs key low count order lows bound highs = record { complete = com
 
     from_low : (k : ℕ) (entry : Entry) → k < length xs → get_or xs k entry ≡ entry → key_cmp (key_at facts entry) key ≡ Equal → low ≤ k
     from_low k entry l read same = elim (cases_lt k low) [
-      | inl below ↦ absurd (false≢true (sym (ap is_lt same) ∙ subst (λ (e : Entry). is_lt (key_cmp (key_at facts e) key) ≡ true) read (lows.0 k entry (omega arith) below)))
+      | inl below ↦ absurd (false≢true
+          (sym (ap is_lt same) ∙ subst (λ (e : Entry). is_lt (key_cmp (key_at facts e) key) ≡ true) read (lows.0 k entry (omega arith) below)))
       | inr from ↦ from
     ]
 
-    to_count : (k : ℕ) (entry : Entry) → k < length xs - low → get_or (take (length xs - low) (drop low xs)) k entry ≡ entry → key_cmp (key_at facts entry) key ≡ Equal → k < count
+    to_count : (k : ℕ) (entry : Entry) → k < length xs - low → get_or (take (length xs - low) (drop low xs)) k entry ≡ entry
+        → key_cmp (key_at facts entry) key ≡ Equal → k < count
     to_count k entry l read same = elim (cases_lt k count) [
       | inl below ↦ below
       | inr from ↦
           let back : key_cmp key (key_at facts entry) ≡ Equal = key_cmp_total.antisymm key (key_at facts entry) ∙ ap ordering_reverse same in
-          absurd (false≢true (sym (subst (λ (e : Entry). is_ge (key_cmp key (key_at facts e)) ≡ false) read (highs.1 k entry from (omega (arith, long)))) ∙ ap is_ge back))
+          absurd (false≢true (sym (subst (λ (e : Entry). is_ge (key_cmp key (key_at facts e)) ≡ false) read (highs.1 k entry from (omega (arith, long))))
+          ∙ ap is_ge back))
     ]
 
-    complete : (entry : Entry) → Contains xs entry → key_cmp (key_at facts entry) key ≡ Equal → Contains (take count (take (length xs - low) (drop low xs))) entry
+    complete : (entry : Entry) → Contains xs entry → key_cmp (key_at facts entry) key ≡ Equal
+        → Contains (take count (take (length xs - low) (drop low xs))) entry
     complete entry (k, l, read) same =
         let from : low ≤ k = from_low k entry l read same in
         let here : low + (k - low) ≡ k = omega arith in
-        let at : get_or (take (length xs - low) (drop low xs)) (k - low) entry ≡ entry = tail_read xs low (k - low) entry (omega arith) ∙ ap (λ n. get_or xs n entry) here ∙ read in
-        let below : k - low < count = to_count (k - low) entry (omega arith) at same in
-        (k - low, omega (arith, length-take-le count (take (length xs - low) (drop low xs)) bound), get_or-take count (take (length xs - low) (drop low xs)) (k - low) entry below ∙ at)
+        let at : get_or (take (length xs - low) (drop low xs)) (k - low) entry ≡ entry =
+        tail_read xs low (k - low) entry (omega arith) ∙ ap (λ n. get_or xs n entry) here ∙ read in
+        let below : k - low < count = to_count (k - low) entry (omega arith) at same in (
+          k - low,
+          omega (arith, length-take-le count (take (length xs - low) (drop low xs)) bound),
+          get_or-take count (take (length xs - low) (drop low xs)) (k - low) entry below ∙ at,
+        )
 
     key_there : (i : ℕ) (d : Entry) → i < count → key_cmp (key_at facts (get_or xs (low + i) d)) key ≡ Equal
     key_there i d l =
-        key_is facts xs key order (get_or xs (low + i) d) (lows.1 (low + i) d (omega arith) (omega (arith, long))) (subst (λ (e : Entry). is_ge (key_cmp key (key_at facts e)) ≡ true) (tail_read xs low i d (omega (arith, long))) (highs.0 i d (omega arith) l))
+        key_is facts xs key order (get_or xs (low + i) d) (lows.1 (low + i) d (omega arith) (omega (arith, long)))
+        (subst (λ (e : Entry). is_ge (key_cmp key (key_at facts e)) ≡ true) (tail_read xs low i d (omega (arith, long))) (highs.0 i d (omega arith) l))
 
     read_at : (i : ℕ) (d : Entry) → i < count → get_or (take count (take (length xs - low) (drop low xs))) i d ≡ get_or xs (low + i) d
     read_at i d l = get_or-take count (take (length xs - low) (drop low xs)) i d l ∙ tail_read xs low i d (omega (arith, long))
@@ -191,7 +209,8 @@ range_is facts xs key low count order lows bound highs = record { complete = com
     rising : IsNonDecreasingBy (λ (entry : Entry). entry.place) (take count (take (length xs - low) (drop low xs)))
     rising i j d le lt =
         let below : j < count = omega (arith, length-take-le count (take (length xs - low) (drop low xs)) bound) in
-        let up = places_rise facts xs key order (get_or xs (low + i) d) (get_or xs (low + j) d) (key_there i d (omega arith)) (key_there j d below) (order (low + i) (low + j) d (omega arith) (omega (arith, long))) in
+        let up = places_rise facts xs key order (get_or xs (low + i) d) (get_or xs (low + j) d) (key_there i d (omega arith)) (key_there j d below)
+        (order (low + i) (low + j) d (omega arith) (omega (arith, long))) in
         omega (arith, up, ap (λ (e : Entry). e.place) (read_at i d (omega arith)), ap (λ (e : Entry). e.place) (read_at j d below))
 
 -- ---- the entries of facts
@@ -202,7 +221,8 @@ AddsEntries-none fact place old = record { kept = λ entry inside. inside; added
 cases_next : (k n : ℕ) → k < n + 1 → (k < n) ⊎ (k ≡ n)
 cases_next k n l = grind arith
 
-pub AddsEntries-next : (fact : Fact Term) (place n : ℕ) (old now new : List Entry) (entry : Entry) → new ≡ now ++ entry ∷ [] → IsEntry fact place n entry → AddsEntries fact place n old now → AddsEntries fact place (n + 1) old new
+pub AddsEntries-next : (fact : Fact Term) (place n : ℕ) (old now new : List Entry) (entry : Entry) → new ≡ now ++ entry ∷ [] → IsEntry fact place n entry
+    → AddsEntries fact place n old now → AddsEntries fact place (n + 1) old new
 AddsEntries-next fact place n old now new entry grown is adds = record {
   kept = λ other inside. more other (adds.kept other inside);
   added = λ column l. elim (cases_next column n l) [
@@ -214,7 +234,8 @@ AddsEntries-next fact place n old now new entry grown is adds = record {
     more : (other : Entry) → Contains now other → Contains new other
     more other inside = subst (λ es. Contains es other) (sym grown) (Contains-append_left now (entry ∷ []) other inside)
 
-pub AreListed-next : (facts : List (Fact Term)) (fact : Fact Term) (n : ℕ) (now new : List Entry) → slice_get facts n ≡ Some fact → AddsEntries fact n (length fact.terms + 1) now new → AreListed facts n now → AreListed facts (n + 1) new
+pub AreListed-next : (facts : List (Fact Term)) (fact : Fact Term) (n : ℕ) (now new : List Entry) → slice_get facts n ≡ Some fact
+    → AddsEntries fact n (length fact.terms + 1) now new → AreListed facts n now → AreListed facts (n + 1) new
 AreListed-next facts fact n now new at adds listed place column other l is lc = elim (cases_next place n l) [
   | inl before ↦ let has = listed place column other before is lc in (has.0, adds.kept has.0 has.1, has.2)
   | inr here ↦
@@ -223,7 +244,8 @@ AreListed-next facts fact n now new at adds listed place column other l is lc = 
       (has.0, has.1, subst (λ (f : Fact Term). IsEntry f place column has.0) same (subst (λ p. IsEntry fact p column has.0) (sym here) has.2))
 ]
 
-pub IsIndex-sorted : (facts : List (Fact Term)) (entries index : List Entry) → AreListed facts (length facts) entries → IsPermutation entries index → IsInOrder facts index → IsIndex facts index
+pub IsIndex-sorted : (facts : List (Fact Term)) (entries index : List Entry) → AreListed facts (length facts) entries → IsPermutation entries index
+    → IsInOrder facts index → IsIndex facts index
 IsIndex-sorted facts entries index listed moved order = record {
   listed = λ place column fact l is lc. let has = listed place column fact l is lc in (has.0, Contains-permutation entries index has.0 moved has.1, has.2);
   in_order = order;
@@ -261,10 +283,12 @@ candidates-range facts index range atom known key is of r l t = record { complet
     complete m place keeps extends at =
         let has = is.listed place key.number (image m atom) (slice_get_within facts place (image m atom) at) at (omega (arith, l, length-map atom.terms m)) in
         let reads = entry_reads facts (image m atom) place key.number has.0 at has.2 in
-        let same : key_cmp (key_at facts has.0) key ≡ Equal = key_same (key_at facts has.0) key (has.2.relation ∙ sym r) has.2.number (reads ∙ t m keeps extends) in
+        let same : key_cmp (key_at facts has.0) key ≡ Equal =
+        key_same (key_at facts has.0) key (has.2.relation ∙ sym r) has.2.number (reads ∙ t m keeps extends) in
         (has.0, of.complete has.0 has.1 same, has.2.place)
 
-pub one_term : (m : Term → Term) (terms : List Term) (c : ℕ) (term : Term) → c < length terms → term ≡ get_or terms c term → key_terms (map m terms) (c + 1) ≡ m term ∷ []
+pub one_term : (m : Term → Term) (terms : List Term) (c : ℕ) (term : Term) → c < length terms → term ≡ get_or terms c term
+    → key_terms (map m terms) (c + 1) ≡ m term ∷ []
 one_term m terms c term l read = let e : c + 1 ≡ suc c = omega arith in ap (key_terms (map m terms)) e ∙ at terms c l read
   where
     at : (xs : List Term) (k : ℕ) → k < length xs → term ≡ get_or xs k term → take 1 (drop k (map m xs)) ≡ m term ∷ []

@@ -30,7 +30,8 @@ use Rattle.esto_term.proofs.ListLemmas.{Contains-cases, Contains-head, Contains-
 -- ---- where no first place below a bound has a match
 
 pub record NoneBelow (atom : Fact Term) (rest facts : List (Fact Term)) (known : Assignment) (from : List ℕ) (bound : ℕ) : Type 0 where
-  pub at_or_after : (m : Term → Term) (place : ℕ) (places : List ℕ) → Keeps Const m → Extends m known → IsMatch m (atom ∷ rest) facts (place ∷ places) → IsAtMost from (place ∷ places) → bound ≤ place
+  pub at_or_after : (m : Term → Term) (place : ℕ) (places : List ℕ) → Keeps Const m → Extends m known → IsMatch m (atom ∷ rest) facts (place ∷ places)
+      → IsAtMost from (place ∷ places) → bound ≤ place
 
 -- no match has this first place
 abbrev pub NoneAt : Fact Term → List (Fact Term) → List (Fact Term) → Assignment → List ℕ → ℕ → Type 0
@@ -42,11 +43,14 @@ module _ (atom : Fact Term) (rest facts : List (Fact Term)) (known : Assignment)
     no_fact : Excludes known (λ m. image m atom ≡ fact) → NoneAt atom rest facts known from here
     no_fact none m places keeps extends match after = none m keeps extends (same_Some _ _ (sym match.0 ∙ at))
 
-    no_rest : (mid : Assignment) → Narrows known mid (λ m. image m atom ≡ fact) → HasNoMatch rest facts mid (IsAtMost (rest_from from here)) → NoneAt atom rest facts known from here
+    no_rest : (mid : Assignment) → Narrows known mid (λ m. image m atom ≡ fact) → HasNoMatch rest facts mid (IsAtMost (rest_from from here))
+        → NoneAt atom rest facts known from here
     no_rest mid step none m places keeps extends match after =
         none m places keeps ((step m keeps).1 (extends, same_Some _ _ (sym match.0 ∙ at))) match.1 (rest_is_at_most from here places after)
 
-    IsLeastFrom-cons : (mid new : Assignment) (places : List ℕ) → NoneBelow atom rest facts known from here → first_from from ≤ here → Narrows known mid (λ m. image m atom ≡ fact) → IsLeastFrom rest facts (rest_from from here) mid new places → IsLeastFrom (atom ∷ rest) facts from known new (here ∷ places)
+    IsLeastFrom-cons : (mid new : Assignment) (places : List ℕ) → NoneBelow atom rest facts known from here → first_from from ≤ here
+        → Narrows known mid (λ m. image m atom ≡ fact) → IsLeastFrom rest facts (rest_from from here) mid new places
+        → IsLeastFrom (atom ∷ rest) facts from known new (here ∷ places)
     IsLeastFrom-cons mid new places none low step found = record {
       matches = λ m keeps. (
         λ extends. let f = (found.matches m keeps).0 extends in let s = (step m keeps).0 f.0 in (s.0, (at ∙ ap Some (sym s.1), f.1)),
@@ -56,22 +60,27 @@ module _ (atom : Fact Term) (rest facts : List (Fact Term)) (known : Assignment)
       least = least_case;
     }
       where
-        same_place : (m : Term → Term) (qs : List ℕ) → Keeps Const m → Extends m known → IsMatch m (atom ∷ rest) facts (here ∷ qs) → IsAtMost from (here ∷ qs) → IsAtMost places qs
+        same_place : (m : Term → Term) (qs : List ℕ) → Keeps Const m → Extends m known → IsMatch m (atom ∷ rest) facts (here ∷ qs) → IsAtMost from (here ∷ qs)
+            → IsAtMost places qs
         same_place m qs keeps extends match after =
             found.least m qs keeps ((step m keeps).1 (extends, same_Some _ _ (sym match.0 ∙ at))) match.1 (rest_is_at_most from here qs after)
 
-        least_case : (m : Term → Term) (others : List ℕ) → Keeps Const m → Extends m known → IsMatch m (atom ∷ rest) facts others → IsAtMost from others → IsAtMost (here ∷ places) others
+        least_case : (m : Term → Term) (others : List ℕ) → Keeps Const m → Extends m known → IsMatch m (atom ∷ rest) facts others → IsAtMost from others
+            → IsAtMost (here ∷ places) others
         least_case m [] keeps extends match after = absurd match
         least_case m (q ∷ qs) keeps extends match after =
             IsAtMost-least here q places qs (none.at_or_after m q qs keeps extends match after)
-            (λ same. same_place m qs keeps extends (subst (λ p. IsMatch m (atom ∷ rest) facts (p ∷ qs)) same match) (subst (λ p. IsAtMost from (p ∷ qs)) same after))
+            (λ same. same_place m qs keeps extends (subst (λ p. IsMatch m (atom ∷ rest) facts (p ∷ qs)) same match)
+            (subst (λ p. IsAtMost from (p ∷ qs)) same after))
 
 -- ---- where the first places of all matches are among the candidates that are left
 
 pub record AreLeft (atom : Fact Term) (rest facts : List (Fact Term)) (known : Assignment) (from : List ℕ) (left : List Entry) : Type 0 where
-  pub among : (m : Term → Term) (place : ℕ) (places : List ℕ) → Keeps Const m → Extends m known → IsMatch m (atom ∷ rest) facts (place ∷ places) → IsAtMost from (place ∷ places) → HasPlace left place
+  pub among : (m : Term → Term) (place : ℕ) (places : List ℕ) → Keeps Const m → Extends m known → IsMatch m (atom ∷ rest) facts (place ∷ places)
+      → IsAtMost from (place ∷ places) → HasPlace left place
 
-module _ (atom : Fact Term) (rest facts : List (Fact Term)) (known : Assignment) (from : List ℕ) (found : List Entry) (served : AreCandidates facts atom known found) where
+module _ (atom : Fact Term) (rest facts : List (Fact Term)) (known : Assignment) (from : List ℕ) (found : List Entry)
+    (served : AreCandidates facts atom known found) where
   pub AreLeft-first : AreLeft atom rest facts known from found
   AreLeft-first = record { among = λ m place places keeps extends match after. served.complete m place keeps extends match.0 }
 
@@ -89,20 +98,23 @@ module _ (atom : Fact Term) (rest facts : List (Fact Term)) (known : Assignment)
       pub AreLeft-next : NoneAt atom rest facts known from entry.place → AreLeft atom rest facts known from (drop (i + 1) found)
       AreLeft-next none = record { among = later }
         where
-          later : (m : Term → Term) (place : ℕ) (places : List ℕ) → Keeps Const m → Extends m known → IsMatch m (atom ∷ rest) facts (place ∷ places) → IsAtMost from (place ∷ places) → HasPlace (drop (i + 1) found) place
+          later : (m : Term → Term) (place : ℕ) (places : List ℕ) → Keeps Const m → Extends m known → IsMatch m (atom ∷ rest) facts (place ∷ places)
+              → IsAtMost from (place ∷ places) → HasPlace (drop (i + 1) found) place
           later m place places keeps extends match after =
               let has = left.among m place places keeps extends match after in
               elim (Contains-cases entry (drop (i + 1) found) has.0 (subst (λ es. Contains es has.0) next_left has.1)) [
                 | inl same ↦
                     let here : place ≡ entry.place = sym has.2 ∙ ap (λ (e : Entry). e.place) (sym same) in
-                    absurd (none m places keeps extends (subst (λ p. IsMatch m (atom ∷ rest) facts (p ∷ places)) here match) (subst (λ p. IsAtMost from (p ∷ places)) here after))
+                    absurd (none m places keeps extends (subst (λ p. IsMatch m (atom ∷ rest) facts (p ∷ places)) here match)
+                    (subst (λ p. IsAtMost from (p ∷ places)) here after))
                 | inr more ↦ (has.0, more, has.2)
               ]
 
       pub AreLeft-low : NoneBelow atom rest facts known from entry.place
       AreLeft-low = record { at_or_after = low }
         where
-          low : (m : Term → Term) (place : ℕ) (places : List ℕ) → Keeps Const m → Extends m known → IsMatch m (atom ∷ rest) facts (place ∷ places) → IsAtMost from (place ∷ places) → entry.place ≤ place
+          low : (m : Term → Term) (place : ℕ) (places : List ℕ) → Keeps Const m → Extends m known → IsMatch m (atom ∷ rest) facts (place ∷ places)
+              → IsAtMost from (place ∷ places) → entry.place ≤ place
           low m place places keeps extends match after =
               let has = left.among m place places keeps extends match after in
               let at : get_or found (i + has.1.0) has.0 ≡ has.0 = sym (get_or-drop i found has.1.0 has.0) ∙ has.1.2 in
@@ -112,7 +124,8 @@ module _ (atom : Fact Term) (rest facts : List (Fact Term)) (known : Assignment)
               omega (arith, up, ap (λ (e : Entry). e.place) at, ap (λ (e : Entry). e.place) here, has.2)
 
 -- a place that is out of the range has no match
-pub NoneAt-out : (atom : Fact Term) (rest facts : List (Fact Term)) (known : Assignment) (from : List ℕ) (here : ℕ) → (here < first_from from) ⊎ (length facts ≤ here) → NoneAt atom rest facts known from here
+pub NoneAt-out : (atom : Fact Term) (rest facts : List (Fact Term)) (known : Assignment) (from : List ℕ) (here : ℕ)
+    → (here < first_from from) ⊎ (length facts ≤ here) → NoneAt atom rest facts known from here
 NoneAt-out atom rest facts known from here (inl below) m places keeps extends match after = let least = first_is_least from here places after in omega arith
 NoneAt-out atom rest facts known from here (inr out) m places keeps extends match after = let within = slice_get_within facts here _ match.0 in omega arith
 
@@ -125,7 +138,8 @@ IsLeastFrom-nil facts known = record {
   least = λ m others keeps extends match after. IsAtMost-nil others;
 }
 
-pub Searched-nil : (start : Assignment) (facts : List (Fact Term)) (from places : List ℕ) (trail : List Binding) (is_empty : Bool) → is_empty ≡ eqb (length from) 0 → Searched start [] facts from trail trail places places is_empty
+pub Searched-nil : (start : Assignment) (facts : List (Fact Term)) (from places : List ℕ) (trail : List Binding) (is_empty : Bool)
+    → is_empty ≡ eqb (length from) 0 → Searched start [] facts from trail trail places places is_empty
 Searched-nil start facts [] places trail true e = ([], sym (append-nil places), Grew-same trail, IsLeastFrom-nil facts (with_trail start trail))
 Searched-nil start facts (x ∷ xs) places trail true e = absurd (grind (arith, nat_tests))
 Searched-nil start facts [] places trail false e = absurd (cc)
@@ -137,23 +151,30 @@ Searched-nil start facts (x ∷ xs) places trail false e = (refl, refl, none)
 
 module _ (start : Assignment) (atom fact : Fact Term) (rest facts : List (Fact Term)) (from : List ℕ) (here : ℕ) (at : slice_get facts here ≡ Some fact)
     (old now : List Binding) (same : now ≡ old) (none : NoneBelow atom rest facts (with_trail start old) from here) where
-  tried_first : (new : List Binding) (outcome : Bool) → Tries start now new outcome (λ m. image m atom ≡ fact) → Tries start old new outcome (λ m. image m atom ≡ fact)
+  tried_first : (new : List Binding) (outcome : Bool) → Tries start now new outcome (λ m. image m atom ≡ fact)
+      → Tries start old new outcome (λ m. image m atom ≡ fact)
   tried_first new outcome tried = subst (λ trail. Tries start trail new outcome (λ m. image m atom ≡ fact)) same tried
 
-  pub Searched-found : (mid new : List Binding) (inner places_old places_now places_mid places_new : List ℕ) → places_now ≡ places_old → inner ≡ rest_from from here → places_mid ≡ places_now ++ here ∷ [] → first_from from ≤ here → Tries start now mid true (λ m. image m atom ≡ fact) → Searched start rest facts inner mid new places_mid places_new true → Searched start (atom ∷ rest) facts from old new places_old places_new true
+  pub Searched-found : (mid new : List Binding) (inner places_old places_now places_mid places_new : List ℕ) → places_now ≡ places_old
+      → inner ≡ rest_from from here → places_mid ≡ places_now ++ here ∷ [] → first_from from ≤ here → Tries start now mid true (λ m. image m atom ≡ fact)
+      → Searched start rest facts inner mid new places_mid places_new true → Searched start (atom ∷ rest) facts from old new places_old places_new true
   Searched-found mid new inner places_old places_now places_mid places_new same_places is_inner pushed low tried found =
       let step = tried_first mid true tried in
-      let least : IsLeastFrom rest facts (rest_from from here) (with_trail start mid) (with_trail start new) found.0 = subst (λ f. IsLeastFrom rest facts f (with_trail start mid) (with_trail start new) found.0) is_inner found.3 in (
+      let least : IsLeastFrom rest facts (rest_from from here) (with_trail start mid) (with_trail start new) found.0 =
+      subst (λ f. IsLeastFrom rest facts f (with_trail start mid) (with_trail start new) found.0) is_inner found.3 in (
         here ∷ found.0,
         found.1 ∙ ap (λ z. z ++ found.0) (pushed ∙ ap (λ z. z ++ here ∷ []) same_places) ∙ append_assoc places_old (here ∷ []) found.0,
         Grew-then old mid new step.0 found.2,
         IsLeastFrom-cons atom rest facts (with_trail start old) from fact here at (with_trail start mid) (with_trail start new) found.0 none low step.1 least,
       )
 
-  pub NoneAt-back : (mid new : List Binding) (inner places_mid places_new : List ℕ) → inner ≡ rest_from from here → Tries start now mid true (λ m. image m atom ≡ fact) → Searched start rest facts inner mid new places_mid places_new false → NoneAt atom rest facts (with_trail start old) from here
+  pub NoneAt-back : (mid new : List Binding) (inner places_mid places_new : List ℕ) → inner ≡ rest_from from here
+      → Tries start now mid true (λ m. image m atom ≡ fact) → Searched start rest facts inner mid new places_mid places_new false
+      → NoneAt atom rest facts (with_trail start old) from here
   NoneAt-back mid new inner places_mid places_new is_inner tried missed =
       let step = tried_first mid true tried in
-      let no : HasNoMatch rest facts (with_trail start mid) (IsAtMost (rest_from from here)) = subst (λ f. HasNoMatch rest facts (with_trail start mid) (IsAtMost f)) is_inner missed.2 in
+      let no : HasNoMatch rest facts (with_trail start mid) (IsAtMost (rest_from from here)) =
+      subst (λ f. HasNoMatch rest facts (with_trail start mid) (IsAtMost f)) is_inner missed.2 in
       no_rest atom rest facts (with_trail start old) from fact here at (with_trail start mid) step.1 no
 
   pub NoneAt-skip : (new : List Binding) → Tries start now new false (λ m. image m atom ≡ fact) → NoneAt atom rest facts (with_trail start old) from here
@@ -161,7 +182,9 @@ module _ (start : Assignment) (atom fact : Fact Term) (rest facts : List (Fact T
       let step = tried_first new false tried in
       no_fact atom rest facts (with_trail start old) from fact here at step.1
 
-pub Searched-none : (start : Assignment) (atom : Fact Term) (rest facts : List (Fact Term)) (from : List ℕ) (old new : List Binding) (places_old places_new : List ℕ) → places_new ≡ places_old → new ≡ old → HasNoMatch (atom ∷ rest) facts (with_trail start old) (IsAtMost from) → Searched start (atom ∷ rest) facts from old new places_old places_new false
+pub Searched-none : (start : Assignment) (atom : Fact Term) (rest facts : List (Fact Term)) (from : List ℕ) (old new : List Binding)
+    (places_old places_new : List ℕ) → places_new ≡ places_old → new ≡ old → HasNoMatch (atom ∷ rest) facts (with_trail start old) (IsAtMost from)
+    → Searched start (atom ∷ rest) facts from old new places_old places_new false
 Searched-none start atom rest facts from old new places_old places_new same_places same none = (same_places, same, none)
 
 -- ---- atoms of a body
@@ -174,7 +197,9 @@ flat_rest atom rest flat term (other, inside, at) = flat term (other, Contains-r
 
 -- ---- matches as answers
 
-pub IsLeastMatch-searched : (start found : Assignment) (body facts : List (Fact Term)) (from : List ℕ) (old new : List Binding) (places_old places_new : List ℕ) → AreFlat body → old ≡ [] → places_old ≡ [] → found ≡ with_trail start new → Searched start body facts from old new places_old places_new true → IsLeastMatch body facts start (IsAtMost from) found places_new
+pub IsLeastMatch-searched : (start found : Assignment) (body facts : List (Fact Term)) (from : List ℕ) (old new : List Binding) (places_old places_new : List ℕ)
+    → AreFlat body → old ≡ [] → places_old ≡ [] → found ≡ with_trail start new → Searched start body facts from old new places_old places_new true
+    → IsLeastMatch body facts start (IsAtMost from) found places_new
 IsLeastMatch-searched start found body facts from old new places_old places_new flat empty none is_found searched =
     let whole : searched.0 ≡ places_new = sym (searched.1 ∙ ap (λ z. z ++ searched.0) none) in
     let least : IsLeastFrom body facts from start found places_new =
@@ -187,7 +212,8 @@ IsLeastMatch-searched start found body facts from old new places_old places_new 
       least = least.least;
     }
 
-pub HasNoMatch-searched : (start : Assignment) (body facts : List (Fact Term)) (from : List ℕ) (old new : List Binding) (places_old places_new : List ℕ) → old ≡ [] → Searched start body facts from old new places_old places_new false → HasNoMatch body facts start (IsAtMost from)
+pub HasNoMatch-searched : (start : Assignment) (body facts : List (Fact Term)) (from : List ℕ) (old new : List Binding) (places_old places_new : List ℕ)
+    → old ≡ [] → Searched start body facts from old new places_old places_new false → HasNoMatch body facts start (IsAtMost from)
 HasNoMatch-searched start body facts from old new places_old places_new empty searched =
     subst (λ trail. HasNoMatch body facts (with_trail start trail) (IsAtMost from)) empty searched.2
 
@@ -204,7 +230,8 @@ module _ (body facts : List (Fact Term)) (start : Assignment) (after from : List
   same : (m : Term → Term) (places : List ℕ) → IsMatch m body facts places → IsAtMost from places ↔ IsBefore after places
   same m places match = follows places (IsMatch-length m body facts places match) (places_within m body facts places match)
 
-  IsLeastMatch-after : (found : Assignment) (places : List ℕ) → IsLeastMatch body facts start (IsAtMost from) found places → IsLeastMatch body facts start (IsBefore after) found places
+  IsLeastMatch-after : (found : Assignment) (places : List ℕ) → IsLeastMatch body facts start (IsAtMost from) found places
+      → IsLeastMatch body facts start (IsBefore after) found places
   IsLeastMatch-after found places least =
       let match = ((least.is_found.exact (map_of found) (Keeps-map_of found)).0 (Extends-map_of found)).1 in
       record {
@@ -218,7 +245,8 @@ module _ (body facts : List (Fact Term)) (start : Assignment) (after from : List
   if_least None least = tt
   if_least (Some found) least = IsLeastMatch-after found.valuation found.places least
 
-  pub if_none : (outcome : Option Found) → IfNone outcome (HasNoMatch body facts start (IsAtMost from)) → IfNone outcome (HasNoMatch body facts start (IsBefore after))
+  pub if_none : (outcome : Option Found) → IfNone outcome (HasNoMatch body facts start (IsAtMost from))
+      → IfNone outcome (HasNoMatch body facts start (IsBefore after))
   if_none None none = λ m places keeps extends match in_other. none m places keeps extends match ((same m places match).1 in_other)
   if_none (Some found) none = tt
 

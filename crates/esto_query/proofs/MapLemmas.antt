@@ -54,7 +54,8 @@ changed-other m variable new number apart =
 pub Keeps-changed : (m : Term → Term) (variable : ℕ) (new : Term) → Keeps Const m → Keeps Const (changed m variable new)
 Keeps-changed m variable new keeps text = changed-Const m variable new text ∙ keeps text
 
-pub Extends-changed : (m : Term → Term) (variable : ℕ) (new : Term) (known : Assignment) → get known variable ≡ None → Extends m known → Extends (changed m variable new) known
+pub Extends-changed : (m : Term → Term) (variable : ℕ) (new : Term) (known : Assignment) → get known variable ≡ None → Extends m known
+    → Extends (changed m variable new) known
 Extends-changed m variable new known none extends number term at =
     changed-other m variable new number (λ same. none-some term (sym none ∙ ap (get known) (sym same) ∙ at)) ∙ extends number term at
 

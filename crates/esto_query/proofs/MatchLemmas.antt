@@ -39,7 +39,8 @@ IsMatch-length m body facts places match = AllZip-long (λ atom place. slice_get
 
 -- ---- maps that agree
 
-pub IsMatch-agree : (f g : Term → Term) (body facts : List (Fact Term)) (places : List ℕ) → ((atom : Fact Term) → Contains body atom → image f atom ≡ image g atom) → IsMatch f body facts places → IsMatch g body facts places
+pub IsMatch-agree : (f g : Term → Term) (body facts : List (Fact Term)) (places : List ℕ)
+    → ((atom : Fact Term) → Contains body atom → image f atom ≡ image g atom) → IsMatch f body facts places → IsMatch g body facts places
 IsMatch-agree f g [] facts [] same match = match
 IsMatch-agree f g [] facts (p ∷ ps) same match = absurd match
 IsMatch-agree f g (a ∷ more) facts [] same match = absurd match
@@ -47,7 +48,8 @@ IsMatch-agree f g (a ∷ more) facts (p ∷ ps) same match =
     (match.0 ∙ ap Some (same a (Contains-head a more)), IsMatch-agree f g more facts ps (λ b inside. same b (Contains-rest a more b inside)) match.1)
 
 -- two matches at the same places have the same images
-pub images_same : (f g : Term → Term) (body facts : List (Fact Term)) (places : List ℕ) → IsMatch f body facts places → IsMatch g body facts places → (atom : Fact Term) → Contains body atom → image f atom ≡ image g atom
+pub images_same : (f g : Term → Term) (body facts : List (Fact Term)) (places : List ℕ) → IsMatch f body facts places → IsMatch g body facts places
+    → (atom : Fact Term) → Contains body atom → image f atom ≡ image g atom
 images_same f g [] facts places m n atom inside = absurd (Contains-nil atom inside)
 images_same f g (b ∷ more) facts [] m n atom inside = absurd m
 images_same f g (b ∷ more) facts (p ∷ ps) m n atom (zero, l, e) = subst (λ a. image f a ≡ image g a) e (same_Some _ _ (sym m.0 ∙ n.0))
@@ -85,7 +87,8 @@ module _ (old new : Assignment) (Property : (Term → Term) → Type 0) (narrows
   -- a variable that the property fixes has a term
   pub known_fixed : ((m n : Term → Term) → Property m → Property n → m (Plain variable) ≡ n (Plain variable)) → IsSome (get new variable)
   known_fixed fixes = some_or_none (get new variable) (λ none.
-      terms_differ (map_of new (Plain variable)) (λ term. sym (changed-here (map_of new) variable term) ∙ fixes (other term) (map_of new) (free none term).1 whole.1))
+      terms_differ (map_of new (Plain variable))
+      (λ term. sym (changed-here (map_of new) variable term) ∙ fixes (other term) (map_of new) (free none term).1 whole.1))
 
 -- ---- which variables a found valuation has
 
@@ -95,12 +98,17 @@ module _ (body facts : List (Fact Term)) (start found : Assignment) (places : Li
   apart : (term : Term) → get start variable ≡ None → ¬ (Mentions body (Plain variable)) → get found variable ≡ Some term → ⊥
   apart term none absent at =
       terms_differ term (λ new.
-      let given : Extends (map_of found) start × IsMatch (map_of found) body facts places = whole start found (λ m. IsMatch m body facts places) exact variable in
+      let given : Extends (map_of found) start × IsMatch (map_of found) body facts places =
+      whole start found (λ m. IsMatch m body facts places) exact variable in
       let same : (atom : Fact Term) → Contains body atom → image (map_of found) atom ≡ image (changed (map_of found) variable new) atom = λ atom inside.
-      image_agree (map_of found) (changed (map_of found) variable new) atom (λ t in_atom. sym (changed-flat (map_of found) variable new t (flat t (atom, inside, in_atom)) (λ e. absent (atom, inside, subst (Contains atom.terms) e in_atom)))) in
-      let match : IsMatch (changed (map_of found) variable new) body facts places = IsMatch-agree (map_of found) (changed (map_of found) variable new) body facts places same given.1 in
+      image_agree (map_of found) (changed (map_of found) variable new) atom
+      (λ t in_atom. sym (changed-flat (map_of found) variable new t (flat t (atom, inside, in_atom))
+      (λ e. absent (atom, inside, subst (Contains atom.terms) e in_atom)))) in
+      let match : IsMatch (changed (map_of found) variable new) body facts places =
+      IsMatch-agree (map_of found) (changed (map_of found) variable new) body facts places same given.1 in
       let extends : Extends (changed (map_of found) variable new) start = Extends-changed (map_of found) variable new start none given.0 in
-      sym (changed-here (map_of found) variable new) ∙ (exact (changed (map_of found) variable new) (Keeps-changed (map_of found) variable new (Keeps-map_of found))).1 (extends, match) variable term at)
+      sym (changed-here (map_of found) variable new)
+      ∙ (exact (changed (map_of found) variable new) (Keeps-changed (map_of found) variable new (Keeps-map_of found))).1 (extends, match) variable term at)
 
   found_has : (s f : Option Term) → get start variable ≡ s → get found variable ≡ f → Decided (Mentions body (Plain variable)) → IsSome f
       → IsSome s ⊎ Mentions body (Plain variable)

@@ -157,5 +157,6 @@ Follows-raised after from count bound some l fits is_from places k all =
     let last_at : slice_get (take count after) (count - 1) ≡ Some last = slice_get_read (take count after) _ (count - 1) last refl (omega (arith, long)) read in
     let cut : IsBefore (take count after) places ↔ IsBefore after places =
     subst (λ n. IsBefore (take n after) places ↔ IsBefore after places) k (cut_is_before after places (omega (arith, k, l))) in
-    let raised = raised_is_from last (min (last + 1) (2 ^ 64 - 1)) bound (one_more last bound fits) (take count after) places (count - 1) (omega (arith, long)) (omega (arith, k)) last_at all in
+    let raised = raised_is_from last (min (last + 1) (2 ^ 64 - 1)) bound (one_more last bound fits) (take count after) places (count - 1) (omega (arith, long))
+    (omega (arith, k)) last_at all in
     both_ways (subst (λ f. IsAtMost f places ↔ IsBefore (take count after) places) (sym is_from) raised) cut

@@ -44,18 +44,26 @@ agree_known m known term keeps extends (inr plain) = elim plain.2 [
   | inr mentioned ↦ absurd (Contains-nil mentioned.0 mentioned.1)
 ]
 
-IsRow-nil : (head : List Term) (facts : List (Fact Term)) (known : Assignment) (row : List Term) → AreKnown head [] known → (row ≡ map (map_of known) head) ↔ IsRow head [] facts known row
+IsRow-nil : (head : List Term) (facts : List (Fact Term)) (known : Assignment) (row : List Term) → AreKnown head [] known
+    → (row ≡ map (map_of known) head) ↔ IsRow head [] facts known row
 IsRow-nil head facts known row all = (
   λ e. (map_of known, Keeps-map_of known, Extends-map_of known, (λ atom inside. absurd (Contains-nil atom inside)), e),
   λ r. r.4 ∙ map_agree r.0 (map_of known) head (λ term inside. agree_known r.0 known term r.1 r.2 (all term inside)),
 )
 
 -- where the head is known, one match gives its one row
-pub known_adds : (head : List Term) (body facts : List (Fact Term)) (known : Assignment) (old new : List (List Term)) → AreKnown head [] known → Decides body facts known true → Adds old new (λ row. row ≡ map (map_of known) head) → Adds old new (IsRow head body facts known)
+pub known_adds : (head : List Term) (body facts : List (Fact Term)) (known : Assignment) (old new : List (List Term)) → AreKnown head [] known
+    → Decides body facts known true → Adds old new (λ row. row ≡ map (map_of known) head) → Adds old new (IsRow head body facts known)
 known_adds head body facts known old new all found adds row = (
   λ there. elim ((adds row).0 there) [
     | inl before ↦ inl before
-    | inr is ↦ inr (found.0, found.1, found.2, found.3, is ∙ sym (map_agree found.0 (map_of known) head (λ term inside. agree_known found.0 known term found.1 found.2 (all term inside))))
+    | inr is ↦ inr (
+      found.0,
+      found.1,
+      found.2,
+      found.3,
+      is ∙ sym (map_agree found.0 (map_of known) head (λ term inside. agree_known found.0 known term found.1 found.2 (all term inside))),
+    )
   ],
   λ either. (adds row).1 (elim either [
     | inl before ↦ inl before
@@ -63,7 +71,8 @@ known_adds head body facts known old new all found adds row = (
   ]),
 )
 
-pub none_adds : (head : List Term) (body facts : List (Fact Term)) (known : Assignment) (old new : List (List Term)) → new ≡ old → Decides body facts known false → Adds old new (IsRow head body facts known)
+pub none_adds : (head : List Term) (body facts : List (Fact Term)) (known : Assignment) (old new : List (List Term)) → new ≡ old
+    → Decides body facts known false → Adds old new (IsRow head body facts known)
 none_adds head body facts known old new same none row = (
   λ there. inl (subst (λ rows. Contains rows row) same there),
   λ either. elim either [
@@ -73,7 +82,8 @@ none_adds head body facts known old new same none row = (
 )
 
 -- a search decides
-pub Decides-searched : (start : Assignment) (body facts : List (Fact Term)) (old new : List Binding) (places_old places_new : List ℕ) (is_found : Bool) → Searched start body facts [] old new places_old places_new is_found → Decides body facts (with_trail start old) is_found
+pub Decides-searched : (start : Assignment) (body facts : List (Fact Term)) (old new : List Binding) (places_old places_new : List ℕ) (is_found : Bool)
+    → Searched start body facts [] old new places_old places_new is_found → Decides body facts (with_trail start old) is_found
 Decides-searched start body facts old new places_old places_new true searched =
     let m = map_of (with_trail start new) in
     let both = (searched.3.matches m (Keeps-map_of (with_trail start new))).0 (Extends-map_of (with_trail start new)) in
@@ -112,7 +122,8 @@ AreMoved-first all sorted moved = record {
   );
 }
 
-pub AreMoved-next : (all rest less kept more : List (List Term)) (row : List Term) → rest ≡ less ++ row ∷ [] → AreMoved all rest kept → IsAscending more → Adds kept more (λ other. other ≡ row) → AreMoved all less more
+pub AreMoved-next : (all rest less kept more : List (List Term)) (row : List Term) → rest ≡ less ++ row ∷ [] → AreMoved all rest kept → IsAscending more
+    → Adds kept more (λ other. other ≡ row) → AreMoved all less more
 AreMoved-next all rest less kept more row cut moved ascending adds = record {
   ascending = ascending;
   same = λ other. (
@@ -154,7 +165,8 @@ module _ (old new : Assignment) (atom fact : Fact Term) (rest : List (Fact Term)
       | inl some ↦ inl (known_kept old new (λ m. image m atom ≡ fact) step plain.0 some)
       | inr mentioned ↦ elim (Contains-cases atom rest mentioned.0 mentioned.1) [
         | inl same ↦ inl (known_fixed old new (λ m. image m atom ≡ fact) step plain.0
-            (λ m n p q. image_values m n atom (Plain plain.0) (p ∙ sym q) (subst (Contains atom.terms) plain.1 (subst (λ (a : Fact Term). Contains a.terms term) (sym same) mentioned.2))))
+            (λ m n p q. image_values m n atom (Plain plain.0) (p ∙ sym q)
+            (subst (Contains atom.terms) plain.1 (subst (λ (a : Fact Term). Contains a.terms term) (sym same) mentioned.2))))
         | inr later ↦ inr (mentioned.0, later, mentioned.2)
       ]
     ],
@@ -165,7 +177,8 @@ module _ (old new : Assignment) (atom fact : Fact Term) (rest : List (Fact Term)
 
 -- ---- the rows whose first atom goes to the place of one of the candidates seen
 
-pub record IsRowSeen (head : List Term) (atom : Fact Term) (rest facts : List (Fact Term)) (seen : List Entry) (known : Assignment) (row : List Term) : Type 0 where
+pub record IsRowSeen (head : List Term) (atom : Fact Term) (rest facts : List (Fact Term)) (seen : List Entry) (known : Assignment)
+    (row : List Term) : Type 0 where
   pub m : Term → Term
   pub keeps : Keeps Const m
   pub extends : Extends m known
@@ -181,16 +194,19 @@ Adds-same old new P Q same adds x = (
   λ either. (adds x).1 (elim either [ inl before ↦ inl before | inr q ↦ inr ((same x).1 q) ]),
 )
 
-pub leaf_adds : (head : List Term) (facts : List (Fact Term)) (known : Assignment) (old new : List (List Term)) (row : List Term) → AreKnown head [] known → row ≡ map (map_of known) head → Adds old new (λ other. other ≡ row) → Adds old new (IsRow head [] facts known)
+pub leaf_adds : (head : List Term) (facts : List (Fact Term)) (known : Assignment) (old new : List (List Term)) (row : List Term) → AreKnown head [] known
+    → row ≡ map (map_of known) head → Adds old new (λ other. other ≡ row) → Adds old new (IsRow head [] facts known)
 leaf_adds head facts known old new row all is adds =
-    Adds-same old new (λ other. other ≡ row) (IsRow head [] facts known) (λ other. let one = IsRow-nil head facts known other all in (λ e. one.0 (e ∙ is), λ r. one.1 r ∙ sym is)) adds
+    Adds-same old new (λ other. other ≡ row) (IsRow head [] facts known)
+    (λ other. let one = IsRow-nil head facts known other all in (λ e. one.0 (e ∙ is), λ r. one.1 r ∙ sym is)) adds
 
 module _ (head : List Term) (atom : Fact Term) (rest facts : List (Fact Term)) (known : Assignment) (old : List (List Term)) where
   abbrev pub Seen : List Entry → List Term → Type 0
   Seen seen row = IsRowSeen head atom rest facts seen known row
 
   with_among : (seen other : List Entry) (row : List Term) (s : Seen seen row) → HasPlace other s.place → Seen other row
-  with_among seen other row s among = record { m = s.m; keeps = s.keeps; extends = s.extends; place = s.place; among = among; first = s.first; others = s.others; is_image = s.is_image }
+  with_among seen other row s among =
+      record { m = s.m; keeps = s.keeps; extends = s.extends; place = s.place; among = among; first = s.first; others = s.others; is_image = s.is_image }
 
   seen_more : (seen : List Entry) (entry : Entry) (row : List Term) → Seen seen row → Seen (seen ++ entry ∷ []) row
   seen_more seen entry row s = with_among seen (seen ++ entry ∷ []) row s (s.among.0, Contains-append_left seen (entry ∷ []) s.among.0 s.among.1, s.among.2)
@@ -199,7 +215,8 @@ module _ (head : List Term) (atom : Fact Term) (rest facts : List (Fact Term)) (
   abbrev pub NoneHere : ℕ → Type 0
   NoneHere place = (m : Term → Term) → Keeps Const m → Extends m known → slice_get facts place ≡ Some (image m atom) → ⊥
 
-  skip : (seen : List Entry) (entry : Entry) (now : List (List Term)) → NoneHere entry.place → Adds old now (Seen seen) → Adds old now (Seen (seen ++ entry ∷ []))
+  skip : (seen : List Entry) (entry : Entry) (now : List (List Term)) → NoneHere entry.place → Adds old now (Seen seen)
+      → Adds old now (Seen (seen ++ entry ∷ []))
   skip seen entry now none = Adds-same old now (Seen seen) (Seen (seen ++ entry ∷ [])) (λ row. (
     λ s. seen_more seen entry row s,
     λ s. elim (Contains-push_cases seen entry s.among.0 s.among.1) [
@@ -208,20 +225,33 @@ module _ (head : List Term) (atom : Fact Term) (rest facts : List (Fact Term)) (
     ],
   ))
 
-  next : (seen : List Entry) (entry : Entry) (fact : Fact Term) (mid : Assignment) (now new : List (List Term)) → slice_get facts entry.place ≡ Some fact → Narrows known mid (λ m. image m atom ≡ fact) → Adds now new (IsRow head rest facts mid) → Adds old now (Seen seen) → Adds old new (Seen (seen ++ entry ∷ []))
+  next : (seen : List Entry) (entry : Entry) (fact : Fact Term) (mid : Assignment) (now new : List (List Term)) → slice_get facts entry.place ≡ Some fact
+      → Narrows known mid (λ m. image m atom ≡ fact) → Adds now new (IsRow head rest facts mid) → Adds old now (Seen seen)
+      → Adds old new (Seen (seen ++ entry ∷ []))
   next seen entry fact mid now new at step more before row = (
     λ there. elim ((more row).0 there) [
       | inl earlier ↦ elim ((before row).0 earlier) [ inl first ↦ inl first | inr s ↦ inr (seen_more seen entry row s) ]
       | inr r ↦
           let n = (step r.0 r.1).0 r.2 in
-          inr (record { m = r.0; keeps = r.1; extends = n.0; place = entry.place; among = (entry, Contains-push seen entry, refl); first = at ∙ ap Some (sym n.1); others = r.3; is_image = r.4 })
+          inr (record {
+            m = r.0;
+            keeps = r.1;
+            extends = n.0;
+            place = entry.place;
+            among = (entry, Contains-push seen entry, refl);
+            first =
+                at ∙ ap Some (sym n.1);
+            others = r.3;
+            is_image = r.4;
+          })
     ],
     λ either. (more row).1 (elim either [
       | inl first ↦ inl ((before row).1 (inl first))
       | inr s ↦ elim (Contains-push_cases seen entry s.among.0 s.among.1) [
         | inl earlier ↦ inl ((before row).1 (inr (with_among (seen ++ entry ∷ []) seen row s (s.among.0, earlier, s.among.2))))
         | inr same ↦
-            let here : slice_get facts s.place ≡ Some fact = ap (slice_get facts) (sym s.among.2) ∙ ap (λ (e : Entry). slice_get facts e.place) (sym same) ∙ at in
+            let here : slice_get facts s.place ≡ Some fact =
+            ap (slice_get facts) (sym s.among.2) ∙ ap (λ (e : Entry). slice_get facts e.place) (sym same) ∙ at in
             inr (s.m, s.keeps, (step s.m s.keeps).1 (s.extends, same_Some _ _ (sym s.first ∙ here)), s.others, s.is_image)
       ]
     ]),
@@ -230,25 +260,52 @@ module _ (head : List Term) (atom : Fact Term) (rest facts : List (Fact Term)) (
   module _ (found : List Entry) (served : AreCandidates facts atom known found) where
     whole : (row : List Term) → Seen found row ↔ IsRow head (atom ∷ rest) facts known row
     whole row = (
-      λ s. (s.m, s.keeps, s.extends, (λ a inside. elim (Contains-cases atom rest a inside) [ inl same ↦ subst (λ b. Contains facts (image s.m b)) same (Contains-at facts s.place (image s.m atom) s.first) | inr later ↦ s.others a later ]), s.is_image),
+      λ s. (
+        s.m,
+        s.keeps,
+        s.extends,
+        (λ a inside. elim (Contains-cases atom rest a inside)
+            [ inl same ↦ subst (λ b. Contains facts (image s.m b)) same (Contains-at facts s.place (image s.m atom) s.first) | inr later ↦ s.others a later ]),
+        s.is_image,
+      ),
       λ r.
           let first = r.3 atom (Contains-head atom rest) in
           let at : slice_get facts first.0 ≡ Some (image r.0 atom) = slice_get_read facts _ first.0 (image r.0 atom) refl first.1 (sym first.2) in
-          record { m = r.0; keeps = r.1; extends = r.2; place = first.0; among = served.complete r.0 first.0 r.1 r.2 at; first = at; others = λ a inside. r.3 a (Contains-rest atom rest a inside); is_image = r.4 },
+          record {
+            m = r.0;
+            keeps = r.1;
+            extends = r.2;
+            place = first.0;
+            among = served.complete r.0 first.0 r.1 r.2 at;
+            first = at;
+            others =
+                λ a inside. r.3 a (Contains-rest atom rest a inside);
+            is_image = r.4;
+          },
     )
 
     module _ (i : ℕ) where
       seen_at : (entry : Entry) → i < length found → entry ≡ get_or found i entry → take (i + 1) found ≡ take i found ++ entry ∷ []
       seen_at entry within read = take_more found i entry within ∙ ap (λ e. take i found ++ e ∷ []) (sym read)
 
-      pub turn_out : (entry : Entry) (now : List (List Term)) → i < length found → entry ≡ get_or found i entry → length facts ≤ entry.place → Adds old now (Seen (take i found)) → Adds old now (Seen (take (i + 1) found))
-      turn_out entry now within read out seen = subst (λ es. Adds old now (Seen es)) (sym (seen_at entry within read)) (skip (take i found) entry now (λ m keeps extends at. let l = slice_get_within facts entry.place _ at in omega arith) seen)
+      pub turn_out : (entry : Entry) (now : List (List Term)) → i < length found → entry ≡ get_or found i entry → length facts ≤ entry.place
+          → Adds old now (Seen (take i found)) → Adds old now (Seen (take (i + 1) found))
+      turn_out entry now within read out seen =
+          subst (λ es. Adds old now (Seen es)) (sym (seen_at entry within read))
+          (skip (take i found) entry now (λ m keeps extends at. let l = slice_get_within facts entry.place _ at in omega arith) seen)
 
-      pub turn_skip : (entry : Entry) (fact : Fact Term) (now : List (List Term)) → i < length found → entry ≡ get_or found i entry → slice_get facts entry.place ≡ Some fact → Excludes known (λ m. image m atom ≡ fact) → Adds old now (Seen (take i found)) → Adds old now (Seen (take (i + 1) found))
-      turn_skip entry fact now within read at none seen = subst (λ es. Adds old now (Seen es)) (sym (seen_at entry within read)) (skip (take i found) entry now (λ m keeps extends is. none m keeps extends (same_Some _ _ (sym is ∙ at))) seen)
+      pub turn_skip : (entry : Entry) (fact : Fact Term) (now : List (List Term)) → i < length found → entry ≡ get_or found i entry
+          → slice_get facts entry.place ≡ Some fact → Excludes known (λ m. image m atom ≡ fact) → Adds old now (Seen (take i found))
+          → Adds old now (Seen (take (i + 1) found))
+      turn_skip entry fact now within read at none seen =
+          subst (λ es. Adds old now (Seen es)) (sym (seen_at entry within read))
+          (skip (take i found) entry now (λ m keeps extends is. none m keeps extends (same_Some _ _ (sym is ∙ at))) seen)
 
-      pub turn_next : (entry : Entry) (fact : Fact Term) (mid : Assignment) (now new : List (List Term)) → i < length found → entry ≡ get_or found i entry → slice_get facts entry.place ≡ Some fact → Narrows known mid (λ m. image m atom ≡ fact) → Adds now new (IsRow head rest facts mid) → Adds old now (Seen (take i found)) → Adds old new (Seen (take (i + 1) found))
-      turn_next entry fact mid now new within read at step more seen = subst (λ es. Adds old new (Seen es)) (sym (seen_at entry within read)) (next (take i found) entry fact mid now new at step more seen)
+      pub turn_next : (entry : Entry) (fact : Fact Term) (mid : Assignment) (now new : List (List Term)) → i < length found → entry ≡ get_or found i entry
+          → slice_get facts entry.place ≡ Some fact → Narrows known mid (λ m. image m atom ≡ fact) → Adds now new (IsRow head rest facts mid)
+          → Adds old now (Seen (take i found)) → Adds old new (Seen (take (i + 1) found))
+      turn_next entry fact mid now new within read at step more seen =
+          subst (λ es. Adds old new (Seen es)) (sym (seen_at entry within read)) (next (take i found) entry fact mid now new at step more seen)
 
       pub end_adds : (now : List (List Term)) → length found ≤ i → Adds old now (Seen (take i found)) → Adds old now (IsRow head (atom ∷ rest) facts known)
       end_adds now end seen =
@@ -264,9 +321,13 @@ known_at_first query start kept term inside = by (kept.flat_head term inside) (k
     by (inl constant) (inr mentioned) = inl constant
     by (inr plain) (inr mentioned) = inr (plain.0, plain.1, inr mentioned)
 
-pub answers_are : (query : ConjunctiveQuery) (facts : List (Fact Term)) (old new kept : List (List Term)) (start : Assignment) → old ≡ [] → start ≡ empty {R = nat_cmp} → Adds old new (IsRow query.head query.body facts start) → ((row : List Term) → Contains kept row ↔ Contains new row) → (row : List Term) → Contains kept row ↔ IsAnswerInto Const query (Contains facts) row
+pub answers_are : (query : ConjunctiveQuery) (facts : List (Fact Term)) (old new kept : List (List Term)) (start : Assignment) → old ≡ []
+    → start ≡ empty {R = nat_cmp} → Adds old new (IsRow query.head query.body facts start) → ((row : List Term) → Contains kept row ↔ Contains new row)
+    → (row : List Term) → Contains kept row ↔ IsAnswerInto Const query (Contains facts) row
 answers_are query facts old new kept start none nothing adds same row =
-    let extends : (m : Term → Term) → Extends m start = λ m variable term at. absurd (none-some term (sym (get-empty nat_cmp variable) ∙ ap (λ (known : Assignment). get known variable) (sym nothing) ∙ at)) in (
+    let extends : (m : Term → Term) → Extends m start =
+    λ m variable term at. absurd (none-some term
+    (sym (get-empty nat_cmp variable) ∙ ap (λ (known : Assignment). get known variable) (sym nothing) ∙ at)) in (
       λ there. elim ((adds row).0 ((same row).0 there)) [
         | inl before ↦ absurd (Contains-nil row (subst (λ rows. Contains rows row) none before))
         | inr r ↦ (r.0, r.1, r.3, r.4)

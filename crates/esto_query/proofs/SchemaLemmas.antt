@@ -12,17 +12,21 @@ use Rattle.esto_query.specs.declared.schema.TheConstants.{MAX_RELATIONS}
 use Rattle.esto_query.specs.declared.schema.Relation.{Relation}
 use Rattle.esto_term.proofs.ListLemmas.{Contains-map_from}
 
-pub name_missing : (schema : List Relation) (name : List ℕ) → ((relation : Relation) → Contains schema relation → relation.name ≢ name) → ¬ (Contains (names_of schema) name)
+pub name_missing : (schema : List Relation) (name : List ℕ) → ((relation : Relation) → Contains schema relation → relation.name ≢ name)
+    → ¬ (Contains (names_of schema) name)
 name_missing schema name apart inside =
     let found = Contains-map_from (λ (it : Relation). it.name) schema name inside in apart found.0 found.1 found.2
 
-pub arity_range : (schema : List Relation) (number : ℕ) (relation : Relation) → slice_get schema number ≡ Some relation → All IsArity (arities_of schema) → IsArity relation.arity
+pub arity_range : (schema : List Relation) (number : ℕ) (relation : Relation) → slice_get schema number ≡ Some relation → All IsArity (arities_of schema)
+    → IsArity relation.arity
 arity_range schema number relation there all =
-    let at : slice_get (arities_of schema) number ≡ Some relation.arity = slice_get-map (λ (it : Relation). it.arity) schema number ∙ ap (option_map (λ (it : Relation). it.arity)) there in
+    let at : slice_get (arities_of schema) number ≡ Some relation.arity =
+    slice_get-map (λ (it : Relation). it.arity) schema number ∙ ap (option_map (λ (it : Relation). it.arity)) there in
     let ranged = all number relation.arity (slice_get_within (arities_of schema) number relation.arity at) in
     rw (get_or_from_slice_get (arities_of schema) number relation.arity relation.arity at) at ranged
 
-pub IsSchema-push : (schema new : List Relation) (relation : Relation) → new ≡ schema ++ relation ∷ [] → IsSchema schema → ¬ (Contains (names_of schema) relation.name) → IsArity relation.arity → length schema < MAX_RELATIONS → IsSchema new
+pub IsSchema-push : (schema new : List Relation) (relation : Relation) → new ≡ schema ++ relation ∷ [] → IsSchema schema
+    → ¬ (Contains (names_of schema) relation.name) → IsArity relation.arity → length schema < MAX_RELATIONS → IsSchema new
 IsSchema-push schema new relation grown old missing ranged room = rw grown (record {
   distinct =
       rw (map_push (λ (it : Relation). it.name) schema relation)
@@ -31,7 +35,8 @@ IsSchema-push schema new relation grown old missing ranged room = rw grown (reco
   room = omega (arith, length_push schema relation);
 })
   where
-    other : (k : ℕ) (d : List ℕ) → k < length (names_of schema) → get_or (names_of schema) k d ≡ relation.name → get_or (names_of schema) k relation.name ≡ relation.name
+    other : (k : ℕ) (d : List ℕ) → k < length (names_of schema) → get_or (names_of schema) k d ≡ relation.name
+        → get_or (names_of schema) k relation.name ≡ relation.name
     other k d within same = get_or_default (names_of schema) k relation.name d within ∙ same
 
 -- where a look-up answered nothing

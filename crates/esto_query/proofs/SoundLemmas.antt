@@ -38,9 +38,11 @@ Plain-Const number text e =
 
 pub Made-flat : (rule variable : ℕ) (frontier : List Term) → IsFlat (Made rule variable frontier) → ⊥
 Made-flat rule variable frontier (inl constant) =
-    let same : Term-F.Made rule variable frontier ≡ Term-F.Const constant.0 = sym (outs-Made rule variable frontier) ∙ ap out-Term constant.1 ∙ outs-Const constant.0 in cc
+    let same : Term-F.Made rule variable frontier ≡ Term-F.Const constant.0 =
+    sym (outs-Made rule variable frontier) ∙ ap out-Term constant.1 ∙ outs-Const constant.0 in cc
 Made-flat rule variable frontier (inr plain) =
-    let same : Term-F.Made rule variable frontier ≡ Term-F.Plain plain.0 = sym (outs-Made rule variable frontier) ∙ ap out-Term plain.1 ∙ outs-Plain plain.0 in cc
+    let same : Term-F.Made rule variable frontier ≡ Term-F.Plain plain.0 = sym (outs-Made rule variable frontier) ∙ ap out-Term plain.1 ∙ outs-Plain plain.0 in
+    cc
 
 -- ---- what is not refuted
 
@@ -53,7 +55,8 @@ flat_kind term (Term-F.Made rule variable frontier) e known =
 flat_known : (term : Term) → ¬ (¬ (IsFlat term)) → IsFlat term
 flat_known term known = flat_kind term (out-Term term) (sym (roll-out-Term term)) known
 
-fixed_plain : (body : List (Fact Term)) (variable : ℕ) → Decided (Mentions body (Plain variable)) → ¬ (¬ (IsFixedBy body (Plain variable))) → IsFixedBy body (Plain variable)
+fixed_plain : (body : List (Fact Term)) (variable : ℕ) → Decided (Mentions body (Plain variable)) → ¬ (¬ (IsFixedBy body (Plain variable)))
+    → IsFixedBy body (Plain variable)
 fixed_plain body variable (inl mentioned) known = inr mentioned
 fixed_plain body variable (inr missing) known = absurd (known refuted)
   where
@@ -64,7 +67,8 @@ fixed_plain body variable (inr missing) known = absurd (known refuted)
 fixed_known : (body : List (Fact Term)) (term : Term) → IsFlat term → ¬ (¬ (IsFixedBy body term)) → IsFixedBy body term
 fixed_known body term (inl constant) known = inl constant
 fixed_known body term (inr plain) known =
-    subst (IsFixedBy body) (sym plain.1) (fixed_plain body plain.0 (mentions_decided body (Plain plain.0)) (λ no. known (λ fixed. no (subst (IsFixedBy body) plain.1 fixed))))
+    subst (IsFixedBy body) (sym plain.1)
+    (fixed_plain body plain.0 (mentions_decided body (Plain plain.0)) (λ no. known (λ fixed. no (subst (IsFixedBy body) plain.1 fixed))))
 
 -- ---- what every query keeps
 
@@ -88,7 +92,8 @@ sound_of head body names sound = record {
 
 -- ---- the first atom with a wrong number of terms, and the first unsafe variable
 
-pub unsafe_at : (head : List Term) (body : List (Fact Term)) (place variable : ℕ) (term : Term) → place < length head → term ≡ get_or head place term → term ≡ Plain variable → ¬ (Mentions body (Plain variable)) → IsSafe (take place head) body → IsFirstUnsafe head body variable
+pub unsafe_at : (head : List Term) (body : List (Fact Term)) (place variable : ℕ) (term : Term) → place < length head → term ≡ get_or head place term
+    → term ≡ Plain variable → ¬ (Mentions body (Plain variable)) → IsSafe (take place head) body → IsFirstUnsafe head body variable
 unsafe_at head body place variable term within read plain missing before = record {
   place = place;
   there = slice_get_read head (length head) place term refl within read ∙ ap Some plain;

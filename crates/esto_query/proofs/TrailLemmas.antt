@@ -17,7 +17,8 @@ use Rattle.esto_query.proofs.ValuationLemmas.{same_key, other_key, Extends-inser
 
 -- ---- the valuation of a trail
 
-pub with_trail-push : (start : Assignment) (trail : List Binding) (binding : Binding) → with_trail start (trail ++ binding ∷ []) ≡ insert (with_trail start trail) binding.variable binding.term.now
+pub with_trail-push : (start : Assignment) (trail : List Binding) (binding : Binding)
+    → with_trail start (trail ++ binding ∷ []) ≡ insert (with_trail start trail) binding.variable binding.term.now
 with_trail-push start trail binding = fold-append (λ (known : Assignment) (b : Binding). insert known b.variable b.term.now) start trail (binding ∷ [])
 
 module _ (start : Assignment) (trail : List Binding) (variable : ℕ) where
@@ -25,7 +26,8 @@ module _ (start : Assignment) (trail : List Binding) (variable : ℕ) where
   abbrev pub given_by : ℕ → Option Term
   given_by i = get (with_trail start (take i trail)) variable
 
-  given_step : (i : ℕ) (binding : Binding) → 0 < i → i ≤ length trail → binding ≡ get_or trail (i - 1) binding → given_by i ≡ cond (eq_by_cmp nat_cmp variable binding.variable) (Some binding.term.now) (given_by (i - 1))
+  given_step : (i : ℕ) (binding : Binding) → 0 < i → i ≤ length trail → binding ≡ get_or trail (i - 1) binding
+      → given_by i ≡ cond (eq_by_cmp nat_cmp variable binding.variable) (Some binding.term.now) (given_by (i - 1))
   given_step i binding some within read =
       let more : i ≡ suc (i - 1) = omega arith in
       let below : i - 1 < length trail = omega arith in
@@ -35,11 +37,15 @@ module _ (start : Assignment) (trail : List Binding) (variable : ℕ) where
       ∙ ap (λ (known : Assignment). get known variable) (with_trail-push start (take (i - 1) trail) binding)
       ∙ get-insert nat_cmp_total (with_trail start (take (i - 1) trail)) binding.variable binding.term.now variable
 
-  pub given_found : (i : ℕ) (binding : Binding) → 0 < i → i ≤ length trail → binding ≡ get_or trail (i - 1) binding → binding.variable ≡ variable → given_by i ≡ Some binding.term.now
-  given_found i binding some within read same = given_step i binding some within read ∙ ap (λ b. cond b (Some binding.term.now) (given_by (i - 1))) (same_key _ _ same)
+  pub given_found : (i : ℕ) (binding : Binding) → 0 < i → i ≤ length trail → binding ≡ get_or trail (i - 1) binding → binding.variable ≡ variable
+      → given_by i ≡ Some binding.term.now
+  given_found i binding some within read same =
+      given_step i binding some within read ∙ ap (λ b. cond b (Some binding.term.now) (given_by (i - 1))) (same_key _ _ same)
 
-  pub given_passed : (i : ℕ) (binding : Binding) → 0 < i → i ≤ length trail → binding ≡ get_or trail (i - 1) binding → (binding.variable ≡ variable → ⊥) → given_by (i - 1) ≡ given_by i
-  given_passed i binding some within read apart = sym (given_step i binding some within read ∙ ap (λ b. cond b (Some binding.term.now) (given_by (i - 1))) (other_key _ _ apart))
+  pub given_passed : (i : ℕ) (binding : Binding) → 0 < i → i ≤ length trail → binding ≡ get_or trail (i - 1) binding → (binding.variable ≡ variable → ⊥)
+      → given_by (i - 1) ≡ given_by i
+  given_passed i binding some within read apart =
+      sym (given_step i binding some within read ∙ ap (λ b. cond b (Some binding.term.now) (given_by (i - 1))) (other_key _ _ apart))
 
   pub given_start : (i : ℕ) → i ≤ 0 → given_by i ≡ get start variable
   given_start i l = let e : i ≡ 0 = omega arith in rw e refl
@@ -62,7 +68,8 @@ undone n old now mid new cut l same grew missed is_cut =
 
 -- ---- attempts
 
-pub Tries-weaker : (start : Assignment) (old new : List Binding) (outcome : Bool) (P Q : (Term → Term) → Type 0) → ((m : Term → Term) → P m ↔ Q m) → Tries start old new outcome P → Tries start old new outcome Q
+pub Tries-weaker : (start : Assignment) (old new : List Binding) (outcome : Bool) (P Q : (Term → Term) → Type 0) → ((m : Term → Term) → P m ↔ Q m)
+    → Tries start old new outcome P → Tries start old new outcome Q
 Tries-weaker start old new true P Q same tried = (
   tried.0,
   λ m keeps. (
@@ -72,12 +79,15 @@ Tries-weaker start old new true P Q same tried = (
 )
 Tries-weaker start old new false P Q same tried = (tried.0, λ m keeps extends q. tried.1 m keeps extends ((same m).1 q))
 
-pub Tries-pushed : (start : Assignment) (old new : List Binding) (binding : Binding) (term target : Term) → term ≡ Plain binding.variable → binding.term.now ≡ target → get (with_trail start old) binding.variable ≡ None → new ≡ old ++ binding ∷ [] → Tries start old new true (λ m. m term ≡ target)
+pub Tries-pushed : (start : Assignment) (old new : List Binding) (binding : Binding) (term target : Term) → term ≡ Plain binding.variable
+    → binding.term.now ≡ target → get (with_trail start old) binding.variable ≡ None → new ≡ old ++ binding ∷ []
+    → Tries start old new true (λ m. m term ≡ target)
 Tries-pushed start old new binding term target plain value none grown = (
   (binding ∷ [], grown),
   λ m keeps.
       let step = Extends-insert (with_trail start old) binding.variable binding.term.now m none in
-      let is_new : with_trail start new ≡ insert (with_trail start old) binding.variable binding.term.now = ap (with_trail start) grown ∙ with_trail-push start old binding in (
+      let is_new : with_trail start new ≡ insert (with_trail start old) binding.variable binding.term.now =
+      ap (with_trail start) grown ∙ with_trail-push start old binding in (
         λ extends. let both = step.0 (subst (Extends m) is_new extends) in (both.0, ap m plain ∙ both.1 ∙ value),
         λ both. subst (Extends m) (sym is_new) (step.1 (both.0, sym (ap m plain) ∙ both.1 ∙ sym value)),
       ),
@@ -86,29 +96,37 @@ Tries-pushed start old new binding term target plain value none grown = (
 -- ---- rows
 
 -- two rows agree up to i + 1 where they agree up to i and at i
-row_next : (m : Term → Term) (xs ys : List Term) (i : ℕ) (x y : Term) → i < length xs → i < length ys → x ≡ get_or xs i x → y ≡ get_or ys i y → (map m (take (i + 1) xs) ≡ take (i + 1) ys) ↔ ((map m (take i xs) ≡ take i ys) × (m x ≡ y))
+row_next : (m : Term → Term) (xs ys : List Term) (i : ℕ) (x y : Term) → i < length xs → i < length ys → x ≡ get_or xs i x → y ≡ get_or ys i y
+    → (map m (take (i + 1) xs) ≡ take (i + 1) ys) ↔ ((map m (take i xs) ≡ take i ys) × (m x ≡ y))
 row_next m xs ys i x y l k read_x read_y =
-    let left : map m (take (i + 1) xs) ≡ map m (take i xs) ++ m x ∷ [] = ap (map m) (take_more xs i x l ∙ ap (λ z. take i xs ++ z ∷ []) (sym read_x)) ∙ map_push m (take i xs) x in
+    let left : map m (take (i + 1) xs) ≡ map m (take i xs) ++ m x ∷ [] =
+    ap (map m) (take_more xs i x l ∙ ap (λ z. take i xs ++ z ∷ []) (sym read_x)) ∙ map_push m (take i xs) x in
     let right : take (i + 1) ys ≡ take i ys ++ y ∷ [] = take_more ys i y k ∙ ap (λ z. take i ys ++ z ∷ []) (sym read_y) in (
       λ e. same_from_push (map m (take i xs)) (take i ys) (m x) y (sym left ∙ e ∙ right),
       λ both. left ∙ ap (λ z. z ++ m x ∷ []) both.0 ∙ ap (λ z. take i ys ++ z ∷ []) both.1 ∙ sym right,
     )
 
-module _ (start : Assignment) (old now : List Binding) (xs ys : List Term) (i : ℕ) (x y : Term) (l : i < length xs) (k : i < length ys) (read_x : x ≡ get_or xs i x) (read_y : y ≡ get_or ys i y) where
-  pub Narrows-row : (new : List Binding) → Narrows (with_trail start old) (with_trail start now) (λ m. map m (take i xs) ≡ take i ys) → Narrows (with_trail start now) (with_trail start new) (λ m. m x ≡ y) → Narrows (with_trail start old) (with_trail start new) (λ m. map m (take (i + 1) xs) ≡ take (i + 1) ys)
+module _ (start : Assignment) (old now : List Binding) (xs ys : List Term) (i : ℕ) (x y : Term) (l : i < length xs) (k : i < length ys)
+    (read_x : x ≡ get_or xs i x) (read_y : y ≡ get_or ys i y) where
+  pub Narrows-row : (new : List Binding) → Narrows (with_trail start old) (with_trail start now) (λ m. map m (take i xs) ≡ take i ys)
+      → Narrows (with_trail start now) (with_trail start new) (λ m. m x ≡ y)
+      → Narrows (with_trail start old) (with_trail start new) (λ m. map m (take (i + 1) xs) ≡ take (i + 1) ys)
   Narrows-row new before here m keeps =
       let next = row_next m xs ys i x y l k read_x read_y in (
         λ extends. let h = (here m keeps).0 extends in let b = (before m keeps).0 h.0 in (b.0, next.1 (b.1, h.1)),
         λ both. let n = next.0 both.1 in (here m keeps).1 ((before m keeps).1 (both.0, n.0), n.1),
       )
 
-  pub Excludes-row : Narrows (with_trail start old) (with_trail start now) (λ m. map m (take i xs) ≡ take i ys) → Excludes (with_trail start now) (λ m. m x ≡ y) → Excludes (with_trail start old) (λ m. map m xs ≡ ys)
+  pub Excludes-row : Narrows (with_trail start old) (with_trail start now) (λ m. map m (take i xs) ≡ take i ys) → Excludes (with_trail start now) (λ m. m x ≡ y)
+      → Excludes (with_trail start old) (λ m. map m xs ≡ ys)
   Excludes-row before here m keeps extends whole =
       let cut : map m (take (i + 1) xs) ≡ take (i + 1) ys = sym (take-map m (i + 1) xs) ∙ ap (take (i + 1)) whole in
       let next = (row_next m xs ys i x y l k read_x read_y).0 cut in
       here m keeps ((before m keeps).1 (extends, next.0)) next.1
 
-pub Narrows-whole : (start : Assignment) (old new : List Binding) (xs ys : List Term) (i : ℕ) → length xs ≤ i → length ys ≤ i → Narrows (with_trail start old) (with_trail start new) (λ m. map m (take i xs) ≡ take i ys) → Narrows (with_trail start old) (with_trail start new) (λ m. map m xs ≡ ys)
+pub Narrows-whole : (start : Assignment) (old new : List Binding) (xs ys : List Term) (i : ℕ) → length xs ≤ i → length ys ≤ i
+    → Narrows (with_trail start old) (with_trail start new) (λ m. map m (take i xs) ≡ take i ys)
+    → Narrows (with_trail start old) (with_trail start new) (λ m. map m xs ≡ ys)
 Narrows-whole start old new xs ys i l k before m keeps =
     let same : (map m (take i xs) ≡ take i ys) ↔ (map m xs ≡ ys) = (
       λ e. ap (map m) (sym (take_all i xs l)) ∙ e ∙ take_all i ys k,
@@ -120,9 +138,11 @@ Narrows-whole start old new xs ys i l k before m keeps =
 
 -- ---- atoms
 
-pub Tries-atom : (start : Assignment) (old new : List Binding) (outcome : Bool) (atom fact : Fact Term) → atom.relation ≡ fact.relation → Tries start old new outcome (λ m. map m atom.terms ≡ fact.terms) → Tries start old new outcome (λ m. image m atom ≡ fact)
+pub Tries-atom : (start : Assignment) (old new : List Binding) (outcome : Bool) (atom fact : Fact Term) → atom.relation ≡ fact.relation
+    → Tries start old new outcome (λ m. map m atom.terms ≡ fact.terms) → Tries start old new outcome (λ m. image m atom ≡ fact)
 Tries-atom start old new outcome atom fact same =
     Tries-weaker start old new outcome (λ m. map m atom.terms ≡ fact.terms) (λ m. image m atom ≡ fact) (λ m. (
-      λ e. ap (λ (r : ℕ). record { relation = r; terms = map m atom.terms }) same ∙ ap (λ (row : List Term). record { relation = fact.relation; terms = row }) e,
+      λ e. ap (λ (r : ℕ). record { relation = r; terms = map m atom.terms }) same
+          ∙ ap (λ (row : List Term). record { relation = fact.relation; terms = row }) e,
       λ e. ap (λ (f : Fact Term). f.terms) e,
     ))

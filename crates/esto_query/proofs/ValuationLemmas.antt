@@ -67,19 +67,25 @@ Extends-map_of valuation variable term at = map_of-Plain valuation variable ∙ 
 
 -- ---- one more binding
 
-kept : (known : Assignment) (variable number : ℕ) (new term : Term) (b : Bool) → eq_by_cmp nat_cmp number variable ≡ b → get known variable ≡ None → get known number ≡ Some term → cond b (Some new) (get known number) ≡ Some term
+kept : (known : Assignment) (variable number : ℕ) (new term : Term) (b : Bool) → eq_by_cmp nat_cmp number variable ≡ b → get known variable ≡ None
+    → get known number ≡ Some term → cond b (Some new) (get known number) ≡ Some term
 kept known variable number new term true test none at = absurd (none-some term (sym none ∙ ap (get known) (key_same variable number test) ∙ at))
 kept known variable number new term false test none at = at
 
-split : (known : Assignment) (variable number : ℕ) (new term : Term) (m : Term → Term) (b : Bool) → eq_by_cmp nat_cmp number variable ≡ b → Extends m known → m (Plain variable) ≡ new → cond b (Some new) (get known number) ≡ Some term → m (Plain number) ≡ term
+split : (known : Assignment) (variable number : ℕ) (new term : Term) (m : Term → Term) (b : Bool) → eq_by_cmp nat_cmp number variable ≡ b → Extends m known
+    → m (Plain variable) ≡ new → cond b (Some new) (get known number) ≡ Some term → m (Plain number) ≡ term
 split known variable number new term m true test extends here at = ap (λ n. m (Plain n)) (sym (key_same variable number test)) ∙ here ∙ same_Some new term at
 split known variable number new term m false test extends here at = extends number term at
 
-pub Extends-insert : (known : Assignment) (variable : ℕ) (new : Term) (m : Term → Term) → get known variable ≡ None → Extends m (insert known variable new) ↔ (Extends m known × (m (Plain variable) ≡ new))
+pub Extends-insert : (known : Assignment) (variable : ℕ) (new : Term) (m : Term → Term) → get known variable ≡ None
+    → Extends m (insert known variable new) ↔ (Extends m known × (m (Plain variable) ≡ new))
 Extends-insert known variable new m none = (
   λ extends. (
-    λ number term at. extends number term (get-insert nat_cmp_total known variable new number ∙ kept known variable number new term (eq_by_cmp nat_cmp number variable) refl none at),
-    extends variable new (get-insert nat_cmp_total known variable new variable ∙ ap (λ b. cond b (Some new) (get known variable)) (same_key variable variable refl)),
+    λ number term at. extends number term
+        (get-insert nat_cmp_total known variable new number ∙ kept known variable number new term (eq_by_cmp nat_cmp number variable) refl none at),
+    extends variable new (get-insert nat_cmp_total known variable new variable
+        ∙ ap (λ b. cond b (Some new) (get known variable)) (same_key variable variable refl)),
   ),
-  λ both number term at. split known variable number new term m (eq_by_cmp nat_cmp number variable) refl both.0 both.1 (sym (get-insert nat_cmp_total known variable new number) ∙ at),
+  λ both number term at. split known variable number new term m (eq_by_cmp nat_cmp number variable) refl both.0 both.1
+      (sym (get-insert nat_cmp_total known variable new number) ∙ at),
 )

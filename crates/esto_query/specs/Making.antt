@@ -31,7 +31,8 @@ pub record IsFirstUnsafe (head : List Term) (body : List (Fact Term)) (variable 
   pub missing : ¬ (Mentions body (Plain variable))
   pub before : IsSafe (take place head) body
 
--- What comes of making a query: the query, where each atom has the right number of terms, there are not too many atoms and the head is safe; else the first of these that fails. Memory is never wanting.
+-- What comes of making a query: the query, where each atom has the right number of terms, there are not too many atoms and the head is safe; else the first of
+-- these that fails. Memory is never wanting.
 abbrev pub MakesQuery : List ℕ → List Term → List (Fact Term) → List Name → Result Query QueryFault → Type 0
 MakesQuery schema head body names (Ok query) =
     AreOver schema body × (length body ≤ MAX_ATOMS) × IsSafe head body × (query.head ≡ head) × (query.body ≡ body) × (query.names ≡ names)

@@ -9,7 +9,8 @@ use Rattle.esto_semantics.specs.Matches.{IsMatch, IsAtMost}
 use Rattle.esto_semantics.specs.declared.fact.Fact.{Fact}
 use Rattle.esto_query.specs.Valuations.{Assignment, Extends}
 
--- The found valuation is the start with a term for each variable of the body, and with no other variable; and the maps that extend it are exactly those that extend the start and send each atom to the fact at its place.
+-- The found valuation is the start with a term for each variable of the body, and with no other variable; and the maps that extend it are exactly those that
+-- extend the start and send each atom to the fact at its place.
 pub record IsFound (body facts : List (Fact Term)) (start found : Assignment) (places : List ℕ) : Type 0 where
   pub exact : (m : Term → Term) → Keeps Const m → Extends m found ↔ (Extends m start × IsMatch m body facts places)
   pub variables : (variable : ℕ) → IsSome (get found variable) ↔ (IsSome (get start variable) ⊎ Mentions body (Plain variable))

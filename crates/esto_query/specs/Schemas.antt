@@ -23,7 +23,8 @@ pub record IsSchema (schema : List Relation) : Type 0 where
   pub arities : All IsArity (arities_of schema)
   pub room : length schema ≤ MAX_RELATIONS
 
--- What comes of adding a relation: its number, where the name is new, the number of columns is right and there is room; else the first of these that fails. Only then may memory be wanting.
+-- What comes of adding a relation: its number, where the name is new, the number of columns is right and there is room; else the first of these that fails.
+-- Only then may memory be wanting.
 abbrev pub AddsRelation : List Relation → List ℕ → ℕ → Result ℕ SchemaError → Type 0
 AddsRelation schema name arity (Ok relation) =
     ¬ (Contains (names_of schema) name) × IsArity arity × (length schema < MAX_RELATIONS) × (relation ≡ length schema)

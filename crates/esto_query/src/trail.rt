@@ -43,7 +43,8 @@ pub fn bind_term<'a>(
     target: &'a Term,
 ) -> Result<bool, OutOfMemory>
     requires { IsFlat term.now }
-    ensures { IfOk result (λ is_bound. Tries start.now trail.old.items trail.new.items is_bound (λ m. m term.now ≡ target.now)) }
+    ensures { IfOk result (λ is_bound. Tries start.now trail.old.items trail.new.items is_bound
+        (λ m. m term.now ≡ target.now)) }
 {
     match term {
         Term::Const(_) => Ok(term.equal(target)),
@@ -69,7 +70,8 @@ pub fn bind_row<'a>(
     targets: &'a [Term],
 ) -> Result<bool, OutOfMemory>
     requires { (term : Term) → Contains terms.now term → IsFlat term }
-    ensures { IfOk result (λ is_bound. Tries start.now trail.old.items trail.new.items is_bound (λ m. map m terms.now ≡ targets.now)) }
+    ensures { IfOk result (λ is_bound. Tries start.now trail.old.items trail.new.items is_bound
+        (λ m. map m terms.now ≡ targets.now)) }
 {
     if terms.len() != targets.len() {
         return Ok(false);
@@ -92,7 +94,8 @@ pub fn bind_atom<'a>(
     fact: &'a Atom,
 ) -> Result<bool, OutOfMemory>
     requires { (term : Term) → Contains atom.now.terms term → IsFlat term }
-    ensures { IfOk result (λ is_bound. Tries start.now trail.old.items trail.new.items is_bound (λ m. image m atom.now ≡ fact.now)) }
+    ensures { IfOk result (λ is_bound. Tries start.now trail.old.items trail.new.items is_bound
+        (λ m. image m atom.now ≡ fact.now)) }
 {
     if atom.relation != fact.relation {
         return Ok(false);

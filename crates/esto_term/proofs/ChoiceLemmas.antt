@@ -69,7 +69,8 @@ module _ {A : Type 0} where
   kept P [] decide = ([], λ z. (λ h. absurd (Contains-nil z h), λ h. h.0))
   kept P (x ∷ xs) decide = go (kept P xs (λ z h. decide z (Contains-rest x xs z h))) (decide x (Contains-head x xs))
     where
-      go : ((ys : List A) × ((z : A) → Contains ys z ↔ (Contains xs z × P z))) → Decided (P x) → (ys : List A) × ((z : A) → Contains ys z ↔ (Contains (x ∷ xs) z × P z))
+      go : ((ys : List A) × ((z : A) → Contains ys z ↔ (Contains xs z × P z))) → Decided (P x)
+          → (ys : List A) × ((z : A) → Contains ys z ↔ (Contains (x ∷ xs) z × P z))
       go rest (inl p) = (
         x ∷ rest.0,
         λ z. (
@@ -105,7 +106,8 @@ module _ {A : Type 0} where
   pub pairs_cons : (R : A → A → Type 0) (x : A) (xs : List A) → ((z : A) → Contains xs z → R x z) → AllPairs R xs → AllPairs R (x ∷ xs)
   pairs_cons R x xs first pairs = AllPairs-cons R x xs (λ k d l. first (get_or xs k d) (Contains-get_or xs k d l)) pairs
 
-  pub pairs_append : (R : A → A → Type 0) (xs ys : List A) → AllPairs R xs → AllPairs R ys → ((x y : A) → Contains xs x → Contains ys y → R x y) → AllPairs R (xs ++ ys)
+  pub pairs_append : (R : A → A → Type 0) (xs ys : List A) → AllPairs R xs → AllPairs R ys → ((x y : A) → Contains xs x → Contains ys y → R x y)
+      → AllPairs R (xs ++ ys)
   pairs_append R [] ys left right across = right
   pairs_append R (x ∷ xs) ys left right across =
       pairs_cons R x (xs ++ ys)
@@ -173,8 +175,11 @@ module _ {A : Type 0} (cmp : A → A → Ordering) (total : IsTotalOrder cmp) wh
   -- an item put into a rising list, unless it is there
   put_in : (x : A) (ys : List A) → ((z : A) → Contains ys z → cmp x z ≡ Equal → x ≡ z) → Rises ys
       → (zs : List A) × ((z : A) → Contains zs z ↔ ((x ≡ z) ⊎ Contains ys z)) × Rises zs
-  put_in x [] exact rises =
-      (x ∷ [], λ z. (Contains-cases x [] z, λ h. elim h [ inl e ↦ subst (Contains (x ∷ [])) e (Contains-head x []) | inr none ↦ absurd (Contains-nil z none) ]), pairs_cons IsBelow x [] (λ z h. absurd (Contains-nil z h)) rises)
+  put_in x [] exact rises = (
+    x ∷ [],
+    λ z. (Contains-cases x [] z, λ h. elim h [ inl e ↦ subst (Contains (x ∷ [])) e (Contains-head x []) | inr none ↦ absurd (Contains-nil z none) ]),
+    pairs_cons IsBelow x [] (λ z h. absurd (Contains-nil z h)) rises,
+  )
   put_in x (y ∷ ys) exact rises = go (cmp x y) refl (put_in x ys (λ z h. exact z (Contains-rest y ys z h)) (pairs_tail IsBelow y ys rises))
     where
       below : (z : A) → Contains ys z → cmp y z ≡ Less
@@ -184,11 +189,22 @@ module _ {A : Type 0} (cmp : A → A → Ordering) (total : IsTotalOrder cmp) wh
           → (zs : List A) × ((z : A) → Contains zs z ↔ ((x ≡ z) ⊎ Contains (y ∷ ys) z)) × Rises zs
       go Less e rest = (
         x ∷ y ∷ ys,
-        λ z. (Contains-cases x (y ∷ ys) z, λ h. elim h [ inl d ↦ subst (Contains (x ∷ y ∷ ys)) d (Contains-head x (y ∷ ys)) | inr later ↦ Contains-rest x (y ∷ ys) z later ]),
-        pairs_cons IsBelow x (y ∷ ys) (λ z h. elim (Contains-cases y ys z h) [ inl d ↦ subst (λ a. cmp x a ≡ Less) d e | inr later ↦ total.trans x y z e (below z later) ]) rises,
+        λ z. (
+          Contains-cases x (y ∷ ys) z,
+          λ h. elim h [ inl d ↦ subst (Contains (x ∷ y ∷ ys)) d (Contains-head x (y ∷ ys)) | inr later ↦ Contains-rest x (y ∷ ys) z later ],
+        ),
+        pairs_cons IsBelow x (y ∷ ys) (λ z h. elim (Contains-cases y ys z h)
+            [ inl d ↦ subst (λ a. cmp x a ≡ Less) d e | inr later ↦ total.trans x y z e (below z later) ]) rises,
       )
-      go Equal e rest =
-          (y ∷ ys, λ z. (inr, λ h. elim h [ inl d ↦ subst (Contains (y ∷ ys)) (sym (exact y (Contains-head y ys) e) ∙ d) (Contains-head y ys) | inr there ↦ there ]), rises)
+      go Equal e rest = (
+        y ∷ ys,
+        λ z. (
+          inr,
+          λ h. elim h
+              [ inl d ↦ subst (Contains (y ∷ ys)) (sym (exact y (Contains-head y ys) e) ∙ d) (Contains-head y ys) | inr there ↦ there ],
+        ),
+        rises,
+      )
       go Greater e rest = (
         y ∷ rest.0,
         λ z. (

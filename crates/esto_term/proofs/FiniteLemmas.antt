@@ -26,7 +26,8 @@ module _ (stock : Stock) (width : ℕ) where
   -- ---- one level of the list
 
   pub Contains-made_terms : (rule variable : ℕ) (frontier : List Term) (frontiers : List (List Term))
-      → Contains stock.rules rule → Contains stock.variables variable → Contains frontiers frontier → Contains (made_terms stock frontiers) (Made rule variable frontier)
+      → Contains stock.rules rule → Contains stock.variables variable → Contains frontiers frontier
+      → Contains (made_terms stock frontiers) (Made rule variable frontier)
   Contains-made_terms rule variable frontier frontiers has_rule has_variable has_frontier =
       Contains-flat (λ r. flat_map (λ v. map (Made r v) frontiers) stock.variables) stock.rules rule (Made rule variable frontier) has_rule
       (Contains-flat (λ v. map (Made rule v) frontiers) stock.variables variable (Made rule variable frontier) has_variable
@@ -39,14 +40,16 @@ module _ (stock : Stock) (width : ℕ) where
   unmade_within (suc depth) term has = Contains-append_left (unmade_terms stock) _ term has
 
   -- a made term without frontier stands in the lowest level
-  bare_within : (rule variable : ℕ) → Contains stock.rules rule → Contains stock.variables variable → Contains (terms_within stock width 0) (Made rule variable [])
+  bare_within : (rule variable : ℕ) → Contains stock.rules rule → Contains stock.variables variable
+      → Contains (terms_within stock width 0) (Made rule variable [])
   unfolding terms_within
   bare_within rule variable has_rule has_variable =
       Contains-append_right (unmade_terms stock) _ _ (Contains-made_terms rule variable [] ([] ∷ []) has_rule has_variable (Contains-head [] []))
 
   -- a made term stands one level above its frontier terms
   made_within : (depth rule variable : ℕ) (frontier : List Term) → Contains stock.rules rule → Contains stock.variables variable → length frontier ≤ width
-      → ((term : Term) → Contains frontier term → Contains (terms_within stock width depth) term) → Contains (terms_within stock width (suc depth)) (Made rule variable frontier)
+      → ((term : Term) → Contains frontier term → Contains (terms_within stock width depth) term)
+      → Contains (terms_within stock width (suc depth)) (Made rule variable frontier)
   unfolding terms_within
   made_within depth rule variable frontier has_rule has_variable short parts =
       Contains-append_right (unmade_terms stock) _ _
@@ -65,7 +68,8 @@ module _ (stock : Stock) (width : ℕ) where
 
   -- ---- every level
 
-  is_within : (depth : ℕ) → depth < greatest_u64 → (term : Term) → IsMadeOf stock width term → nesting term ≤ depth → Contains (terms_within stock width depth) term
+  is_within : (depth : ℕ) → depth < greatest_u64 → (term : Term) → IsMadeOf stock width term → nesting term ≤ depth
+      → Contains (terms_within stock width depth) term
   is_within depth small term (constant text has) low =
       unmade_within depth (Const text) (Contains-append_left (map Const stock.texts) _ (Const text) (Contains-map Const stock.texts text has))
   is_within depth small term (plain number has) low =

@@ -35,20 +35,23 @@ Contains-at things place thing found = (place, slice_get_within things place thi
 pub Contains-map : {X Y : Type 0} (m : X → Y) (things : List X) (thing : X) → Contains things thing → Contains (map m things) (m thing)
 Contains-map m things thing (place, within, is) = (place, rw length-map within, get_or-map m things place thing (m thing) within ∙ ap m is)
 
-pub Contains-map_from : {X Y : Type 0} (m : X → Y) (things : List X) (other : Y) → Contains (map m things) other → (thing : X) × Contains things thing × (m thing ≡ other)
+pub Contains-map_from : {X Y : Type 0} (m : X → Y) (things : List X) (other : Y) → Contains (map m things) other
+    → (thing : X) × Contains things thing × (m thing ≡ other)
 Contains-map_from m [] other inside = absurd (Contains-nil other inside)
 Contains-map_from m (first ∷ rest) other inside = elim (Contains-cases (m first) (map m rest) other inside) [
   | inl is ↦ (first, Contains-head first rest, is)
   | inr later ↦ let found = Contains-map_from m rest other later in (found.0, Contains-rest first rest found.0 found.1, found.2)
 ]
 
-pub map_agree : {X Y : Type 0} (m other : X → Y) (things : List X) → ((thing : X) → Contains things thing → m thing ≡ other thing) → map m things ≡ map other things
+pub map_agree : {X Y : Type 0} (m other : X → Y) (things : List X) → ((thing : X) → Contains things thing → m thing ≡ other thing)
+    → map m things ≡ map other things
 map_agree m other [] agree = refl
 map_agree m other (first ∷ rest) agree =
     λ i. agree first (Contains-head first rest) i ∷ map_agree m other rest (λ thing inside. agree thing (Contains-rest first rest thing inside)) i
 
 -- maps that make one list of a list agree on what it contains
-pub agree-from_map : {X Y : Type 0} (m other : X → Y) (things : List X) (thing : X) → map m things ≡ map other things → Contains things thing → m thing ≡ other thing
+pub agree-from_map : {X Y : Type 0} (m other : X → Y) (things : List X) (thing : X) → map m things ≡ map other things → Contains things thing
+    → m thing ≡ other thing
 agree-from_map m other [] thing same inside = absurd (Contains-nil thing inside)
 agree-from_map m other (first ∷ rest) thing same inside = elim (Contains-cases first rest thing inside) [
   | inl is ↦ let at_first : m first ≡ other first = cc in ap m (sym is) ∙ at_first ∙ ap other is
@@ -65,25 +68,29 @@ map_itself (first ∷ rest) = ap (λ others. first ∷ others) (map_itself rest)
 
 -- ---- joined lists, and what passes a test
 
-pub Contains-flat : {X Y : Type 0} (parts : X → List Y) (things : List X) (thing : X) (part : Y) → Contains things thing → Contains (parts thing) part → Contains (flat_map parts things) part
+pub Contains-flat : {X Y : Type 0} (parts : X → List Y) (things : List X) (thing : X) (part : Y) → Contains things thing → Contains (parts thing) part
+    → Contains (flat_map parts things) part
 Contains-flat parts [] thing part inside of_it = absurd (Contains-nil thing inside)
 Contains-flat parts (first ∷ rest) thing part inside of_it = elim (Contains-cases first rest thing inside) [
   | inl is ↦ Contains-append_left (parts first) (flat_map parts rest) part (subst (λ it. Contains (parts it) part) (sym is) of_it)
   | inr later ↦ Contains-append_right (parts first) (flat_map parts rest) part (Contains-flat parts rest thing part later of_it)
 ]
 
-pub Contains-flat_from : {X Y : Type 0} (parts : X → List Y) (things : List X) (part : Y) → Contains (flat_map parts things) part → (thing : X) × Contains things thing × Contains (parts thing) part
+pub Contains-flat_from : {X Y : Type 0} (parts : X → List Y) (things : List X) (part : Y) → Contains (flat_map parts things) part
+    → (thing : X) × Contains things thing × Contains (parts thing) part
 Contains-flat_from parts [] part inside = absurd (Contains-nil part inside)
 Contains-flat_from parts (first ∷ rest) part inside = elim (Contains-append_cases (parts first) (flat_map parts rest) part inside) [
   | inl here ↦ (first, Contains-head first rest, here)
   | inr later ↦ let found = Contains-flat_from parts rest part later in (found.0, Contains-rest first rest found.0 found.1, found.2)
 ]
 
-pub Contains-filter : {X : Type 0} (test : X → Bool) (things : List X) (thing : X) → Contains things thing → test thing ≡ true → Contains (filter test things) thing
+pub Contains-filter : {X : Type 0} (test : X → Bool) (things : List X) (thing : X) → Contains things thing → test thing ≡ true
+    → Contains (filter test things) thing
 Contains-filter test [] thing inside passes = absurd (Contains-nil thing inside)
 Contains-filter test (first ∷ rest) thing inside passes = by (λ later. Contains-filter test rest thing later passes) (test first) refl
   where
-    by : (Contains rest thing → Contains (filter test rest) thing) → (answer : Bool) → test first ≡ answer → Contains (cond answer (first ∷ filter test rest) (filter test rest)) thing
+    by : (Contains rest thing → Contains (filter test rest) thing) → (answer : Bool) → test first ≡ answer
+        → Contains (cond answer (first ∷ filter test rest) (filter test rest)) thing
     by again true told = elim (Contains-cases first rest thing inside) [
       | inl is ↦ subst (Contains (first ∷ filter test rest)) is (Contains-head first (filter test rest))
       | inr later ↦ Contains-rest first (filter test rest) thing (again later)
@@ -93,7 +100,8 @@ Contains-filter test (first ∷ rest) thing inside passes = by (λ later. Contai
       | inr later ↦ again later
     ]
 
-pub Contains-filter_from : {X : Type 0} (test : X → Bool) (things : List X) (thing : X) → Contains (filter test things) thing → Contains things thing × (test thing ≡ true)
+pub Contains-filter_from : {X : Type 0} (test : X → Bool) (things : List X) (thing : X) → Contains (filter test things) thing
+    → Contains things thing × (test thing ≡ true)
 Contains-filter_from test [] thing inside = absurd (Contains-nil thing inside)
 Contains-filter_from test (first ∷ rest) thing inside = by (λ later. Contains-filter_from test rest thing later) (test first) refl inside
   where
@@ -122,7 +130,8 @@ module _ {X Y : Type 0} (m : X → Y) where
   map_at (first ∷ rest) zero thing at = let is : first ≡ thing = cc in ap (λ it. Some (m it)) is
   map_at (first ∷ rest) (suc place) thing at = map_at rest place thing at
 
-  pub map_at-from : (things : List X) (place : ℕ) (other : Y) → slice_get (map m things) place ≡ Some other → (thing : X) × (slice_get things place ≡ Some thing) × (m thing ≡ other)
+  pub map_at-from : (things : List X) (place : ℕ) (other : Y) → slice_get (map m things) place ≡ Some other
+      → (thing : X) × (slice_get things place ≡ Some thing) × (m thing ≡ other)
   map_at-from [] place other at = absurd (cc)
   map_at-from (first ∷ rest) zero other at = (first, refl, cc)
   map_at-from (first ∷ rest) (suc place) other at = map_at-from rest place other at
@@ -142,7 +151,8 @@ at_end [] last = refl
 at_end (x ∷ xs) last = at_end xs last
 
 -- what stands at a place of a list with one more item stands there already, or is that item
-pub at_pushed : {X : Type 0} (xs : List X) (x : X) (place : ℕ) (found : X) → slice_get (xs ++ x ∷ []) place ≡ Some found → (slice_get xs place ≡ Some found) ⊎ ((place ≡ length xs) × (x ≡ found))
+pub at_pushed : {X : Type 0} (xs : List X) (x : X) (place : ℕ) (found : X) → slice_get (xs ++ x ∷ []) place ≡ Some found
+    → (slice_get xs place ≡ Some found) ⊎ ((place ≡ length xs) × (x ≡ found))
 at_pushed [] x zero found e = inr (refl, same_Some x found e)
 at_pushed [] x (suc place) found e = absurd (none-some found e)
 at_pushed (y ∷ xs) x zero found e = inl e
@@ -160,7 +170,8 @@ map_by_places m (x ∷ xs) (y ∷ ys) lengths each =
 
 pub range_at : (first count place : ℕ) → place < count → slice_get (range_with_len first count) place ≡ Some (first + place)
 range_at first count place within =
-    slice_get-get_or (range_with_len first count) place 0 (rw (length-range_with_len first count) within) ∙ ap Some (get_or-range_with_len first count place 0 within)
+    slice_get-get_or (range_with_len first count) place 0 (rw (length-range_with_len first count) within)
+    ∙ ap Some (get_or-range_with_len first count place 0 within)
 
 -- ---- what holds of the items that were seen
 
@@ -169,7 +180,8 @@ pub Contains-read : {X : Type 0} (xs : List X) (i : ℕ) (x : X) → i < length 
 Contains-read xs i x l e = (i, l, sym e)
 
 -- a fact about the elements seen, at one more element
-pub each_more : {X : Type 0} (P : X → Type 0) (xs : List X) (i : ℕ) (x : X) → i < length xs → x ≡ get_or xs i x → P x → ((y : X) → Contains (take i xs) y → P y) → (y : X) → Contains (take (i + 1) xs) y → P y
+pub each_more : {X : Type 0} (P : X → Type 0) (xs : List X) (i : ℕ) (x : X) → i < length xs → x ≡ get_or xs i x → P x → ((y : X) → Contains (take i xs) y → P y)
+    → (y : X) → Contains (take (i + 1) xs) y → P y
 each_more P xs i x within read here before y inside =
     elim (Contains-push_cases (take i xs) x y (rw (take_more xs i x within, ← read) at inside)) [
       | inl seen ↦ before y seen
@@ -194,10 +206,12 @@ module _ {A : Type 0} (P : ℕ → A → Type 0) (xs : List A) where
   holds_all count l below place x e = below place x (omega (arith, slice_get_within xs place x e, l)) e
 
   -- the same, where a loop goes over a list that is this one
-  pub holds_more_in : (ys : List A) → ys ≡ xs → (count : ℕ) (x : A) → count < length ys → x ≡ get_or ys count x → HoldsBelow count → P count x → HoldsBelow (count + 1)
+  pub holds_more_in : (ys : List A) → ys ≡ xs → (count : ℕ) (x : A) → count < length ys → x ≡ get_or ys count x → HoldsBelow count → P count x
+      → HoldsBelow (count + 1)
   holds_more_in ys same count x l e = holds_more count x (subst (λ zs. count < length zs) same l) (subst (λ zs. x ≡ get_or zs count x) same e)
 
-  pub holds_all_in : (ys : List A) → ys ≡ xs → (count : ℕ) → length ys ≤ count → HoldsBelow count → (place : ℕ) (x : A) → slice_get xs place ≡ Some x → P place x
+  pub holds_all_in : (ys : List A) → ys ≡ xs → (count : ℕ) → length ys ≤ count → HoldsBelow count → (place : ℕ) (x : A) → slice_get xs place ≡ Some x
+      → P place x
   holds_all_in ys same count l = holds_all count (subst (λ zs. length zs ≤ count) same l)
 
 -- the same as equivalences: what holds of one of the first few items, or of each, before and after one item more, and at the end
@@ -238,14 +252,16 @@ module _ {A : Type 0} (P : ℕ → A → Type 0) (xs : List A) where
   pub each_all : (count : ℕ) → length xs ≤ count → HoldsBelow P xs count ↔ ((place : ℕ) (x : A) → slice_get xs place ≡ Some x → P place x)
   each_all count l = (holds_all P xs count l, λ each place x below at. each place x at)
 
-pub some_contained : {A : Type 0} (P : A → Type 0) (xs : List A) (count : ℕ) → length xs ≤ count → SomeBelow (λ _ x. P x) xs count ↔ ((x : A) × Contains xs x × P x)
+pub some_contained : {A : Type 0} (P : A → Type 0) (xs : List A) (count : ℕ) → length xs ≤ count
+    → SomeBelow (λ _ x. P x) xs count ↔ ((x : A) × Contains xs x × P x)
 some_contained P xs count l = (
   λ (place, below, (x, at, holds)). (x, Contains-at xs place x at, holds),
   λ (x, inside, holds). let at = place-from_Contains xs x inside in (at.0, omega (arith, slice_get_within xs at.0 x at.1, l), (x, at.1, holds)),
 )
 
 -- where the first few items of a list have a property not, and these are all, none has it
-pub none_holds : {A : Type 0} (P : A → Type 0) (xs ys : List A) → ys ≡ xs → (count : ℕ) → length ys ≤ count → HoldsBelow (λ _ x. P x → ⊥) ys count → (x : A) → Contains xs x → P x → ⊥
+pub none_holds : {A : Type 0} (P : A → Type 0) (xs ys : List A) → ys ≡ xs → (count : ℕ) → length ys ≤ count → HoldsBelow (λ _ x. P x → ⊥) ys count → (x : A)
+    → Contains xs x → P x → ⊥
 none_holds P xs ys same count l none x there =
     let at = place-from_Contains ys x (subst (λ zs. Contains zs x) (sym same) there) in holds_all (λ _ x. P x → ⊥) ys count l none at.0 x at.1
 
@@ -299,7 +315,8 @@ module _ {A : Type 0} (R : A → A → Type 0) (turned : (x y : A) → R x y →
     two_swapped : AtTwo xs → AtTwo (swap xs a b)
     two_swapped two i j d apart l m =
         subst (λ x. R x (get_or (swap xs a b) j d)) (sym (at_from i d)) (subst (R (get_or xs (from_place i) d)) (sym (at_from j d))
-        (two (from_place i) (from_place j) d (from_apart i j apart) (from_within i (subst (λ n. i < n) (length-swap xs a b) l)) (from_within j (subst (λ n. j < n) (length-swap xs a b) m))))
+        (two (from_place i) (from_place j) d (from_apart i j apart) (from_within i (subst (λ n. i < n) (length-swap xs a b) l))
+        (from_within j (subst (λ n. j < n) (length-swap xs a b) m))))
 
   pub pairs_permuted : (xs ys : List A) → AllPairs R xs → IsPermutation xs ys → AllPairs R ys
   pairs_permuted xs ys pairs moved i j d less within =

@@ -33,7 +33,8 @@ slice_cmp-paired order (first ∷ rest) (other ∷ others) = ap (ordering_then (
 
 -- and so do levels
 level_cmp-paired : (order : Term → Term → Ordering) (left right : Term-F Term)
-    → level_cmp (λ (pair : Term × (Term → Ordering)). nesting pair.0) nesting (λ pair other. pair.1 other) (map-Term Term (Term × (Term → Ordering)) (λ part. (part, order part)) left) right
+    → level_cmp (λ (pair : Term × (Term → Ordering)). nesting pair.0) nesting (λ pair other. pair.1 other)
+    (map-Term Term (Term × (Term → Ordering)) (λ part. (part, order part)) left) right
     ≡ level_cmp nesting nesting order left right
 level_cmp-paired order (Term-F.Const bytes) right = refl
 level_cmp-paired order (Term-F.Plain n) right = refl
@@ -46,7 +47,8 @@ pub term_cmp-levels : (left right : Term) → term_cmp left right ≡ level_cmp 
 term_cmp-levels left right =
     ap (λ term. term_cmp term right) (sym (roll-out-Term left))
     ∙ ap (λ (against : Term → Ordering). against right)
-    (para-roll-Term (Term → Ordering) (λ level other. level_cmp (λ pair. nesting pair.0) nesting (λ pair part. pair.1 part) level (out-Term other)) (out-Term left))
+    (para-roll-Term (Term → Ordering) (λ level other. level_cmp (λ pair. nesting pair.0) nesting (λ pair part. pair.1 part) level (out-Term other))
+    (out-Term left))
     ∙ level_cmp-paired term_cmp (out-Term left) (out-Term right)
 
 -- ---- the height of a term, which unlike its nesting has no greatest number
@@ -162,7 +164,8 @@ module _ (order : Term → Term → Ordering) (P : Term → Type 0) (exact : (le
       let from_rule = next_equal (nat_cmp (nesting_above (map nesting parts)) (nesting_above (map nesting others))) _ tied in
       let from_variable = next_equal (nat_cmp r q) _ from_rule in
       let from_frontier = next_equal (nat_cmp v w) _ from_variable in
-      λ i. Term-F.Made (exact_unsigned r q (first_equal _ _ from_rule) i) (exact_unsigned v w (first_equal _ _ from_variable) i) (lists_exact parts others all from_frontier i)
+      λ i. Term-F.Made (exact_unsigned r q (first_equal _ _ from_rule) i) (exact_unsigned v w (first_equal _ _ from_variable) i)
+      (lists_exact parts others all from_frontier i)
   levels_exact (Term-F.Const bytes) (Term-F.Plain m) all tied = cc
   levels_exact (Term-F.Const bytes) (Term-F.Made q w others) all tied = cc
   levels_exact (Term-F.Plain n) (Term-F.Const others) all tied = cc
@@ -174,7 +177,8 @@ cmp_within_exact : (depth : ℕ) (left right : Term) → height left < depth →
 cmp_within_exact zero left right low tied = absurd (omega arith)
 cmp_within_exact (suc depth) left right low tied =
     let levels =
-    levels_exact (cmp_within depth) (λ part. height part < depth) (cmp_within_exact depth) (out-Term left) (out-Term right) (frontier_lower left depth low) tied in
+    levels_exact (cmp_within depth) (λ part. height part < depth) (cmp_within_exact depth) (out-Term left) (out-Term right)
+    (frontier_lower left depth low) tied in
     sym (roll-out-Term left) ∙ ap roll-Term levels ∙ roll-out-Term right
 
 pub term_cmp_exact : CmpEqualImpliesEq term_cmp

@@ -37,7 +37,8 @@ nat_cmp-rest left right place ended within = grind (arith, nat_tests)
 module _ {A : Type 0} (order : A → A → Ordering) (left right : List A) (place : ℕ) where
   -- at a place in both lists the items there are compared, and then what follows
   pub rests-step : (item other : A) → place < length left → place < length right → item ≡ get_or left place item → other ≡ get_or right place other
-      → slice_cmp order (drop place left) (drop place right) ≡ ordering_then (order item other) (slice_cmp order (drop (place + 1) left) (drop (place + 1) right))
+      → slice_cmp order (drop place left) (drop place right) ≡ ordering_then (order item other)
+      (slice_cmp order (drop (place + 1) left) (drop (place + 1) right))
   rests-step item other in_left in_right is other_is =
       rw (drop-cons left place item in_left, drop-cons right place other in_right, ← is, ← other_is, add-one place) refl
 
@@ -46,18 +47,23 @@ module _ {A : Type 0} (order : A → A → Ordering) (left right : List A) (plac
   rests-longer item in_left past_right = rw (drop-cons left place item in_left, drop_of_length-le right past_right) refl
 
   -- at the end of the left list the lengths decide
-  pub rests-end : length left ≤ place → place ≤ length left → place ≤ length right → slice_cmp order (drop place left) (drop place right) ≡ nat_cmp (length left) (length right)
+  pub rests-end : length left ≤ place → place ≤ length left → place ≤ length right
+      → slice_cmp order (drop place left) (drop place right) ≡ nat_cmp (length left) (length right)
   rests-end past_left within_left within_right =
-      rw (drop_of_length-le left past_left) (slice_cmp-empty order (drop place right) ∙ rw (length-drop place right) (nat_cmp-rest _ _ place (omega arith) within_right))
+      rw (drop_of_length-le left past_left)
+      (slice_cmp-empty order (drop place right) ∙ rw (length-drop place right) (nat_cmp-rest _ _ place (omega arith) within_right))
 
   -- items that differ decide
-  pub rests-decided : (item other : A) (answer : Ordering) → place < length left → place < length right → item ≡ get_or left place item → other ≡ get_or right place other
+  pub rests-decided : (item other : A) (answer : Ordering) → place < length left → place < length right → item ≡ get_or left place item
+      → other ≡ get_or right place other
       → answer ≡ order item other → is_ne answer ≡ true → slice_cmp order (drop place left) (drop place right) ≡ answer
   rests-decided item other answer in_left in_right is other_is answers differs =
       rests-step item other in_left in_right is other_is ∙ rw (← answers) (decides answer _ differs)
 
   -- items that are alike leave it to what follows
-  pub rests-alike : (item other : A) (answer : Ordering) → place < length left → place < length right → item ≡ get_or left place item → other ≡ get_or right place other
-      → answer ≡ order item other → is_ne answer ≡ false → slice_cmp order (drop (place + 1) left) (drop (place + 1) right) ≡ slice_cmp order (drop place left) (drop place right)
+  pub rests-alike : (item other : A) (answer : Ordering) → place < length left → place < length right → item ≡ get_or left place item
+      → other ≡ get_or right place other
+      → answer ≡ order item other → is_ne answer ≡ false
+      → slice_cmp order (drop (place + 1) left) (drop (place + 1) right) ≡ slice_cmp order (drop place left) (drop place right)
   rests-alike item other answer in_left in_right is other_is answers same =
       sym (rests-step item other in_left in_right is other_is ∙ rw (← answers) (leaves answer _ same))

@@ -3,4 +3,5 @@ use Rattle.esto_acyclic.specs.Graphs.{Joins, IsWithin}
 use Rattle.esto_acyclic.proofs.graph.cycle_at.Goals as goal
 
 pub cycle_by_distances-requires-clause-within : goal.cycle_by_distances-requires-clause-within
-cycle_by_distances-requires-clause-within c = subst (λ count. IsWithin count (Joins c.args.edges.now)) (sym (ap length c.as_slice.ensures.value ∙ c.in_ok-distances.ensures.same)) c.requires.within
+cycle_by_distances-requires-clause-within c =
+    subst (λ count. IsWithin count (Joins c.args.edges.now)) (sym (ap length c.as_slice.ensures.value ∙ c.in_ok-distances.ensures.same)) c.requires.within

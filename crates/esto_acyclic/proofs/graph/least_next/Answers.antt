@@ -6,4 +6,5 @@ pub lesser-best-requires : goal.lesser-best-requires
 lesser-best-requires c = (ends_within c.args.edges.now (length c.args.distances.now) c.edges.edge-index c.requires c.edges-test.true).1
 
 pub returns-clause-least : goal.returns-clause-least
-returns-clause-least c = λ next edge. least_whole c.args.edges.now c.args.relation (λ n. slice_index c.args.distances.now n ≡ c.args.distance) (λ n. n) (length c.args.distances.now) c.edges.best c.edges.edge-index c.edges.invariant c.edges-test.false next edge
+returns-clause-least c = λ next edge. least_whole c.args.edges.now c.args.relation (λ n. slice_index c.args.distances.now n ≡ c.args.distance) (λ n. n)
+    (length c.args.distances.now) c.edges.best c.edges.edge-index c.edges.invariant c.edges-test.false next edge

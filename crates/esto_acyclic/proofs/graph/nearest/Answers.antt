@@ -6,4 +6,5 @@ pub nearer-best-requires : goal.nearer-best-requires
 nearer-best-requires c = (ends_within c.args.edges.now (length c.args.distances.now) c.edges.edge-index c.requires c.edges-test.true).1
 
 pub returns-clause-least : goal.returns-clause-least
-returns-clause-least c = λ next edge. least_whole c.args.edges.now c.args.relation (λ n. Unit {0}) (λ n. slice_index c.args.distances.now n) (length c.args.distances.now) c.edges.best c.edges.edge-index c.edges.invariant c.edges-test.false next edge tt
+returns-clause-least c = λ next edge. least_whole c.args.edges.now c.args.relation (λ n. Unit {0}) (λ n. slice_index c.args.distances.now n)
+    (length c.args.distances.now) c.edges.best c.edges.edge-index c.edges.invariant c.edges-test.false next edge tt

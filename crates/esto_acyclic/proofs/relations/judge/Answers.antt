@@ -22,7 +22,8 @@ returns-in-Left-clause-acyclic c =
     let edges = c.items-2.ensures ∙ rw c.items.ensures at c.in_ok-edges.ensures in
     let judged = rw c.in-Left.is at c.in_ok-judged.ensures.judged in
     acyclic (IsEdge (rules_of c.args.rules.now)) (length c.args.schema.now) c.in-Left.ranks.items c.requires
-    (judged_ranks (rules_of c.args.rules.now) c.items-2.result.now edges (length c.args.schema.now) c.len.result c.len.ensures.value c.in-Left.ranks.items judged)
+    (judged_ranks (rules_of c.args.rules.now) c.items-2.result.now edges
+    (length c.args.schema.now) c.len.result c.len.ensures.value c.in-Left.ranks.items judged)
 
 pub names_of-requires : goal.names_of-requires
 names_of-requires c =
@@ -36,10 +37,13 @@ pub returns-clause-acyclic : goal.returns-clause-acyclic
 returns-clause-acyclic c =
     let edges = c.items-2.ensures ∙ rw c.items.ensures at c.in_ok-edges.ensures in
     let judged = rw c.in-Right.is at c.in_ok-judged.ensures.judged in
-    not_acyclic (IsEdge (rules_of c.args.rules.now)) c.in-Right.relations (judged_cycle (rules_of c.args.rules.now) c.items-2.result.now edges c.in-Right.relations judged)
+    not_acyclic (IsEdge (rules_of c.args.rules.now)) c.in-Right.relations
+    (judged_cycle (rules_of c.args.rules.now) c.items-2.result.now edges c.in-Right.relations judged)
 
 pub returns-clause-cycle : goal.returns-clause-cycle
 returns-clause-cycle c =
     let edges = c.items-2.ensures ∙ rw c.items.ensures at c.in_ok-edges.ensures in
-    let judged = rw c.in-Right.is at c.in_ok-judged.ensures.judged in
-    (judged_cycle (rules_of c.args.rules.now) c.items-2.result.now edges c.in-Right.relations judged, rw c.items-in-Right.ensures at c.in_ok-names-in-Right.ensures)
+    let judged = rw c.in-Right.is at c.in_ok-judged.ensures.judged in (
+      judged_cycle (rules_of c.args.rules.now) c.items-2.result.now edges c.in-Right.relations judged,
+      rw c.items-in-Right.ensures at c.in_ok-names-in-Right.ensures,
+    )

@@ -21,11 +21,13 @@ sets-preserved c =
     let small : c.sets.place < length c.sets.sets.items = omega (arith, c.sets.sets.ok.0) in
     let removed = c.remove.ensures.items in
     record {
-      over = subst (AreOver (length c.args.row.now)) (sym removed) (All-remove (λ set. length set ≡ length c.args.row.now) c.sets.sets.items c.sets.place c.sets.invariant.over);
+      over = subst (AreOver (length c.args.row.now)) (sym removed)
+          (All-remove (λ set. length set ≡ length c.args.row.now) c.sets.sets.items c.sets.place c.sets.invariant.over);
       within = omega (arith, c.remove.ensures.len);
       same =
           ap (filter (is_left_by c.args.row.now)) removed
-          ∙ filter-remove (is_left_by c.args.row.now) c.sets.sets.items c.sets.place c.index.result.now small c.index.ensures (sym c.stays.ensures ∙ c.if-stays.false)
+          ∙ filter-remove (is_left_by c.args.row.now) c.sets.sets.items c.sets.place c.index.result.now small c.index.ensures
+          (sym c.stays.ensures ∙ c.if-stays.false)
           ∙ c.sets.invariant.same;
       passed =
           subst (All (λ set. is_left_by c.args.row.now set ≡ true)) (sym (ap (take c.sets.place) removed ∙ take-remove c.sets.sets.items c.sets.place))

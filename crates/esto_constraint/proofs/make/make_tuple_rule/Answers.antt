@@ -11,7 +11,8 @@ pub returns-in-Some-first_misfit : goal.returns-in-Some-first_misfit
 returns-in-Some-first_misfit c =
     let over = rw c.items.ensures at c.in_default.ensures in
     let first = rw c.items-2.ensures at c.in-Some-first_misfit.ensures in
-    let place : length c.args.body + c.in-Some-first_misfit.place ≡ c.in-Some-checked_add.after_body = omega (arith, c.in-Some-checked_add.ensures.1, c.len.ensures) in
+    let place : length c.args.body + c.in-Some-first_misfit.place ≡ c.in-Some-checked_add.after_body =
+    omega (arith, c.in-Some-checked_add.ensures.1, c.len.ensures) in
     subst (IsFirstMisfit (arities_of c.args.schema.now) (c.args.body ++ c.args.head)) place
     (IsFirstMisfit-head _ c.args.body c.args.head c.in-Some-first_misfit.place over first)
 

@@ -8,5 +8,6 @@ use Rattle.esto_constraint.proofs.meeting.active.Goals as goal
 
 pub returns : goal.returns
 returns c =
-    subst (λ (facts : List (Fact Term)). MatchOption c.in_ok-outcome.outcome (IsMet facts (rule_of c.args.rule.now)) (λ found. IsLeastActive (rule_of c.args.rule.now) facts found.valuation found.places))
+    subst (λ (facts : List (Fact Term)). MatchOption c.in_ok-outcome.outcome (IsMet facts (rule_of c.args.rule.now))
+    (λ found. IsLeastActive (rule_of c.args.rule.now) facts found.valuation found.places))
     c.in_ok-indexed.ensures c.in_ok-outcome.ensures

@@ -5,7 +5,8 @@ use Rattle.esto_constraint.proofs.meeting.first_broken.Goals as goal
 pub returns-in-Some : goal.returns-in-Some
 returns-in-Some c =
     let least = rw c.in-Some.is at c.in_ok-outcome.ensures in
-    first_broken c.args.facts.now c.args.rules.now c.rules.number c.item.result.now c.in-Some.found.valuation c.in-Some.found.places c.item.ensures least c.rules.invariant
+    first_broken c.args.facts.now c.args.rules.now c.rules.number c.item.result.now c.in-Some.found.valuation c.in-Some.found.places c.item.ensures least
+    c.rules.invariant
 
 pub rules-preserved : goal.rules-preserved
 rules-preserved c =

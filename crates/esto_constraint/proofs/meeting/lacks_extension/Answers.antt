@@ -11,5 +11,7 @@ first_match-requires c = (tuple_sound _ _ _ c.args.rule.now.sound).rule.flat_hea
 pub returns : goal.returns
 returns c =
     let kept = tuple_sound _ _ _ c.args.rule.now.sound in
-    let told = lacks_told c.args.rule.now.body c.args.valuation.now kept.rule.flat_body c.requires c.args.rule.now.head c.args.facts.now _ c.in_ok-extension.ensures.found c.in_ok-extension.ensures.none in
-    subst (λ lacks. Tells c.args.valuation.now (HasExtension c.args.rule.now.body c.args.rule.now.head c.args.facts.now) lacks) (none_told _ c.is_none.result c.is_none.ensures) told
+    let told = lacks_told c.args.rule.now.body c.args.valuation.now kept.rule.flat_body c.requires c.args.rule.now.head c.args.facts.now _
+    c.in_ok-extension.ensures.found c.in_ok-extension.ensures.none in
+    subst (λ lacks. Tells c.args.valuation.now (HasExtension c.args.rule.now.body c.args.rule.now.head c.args.facts.now) lacks)
+    (none_told _ c.is_none.result c.is_none.ensures) told

@@ -13,7 +13,8 @@ pub first_match-requires : goal.first_match-requires
 first_match-requires c = subst AreFlat (sym c.body_of-body.ensures) (flat_body c.args.rule.now)
 
 pub matches-init : goal.matches-init
-matches-init c = first_candidate _ _ _ (Holds c.args.facts.now (rule_of c.args.rule.now)) c.requires _ c.in_ok-candidate.ensures.found c.in_ok-candidate.ensures.none
+matches-init c = first_candidate _ _ _
+    (Holds c.args.facts.now (rule_of c.args.rule.now)) c.requires _ c.in_ok-candidate.ensures.found c.in_ok-candidate.ensures.none
 
 pub is_active-requires : goal.is_active-requires
 is_active-requires c =
@@ -27,7 +28,8 @@ pub returns-then-unmet : goal.returns-then-unmet
 returns-then-unmet c =
     let now = rw c.in-Some.is at c.matches.invariant in
     active_here (rule_of c.args.rule.now) c.args.facts.now c.args.start.now c.requires c.in-Some.found
-    (subst (λ body. IsCandidate body c.args.facts.now c.args.start.now (Holds c.args.facts.now (rule_of c.args.rule.now)) c.in-Some.found) c.body_of-body.ensures now)
+    (subst (λ body. IsCandidate body c.args.facts.now c.args.start.now (Holds c.args.facts.now (rule_of c.args.rule.now)) c.in-Some.found)
+    c.body_of-body.ensures now)
     (subst (λ unmet. Tells c.in-Some.found.valuation (Holds c.args.facts.now (rule_of c.args.rule.now)) unmet) c.if-unmet.true c.in_ok-unmet.ensures)
 
 pub matches-preserved : goal.matches-preserved
@@ -43,10 +45,12 @@ matches-smaller c =
     let next = next_candidate _ _ _ (Holds c.args.facts.now (rule_of c.args.rule.now)) c.requires c.in-Some.found now
     (subst (λ unmet. Tells c.in-Some.found.valuation (Holds c.args.facts.now (rule_of c.args.rule.now)) unmet) c.if-unmet.false c.in_ok-unmet.ensures)
     c.in_ok-candidate-2.candidate c.in_ok-candidate-2.ensures.found c.in_ok-candidate-2.ensures.none in
-    rw c.in-Some.is (fewer_left _ _ _ (Holds c.args.facts.now (rule_of c.args.rule.now)) c.requires c.in-Some.found now c.in_ok-candidate-2.candidate next c.in_ok-candidate-2.ensures.found)
+    rw c.in-Some.is (fewer_left _ _ _
+    (Holds c.args.facts.now (rule_of c.args.rule.now)) c.requires c.in-Some.found now c.in_ok-candidate-2.candidate next c.in_ok-candidate-2.ensures.found)
 
 pub returns : goal.returns
 returns c =
     let all = rw c.in_default.is at c.matches.invariant in
-    subst (λ body. (m : Term → Term) → Keeps Const m → Sends m body c.args.facts.now → Holds c.args.facts.now (rule_of c.args.rule.now) m) c.body_of-body.ensures
+    subst (λ body. (m : Term → Term) → Keeps Const m → Sends m body c.args.facts.now → Holds c.args.facts.now (rule_of c.args.rule.now) m)
+    c.body_of-body.ensures
     (holds_always _ _ _ (Holds c.args.facts.now (rule_of c.args.rule.now)) c.requires all)

@@ -8,5 +8,6 @@ use Rattle.esto_constraint.proofs.meeting.meets.Goals as goal
 
 pub returns : goal.returns
 returns c =
-    subst (λ (facts : List (Fact Term)). MatchOption c.in_ok-outcome.outcome (AreMet facts (rules_of c.args.rules.now)) (λ broken. IsFirstBroken (rules_of c.args.rules.now) facts broken.rule broken.found.valuation broken.found.places))
+    subst (λ (facts : List (Fact Term)). MatchOption c.in_ok-outcome.outcome (AreMet facts (rules_of c.args.rules.now))
+    (λ broken. IsFirstBroken (rules_of c.args.rules.now) facts broken.rule broken.found.valuation broken.found.places))
     c.in_ok-indexed.ensures c.in_ok-outcome.ensures

@@ -29,7 +29,11 @@ loop-entry-preserved-then-place-items t c =
     record {
       split = c.loop-entry.invariant.split;
       trail = c.loop-entry.invariant.trail;
-      adds = turn_out c.args.head.now c.in-Some.atom.now c.in-Some.rest.now c.args.facts.now (with_trail c.args.start.now c.args.trail.now.items) c.args.rows.now.items c.candidates-found.result.now serves c.loop-entry.entry-index (entry_at c.candidates-found.result.now c.loop-entry.entry-index) c.loop-entry.rows.items c.loop-entry-test.true (entry_read c.candidates-found.result.now c.loop-entry.entry-index c.loop-entry-test.true) (rw c.items-items.ensures at c.if-place-items.true) c.loop-entry.invariant.adds;
+      adds = turn_out c.args.head.now c.in-Some.atom.now c.in-Some.rest.now c.args.facts.now
+          (with_trail c.args.start.now c.args.trail.now.items) c.args.rows.now.items c.candidates-found.result.now serves c.loop-entry.entry-index
+          (entry_at c.candidates-found.result.now c.loop-entry.entry-index) c.loop-entry.rows.items c.loop-entry-test.true
+          (entry_read c.candidates-found.result.now c.loop-entry.entry-index c.loop-entry-test.true)
+          (rw c.items-items.ensures at c.if-place-items.true) c.loop-entry.invariant.adds;
     }
 
 pub bind_atom-requires : goal.bind_atom-requires
@@ -42,33 +46,49 @@ collect-requires t c =
       search rules,
       (
         flat_rest c.in-Some.atom.now _ (subst AreFlat c.loop-entry.invariant.split c.requires.flat),
-        AreKnown-next (with_trail c.args.start.now c.loop-entry.trail.items) (with_trail c.args.start.now c.bind_atom.new.trail.items) c.in-Some.atom.now c.index-items-place.result c.in-Some.rest.now tried.1 c.args.head.now known,
+        AreKnown-next (with_trail c.args.start.now c.loop-entry.trail.items)
+            (with_trail c.args.start.now c.bind_atom.new.trail.items) c.in-Some.atom.now c.index-items-place.result c.in-Some.rest.now tried.1 c.args.head.now
+            known,
       ),
     )
 
 pub loop-entry-preserved : goal.loop-entry-preserved
 loop-entry-preserved t c =
     let serves = rw c.deref-3.ensures.value at c.candidates-found.ensures in
-    let at = slice_get_read c.args.facts.now _ (entry_at c.candidates-found.result.now c.loop-entry.entry-index).place _ refl (omega (arith, ap length c.items-items.ensures, c.if-place-items.false)) (rw c.items-items.ensures at c.index-items-place.is) in
+    let at = slice_get_read c.args.facts.now _ (entry_at c.candidates-found.result.now c.loop-entry.entry-index).place _ refl
+    (omega (arith, ap length c.items-items.ensures, c.if-place-items.false)) (rw c.items-items.ensures at c.index-items-place.is) in
     elim c.if-branch.branch [
       | then-branch+in_ok-collect w ↦
           let tried = rw (w.if-branch.true, c.loop-entry.invariant.trail) at c.in_ok-bind_atom.ensures in
           let grown = rw w.if-branch.true at c.in_ok-bind_atom.ensures in
           record {
             split = c.loop-entry.invariant.split;
-            trail = ap (λ v. v.items) w.trail-is ∙ undone _ _ _ _ _ _ (omega (arith, c.args.trail.now.ok.0, c.len-mark.ensures)) c.loop-entry.invariant.trail grown.0 w.in_ok-collect.ensures.trail w.truncate.ensures.items;
-            adds = rw w.rows-is (turn_next c.args.head.now c.in-Some.atom.now c.in-Some.rest.now c.args.facts.now (with_trail c.args.start.now c.args.trail.now.items) c.args.rows.now.items c.candidates-found.result.now serves c.loop-entry.entry-index (entry_at c.candidates-found.result.now c.loop-entry.entry-index) c.index-items-place.result (with_trail c.args.start.now c.bind_atom.new.trail.items) c.loop-entry.rows.items _ c.loop-entry-test.true (entry_read c.candidates-found.result.now c.loop-entry.entry-index c.loop-entry-test.true) at tried.1 w.in_ok-collect.ensures.adds c.loop-entry.invariant.adds);
+            trail = ap (λ v. v.items) w.trail-is
+                ∙ undone _ _ _ _ _ _ (omega (arith, c.args.trail.now.ok.0, c.len-mark.ensures)) c.loop-entry.invariant.trail grown.0
+                w.in_ok-collect.ensures.trail w.truncate.ensures.items;
+            adds = rw w.rows-is (turn_next c.args.head.now c.in-Some.atom.now c.in-Some.rest.now c.args.facts.now
+                (with_trail c.args.start.now c.args.trail.now.items) c.args.rows.now.items c.candidates-found.result.now serves c.loop-entry.entry-index
+                (entry_at c.candidates-found.result.now c.loop-entry.entry-index) c.index-items-place.result
+                (with_trail c.args.start.now c.bind_atom.new.trail.items) c.loop-entry.rows.items _ c.loop-entry-test.true
+                (entry_read c.candidates-found.result.now c.loop-entry.entry-index c.loop-entry-test.true) at tried.1 w.in_ok-collect.ensures.adds
+                c.loop-entry.invariant.adds);
           }
       | else-branch w ↦
           let tried = rw (w.if-branch.false, c.loop-entry.invariant.trail) at c.in_ok-bind_atom.ensures in
           record {
             split = c.loop-entry.invariant.split;
             trail = ap (λ v. v.items) w.trail-is ∙ tried.0;
-            adds = rw w.rows-is (turn_skip c.args.head.now c.in-Some.atom.now c.in-Some.rest.now c.args.facts.now (with_trail c.args.start.now c.args.trail.now.items) c.args.rows.now.items c.candidates-found.result.now serves c.loop-entry.entry-index (entry_at c.candidates-found.result.now c.loop-entry.entry-index) c.index-items-place.result c.loop-entry.rows.items c.loop-entry-test.true (entry_read c.candidates-found.result.now c.loop-entry.entry-index c.loop-entry-test.true) at tried.1 c.loop-entry.invariant.adds);
+            adds = rw w.rows-is (turn_skip c.args.head.now c.in-Some.atom.now c.in-Some.rest.now c.args.facts.now
+                (with_trail c.args.start.now c.args.trail.now.items) c.args.rows.now.items c.candidates-found.result.now serves c.loop-entry.entry-index
+                (entry_at c.candidates-found.result.now c.loop-entry.entry-index) c.index-items-place.result c.loop-entry.rows.items c.loop-entry-test.true
+                (entry_read c.candidates-found.result.now c.loop-entry.entry-index c.loop-entry-test.true) at tried.1 c.loop-entry.invariant.adds);
           }
     ]
 
 pub returns-clause-adds : goal.returns-clause-adds
 returns-clause-adds t c =
     let serves = rw c.deref-3.ensures.value at c.candidates-found.ensures in
-    rw c.loop-entry.invariant.split (end_adds c.args.head.now c.in-Some.atom.now c.in-Some.rest.now c.args.facts.now (with_trail c.args.start.now c.args.trail.now.items) c.args.rows.now.items c.candidates-found.result.now serves c.loop-entry.entry-index c.loop-entry.rows.items c.loop-entry-test.false c.loop-entry.invariant.adds)
+    rw c.loop-entry.invariant.split
+    (end_adds c.args.head.now c.in-Some.atom.now c.in-Some.rest.now c.args.facts.now
+    (with_trail c.args.start.now c.args.trail.now.items) c.args.rows.now.items c.candidates-found.result.now serves c.loop-entry.entry-index
+    c.loop-entry.rows.items c.loop-entry-test.false c.loop-entry.invariant.adds)

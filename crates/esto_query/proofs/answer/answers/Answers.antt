@@ -8,4 +8,6 @@ use Rattle.esto_query.proofs.answer.answers.Goals as goal
 
 pub returns-clause-rows : goal.returns-clause-rows
 returns-clause-rows c =
-    subst (λ (facts : List (Fact Term)). (row : List Term) → Contains c.in_ok-rows.rows row ↔ IsAnswerInto Const (query_of c.args.query.now) (Contains facts) row) c.in_ok-indexed.ensures c.in_ok-rows.ensures.rows
+    subst (λ (facts : List (Fact Term)). (row : List Term)
+    → Contains c.in_ok-rows.rows row ↔ IsAnswerInto Const (query_of c.args.query.now) (Contains facts) row) c.in_ok-indexed.ensures
+    c.in_ok-rows.ensures.rows

@@ -13,5 +13,6 @@ atoms-preserved c =
 pub returns : goal.returns
 returns c = (
   λ e. absurd (false≢true e),
-  λ (atom, k, h). absurd (each_seen (λ (atom : Fact Term). ¬ Contains atom.terms c.args.term.now) _ c.atoms.atom-index c.atoms-test.false c.atoms.invariant atom k h),
+  λ (atom, k, h). absurd (each_seen
+      (λ (atom : Fact Term). ¬ Contains atom.terms c.args.term.now) _ c.atoms.atom-index c.atoms-test.false c.atoms.invariant atom k h),
 )

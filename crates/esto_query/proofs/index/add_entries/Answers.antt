@@ -7,5 +7,6 @@ loop-column-init c = AddsEntries-none c.args.fact.now c.args.place c.args.entrie
 
 pub loop-column-preserved : goal.loop-column-preserved
 loop-column-preserved c =
-    AddsEntries-next c.args.fact.now c.args.place c.loop-column.column c.args.entries.now.items c.loop-column.entries.items c.push.new.self.items _ c.in-Ok.ensures.items
+    AddsEntries-next c.args.fact.now c.args.place c.loop-column.column c.args.entries.now.items c.loop-column.entries.items c.push.new.self.items _
+    c.in-Ok.ensures.items
     (record { relation = refl; number = refl; place = refl }) c.loop-column.invariant

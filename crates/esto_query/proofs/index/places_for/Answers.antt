@@ -8,7 +8,8 @@ use Rattle.esto_query.proofs.index.places_for.Goals.{in-Some+then-found-best, in
 pub loop-column-init : goal.loop-column-init
 loop-column-init c = record {
   terms = c.items-terms.ensures;
-  candidates = candidates-range c.args.facts.now c.args.index.now c.range_of-best.result.now c.args.atom.now (with_trail c.args.start.now c.args.trail.now) _ c.requires c.range_of-best.ensures refl (omega arith) (λ m keeps extends. refl);
+  candidates = candidates-range c.args.facts.now c.args.index.now c.range_of-best.result.now c.args.atom.now
+      (with_trail c.args.start.now c.args.trail.now) _ c.requires c.range_of-best.ensures refl (omega arith) (λ m keeps extends. refl);
 }
 
 pub loop-column-preserved : goal.loop-column-preserved
@@ -18,8 +19,10 @@ loop-column-preserved c = record {
     | in-Some+then-found-best w ↦
         let read = rw c.items-terms.ensures at c.index-terms-column.is in
         let below = rw c.items-terms.ensures at c.loop-column-test.true in
-        rw w.best-is (candidates-range c.args.facts.now c.args.index.now w.range_of-found.result.now c.args.atom.now (with_trail c.args.start.now c.args.trail.now) _ c.requires w.range_of-found.ensures refl (omega (arith, below))
-        (λ m keeps extends. one_term m c.args.atom.now.terms c.loop-column.column c.index-terms-column.result below read ∙ ap (λ (t : Term). t ∷ []) (w.in-Some.ensures m keeps extends) ∙ sym w.from_ref.ensures.value))
+        rw w.best-is (candidates-range c.args.facts.now c.args.index.now w.range_of-found.result.now c.args.atom.now
+        (with_trail c.args.start.now c.args.trail.now) _ c.requires w.range_of-found.ensures refl (omega (arith, below))
+        (λ m keeps extends. one_term m c.args.atom.now.terms c.loop-column.column c.index-terms-column.result below read
+        ∙ ap (λ (t : Term). t ∷ []) (w.in-Some.ensures m keeps extends) ∙ sym w.from_ref.ensures.value))
     | in-Some+else-found-best w ↦ rw w.best-is c.loop-column.invariant.candidates
     | in_default w ↦ rw w.best-is c.loop-column.invariant.candidates
   ];

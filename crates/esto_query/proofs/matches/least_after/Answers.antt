@@ -9,9 +9,11 @@ returns-then-is_empty-clause-none c = HasNoMatch-empty c.args.body.now c.args.fa
 pub returns-clause-found : goal.returns-clause-found
 returns-clause-found c =
     let follows = rw c.items.ensures at c.in_ok-from.ensures in
-    if_least c.args.body.now c.args.facts.now c.args.start.now c.args.after.now _ follows c.in_ok-least.least (rw c.items-2.ensures at c.in_ok-least.ensures.found)
+    if_least c.args.body.now c.args.facts.now c.args.start.now c.args.after.now _ follows c.in_ok-least.least
+    (rw c.items-2.ensures at c.in_ok-least.ensures.found)
 
 pub returns-clause-none : goal.returns-clause-none
 returns-clause-none c =
     let follows = rw c.items.ensures at c.in_ok-from.ensures in
-    if_none c.args.body.now c.args.facts.now c.args.start.now c.args.after.now _ follows c.in_ok-least.least (rw c.items-2.ensures at c.in_ok-least.ensures.none)
+    if_none c.args.body.now c.args.facts.now c.args.start.now c.args.after.now _ follows c.in_ok-least.least
+    (rw c.items-2.ensures at c.in_ok-least.ensures.none)

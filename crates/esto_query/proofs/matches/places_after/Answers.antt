@@ -5,7 +5,8 @@ use Rattle.esto_query.proofs.matches.places_after.Goals as goal
 
 pub returns-then-after-count : goal.returns-then-after-count
 returns-then-after-count c =
-    subst (Follows c.args.after.now c.args.count c.args.bound) (sym c.in_ok-from.ensures) (Follows-shorter c.args.after.now c.args.count c.args.bound c.if-after-count.true)
+    subst (Follows c.args.after.now c.args.count c.args.bound) (sym c.in_ok-from.ensures)
+    (Follows-shorter c.args.after.now c.args.count c.args.bound c.if-after-count.true)
 
 pub returns : goal.returns
 returns c =

@@ -21,7 +21,8 @@ loop-entry-init t c =
       split = search rules;
       trail = refl;
       places = refl;
-      left = AreLeft-first c.in-Some.atom.now c.in-Some.rest.now c.args.facts.now (with_trail c.args.start.now c.args.trail.now.items) c.args.from.now c.candidates-found.result.now serves;
+      left = AreLeft-first c.in-Some.atom.now c.in-Some.rest.now c.args.facts.now
+          (with_trail c.args.start.now c.args.trail.now.items) c.args.from.now c.candidates-found.result.now serves;
     }
 
 pub loop-entry-preserved-then-place-least : goal.loop-entry-preserved-then-place-least
@@ -31,8 +32,12 @@ loop-entry-preserved-then-place-least t c =
       split = c.loop-entry.invariant.split;
       trail = c.loop-entry.invariant.trail;
       places = c.loop-entry.invariant.places;
-      left = AreLeft-next c.in-Some.atom.now c.in-Some.rest.now c.args.facts.now (with_trail c.args.start.now c.args.trail.now.items) c.args.from.now c.candidates-found.result.now serves c.loop-entry.entry-index c.loop-entry.invariant.left (entry_at c.candidates-found.result.now c.loop-entry.entry-index) c.loop-entry-test.true (entry_read c.candidates-found.result.now c.loop-entry.entry-index c.loop-entry-test.true)
-          (NoneAt-out c.in-Some.atom.now c.in-Some.rest.now c.args.facts.now (with_trail c.args.start.now c.args.trail.now.items) c.args.from.now (entry_at c.candidates-found.result.now c.loop-entry.entry-index).place (elim c.then-place-least.branch [
+      left = AreLeft-next c.in-Some.atom.now c.in-Some.rest.now c.args.facts.now
+          (with_trail c.args.start.now c.args.trail.now.items) c.args.from.now c.candidates-found.result.now serves c.loop-entry.entry-index
+          c.loop-entry.invariant.left (entry_at c.candidates-found.result.now c.loop-entry.entry-index) c.loop-entry-test.true
+          (entry_read c.candidates-found.result.now c.loop-entry.entry-index c.loop-entry-test.true)
+          (NoneAt-out c.in-Some.atom.now c.in-Some.rest.now c.args.facts.now (with_trail c.args.start.now c.args.trail.now.items) c.args.from.now
+          (entry_at c.candidates-found.result.now c.loop-entry.entry-index).place (elim c.then-place-least.branch [
             | then-place-least-via-then-place-least w ↦ inl (omega (arith, w.if-place-least.true, c.least_first-least.ensures))
             | then-place-least-via-else-place-least+then-place-items w ↦ inr (rw c.items-items.ensures at w.if-place-items.true)
           ]));
@@ -47,11 +52,17 @@ search-requires t c = (search rules, flat_rest c.in-Some.atom.now _ (subst AreFl
 pub returns-then-branch-2 : goal.returns-then-branch-2
 returns-then-branch-2 t c =
     let serves = rw c.deref.ensures.value at c.candidates-found.ensures in
-    let low = AreLeft-low c.in-Some.atom.now c.in-Some.rest.now c.args.facts.now (with_trail c.args.start.now c.args.trail.now.items) c.args.from.now c.candidates-found.result.now serves c.loop-entry.entry-index c.loop-entry.invariant.left (entry_at c.candidates-found.result.now c.loop-entry.entry-index) c.loop-entry-test.true (entry_read c.candidates-found.result.now c.loop-entry.entry-index c.loop-entry-test.true) in
+    let low = AreLeft-low c.in-Some.atom.now c.in-Some.rest.now c.args.facts.now
+    (with_trail c.args.start.now c.args.trail.now.items) c.args.from.now c.candidates-found.result.now serves c.loop-entry.entry-index
+    c.loop-entry.invariant.left (entry_at c.candidates-found.result.now c.loop-entry.entry-index) c.loop-entry-test.true
+    (entry_read c.candidates-found.result.now c.loop-entry.entry-index c.loop-entry-test.true) in
     let found = rw c.if-branch-2.true at c.in_ok-search.ensures in
     let tried = rw c.if-branch.true at c.in_ok-bind_atom.ensures in
-    let at = slice_get_read c.args.facts.now _ (entry_at c.candidates-found.result.now c.loop-entry.entry-index).place _ refl (omega (arith, ap length c.items-items.ensures, c.if-place-items.false)) (rw c.items-items.ensures at c.index-items-place.is) in
-    rw c.loop-entry.invariant.split (Searched-found c.args.start.now c.in-Some.atom.now c.index-items-place.result c.in-Some.rest.now c.args.facts.now c.args.from.now (entry_at c.candidates-found.result.now c.loop-entry.entry-index).place at
+    let at = slice_get_read c.args.facts.now _ (entry_at c.candidates-found.result.now c.loop-entry.entry-index).place _ refl
+    (omega (arith, ap length c.items-items.ensures, c.if-place-items.false)) (rw c.items-items.ensures at c.index-items-place.is) in
+    rw c.loop-entry.invariant.split
+    (Searched-found c.args.start.now c.in-Some.atom.now c.index-items-place.result c.in-Some.rest.now c.args.facts.now c.args.from.now
+    (entry_at c.candidates-found.result.now c.loop-entry.entry-index).place at
     c.args.trail.now.items c.loop-entry.trail.items c.loop-entry.invariant.trail low
     c.bind_atom.new.trail.items c.search.new.trail.items c.from_after.result.now c.args.places.now c.loop-entry.places c.push.new.self c.search.new.places
     c.loop-entry.invariant.places c.from_after.ensures c.in_ok-push.ensures.ok (omega (arith, c.least_first-least.ensures, c.if-place-least.false)) tried found)
@@ -59,20 +70,32 @@ returns-then-branch-2 t c =
 pub loop-entry-preserved : goal.loop-entry-preserved
 loop-entry-preserved t c =
     let serves = rw c.deref.ensures.value at c.candidates-found.ensures in
-    let next = AreLeft-next c.in-Some.atom.now c.in-Some.rest.now c.args.facts.now (with_trail c.args.start.now c.args.trail.now.items) c.args.from.now c.candidates-found.result.now serves c.loop-entry.entry-index c.loop-entry.invariant.left (entry_at c.candidates-found.result.now c.loop-entry.entry-index) c.loop-entry-test.true (entry_read c.candidates-found.result.now c.loop-entry.entry-index c.loop-entry-test.true) in
-    let low = AreLeft-low c.in-Some.atom.now c.in-Some.rest.now c.args.facts.now (with_trail c.args.start.now c.args.trail.now.items) c.args.from.now c.candidates-found.result.now serves c.loop-entry.entry-index c.loop-entry.invariant.left (entry_at c.candidates-found.result.now c.loop-entry.entry-index) c.loop-entry-test.true (entry_read c.candidates-found.result.now c.loop-entry.entry-index c.loop-entry-test.true) in
-    let at = slice_get_read c.args.facts.now _ (entry_at c.candidates-found.result.now c.loop-entry.entry-index).place _ refl (omega (arith, ap length c.items-items.ensures, c.if-place-items.false)) (rw c.items-items.ensures at c.index-items-place.is) in
+    let next = AreLeft-next c.in-Some.atom.now c.in-Some.rest.now c.args.facts.now
+    (with_trail c.args.start.now c.args.trail.now.items) c.args.from.now c.candidates-found.result.now serves c.loop-entry.entry-index
+    c.loop-entry.invariant.left (entry_at c.candidates-found.result.now c.loop-entry.entry-index) c.loop-entry-test.true
+    (entry_read c.candidates-found.result.now c.loop-entry.entry-index c.loop-entry-test.true) in
+    let low = AreLeft-low c.in-Some.atom.now c.in-Some.rest.now c.args.facts.now
+    (with_trail c.args.start.now c.args.trail.now.items) c.args.from.now c.candidates-found.result.now serves c.loop-entry.entry-index
+    c.loop-entry.invariant.left (entry_at c.candidates-found.result.now c.loop-entry.entry-index) c.loop-entry-test.true
+    (entry_read c.candidates-found.result.now c.loop-entry.entry-index c.loop-entry-test.true) in
+    let at = slice_get_read c.args.facts.now _ (entry_at c.candidates-found.result.now c.loop-entry.entry-index).place _ refl
+    (omega (arith, ap length c.items-items.ensures, c.if-place-items.false)) (rw c.items-items.ensures at c.index-items-place.is) in
     elim c.if-branch.branch [
       | then-branch+in_ok-push+in_ok-search+else-branch-2 w ↦
           let missed = rw w.if-branch-2.false at w.in_ok-search.ensures in
           let tried = rw w.if-branch.true at c.in_ok-bind_atom.ensures in
           record {
             split = c.loop-entry.invariant.split;
-            trail = ap (λ v. v.items) w.trail-is ∙ undone _ _ _ _ _ _ (omega (arith, c.args.trail.now.ok.0, c.len-mark.ensures)) c.loop-entry.invariant.trail tried.0 missed.1 w.truncate-then-branch.ensures.items;
-            places = w.places-is ∙ undone _ _ _ _ _ _ (omega (arith, c.len-depth.ensures)) c.loop-entry.invariant.places ((entry_at c.candidates-found.result.now c.loop-entry.entry-index).place ∷ [], w.in_ok-push.ensures.ok) missed.0 w.truncate.ensures;
-            left = next (NoneAt-back c.args.start.now c.in-Some.atom.now c.index-items-place.result c.in-Some.rest.now c.args.facts.now c.args.from.now (entry_at c.candidates-found.result.now c.loop-entry.entry-index).place at
+            trail = ap (λ v. v.items) w.trail-is
+                ∙ undone _ _ _ _ _ _ (omega (arith, c.args.trail.now.ok.0, c.len-mark.ensures)) c.loop-entry.invariant.trail tried.0 missed.1
+                w.truncate-then-branch.ensures.items;
+            places = w.places-is ∙ undone _ _ _ _ _ _ (omega (arith, c.len-depth.ensures)) c.loop-entry.invariant.places
+                ((entry_at c.candidates-found.result.now c.loop-entry.entry-index).place ∷ [], w.in_ok-push.ensures.ok) missed.0 w.truncate.ensures;
+            left = next (NoneAt-back c.args.start.now c.in-Some.atom.now c.index-items-place.result c.in-Some.rest.now c.args.facts.now c.args.from.now
+                (entry_at c.candidates-found.result.now c.loop-entry.entry-index).place at
                 c.args.trail.now.items c.loop-entry.trail.items c.loop-entry.invariant.trail low
-                c.bind_atom.new.trail.items w.search.new.trail.items w.from_after.result.now w.push.new.self w.search.new.places w.from_after.ensures tried missed);
+                c.bind_atom.new.trail.items w.search.new.trail.items w.from_after.result.now w.push.new.self w.search.new.places w.from_after.ensures tried
+                missed);
           }
       | else-branch w ↦
           let tried = rw w.if-branch.false at c.in_ok-bind_atom.ensures in
@@ -80,7 +103,8 @@ loop-entry-preserved t c =
             split = c.loop-entry.invariant.split;
             trail = ap (λ v. v.items) w.trail-is ∙ tried.0 ∙ c.loop-entry.invariant.trail;
             places = w.places-is ∙ c.loop-entry.invariant.places;
-            left = next (NoneAt-skip c.args.start.now c.in-Some.atom.now c.index-items-place.result c.in-Some.rest.now c.args.facts.now c.args.from.now (entry_at c.candidates-found.result.now c.loop-entry.entry-index).place at
+            left = next (NoneAt-skip c.args.start.now c.in-Some.atom.now c.index-items-place.result c.in-Some.rest.now c.args.facts.now c.args.from.now
+                (entry_at c.candidates-found.result.now c.loop-entry.entry-index).place at
                 c.args.trail.now.items c.loop-entry.trail.items c.loop-entry.invariant.trail low c.bind_atom.new.trail.items tried);
           }
     ]
@@ -90,4 +114,6 @@ returns t c =
     let serves = rw c.deref.ensures.value at c.candidates-found.ensures in
     rw c.loop-entry.invariant.split (Searched-none c.args.start.now c.in-Some.atom.now c.in-Some.rest.now c.args.facts.now c.args.from.now
     c.args.trail.now.items c.loop-entry.trail.items c.args.places.now c.loop-entry.places c.loop-entry.invariant.places c.loop-entry.invariant.trail
-    (AreLeft-end c.in-Some.atom.now c.in-Some.rest.now c.args.facts.now (with_trail c.args.start.now c.args.trail.now.items) c.args.from.now c.candidates-found.result.now serves c.loop-entry.entry-index c.loop-entry.invariant.left c.loop-entry-test.false))
+    (AreLeft-end c.in-Some.atom.now c.in-Some.rest.now c.args.facts.now
+    (with_trail c.args.start.now c.args.trail.now.items) c.args.from.now c.candidates-found.result.now serves c.loop-entry.entry-index
+    c.loop-entry.invariant.left c.loop-entry-test.false))

@@ -11,16 +11,22 @@ loop-at-preserved c =
     let tried = rw c.if-not-branch.false at c.in_ok-bind_term.ensures in
     record {
       grown = Grew-then _ _ _ c.loop-at.invariant.grown tried.0;
-      narrowed = Narrows-row c.args.start.now c.args.trail.now.items c.loop-at.trail.items c.args.terms.now c.args.targets.now c.loop-at.at _ _ (omega arith) (omega arith) c.index-terms-at.is c.index-targets-at.is c.bind_term.new.trail.items c.loop-at.invariant.narrowed tried.1;
+      narrowed = Narrows-row c.args.start.now c.args.trail.now.items c.loop-at.trail.items c.args.terms.now c.args.targets.now c.loop-at.at _ _ (omega arith)
+          (omega arith) c.index-terms-at.is c.index-targets-at.is c.bind_term.new.trail.items c.loop-at.invariant.narrowed tried.1;
     }
 
 pub returns-then-not-branch : goal.returns-then-not-branch
 returns-then-not-branch c =
     let tried = rw c.if-not-branch.true at c.in_ok-bind_term.ensures in (
-      c.truncate.ensures.items ∙ ap (take c.len-mark.result) tried.0 ∙ Grew-take _ _ _ (omega (arith, c.args.trail.now.ok.0, c.len-mark.ensures)) c.loop-at.invariant.grown,
-      Excludes-row c.args.start.now c.args.trail.now.items c.loop-at.trail.items c.args.terms.now c.args.targets.now c.loop-at.at _ _ (omega arith) (omega arith) c.index-terms-at.is c.index-targets-at.is c.loop-at.invariant.narrowed tried.1,
+      c.truncate.ensures.items ∙ ap (take c.len-mark.result) tried.0
+          ∙ Grew-take _ _ _ (omega (arith, c.args.trail.now.ok.0, c.len-mark.ensures)) c.loop-at.invariant.grown,
+      Excludes-row c.args.start.now c.args.trail.now.items c.loop-at.trail.items c.args.terms.now c.args.targets.now c.loop-at.at _ _ (omega arith)
+          (omega arith) c.index-terms-at.is c.index-targets-at.is c.loop-at.invariant.narrowed tried.1,
     )
 
 pub returns : goal.returns
-returns c =
-    (c.loop-at.invariant.grown, Narrows-whole c.args.start.now c.args.trail.now.items c.loop-at.trail.items c.args.terms.now c.args.targets.now c.loop-at.at (omega arith) (omega arith) c.loop-at.invariant.narrowed)
+returns c = (
+  c.loop-at.invariant.grown,
+  Narrows-whole c.args.start.now c.args.trail.now.items c.loop-at.trail.items c.args.terms.now c.args.targets.now c.loop-at.at
+      (omega arith) (omega arith) c.loop-at.invariant.narrowed,
+)

@@ -7,4 +7,5 @@ pub returns-in-Ok : goal.returns-in-Ok
 returns-in-Ok c =
     let read = sym (rw c.deref.ensures.value at c.value.ensures) in
     let none = read ∙ ap option_copied c.in-None.is in
-    Tries-pushed c.args.start.now c.args.trail.now.items _ (record { variable = c.in-Plain.variable; term = c.args.target }) c.args.term.now c.args.target.now c.in-Plain.is refl none c.in-Ok.ensures.items
+    Tries-pushed c.args.start.now c.args.trail.now.items _
+    (record { variable = c.in-Plain.variable; term = c.args.target }) c.args.term.now c.args.target.now c.in-Plain.is refl none c.in-Ok.ensures.items

@@ -4,4 +4,5 @@ use Rattle.esto_bits.proofs.FamilyLemmas.{covered_says}
 use Rattle.esto_bits.proofs.products.Products.covered.Goals as goal
 
 pub returns : goal.returns
-returns c = covered_says _ _ _ (c.covers.ensures ∙ ap (λ sets. is_covered sets c.args.row.now) (c.as_slice.ensures.value ∙ ap (λ kept. kept.sets) c.self.view_is))
+returns c = covered_says _ _ _ (c.covers.ensures
+    ∙ ap (λ sets. is_covered sets c.args.row.now) (c.as_slice.ensures.value ∙ ap (λ kept. kept.sets) c.self.view_is))

@@ -15,7 +15,8 @@ sets-preserved c = record {
 pub returns-clause-value : goal.returns-clause-value
 returns-clause-value c =
     c.sets.invariant.sets
-    ∙ ap (λ sets. with_sets [] (unions sets c.args.others.now.sets)) (take_all c.sets.set-index c.items-set-items.result.now c.sets-test.false ∙ c.items-set-items.ensures)
+    ∙ ap (λ sets. with_sets [] (unions sets c.args.others.now.sets))
+    (take_all c.sets.set-index c.items-set-items.result.now c.sets-test.false ∙ c.items-set-items.ensures)
 
 pub returns-clause-covers : goal.returns-clause-covers
 returns-clause-covers c =

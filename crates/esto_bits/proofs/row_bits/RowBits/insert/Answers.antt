@@ -12,7 +12,8 @@ index_mut-requires c =
 
 pub invariant_of-self : goal.invariant_of-self
 invariant_of-self c =
-    (keep-changed _ _ _ (record { below = c.self.invariant; is = c.self.view_is }) c.args.atom c.index_mut.result.now c.requires c.index_mut.ensures.value).below
+    (keep-changed _ _ _ (record { below = c.self.invariant; is = c.self.view_is }) c.args.atom c.index_mut.result.now c.requires
+    c.index_mut.ensures.value).below
 
 pub returns-clause-value : goal.returns-clause-value
 returns-clause-value c =
@@ -20,5 +21,6 @@ returns-clause-value c =
 
 pub returns-clause-has : goal.returns-clause-has
 returns-clause-has c number =
-    let is = (keep-changed _ _ _ (record { below = c.self.invariant; is = c.self.view_is }) c.args.atom c.index_mut.result.now c.requires c.index_mut.ensures.value).is in
+    let is = (keep-changed _ _ _ (record { below = c.self.invariant; is = c.self.view_is }) c.args.atom c.index_mut.result.now c.requires
+    c.index_mut.ensures.value).is in
     subst (λ row. Has row number ↔ ((number ≡ c.args.atom) ⊎ Has c.args.self.now number)) (sym is) (Has-set c.args.self.now c.args.atom number c.requires)

@@ -5,4 +5,5 @@ use Rattle.esto_bits.proofs.row_bits.RowBits.new.Goals as goal
 
 pub returns-in-Ok : goal.returns-in-Ok
 returns-in-Ok c =
-    ap (λ words. set_of words c.args.atoms) (c.in-Ok.ensures.items_if_clones_equal (λ word same. same)) ∙ (keep-empty c.div_ceil.result c.args.atoms (omega arith)).is
+    ap (λ words. set_of words c.args.atoms) (c.in-Ok.ensures.items_if_clones_equal (λ word same. same))
+    ∙ (keep-empty c.div_ceil.result c.args.atoms (omega arith)).is

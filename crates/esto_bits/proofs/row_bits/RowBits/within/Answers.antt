@@ -11,4 +11,5 @@ row_within-requires c =
 pub returns : goal.returns
 returns c =
     within_says _ _ _ (record { below = c.self.invariant; is = c.self.view_is }) _ _ _ (record { below = c.other.invariant; is = c.other.view_is }) c.requires
-    c.as_slice.result.now c.as_slice-2.result.now c.as_slice.ensures.value c.as_slice-2.ensures.value c.row_within.ensures.fits c.row_within.result c.row_within.ensures.within
+    c.as_slice.result.now c.as_slice-2.result.now c.as_slice.ensures.value c.as_slice-2.ensures.value c.row_within.ensures.fits c.row_within.result
+    c.row_within.ensures.within

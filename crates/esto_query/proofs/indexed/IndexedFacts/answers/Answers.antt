@@ -18,4 +18,6 @@ collect-requires-clause-known c =
 pub returns-clause-rows : goal.returns-clause-rows
 returns-clause-rows c =
     let adds = rw (c.items-head.ensures, c.items-body.ensures) at c.in_ok-collect.ensures.adds in
-    answers_are (query_of c.args.query.now) c.args.self.now c.new-rows.result.items c.collect.new.rows.items _ (with_trail c.new-start.result c.new-trail.result.items) c.new-rows.ensures.items (ap (with_trail c.new-start.result) c.new-trail.ensures.items ∙ c.new-start.ensures) adds c.in_ok-rows.ensures.rows
+    answers_are (query_of c.args.query.now) c.args.self.now c.new-rows.result.items c.collect.new.rows.items _
+    (with_trail c.new-start.result c.new-trail.result.items) c.new-rows.ensures.items
+    (ap (with_trail c.new-start.result) c.new-trail.ensures.items ∙ c.new-start.ensures) adds c.in_ok-rows.ensures.rows

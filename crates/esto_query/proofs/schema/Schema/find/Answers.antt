@@ -7,7 +7,8 @@ use Rattle.esto_term.proofs.ListLemmas.{each_more, each_seen}
 
 pub loop-number-preserved : goal.loop-number-preserved
 loop-number-preserved c =
-    each_more (λ (relation : Relation). relation.name ≢ c.args.name.now) _ _ _ c.loop-number-test.true c.relation-item.is (λ same. false≢true (sym c.if-has_name.false ∙ c.has_name.ensures.1 same)) c.loop-number.invariant
+    each_more (λ (relation : Relation). relation.name ≢ c.args.name.now) _ _ _ c.loop-number-test.true c.relation-item.is
+    (λ same. false≢true (sym c.if-has_name.false ∙ c.has_name.ensures.1 same)) c.loop-number.invariant
 
 pub returns : goal.returns
 returns c =
