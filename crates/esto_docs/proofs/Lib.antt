@@ -1,0 +1,13 @@
+pub mod TreeLemmas
+pub mod FileLemmas
+pub mod RiseLemmas
+pub mod NodeLemmas
+pub mod MatchLemmas
+pub mod BuildLemmas
+pub mod TextLemmas
+pub mod ArrayLemmas
+pub mod LineLemmas
+pub mod LineLawLemmas
+pub mod DepthLemmas
+pub mod RowLemmas
+pub mod DocumentLemmas

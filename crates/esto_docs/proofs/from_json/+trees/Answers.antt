@@ -1,0 +1,39 @@
+use Rattle.std.proofs.Common.{◌≡◌, ◌∙◌, ◌++◌, ◌∷◌, [], List, sym, ap, subst, append_assoc, map}
+use Rattle.std.specs.Prelude.{string_cmp}
+use Rattle.std.specs.List.Sorted.{IsStrictlySortedBy}
+use Rattle.serde_json.specs.View.{members_view}
+use Rattle.serde_json.proofs.Views.{Entry}
+use Rattle.esto_docmodel.specs.Names.{Rise}
+use Rattle.esto_docmodel.specs.declared.field.FieldOf.{FieldOf}
+use Rattle.esto_docmodel.specs.declared.tree.Tree.{Tree}
+use Rattle.esto_docs.specs.Trees.{fields_of}
+use Rattle.esto_docs.proofs.TreeLemmas.{trees_go, fields_go, fields_push}
+use Rattle.esto_docs.proofs.RiseLemmas.{first_rise}
+use Rattle.esto_docs.proofs.from_json.+trees.Goals as goal
+
+pub trees_of-items-preserved : goal.trees_of-items-preserved
+trees_of-items-preserved t c =
+    trees_go c.deref-item-items.result.now c.items.item-index c.item-item.result _ c.items.trees _ c.items-test.true c.item-item.is c.items.invariant
+    (c.in_ok-push.ensures.ok ∙ ap (λ (x : Tree). c.items.trees ++ x ∷ []) c.in_ok-tree_of.ensures)
+
+pub fields_of-push-requires : goal.fields_of-push-requires
+fields_of-push-requires t c =
+    let done = c.members.invariant.0 in
+    let e : Entry = (c.in-Some.name.now, c.in-Some.value.now) in
+    let all : c.args.members.now.entries ≡ (done ++ e ∷ []) ++ c.next.new.self =
+    c.members.invariant.1 ∙ ap (λ es. done ++ es) c.in-Some.ensures.steps ∙ sym (append_assoc done (e ∷ []) c.next.new.self) in
+    let more = fields_go c.members.fields (fields_of (members_view done)) _ _ _ _ c.members.invariant.2 (c.in_ok-name.ensures ∙ c.as_str.ensures.value) c.in_ok-tree.ensures
+    ∙ sym (fields_push done e) in
+    subst (λ (fs : List (FieldOf Tree)). Rise fs) (sym more)
+    (first_rise (done ++ e ∷ []) c.next.new.self (subst (λ (es : List Entry). IsStrictlySortedBy string_cmp (map (λ f. f.0) es)) all c.iter-name-items.ensures.ordered))
+
+pub fields_of-members-preserved : goal.fields_of-members-preserved
+fields_of-members-preserved t c =
+    let done = c.members.invariant.0 in
+    let e : Entry = (c.in-Some.name.now, c.in-Some.value.now) in (
+      done ++ e ∷ [],
+      c.members.invariant.1 ∙ ap (λ es. done ++ es) c.in-Some.ensures.steps ∙ sym (append_assoc done (e ∷ []) c.next.new.self),
+      c.in_ok-push.ensures.ok
+          ∙ fields_go c.members.fields (fields_of (members_view done)) _ _ _ _ c.members.invariant.2 (c.in_ok-name.ensures ∙ c.as_str.ensures.value) c.in_ok-tree.ensures
+          ∙ sym (fields_push done e),
+    )

@@ -1,0 +1,9 @@
+pub mod Trees
+pub mod Json
+pub mod Files
+pub mod Texts
+pub mod Rows
+pub mod Building
+pub mod Layouts
+pub mod FileRows
+pub mod LineLaws
