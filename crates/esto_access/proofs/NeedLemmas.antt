@@ -72,8 +72,8 @@ module _ (atoms : List PlanAtom) (supplies : List Kept) (term : Term) where
 
   pub given_end : (count : ℕ) (found : List (List Bool)) → length atoms ≤ count → AreGivenBelow count found
       → (set : List Bool) → Covers found set
-          ↔ ((number : ℕ) × IsSupplied supplies set number
-          × ((atom : Fact Term) × (slice_get (map fact_of atoms) number ≡ Some atom) × Contains atom.terms term))
+      ↔ ((number : ℕ) × IsSupplied supplies set number
+      × ((atom : Fact Term) × (slice_get (map fact_of atoms) number ≡ Some atom) × Contains atom.terms term))
   given_end count found l so_far set =
       let all = some_all (Gives set) (map fact_of atoms) count (let same = length-map atoms fact_of in omega (arith, same, l)) in (
         λ h. let (number, (atom, at, (supplied, occurs))) = all.0 ((so_far set).0 h) in (number, supplied, (atom, at, occurs)),
@@ -89,8 +89,8 @@ module _ (atoms : List PlanAtom) (supplies : List Kept) (term : Term) where
 
   pub binds_other : (found : List (List Bool)) → (IsConstant term → ⊥)
       → ((set : List Bool) → Covers found set
-          ↔ ((number : ℕ) × IsSupplied supplies set number
-          × ((atom : Fact Term) × (slice_get (map fact_of atoms) number ≡ Some atom) × Contains atom.terms term)))
+      ↔ ((number : ℕ) × IsSupplied supplies set number
+      × ((atom : Fact Term) × (slice_get (map fact_of atoms) number ≡ Some atom) × Contains atom.terms term)))
       → (set : List Bool) → Covers found set ↔ IsBound (map fact_of atoms) (IsSupplied supplies set) term
   binds_other found other covers set =
       (λ h. inr ((covers set).0 h), λ bound. elim bound [ inl constant ↦ absurd (other constant) | inr given ↦ (covers set).1 given ])
@@ -148,13 +148,16 @@ module _ (atoms : List (Fact Term)) (supplies : List Kept) (number : ℕ) (atom 
 
   module _ (patterns : List (List Bool)) where
     pub met_by_start : (none : List (List Bool)) → none ≡ [] → AreMetByBelow patterns 0 none
-    met_by_start none is set = (λ h. absurd (covers_none set (subst (λ it. Covers it set) is h)), λ h. absurd
-        (some_none (λ _ pattern. Meets set pattern) patterns h))
+    met_by_start none is set = (
+      λ h. absurd (covers_none set (subst (λ it. Covers it set) is h)),
+      λ h. absurd
+          (some_none (λ _ pattern. Meets set pattern) patterns h),
+    )
 
     pub met_by_grows : (count : ℕ) (pattern : List Bool) → slice_get patterns count ≡ Some pattern → (found met after : List (List Bool))
         → ((set : List Bool) → Covers met set ↔ Meets set pattern)
         → ((set : List Bool) → Covers after set ↔ (Covers found set ⊎ Covers met set)) → AreMetByBelow patterns count found
-            → AreMetByBelow patterns (count + 1) after
+        → AreMetByBelow patterns (count + 1) after
     met_by_grows count pattern at found met after meets also so_far set =
         let step = some_step (λ _ it. Meets set it) patterns count pattern at in (
           λ h. step.1 (elim ((also set).0 h) [ inl before ↦ inl ((so_far set).0 before) | inr now ↦ inr ((meets set).0 now) ]),
@@ -164,7 +167,7 @@ module _ (atoms : List (Fact Term)) (supplies : List Kept) (number : ℕ) (atom 
     pub met_by_end : (items : List (List Bool)) → items ≡ patterns → (count : ℕ) (found : List (List Bool)) → length items ≤ count
         → AreMetByBelow items count found
         → (set : List Bool) → Covers found set
-            ↔ (Has set number × ((pattern : List Bool) × Contains patterns pattern × MeetsPattern atoms (IsSupplied supplies set) atom pattern))
+        ↔ (Has set number × ((pattern : List Bool) × Contains patterns pattern × MeetsPattern atoms (IsSupplied supplies set) atom pattern))
     met_by_end items same count found l so_far set =
         let all = some_contained (λ pattern. Meets set pattern) items count l in (
           λ h. let (pattern, inside, (has, meets)) = all.0 ((so_far set).0 h) in (has, (pattern, subst (λ its. Contains its pattern) same inside, meets)),
@@ -174,33 +177,33 @@ module _ (atoms : List (Fact Term)) (supplies : List Kept) (number : ℕ) (atom 
 -- ---- one round for one atom
 
 module _ (atoms : List PlanAtom) (fragments : List FragmentDef) (supplies : List Kept) (number : ℕ) (atom : PlanAtom) (at : slice_get atoms number ≡ Some atom)
-    where
-  one_fact : (fact : Fact Term) → slice_get (map fact_of atoms) number ≡ Some fact → fact_of atom ≡ fact
-  one_fact fact e = same_Some (fact_of atom) fact (sym (map_at fact_of atoms number atom at) ∙ e)
+  where
+    one_fact : (fact : Fact Term) → slice_get (map fact_of atoms) number ≡ Some fact → fact_of atom ≡ fact
+    one_fact fact e = same_Some (fact_of atom) fact (sym (map_at fact_of atoms number atom at) ∙ e)
 
-  no_pattern : length fragments ≤ atom.fragment → slice_index_or (patterns_of fragments) atom.fragment [] ≡ []
-  no_pattern l = get_or_past (patterns_of fragments) atom.fragment []
-      (let same = length-map fragments (λ (it : FragmentDef). it.access) in omega (arith, same, l))
+    no_pattern : length fragments ≤ atom.fragment → slice_index_or (patterns_of fragments) atom.fragment [] ≡ []
+    no_pattern l = get_or_past (patterns_of fragments) atom.fragment []
+        (let same = length-map fragments (λ (it : FragmentDef). it.access) in omega (arith, same, l))
 
-  pub next_none : (found : List (List Bool)) → found ≡ [] → length fragments ≤ atom.fragment
-      → (set : List Bool) → Covers found set ↔ IsNextIn (patterns_of fragments) (map fact_of atoms) set (IsSupplied supplies set) number
-  next_none found is l set = (
-    λ h. absurd (covers_none set (subst (λ it. Covers it set) is h)),
-    λ (has, (fact, at_fact, (pattern, own, meets))). absurd
-        (Contains-nil pattern (subst (λ its. Contains its pattern) (no_pattern l)
-        (subst (λ (it : Fact Term). Contains (slice_index_or (patterns_of fragments) it.relation []) pattern) (sym (one_fact fact at_fact)) own))),
-  )
+    pub next_none : (found : List (List Bool)) → found ≡ [] → length fragments ≤ atom.fragment
+        → (set : List Bool) → Covers found set ↔ IsNextIn (patterns_of fragments) (map fact_of atoms) set (IsSupplied supplies set) number
+    next_none found is l set = (
+      λ h. absurd (covers_none set (subst (λ it. Covers it set) is h)),
+      λ (has, (fact, at_fact, (pattern, own, meets))). absurd
+          (Contains-nil pattern (subst (λ its. Contains its pattern) (no_pattern l)
+          (subst (λ (it : Fact Term). Contains (slice_index_or (patterns_of fragments) it.relation []) pattern) (sym (one_fact fact at_fact)) own))),
+    )
 
-  pub next_some : (fragment : FragmentDef) → slice_get fragments atom.fragment ≡ Some fragment → (found : List (List Bool))
-      → ((set : List Bool) → Covers found set
-          ↔ (Has set number × ((pattern : List Bool) × Contains fragment.access pattern × MeetsPattern (map fact_of atoms) (IsSupplied supplies set)
-          (fact_of atom) pattern)))
-      → (set : List Bool) → Covers found set ↔ IsNextIn (patterns_of fragments) (map fact_of atoms) set (IsSupplied supplies set) number
-  next_some fragment there found covers set =
-      let own = patterns_at fragments atom.fragment fragment there in (
-        λ h. let (has, (pattern, inside, meets)) = (covers set).0
-            h in (has, (fact_of atom, map_at fact_of atoms number atom at, (pattern, subst (λ its. Contains its pattern) (sym own) inside, meets))),
-        λ (has, (fact, at_fact, accessible)).
-            let here = subst (IsAccessible (patterns_of fragments) (map fact_of atoms) (IsSupplied supplies set)) (sym (one_fact fact at_fact)) accessible in
-            (covers set).1 (has, (here.0, subst (λ its. Contains its here.0) own here.1, here.2)),
-      )
+    pub next_some : (fragment : FragmentDef) → slice_get fragments atom.fragment ≡ Some fragment → (found : List (List Bool))
+        → ((set : List Bool) → Covers found set
+        ↔ (Has set number × ((pattern : List Bool) × Contains fragment.access pattern × MeetsPattern (map fact_of atoms) (IsSupplied supplies set)
+        (fact_of atom) pattern)))
+        → (set : List Bool) → Covers found set ↔ IsNextIn (patterns_of fragments) (map fact_of atoms) set (IsSupplied supplies set) number
+    next_some fragment there found covers set =
+        let own = patterns_at fragments atom.fragment fragment there in (
+          λ h. let (has, (pattern, inside, meets)) = (covers set).0
+              h in (has, (fact_of atom, map_at fact_of atoms number atom at, (pattern, subst (λ its. Contains its pattern) (sym own) inside, meets))),
+          λ (has, (fact, at_fact, accessible)).
+              let here = subst (IsAccessible (patterns_of fragments) (map fact_of atoms) (IsSupplied supplies set)) (sym (one_fact fact at_fact)) accessible in
+              (covers set).1 (has, (here.0, subst (λ its. Contains its here.0) own here.1, here.2)),
+        )

@@ -58,7 +58,7 @@ module _ (patterns : Patterns) (atoms : List (Fact Term)) (set : List Bool) wher
             found.1,
             accessible_more patterns atoms (IsEarlier order place) (InRounds patterns atoms set rounds)
                 (λ earlier h. order_in_rounds within rounds h.0 earlier (omega (arith, h.1, l)) h.2) found.0
-                    (is_order.accessible place number found.0 e found.1),
+                (is_order.accessible place number found.0 e found.1),
           ),
         )
 
@@ -93,7 +93,7 @@ module _ (patterns : Patterns) (atoms : List (Fact Term)) (set : List Bool) wher
             found.1,
             accessible_more patterns atoms (IsEarlier order place) (InRounds patterns atoms set rounds)
                 (λ earlier h. order_in_closed within (InRounds patterns atoms set rounds) closed (suc h.0) h.0 earlier (omega arith) h.2) found.0
-                    (is_order.accessible place number found.0 e found.1),
+                (is_order.accessible place number found.0 e found.1),
           ),
         )
 

@@ -94,7 +94,7 @@ module _ (patterns : Patterns) (atoms : List (Fact Term)) (set : List Bool) wher
         least = λ place at e lesser atom below has there accessible. elim (at_pushed order number place at e) [
           | inl old ↦ earlier_kept order number place lesser (run.least place at old lesser atom below has there
               (accessible_more patterns atoms _ _ (λ other h. earlier_before order number place other (omega (arith, slice_get_within order place at old)) h)
-                  atom accessible))
+              atom accessible))
           | inr last ↦ earlier_kept order number place lesser (anywhere_earlier order place lesser (omega (arith, last.0)) (elim (decided_has part lesser) [
             | inl chosen ↦ (named lesser).1 chosen
             | inr left ↦ absurd (first.least lesser (subst (λ n. lesser < n) (sym last.1) below) (record {
@@ -103,8 +103,8 @@ module _ (patterns : Patterns) (atoms : List (Fact Term)) (set : List Bool) wher
               absent = λ h. left ((named lesser).0 h);
               ready = λ other d. subst (IsAccessible patterns atoms (Contains order)) (same_Some atom other (sym there ∙ d))
                   (accessible_more patterns atoms _ _
-                      (λ earlier h. earlier_anywhere order place earlier (earlier_before order number place earlier (omega (arith, last.0)) h)) atom
-                      accessible);
+                  (λ earlier h. earlier_anywhere order place earlier (earlier_before order number place earlier (omega (arith, last.0)) h)) atom
+                  accessible);
             }))
           ]))
         ];

@@ -45,8 +45,12 @@ module _ (patterns : Patterns) (atoms : List (Fact Term)) where
 
     module _ (next : List Kept) (made : AreMadeBelow (length atoms) next) where
       pub made_supplies : AreSupplies atoms next
-      made_supplies = record { each = made.0; counts = λ number products at. (made.1 number products at).count; kept = λ number products at.
-          ((made.1 number products at).over, (made.1 number products at).antichain) }
+      made_supplies = record {
+        each = made.0;
+        counts = λ number products at. (made.1 number products at).count;
+        kept = λ number products at.
+            ((made.1 number products at).over, (made.1 number products at).antichain);
+      }
 
       pub made_round : AreOneRound patterns atoms supplies next
       made_round set number = elim (cases_lt number (length next)) [
@@ -159,12 +163,12 @@ module _ (before after : List Kept) (number : ℕ) (own other : Kept) (at : slic
       → IsSupplied before set number
   nothing_here covers set supplied =
       subst (λ it. Covers it set) (sym (sets_there before number own at))
-          (covers set (subst (λ it. Covers it set) (sets_there after number other at') supplied))
+      (covers set (subst (λ it. Covers it set) (sets_there after number other at') supplied))
 
   pub here_nothing : AddNothing before after → (set : List Bool) → Covers other.sets set → Covers own.sets set
   here_nothing nothing set covered =
       subst (λ it. Covers it set) (sets_there before number own at)
-          (nothing set number (subst (λ it. Covers it set) (sym (sets_there after number other at')) covered))
+      (nothing set number (subst (λ it. Covers it set) (sym (sets_there after number other at')) covered))
 
 pub nothing_at_all : (before after : List Kept) (count : ℕ) → length after ≤ count → AddNothingBelow before after count → AddNothing before after
 nothing_at_all before after count l so_far set number supplied =

@@ -94,7 +94,7 @@ module _ (query target : ConjunctiveQuery) (start : Assignment) (is_start : own.
 
 pub mapped-at : (query : ConjunctiveQuery) (head other_head : List Term) (body other_body : List (Fact Term)) → head ≡ other_head → body ≡ other_body
     → (answer : Bool) → IsTrue answer ↔ MapsTo query (record { head = head; body = body })
-        → IsTrue answer ↔ MapsTo query (record { head = other_head; body = other_body })
+    → IsTrue answer ↔ MapsTo query (record { head = other_head; body = other_body })
 mapped-at query head other_head body other_body same_head same_body answer says =
     subst (λ facts. IsTrue answer ↔ MapsTo query (record { head = other_head; body = facts })) same_body
     (subst (λ row. IsTrue answer ↔ MapsTo query (record { head = row; body = body })) same_head says)
@@ -158,8 +158,12 @@ module _ (plan : Plan) (fragments : List FragmentDef) (expanded : List ExpandedF
   chosen-starts flat sound = record {
     flat_body = λ term (fact, there, inside).
         let from = chosen-from set expanded fact ((chosen-in_start fact).0 there) in
-        flat term (from.0.fact, Contains-map (λ (it : ExpandedFact). it.fact) expanded from.0 from.1, subst (λ (it : Fact Term). Contains it.terms term)
-            (sym from.3) inside);
+        flat term (
+          from.0.fact,
+          Contains-map (λ (it : ExpandedFact). it.fact) expanded from.0 from.1,
+          subst (λ (it : Fact Term). Contains it.terms term)
+              (sym from.3) inside,
+        );
     flat_head = λ term inside. named-flat plan term (sound.named_head term inside);
   }
 

@@ -33,9 +33,11 @@ module _ (supplies : List Kept) (low : List Bool) where
               | inr apart ↦ elim apart [ inl earlier ↦ before.1 number earlier in_low | inr after ↦ absurd (omega (arith, below, after)) ]
             ],
           ),
-          λ (within, each). (both set).1
-              ((so_far set).1 (within, λ number below in_low. each number (omega (arith, below)) in_low), subst (λ it. Covers it set) own
-              (each count (omega arith) has)),
+          λ (within, each). (both set).1 (
+            (so_far set).1 (within, λ number below in_low. each number (omega (arith, below)) in_low),
+            subst (λ it. Covers it set) own
+                (each count (omega arith) has),
+          ),
         )
 
     -- where the number is not in the low set, or is supplied in it
@@ -75,7 +77,7 @@ module _ (supplies : List Kept) (lows : List (List Bool)) where
 
   pub all_completed_grows : (count : ℕ) (low : List Bool) → slice_get lows count ≡ Some low → (found completed after : List (List Bool))
       → CoversWhere (IsCompletedIn supplies low) completed → CoversEither found completed after → AreAllCompletedBelow count found
-          → AreAllCompletedBelow (count + 1) after
+      → AreAllCompletedBelow (count + 1) after
   all_completed_grows count low at found completed after completes also so_far set =
       let step = some_step (λ _ it. IsCompletedIn supplies it set) lows count low at in (
         λ h. step.1 (elim ((also set).0 h) [ inl before ↦ inl ((so_far set).0 before) | inr now ↦ inr ((completes set).0 now) ]),

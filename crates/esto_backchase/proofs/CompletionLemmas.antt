@@ -79,7 +79,7 @@ module _ (count : ℕ) where
       [ inl is ↦ sym (ap length is) ∙ length-replicate count false | inr later ↦ absurd (Contains-nil set later) ]
   combined-count (first ∷ families) own set inside =
       unions-count first (combined count families) (own first (Contains-head first families))
-          (combined-count families (λ family there. own family (Contains-rest first families family there))) set inside
+      (combined-count families (λ family there. own family (Contains-rest first families family there))) set inside
 
   module _ (supplies : List Kept) (over : EachIs (λ _ products. AreOf products.sets) supplies) where
     supplied-count : (number : ℕ) → AreOf (sets_at supplies number)
@@ -91,11 +91,11 @@ module _ (count : ℕ) where
     completions-count [] set inside = absurd (Contains-nil set inside)
     completions-count (first ∷ lows) set inside = elim
         (Contains-append_cases (completions_of count supplies first) (completions count supplies lows) set inside) [
-      | inl here ↦ combined-count (map (sets_at supplies) (numbers first)) (λ family there it at.
-          let from = Contains-map_from (sets_at supplies) (numbers first) family there in supplied-count from.0 it
+          | inl here ↦ combined-count (map (sets_at supplies) (numbers first)) (λ family there it at.
+              let from = Contains-map_from (sets_at supplies) (numbers first) family there in supplied-count from.0 it
               (subst (λ fam. Contains fam it) (sym from.2) at)) set here
-      | inr later ↦ completions-count lows set later
-    ]
+          | inr later ↦ completions-count lows set later
+        ]
 
     pub completions-over : (lows : List (List Bool)) → AreOver count (completions count supplies lows)
     completions-over lows k d below = completions-count lows (slice_index_or (completions count supplies lows) k d)
@@ -105,10 +105,10 @@ module _ (count : ℕ) where
 pub completed_is_minimal : (count : ℕ) (supplies : List Kept) → EachIs (λ _ products. AreOver count products.sets) supplies → (lows found : List (List Bool))
     → AreOver count found → IsAntichain found
     → ((set : List Bool) → Covers found set ↔ IsOneCompletedIn supplies lows set) → (set : List Bool)
-        → Contains found set ↔ IsMinimal (Contains (completions count supplies lows)) set
+    → Contains found set ↔ IsMinimal (Contains (completions count supplies lows)) set
 completed_is_minimal count supplies over lows found found_over antichain covers set =
     let each : EachIs (λ _ products. AreOf count products.sets) supplies =
-        (λ number products at it inside. All-contains (λ one. length one ≡ count) products.sets it (over number products at) inside) in
+    (λ number products at it inside. All-contains (λ one. length one ≡ count) products.sets it (over number products at) inside) in
     let own = antichain_is_minimal count P (λ it h. h.0) found found_over (λ it l. (λ h. (l, (covers it).0 h), λ h. (covers it).1 h.1)) antichain set in
     let told = told_are_minimal count P (λ it h. h.0) (completions count supplies lows) (completions-over count supplies each lows)
     (λ it l. let all = covers_completions count supplies lows it in (λ h. (l, all.0 h), λ h. all.1 h.1)) set in
@@ -127,7 +127,7 @@ module _ (exist : PartExists) (patterns : Patterns) (atoms : List (Fact Term)) (
   supplied set over number below =
       let there = thing_at supplies number (omega (arith, are.each, below)) in
       subst (λ its. Covers its set ↔ IsReachedIn patterns atoms number set) (sym (sets_there supplies number there.0 there.1))
-          (are.tell number there.0 there.1 set over)
+      (are.tell number there.0 there.1 set over)
 
   -- one of the sets is completed in a set of the atoms exactly where P holds of its accessible part
   completed_tells : (set : List Bool) → length set ≡ length atoms → IsOneCompletedIn supplies sets set ↔ HoldsOfPart patterns atoms P set
@@ -164,7 +164,7 @@ module _ (exist : PartExists) (patterns : Patterns) (atoms : List (Fact Term)) (
   executable_by_completion set =
       let parts = minimal_of_parts patterns atoms P set in
       let each : EachIs (λ _ products. AreOf (length atoms) products.sets) supplies =
-          (λ number products at it inside. (((are.least number products at it).0 inside).0).over) in
+      (λ number products at it inside. (((are.least number products at it).0 inside).0).over) in
       let told = told_are_minimal (length atoms) (HoldsOfPart patterns atoms P) (λ it of_part. of_part.over) (completions (length atoms) supplies sets)
       (completions-over (length atoms) supplies each sets)
       (λ it over.

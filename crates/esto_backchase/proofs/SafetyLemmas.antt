@@ -32,8 +32,16 @@ module _ (atoms : List PlanAtom) (set : List Bool) (term : Term) where
   pub bound-here : (number : ℕ) (atom : PlanAtom) → number < length atoms → atom ≡ get_or atoms number atom → Has set number → Contains atom.terms term
       → IsBound (map fact_of atoms) (Has set) term
   bound-here number atom within is has inside =
-      inr (number, has, (fact_of atom, slice_get-map fact_of atoms number
-          ∙ ap (option_map fact_of) (slice_get-get_or atoms number atom within ∙ ap Some (sym is)), inside))
+      inr (
+        number,
+        has,
+        (
+          fact_of atom,
+          slice_get-map fact_of atoms number
+              ∙ ap (option_map fact_of) (slice_get-get_or atoms number atom within ∙ ap Some (sym is)),
+          inside,
+        ),
+      )
 
   -- a term that is bound by an atom is in an atom of the set
   pub bound-from : (number : ℕ) (fact : Fact Term) → slice_get (map fact_of atoms) number ≡ Some fact → Contains fact.terms term

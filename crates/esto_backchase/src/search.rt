@@ -21,6 +21,19 @@ fn with_number(alloc: Global, set: &RowBits, number: usize) -> Result<RowBits, O
     Ok(more)
 }
 
+/// The set with all numbers of a range.
+fn with_range(alloc: Global, set: &RowBits, from: usize, to: usize) -> Result<RowBits, OutOfMemory>
+    requires { to ≤ length set.now }
+    ensures count { IfOk result (λ it. length it ≡ length set.now) }
+    ensures within { IfOk result (Within set.now) }
+{
+    let mut more = set.copy(alloc)?;
+    'numbers: for number in from..to {
+        more.insert(number);
+    }
+    Ok(more)
+}
+
 /// A copy of the first of the sets that has the set's numbers, if there is one.
 fn superset_in(
     alloc: Global,
@@ -67,40 +80,36 @@ fn absent_in_both(alloc: Global, set: &RowBits, other: &RowBits) -> Result<Place
 }
 
 impl Search<'_> {
-    /// The set with the number too where it still does not answer the query, and else the set.
-    fn grown_by(&self, alloc: Global, set: &RowBits, number: usize) -> Result<RowBits, OutOfMemory>
+    /// The set grown by numbers from a range, as far as it does not answer the query: by the whole range, or else by its
+    /// first half and then by its second.
+    fn grown(
+        &self,
+        alloc: Global,
+        set: &RowBits,
+        from: usize,
+        to: usize,
+    ) -> Result<RowBits, OutOfMemory>
         requires search { IsSearch self.now.catalogue.now self.now.query.now self.now.plan.now
             self.now.expanded.now }
         requires count { length set.now ≡ length self.now.plan.now.atoms }
         requires fails { ¬ (Answers self.now.catalogue.now self.now.query.now self.now.plan.now
             set.now) }
-        requires in_range { number < length set.now }
+        requires in_range { to ≤ length set.now }
         ensures { IfOk result (FailsWith (length self.now.plan.now.atoms)
             (Answers self.now.catalogue.now self.now.query.now self.now.plan.now) set.now) }
     {
-        let more = with_number(alloc, set, number)?;
-        if self.answers(alloc, &more)? {
+        let more = with_range(alloc, set, from, to)?;
+        if !self.answers(alloc, &more)? {
+            return Ok(more);
+        }
+        if to <= from || to - from == 1 {
             let same = set.copy(alloc)?;
             return Ok(same);
         }
-        Ok(more)
-    }
-
-    /// The set grown by one number after the other, as far as it does not answer the query.
-    fn grown(&self, alloc: Global, set: &RowBits) -> Result<RowBits, OutOfMemory>
-        requires search { IsSearch self.now.catalogue.now self.now.query.now self.now.plan.now
-            self.now.expanded.now }
-        requires count { length set.now ≡ length self.now.plan.now.atoms }
-        requires fails { ¬ (Answers self.now.catalogue.now self.now.query.now self.now.plan.now
-            set.now) }
-        ensures { IfOk result (FailsWith (length self.now.plan.now.atoms)
-            (Answers self.now.catalogue.now self.now.query.now self.now.plan.now) set.now) }
-    {
-        let mut failed = set.copy(alloc)?;
-        'numbers: for number in 0..set.count() {
-            failed = self.grown_by(alloc, &failed, number)?;
-        }
-        Ok(failed)
+        let middle = from + (to - from) / 2;
+        let half = self.grown(alloc, set, from, middle)?;
+        let both = self.grown(alloc, &half, middle, to)?;
+        Ok(both)
     }
 
     /// A set that has the set's numbers and does not answer the query: a known one, or the set grown, which is known
@@ -130,7 +139,7 @@ impl Search<'_> {
         if self.answers(alloc, set)? {
             return Ok(None);
         }
-        let failed = self.grown(alloc, set)?;
+        let failed = self.grown(alloc, set, 0, set.count())?;
         failing.push(failed.copy(alloc)?)?;
         Ok(Some(failed))
     }

@@ -34,7 +34,8 @@ module _ (plan : Plan) (fragments : List FragmentDef) (expanded : List ExpandedF
   spread-flat : (number : ℕ) (atom : Fact Term) → number < length (plan_query plan).body → slice_get (plan_query plan).body number ≡ Some atom
       → (term : Term) → Mentions (expands.of.view number).body term → IsFlat (expands.of.spread number term)
   spread-flat number atom below at term mentioned =
-      let source = map_at-from (λ (fragment : FragmentDef). query_of fragment.view) fragments atom.relation (expands.of.view number) (expands.of.has_view number atom at) in
+      let source = map_at-from (λ (fragment : FragmentDef). query_of fragment.view) fragments atom.relation (expands.of.view number)
+      (expands.of.has_view number atom at) in
       let own : IsFlat term = (queries source.0.view).query.flat_body term (subst (λ view. Mentions view.body term) (sym source.2) mentioned) in
       by own (decided_contains decided_term (expands.of.view number).head term)
     where
@@ -45,7 +46,7 @@ module _ (plan : Plan) (fragments : List FragmentDef) (expanded : List ExpandedF
             atom,
             Contains-at (plan_query plan).body number atom at,
             subst (λ terms. Contains terms (expands.of.spread number term)) (expands.of.head number atom at)
-            (Contains-map (expands.of.spread number) (expands.of.view number).head term in_head),
+                (Contains-map (expands.of.spread number) (expands.of.view number).head term in_head),
           )
       by (inr (plain, is)) (inr outside) = inr (expands.of.variable number term below (record {
         in_body = mentioned;
@@ -56,6 +57,7 @@ module _ (plan : Plan) (fragments : List FragmentDef) (expanded : List ExpandedF
   pub expanded-flat : AreFlat (facts_of expanded)
   expanded-flat term (fact, there, inside) =
       let from = (expands.of.facts fact).0 there in
-      let source = Contains-map_from (expands.of.spread from.0) from.2.0.terms term (subst (λ (it : Fact Term). Contains it.terms term) (sym from.2.2) inside) in
+      let source = Contains-map_from (expands.of.spread from.0) from.2.0.terms term
+      (subst (λ (it : Fact Term). Contains it.terms term) (sym from.2.2) inside) in
       let at = thing_at (plan_query plan).body from.0 from.1 in
       subst IsFlat source.2 (spread-flat from.0 at.0 from.1 at.1 source.0 (from.2.0, from.2.1, source.1))

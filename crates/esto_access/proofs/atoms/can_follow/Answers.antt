@@ -7,5 +7,5 @@ use Rattle.esto_access.proofs.atoms.can_follow.Goals as goal
 pub returns : goal.returns
 returns c =
     follows c.args.plan.now.atoms c.args.number c.item.result.now c.item.ensures (patterns_of c.args.fragments.now) c.args.set.now c.args.earlier.now
-        c.is_accessible.result
+    c.is_accessible.result
     (c.has.ensures.0 c.if-not-has.false) (λ named. false≢true (sym c.if-is_named.false ∙ c.is_named.ensures.1 named)) c.is_accessible.ensures

@@ -9,8 +9,11 @@ use Rattle.esto_access.proofs.atoms.is_bound.Goals as goal
 
 pub returns-then-occurs_at : goal.returns-then-occurs_at
 returns-then-occurs_at c = (
-  λ _. inr (get_or c.args.earlier.now c.numbers.number-index 0, Contains-get_or c.args.earlier.now c.numbers.number-index 0 c.numbers-test.true,
-      c.occurs_at.ensures.0 c.if-occurs_at.true),
+  λ _. inr (
+    get_or c.args.earlier.now c.numbers.number-index 0,
+    Contains-get_or c.args.earlier.now c.numbers.number-index 0 c.numbers-test.true,
+    c.occurs_at.ensures.0 c.if-occurs_at.true,
+  ),
   λ _. refl,
 )
 

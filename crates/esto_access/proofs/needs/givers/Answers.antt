@@ -12,7 +12,7 @@ atoms-preserved c =
     elim c.if-has_term.branch [
       | then-has_term+in_ok-add_all w ↦
           subst (λ (it : Kept). (it.count ≡ length c.args.plan.now.atoms) × AreGivenBelow c.args.plan.now.atoms c.args.supplies.now c.args.term.now
-              (c.atoms.number + 1) it.sets) (sym w.found-is) (
+          (c.atoms.number + 1) it.sets) (sym w.found-is) (
             w.add_all.ensures.count ∙ c.atoms.invariant.0,
             given_grows c.args.plan.now.atoms c.args.supplies.now c.args.term.now c.atoms.number c.item.result.now c.item.ensures c.atoms.found.sets
                 c.atoms.invariant.1 (told.0 w.if-has_term.true)
@@ -20,7 +20,7 @@ atoms-preserved c =
           )
       | else-has_term w ↦
           subst (λ (it : Kept). (it.count ≡ length c.args.plan.now.atoms) × AreGivenBelow c.args.plan.now.atoms c.args.supplies.now c.args.term.now
-              (c.atoms.number + 1) it.sets) (sym w.found-is) (
+          (c.atoms.number + 1) it.sets) (sym w.found-is) (
             c.atoms.invariant.0,
             given_stays c.args.plan.now.atoms c.args.supplies.now c.args.term.now c.atoms.number c.item.result.now c.item.ensures c.atoms.found.sets
                 c.atoms.invariant.1

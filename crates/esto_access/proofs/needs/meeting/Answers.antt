@@ -22,16 +22,16 @@ columns-preserved c =
     elim c.if-is_input.branch [
       | then-is_input+in_ok-bound+in_ok-found-2 w ↦
           subst (λ (it : Kept). (it.count ≡ length c.args.plan.now.atoms) × AreMetBelow (plan_query c.args.plan.now).body c.args.supplies.now c.args.number
-              (fact_of c.args.atom.now) c.args.pattern.now (c.columns.column + 1) it.sets) (sym w.found-is) (
+          (fact_of c.args.atom.now) c.args.pattern.now (c.columns.column + 1) it.sets) (sym w.found-is) (
             w.in_ok-found-2.ensures.count ∙ c.columns.invariant.0,
             met_grows (plan_query c.args.plan.now).body c.args.supplies.now c.args.number (fact_of c.args.atom.now) c.args.pattern.now c.columns.column
                 c.term-item.result at c.columns.found.sets c.columns.invariant.1
                 (c.is_input.ensures.0 w.if-is_input.true) w.in_ok-bound.bound.sets w.in_ok-found-2.found.sets w.in_ok-bound.ensures.covers
-                    w.in_ok-found-2.ensures.covers,
+                w.in_ok-found-2.ensures.covers,
           )
       | else-is_input w ↦
           subst (λ (it : Kept). (it.count ≡ length c.args.plan.now.atoms) × AreMetBelow (plan_query c.args.plan.now).body c.args.supplies.now c.args.number
-              (fact_of c.args.atom.now) c.args.pattern.now (c.columns.column + 1) it.sets) (sym w.found-is) (
+          (fact_of c.args.atom.now) c.args.pattern.now (c.columns.column + 1) it.sets) (sym w.found-is) (
             c.columns.invariant.0,
             met_stays (plan_query c.args.plan.now).body c.args.supplies.now c.args.number (fact_of c.args.atom.now) c.args.pattern.now c.columns.column
                 c.term-item.result at c.columns.found.sets c.columns.invariant.1
@@ -42,5 +42,5 @@ columns-preserved c =
 pub returns-clause-covers : goal.returns-clause-covers
 returns-clause-covers c =
     met_end (plan_query c.args.plan.now).body c.args.supplies.now c.args.number (fact_of c.args.atom.now) c.args.pattern.now c.columns.column
-        c.columns.found.sets
+    c.columns.found.sets
     (subst (λ items. length items ≤ c.columns.column) c.items-term-items.ensures c.columns-test.false) c.columns.invariant.1

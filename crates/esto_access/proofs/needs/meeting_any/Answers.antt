@@ -10,12 +10,12 @@ patterns-preserved c =
       met_by_grows (plan_query c.args.plan.now).body c.args.supplies.now c.args.number (fact_of c.args.atom.now) items c.patterns.pattern-index
           c.pattern-item.result
           (read_at items items refl c.patterns.pattern-index c.pattern-item.result c.patterns-test.true c.pattern-item.is) c.patterns.found.sets
-              c.in_ok-met.met.sets c.add_all.new.self.sets c.in_ok-met.ensures.covers
+          c.in_ok-met.met.sets c.add_all.new.self.sets c.in_ok-met.ensures.covers
           c.in_ok-add_all.ensures.covers c.patterns.invariant.1,
     )
 
 pub returns-clause-covers : goal.returns-clause-covers
 returns-clause-covers c =
     met_by_end (plan_query c.args.plan.now).body c.args.supplies.now c.args.number (fact_of c.args.atom.now) c.args.patterns.now
-        c.items-pattern-items.result.now c.items-pattern-items.ensures c.patterns.pattern-index
+    c.items-pattern-items.result.now c.items-pattern-items.ensures c.patterns.pattern-index
     c.patterns.found.sets c.patterns-test.false c.patterns.invariant.1

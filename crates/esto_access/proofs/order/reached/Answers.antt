@@ -8,11 +8,11 @@ use Rattle.esto_access.proofs.order.reached.Goals as goal
 pub of-requires : goal.of-requires
 of-requires c =
     numbers_below (patterns_of c.args.fragments.now) (plan_query c.args.plan.now).body c.args.set.now _ c.items.result.now c.items.ensures
-        c.in_ok-order.ensures.stuck c.in_ok-order.ensures.run
+    c.in_ok-order.ensures.stuck c.in_ok-order.ensures.run
     c.len.result (c.len.ensures ∙ sym (length-map c.args.plan.now.atoms fact_of))
 
 pub returns : goal.returns
 returns c =
     part_of_run (patterns_of c.args.fragments.now) (plan_query c.args.plan.now).body c.args.set.now _ c.items.result.now c.items.ensures
-        c.in_ok-order.ensures.stuck c.in_ok-order.ensures.run
+    c.in_ok-order.ensures.stuck c.in_ok-order.ensures.run
     c.in_ok-part.part (c.in_ok-part.ensures.count ∙ c.len.ensures ∙ sym (length-map c.args.plan.now.atoms fact_of)) c.in_ok-part.ensures.has

@@ -12,11 +12,11 @@ turns-init c =
 pub turns-smaller : goal.turns-smaller
 turns-smaller c =
     room_shrinks (patterns_of c.args.fragments.now) (plan_query c.args.plan.now).body c.args.set.now c.turns.order c.push.new.self c.items.result.now
-        c.items.ensures c.in-Some.number c.in-Some.ensures
+    c.items.ensures c.in-Some.number c.in-Some.ensures
     c.in_ok-push.ensures.ok c.turns.invariant
 
 pub turns-preserved : goal.turns-preserved
 turns-preserved c =
     run_grows (patterns_of c.args.fragments.now) (plan_query c.args.plan.now).body c.args.set.now c.turns.order c.push.new.self c.items.result.now
-        c.items.ensures c.in-Some.number c.in-Some.ensures
+    c.items.ensures c.in-Some.number c.in-Some.ensures
     c.in_ok-push.ensures.ok c.turns.invariant

@@ -8,7 +8,7 @@ returns-then-not-covers_all c = (
   λ never. absurd (false≢true never),
   λ nothing. absurd (false≢true (sym c.if-not-covers_all.true ∙ c.covers_all.ensures.1
       (here_nothing c.args.before.now c.args.after.now c.numbers.number c.item.result.now c.item-in-numbers.result.now c.item.ensures c.item-in-numbers.ensures
-          nothing))),
+      nothing))),
 )
 
 pub numbers-preserved : goal.numbers-preserved

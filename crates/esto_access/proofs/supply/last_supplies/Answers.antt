@@ -8,17 +8,17 @@ use Rattle.esto_access.proofs.supply.last_supplies.Goals as goal
 pub rounds-init : goal.rounds-init
 rounds-init c =
     after_none (patterns_of c.args.fragments.now) (plan_query c.args.plan.now).body c.len.result c.in_ok-supplies.supplies
-        (c.len.ensures ∙ sym (length-map c.args.plan.now.atoms fact_of)) c.in_ok-supplies.ensures
+    (c.len.ensures ∙ sym (length-map c.args.plan.now.atoms fact_of)) c.in_ok-supplies.ensures
 
 pub rounds-preserved : goal.rounds-preserved
 rounds-preserved c =
     after_more (patterns_of c.args.fragments.now) (plan_query c.args.plan.now).body c.rounds._round c.rounds.supplies c.in_ok-next.next c.rounds.invariant
-        c.in_ok-next.ensures.supplies c.in_ok-next.ensures.round
+    c.in_ok-next.ensures.supplies c.in_ok-next.ensures.round
 
 pub returns-then-adds_nothing-clause-tell : goal.returns-then-adds_nothing-clause-tell
 returns-then-adds_nothing-clause-tell c =
     last_tells (patterns_of c.args.fragments.now) (plan_query c.args.plan.now).body c.rounds_are_enough.ensures.last c.rounds._round c.rounds.supplies
-        c.in_ok-next.next c.rounds.invariant.1 c.in_ok-next.ensures.round
+    c.in_ok-next.next c.rounds.invariant.1 c.in_ok-next.ensures.round
     (c.adds_nothing.ensures.0 c.if-adds_nothing.true)
 
 pub returns-clause-tell : goal.returns-clause-tell

@@ -8,7 +8,7 @@ use Rattle.esto_access.proofs.supply.next_supplies.Goals as goal
 pub numbers-preserved : goal.numbers-preserved
 numbers-preserved c =
     made_grows (patterns_of c.args.fragments.now) (plan_query c.args.plan.now).body c.args.supplies.now c.numbers.number c.numbers.next c.push.new.self
-        c.in_ok-next_products.field-0 c.in_ok-push.ensures.ok
+    c.in_ok-next_products.field-0 c.in_ok-push.ensures.ok
     (record {
       count = c.in_ok-next_products.ensures.count ∙ sym (length-map c.args.plan.now.atoms fact_of);
       over = c.in_ok-next_products.ensures.kept.0;

@@ -11,14 +11,14 @@ first_match-requires c = row-flat c.args.terms.now c.in_ok-body.body c.in_ok-bod
 pub returns-in-Some : goal.returns-in-Some
 returns-in-Some c =
     match-starts c.args.terms.now c.args.targets.now c.in_ok-body.body c.in_ok-facts.facts c.in_ok-body.ensures c.in_ok-facts.ensures c.new-start.result
-        c.new-start.ensures
+    c.new-start.ensures
     c.valuations_are_maps.ensures.keeps c.valuations_are_maps.ensures.extends c.in-Some.found.valuation c.in-Some.found.places
     (subst (λ outcome. IfSome outcome
-        (λ (found : Found). IsLeastMatch c.in_ok-body.body c.in_ok-facts.facts c.new-start.result (λ _. ⊤) found.valuation found.places)) c.in-Some.is
-        c.in_ok-found.ensures.found)
+    (λ (found : Found). IsLeastMatch c.in_ok-body.body c.in_ok-facts.facts c.new-start.result (λ _. ⊤) found.valuation found.places)) c.in-Some.is
+    c.in_ok-found.ensures.found)
 
 pub returns : goal.returns
 returns c =
     none-starts c.args.terms.now c.args.targets.now c.in_ok-body.body c.in_ok-facts.facts c.in_ok-body.ensures c.in_ok-facts.ensures c.new-start.result
-        c.new-start.ensures
+    c.new-start.ensures
     (subst (λ outcome. IfNone outcome (HasNoMatch c.in_ok-body.body c.in_ok-facts.facts c.new-start.result (λ _. ⊤))) c.in-None.is c.in_ok-found.ensures.none)

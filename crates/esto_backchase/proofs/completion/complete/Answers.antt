@@ -13,7 +13,7 @@ sets-preserved c =
       c.add_all.ensures.count ∙ c.sets.invariant.0,
       all_completed_grows c.args.supplies.now items c.sets.low-index c.low-item.result
           (read_at items items refl c.sets.low-index c.low-item.result c.sets-test.true c.low-item.is) c.sets.found.sets c.in_ok-completed.completed.sets
-              c.add_all.new.self.sets
+          c.add_all.new.self.sets
           c.in_ok-completed.ensures.covers c.in_ok-add_all.ensures.covers c.sets.invariant.1,
     )
 

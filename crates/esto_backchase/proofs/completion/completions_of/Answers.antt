@@ -11,7 +11,7 @@ pub numbers-preserved : goal.numbers-preserved
 numbers-preserved c = elim c.if-has.branch [
   | then-has+then-not-covered+in_ok-found-2 w ↦
       subst (λ (it : Kept). (it.count ≡ length c.args.low.now) × AreCompletedBelow c.args.supplies.now c.args.low.now (c.numbers.number + 1) it.sets)
-          (sym w.found-is) (
+      (sym w.found-is) (
         w.in_ok-found-2.ensures.count ∙ c.numbers.invariant.0,
         completed_grows c.args.supplies.now c.args.low.now c.numbers.number c.numbers.found.sets c.numbers.invariant.1 (c.has.ensures.0 w.if-has.true)
             w.item-then-not-covered.result.now w.item-then-not-covered.ensures
@@ -19,12 +19,12 @@ numbers-preserved c = elim c.if-has.branch [
       )
   | else-has w ↦
       subst (λ (it : Kept). (it.count ≡ length c.args.low.now) × AreCompletedBelow c.args.supplies.now c.args.low.now (c.numbers.number + 1) it.sets)
-          (sym w.found-is) (
+      (sym w.found-is) (
         c.numbers.invariant.0,
         completed_stays c.args.supplies.now c.args.low.now c.numbers.number c.numbers.found.sets c.numbers.invariant.1 (λ has. elim w.else-has.branch [
           | else-has-via-then-has+else-not-covered w' ↦
               subst (λ its. Covers its c.args.low.now) (sym (sets_there c.args.supplies.now c.numbers.number w'.item.result.now w'.item.ensures))
-                  (w'.covered.ensures.0 w'.if-not-covered.false)
+              (w'.covered.ensures.0 w'.if-not-covered.false)
           | else-has-via-else-has w' ↦ absurd (false≢true (sym w'.if-has.false ∙ c.has.ensures.1 has))
         ]),
       )
@@ -33,4 +33,4 @@ numbers-preserved c = elim c.if-has.branch [
 pub returns-clause-covers : goal.returns-clause-covers
 returns-clause-covers c =
     completed_end c.args.supplies.now c.args.low.now c.requires.own c.numbers.number c.numbers.found.sets
-        (omega (arith, c.numbers-test.false, c.count-number-end.ensures)) c.numbers.invariant.1
+    (omega (arith, c.numbers-test.false, c.count-number-end.ensures)) c.numbers.invariant.1

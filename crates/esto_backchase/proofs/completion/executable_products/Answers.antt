@@ -27,10 +27,14 @@ returns-clause-minimal c set =
     let same : length body ≡ c.args.products.now.count = length-map c.args.plan.now.atoms fact_of ∙ sym c.requires in
     let law =
     executable_by_completion c.executable_sets_unite.ensures.part (patterns_of c.args.fragments.now) body (Covers c.args.products.now.sets)
-        c.args.products.now.sets
+    c.args.products.now.sets
     (λ it over. (λ covered. covered, λ covered. covered)) c.in_ok-supplies.supplies
-    (record { each = c.in_ok-supplies.ensures.count
-        ∙ sym (length-map c.args.plan.now.atoms fact_of); least = c.in_ok-supplies.ensures.least; tell = c.in_ok-supplies.ensures.tell }) set in
+    (record {
+      each = c.in_ok-supplies.ensures.count
+          ∙ sym (length-map c.args.plan.now.atoms fact_of);
+      least = c.in_ok-supplies.ensures.least;
+      tell = c.in_ok-supplies.ensures.tell;
+    }) set in
     let here = subst (λ count. Contains c.in_ok-found.found.sets set ↔ IsMinimal
-        (Contains (completions count c.in_ok-supplies.supplies c.args.products.now.sets)) set) (sym same) (c.in_ok-found.ensures.minimal set) in
+    (Contains (completions count c.in_ok-supplies.supplies c.args.products.now.sets)) set) (sym same) (c.in_ok-found.ensures.minimal set) in
     (λ inside. law.1 (here.0 inside), λ minimal. here.1 (law.0 minimal))

@@ -18,12 +18,12 @@ returns-clause-listed c set =
     let views = views_of c.args.catalogue.now.fragments in
     let sound = c.plans_are_sound.ensures c.args.plan.now in
     let is_plan : IsPlanFor query plan = record
-        { same_length = c.requires.same_length; has_head = sound.has_head; flat_body = plan-flat c.args.plan.now sound } in
+    { same_length = c.requires.same_length; has_head = sound.has_head; flat_body = plan-flat c.args.plan.now sound } in
     let told : TellHolds (length plan.body) (AnswersQuery rules views query plan) c.in_ok-answering.answering.sets =
     c.listed_sets_are_executable.ensures.told rules views query plan is_plan c.requires.universal c.in_ok-answering.answering.sets
-        c.in_ok-answering.ensures.minimal in
+    c.in_ok-answering.ensures.minimal in
     let listed = c.listed_sets_are_executable.ensures.executable rules views (patterns_of c.args.catalogue.now.fragments) query plan
-        c.in_ok-answering.answering.sets told set in
+    c.in_ok-answering.answering.sets told set in
     let found = c.in_ok-found.ensures.minimal set in
     (λ inside. listed.1 (found.0 inside), λ is_listed. found.1 (listed.0 is_listed))
 
@@ -35,7 +35,7 @@ returns-clause-complete c other rewriting =
     let views = views_of c.args.catalogue.now.fragments in
     let patterns = patterns_of c.args.catalogue.now.fragments in
     let onto = c.rewritings_map_onto_sets.ensures rules views patterns query plan other (plan-flat c.args.plan.now (c.plans_are_sound.ensures c.args.plan.now))
-        c.requires.universal
+    c.requires.universal
     c.requires.satisfiable rewriting in (
       onto.0,
       onto.2,

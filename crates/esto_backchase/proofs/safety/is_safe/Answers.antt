@@ -13,16 +13,16 @@ returns-then-not-is_fixed c = (
   λ safe.
       let term = c.term-item.result in
       let inside = subst (λ terms. Contains terms term) c.items-term-items.ensures
-          (Contains-read c.items-term-items.result.now c.head.term-index term c.head-test.true c.term-item.is) in
+      (Contains-read c.items-term-items.result.now c.head.term-index term c.head-test.true c.term-item.is) in
       let bound = (bound-fixed c.chosen_atoms_are_named.ensures c.args.set.now (map fact_of c.args.plan.now.atoms) term).1 (safe term inside) in
       absurd (false≢true (sym c.if-not-is_fixed.true
-          ∙ c.is_fixed.ensures.1 (subst (λ atoms. IsBound (map fact_of atoms) (Has c.args.set.now) term) (sym c.items.ensures) bound))),
+      ∙ c.is_fixed.ensures.1 (subst (λ atoms. IsBound (map fact_of atoms) (Has c.args.set.now) term) (sym c.items.ensures) bound))),
 )
 
 pub head-preserved : goal.head-preserved
 head-preserved c =
     holds_more (λ _ term. IsBound (map fact_of c.args.plan.now.atoms) (Has c.args.set.now) term) c.items-term-items.result.now c.head.term-index
-        c.term-item.result
+    c.term-item.result
     c.head-test.true c.term-item.is c.head.invariant
     (subst (λ atoms. IsBound (map fact_of atoms) (Has c.args.set.now) c.term-item.result) c.items.ensures (c.is_fixed.ensures.0 c.if-not-is_fixed.false))
 

@@ -31,7 +31,7 @@ visit-returns-in_ok-visit_by-in-Some-clause-visited t c =
     let Pass = Answers c.args.self.now.catalogue.now c.args.self.now.query.now c.args.self.now.plan.now in
     let count = length c.args.self.now.plan.now.atoms in
     visited-as Pass (IsBetween c.args.set.now c.args.left_out.now)
-        (λ other. IsBetween c.args.set.now c.args.left_out.now other × HasOneOf c.items.result.now other)
+    (λ other. IsBetween c.args.set.now c.args.left_out.now other × HasOneOf c.items.result.now other)
     c.args.found.now.sets c.visit_by.new.found.sets c.in_ok-visit_by-in-Some.ensures.visited
     (λ other between passes. (
       between,

@@ -64,7 +64,7 @@ returns c =
     let start_is = c.in_ok-start.ensures.state
     ∙ ap (λ facts. start_of (record { head = it.plan.now.head; body = facts })) (c.in_ok-facts.ensures ∙ ap (facts_chosen c.args.set.now) c.items.ensures) in
     let none = right-says c.in_ok-outcome.outcome (λ _. IsSatisfiable rules (state_of c.in_ok-start.start))
-        (λ _. ¬ (IsSatisfiable rules (state_of c.in_ok-start.start)))
+    (λ _. ¬ (IsSatisfiable rules (state_of c.in_ok-start.start)))
     c.in-Right.field-0 c.in_ok-outcome.ensures.satisfiable c.in-Right.is in
     let contained = contained-clashed it.plan.now it.catalogue.now.fragments it.expanded.now c.requires.search.expands c.args.set.now c.requires.count
     c.queries_have_starts.ensures.body rules (query_of it.query.now) c.an_expansion_of_a_plan_expands_its_candidates.ensures

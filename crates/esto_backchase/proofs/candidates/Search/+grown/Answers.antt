@@ -1,0 +1,16 @@
+use Rattle.std.proofs.Common.{length, sym, subst}
+use Rattle.esto_backchase.specs.Candidates.{Answers}
+use Rattle.esto_backchase.specs.Searching.{FailsWith}
+use Rattle.esto_backchase.proofs.VisitLemmas.{fails-further, fails-own}
+use Rattle.esto_backchase.proofs.candidates.Search.+grown.Goals as goal
+
+pub returns-then-to-from : goal.returns-then-to-from
+returns-then-to-from t c =
+    let Pass = Answers c.args.self.now.catalogue.now c.args.self.now.query.now c.args.self.now.plan.now in
+    let count = length c.args.self.now.plan.now.atoms in
+    subst (FailsWith count Pass c.args.set.now) (sym c.in_ok-same.ensures) (fails-own count Pass c.args.set.now c.requires.count c.requires.fails)
+
+pub returns : goal.returns
+returns t c =
+    fails-further (length c.args.self.now.plan.now.atoms) (Answers c.args.self.now.catalogue.now c.args.self.now.query.now c.args.self.now.plan.now)
+    c.args.set.now c.in_ok-half.half c.in_ok-both.both c.in_ok-half.ensures c.in_ok-both.ensures
