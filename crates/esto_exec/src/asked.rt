@@ -6,9 +6,9 @@ ghost use Rattle.esto_exec.specs.Inputs.{inputs_with, AreAnswered};
 
 use crate::codes::{CodeRows, codes_at};
 use crate::links::sources_of;
-use esto_term::{List, OutOfMemory};
 use esto_columns::{Fragment, Input, Inputs, Keys, Rows};
 use esto_plan::{Get, Links, Sources};
+use esto_term::{List, OutOfMemory};
 use std::alloc::Global;
 
 /// The inputs at the columns of the links with these codes.
@@ -54,11 +54,11 @@ fn ask<F: Fragment>(
         → Contains asked.old row ⊎ Contains (F.rows fragment.now) row) }
     ensures answered { OnOk result
         (AreAnswered get.now.inputs (F.rows fragment.now) seen.old asked.old
-            → AreAnswered get.now.inputs (F.rows fragment.now) seen.new asked.new) }
+        → AreAnswered get.now.inputs (F.rows fragment.now) seen.new asked.new) }
     ensures complete { OnOk result
         (AreAnswered get.now.inputs (F.rows fragment.now) seen.old asked.old
-            → (row : List ℕ) → Contains (F.rows fragment.now) row
-            → Follows get.now cells.now row → Contains asked.new row) }
+        → (row : List ℕ) → Contains (F.rows fragment.now) row
+        → Follows get.now cells.now row → Contains asked.new row) }
 {
     let Some(key) = codes_at(alloc, cells, sources)? else {
         return Ok(());

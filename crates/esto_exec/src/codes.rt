@@ -4,8 +4,8 @@ ghost use Rattle.esto_plan.specs.declared.steps.Link.{Link};
 ghost use Rattle.esto_plan.specs.Meaning.{code_at, IsMet};
 ghost use Rattle.esto_exec.specs.Named.{NamesCodes};
 
-use esto_term::{List, OutOfMemory, Values};
 use esto_plan::{Link, Links, Source, Sources};
+use esto_term::{List, OutOfMemory, Values};
 use std::alloc::Global;
 
 /// Rows of codes, one by one.

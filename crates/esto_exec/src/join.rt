@@ -86,7 +86,7 @@ fn push_joined(
 ) -> Result<(), OutOfMemory>
     requires { (columns : List Source) × FindsRows rows.now columns index.now
         × ((row : List ℕ) → Follows get.now cells.now row → (codes : List ℕ)
-            × NamesCodes cells.now sources.now codes × NamesCodes row columns codes) }
+        × NamesCodes cells.now sources.now codes × NamesCodes row columns codes) }
     ensures { OnOk result (GainsOnly into.old into.new (IsFollower get.now cells.now rows.now)) }
 {
     let Some(key) = codes_at(alloc, cells, sources)? else {

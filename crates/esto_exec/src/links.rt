@@ -6,8 +6,8 @@ ghost use Rattle.esto_plan.specs.Meaning.{code_at, IsMet, Follows};
 ghost use Rattle.esto_exec.specs.Named.{IsEarly};
 
 use crate::codes::CodeRows;
-use esto_term::{List, OutOfMemory};
 use esto_plan::{Get, Link, Links, Source, Sources};
+use esto_term::{List, OutOfMemory};
 use std::alloc::Global;
 
 /// The least length of the rows, or the greatest number where there is none.

@@ -11,9 +11,9 @@ ghost use Rattle.esto_exec.specs.Named.{NamesCodes};
 use crate::asked::asked_rows;
 use crate::codes::{CodeRows, codes_at};
 use crate::join::joined;
-use esto_term::{List, OutOfMemory, Values};
 use esto_columns::{Fragment, Rows};
 use esto_plan::{Get, Sources, Steps};
+use esto_term::{List, OutOfMemory, Values};
 use std::alloc::Global;
 
 /// The rows so far, each with every row of the fragment that follows it after it.

@@ -54,7 +54,7 @@ pub fn answers_over_databases()
         → AreViewRows views database query rows → (values : List Value)
         → IsFragmentAnswer views query database values
         ↔ ((row : List (List ℕ)) × (values ≡ map Text row)
-            × IsAnswerInto (λ text. text) query (IsRowOf rows) row) }
+        × IsAnswerInto (λ text. text) query (IsRowOf rows) row) }
 {}
 
 /// A law: over a database of which the used fragments hold the view rows, the texts of the results of the steps of a
@@ -70,8 +70,8 @@ pub fn results_over_databases()
         → AreViewRows views database (candidate plan is_order.0) rows → (values : List Value)
         → IsFragmentAnswer views (candidate plan is_order.0) database values
         ↔ ((row : List (List ℕ)) × (values ≡ map Text row)
-            × ((codes : List ℕ) × IsResult (IsRowOf coded) steps codes
-                × AreCodesOf texts codes row)) }
+        × ((codes : List ℕ) × IsResult (IsRowOf coded) steps codes
+        × AreCodesOf texts codes row)) }
 {}
 
 /// A law: the results of steps rest on the rows of those fragments alone that the steps name, read as sets.
@@ -86,7 +86,7 @@ pub fn results_have_texts()
     ensures { (texts : List (List ℕ)) (patterns : Patterns) (query : ConjunctiveQuery)
         (steps : Steps) (coded : ℕ → List (List ℕ)) → AreStepsOf texts patterns query steps
         → ((fragment : ℕ) (row : List ℕ) → Contains (coded fragment) row
-            → (code : ℕ) → Contains row code → code < length texts)
+        → (code : ℕ) → Contains row code → code < length texts)
         → (row : List ℕ) → IsResult (IsRowOf coded) steps row
         → (code : ℕ) → Contains row code → code < length texts }
 {}

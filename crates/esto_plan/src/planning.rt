@@ -130,9 +130,9 @@ fn can_meet(access: &Access, terms: &[Term], bound: &[Term]) -> bool
 fn first_met(patterns: &AccessList, terms: &[Term], bound: &[Term]) -> Option<usize>
     ensures { MatchOption result
         ((pattern : List Bool) → Contains patterns.now pattern
-            → ¬ (CanMeet bound.now terms.now pattern))
+        → ¬ (CanMeet bound.now terms.now pattern))
         (λ number. (pattern : List Bool) × (slice_get patterns.now number ≡ Some pattern)
-            × IsFirstMet patterns.now bound.now terms.now pattern) }
+        × IsFirstMet patterns.now bound.now terms.now pattern) }
 {
     'patterns: for (number, access) in patterns.items().iter().enumerate() {
         if can_meet(access, terms, bound) {

@@ -5,9 +5,12 @@ use Rattle.esto_exec.proofs.NamedLemmas.{early_names}
 use Rattle.esto_exec.proofs.join.joined.Goals as goal
 
 pub push_joined-requires : goal.push_joined-requires
-push_joined-requires c = (c.in_ok-columns.columns, c.in_ok-index.ensures,
-    early_names c.args.get.now c.least_len.result c.in_ok-links.links c.in_ok-sources.sources c.in_ok-columns.columns c.args.so_far.now c.items-cells-items.result.now c.items-cells-items.ensures
-    c.rows.cells-index c.items.result.now c.cells-item.result c.rows-test.true c.cells-item.is c.items.ensures c.least_len.ensures c.in_ok-links.ensures c.in_ok-sources.ensures c.in_ok-columns.ensures)
+push_joined-requires c = (
+  c.in_ok-columns.columns,
+  c.in_ok-index.ensures,
+  early_names c.args.get.now c.least_len.result c.in_ok-links.links c.in_ok-sources.sources c.in_ok-columns.columns c.args.so_far.now c.items-cells-items.result.now c.items-cells-items.ensures
+      c.rows.cells-index c.items.result.now c.cells-item.result c.rows-test.true c.cells-item.is c.items.ensures c.least_len.ensures c.in_ok-links.ensures c.in_ok-sources.ensures c.in_ok-columns.ensures,
+)
 
 pub rows-preserved : goal.rows-preserved
 rows-preserved c =
