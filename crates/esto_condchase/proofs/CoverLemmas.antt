@@ -43,14 +43,18 @@ member_is terms term answer same_answer = by answer (is_member same_term terms t
 
 -- ---- covered
 
-alike_covered : (entries : List Entry) (product : List Bool) (entry : Entry) → Contains entries entry → Within entry.product product → (own claim : Claim) → entry.claim ≡ own → AreSameClaim own claim → IsCovered (InWorld entries product) claim
+alike_covered : (entries : List Entry) (product : List Bool) (entry : Entry) → Contains entries entry → Within entry.product product → (own claim : Claim)
+    → entry.claim ≡ own → AreSameClaim own claim → IsCovered (InWorld entries product) claim
 alike_covered entries product entry inside within (Stated fact) (Stated other) is alike = (entry, inside, within, is ∙ ap Stated alike)
 alike_covered entries product entry inside within (Stated fact) (Same left right) is alike = absurd alike
 alike_covered entries product entry inside within (Same left right) (Stated fact) is alike = absurd alike
-alike_covered entries product entry inside within (Same left right) (Same other_left other_right) is (inl both) = inr (inl (entry, inside, within, is ∙ (λ i. Same (both.0 i) (both.1 i))))
-alike_covered entries product entry inside within (Same left right) (Same other_left other_right) is (inr both) = inr (inr (entry, inside, within, is ∙ (λ i. Same (both.0 i) (both.1 i))))
+alike_covered entries product entry inside within (Same left right) (Same other_left other_right) is (inl both) =
+    inr (inl (entry, inside, within, is ∙ (λ i. Same (both.0 i) (both.1 i))))
+alike_covered entries product entry inside within (Same left right) (Same other_left other_right) is (inr both) =
+    inr (inr (entry, inside, within, is ∙ (λ i. Same (both.0 i) (both.1 i))))
 
-pub covers_covered : (entries : List Entry) (claim : Claim) (product : List Bool) → CoversClaim entries claim product → IsCovered (InWorld entries product) claim
+pub covers_covered : (entries : List Entry) (claim : Claim) (product : List Bool) → CoversClaim entries claim product
+    → IsCovered (InWorld entries product) claim
 covers_covered entries claim product (entry, inside, alike, within) = alike_covered entries product entry inside within entry.claim claim refl alike
 
 itself_alike : (own claim : Claim) → own ≡ claim → AreSameClaim own claim
@@ -61,32 +65,39 @@ itself_alike own claim is = subst (AreSameClaim own) is (by own)
     by (Same left right) = inl (refl, refl)
 
 module _ (entries more : List Entry) (product : List Bool) where
-  split : (entry : Entry) (claim : Claim) → Contains (entries ++ more) entry → AreSameClaim entry.claim claim → Within entry.product product → CoversClaim entries claim product ⊎ CoversClaim more claim product
+  split : (entry : Entry) (claim : Claim) → Contains (entries ++ more) entry → AreSameClaim entry.claim claim → Within entry.product product
+      → CoversClaim entries claim product ⊎ CoversClaim more claim product
   split entry claim inside alike within = elim (Contains-append_cases entries more entry inside) [
     | inl here ↦ inl (entry, here, alike, within)
     | inr there ↦ inr (entry, there, alike, within)
   ]
 
-  pub covered_cases : (claim : Claim) → IsCovered (InWorld (entries ++ more) product) claim → IsTrivial claim ⊎ (CoversClaim entries claim product ⊎ CoversClaim more claim product)
+  pub covered_cases : (claim : Claim) → IsCovered (InWorld (entries ++ more) product) claim → IsTrivial claim
+      ⊎ (CoversClaim entries claim product ⊎ CoversClaim more claim product)
   covered_cases (Stated fact) (entry, inside, within, is) = inr (split entry (Stated fact) inside (itself_alike entry.claim (Stated fact) is) within)
   covered_cases (Same left right) (inl is) = inl is
-  covered_cases (Same left right) (inr (inl (entry, inside, within, is))) = inr (split entry (Same left right) inside (itself_alike entry.claim (Same left right) is) within)
-  covered_cases (Same left right) (inr (inr (entry, inside, within, is))) = inr (split entry (Same left right) inside (subst (λ it. AreSameClaim it (Same left right)) (sym is) (inr (refl, refl))) within)
+  covered_cases (Same left right) (inr (inl (entry, inside, within, is))) =
+      inr (split entry (Same left right) inside (itself_alike entry.claim (Same left right) is) within)
+  covered_cases (Same left right) (inr (inr (entry, inside, within, is))) =
+      inr (split entry (Same left right) inside (subst (λ it. AreSameClaim it (Same left right)) (sym is) (inr (refl, refl))) within)
 
   pub trivial_covered : (claim : Claim) → IsTrivial claim → IsCovered (InWorld (entries ++ more) product) claim
   trivial_covered (Stated fact) trivial = absurd trivial
   trivial_covered (Same left right) trivial = inl trivial
 
   pub covered_left : (claim : Claim) → CoversClaim entries claim product → IsCovered (InWorld (entries ++ more) product) claim
-  covered_left claim covers = IsCovered-more (InWorld-more entries (entries ++ more) product (λ entry inside. Contains-append_left entries more entry inside)) claim (covers_covered entries claim product covers)
+  covered_left claim covers = IsCovered-more (InWorld-more entries (entries ++ more) product (λ entry inside. Contains-append_left entries more entry inside))
+      claim (covers_covered entries claim product covers)
 
   pub covered_right : (claim : Claim) → CoversClaim more claim product → IsCovered (InWorld (entries ++ more) product) claim
-  covered_right claim covers = IsCovered-more (InWorld-more more (entries ++ more) product (λ entry inside. Contains-append_right entries more entry inside)) claim (covers_covered more claim product covers)
+  covered_right claim covers = IsCovered-more (InWorld-more more (entries ++ more) product (λ entry inside. Contains-append_right entries more entry inside))
+      claim (covers_covered more claim product covers)
 
 -- ---- growth
 
 -- more claims are there where entries grow
-pub IsThere-grows : (entries more later : List Entry) → ((entry : Entry) → Contains more entry → Contains later entry) → (claim : Claim) (product : List Bool) → IsThere (entries ++ more) claim product → IsThere (entries ++ later) claim product
+pub IsThere-grows : (entries more later : List Entry) → ((entry : Entry) → Contains more entry → Contains later entry) → (claim : Claim) (product : List Bool)
+    → IsThere (entries ++ more) claim product → IsThere (entries ++ later) claim product
 IsThere-grows entries more later kept claim product there atoms within =
     IsCovered-more (InWorld-more (entries ++ more) (entries ++ later) atoms (λ entry inside. elim (Contains-append_cases entries more entry inside) [
       | inl here ↦ Contains-append_left entries later entry here
@@ -96,7 +107,8 @@ IsThere-grows entries more later kept claim product there atoms within =
 pub Grows-none : (rules : List Rule) (count : ℕ) (entries more : List Entry) → Grows rules count entries more more
 Grows-none rules count entries more = record { kept = λ entry inside. inside; derived = λ expanded derived. derived; counted = λ counts. counts }
 
-pub Grows-then : (rules : List Rule) (count : ℕ) (entries one two three : List Entry) → Grows rules count entries one two → Grows rules count entries two three → Grows rules count entries one three
+pub Grows-then : (rules : List Rule) (count : ℕ) (entries one two three : List Entry) → Grows rules count entries one two → Grows rules count entries two three
+    → Grows rules count entries one three
 Grows-then rules count entries one two three first second = record {
   kept = λ entry inside. second.kept entry (first.kept entry inside);
   derived = λ expanded derived. second.derived expanded (first.derived expanded derived);
@@ -111,7 +123,8 @@ module _ (rules : List Rule) (count : ℕ) (entries more later : List Entry) (cl
     | inl same ↦ subst (Grows rules count entries more) (sym same.1) (Grows-none rules count entries more)
     | inr new ↦ subst (Grows rules count entries more) (sym new.1) (record {
       kept = λ entry inside. Contains-append_left more (entry_of ∷ []) entry inside;
-      derived = λ expanded derived. subst (AreDerived expanded rules) (append_entries) (AreDerived-push expanded rules (entries ++ more) entry_of derived (record { follows = follows expanded; uncovered = new.0 }));
+      derived = λ expanded derived. subst (AreDerived expanded rules) (append_entries)
+          (AreDerived-push expanded rules (entries ++ more) entry_of derived (record { follows = follows expanded; uncovered = new.0 }));
       counted = λ counts entry inside. elim (Contains-push_cases more entry_of entry inside) [
         | inl earlier ↦ counts entry earlier
         | inr is ↦ subst (λ (it : Entry). length it.product ≡ count) is counted
@@ -127,7 +140,8 @@ module _ (rules : List Rule) (count : ℕ) (entries more later : List Entry) (cl
 
   pub added-IsThere : IsThere (entries ++ later) claim product
   added-IsThere atoms within = elim added [
-    | inl same ↦ subst (λ it. IsCovered (InWorld (entries ++ it) atoms) claim) (sym same.1) (IsCovered-more (InWorld-within (entries ++ more) product atoms within) claim same.0)
+    | inl same ↦ subst (λ it. IsCovered (InWorld (entries ++ it) atoms) claim) (sym same.1)
+        (IsCovered-more (InWorld-within (entries ++ more) product atoms within) claim same.0)
     | inr new ↦ subst (λ it. IsCovered (InWorld (entries ++ it) atoms) claim) (sym new.1) (by claim refl)
   ]
     where

@@ -33,7 +33,8 @@ use Rattle.esto_condchase.specs.Rounds.{IsAdded, Grows}
 use Rattle.esto_condchase.proofs.MeetLemmas.{take-item}
 use Rattle.esto_condchase.proofs.CoverLemmas.{added-IsThere}
 
-pub one_number : (old new : List Bool) (count atom : ℕ) → old ≡ replicate count false → ((number : ℕ) → Has new number ↔ ((number ≡ atom) ⊎ Has old number)) → (number : ℕ) → Has new number ↔ (number ≡ atom)
+pub one_number : (old new : List Bool) (count atom : ℕ) → old ≡ replicate count false → ((number : ℕ) → Has new number ↔ ((number ≡ atom) ⊎ Has old number))
+    → (number : ℕ) → Has new number ↔ (number ≡ atom)
 one_number old new count atom is has number = (
   (λ in_new. elim ((has number).0 in_new) [ inl is_atom ↦ is_atom | inr before ↦ absurd (Has-replicate count number (subst (λ it. Has it number) is before)) ]),
   (λ is_atom. (has number).1 (inl is_atom)),
@@ -42,10 +43,12 @@ one_number old new count atom is has number = (
 pub set_length : (old new : List Bool) (count atom : ℕ) → old ≡ replicate count false → new ≡ slice_set old atom true → length new ≡ count
 set_length old new count atom is set = ap length set ∙ length-set old atom true ∙ ap length is ∙ length-replicate count false
 
-pub rules_same : (count : ℕ) (its rules : List Constraint) (items more : List Entry) → its ≡ rules → Grows (rules_of its) count items [] more → Grows (rules_of rules) count items [] more
+pub rules_same : (count : ℕ) (its rules : List Constraint) (items more : List Entry) → its ≡ rules → Grows (rules_of its) count items [] more
+    → Grows (rules_of rules) count items [] more
 rules_same count its rules items more same grows = subst (λ it. Grows (rules_of it) count items [] more) same grows
 
-pub answered_same : (its rules : List Constraint) (old new : List Entry) → its ≡ rules → AreAnswered (rules_of its) old new → AreAnswered (rules_of rules) old new
+pub answered_same : (its rules : List Constraint) (old new : List Entry) → its ≡ rules → AreAnswered (rules_of its) old new
+    → AreAnswered (rules_of rules) old new
 answered_same its rules old new same answered = subst (λ it. AreAnswered (rules_of it) old new) same answered
 
 -- the entries of the expanded facts so far
@@ -61,22 +64,30 @@ given_none facts count entries none = rw none record {
   given = λ fact inside. absurd (Contains-nil fact inside);
 }
 
-pub given_turn : (facts : List ExpandedFact) (count place : ℕ) (fact : ExpandedFact) (entries later : List Entry) (it : Fact Term) (product : List Bool) → place < length facts → fact ≡ get_or facts place fact → it ≡ fact.fact → length product ≡ count
-    → ((number : ℕ) → Has product number ↔ (number ≡ fact.atom)) → IsAdded [] entries (Stated it) product (Expanded fact.atom fact.place) later → GivenSoFar facts count place entries → GivenSoFar facts count (place + 1) later
+pub given_turn : (facts : List ExpandedFact) (count place : ℕ) (fact : ExpandedFact) (entries later : List Entry) (it : Fact Term) (product : List Bool)
+    → place < length facts → fact ≡ get_or facts place fact → it ≡ fact.fact → length product ≡ count
+    → ((number : ℕ) → Has product number ↔ (number ≡ fact.atom)) → IsAdded [] entries (Stated it) product (Expanded fact.atom fact.place) later
+        → GivenSoFar facts count place entries → GivenSoFar facts count (place + 1) later
 given_turn facts count place fact entries later it product within is it_is counted has added so_far = record {
   derived = λ rules. elim added [
     | inl same ↦ subst (AreDerived facts rules) (sym same.1) (so_far.derived rules)
-    | inr new ↦ subst (AreDerived facts rules) (sym new.1) (AreDerived-push facts rules entries entry_of (so_far.derived rules) (record { follows = (fact, (place, within, sym is), refl, refl, ap Stated it_is, has); uncovered = new.0 }))
+    | inr new ↦ subst (AreDerived facts rules) (sym new.1) (AreDerived-push facts rules entries entry_of (so_far.derived rules)
+        (record { follows = (fact, (place, within, sym is), refl, refl, ap Stated it_is, has); uncovered = new.0 }))
   ];
   counted = elim added [
     | inl same ↦ subst (AreOfCount count) (sym same.1) so_far.counted
-    | inr new ↦ subst (AreOfCount count) (sym new.1) (λ entry inside. elim (Contains-push_cases entries entry_of entry inside) [ inl earlier ↦ so_far.counted entry earlier | inr same ↦ subst (λ (its : Entry). length its.product ≡ count) same counted ])
+    | inr new ↦ subst (AreOfCount count) (sym new.1) (λ entry inside. elim
+        (Contains-push_cases entries entry_of entry inside) [ inl earlier ↦ so_far.counted entry earlier | inr same ↦ subst (λ (its : Entry). length its.product
+        ≡ count) same counted ])
   ];
-  given = λ other inside atoms in_atoms. elim (Contains-push_cases (take place facts) fact other (subst (λ its. Contains its other) (take-item facts place fact within is) inside)) [
+  given = λ other inside atoms in_atoms. elim (Contains-push_cases (take place facts) fact other
+      (subst (λ its. Contains its other) (take-item facts place fact within is) inside)) [
     | inl earlier ↦ InWorld-more entries later atoms kept (Stated other.fact) (so_far.given other earlier atoms in_atoms)
     | inr same ↦
-        let here : InWorld later atoms (Stated it) = added-IsThere [] count [] entries later (Stated it) product (Expanded fact.atom fact.place) counted added atoms
-            (λ number in_product. subst (Has atoms) (sym ((has number).0 in_product)) (subst (λ (its : ExpandedFact). Has atoms its.atom) (sym same) in_atoms)) in
+        let here : InWorld later atoms (Stated it) = added-IsThere [] count [] entries later (Stated it) product (Expanded fact.atom fact.place) counted added
+            atoms
+            (λ number in_product. subst (Has atoms) (sym ((has number).0 in_product))
+                (subst (λ (its : ExpandedFact). Has atoms its.atom) (sym same) in_atoms)) in
         subst (λ its. InWorld later atoms (Stated its)) (it_is ∙ ap (λ (its : ExpandedFact). its.fact) same) here
   ];
 }
@@ -90,12 +101,14 @@ given_turn facts count place fact entries later it product within is it_is count
       | inr new ↦ subst (λ its. Contains its entry) (sym new.1) (Contains-append_left entries (entry_of ∷ []) entry inside)
     ]
 
-pub given_all : (facts : List ExpandedFact) (place : ℕ) (entries : List Entry) → length facts ≤ place → AreGiven (take place facts) entries → AreGiven facts entries
+pub given_all : (facts : List ExpandedFact) (place : ℕ) (entries : List Entry) → length facts ≤ place → AreGiven (take place facts) entries
+    → AreGiven facts entries
 given_all facts place entries past given = subst (λ it. AreGiven it entries) (take_all place facts past) given
 
 -- ---- rounds
 
-module _ (facts : List ExpandedFact) (rules : List Rule) (count : ℕ) (entries items more : List Entry) (same : items ≡ entries) (grows : Grows rules count items [] more) where
+module _ (facts : List ExpandedFact) (rules : List Rule) (count : ℕ) (entries items more : List Entry) (same : items ≡ entries)
+    (grows : Grows rules count items [] more) where
   grown : Grows rules count entries [] more
   grown = subst (λ it. Grows rules count it [] more) same grows
 
@@ -110,7 +123,8 @@ module _ (facts : List ExpandedFact) (rules : List Rule) (count : ℕ) (entries 
     ])
 
     pub turn_given : AreGiven facts entries → AreGiven facts later
-    turn_given given = subst (AreGiven facts) (sym is) (λ fact inside atoms has. InWorld-more entries (entries ++ more) atoms (λ entry in_entries. Contains-append_left entries more entry in_entries) (Stated fact.fact) (given fact inside atoms has))
+    turn_given given = subst (AreGiven facts) (sym is) (λ fact inside atoms has. InWorld-more entries (entries ++ more) atoms
+        (λ entry in_entries. Contains-append_left entries more entry in_entries) (Stated fact.fact) (given fact inside atoms has))
 
     -- an entry more is a pair less
     pub turn_falls : DerivedEntriesAreFew → (rank : ℕ → ℕ) (depth : ℕ) → AreRules rules → AreFlat (facts_of facts) → RanksRise rules rank
@@ -126,8 +140,11 @@ nothing : (more : List Entry) → length more ≡ 0 → more ≡ []
 nothing [] l = refl
 nothing (first ∷ rest) l = absurd (omega (arith, l))
 
-pub end_answered : (rules : List Rule) (entries items more : List Entry) → items ≡ entries → length more ≡ 0 → AreAnswered rules items (items ++ more) → AreAnswered rules entries entries
-end_answered rules entries items more same none answered = subst (AreAnswered rules entries) (append-nil entries) (subst (λ it. AreAnswered rules entries (entries ++ it)) (nothing more none) (subst (λ it. AreAnswered rules it (it ++ more)) same answered))
+pub end_answered : (rules : List Rule) (entries items more : List Entry) → items ≡ entries → length more ≡ 0 → AreAnswered rules items (items ++ more)
+    → AreAnswered rules entries entries
+end_answered rules entries items more same none answered = subst (AreAnswered rules entries) (append-nil entries)
+    (subst (λ it. AreAnswered rules entries (entries ++ it)) (nothing more none) (subst (λ it. AreAnswered rules it (it ++ more)) same answered))
 
 pub end_joined : (entries items more : List Entry) → items ≡ entries → length more ≡ 0 → AreJoined items (items ++ more) → AreJoined entries entries
-end_joined entries items more same none joined = subst (AreJoined entries) (append-nil entries) (subst (λ it. AreJoined entries (entries ++ it)) (nothing more none) (subst (λ it. AreJoined it (it ++ more)) same joined))
+end_joined entries items more same none joined = subst (AreJoined entries) (append-nil entries)
+    (subst (λ it. AreJoined entries (entries ++ it)) (nothing more none) (subst (λ it. AreJoined it (it ++ more)) same joined))

@@ -69,4 +69,5 @@ LinksAt entries place entry term other = (slice_get entries place ≡ Some entry
 -- What two entries link one after the other is there.
 abbrev pub IsPairJoined : List Entry → Entry → Entry → Type 0
 IsPairJoined entries first second =
-    (term next other : Term) → Links first.claim term next → Links second.claim next other → IsThere entries (Same term other) (united first.product second.product)
+    (term next other : Term) → Links first.claim term next → Links second.claim next other
+        → IsThere entries (Same term other) (united first.product second.product)

@@ -41,7 +41,8 @@ pub record IsWay (entries : List Entry) (facts : List ℕ) (from to : List Term)
   pub fits : Fits (Touching (IsNamed entries way.links)) from to
   pub union : IsUnion entries (way.facts ++ way.links) way.product
 
--- The ways are the given ones with one term more: each comes from one, and each goes on in each world that has its product and makes the term one with what it has to meet.
+-- The ways are the given ones with one term more: each comes from one, and each goes on in each world that has its product and makes the term one with what it
+-- has to meet.
 pub record AreLonger (entries : List Entry) (from : List Term) (term own : Term) (given ways : List Way) : Type 0 where
   pub come_from : (way : Way) → Contains ways way → (before : Way) × Contains given before × (way.to ≡ before.to ++ own ∷ [])
       × ((facts : List ℕ) (to : List Term) → IsWay entries facts from to before → IsWay entries facts (from ++ term ∷ []) (to ++ own ∷ []) way)
@@ -61,7 +62,8 @@ pub record AreRows (entries : List Entry) (from terms owns : List Term) (start :
 pub record AreMatched (entries : List Entry) (from : List Term) (atom : Fact Term) (given ways : List Way) : Type 0 where
   pub come_from : (way : Way) → Contains ways way → (before : Way) × Contains given before × ((place : ℕ) × (fact : Fact Term)
       × Claims entries place (Stated fact) × (fact.relation ≡ atom.relation) × (length fact.terms ≡ length atom.terms)
-      × ((facts : List ℕ) (to : List Term) → IsWay entries facts from to before → IsWay entries (facts ++ place ∷ []) (from ++ atom.terms) (to ++ fact.terms) way))
+      × ((facts : List ℕ) (to : List Term) → IsWay entries facts from to before
+          → IsWay entries (facts ++ place ∷ []) (from ++ atom.terms) (to ++ fact.terms) way))
   pub go_on : (atoms : List Bool) (before : Way) (fact : Fact Term) → Contains given before → length from ≡ length before.to → Within before.product atoms
       → InWorld entries atoms (Stated fact) → fact.relation ≡ atom.relation → length fact.terms ≡ length atom.terms
       → AllZip (Touching (InWorld entries atoms)) fact.terms (map (taken (from ++ atom.terms) (before.to ++ fact.terms)) atom.terms)

@@ -53,7 +53,7 @@ fn given(
 /// atom, and no rule and no link asks for more.
 fn rounds(
     alloc: Global,
-    facts: &[ExpandedFact],
+    facts: &ExpandedFacts,
     atoms: usize,
     rules: &Rules,
     ranks: &Ranks,
@@ -73,7 +73,7 @@ fn rounds(
     ranks_rise();
     derived_entries_are_bounded();
     let _count = ranks.len();
-    let mut entries = given(alloc, facts, atoms)?;
+    let mut entries = given(alloc, facts.items(), atoms)?;
     'rounds: loop {
         let more = round(alloc, entries.items(), rules.items(), atoms)?;
         if more.is_empty() {
@@ -130,6 +130,6 @@ pub fn chase_with_products(
     closed_worlds_are_databases();
     derived_entries_are_bounded();
     derived_entries_are_reasoned();
-    let entries = rounds(alloc, facts.items(), atoms, rules, ranks)?;
+    let entries = rounds(alloc, facts, atoms, rules, ranks)?;
     Ok(Entries::from_list(entries))
 }

@@ -1,18 +1,14 @@
 use Rattle.std.proofs.Common.{◌≡◌, ◌⊎◌, Bool, List, length, Contains, sym, subst}
 use Rattle.std.specs.Prelude.{slice_index}
-use Rattle.esto_semantics.specs.Maps.{AreFlat}
 use Rattle.esto_constraint.specs.Constraints.{rules_of}
 use Rattle.esto_chase.proofs.ChaseLemmas.{rules-AreRules, ranks-RanksRise}
-use Rattle.esto_views.specs.Expanded.{facts_of}
-use Rattle.esto_views.specs.declared.expansion.ExpandedFact.{ExpandedFact}
-use Rattle.esto_world_laws.specs.Derived.{AreDerived}
 use Rattle.esto_world_laws.specs.Laws.{IsSound, IsReceivedNowhere, IsDatabase, AreNestedWithin}
 use Rattle.esto_world_laws.specs.Worlds.{InWorld, IsClosed, IsBroken, IsDenied}
 use Rattle.esto_condchase.proofs.chase.chase_with_products.Goals as goal
 
 pub from_list-requires : goal.from_list-requires
 from_list-requires c =
-    c.derived_entries_are_reasoned.ensures c.items.result.now (rules_of c.args.rules.now) c.in_ok-entries.entries c.args.atoms c.in_ok-entries.ensures.derived
+    c.derived_entries_are_reasoned.ensures c.args.facts.now (rules_of c.args.rules.now) c.in_ok-entries.entries c.args.atoms c.in_ok-entries.ensures.derived
     c.in_ok-entries.ensures.counted
 
 pub returns-clause-closed : goal.returns-clause-closed
@@ -25,10 +21,9 @@ returns-clause-closed c =
 pub returns-clause-sound : goal.returns-clause-sound
 returns-clause-sound c =
     let rules = rules_of c.args.rules.now in
-    let derived = subst (λ it. AreDerived it rules c.in_ok-entries.entries) c.items.ensures c.in_ok-entries.ensures.derived in
     subst (λ it. (set : List Bool) → IsSound c.args.facts.now rules it set) (sym c.from_list.ensures)
     (c.derived_entries_are_sound.ensures.sound c.args.facts.now rules c.in_ok-entries.entries
-    (rules-AreRules c.args.rules.now c.rules_are_sound.ensures.rules) c.requires.flat derived)
+    (rules-AreRules c.args.rules.now c.rules_are_sound.ensures.rules) c.requires.flat c.in_ok-entries.ensures.derived)
 
 pub returns-clause-database : goal.returns-clause-database
 returns-clause-database c =
@@ -42,18 +37,16 @@ returns-clause-database c =
 pub returns-clause-nowhere : goal.returns-clause-nowhere
 returns-clause-nowhere c =
     let rules = rules_of c.args.rules.now in
-    let derived = subst (λ it. AreDerived it rules c.in_ok-entries.entries) c.items.ensures c.in_ok-entries.ensures.derived in
     subst (λ it. (set : List Bool) → IsBroken (InWorld it set) ⊎ IsDenied rules (InWorld it set) → IsReceivedNowhere c.args.facts.now rules set)
     (sym c.from_list.ensures)
     (c.derived_entries_are_sound.ensures.nowhere c.args.facts.now rules c.in_ok-entries.entries
-    (rules-AreRules c.args.rules.now c.rules_are_sound.ensures.rules) c.requires.flat derived)
+    (rules-AreRules c.args.rules.now c.rules_are_sound.ensures.rules) c.requires.flat c.in_ok-entries.ensures.derived)
 
 pub returns-clause-bounded : goal.returns-clause-bounded
 returns-clause-bounded c =
     let rules = rules_of c.args.rules.now in
     let ranks = c.args.ranks.now in
-    let derived = subst (λ it. AreDerived it rules c.in_ok-entries.entries) c.items.ensures c.in_ok-entries.ensures.derived in
     subst (AreNestedWithin (slice_index ranks)) (sym c.from_list.ensures)
     (c.derived_entries_are_bounded.ensures.nested c.args.facts.now rules c.in_ok-entries.entries (slice_index ranks)
     (rules-AreRules c.args.rules.now c.rules_are_sound.ensures.rules) c.requires.flat
-    (ranks-RanksRise rules ranks (c.ranks_rise.ensures.rise rules (length ranks) ranks c.requires.within c.requires.ranks)) derived)
+    (ranks-RanksRise rules ranks (c.ranks_rise.ensures.rise rules (length ranks) ranks c.requires.within c.requires.ranks)) c.in_ok-entries.ensures.derived)

@@ -1,16 +1,22 @@
-use Rattle.std.proofs.Common.{length, sym, ◌∙◌, arith}
+use Rattle.std.proofs.Common.{length, sym, ◌∙◌, arith, subst, Contains}
 use Rattle.std.specs.Prelude.{slice_index}
 use Rattle.std.proofs.lemmas.Bool.{false≢true}
 use Rattle.esto_constraint.specs.Constraints.{rules_of}
 use Rattle.esto_chase.proofs.ChaseLemmas.{rules-AreRules, ranks-RanksRise, depth_of, ranks-small, depth-small}
+use Rattle.esto_world_laws.specs.Derived.{AreDerived}
+use Rattle.esto_world_laws.specs.Laws.{AreGiven}
 use Rattle.esto_condchase.proofs.LoopLemmas.{rules_same, answered_same, turn_derived, turn_counted, turn_given, turn_falls, end_answered, end_joined}
 use Rattle.esto_condchase.proofs.chase.rounds.Goals as goal
 
+pub given-requires : goal.given-requires
+given-requires c fact inside = c.requires.atoms fact (subst (λ it. Contains it fact) c.items.ensures inside)
+
 pub rounds-init : goal.rounds-init
 rounds-init c = record {
-  derived = c.in_ok-entries.ensures.derived (rules_of c.args.rules.now);
+  derived = subst (λ it. AreDerived it (rules_of c.args.rules.now) c.in_ok-entries.entries) c.items.ensures
+      (c.in_ok-entries.ensures.derived (rules_of c.args.rules.now));
   counted = c.in_ok-entries.ensures.counted;
-  given = c.in_ok-entries.ensures.given;
+  given = subst (λ it. AreGiven it c.in_ok-entries.entries) c.items.ensures c.in_ok-entries.ensures.given;
 }
 
 pub returns-then-is_empty-clause-answered : goal.returns-then-is_empty-clause-answered

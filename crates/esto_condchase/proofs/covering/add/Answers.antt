@@ -11,7 +11,8 @@ returns-then-covers c = inl (covered_left c.args.entries.now c.args.more.now c.a
 
 pub returns-then-covers-2 : goal.returns-then-covers-2
 returns-then-covers-2 c = inl (
-  covered_right c.args.entries.now c.args.more.now c.args.product.now c.args.claim (subst (λ it. CoversClaim it c.args.claim c.args.product.now) c.items.ensures (c.covers-2.ensures.0 c.if-covers-2.true)),
+  covered_right c.args.entries.now c.args.more.now c.args.product.now c.args.claim
+      (subst (λ it. CoversClaim it c.args.claim c.args.product.now) c.items.ensures (c.covers-2.ensures.0 c.if-covers-2.true)),
   refl,
 )
 
@@ -21,8 +22,10 @@ returns c = inr (
     | inl trivial ↦ false≢true (sym c.if-is_trivial.false ∙ c.is_trivial.ensures.1 trivial)
     | inr covers ↦ elim covers [
       | inl here ↦ false≢true (sym c.if-covers.false ∙ c.covers.ensures.1 here)
-      | inr there ↦ false≢true (sym c.if-covers-2.false ∙ c.covers-2.ensures.1 (subst (λ it. CoversClaim it c.args.claim c.args.product.now) (sym c.items.ensures) there))
+      | inr there ↦ false≢true (sym c.if-covers-2.false ∙ c.covers-2.ensures.1
+          (subst (λ it. CoversClaim it c.args.claim c.args.product.now) (sym c.items.ensures) there))
     ]
   ]),
-  c.in_ok-push.ensures.ok ∙ ap (λ (it : List Bool). c.args.more.now ++ (record { claim = c.args.claim; product = it; reason = c.args.reason }) ∷ []) c.in_ok-copied.ensures,
+  c.in_ok-push.ensures.ok ∙ ap (λ (it : List Bool). c.args.more.now ++ (record { claim = c.args.claim; product = it; reason = c.args.reason }) ∷ [])
+      c.in_ok-copied.ensures,
 )

@@ -8,5 +8,6 @@ use Rattle.esto_condchase.proofs.rounds.answer_equalities.Given as goal
 abbrev pub invariant-found : goal.invariant-found
 invariant-found l = record {
   grows : Grows (rules_of l.rules) l.count l.entries l.fn.more l.more;
-  answered : (way : Way) → Contains (take l.way-index l.way-items) way → IsAnswered (l.entries ++ l.more) l.number (equality l.rule.body l.rule.left l.rule.right) way;
+  answered : (way : Way) → Contains (take l.way-index l.way-items) way → IsAnswered (l.entries ++ l.more) l.number
+      (equality l.rule.body l.rule.left l.rule.right) way;
 }

@@ -7,5 +7,6 @@ use Rattle.esto_condchase.proofs.rounds.answer_rules.Given as goal
 abbrev pub invariant-rules : goal.invariant-rules
 invariant-rules l = record {
   grows : Grows (rules_of l.rules) l.count l.entries [] l.more;
-  answered : (number : ℕ) (rule : Rule) → number < l.number → slice_get (rules_of l.rules) number ≡ Some rule → IsRuleAnswered l.entries (l.entries ++ l.more) number rule;
+  answered : (number : ℕ) (rule : Rule) → number < l.number → slice_get (rules_of l.rules) number ≡ Some rule
+      → IsRuleAnswered l.entries (l.entries ++ l.more) number rule;
 }

@@ -8,8 +8,10 @@ join_pair-requires-clause-more_counts c = (c.entries.invariant.grows []).counted
 
 pub entries-preserved : goal.entries-preserved
 entries-preserved c = record {
-  grows = λ rules. Grows-then rules c.args.count c.args.entries.now c.args.more.now _ _ (c.entries.invariant.grows rules) (c.in_ok-join_pair.ensures.grows rules);
-  joined = pairs_turn c.args.entries.now c.entries.more c.join_pair.new.more c.args.first_entry.now c.entries.second c.index-entries-second.result c.entries-test.true c.index-entries-second.is
+  grows = λ rules. Grows-then rules c.args.count c.args.entries.now c.args.more.now _ _ (c.entries.invariant.grows rules)
+      (c.in_ok-join_pair.ensures.grows rules);
+  joined = pairs_turn c.args.entries.now c.entries.more c.join_pair.new.more c.args.first_entry.now c.entries.second c.index-entries-second.result
+      c.entries-test.true c.index-entries-second.is
       (c.in_ok-join_pair.ensures.grows []).kept c.entries.invariant.joined c.in_ok-join_pair.ensures.joined;
 }
 

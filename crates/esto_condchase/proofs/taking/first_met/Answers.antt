@@ -11,5 +11,6 @@ pub places-preserved : goal.places-preserved
 places-preserved c =
     let target = thing_at c.args.to.now c.places.place (omega arith) in
     substituted_later c.args.from.now c.args.to.now c.places.place c.args.term.now c.index-from-place.result target.0 c.is_eq.result
-    (item_at c.args.from.now c.places.place c.index-from-place.result c.places-test.true c.index-from-place.is) target.1 (rw c.compare.ensures at c.is_eq.ensures) c.if-is_eq.false
+    (item_at c.args.from.now c.places.place c.index-from-place.result c.places-test.true c.index-from-place.is) target.1
+        (rw c.compare.ensures at c.is_eq.ensures) c.if-is_eq.false
     ∙ c.places.invariant

@@ -9,10 +9,12 @@ pub returns-then-has_term : goal.returns-then-has_term
 returns-then-has_term c =
     let member = sym (member_is c.args.from.now c.args.term.now c.has_term.result c.has_term.ensures) ∙ c.if-has_term.true in
     IfOk-weaker c.copy.result _ _
-    (λ it is. is ∙ c.taken_term.ensures ∙ sym (ap (λ answer. cond answer (taken c.args.from.now c.args.to.now c.args.term.now) (made_for c.args.number c.args.values.now c.args.term.now)) member)) c.copy.ensures
+    (λ it is. is ∙ c.taken_term.ensures ∙ sym (ap (λ answer. cond answer (taken c.args.from.now c.args.to.now c.args.term.now)
+        (made_for c.args.number c.args.values.now c.args.term.now)) member)) c.copy.ensures
 
 pub returns : goal.returns
 returns c =
     let member = sym (member_is c.args.from.now c.args.term.now c.has_term.result c.has_term.ensures) ∙ c.if-has_term.false in
     IfOk-weaker c.made_for.result _ _
-    (λ it is. is ∙ sym (ap (λ answer. cond answer (taken c.args.from.now c.args.to.now c.args.term.now) (made_for c.args.number c.args.values.now c.args.term.now)) member)) c.made_for.ensures
+    (λ it is. is ∙ sym (ap (λ answer. cond answer (taken c.args.from.now c.args.to.now c.args.term.now)
+        (made_for c.args.number c.args.values.now c.args.term.now)) member)) c.made_for.ensures

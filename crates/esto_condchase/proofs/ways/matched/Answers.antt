@@ -13,7 +13,8 @@ pub through_row-requires-clause-counted : goal.through_row-requires-clause-count
 through_row-requires-clause-counted c =
     let entry = c.index-entries-place.result in
     let at = item_at c.args.entries.now c.entries.place entry c.entries-test.true c.index-entries-place.is in
-    begun_count c.args.before.now c.in_ok-start-in-Stated.start c.entries.place c.args.count entry.product c.in_ok-start-in-Stated.ensures c.requires.counted (c.requires.counts entry (Contains-at c.args.entries.now c.entries.place entry at))
+    begun_count c.args.before.now c.in_ok-start-in-Stated.start c.entries.place c.args.count entry.product c.in_ok-start-in-Stated.ensures c.requires.counted
+        (c.requires.counts entry (Contains-at c.args.entries.now c.entries.place entry at))
 
 pub entries-preserved : goal.entries-preserved
 entries-preserved c =
@@ -28,10 +29,13 @@ entries-preserved c =
       | in-Stated+then-fact-atom+then-len+in_ok-start-in-Stated+in_ok-through_row-in-Stated+in_ok-append-in-Stated w ↦
           let start = w.in_ok-start-in-Stated.start in
           matched_more c.args.entries.now c.args.from.now c.args.atom.now c.args.before.now c.entries.place c.entries.ways entry at c.entries.invariant
-          w.in-Stated.fact w.in-Stated.is (w.if-fact-atom.true, sym w.len.ensures ∙ w.if-len.true ∙ w.len-then-fact-atom.ensures) c.requires.lengths (c.requires.counted ∙ sym count)
+          w.in-Stated.fact w.in-Stated.is (w.if-fact-atom.true, sym w.len.ensures ∙ w.if-len.true ∙ w.len-then-fact-atom.ensures) c.requires.lengths
+              (c.requires.counted ∙ sym count)
           start w.in_ok-start-in-Stated.ensures _ c.match-entry.ways
-          (rows_of_items c.args.entries.now c.args.from.now c.args.atom.now.terms w.items.result.now w.in-Stated.fact.terms w.items-then-len.result.now start _ w.items.ensures w.items-then-len.ensures w.in_ok-through_row-in-Stated.ensures.rows)
-          (start_counted c.args.count start _ (begun_count c.args.before.now start c.entries.place c.args.count entry.product w.in_ok-start-in-Stated.ensures c.requires.counted count) w.in_ok-through_row-in-Stated.ensures.counted) (w.ways-is ∙ w.in_ok-append-in-Stated.ensures.ok)
+          (rows_of_items c.args.entries.now c.args.from.now c.args.atom.now.terms w.items.result.now w.in-Stated.fact.terms w.items-then-len.result.now start _
+              w.items.ensures w.items-then-len.ensures w.in_ok-through_row-in-Stated.ensures.rows)
+          (start_counted c.args.count start _ (begun_count c.args.before.now start c.entries.place c.args.count entry.product w.in_ok-start-in-Stated.ensures
+              c.requires.counted count) w.in_ok-through_row-in-Stated.ensures.counted) (w.ways-is ∙ w.in_ok-append-in-Stated.ensures.ok)
       | in-Stated+else-fact-atom w ↦
           subst (MatchedSoFar c.args.entries.now c.args.from.now c.args.atom.now c.args.before.now (c.entries.place + 1)) (sym w.ways-is)
           (matched_skip c.args.entries.now c.args.from.now c.args.atom.now c.args.before.now c.entries.place c.entries.ways entry at c.entries.invariant
@@ -39,10 +43,12 @@ entries-preserved c =
           let claims : Stated w.in-Stated.fact ≡ Stated fact = sym w.in-Stated.is ∙ states in
           let same : w.in-Stated.fact ≡ fact = cc in
           elim w.else-fact-atom.branch [
-            | else-fact-atom-via-then-fact-atom+else-len w' ↦ w'.if-len.false (w'.len.ensures ∙ ap (λ (it : Fact Term). length it.terms) same ∙ fitting.1 ∙ sym w'.len-then-fact-atom.ensures)
+            | else-fact-atom-via-then-fact-atom+else-len w' ↦ w'.if-len.false (w'.len.ensures ∙ ap (λ (it : Fact Term). length it.terms) same ∙ fitting.1
+                ∙ sym w'.len-then-fact-atom.ensures)
             | else-fact-atom-via-else-fact-atom w' ↦ w'.if-fact-atom.false (ap (λ (it : Fact Term). it.relation) same ∙ fitting.0)
           ]))
     ]
 
 pub returns-clause-matched : goal.returns-clause-matched
-returns-clause-matched c = matched_all c.args.entries.now c.args.from.now c.args.atom.now c.args.before.now c.entries.place c.entries.ways c.entries-test.false c.entries.invariant
+returns-clause-matched c = matched_all c.args.entries.now c.args.from.now c.args.atom.now c.args.before.now c.entries.place c.entries.ways c.entries-test.false
+    c.entries.invariant

@@ -18,11 +18,14 @@ atoms-init c =
     }
 
 pub all_matched-requires-clause-lengths : goal.all_matched-requires-clause-lengths
-all_matched-requires-clause-lengths c = found_lengths c.args.entries.now _ c.atoms.ways c.items.result.now c.atoms.from c.atoms.invariant.found c.items.ensures c.atoms.invariant.from_is
+all_matched-requires-clause-lengths c = found_lengths c.args.entries.now _ c.atoms.ways c.items.result.now c.atoms.from c.atoms.invariant.found c.items.ensures
+    c.atoms.invariant.from_is
 
 pub atoms-preserved : goal.atoms-preserved
 atoms-preserved c = record {
-  found = body_turn c.args.entries.now c.args.body.now c.atoms.atom-index c.atom-item.result c.atoms.ways c.items.result.now c.in_ok-ways.ways c.atoms.from c.atoms-test.true c.atom-item.is c.items.ensures c.atoms.invariant.from_is c.atoms.invariant.found c.in_ok-ways.ensures.matched;
-  from_is = from_turn c.args.body.now c.atoms.atom-index c.atom-item.result c.atoms.from c.append.new.self _ c.atoms-test.true c.atom-item.is c.atoms.invariant.from_is c.in_ok-copy.ensures c.in_ok-append.ensures.ok;
+  found = body_turn c.args.entries.now c.args.body.now c.atoms.atom-index c.atom-item.result c.atoms.ways c.items.result.now c.in_ok-ways.ways c.atoms.from
+      c.atoms-test.true c.atom-item.is c.items.ensures c.atoms.invariant.from_is c.atoms.invariant.found c.in_ok-ways.ensures.matched;
+  from_is = from_turn c.args.body.now c.atoms.atom-index c.atom-item.result c.atoms.from c.append.new.self _ c.atoms-test.true c.atom-item.is
+      c.atoms.invariant.from_is c.in_ok-copy.ensures c.in_ok-append.ensures.ok;
   counted = c.in_ok-ways.ensures.counted;
 }
