@@ -114,7 +114,8 @@ pub fn chase_with_products(
     ensures sound { IfOk result
         (λ entries. (set : List Bool) → IsSound facts.now (rules_of rules.now) entries set) }
     ensures database { IfOk result (λ entries. (set : List Bool)
-        → ¬ (IsBroken (InWorld entries set)) → ¬ (IsDenied (rules_of rules.now) (InWorld entries set))
+        → ¬ (IsBroken (InWorld entries set))
+        → ¬ (IsDenied (rules_of rules.now) (InWorld entries set))
         → IsDatabase (rules_of rules.now) (InWorld entries set)) }
     ensures nowhere { IfOk result (λ entries. (set : List Bool)
         → IsBroken (InWorld entries set) ⊎ IsDenied (rules_of rules.now) (InWorld entries set)

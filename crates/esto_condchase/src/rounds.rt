@@ -44,7 +44,9 @@ fn ask(
 ) -> Result<(), OutOfMemory>
     requires counts { AreOfCount (length way.now.product) entries.now }
     requires more_counts { AreOfCount (length way.now.product) more.old }
-    ensures { OnOk result (IsAdded entries.now more.old claim way.now.product (Step number (way.now.facts ++ way.now.links)) more.new) }
+    ensures { OnOk result
+        (IsAdded entries.now more.old claim way.now.product
+        (Step number (way.now.facts ++ way.now.links)) more.new) }
 {
     let places = places_of(alloc, way)?;
     add(
@@ -75,8 +77,10 @@ fn answer_tuple(
     requires shared_is { shared.now ≡ frontier rule.now.body rule.now.head }
     requires counts { AreOfCount (length way.now.product) entries.now }
     requires more_counts { AreOfCount (length way.now.product) more.old }
-    ensures grows { OnOk result (Grows (rules_of rules.now) (length way.now.product) entries.now more.old more.new) }
-    ensures answered { OnOk result (IsAnswered (entries.now ++ more.new) number (tuple rule.now.body rule.now.head) way.now) }
+    ensures grows { OnOk result
+        (Grows (rules_of rules.now) (length way.now.product) entries.now more.old more.new) }
+    ensures answered { OnOk result
+        (IsAnswered (entries.now ++ more.new) number (tuple rule.now.body rule.now.head) way.now) }
 {
     let values = taken_terms(alloc, from.items(), way.to.items(), shared.items())?;
     'head: for atom in rule.head.items() {
@@ -97,13 +101,17 @@ fn answer_equality(
     way: &Way,
     more: &mut List<Entry>,
 ) -> Result<(), OutOfMemory>
-    requires at { slice_get (rules_of rules.now) number ≡ Some (equality rule.now.body rule.now.left rule.now.right) }
+    requires at { slice_get (rules_of rules.now) number ≡ Some
+        (equality rule.now.body rule.now.left rule.now.right) }
     requires found { IsFound entries.now rule.now.body way.now }
     requires from_is { from.now ≡ terms_of rule.now.body }
     requires counts { AreOfCount (length way.now.product) entries.now }
     requires more_counts { AreOfCount (length way.now.product) more.old }
-    ensures grows { OnOk result (Grows (rules_of rules.now) (length way.now.product) entries.now more.old more.new) }
-    ensures answered { OnOk result (IsAnswered (entries.now ++ more.new) number (equality rule.now.body rule.now.left rule.now.right) way.now) }
+    ensures grows { OnOk result
+        (Grows (rules_of rules.now) (length way.now.product) entries.now more.old more.new) }
+    ensures answered { OnOk result
+        (IsAnswered (entries.now ++ more.new) number
+        (equality rule.now.body rule.now.left rule.now.right) way.now) }
 {
     let left = taken_term(from.items(), way.to.items(), &rule.left).copy(alloc)?;
     let right = taken_term(from.items(), way.to.items(), &rule.right).copy(alloc)?;
@@ -125,7 +133,9 @@ fn answer_tuples(
     requires counts { AreOfCount count entries.now }
     requires more_counts { AreOfCount count more.old }
     ensures grows { OnOk result (Grows (rules_of rules.now) count entries.now more.old more.new) }
-    ensures answered { OnOk result (IsRuleAnswered entries.now (entries.now ++ more.new) number (tuple rule.now.body rule.now.head)) }
+    ensures answered { OnOk result
+        (IsRuleAnswered entries.now (entries.now ++ more.new) number
+        (tuple rule.now.body rule.now.head)) }
 {
     let found = matches_of(alloc, entries, rule.body.items(), count)?;
     let from = terms_of(alloc, rule.body.items())?;
@@ -148,11 +158,14 @@ fn answer_equalities(
     count: usize,
     more: &mut List<Entry>,
 ) -> Result<(), OutOfMemory>
-    requires at { slice_get (rules_of rules.now) number ≡ Some (equality rule.now.body rule.now.left rule.now.right) }
+    requires at { slice_get (rules_of rules.now) number ≡ Some
+        (equality rule.now.body rule.now.left rule.now.right) }
     requires counts { AreOfCount count entries.now }
     requires more_counts { AreOfCount count more.old }
     ensures grows { OnOk result (Grows (rules_of rules.now) count entries.now more.old more.new) }
-    ensures answered { OnOk result (IsRuleAnswered entries.now (entries.now ++ more.new) number (equality rule.now.body rule.now.left rule.now.right)) }
+    ensures answered { OnOk result
+        (IsRuleAnswered entries.now (entries.now ++ more.new) number
+        (equality rule.now.body rule.now.left rule.now.right)) }
 {
     let found = matches_of(alloc, entries, rule.body.items(), count)?;
     let from = terms_of(alloc, rule.body.items())?;
@@ -176,7 +189,8 @@ fn answer_rule(
     requires counts { AreOfCount count entries.now }
     requires more_counts { AreOfCount count more.old }
     ensures grows { OnOk result (Grows (rules_of rules.now) count entries.now more.old more.new) }
-    ensures answered { OnOk result (IsRuleAnswered entries.now (entries.now ++ more.new) number (rule_of rule.now)) }
+    ensures answered { OnOk result
+        (IsRuleAnswered entries.now (entries.now ++ more.new) number (rule_of rule.now)) }
 {
     match rule {
         Constraint::Tuple(tuple) => answer_tuples(
@@ -198,7 +212,8 @@ fn answer_rules(
 ) -> Result<List<Entry>, OutOfMemory>
     requires counts { AreOfCount count entries.now }
     ensures grows { IfOk result (λ more. Grows (rules_of rules.now) count entries.now [] more) }
-    ensures answered { IfOk result (λ more. AreAnswered (rules_of rules.now) entries.now (entries.now ++ more)) }
+    ensures answered { IfOk result
+        (λ more. AreAnswered (rules_of rules.now) entries.now (entries.now ++ more)) }
 {
     let mut more = List::new(alloc);
     'rules: for (number, rule) in rules.iter().enumerate() {
@@ -226,8 +241,12 @@ fn join_ends(
     requires second { LinksAt entries.now second second_entry.now other_next.now other.now }
     requires counts { AreOfCount count entries.now }
     requires more_counts { AreOfCount count more.old }
-    ensures grows { OnOk result ((rules : List Rule) → Grows rules count entries.now more.old more.new) }
-    ensures joined { OnOk result (next.now ≡ other_next.now → IsThere (entries.now ++ more.new) (Same term.now other.now) (united first_entry.now.product second_entry.now.product)) }
+    ensures grows { OnOk result
+        ((rules : List Rule) → Grows rules count entries.now more.old more.new) }
+    ensures joined { OnOk result
+        (next.now ≡ other_next.now
+        → IsThere (entries.now ++ more.new) (Same term.now other.now)
+        (united first_entry.now.product second_entry.now.product)) }
 {
     if !next.equal(other_next) {
         return Ok(());
@@ -257,8 +276,10 @@ fn join_pair(
     requires second { slice_get entries.now second ≡ Some second_entry.now }
     requires counts { AreOfCount count entries.now }
     requires more_counts { AreOfCount count more.old }
-    ensures grows { OnOk result ((rules : List Rule) → Grows rules count entries.now more.old more.new) }
-    ensures joined { OnOk result (IsPairJoined (entries.now ++ more.new) first_entry.now second_entry.now) }
+    ensures grows { OnOk result
+        ((rules : List Rule) → Grows rules count entries.now more.old more.new) }
+    ensures joined { OnOk result
+        (IsPairJoined (entries.now ++ more.new) first_entry.now second_entry.now) }
 {
     match &first_entry.claim {
         Claim::Fact(_) => Ok(()),
@@ -339,8 +360,11 @@ fn join_entry(
     requires first { slice_get entries.now first ≡ Some first_entry.now }
     requires counts { AreOfCount count entries.now }
     requires more_counts { AreOfCount count more.old }
-    ensures grows { OnOk result ((rules : List Rule) → Grows rules count entries.now more.old more.new) }
-    ensures joined { OnOk result ((second : Entry) → Contains entries.now second → IsPairJoined (entries.now ++ more.new) first_entry.now second) }
+    ensures grows { OnOk result
+        ((rules : List Rule) → Grows rules count entries.now more.old more.new) }
+    ensures joined { OnOk result
+        ((second : Entry) → Contains entries.now second
+        → IsPairJoined (entries.now ++ more.new) first_entry.now second) }
 {
     'entries: for (second, second_entry) in entries.iter().enumerate() {
         join_pair(
@@ -366,7 +390,8 @@ fn join(
 ) -> Result<(), OutOfMemory>
     requires counts { AreOfCount count entries.now }
     requires more_counts { AreOfCount count more.old }
-    ensures grows { OnOk result ((rules : List Rule) → Grows rules count entries.now more.old more.new) }
+    ensures grows { OnOk result
+        ((rules : List Rule) → Grows rules count entries.now more.old more.new) }
     ensures joined { OnOk result (AreJoined entries.now (entries.now ++ more.new)) }
 {
     'entries: for (first, first_entry) in entries.iter().enumerate() {
@@ -385,7 +410,8 @@ pub fn round(
 ) -> Result<List<Entry>, OutOfMemory>
     requires counts { AreOfCount count entries.now }
     ensures grows { IfOk result (λ more. Grows (rules_of rules.now) count entries.now [] more) }
-    ensures answered { IfOk result (λ more. AreAnswered (rules_of rules.now) entries.now (entries.now ++ more)) }
+    ensures answered { IfOk result
+        (λ more. AreAnswered (rules_of rules.now) entries.now (entries.now ++ more)) }
     ensures joined { IfOk result (λ more. AreJoined entries.now (entries.now ++ more)) }
 {
     let mut more = answer_rules(alloc, entries, rules, count)?;

@@ -62,7 +62,8 @@ pub fn to_meet<'a>(from: &[Term], to: &'a [Term], term: &'a Term, own: &'a Term)
 /// The term at the first place of a term, or `own`.
 fn met_before<'a>(from: &[Term], to: &'a [Term], term: &'a Term, own: &'a Term) -> &'a Term
     requires { length from.now ≡ length to.now }
-    ensures { result.now ≡ substituted (from.now ++ term.now ∷ []) (to.now ++ own.now ∷ []) term.now }
+    ensures { result.now ≡ substituted (from.now ++ term.now ∷ [])
+        (to.now ++ own.now ∷ []) term.now }
 {
     'places: for place in 0..from.len() {
         if term.compare(&from[place]).is_eq() {

@@ -99,7 +99,8 @@ fn longer(
 ) -> Result<List<Way>, OutOfMemory>
     requires lengths { length from.now ≡ length before.now.to }
     requires counts { AreOfCount (length before.now.product) entries.now }
-    ensures longer { IfOk result (λ ways. AreLonger entries.now from.now term.now own.now (before.now ∷ []) ways) }
+    ensures longer { IfOk result
+        (λ ways. AreLonger entries.now from.now term.now own.now (before.now ∷ []) ways) }
     ensures counted { IfOk result (λ ways. AreCounted (length before.now.product) ways) }
 {
     let mut ways = List::new(alloc);
@@ -129,7 +130,8 @@ fn all_longer(
     requires lengths { (way : Way) → Contains given.now way → length from.now ≡ length way.to }
     requires counted { AreCounted count given.now }
     requires counts { AreOfCount count entries.now }
-    ensures longer { IfOk result (λ ways. AreLonger entries.now from.now term.now own.now given.now ways) }
+    ensures longer { IfOk result
+        (λ ways. AreLonger entries.now from.now term.now own.now given.now ways) }
     ensures counted { IfOk result (λ ways. AreCounted count ways) }
 {
     let mut ways = List::new(alloc);
@@ -164,7 +166,8 @@ pub fn through_row(
     requires rows { length owns.now ≡ length terms.now }
     requires counted { length start.now.product ≡ count }
     requires counts { AreOfCount count entries.now }
-    ensures rows { IfOk result (λ ways. AreRows entries.now from.now terms.now owns.now start.now ways) }
+    ensures rows { IfOk result
+        (λ ways. AreRows entries.now from.now terms.now owns.now start.now ways) }
     ensures counted { IfOk result (λ ways. AreCounted count ways) }
 {
     let mut ways = List::new(alloc);
@@ -197,7 +200,8 @@ fn matched(
     requires lengths { length from.now ≡ length before.now.to }
     requires counted { length before.now.product ≡ count }
     requires counts { AreOfCount count entries.now }
-    ensures matched { IfOk result (λ ways. AreMatched entries.now from.now atom.now (before.now ∷ []) ways) }
+    ensures matched { IfOk result
+        (λ ways. AreMatched entries.now from.now atom.now (before.now ∷ []) ways) }
     ensures counted { IfOk result (λ ways. AreCounted count ways) }
 {
     let mut ways = List::new(alloc);
@@ -235,7 +239,8 @@ fn all_matched(
     requires lengths { (way : Way) → Contains given.now way → length from.now ≡ length way.to }
     requires counted { AreCounted count given.now }
     requires counts { AreOfCount count entries.now }
-    ensures matched { IfOk result (λ ways. AreMatched entries.now from.now atom.now given.now ways) }
+    ensures matched { IfOk result
+        (λ ways. AreMatched entries.now from.now atom.now given.now ways) }
     ensures counted { IfOk result (λ ways. AreCounted count ways) }
 {
     let mut ways = List::new(alloc);
