@@ -130,7 +130,8 @@ fn add_product(
 ) -> Result<(), OutOfMemory>
     requires { length entry.now.product ≡ products.old.count }
     ensures count { products.new.count ≡ products.old.count }
-    ensures sets { OnOk result (AddsProduct entry.now claim.now products.old.sets products.new.sets) }
+    ensures sets { OnOk result
+        (AddsProduct entry.now claim.now products.old.sets products.new.sets) }
 {
     if !entry.claim.is_same(claim) {
         return Ok(());

@@ -1,5 +1,0 @@
-pub mod MeetLemmas
-pub mod CoverLemmas
-pub mod WayLemmas
-pub mod RoundLemmas
-pub mod LoopLemmas
