@@ -1,5 +1,5 @@
 -- The documents of rows are such as a writer takes.
-use Rattle.std.proofs.Common.{◌≡◌, ◌≤◌, ◌+◌, ◌-◌, ◌∷◌, [], ℕ, suc, max, List, Bool, true, false, length, if◌then◌else◌, inl, inr, refl, arith, nat_cmp, Ordering, Less, Equal, Greater}
+use Rattle.std.proofs.Common.{◌≡◌, ◌≤◌, ◌+◌, ◌-◌, ◌∷◌, [], ℕ, suc, max, List, Bool, true, false, length, if◌then◌else◌, inl, inr, refl, sym, ◌∙◌, arith, nat_cmp, Ordering, Less, Equal, Greater}
 use Rattle.std.specs.Cmp.Lexicographic.{slice_cmp}
 use Rattle.std.specs.Ordering.{match_ordering}
 use Rattle.serde_json.specs.Data.{Data, string, array, object, no_items, item, Members, no_members, member, put, depth, members_depth}
@@ -8,7 +8,7 @@ use Rattle.esto_docmodel.specs.declared.pattern.Step.{Step}
 use Rattle.esto_docmodel.specs.declared.pattern.Step.TheVariants.{Name, Item, Below}
 use Rattle.esto_docs.specs.Texts.{HasTextsOnly, MembersHaveTextsOnly, IsContainer, IsDocument}
 use Rattle.esto_docs.specs.Rows.{Row, cell_of, is_named, first_name, later_steps, path_data, group_kind, group_data, members_data, height}
-use Rattle.esto_docs.specs.Layouts.{IsPath, IsGroup, AreNamed}
+use Rattle.esto_docs.proofs.Groups.{IsPath, IsGroup, AreNamed}
 
 -- A `put` among texts, and how deep it is.
 put_texts_at : (o : Ordering) (k l : List ℕ) (d e : Data) (ms more : Members) → HasTextsOnly d → MembersHaveTextsOnly (member l e ms) → MembersHaveTextsOnly more
@@ -107,7 +107,7 @@ mutual
   group_depth row (holds path term rest) (is, inr h) =
       let first = later_depth path (string (cell_of row term)) 0 is.0 (omega arith) in
       let n : ℕ = max (length path) (height rest) - 1 in
-      let both = kind_depth path (path_data (later_steps path) (string (cell_of row term))) (members_data row rest) n (omega (arith, first)) (λ e. cc (e, h.0)) in
+      let both = kind_depth path (path_data (later_steps path) (string (cell_of row term))) (members_data row rest) n (omega (arith, first)) (λ e. cc (sym e ∙ h.0)) in
       omega (arith, first, both)
   group_depth row (group path inner rest) (is, deep, inl h) =
       let first = later_depth path (group_data row inner) (height inner) is.0 (group_depth row inner deep) in
@@ -118,7 +118,7 @@ mutual
   group_depth row (group path inner rest) (is, deep, inr h) =
       let first = later_depth path (group_data row inner) (height inner) is.0 (group_depth row inner deep) in
       let n : ℕ = max (length path + height inner) (height rest) - 1 in
-      let both = kind_depth path (path_data (later_steps path) (group_data row inner)) (members_data row rest) n (omega (arith, first)) (λ e. cc (e, h.0)) in
+      let both = kind_depth path (path_data (later_steps path) (group_data row inner)) (members_data row rest) n (omega (arith, first)) (λ e. cc (sym e ∙ h.0)) in
       omega (arith, first, both)
 
 pub group_document : (row : Row) (es : Entries) → IsGroup es → height es ≤ 126 → IsDocument (group_data row es)

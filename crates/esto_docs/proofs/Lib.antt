@@ -1,3 +1,4 @@
+pub mod Groups
 pub mod TreeLemmas
 pub mod FileLemmas
 pub mod RiseLemmas
@@ -9,5 +10,6 @@ pub mod ArrayLemmas
 pub mod LineLemmas
 pub mod LineLawLemmas
 pub mod DepthLemmas
+pub mod LayoutLemmas
 pub mod RowLemmas
 pub mod DocumentLemmas

@@ -13,7 +13,7 @@ use Rattle.esto_docmodel.specs.Patterns.{Entries, done, holds, group, Takes, Lea
 use Rattle.esto_docmodel.specs.declared.pattern.Step.{Step}
 use Rattle.esto_docmodel.specs.declared.pattern.Step.TheVariants.{Name, Item, Below}
 use Rattle.esto_docs.specs.Rows.{Row, cell_of, is_named, first_name, later_steps, path_data, group_kind, group_data, members_data}
-use Rattle.esto_docs.specs.Layouts.{HasNoBelow, IsPath, IsFresh, IsGroup, AreNamed, Agree}
+use Rattle.esto_docs.proofs.Groups.{HasNoBelow, IsPath, IsFresh, IsGroup, AreNamed, Agree}
 use Rattle.esto_docs.proofs.NodeLemmas.{node_of, members_row}
 
 -- Fields of an object after a `put`.

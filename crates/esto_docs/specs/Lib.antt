@@ -4,6 +4,5 @@ pub mod Files
 pub mod Texts
 pub mod Rows
 pub mod Building
-pub mod Layouts
 pub mod FileRows
 pub mod LineLaws

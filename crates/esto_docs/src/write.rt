@@ -6,7 +6,7 @@ ghost use Rattle.esto_docmodel.specs.Shapes.{entries_of};
 ghost use Rattle.esto_docs.specs.declared.layout.Layout.TheVariants as layouts;
 ghost use Rattle.esto_docs.specs.Files.{trees_fault, file_trees};
 ghost use Rattle.esto_docs.specs.FileRows.{AreFileRows, documents_text};
-ghost use Rattle.esto_docs.specs.Layouts.{IsLayout};
+ghost use Rattle.esto_docmodel.specs.Layouts.{IsLayout};
 ghost use Rattle.esto_docs.specs.Rows.{group_data};
 ghost use Rattle.esto_docs.specs.Texts.{IsDocument, HasTextsOnly, Writes};
 ghost use Rattle.esto_docs.specs.Trees.{tree_of};
@@ -99,7 +99,7 @@ pub fn write_documents(
     pattern: &Pattern,
     columns: usize,
 ) -> Result<Bytes, OutOfMemory>
-    requires layout { IsLayout columns (entries_of pattern.now.entries) }
+    requires layout { IsLayout (entries_of pattern.now.entries) columns }
     requires lengths { All (λ row. length row ≡ columns) rows.now }
     ensures text { IfOk result (λ text. text ≡ documents_text layout.now
         (map (λ row. group_data row (entries_of pattern.now.entries)) rows.now)) }

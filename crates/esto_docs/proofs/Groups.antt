@@ -1,11 +1,11 @@
--- Patterns that are layouts of fragment files.
-use Rattle.std.specs.Prelude.{◌≡◌, ◌≢◌, ◌⊎◌, ◌≤◌, ◌<◌, ℕ, true, false, List, [], ◌∷◌, length, ⊤}
+-- Groups of a layout, and maps that agree with a row.
+use Rattle.std.specs.Prelude.{◌≡◌, ◌≢◌, ◌⊎◌, ◌≤◌, ℕ, true, false, List, [], ◌∷◌, length, ⊤}
 use Rattle.esto_term.specs.declared.term.Term.{Term}
-use Rattle.esto_term.specs.declared.term.Term.TheVariants.{Const, Plain}
-use Rattle.esto_docmodel.specs.Patterns.{Entries, done, holds, group, Mentions}
+use Rattle.esto_term.specs.declared.term.Term.TheVariants.{Const}
+use Rattle.esto_docmodel.specs.Patterns.{Entries, done, holds, group}
 use Rattle.esto_docmodel.specs.declared.pattern.Step.{Step}
 use Rattle.esto_docmodel.specs.declared.pattern.Step.TheVariants.{Name, Item, Below}
-use Rattle.esto_docs.specs.Rows.{Row, cell_of, is_named, first_name, height}
+use Rattle.esto_docs.specs.Rows.{Row, cell_of, is_named, first_name}
 
 -- The path has a step, and none to whatever stands inside.
 abbrev pub HasNoBelow : List Step → Type 0
@@ -42,11 +42,3 @@ abbrev pub Agree : (Term → Term) → Row → Entries → Type 0
 Agree m row done = ⊤
 Agree m row (holds path term rest) = (m term ≡ Const (cell_of row term)) × Agree m row rest
 Agree m row (group path inner rest) = Agree m row inner × Agree m row rest
-
--- A layout for that many columns: each group is as above; after each `:` stands a variable that is a column, and each column stands
--- there; and each column stands at most 126 steps below the root.
-pub record IsLayout (columns : ℕ) (entries : Entries) : Type 0 where
-  pub groups : IsGroup entries
-  pub terms : (term : Term) → Mentions entries term → (column : ℕ) × (column < columns) × (term ≡ Plain column)
-  pub stands : (column : ℕ) → column < columns → Mentions entries (Plain column)
-  pub shallow : height entries ≤ 126
