@@ -14,12 +14,15 @@ use Rattle.std.proofs.lemmas.Slice.Eq.{bytes_eq-Decides}
 use Rattle.std.proofs.lemmas.Option.{none-some, slice_get_within, get_or_from_slice_get}
 
 -- different places of a list without repeats hold different things
-pub one_place : {X : Type 0} (things : List X) → AllPairs ◌≢◌ things → (place other : ℕ) (thing : X) → slice_get things place ≡ Some thing → slice_get things other ≡ Some thing → place ≡ other
+pub one_place : {X : Type 0} (things : List X) → AllPairs ◌≢◌ things → (place other : ℕ) (thing : X) → slice_get things place ≡ Some thing
+    → slice_get things other ≡ Some thing → place ≡ other
 one_place things once place other thing at also = elim (cases_order place other) [
   | inl same ↦ same
   | inr apart ↦ elim apart [
-    | inl below ↦ absurd (once place other thing below (slice_get_within things other thing also) (get_or_from_slice_get things place thing thing at ∙ sym (get_or_from_slice_get things other thing thing also)))
-    | inr above ↦ absurd (once other place thing above (slice_get_within things place thing at) (get_or_from_slice_get things other thing thing also ∙ sym (get_or_from_slice_get things place thing thing at)))
+    | inl below ↦ absurd (once place other thing below (slice_get_within things other thing also)
+        (get_or_from_slice_get things place thing thing at ∙ sym (get_or_from_slice_get things other thing thing also)))
+    | inr above ↦ absurd (once other place thing above (slice_get_within things place thing at)
+        (get_or_from_slice_get things other thing thing also ∙ sym (get_or_from_slice_get things place thing thing at)))
   ]
 ]
 
@@ -32,7 +35,8 @@ pub found_number : (keys : List (List ℕ)) (key : List ℕ) (found : Option ℕ
 found_number keys key None once told = told
 found_number keys key (Some number) once told = numbered keys key number once told
 
-seen_at : {X Y : Type 0} (seen : X → Y) (things : List X) (place : ℕ) (thing : X) → slice_get things place ≡ Some thing → slice_get (map seen things) place ≡ Some (seen thing)
+seen_at : {X Y : Type 0} (seen : X → Y) (things : List X) (place : ℕ) (thing : X) → slice_get things place ≡ Some thing
+    → slice_get (map seen things) place ≡ Some (seen thing)
 seen_at seen [] place thing e = absurd (none-some thing e)
 seen_at seen (first ∷ rest) zero thing e = let is : first ≡ thing = cc in ap (λ it. Some (seen it)) is
 seen_at seen (first ∷ rest) (suc place) thing e = seen_at seen rest place thing e
@@ -43,7 +47,8 @@ module _ {X Y : Type 0} (seen : X → Y) (wanted : Y) (test : X → Bool) (told_
   any_none [] none inside = Contains-nil wanted inside
   any_none (first ∷ rest) none inside = by (λ later. any_none rest later) (test first) refl none
     where
-      by : (list_any test rest ≡ false → Contains (map seen rest) wanted → ⊥) → (answer : Bool) → test first ≡ answer → (answer || list_any test rest) ≡ false → ⊥
+      by : (list_any test rest ≡ false → Contains (map seen rest) wanted → ⊥) → (answer : Bool) → test first ≡ answer → (answer || list_any test rest) ≡ false
+          → ⊥
       by again true told all = let wrong : true ≡ false = all in cc
       by again false told all = elim (Contains-cases (seen first) (map seen rest) wanted inside) [
         | inl is ↦ let wrong : true ≡ false = sym ((told_of first).1 is) ∙ told in cc
@@ -51,7 +56,8 @@ module _ {X Y : Type 0} (seen : X → Y) (wanted : Y) (test : X → Bool) (told_
       ]
 
   -- the thing at a place that passes is seen as the wanted one
-  pub passes_at : (things : List X) (place : ℕ) (thing : X) → slice_get things place ≡ Some thing → test thing ≡ true → slice_get (map seen things) place ≡ Some wanted
+  pub passes_at : (things : List X) (place : ℕ) (thing : X) → slice_get things place ≡ Some thing → test thing ≡ true
+      → slice_get (map seen things) place ≡ Some wanted
   passes_at things place thing at passes = seen_at seen things place thing at ∙ ap Some ((told_of thing).0 passes)
 
   pub number_of : (things : List X) (found : Option ℕ) → found ≡ position test things → is_some found ≡ list_any test things
@@ -60,7 +66,8 @@ module _ {X Y : Type 0} (seen : X → Y) (wanted : Y) (test : X → Bool) (told_
   number_of things (Some number) e any =
       let there : number < length things = elim (some_thing number things e) [ inl inside ↦ inside | inr wrong ↦ absurd wrong ] in
       let thing = thing_at things number there in
-      passes_at things number thing.0 thing.1 (ap test (sym (get_or_from_slice_get things number thing.0 thing.0 thing.1)) ∙ (position-Some test things number thing.0 (sym e)).1)
+      passes_at things number thing.0 thing.1
+      (ap test (sym (get_or_from_slice_get things number thing.0 thing.0 thing.1)) ∙ (position-Some test things number thing.0 (sym e)).1)
     where
       some_thing : (place : ℕ) (all : List X) → Some place ≡ position test all → (place < length all) ⊎ ⊥
       some_thing place [] e = absurd (cc)
@@ -71,23 +78,33 @@ module _ {X Y : Type 0} (seen : X → Y) (wanted : Y) (test : X → Bool) (told_
       → (new ≡ things) ⊎ ((new ≡ things ++ thing ∷ []) × (Contains (map seen things) wanted → ⊥))
   grown_by things new thing is e = by (list_any test things) refl e
     where
-      by : (answer : Bool) → list_any test things ≡ answer → new ≡ cond answer things (things ++ thing ∷ []) → (new ≡ things) ⊎ ((new ≡ things ++ thing ∷ []) × (Contains (map seen things) wanted → ⊥))
+      by : (answer : Bool) → list_any test things ≡ answer → new ≡ cond answer things (things ++ thing ∷ [])
+          → (new ≡ things) ⊎ ((new ≡ things ++ thing ∷ []) × (Contains (map seen things) wanted → ⊥))
       by true told new_is = inl new_is
       by false told new_is = inr (new_is, any_none things told)
 
-  pub distinct_grown : (things new : List X) (thing : X) → seen thing ≡ wanted → new ≡ cond (list_any test things) things (things ++ thing ∷ []) → AllPairs ◌≢◌ (map seen things) → AllPairs ◌≢◌ (map seen new)
+  pub distinct_grown : (things new : List X) (thing : X) → seen thing ≡ wanted → new ≡ cond (list_any test things) things (things ++ thing ∷ [])
+      → AllPairs ◌≢◌ (map seen things) → AllPairs ◌≢◌ (map seen new)
   distinct_grown things new thing is e once = elim (grown_by things new thing is e) [
     | inl same ↦ subst (λ it. AllPairs ◌≢◌ (map seen it)) (sym same) once
     | inr more ↦ subst (AllPairs ◌≢◌) (sym (ap (map seen) more.0 ∙ map-append seen things (thing ∷ [])))
-        (all_pairs_push ◌≢◌ (map seen things) (seen thing) once (λ place default below same. more.1 (subst (Contains (map seen things)) (same ∙ is) (Contains-get_or (map seen things) place default below))))
+        (all_pairs_push ◌≢◌ (map seen things) (seen thing) once
+        (λ place default below same. more.1 (subst (Contains (map seen things)) (same ∙ is) (Contains-get_or (map seen things) place default below))))
   ]
 
-  pub list_grown : (things new : List X) (thing : X) (number : ℕ) → seen thing ≡ wanted → new ≡ cond (list_any test things) things (things ++ thing ∷ []) → AllPairs ◌≢◌ (map seen things)
-      → slice_get (map seen new) number ≡ Some wanted → (map seen new ≡ map seen things) ⊎ ((map seen new ≡ map seen things ++ wanted ∷ []) × (number ≡ length (map seen things)))
+  pub list_grown : (things new : List X) (thing : X) (number : ℕ) → seen thing ≡ wanted → new ≡ cond (list_any test things) things (things ++ thing ∷ [])
+      → AllPairs ◌≢◌ (map seen things)
+      → slice_get (map seen new) number ≡ Some wanted
+      → (map seen new ≡ map seen things) ⊎ ((map seen new ≡ map seen things ++ wanted ∷ []) × (number ≡ length (map seen things)))
   list_grown things new thing number is e once at = elim (grown_by things new thing is e) [
     | inl same ↦ inl (ap (map seen) same)
-    | inr more ↦ let list : map seen new ≡ map seen things ++ wanted ∷ [] = ap (map seen) more.0 ∙ map-append seen things (thing ∷ []) ∙ ap (λ it. map seen things ++ it ∷ []) is in
-        inr (list, one_place (map seen new) (distinct_grown things new thing is e once) number (length (map seen things)) wanted at (ap (λ it. slice_get it (length (map seen things))) list ∙ at_end (map seen things) wanted))
+    | inr more ↦ let list : map seen new ≡ map seen things ++ wanted ∷ [] =
+        ap (map seen) more.0 ∙ map-append seen things (thing ∷ []) ∙ ap (λ it. map seen things ++ it ∷ []) is in
+        inr (
+          list,
+          one_place (map seen new) (distinct_grown things new thing is e once) number (length (map seen things)) wanted at
+              (ap (λ it. slice_get it (length (map seen things))) list ∙ at_end (map seen things) wanted),
+        )
   ]
 
 -- the test of lists of numbers tells whether the other is the wanted one

@@ -20,7 +20,11 @@ impl Model for Picks {
 
     ghost Value = { PickList };
 
-    ghost view = { λ it. record { items = it.places.items; spare = vec_capacity it.places - vec_len it.places } };
+    ghost view = { λ it. record {
+      items = it.places.items;
+      spare =
+          vec_capacity it.places - vec_len it.places;
+    } };
 }
 
 /// How many codes are compared at a time.

@@ -24,7 +24,11 @@ impl Model for Table {
 
     ghost Value = { CodedRows };
 
-    ghost view = { λ it. record { arity = length it.columns.items; rows = rows_of it.columns.items it.count } };
+    ghost view = { λ it. record {
+      arity = length it.columns.items;
+      rows =
+          rows_of it.columns.items it.count;
+    } };
 
     ghost invariant = { λ it. HaveLength it.count it.columns.items };
 }

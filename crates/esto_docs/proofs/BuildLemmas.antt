@@ -13,7 +13,8 @@ use Rattle.esto_docmodel.specs.declared.pattern.Entry.TheOpen.{Entry-F}
 use Rattle.esto_docs.specs.Rows.{Row, cell_of, is_named, first_name, later_steps, path_data, group_kind, group_data, members_data}
 use Rattle.esto_docs.specs.Building.{path_in, entry_path, data_in, entry_data}
 
-entry_cases : (P : Entry → Type 0) → ((path : List Step) (term : Term) → P (entry.Value path term)) → ((path : List Step) (inner : List Entry) → P (entry.Group path inner))
+entry_cases : (P : Entry → Type 0) → ((path : List Step) (term : Term) → P (entry.Value path term))
+    → ((path : List Step) (inner : List Entry) → P (entry.Group path inner))
     → (e : Entry) → P e
 entry_cases P value inner e = subst P (roll-out-Entry e) (by (out-Entry e))
   where
@@ -22,29 +23,35 @@ entry_cases P value inner e = subst P (roll-out-Entry e) (by (out-Entry e))
     by (Entry-F.Group path entries) = subst P (sym (entry.rolls-Group path entries)) (inner path entries)
 
 entry-Value : (path : List Step) (term : Term) (rest : Entries) → entry_shape (entry.Value path term) rest ≡ holds path term rest
-entry-Value path term rest = ap (λ (f : More). f rest) (ap entry_shape (sym (entry.rolls-Value path term)) ∙ fold-roll-Entry More entry_step (Entry-F.Value path term))
+entry-Value path term rest = ap (λ (f : More). f rest)
+    (ap entry_shape (sym (entry.rolls-Value path term)) ∙ fold-roll-Entry More entry_step (Entry-F.Value path term))
 
 entry-Group : (path : List Step) (inner : List Entry) (rest : Entries) → entry_shape (entry.Group path inner) rest ≡ group path (entries_of inner) rest
-entry-Group path inner rest = ap (λ (f : More). f rest) (ap entry_shape (sym (entry.rolls-Group path inner)) ∙ fold-roll-Entry More entry_step (Entry-F.Group path inner))
+entry-Group path inner rest = ap (λ (f : More). f rest)
+    (ap entry_shape (sym (entry.rolls-Group path inner)) ∙ fold-roll-Entry More entry_step (Entry-F.Group path inner))
 
-pub out-Value : (row : Row) (path : List Step) (term : Term) → (entry_path (entry.Value path term) ≡ path) × (entry_data row (entry.Value path term) ≡ path_data (later_steps path) (string (cell_of row term)))
+pub out-Value : (row : Row) (path : List Step) (term : Term)
+    → (entry_path (entry.Value path term) ≡ path) × (entry_data row (entry.Value path term) ≡ path_data (later_steps path) (string (cell_of row term)))
 out-Value row path term = (ap path_in (entry.outs-Value path term), ap (data_in row) (entry.outs-Value path term))
 
 pub out-Group : (row : Row) (path : List Step) (inner : List Entry) → (entry_path (entry.Group path inner) ≡ path)
     × (entry_data row (entry.Group path inner) ≡ path_data (later_steps path) (group_data row (entries_of inner)))
 out-Group row path inner = (ap path_in (entry.outs-Group path inner), ap (data_in row) (entry.outs-Group path inner))
 
-pub entry_members : (row : Row) (rest : Entries) (e : Entry) → members_data row (entry_shape e rest) ≡ put (first_name (entry_path e)) (entry_data row e) (members_data row rest)
+pub entry_members : (row : Row) (rest : Entries) (e : Entry)
+    → members_data row (entry_shape e rest) ≡ put (first_name (entry_path e)) (entry_data row e) (members_data row rest)
 entry_members row rest = entry_cases (λ e. members_data row (entry_shape e rest) ≡ put (first_name (entry_path e)) (entry_data row e) (members_data row rest))
     (λ path term. rw (entry-Value path term rest, (out-Value row path term).0, (out-Value row path term).1) refl)
     (λ path inner. rw (entry-Group path inner rest, (out-Group row path inner).0, (out-Group row path inner).1) refl)
 
-pub entry_group : (row : Row) (rest : Entries) (e : Entry) → group_data row (entry_shape e rest) ≡ group_kind (entry_path e) (entry_data row e) (members_data row rest)
+pub entry_group : (row : Row) (rest : Entries) (e : Entry)
+    → group_data row (entry_shape e rest) ≡ group_kind (entry_path e) (entry_data row e) (members_data row rest)
 entry_group row rest = entry_cases (λ e. group_data row (entry_shape e rest) ≡ group_kind (entry_path e) (entry_data row e) (members_data row rest))
     (λ path term. rw (entry-Value path term rest, (out-Value row path term).0, (out-Value row path term).1) refl)
     (λ path inner. rw (entry-Group path inner rest, (out-Group row path inner).0, (out-Group row path inner).1) refl)
 
-pub members_go : (row : Row) (entries : List Entry) (left : ℕ) (e d : Entry) (old new : Members) (name : List ℕ) (value : Data) → 0 < left → left ≤ length entries
+pub members_go : (row : Row) (entries : List Entry) (left : ℕ) (e d : Entry) (old new : Members) (name : List ℕ) (value : Data) → 0 < left
+    → left ≤ length entries
     → e ≡ get_or entries (left - 1) d → old ≡ members_data row (entries_of (drop left entries)) → name ≡ first_name (entry_path e) → value ≡ entry_data row e
     → new ≡ put name value old → new ≡ members_data row (entries_of (drop (left - 1) entries))
 members_go row entries left e d old new name value some within at o n v p =

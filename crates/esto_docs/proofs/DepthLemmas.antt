@@ -11,7 +11,8 @@ use Rattle.esto_docs.specs.Rows.{Row, cell_of, is_named, first_name, later_steps
 use Rattle.esto_docs.proofs.Groups.{IsPath, IsGroup, AreNamed}
 
 -- A `put` among texts, and how deep it is.
-put_texts_at : (o : Ordering) (k l : List ℕ) (d e : Data) (ms more : Members) → HasTextsOnly d → MembersHaveTextsOnly (member l e ms) → MembersHaveTextsOnly more
+put_texts_at : (o : Ordering) (k l : List ℕ) (d e : Data) (ms more : Members) → HasTextsOnly d → MembersHaveTextsOnly (member l e ms)
+    → MembersHaveTextsOnly more
     → MembersHaveTextsOnly (match_ordering o (member k d (member l e ms)) (member l d ms) (member l e more))
 put_texts_at Less k l d e ms more h m g = (h, m)
 put_texts_at Equal k l d e ms more h m g = (h, m.1)
@@ -59,7 +60,8 @@ mutual
   members_texts row (holds path term rest) =
       put_texts (first_name path) _ (members_data row rest) (path_texts (later_steps path) (string (cell_of row term)) tt) (members_texts row rest)
   members_texts row (group path inner rest) =
-      put_texts (first_name path) _ (members_data row rest) (path_texts (later_steps path) (group_data row inner) (group_texts row inner)) (members_texts row rest)
+      put_texts (first_name path) _ (members_data row rest) (path_texts (later_steps path) (group_data row inner) (group_texts row inner))
+      (members_texts row rest)
 
   group_texts : (row : Row) (es : Entries) → HasTextsOnly (group_data row es)
   group_texts row done = tt
@@ -80,7 +82,8 @@ group_contains row (holds path term rest) = kind_contains path _ (members_data r
 group_contains row (group path inner rest) = kind_contains path _ (members_data row rest)
 
 -- A group is no deeper than its first value and its other ones.
-kind_depth : (path : List Step) (value : Data) (rest : Members) (n : ℕ) → depth value ≤ n → (is_named path ≡ true → members_depth rest ≤ n) → depth (group_kind path value rest) ≤ suc n
+kind_depth : (path : List Step) (value : Data) (rest : Members) (n : ℕ) → depth value ≤ n → (is_named path ≡ true → members_depth rest ≤ n)
+    → depth (group_kind path value rest) ≤ suc n
 kind_depth path value rest n h m = go (is_named path) refl where
   go : (b : Bool) → is_named path ≡ b → depth (if b then object (put (first_name path) value rest) else array (item value no_items)) ≤ suc n
   go true e = let both = put_depth (first_name path) value rest n h (m e) in omega (arith, both)
@@ -107,7 +110,8 @@ mutual
   group_depth row (holds path term rest) (is, inr h) =
       let first = later_depth path (string (cell_of row term)) 0 is.0 (omega arith) in
       let n : ℕ = max (length path) (height rest) - 1 in
-      let both = kind_depth path (path_data (later_steps path) (string (cell_of row term))) (members_data row rest) n (omega (arith, first)) (λ e. cc (sym e ∙ h.0)) in
+      let both = kind_depth path (path_data (later_steps path) (string (cell_of row term))) (members_data row rest) n (omega (arith, first))
+      (λ e. cc (sym e ∙ h.0)) in
       omega (arith, first, both)
   group_depth row (group path inner rest) (is, deep, inl h) =
       let first = later_depth path (group_data row inner) (height inner) is.0 (group_depth row inner deep) in
@@ -118,7 +122,8 @@ mutual
   group_depth row (group path inner rest) (is, deep, inr h) =
       let first = later_depth path (group_data row inner) (height inner) is.0 (group_depth row inner deep) in
       let n : ℕ = max (length path + height inner) (height rest) - 1 in
-      let both = kind_depth path (path_data (later_steps path) (group_data row inner)) (members_data row rest) n (omega (arith, first)) (λ e. cc (sym e ∙ h.0)) in
+      let both = kind_depth path (path_data (later_steps path) (group_data row inner)) (members_data row rest) n (omega (arith, first))
+      (λ e. cc (sym e ∙ h.0)) in
       omega (arith, first, both)
 
 pub group_document : (row : Row) (es : Entries) → IsGroup es → height es ≤ 126 → IsDocument (group_data row es)

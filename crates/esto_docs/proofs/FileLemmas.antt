@@ -43,15 +43,18 @@ blank_fault : (line : List ℕ) (lines : List (List ℕ)) (n : ℕ) → is_blank
 unfolding lines_fault
 blank_fault line lines n e = rw e refl
 
-some_trees : (line : List ℕ) (lines : List (List ℕ)) (d : Data) → is_blank line ≡ false → json_of line ≡ Some d → lines_trees (line ∷ lines) ≡ tree_of d ∷ lines_trees lines
+some_trees : (line : List ℕ) (lines : List (List ℕ)) (d : Data) → is_blank line ≡ false → json_of line ≡ Some d
+    → lines_trees (line ∷ lines) ≡ tree_of d ∷ lines_trees lines
 unfolding lines_trees
 some_trees line lines d e j = rw (e, j) refl
 
-some_fault : (line : List ℕ) (lines : List (List ℕ)) (d : Data) (n : ℕ) → is_blank line ≡ false → json_of line ≡ Some d → lines_fault n (line ∷ lines) ≡ lines_fault (n + 1) lines
+some_fault : (line : List ℕ) (lines : List (List ℕ)) (d : Data) (n : ℕ) → is_blank line ≡ false → json_of line ≡ Some d
+    → lines_fault n (line ∷ lines) ≡ lines_fault (n + 1) lines
 unfolding lines_fault
 some_fault line lines d n e j = rw (e, j) refl
 
-bad_fault : (line : List ℕ) (lines : List (List ℕ)) (n : ℕ) → is_blank line ≡ false → json_of line ≡ None → lines_fault n (line ∷ lines) ≡ Some (fault_at BadJson n)
+bad_fault : (line : List ℕ) (lines : List (List ℕ)) (n : ℕ) → is_blank line ≡ false → json_of line ≡ None
+    → lines_fault n (line ∷ lines) ≡ Some (fault_at BadJson n)
 unfolding lines_fault
 bad_fault line lines n e j = rw (e, j) refl
 
@@ -64,7 +67,8 @@ line_blank bytes rest line after trees number read e less blank =
       counted = omega (arith, read.counted);
     }
 
-pub line_some : (bytes rest line after : List ℕ) (trees new : List Tree) (number : ℕ) (d : Data) → HasRead bytes rest trees number → lines_of rest ≡ line ∷ lines_of after
+pub line_some : (bytes rest line after : List ℕ) (trees new : List Tree) (number : ℕ) (d : Data) → HasRead bytes rest trees number
+    → lines_of rest ≡ line ∷ lines_of after
     → length after < length rest → is_blank line ≡ false → json_of line ≡ Some d → new ≡ trees ++ tree_of d ∷ [] → HasRead bytes after new (number + 1)
 line_some bytes rest line after trees new number d read e less blank json more =
     record {
@@ -88,10 +92,12 @@ lines_end bytes [] trees number read e = (read.fault, sym (read.same ∙ append-
 lines_end bytes (x ∷ xs) trees number read e = absurd (omega arith)
 
 pub line_goes : (bytes rest line after : List ℕ) (trees new : List Tree) (number : ℕ) → HasRead bytes rest trees number → lines_of rest ≡ line ∷ lines_of after
-    → length after < length rest → ((is_blank line ≡ true) × (new ≡ trees)) ⊎ ((is_blank line ≡ false) × ((value : Data) × (json_of line ≡ Some value) × (new ≡ trees ++ tree_of value ∷ [])))
+    → length after < length rest → ((is_blank line ≡ true) × (new ≡ trees))
+    ⊎ ((is_blank line ≡ false) × ((value : Data) × (json_of line ≡ Some value) × (new ≡ trees ++ tree_of value ∷ [])))
     → HasRead bytes after new (number + 1)
 line_goes bytes rest line after trees new number read e less (inl blank) = rw blank.1 (line_blank bytes rest line after trees number read e less blank.0)
-line_goes bytes rest line after trees new number read e less (inr some) = line_some bytes rest line after trees new number some.1.0 read e less some.0 some.1.1 some.1.2
+line_goes bytes rest line after trees new number read e less (inr some) =
+    line_some bytes rest line after trees new number some.1.0 read e less some.0 some.1.1 some.1.2
 
 -- An answer that is a fault.
 pub gives_fault : {A : Type 0} (value : A) (fault : Option FileFault) (found : FileFault) (error : FileError) → error ≡ Fault found → fault ≡ Some found

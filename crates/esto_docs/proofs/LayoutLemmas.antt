@@ -53,7 +53,8 @@ differs_rest : (step first : Option Step) (steps : List (Option Step)) → ((k :
     → (k : ℕ) → k < length steps → step ≢ get_or steps k None
 differs_rest step first steps h k l = h (suc k) (omega arith)
 
-apart : (path : List Step) (wanted : List ℕ) (step : Option Step) → step ≡ Some (Name wanted) → IsName (first_step path) → step ≢ first_step path → first_name path ≢ wanted
+apart : (path : List Step) (wanted : List ℕ) (step : Option Step) → step ≡ Some (Name wanted) → IsName (first_step path) → step ≢ first_step path
+    → first_name path ≢ wanted
 apart path wanted step is (other, named) differs same =
     differs (is ∙ ap (λ (n : List ℕ). Some (Name n)) (sym same ∙ its_name path other named) ∙ sym named)
 
@@ -61,11 +62,13 @@ fresh : (es : Entries) (wanted : List ℕ) (step : Option Step) → step ≡ Som
 fresh done wanted step is names differs = tt
 fresh (holds path term rest) wanted step is names differs = (
   apart path wanted step is (names (first_step path) (Contains-head (first_step path) (first_steps rest))) (differs 0 (omega arith)),
-  fresh rest wanted step is (λ s there. names s (Contains-rest (first_step path) (first_steps rest) s there)) (differs_rest step (first_step path) (first_steps rest) differs),
+  fresh rest wanted step is (λ s there. names s (Contains-rest (first_step path) (first_steps rest) s there))
+      (differs_rest step (first_step path) (first_steps rest) differs),
 )
 fresh (group path inner rest) wanted step is names differs = (
   apart path wanted step is (names (first_step path) (Contains-head (first_step path) (first_steps rest))) (differs 0 (omega arith)),
-  fresh rest wanted step is (λ s there. names s (Contains-rest (first_step path) (first_steps rest) s there)) (differs_rest step (first_step path) (first_steps rest) differs),
+  fresh rest wanted step is (λ s there. names s (Contains-rest (first_step path) (first_steps rest) s there))
+      (differs_rest step (first_step path) (first_steps rest) differs),
 )
 
 first_differs : (step : Option Step) (steps : List (Option Step)) → AllPairs ◌≢◌ (step ∷ steps) → (k : ℕ) → k < length steps → step ≢ get_or steps k None
@@ -74,9 +77,11 @@ first_differs step steps pairs k l = pairs 0 (suc k) None (omega arith) (omega a
 rest_differ : (step : Option Step) (steps : List (Option Step)) → AllPairs ◌≢◌ (step ∷ steps) → AllPairs ◌≢◌ steps
 rest_differ step steps pairs a b d l k = pairs (suc a) (suc b) d (omega arith) (omega arith)
 
-first_is_fresh : (path : List Step) (rest : Entries) → IsName (first_step path) → AreNames rest → AllPairs ◌≢◌ (first_step path ∷ first_steps rest) → IsFresh (first_name path) rest
+first_is_fresh : (path : List Step) (rest : Entries) → IsName (first_step path) → AreNames rest → AllPairs ◌≢◌ (first_step path ∷ first_steps rest)
+    → IsFresh (first_name path) rest
 first_is_fresh path rest (wanted, e) names pairs =
-    fresh rest (first_name path) (first_step path) (e ∙ ap (λ (n : List ℕ). Some (Name n)) (sym (its_name path wanted e))) names (first_differs (first_step path) (first_steps rest) pairs)
+    fresh rest (first_name path) (first_step path) (e ∙ ap (λ (n : List ℕ). Some (Name n)) (sym (its_name path wanted e))) names
+    (first_differs (first_step path) (first_steps rest) pairs)
 
 none_left : (es : Entries) → first_steps es ≡ [] → es ≡ done
 none_left done e = refl
@@ -98,8 +103,12 @@ mutual
   are_named columns depth (holds path term rest) (direct, near, column, more) names pairs =
       let first = names (first_step path) (Contains-head (first_step path) (first_steps rest)) in
       let others : AreNames rest = λ s there. names s (Contains-rest (first_step path) (first_steps rest) s there) in
-      let begins = by_name path first in
-      (path_is true path direct begins, begins.kind, first_is_fresh path rest first others pairs, are_named columns depth rest more others (rest_differ (first_step path) (first_steps rest) pairs))
+      let begins = by_name path first in (
+        path_is true path direct begins,
+        begins.kind,
+        first_is_fresh path rest first others pairs,
+        are_named columns depth rest more others (rest_differ (first_step path) (first_steps rest) pairs),
+      )
   are_named columns depth (group path inner rest) (direct, near, one, deep, more) names pairs =
       let first = names (first_step path) (Contains-head (first_step path) (first_steps rest)) in
       let others : AreNames rest = λ s there. names s (Contains-rest (first_step path) (first_steps rest) s there) in
@@ -122,7 +131,11 @@ mutual
       let others : AreNames rest = λ s there. names s (Contains-rest (first_step path) (first_steps rest) s there) in
       let begins = by_name path first in (
         path_is true path direct begins,
-        inl (begins.kind, first_is_fresh path rest first others pairs, are_named columns depth rest more others (rest_differ (first_step path) (first_steps rest) pairs)),
+        inl (
+          begins.kind,
+          first_is_fresh path rest first others pairs,
+          are_named columns depth rest more others (rest_differ (first_step path) (first_steps rest) pairs),
+        ),
       )
   is_group columns depth (group path inner rest) (direct, near, one, deep, more) (inl e) =
       let begins = by_item path (head_same _ _ _ _ e) in
@@ -133,13 +146,18 @@ mutual
       let begins = by_name path first in (
         path_is true path direct begins,
         is_group columns (depth + length path) inner deep one,
-        inl (begins.kind, first_is_fresh path rest first others pairs, are_named columns depth rest more others (rest_differ (first_step path) (first_steps rest) pairs)),
+        inl (
+          begins.kind,
+          first_is_fresh path rest first others pairs,
+          are_named columns depth rest more others (rest_differ (first_step path) (first_steps rest) pairs),
+        ),
       )
 
 -- The deepest column.
 near_all : (columns depth : ℕ) (es : Entries) → AreLaid columns depth es → depth ≤ 126 → depth + height es ≤ 126
 near_all columns depth done laid small = omega arith
-near_all columns depth (holds path term rest) (direct, near, column, more) small = let others = near_all columns depth rest more small in omega (arith, near, others)
+near_all columns depth (holds path term rest) (direct, near, column, more) small = let others = near_all columns depth rest more small in
+    omega (arith, near, others)
 near_all columns depth (group path inner rest) (direct, near, one, deep, more) small =
     let inside = near_all columns (depth + length path) inner deep near in
     let others = near_all columns depth rest more small in

@@ -50,7 +50,8 @@ unfolding lines_trees
 trees_last [] line d w = rw (w.not_blank, w.json) refl
 trees_last (l ∷ ls) line d w = rw (trees_last ls line d w) (add_last (is_blank l) (json_of l) (lines_trees ls) (tree_of d))
 
-goes_on : (b : Bool) (o : Option Data) (n : ℕ) (x y : Option FileFault) → (x ≡ None → y ≡ None) → (if b then x else fault_of_line o n x) ≡ None → (if b then y else fault_of_line o n y) ≡ None
+goes_on : (b : Bool) (o : Option Data) (n : ℕ) (x y : Option FileFault) → (x ≡ None → y ≡ None) → (if b then x else fault_of_line o n x) ≡ None
+    → (if b then y else fault_of_line o n y) ≡ None
 goes_on true o n x y h e = h e
 goes_on false None n x y h e = cc e
 goes_on false (Some d) n x y h e = h e
@@ -70,9 +71,11 @@ no_more : LinesBeginAnew → (line : List ℕ) (d : Data) → Writes d line → 
 unfolding lines_of
 no_more anew line d w = anew line [] w.one_line
 
-pub lines_more : LinesBeginAnew → (text line new : List ℕ) (trees : List Tree) (d : Data) → HasLines text trees → Writes d line → new ≡ text ++ (line ++ 10 ∷ []) → HasLines new (trees ++ tree_of d ∷ [])
+pub lines_more : LinesBeginAnew → (text line new : List ℕ) (trees : List Tree) (d : Data) → HasLines text trees → Writes d line
+    → new ≡ text ++ (line ++ 10 ∷ []) → HasLines new (trees ++ tree_of d ∷ [])
 lines_more anew text line new trees d h w e =
-    let all : lines_of (text ++ (line ++ 10 ∷ [])) ≡ lines_of text ++ line ∷ [] = h.whole (line ++ 10 ∷ []) ∙ ap (λ (ls : List (List ℕ)). lines_of text ++ ls) (no_more anew line d w) in
+    let all : lines_of (text ++ (line ++ 10 ∷ [])) ≡ lines_of text ++ line ∷ [] =
+            h.whole (line ++ 10 ∷ []) ∙ ap (λ (ls : List (List ℕ)). lines_of text ++ ls) (no_more anew line d w) in
     rw e (record {
       whole = λ rest.
           ap lines_of (append_assoc text (line ++ 10 ∷ []) rest) ∙ h.whole ((line ++ 10 ∷ []) ++ rest)
@@ -96,7 +99,8 @@ document_goes anew values i v e text mid new line h within at w m n =
     let one : new ≡ text ++ (line ++ line_feed ∷ []) = n ∙ ap (λ (t : List ℕ). t ++ line_feed ∷ []) m ∙ append_assoc text line (line_feed ∷ []) in
     let more = lines_more anew text line new _ (view v) h.lines w one in
     let trees : map (λ (x : Value). tree_of (view x)) (take (i + 1) values) ≡ map (λ (x : Value). tree_of (view x)) (take i values) ++ tree_of (view v) ∷ [] =
-    map_more (λ (x : Value). tree_of (view x)) values i e within ∙ ap (λ (x : Value). map (λ (y : Value). tree_of (view y)) (take i values) ++ tree_of (view x) ∷ []) (sym at) in
+    map_more (λ (x : Value). tree_of (view x)) values i e within
+        ∙ ap (λ (x : Value). map (λ (y : Value). tree_of (view y)) (take i values) ++ tree_of (view x) ∷ []) (sym at) in
     let data : map view (take (i + 1) values) ≡ map view (take i values) ++ view v ∷ [] =
     map_more view values i e within ∙ ap (λ (x : Value). map view (take i values) ++ view x ∷ []) (sym at) in
     record {
@@ -108,7 +112,8 @@ document_goes anew values i v e text mid new line h within at w m n =
     }
 
 pub documents_end : (values : List Value) (i : ℕ) (text : List ℕ) → HasWritten values i text → length values ≤ i
-    → (lines_trees (lines_of text) ≡ map (λ (x : Value). tree_of (view x)) values) × (lines_fault 1 (lines_of text) ≡ None) × (text ≡ documents_text Lines (map view values))
+    → (lines_trees (lines_of text) ≡ map (λ (x : Value). tree_of (view x)) values) × (lines_fault 1 (lines_of text) ≡ None)
+    × (text ≡ documents_text Lines (map view values))
 documents_end values i text h past = (
   h.lines.read_as ∙ ap (map (λ (x : Value). tree_of (view x))) (take_all i values past),
   h.lines.no_fault 1,

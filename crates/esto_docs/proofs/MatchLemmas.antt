@@ -31,7 +31,8 @@ same_name k q e = cc e
 
 other_into : (o : Ordering) (q k l : List ℕ) (d e : Data) (ms : Members) (u : Node) → slice_cmp nat_cmp k l ≡ o → q ≢ k
     → (HasKid (members_row (put k d ms)) (name q) u → HasKid (members_row ms) (name q) u)
-    → HasKid (members_row (match_ordering o (member k d (member l e ms)) (member l d ms) (member l e (put k d ms)))) (name q) u → HasKid (members_row (member l e ms)) (name q) u
+    → HasKid (members_row (match_ordering o (member k d (member l e ms)) (member l d ms) (member l e (put k d ms)))) (name q) u
+    → HasKid (members_row (member l e ms)) (name q) u
 other_into Less q k l d e ms u is n more (inl h) = absurd (n (sym (same_name k q h.0)))
 other_into Less q k l d e ms u is n more (inr h) = h
 other_into Equal q k l d e ms u is n more (inl h) = absurd (n (sym (same_key k l is ∙ same_name l q h.0)))
@@ -41,7 +42,8 @@ other_into Greater q k l d e ms u is n more (inr h) = inr (more h)
 
 other_from : (o : Ordering) (q k l : List ℕ) (d e : Data) (ms : Members) (u : Node) → slice_cmp nat_cmp k l ≡ o → q ≢ k
     → (HasKid (members_row ms) (name q) u → HasKid (members_row (put k d ms)) (name q) u)
-    → HasKid (members_row (member l e ms)) (name q) u → HasKid (members_row (match_ordering o (member k d (member l e ms)) (member l d ms) (member l e (put k d ms)))) (name q) u
+    → HasKid (members_row (member l e ms)) (name q) u
+    → HasKid (members_row (match_ordering o (member k d (member l e ms)) (member l d ms) (member l e (put k d ms)))) (name q) u
 other_from Less q k l d e ms u is n more h = inr h
 other_from Equal q k l d e ms u is n more (inl h) = absurd (n (sym (same_key k l is ∙ same_name l q h.0)))
 other_from Equal q k l d e ms u is n more (inr h) = inr h
@@ -119,7 +121,8 @@ led_one (Name k ∷ path) t d n h = (node_of (path_data path d), h.0, leads_one 
 led_one (Item ∷ path) t d n h = (node_of (path_data path d), h.0, leads_one path d n)
 led_one (Below ∷ path) t d n h = absurd n
 
-led_only : (path : List Step) (t : Node) (d : Data) (end : Node) → HasNoBelow path → TakesOnce path t (node_of (path_data (later_steps path) d)) → Leads path t end
+led_only : (path : List Step) (t : Node) (d : Data) (end : Node) → HasNoBelow path → TakesOnce path t (node_of (path_data (later_steps path) d))
+    → Leads path t end
     → end ≡ node_of d
 led_only [] t d end n h e = absurd h
 led_only (Name k ∷ path) t d end n h (u, field, more) = leads_only path d end n (subst (λ (x : Node). Leads path x end) (h.1 u field) more)
@@ -136,7 +139,8 @@ AllLead row ms done = ⊤
 AllLead row ms (holds path term rest) = LeadsOnce ms path (path_data (later_steps path) (string (cell_of row term))) × AllLead row ms rest
 AllLead row ms (group path inner rest) = LeadsOnce ms path (path_data (later_steps path) (group_data row inner)) × AllLead row ms rest
 
-lead_other : (k : List ℕ) (d : Data) (ms : Members) (path : List Step) (own : Data) → first_name path ≢ k → LeadsOnce ms path own → LeadsOnce (put k d ms) path own
+lead_other : (k : List ℕ) (d : Data) (ms : Members) (path : List Step) (own : Data) → first_name path ≢ k → LeadsOnce ms path own
+    → LeadsOnce (put k d ms) path own
 lead_other k d ms path own fresh h = (
   put_other_from (first_name path) k d ms (node_of own) fresh h.0,
   λ u there. h.1 u (put_other_into (first_name path) k d ms u fresh there),
@@ -160,10 +164,14 @@ lead_first path d ms missing = (put_same_from (first_name path) d ms, λ u there
 
 members_lead : (row : Row) (es : Entries) → AreNamed es → AllLead row (members_data row es) es
 members_lead row done h = tt
-members_lead row (holds path term rest) (is, named, fresh, more) =
-    (lead_first path _ (members_data row rest) (fresh_key row (first_name path) rest fresh), lead_put row (first_name path) _ (members_data row rest) rest fresh (members_lead row rest more))
-members_lead row (group path inner rest) (is, deep, named, fresh, more) =
-    (lead_first path _ (members_data row rest) (fresh_key row (first_name path) rest fresh), lead_put row (first_name path) _ (members_data row rest) rest fresh (members_lead row rest more))
+members_lead row (holds path term rest) (is, named, fresh, more) = (
+  lead_first path _ (members_data row rest) (fresh_key row (first_name path) rest fresh),
+  lead_put row (first_name path) _ (members_data row rest) rest fresh (members_lead row rest more),
+)
+members_lead row (group path inner rest) (is, deep, named, fresh, more) = (
+  lead_first path _ (members_data row rest) (fresh_key row (first_name path) rest fresh),
+  lead_put row (first_name path) _ (members_data row rest) rest fresh (members_lead row rest more),
+)
 
 lead_named : (path : List Step) (ms : Members) (d : Data) → is_named path ≡ true → LeadsOnce ms path d → TakesOnce path (node_of (object ms)) (node_of d)
 lead_named [] ms d e h = cc e
@@ -205,7 +213,8 @@ as_array path d ms e = rw e refl
 
 -- What a match says.
 mutual
-  named_into : (m : Term → Term) (row : Row) (es : Entries) (ms : Members) → AreNamed es → AllLead row ms es → Matches m es (node_of (object ms)) → Agree m row es
+  named_into : (m : Term → Term) (row : Row) (es : Entries) (ms : Members) → AreNamed es → AllLead row ms es → Matches m es (node_of (object ms))
+      → Agree m row es
   named_into m row done ms h lead match = tt
   named_into m row (holds path term rest) ms (is, named, fresh, more) lead match = (
     cell_into m (cell_of row term) path term (node_of (object ms)) is.1 (lead_named path ms _ named lead.0) match.0,
@@ -226,8 +235,10 @@ mutual
       (cell_into m (cell_of row term) path term (node_of (object ms)) is.1 (lead_named path ms _ h.0 lead.0) t.0, named_into m row rest ms h.2 lead.1 t.1)
   group_into m row (holds path term rest) (is, inr h) match =
       let d = path_data (later_steps path) (string (cell_of row term)) in
-      let t = subst (λ (x : Data). Matches m (holds path term rest) (node_of x)) (as_array path d (members_data row rest) h.0) match in
-      (cell_into m (cell_of row term) path term (node_of (array (item d no_items))) is.1 (lead_item path d is h.0) t.0, subst (λ (x : Entries). Agree m row x) (sym h.1) tt)
+      let t = subst (λ (x : Data). Matches m (holds path term rest) (node_of x)) (as_array path d (members_data row rest) h.0) match in (
+        cell_into m (cell_of row term) path term (node_of (array (item d no_items))) is.1 (lead_item path d is h.0) t.0,
+        subst (λ (x : Entries). Agree m row x) (sym h.1) tt,
+      )
   group_into m row (group path inner rest) (is, deep, inl h) match =
       let d = path_data (later_steps path) (group_data row inner) in
       let t = subst (λ (x : Data). Matches m (group path inner rest) (node_of x)) (as_object path d (members_data row rest) h.0) match in
@@ -245,7 +256,8 @@ mutual
 
 -- And that there is one.
 mutual
-  named_from : (m : Term → Term) (row : Row) (es : Entries) (ms : Members) → AreNamed es → AllLead row ms es → Agree m row es → Matches m es (node_of (object ms))
+  named_from : (m : Term → Term) (row : Row) (es : Entries) (ms : Members) → AreNamed es → AllLead row ms es → Agree m row es
+      → Matches m es (node_of (object ms))
   named_from m row done ms h lead agree = tt
   named_from m row (holds path term rest) ms (is, named, fresh, more) lead agree = (
     cell_from m (cell_of row term) path term (node_of (object ms)) is.1 (lead_named path ms _ named lead.0) agree.0,

@@ -11,7 +11,8 @@ use Rattle.serde_json.proofs.Views.{Entry}
 use Rattle.esto_docmodel.specs.Names.{Rise, rise, rise_from, names_of}
 use Rattle.esto_docs.specs.Trees.{fields_of}
 
-names_from : (e : Entry) (es : List Entry) → AllByRecursion (λ f. string_cmp e.0 f ≡ Less) (map (λ f. f.0) es) → IsStrictlySortedBy string_cmp (map (λ f. f.0) es)
+names_from : (e : Entry) (es : List Entry) → AllByRecursion (λ f. string_cmp e.0 f ≡ Less) (map (λ f. f.0) es)
+    → IsStrictlySortedBy string_cmp (map (λ f. f.0) es)
     → IsTrue (rise_from (string_bytes e.0) (names_of (fields_of (members_view es))))
 unfolding IsStrictlySortedBy
 names_from e [] all more = refl

@@ -49,7 +49,8 @@ row_same n es row other layout size other_size agree =
     same_lists row other (size ∙ sym other_size) (λ k d l.
     get_or_default row k d [] l
     ∙ const_same (get_or row k []) (get_or other k [])
-    (sym (value_plain row k) ∙ agree_at (value_of row) other es (Plain k) agree (column_stands n es layout k (omega (arith, size, l))) ∙ ap Const (cell_plain other k))
+    (sym (value_plain row k) ∙ agree_at (value_of row) other es (Plain k) agree (column_stands n es layout k (omega (arith, size, l)))
+    ∙ ap Const (cell_plain other k))
     ∙ get_or_default other k [] d (omega (arith, size, other_size, l)))
 
 row_itself : (n : ℕ) (es : Entries) (row : Row) → IsLayout es n → Agree (value_of row) row es

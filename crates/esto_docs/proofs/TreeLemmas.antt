@@ -12,7 +12,8 @@ pub trees_push : (vs : List Value) (v : Value) → trees_of (items_view (vs ++ v
 trees_push [] v = refl
 trees_push (w ∷ vs) v = ap (λ (ts : List Tree). tree_of (view w) ∷ ts) (trees_push vs v)
 
-pub fields_push : (es : List Entry) (e : Entry) → fields_of (members_view (es ++ e ∷ [])) ≡ fields_of (members_view es) ++ record { name = string_bytes e.0; tree = tree_of (view e.1) } ∷ []
+pub fields_push : (es : List Entry) (e : Entry)
+    → fields_of (members_view (es ++ e ∷ [])) ≡ fields_of (members_view es) ++ record { name = string_bytes e.0; tree = tree_of (view e.1) } ∷ []
 fields_push [] e = refl
 fields_push (f ∷ es) e = ap (λ (fs : List (FieldOf Tree)). record { name = string_bytes f.0; tree = tree_of (view f.1) } ∷ fs) (fields_push es e)
 

@@ -19,4 +19,5 @@ TreeFaultsJoin = FaultJoins (trees_fault Lines)
 -- The rows are those of both.
 abbrev pub DocumentRowsJoin : Type 0
 DocumentRowsJoin = (columns : ℕ) (entries : Entries) (bytes after : List ℕ) (row : Row)
-    → IsFileRow Lines columns entries (with_feed bytes ++ after) row ↔ (IsFileRow Lines columns entries (with_feed bytes) row ⊎ IsFileRow Lines columns entries after row)
+    → IsFileRow Lines columns entries (with_feed bytes ++ after) row
+    ↔ (IsFileRow Lines columns entries (with_feed bytes) row ⊎ IsFileRow Lines columns entries after row)

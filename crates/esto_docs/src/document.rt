@@ -23,7 +23,8 @@ fn string_of(alloc: Global, text: &Text) -> Result<String, OutOfMemory>
 
 // The cell of a column, or none for a term that is no column.
 fn cell_at<'a>(row: &'a [Text], term: &Term) -> Option<&'a Text>
-    ensures { MatchOption result (cell_of row.now term.now ≡ []) (λ cell. cell.now ≡ cell_of row.now term.now) }
+    ensures { MatchOption result (cell_of row.now term.now ≡ [])
+        (λ cell. cell.now ≡ cell_of row.now term.now) }
 {
     match term {
         Term::Plain(column) => row.get(*column as usize),

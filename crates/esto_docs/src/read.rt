@@ -6,8 +6,8 @@ ghost use Rattle.esto_docs.specs.Json.{json_of};
 ghost use Rattle.esto_docs.specs.Files.{ReadsLine, is_blank, lines_fault, lines_trees, array_fault, array_trees, trees_fault, file_trees};
 
 use crate::from_json::trees_of;
-use crate::parse::{JsonError, parse_tree, parse_value};
 use crate::layout::Layout;
+use crate::parse::{JsonError, parse_tree, parse_value};
 use esto_docmodel::Trees;
 use esto_lines::{cut_line, fault};
 use esto_ports::{FileError, FileKind};

@@ -14,9 +14,11 @@ use Rattle.esto_exec.proofs.IndexLemmas.{one_key}
 
 -- ---- one more thing of a list
 
-pub taken_more : {X : Type 0} (things : List X) (count : ℕ) (thing it : X) → count < length things → thing ≡ get_or things count thing → Contains (take (count + 1) things) it ↔ (Contains (take count things) it ⊎ (thing ≡ it))
+pub taken_more : {X : Type 0} (things : List X) (count : ℕ) (thing it : X) → count < length things → thing ≡ get_or things count thing
+    → Contains (take (count + 1) things) it ↔ (Contains (take count things) it ⊎ (thing ≡ it))
 taken_more things count thing it below is =
-    let more : take (count + 1) things ≡ take count things ++ thing ∷ [] = take_more things count thing below ∙ ap (λ x. take count things ++ x ∷ []) (sym is) in (
+    let more : take (count + 1) things ≡ take count things ++ thing ∷ [] =
+    take_more things count thing below ∙ ap (λ x. take count things ++ x ∷ []) (sym is) in (
       λ has. Contains-push_cases (take count things) thing it (subst (λ xs. Contains xs it) more has),
       λ has. subst (λ xs. Contains xs it) (sym more) (elim has [
         | inl before ↦ Contains-append_left (take count things) (thing ∷ []) it before
@@ -29,7 +31,8 @@ module _ {X : Type 0} (Has : X → List ℕ → Type 0) (things : List X) where
   abbrev pub Some_has : List X → List ℕ → Type 0
   Some_has some it = (x : X) × Contains some x × Has x it
 
-  pub gains_more : (start old new : List (List ℕ)) (count : ℕ) (thing : X) → count < length things → thing ≡ get_or things count thing → GainsOnly start old (Some_has (take count things)) → GainsOnly old new (Has thing)
+  pub gains_more : (start old new : List (List ℕ)) (count : ℕ) (thing : X) → count < length things → thing ≡ get_or things count thing
+      → GainsOnly start old (Some_has (take count things)) → GainsOnly old new (Has thing)
       → GainsOnly start new (Some_has (take (count + 1) things))
   gains_more start old new count thing below is before gains it = (
     λ has. elim ((gains it).0 has) [
@@ -48,12 +51,14 @@ module _ {X : Type 0} (Has : X → List ℕ → Type 0) (things : List X) where
     ]),
   )
 
-  pub gains_all : (start new : List (List ℕ)) (count : ℕ) → length things ≤ count → GainsOnly start new (Some_has (take count things)) → GainsOnly start new (Some_has things)
+  pub gains_all : (start new : List (List ℕ)) (count : ℕ) → length things ≤ count → GainsOnly start new (Some_has (take count things))
+      → GainsOnly start new (Some_has things)
   gains_all start new count past gains = subst (λ xs. GainsOnly start new (Some_has xs)) (take_all count things past) gains
 
 -- ---- followers
 
-pub follower_pushed : (get : Get) (cells : List ℕ) (rows old new : List (List ℕ)) (place : ℕ) (row both : List ℕ) → slice_get rows place ≡ Some row → Follows get cells row → both ≡ cells ++ row → new ≡ old ++ both ∷ []
+pub follower_pushed : (get : Get) (cells : List ℕ) (rows old new : List (List ℕ)) (place : ℕ) (row both : List ℕ) → slice_get rows place ≡ Some row
+    → Follows get cells row → both ≡ cells ++ row → new ≡ old ++ both ∷ []
     → GainsOnly old new (IsFollowerAt get cells rows place)
 follower_pushed get cells rows old new place row both at follows is grown it = (
   λ has. elim (Contains-push_cases old both it (subst (λ xs. Contains xs it) grown has)) [
@@ -69,7 +74,8 @@ follower_pushed get cells rows old new place row both at follows is grown it = (
 )
 
 -- the places of a key have all followers
-pub followers_found : (get : Get) (cells : List ℕ) (rows old new : List (List ℕ)) (sources columns : List Source) (key places : List ℕ) → NamesCodes cells sources key
+pub followers_found : (get : Get) (cells : List ℕ) (rows old new : List (List ℕ)) (sources columns : List Source) (key places : List ℕ)
+    → NamesCodes cells sources key
     → ((row : List ℕ) → Follows get cells row → (codes : List ℕ) × NamesCodes cells sources codes × NamesCodes row columns codes)
     → ((place : ℕ) (row : List ℕ) → slice_get rows place ≡ Some row → NamesCodes row columns key → Contains places place)
     → GainsOnly old new (λ both. (place : ℕ) × Contains places place × IsFollowerAt get cells rows place both) → GainsOnly old new (IsFollower get cells rows)
@@ -89,7 +95,8 @@ followers_found get cells rows old new sources columns key places named names th
 -- ---- joins
 
 pub joins_more : (get : Get) (so_far rows old new items : List (List ℕ)) (count : ℕ) (cells : List ℕ) → count < length items → cells ≡ get_or items count cells
-    → ((both : List ℕ) → Contains old both ↔ IsJoin get (take count items) rows both) → GainsOnly old new (IsFollower get cells rows) → (both : List ℕ) → Contains new both ↔ IsJoin get (take (count + 1) items) rows both
+    → ((both : List ℕ) → Contains old both ↔ IsJoin get (take count items) rows both) → GainsOnly old new (IsFollower get cells rows) → (both : List ℕ)
+    → Contains new both ↔ IsJoin get (take (count + 1) items) rows both
 joins_more get so_far rows old new items count cells below is before gains both = (
   λ has. elim ((gains both).0 has) [
     | inl in_old ↦ let join = (before both).0 in_old in (join.0, join.1, (taken_more items count cells join.0 below is).1 (inl join.2), join.3, join.4, join.5)
@@ -101,6 +108,8 @@ joins_more get so_far rows old new items count cells below is before gains both 
   ]),
 )
 
-pub joins_all : (get : Get) (so_far rows new items : List (List ℕ)) (count : ℕ) → items ≡ so_far → length items ≤ count → ((both : List ℕ) → Contains new both ↔ IsJoin get (take count items) rows both)
+pub joins_all : (get : Get) (so_far rows new items : List (List ℕ)) (count : ℕ) → items ≡ so_far → length items ≤ count
+    → ((both : List ℕ) → Contains new both ↔ IsJoin get (take count items) rows both)
     → (both : List ℕ) → Contains new both ↔ IsJoin get so_far rows both
-joins_all get so_far rows new items count same past joins = subst (λ them. (both : List ℕ) → Contains new both ↔ IsJoin get them rows both) (take_all count items past ∙ same) joins
+joins_all get so_far rows new items count same past joins =
+    subst (λ them. (both : List ℕ) → Contains new both ↔ IsJoin get them rows both) (take_all count items past ∙ same) joins

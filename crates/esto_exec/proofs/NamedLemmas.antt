@@ -12,7 +12,8 @@ use Rattle.esto_plan.specs.Meaning.{code_at, IsMet, Follows}
 use Rattle.esto_exec.specs.Named.{NamesCodes, IsEarly}
 
 -- a source that names nothing
-pub none_names : (cells : List ℕ) (sources items : List Source) → items ≡ sources → (at : ℕ) (source : Source) → at < length items → source ≡ get_or items at source → code_at cells source ≡ None
+pub none_names : (cells : List ℕ) (sources items : List Source) → items ≡ sources → (at : ℕ) (source : Source) → at < length items
+    → source ≡ get_or items at source → code_at cells source ≡ None
     → (codes : List ℕ) × NamesCodes cells sources codes → ⊥
 none_names cells sources items same at source below is none (codes, named) =
     let there : slice_get sources at ≡ Some source = ap (λ it. slice_get it at) (sym same) ∙ slice_get-get_or items at source below ∙ ap Some (sym is) in
@@ -40,7 +41,8 @@ front_at [] row place below = absurd (omega (arith, below))
 front_at (first ∷ cells) row zero below = refl
 front_at (first ∷ cells) row (suc place) below = front_at cells row place (omega (arith, below))
 
-early_code : (width : ℕ) (source : Source) (cells row : List ℕ) → IsEarly width source → width ≤ length cells → code_at (cells ++ row) source ≡ code_at cells source
+early_code : (width : ℕ) (source : Source) (cells row : List ℕ) → IsEarly width source → width ≤ length cells
+    → code_at (cells ++ row) source ≡ code_at cells source
 early_code width (Code code) cells row early wide = refl
 early_code width (Cell place) cells row early wide = front_at cells row place (omega (arith, early, wide))
 
@@ -56,8 +58,10 @@ filters_early get width links more link early among grown cells row wide follows
 ]
 
 -- the early links name one list of codes in the cells and in each row that follows
-pub early_names : (get : Get) (width : ℕ) (links : List Link) (sources columns : List Source) (so_far items : List (List ℕ)) → items ≡ so_far → (index : ℕ) (cells item : List ℕ) → index < length items → item ≡ get_or items index item
-    → cells ≡ item → ((row : List ℕ) → Contains so_far row → width ≤ length row) → AreEarly get width links → sources ≡ map (λ (link : Link). link.source) links → columns ≡ map (λ (link : Link). Cell link.column) links
+pub early_names : (get : Get) (width : ℕ) (links : List Link) (sources columns : List Source) (so_far items : List (List ℕ)) → items ≡ so_far
+    → (index : ℕ) (cells item : List ℕ) → index < length items → item ≡ get_or items index item
+    → cells ≡ item → ((row : List ℕ) → Contains so_far row → width ≤ length row) → AreEarly get width links → sources ≡ map (λ (link : Link). link.source) links
+    → columns ≡ map (λ (link : Link). Cell link.column) links
     → (row : List ℕ) → Follows get cells row → (codes : List ℕ) × NamesCodes cells sources codes × NamesCodes row columns codes
 early_names get width links sources columns so_far items same index cells item below at is wide early sources_are columns_are row follows =
     let in_items : Contains items cells = subst (Contains items) (sym is) (index, below, sym at) in

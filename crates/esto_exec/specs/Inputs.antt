@@ -12,4 +12,5 @@ inputs_with (link ∷ links) (code ∷ codes) = record { column = link.column; c
 
 -- The rows of the fragment that have the codes of one of the keys as inputs are among those that were asked for.
 abbrev pub AreAnswered : List Link → List (List ℕ) → List (List ℕ) → List (List ℕ) → Type 0
-AreAnswered links rows keys asked = (key row : List ℕ) → Contains keys key → Contains rows row → holds_all (inputs_with links key) row ≡ true → Contains asked row
+AreAnswered links rows keys asked =
+    (key row : List ℕ) → Contains keys key → Contains rows row → holds_all (inputs_with links key) row ≡ true → Contains asked row

@@ -8,9 +8,11 @@ use Rattle.esto_plan.specs.Planned.{inputs_of}
 
 -- Each get names a fragment that is there, and its inputs may be asked of it.
 abbrev pub AreRunnable : List Shape → List Get → Type 0
-AreRunnable shapes gets = (get : Get) → Contains gets get → (shape : Shape) × (slice_get shapes get.fragment ≡ Some shape) × IsAllowed shape (map (λ link. link.column) get.inputs)
+AreRunnable shapes gets = (get : Get) → Contains gets get
+    → (shape : Shape) × (slice_get shapes get.fragment ≡ Some shape) × IsAllowed shape (map (λ link. link.column) get.inputs)
 
 -- Each fragment that an atom names is there, has as many columns as the atom has terms, and can be asked in the ways of its patterns.
 abbrev pub HaveShapes : List (List (List Bool)) → List (Fact Term) → List Shape → Type 0
 HaveShapes patterns atoms shapes = (atom : Fact Term) → Contains atoms atom
-    → (shape : Shape) × (slice_get shapes atom.relation ≡ Some shape) × (shape.arity ≡ length atom.terms) × (shape.ways ≡ map inputs_of (slice_index_or patterns atom.relation []))
+    → (shape : Shape) × (slice_get shapes atom.relation ≡ Some shape) × (shape.arity ≡ length atom.terms)
+    × (shape.ways ≡ map inputs_of (slice_index_or patterns atom.relation []))

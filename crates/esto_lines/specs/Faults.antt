@@ -33,7 +33,8 @@ pub record GoesByLines (fault : ℕ → List (List ℕ) → Option FileFault) : 
 -- The first fault of a text that ends with a line feed and of another one after it is that of the one, or else that of the
 -- other as many places later as the one has line feeds.
 abbrev pub FaultJoins : (List ℕ → Option FileFault) → Type 0
-FaultJoins fault = (bytes after : List ℕ) → fault (with_feed bytes ++ after) ≡ or_else (fault (with_feed bytes)) (option_map (later (feeds_in (with_feed bytes))) (fault after))
+FaultJoins fault = (bytes after : List ℕ)
+    → fault (with_feed bytes ++ after) ≡ or_else (fault (with_feed bytes)) (option_map (later (feeds_in (with_feed bytes))) (fault after))
 
 -- This holds where the first fault is found line by line.
 abbrev pub FaultsJoin : Type 0

@@ -31,7 +31,8 @@ front bound terms column = append_assoc bound (take column terms) (drop column t
 
 -- ---- sources
 
-pub more_bound : (texts : List (List ℕ)) (bound more : List Term) (term : Term) (source : Source) → IsSource texts bound term source → IsSource texts (bound ++ more) term source
+pub more_bound : (texts : List (List ℕ)) (bound more : List Term) (term : Term) (source : Source) → IsSource texts bound term source
+    → IsSource texts (bound ++ more) term source
 more_bound texts bound more term source told = elim told [
   | inl constant ↦ inl constant
   | inr found ↦ inr (found.0, at_left bound more found.0 term found.1, found.2, found.3)
@@ -42,11 +43,13 @@ module _ (texts : List (List ℕ)) (code : List ℕ → ℕ) (numbering : IsNumb
     -- where the cells are the images of the bound terms, a source of a term names its image
     pub source_names : (bound : List Term) (term : Term) (source : Source) → IsSource texts bound term source → code_at (map m bound) source ≡ Some (m term)
     source_names bound term source told = elim told [
-      | inl constant ↦ ap (code_at (map m bound)) constant.4 ∙ ap Some (sym (numbering constant.1 constant.0 constant.3) ∙ sym (keeps constant.0) ∙ sym (ap m constant.2))
+      | inl constant ↦ ap (code_at (map m bound)) constant.4
+          ∙ ap Some (sym (numbering constant.1 constant.0 constant.3) ∙ sym (keeps constant.0) ∙ sym (ap m constant.2))
       | inr found ↦ ap (code_at (map m bound)) found.2 ∙ map_at m bound found.0 term found.1
     ]
 
-    pub sources_name : (bound head : List Term) (sources : List Source) → AllZip (IsSource texts bound) head sources → map (code_at (map m bound)) sources ≡ map Some (map m head)
+    pub sources_name : (bound head : List Term) (sources : List Source) → AllZip (IsSource texts bound) head sources
+        → map (code_at (map m bound)) sources ≡ map Some (map m head)
     sources_name bound [] [] told = refl
     sources_name bound [] (source ∷ sources) told = absurd told
     sources_name bound (term ∷ head) [] told = absurd told
@@ -58,17 +61,24 @@ module _ (texts : List (List ℕ)) (code : List ℕ → ℕ) (numbering : IsNumb
 
     module _ (m : Term → ℕ) (keeps : Keeps code m) where
       link_met : (bound more terms : List Term) (link : Link) → IsLink texts bound terms link → IsMet (map m (bound ++ more)) (map m terms) link
-      link_met bound more terms link told =
-          (m told.0, map_at m terms link.column told.0 told.1, source_names m keeps (bound ++ more) told.0 link.source (more_bound texts bound more told.0 link.source told.2))
+      link_met bound more terms link told = (
+        m told.0,
+        map_at m terms link.column told.0 told.1,
+        source_names m keeps (bound ++ more) told.0 link.source (more_bound texts bound more told.0 link.source told.2),
+      )
 
-      follows : (own : List (List Bool)) (bound : List Term) (atom : Fact Term) (get : Get) → IsGetOf texts own bound atom get → Follows get (map m bound) (map m atom.terms)
+      follows : (own : List (List Bool)) (bound : List Term) (atom : Fact Term) (get : Get) → IsGetOf texts own bound atom get
+          → Follows get (map m bound) (map m atom.terms)
       follows own bound atom get is = record {
-        inputs = λ link inside. subst (λ cells. IsMet cells (map m atom.terms) link) (ap (map m) (append-nil bound)) (link_met bound [] atom.terms link (is.inputs link inside));
-        filters = λ link inside. subst (λ cells. IsMet cells (map m atom.terms) link) (ap (map m) (front bound atom.terms link.column) ∙ map-append m bound atom.terms)
+        inputs = λ link inside. subst (λ cells. IsMet cells (map m atom.terms) link) (ap (map m) (append-nil bound))
+            (link_met bound [] atom.terms link (is.inputs link inside));
+        filters = λ link inside. subst (λ cells. IsMet cells (map m atom.terms) link)
+            (ap (map m) (front bound atom.terms link.column) ∙ map-append m bound atom.terms)
             (link_met (bound ++ take link.column atom.terms) (drop link.column atom.terms) atom.terms link (is.filters link inside));
       }
 
-      pub answers_lead : (bound : List Term) (atoms : List (Fact Term)) (gets : List Get) → AreStepsAfter texts patterns head sources bound atoms gets → SendsInto m atoms Holds
+      pub answers_lead : (bound : List Term) (atoms : List (Fact Term)) (gets : List Get) → AreStepsAfter texts patterns head sources bound atoms gets
+          → SendsInto m atoms Holds
           → (end : List ℕ) × Leads Holds gets (map m bound) end × (map (code_at end) sources ≡ map Some (map m head))
       answers_lead bound [] [] are sends = (map m bound, refl, sources_name m keeps bound head sources are)
       answers_lead bound [] (get ∷ gets) are sends = absurd are
@@ -78,7 +88,8 @@ module _ (texts : List (List ℕ)) (code : List ℕ → ℕ) (numbering : IsNumb
             later.0,
             (
               map m atom.terms,
-              subst (λ (number : ℕ). Holds (record { relation = number; terms = map m atom.terms })) (sym (are.0).fragment) (sends atom (Contains-head atom atoms)),
+              subst (λ (number : ℕ). Holds (record { relation = number; terms = map m atom.terms })) (sym (are.0).fragment)
+                  (sends atom (Contains-head atom atoms)),
               follows _ bound atom get are.0,
               subst (λ cells. Leads Holds gets cells later.0) (map-append m bound atom.terms) later.1,
             ),
@@ -122,13 +133,15 @@ module _ (texts : List (List ℕ)) (code : List ℕ → ℕ) (numbering : IsNumb
           (λ i. first i ∷ later.3 i),
         )
 
-    in_all : (bound : List Term) (all row : List ℕ) (m : Term → ℕ) → all ≡ map m bound ++ row → (source : Source) (found : ℕ) → code_at (map m bound) source ≡ Some found → code_at all source ≡ Some found
+    in_all : (bound : List Term) (all row : List ℕ) (m : Term → ℕ) → all ≡ map m bound ++ row → (source : Source) (found : ℕ)
+        → code_at (map m bound) source ≡ Some found → code_at all source ≡ Some found
     in_all bound all row m same (Code number) found e = e
     in_all bound all row m same (Cell place) found e = ap (λ it. slice_get it place) same ∙ at_left (map m bound) row place found e
 
     -- a map that keeps constants can be changed at new terms so that it sends the terms to the row
     extends : (bound terms : List Term) (all row : List ℕ) (m : Term → ℕ) → Keeps code m → all ≡ map m bound ++ row → length terms ≡ length row
-        → ((column : ℕ) (term : Term) (value : ℕ) → slice_get terms column ≡ Some term → slice_get row column ≡ Some value → Settled (bound ++ take column terms) all value term)
+        → ((column : ℕ) (term : Term) (value : ℕ) → slice_get terms column ≡ Some term → slice_get row column ≡ Some value
+        → Settled (bound ++ take column terms) all value term)
         → (other : Term → ℕ) × Keeps code other × ((term : Term) → Contains bound term → other term ≡ m term) × (map other terms ≡ row)
     extends bound [] all [] m keeps same long settled = (m, keeps, (λ term inside. refl), refl)
     extends bound [] all (value ∷ row) m keeps same long settled = absurd (omega (arith, long))
@@ -136,7 +149,8 @@ module _ (texts : List (List ℕ)) (code : List ℕ → ℕ) (numbering : IsNumb
     extends bound (term ∷ terms) all (value ∷ row) m keeps same long settled =
         let again = λ (next : Term → ℕ) (next_keeps : Keeps code next) (next_same : all ≡ map next (bound ++ term ∷ []) ++ row).
         extends (bound ++ term ∷ []) terms all row next next_keeps next_same (omega (arith, long))
-        (λ column it found at at_row. subst (λ before. Settled before all found it) (sym (append_assoc bound (term ∷ []) (take column terms))) (settled (suc column) it found at at_row)) in
+        (λ column it found at at_row. subst (λ before. Settled before all found it) (sym (append_assoc bound (term ∷ []) (take column terms)))
+        (settled (suc column) it found at at_row)) in
         elim (subst (λ it. Settled it all value term) (append-nil bound) (settled 0 term value refl refl)) [
           | inl new ↦ then_more bound terms all row m term value same again (put m term value)
               (λ text. put_other m term value (Const text) (λ is. new.variable (text, sym is)) ∙ keeps text)
@@ -152,14 +166,17 @@ module _ (texts : List (List ℕ)) (code : List ℕ → ℕ) (numbering : IsNumb
     code_more cells more (Cell place) found e = at_left cells more place found e
 
     -- a row that follows settles each column
-    settles : (own : List (List Bool)) (bound : List Term) (atom : Fact Term) (get : Get) (cells row : List ℕ) → IsGetOf texts own bound atom get → Follows get cells row
-        → (column : ℕ) (term : Term) (value : ℕ) → slice_get atom.terms column ≡ Some term → slice_get row column ≡ Some value → Settled (bound ++ take column atom.terms) (cells ++ row) value term
+    settles : (own : List (List Bool)) (bound : List Term) (atom : Fact Term) (get : Get) (cells row : List ℕ) → IsGetOf texts own bound atom get
+        → Follows get cells row
+        → (column : ℕ) (term : Term) (value : ℕ) → slice_get atom.terms column ≡ Some term → slice_get row column ≡ Some value
+        → Settled (bound ++ take column atom.terms) (cells ++ row) value term
     settles own bound atom get cells row is follows column term value at at_row = elim (is.complete column term at) [
       | inl new ↦ inl new
       | inr joined ↦ by joined.0 joined.1 joined.2
     ]
       where
-        by : (link : Link) → link.column ≡ column → Contains get.inputs link ⊎ Contains get.filters link → Settled (bound ++ take column atom.terms) (cells ++ row) value term
+        by : (link : Link) → link.column ≡ column → Contains get.inputs link ⊎ Contains get.filters link
+            → Settled (bound ++ take column atom.terms) (cells ++ row) value term
         by link here (inl input) =
             let own_term = is.inputs link input in let met = follows.inputs link input in
             let same_term : own_term.0 ≡ term = same_Some own_term.0 term (sym own_term.1 ∙ ap (slice_get atom.terms) here ∙ at) in
@@ -175,30 +192,43 @@ module _ (texts : List (List ℕ)) (code : List ℕ → ℕ) (numbering : IsNumb
             let same_code : met.0 ≡ value = same_Some met.0 value (sym met.1 ∙ ap (slice_get row) here ∙ at_row) in
             inr (
               link.source,
-              subst (λ it. IsSource texts (bound ++ take it atom.terms) term link.source) here (subst (λ it. IsSource texts (bound ++ take link.column atom.terms) it link.source) same_term own_term.2),
+              subst (λ it. IsSource texts (bound ++ take it atom.terms) term link.source) here
+                  (subst (λ it. IsSource texts (bound ++ take link.column atom.terms) it link.source) same_term own_term.2),
               met.2 ∙ ap Some same_code,
             )
 
-    pub results_answer : (bound : List Term) (atoms : List (Fact Term)) (gets : List Get) (m : Term → ℕ) (end : List ℕ) → Keeps code m → AreStepsAfter texts patterns head sources bound atoms gets
+    pub results_answer : (bound : List Term) (atoms : List (Fact Term)) (gets : List Get) (m : Term → ℕ) (end : List ℕ) → Keeps code m
+        → AreStepsAfter texts patterns head sources bound atoms gets
         → Fits atoms Holds → Leads Holds gets (map m bound) end
-        → (other : Term → ℕ) × Keeps code other × ((term : Term) → Contains bound term → other term ≡ m term) × SendsInto other atoms Holds × (map (code_at end) sources ≡ map Some (map other head))
-    results_answer bound [] [] m end keeps are fits leads =
-        (m, keeps, (λ term inside. refl), (λ fact inside. absurd (Contains-nil fact inside)), ap (λ cells. map (code_at cells) sources) (sym leads) ∙ sources_name m keeps bound head sources are)
+        → (other : Term → ℕ) × Keeps code other × ((term : Term) → Contains bound term → other term ≡ m term) × SendsInto other atoms Holds
+        × (map (code_at end) sources ≡ map Some (map other head))
+    results_answer bound [] [] m end keeps are fits leads = (
+      m,
+      keeps,
+      (λ term inside. refl),
+      (λ fact inside. absurd (Contains-nil fact inside)),
+      ap (λ cells. map (code_at cells) sources) (sym leads) ∙ sources_name m keeps bound head sources are,
+    )
     results_answer bound [] (get ∷ gets) m end keeps are fits leads = absurd are
     results_answer bound (atom ∷ atoms) [] m end keeps are fits leads = absurd are
     results_answer bound (atom ∷ atoms) (get ∷ gets) m end keeps are fits leads =
         let row = leads.0 in
-        let long : length atom.terms ≡ length row = fits atom (record { relation = get.fragment; terms = row }) (Contains-head atom atoms) leads.1 (are.0).fragment in
+        let long : length atom.terms ≡ length row =
+        fits atom (record { relation = get.fragment; terms = row }) (Contains-head atom atoms) leads.1 (are.0).fragment in
         let next = extends bound atom.terms (map m bound ++ row) row m keeps refl long (settles _ bound atom get (map m bound) row are.0 leads.2) in
-        let cells : map next.0 (bound ++ atom.terms) ≡ map m bound ++ row = map-append next.0 bound atom.terms ∙ (λ i. map_agree next.0 m bound next.2 i ++ next.3 i) in
-        let later = results_answer (bound ++ atom.terms) atoms gets next.0 end next.1 are.1 (λ other fact inside. fits other fact (Contains-rest atom atoms other inside))
+        let cells : map next.0 (bound ++ atom.terms) ≡ map m bound ++ row =
+        map-append next.0 bound atom.terms ∙ (λ i. map_agree next.0 m bound next.2 i ++ next.3 i) in
+        let later = results_answer (bound ++ atom.terms) atoms gets next.0 end next.1 are.1
+        (λ other fact inside. fits other fact (Contains-rest atom atoms other inside))
         (subst (λ it. Leads Holds gets it end) (sym cells) leads.3) in
-        let own : map later.0 atom.terms ≡ row = map_agree later.0 next.0 atom.terms (λ term inside. later.2 term (Contains-append_right bound atom.terms term inside)) ∙ next.3 in (
+        let own : map later.0 atom.terms ≡ row =
+        map_agree later.0 next.0 atom.terms (λ term inside. later.2 term (Contains-append_right bound atom.terms term inside)) ∙ next.3 in (
           later.0,
           later.1,
           (λ term inside. later.2 term (Contains-append_left bound atom.terms term inside) ∙ next.2 term inside),
           (λ fact inside. elim (Contains-cases atom atoms fact inside) [
-            | inl is ↦ subst (λ it. Holds (image later.0 it)) is (subst (λ (it : Fact ℕ). Holds it) (λ i. record { relation = (are.0).fragment i; terms = sym own i }) leads.1)
+            | inl is ↦ subst (λ it. Holds (image later.0 it)) is
+                (subst (λ (it : Fact ℕ). Holds it) (λ i. record { relation = (are.0).fragment i; terms = sym own i }) leads.1)
             | inr rest ↦ later.3 fact rest
           ]),
           later.4,
@@ -210,10 +240,13 @@ same_some [] (x ∷ other) e = absurd (cc)
 same_some (x ∷ row) [] e = absurd (cc)
 same_some (x ∷ row) (y ∷ other) e = let first : x ≡ y = cc in let rest = same_some row other (cc) in λ i. first i ∷ rest i
 
-pub results_are_answers : (texts : List (List ℕ)) (code : List ℕ → ℕ) → IsNumbering texts code → (patterns : List (List (List Bool))) (query : ConjunctiveQuery) (steps : Steps) (Holds : Fact ℕ → Type 0) → AreStepsOf texts patterns query steps → Fits query.body Holds
+pub results_are_answers : (texts : List (List ℕ)) (code : List ℕ → ℕ) → IsNumbering texts code
+    → (patterns : List (List (List Bool))) (query : ConjunctiveQuery) (steps : Steps) (Holds : Fact ℕ → Type 0) → AreStepsOf texts patterns query steps
+    → Fits query.body Holds
     → (row : List ℕ) → IsResult Holds steps row ↔ IsAnswerInto code query Holds row
 results_are_answers texts code numbering patterns query steps Holds are fits row = (
-  λ result. by result.0 result.2 (results_answer texts code numbering patterns query.head steps.head Holds [] query.body steps.gets start result.0 start-Keeps are fits result.1),
+  λ result. by result.0 result.2 (results_answer texts code numbering patterns query.head steps.head Holds [] query.body steps.gets start result.0 start-Keeps
+      are fits result.1),
   λ answer. let found = answers_lead texts code numbering patterns query.head steps.head Holds answer.0 answer.1 [] query.body steps.gets are answer.2 in
       (found.0, found.1, found.2 ∙ ap (map Some) (sym answer.3)),
 )
@@ -226,20 +259,29 @@ results_are_answers texts code numbering patterns query steps Holds are fits row
     start-Keeps = mended-Keeps code (λ term. 0)
 
     by : (end : List ℕ) → map (code_at end) steps.head ≡ map Some row
-        → (other : Term → ℕ) × Keeps code other × ((term : Term) → Contains [] term → other term ≡ start term) × SendsInto other query.body Holds × (map (code_at end) steps.head ≡ map Some (map other query.head))
+        → (other : Term → ℕ) × Keeps code other × ((term : Term) → Contains [] term → other term ≡ start term) × SendsInto other query.body Holds
+        × (map (code_at end) steps.head ≡ map Some (map other query.head))
         → IsAnswerInto code query Holds row
     by end told found = (found.0, found.1, found.3, same_some row (map found.0 query.head) (sym told ∙ found.4))
 
 -- ---- the fragments that steps name
 
-leads_rest : (gets : List Get) (Holds Others : Fact ℕ → Type 0) → ((get : Get) → Contains gets get → (row : List ℕ) → Holds (record { relation = get.fragment; terms = row }) → Others (record { relation = get.fragment; terms = row }))
+leads_rest : (gets : List Get) (Holds Others : Fact ℕ → Type 0)
+    → ((get : Get) → Contains gets get → (row : List ℕ) → Holds (record { relation = get.fragment; terms = row })
+    → Others (record { relation = get.fragment; terms = row }))
     → (cells end : List ℕ) → Leads Holds gets cells end → Leads Others gets cells end
 leads_rest [] Holds Others same cells end leads = leads
-leads_rest (get ∷ gets) Holds Others same cells end (row, held, follows, rest) =
-    (row, same get (Contains-head get gets) row held, follows, leads_rest gets Holds Others (λ other inside. same other (Contains-rest get gets other inside)) (cells ++ row) end rest)
+leads_rest (get ∷ gets) Holds Others same cells end (row, held, follows, rest) = (
+  row,
+  same get (Contains-head get gets) row held,
+  follows,
+  leads_rest gets Holds Others (λ other inside. same other (Contains-rest get gets other inside)) (cells ++ row) end rest,
+)
 
-pub results_rest : (steps : Steps) (rows others : ℕ → List (List ℕ)) → HoldSame steps rows others → (row : List ℕ) → IsResult (IsRowOf rows) steps row → IsResult (IsRowOf others) steps row
-results_rest steps rows others same row (end, leads, head) = (end, leads_rest steps.gets (IsRowOf rows) (IsRowOf others) (λ get inside it held. (same get inside it).0 held) [] end leads, head)
+pub results_rest : (steps : Steps) (rows others : ℕ → List (List ℕ)) → HoldSame steps rows others → (row : List ℕ) → IsResult (IsRowOf rows) steps row
+    → IsResult (IsRowOf others) steps row
+results_rest steps rows others same row (end, leads, head) =
+    (end, leads_rest steps.gets (IsRowOf rows) (IsRowOf others) (λ get inside it held. (same get inside it).0 held) [] end leads, head)
 
 -- ---- the constants of planned steps have codes
 
@@ -249,7 +291,8 @@ source_interned texts bound text source told = elim told [
   | inr found ↦ absurd (found.3 (text, refl))
 ]
 
-steps_interned : (texts : List (List ℕ)) (patterns : List (List (List Bool))) (head : List Term) (sources : List Source) (bound : List Term) (atoms : List (Fact Term)) (gets : List Get) → AreStepsAfter texts patterns head sources bound atoms gets
+steps_interned : (texts : List (List ℕ)) (patterns : List (List (List Bool))) (head : List Term) (sources : List Source) (bound : List Term)
+    (atoms : List (Fact Term)) (gets : List Get) → AreStepsAfter texts patterns head sources bound atoms gets
     → (text : List ℕ) → Contains head (Const text) ⊎ Mentions atoms (Const text) → Contains texts text
 steps_interned texts patterns head sources bound [] [] are text stands = elim stands [
   | inl in_head ↦ zipped head sources are in_head
@@ -267,7 +310,8 @@ steps_interned texts patterns head sources bound [] [] are text stands = elim st
 steps_interned texts patterns head sources bound [] (get ∷ gets) are text stands = absurd are
 steps_interned texts patterns head sources bound (atom ∷ atoms) [] are text stands = absurd are
 steps_interned texts patterns head sources bound (atom ∷ atoms) (get ∷ gets) are text stands =
-    let later = λ (it : Contains head (Const text) ⊎ Mentions atoms (Const text)). steps_interned texts patterns head sources (bound ++ atom.terms) atoms gets are.1 text it in
+    let later = λ (it : Contains head (Const text) ⊎ Mentions atoms (Const text)). steps_interned texts patterns head sources
+    (bound ++ atom.terms) atoms gets are.1 text it in
     elim stands [
       | inl in_head ↦ later (inl in_head)
       | inr mentioned ↦ elim (Contains-cases atom atoms mentioned.0 mentioned.1) [
@@ -281,14 +325,18 @@ steps_interned texts patterns head sources bound (atom ∷ atoms) (get ∷ gets)
       | inl new ↦ absurd (new.variable (text, refl))
       | inr (link, column, among) ↦ elim among [
         | inl input ↦ let own_term = is.inputs link input in
-            source_interned texts bound text link.source (subst (λ it. IsSource texts bound it link.source) (same_Some own_term.0 (Const text) (sym own_term.1 ∙ ap (slice_get atom.terms) column ∙ at)) own_term.2)
+            source_interned texts bound text link.source
+            (subst (λ it. IsSource texts bound it link.source)
+            (same_Some own_term.0 (Const text) (sym own_term.1 ∙ ap (slice_get atom.terms) column ∙ at)) own_term.2)
         | inr filter ↦ let own_term = is.filters link filter in
             source_interned texts (bound ++ take link.column atom.terms) text link.source
-            (subst (λ it. IsSource texts (bound ++ take link.column atom.terms) it link.source) (same_Some own_term.0 (Const text) (sym own_term.1 ∙ ap (slice_get atom.terms) column ∙ at)) own_term.2)
+            (subst (λ it. IsSource texts (bound ++ take link.column atom.terms) it link.source)
+            (same_Some own_term.0 (Const text) (sym own_term.1 ∙ ap (slice_get atom.terms) column ∙ at)) own_term.2)
       ]
     ]
 
-pub plans_intern : (texts : List (List ℕ)) (patterns : List (List (List Bool))) (query : ConjunctiveQuery) (steps : Steps) → AreStepsOf texts patterns query steps → AreInterned texts query
+pub plans_intern : (texts : List (List ℕ)) (patterns : List (List (List Bool))) (query : ConjunctiveQuery) (steps : Steps)
+    → AreStepsOf texts patterns query steps → AreInterned texts query
 plans_intern texts patterns query steps are text stands = steps_interned texts patterns query.head steps.head [] query.body steps.gets are text stands
 
 -- ---- the codes of results are codes of texts
@@ -296,7 +344,8 @@ plans_intern texts patterns query steps are text stands = steps_interned texts p
 AllBelow : ℕ → List ℕ → Type 0
 AllBelow count codes = (code : ℕ) → Contains codes code → code < count
 
-leads_below : (count : ℕ) (gets : List Get) (coded : ℕ → List (List ℕ)) → ((fragment : ℕ) (row : List ℕ) → Contains (coded fragment) row → AllBelow count row) → (cells end : List ℕ) → AllBelow count cells
+leads_below : (count : ℕ) (gets : List Get) (coded : ℕ → List (List ℕ)) → ((fragment : ℕ) (row : List ℕ) → Contains (coded fragment) row → AllBelow count row)
+    → (cells end : List ℕ) → AllBelow count cells
     → Leads (IsRowOf coded) gets cells end → AllBelow count end
 unfolding AllBelow
 leads_below count [] coded rows cells end below leads = λ code inside. below code (subst (λ them. Contains them code) (sym leads) inside)
@@ -304,13 +353,15 @@ leads_below count (get ∷ gets) coded rows cells end below (row, held, follows,
     (λ code inside. elim (Contains-append_cases cells row code inside) [ inl old ↦ below code old | inr new ↦ rows get.fragment row held code new ]) rest
 
 -- a source of planned steps names a code of a text, or a cell
-code_sources : (texts : List (List ℕ)) (patterns : List (List (List Bool))) (head : List Term) (sources : List Source) (bound : List Term) (atoms : List (Fact Term)) (gets : List Get) → AreStepsAfter texts patterns head sources bound atoms gets
+code_sources : (texts : List (List ℕ)) (patterns : List (List (List Bool))) (head : List Term) (sources : List Source) (bound : List Term)
+    (atoms : List (Fact Term)) (gets : List Get) → AreStepsAfter texts patterns head sources bound atoms gets
     → (code : ℕ) → Contains sources (Code code) → code < length texts
 code_sources texts patterns head sources bound [] [] are code inside = zipped head sources are inside
   where
     of_source : (term : Term) (source : Source) → IsSource texts bound term source → source ≡ Code code → code < length texts
     of_source term source told is = elim told [
-      | inl constant ↦ let same : Code constant.1 ≡ Code code = sym constant.4 ∙ is in let number : constant.1 ≡ code = cc in subst (λ n. n < length texts) number (slice_get_within texts constant.1 constant.0 constant.3)
+      | inl constant ↦ let same : Code constant.1 ≡ Code code = sym constant.4 ∙ is in let number : constant.1 ≡ code = cc in
+          subst (λ n. n < length texts) number (slice_get_within texts constant.1 constant.0 constant.3)
       | inr found ↦ let wrong : Cell found.0 ≡ Code code = sym found.2 ∙ is in absurd (cc)
     ]
 
@@ -324,15 +375,18 @@ code_sources texts patterns head sources bound [] [] are code inside = zipped he
     ]
 code_sources texts patterns head sources bound [] (get ∷ gets) are code inside = absurd are
 code_sources texts patterns head sources bound (atom ∷ atoms) [] are code inside = absurd are
-code_sources texts patterns head sources bound (atom ∷ atoms) (get ∷ gets) are code inside = code_sources texts patterns head sources (bound ++ atom.terms) atoms gets are.1 code inside
+code_sources texts patterns head sources bound (atom ∷ atoms) (get ∷ gets) are code inside =
+    code_sources texts patterns head sources (bound ++ atom.terms) atoms gets are.1 code inside
 
-head_below : (count : ℕ) (end : List ℕ) → AllBelow count end → (sources : List Source) (row : List ℕ) → ((code : ℕ) → Contains sources (Code code) → code < count) → map (code_at end) sources ≡ map Some row → AllBelow count row
+head_below : (count : ℕ) (end : List ℕ) → AllBelow count end → (sources : List Source) (row : List ℕ)
+    → ((code : ℕ) → Contains sources (Code code) → code < count) → map (code_at end) sources ≡ map Some row → AllBelow count row
 unfolding AllBelow
 head_below count end below [] [] codes is code inside = absurd (Contains-nil code inside)
 head_below count end below [] (_ ∷ row) codes is code inside = absurd (cc)
 head_below count end below (_ ∷ sources) [] codes is code inside = absurd (cc)
 head_below count end below (source ∷ sources) (first ∷ row) codes is code inside = elim (Contains-cases first row code inside) [
-  | inl same ↦ let here : code_at end source ≡ Some first = cc in subst (λ n. n < count) same (of_source source first (λ n e. codes n (subst (Contains (source ∷ sources)) e (Contains-head source sources))) here)
+  | inl same ↦ let here : code_at end source ≡ Some first = cc in
+      subst (λ n. n < count) same (of_source source first (λ n e. codes n (subst (Contains (source ∷ sources)) e (Contains-head source sources))) here)
   | inr later ↦ head_below count end below sources row (λ n there. codes n (Contains-rest source sources (Code n) there)) (cc) code later
 ]
   where
@@ -340,10 +394,12 @@ head_below count end below (source ∷ sources) (first ∷ row) codes is code in
     of_source (Code n) found codes_of e = subst (λ k. k < count) (same_Some n found e) (codes_of n refl)
     of_source (Cell place) found codes_of e = below found (Contains-at end place found e)
 
-pub results_below : (texts : List (List ℕ)) (patterns : List (List (List Bool))) (query : ConjunctiveQuery) (steps : Steps) (coded : ℕ → List (List ℕ)) → AreStepsOf texts patterns query steps
+pub results_below : (texts : List (List ℕ)) (patterns : List (List (List Bool))) (query : ConjunctiveQuery) (steps : Steps) (coded : ℕ → List (List ℕ))
+    → AreStepsOf texts patterns query steps
     → ((fragment : ℕ) (row : List ℕ) → Contains (coded fragment) row → (code : ℕ) → Contains row code → code < length texts)
     → (row : List ℕ) → IsResult (IsRowOf coded) steps row → (code : ℕ) → Contains row code → code < length texts
 unfolding AllBelow
 results_below texts patterns query steps coded are rows row (end, leads, is) =
-    head_below (length texts) end (leads_below (length texts) steps.gets coded rows [] end (λ code inside. absurd (Contains-nil code inside)) leads) steps.head row
+    head_below (length texts) end (leads_below (length texts) steps.gets coded rows [] end (λ code inside. absurd (Contains-nil code inside)) leads) steps.head
+    row
     (code_sources texts patterns query.head steps.head [] query.body steps.gets are) is

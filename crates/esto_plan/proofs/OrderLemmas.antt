@@ -22,17 +22,20 @@ use Rattle.esto_plan.specs.Planned.{IsKnown, CanMeet, CanPlan, atoms_of, ordered
 
 -- ---- the atoms of numbers
 
-atoms_first : (body : List (Fact Term)) (number : ℕ) (numbers : List ℕ) (atom : Fact Term) → slice_get body number ≡ Some atom → atoms_of body (number ∷ numbers) ≡ atom ∷ atoms_of body numbers
+atoms_first : (body : List (Fact Term)) (number : ℕ) (numbers : List ℕ) (atom : Fact Term) → slice_get body number ≡ Some atom
+    → atoms_of body (number ∷ numbers) ≡ atom ∷ atoms_of body numbers
 atoms_first body number numbers atom at = ap (λ it. option_to_list it ++ atoms_of body numbers) at
 
-pub atom_of_number : (body : List (Fact Term)) (numbers : List ℕ) (number : ℕ) (atom : Fact Term) → Contains numbers number → slice_get body number ≡ Some atom → Contains (atoms_of body numbers) atom
+pub atom_of_number : (body : List (Fact Term)) (numbers : List ℕ) (number : ℕ) (atom : Fact Term) → Contains numbers number → slice_get body number ≡ Some atom
+    → Contains (atoms_of body numbers) atom
 atom_of_number body [] number atom inside at = absurd (Contains-nil number inside)
 atom_of_number body (first ∷ rest) number atom inside at = elim (Contains-cases first rest number inside) [
   | inl is ↦ subst (λ them. Contains them atom) (sym (atoms_first body first rest atom (ap (slice_get body) is ∙ at))) (Contains-head atom (atoms_of body rest))
   | inr later ↦ Contains-append_right (option_to_list (slice_get body first)) (atoms_of body rest) atom (atom_of_number body rest number atom later at)
 ]
 
-pub number_of_atom : (body : List (Fact Term)) (numbers : List ℕ) (atom : Fact Term) → Contains (atoms_of body numbers) atom → (number : ℕ) × Contains numbers number × (slice_get body number ≡ Some atom)
+pub number_of_atom : (body : List (Fact Term)) (numbers : List ℕ) (atom : Fact Term) → Contains (atoms_of body numbers) atom
+    → (number : ℕ) × Contains numbers number × (slice_get body number ≡ Some atom)
 number_of_atom body [] atom inside = absurd (Contains-nil atom inside)
 number_of_atom body (first ∷ rest) atom inside = elim (Contains-append_cases (option_to_list (slice_get body first)) (atoms_of body rest) atom inside) [
   | inl here ↦ (first, Contains-head first rest, only (slice_get body first) here)
@@ -45,15 +48,18 @@ number_of_atom body (first ∷ rest) atom inside = elim (Contains-append_cases (
 
 -- ---- the atoms of a set
 
-chosen_of : (set : List Bool) (atoms : List (Fact Term)) (number : ℕ) (atom : Fact Term) → Has set number → slice_get atoms number ≡ Some atom → Contains (chosen set atoms) atom
+chosen_of : (set : List Bool) (atoms : List (Fact Term)) (number : ℕ) (atom : Fact Term) → Has set number → slice_get atoms number ≡ Some atom
+    → Contains (chosen set atoms) atom
 chosen_of [] atoms number atom has at = absurd (cc)
 chosen_of (is_in ∷ rest) [] number atom has at = absurd (none-some atom at)
-chosen_of (true ∷ rest) (first ∷ atoms) zero atom has at = let same : first ≡ atom = cc in subst (Contains (first ∷ chosen rest atoms)) same (Contains-head first (chosen rest atoms))
+chosen_of (true ∷ rest) (first ∷ atoms) zero atom has at = let same : first ≡ atom = cc in
+    subst (Contains (first ∷ chosen rest atoms)) same (Contains-head first (chosen rest atoms))
 chosen_of (false ∷ rest) (first ∷ atoms) zero atom has at = absurd (cc)
 chosen_of (true ∷ rest) (first ∷ atoms) (suc number) atom has at = Contains-rest first (chosen rest atoms) atom (chosen_of rest atoms number atom has at)
 chosen_of (false ∷ rest) (first ∷ atoms) (suc number) atom has at = chosen_of rest atoms number atom has at
 
-chosen_from : (set : List Bool) (atoms : List (Fact Term)) (atom : Fact Term) → Contains (chosen set atoms) atom → (number : ℕ) × Has set number × (slice_get atoms number ≡ Some atom)
+chosen_from : (set : List Bool) (atoms : List (Fact Term)) (atom : Fact Term) → Contains (chosen set atoms) atom
+    → (number : ℕ) × Has set number × (slice_get atoms number ≡ Some atom)
 chosen_from [] atoms atom inside = absurd (Contains-nil atom inside)
 chosen_from (is_in ∷ rest) [] atom inside = absurd (Contains-nil atom inside)
 chosen_from (true ∷ rest) (first ∷ atoms) atom inside = elim (Contains-cases first (chosen rest atoms) atom inside) [
@@ -74,7 +80,8 @@ module _ (patterns : Patterns) (body : List (Fact Term)) (set : List Bool) (orde
   fixed_in_order term (inl constant) = inl constant
   fixed_in_order term (inr (atom, inside, there)) = inr (atom, order_of_set atom inside, there)
 
-pub same_answers : {V : Type 0} (constant : List ℕ → V) (plan : ConjunctiveQuery) (patterns : Patterns) (set : List Bool) (order : List ℕ) (Holds : Fact V → Type 0) → IsOrder patterns plan.body set order
+pub same_answers : {V : Type 0} (constant : List ℕ → V) (plan : ConjunctiveQuery) (patterns : Patterns) (set : List Bool) (order : List ℕ)
+    (Holds : Fact V → Type 0) → IsOrder patterns plan.body set order
     → (row : List V) → IsAnswerInto constant (ordered plan order) Holds row ↔ IsAnswerInto constant (candidate plan set) Holds row
 same_answers constant plan patterns set order Holds is row = (
   λ answer. (answer.0, answer.1, (λ fact inside. answer.2 fact (order_of_set patterns plan.body set order is fact inside)), answer.3),
@@ -84,25 +91,31 @@ same_answers constant plan patterns set order Holds is row = (
 -- ---- plans over fragments
 
 module _ (plan : Plan) (fragments : List FragmentDef) (over : IsPlanOver plan fragments) where
-  pub pattern_columns : (atom : Fact Term) (pattern : List Bool) → Contains (plan_query plan).body atom → HasPattern (patterns_of fragments) atom.relation pattern → length pattern ≡ length atom.terms
+  pub pattern_columns : (atom : Fact Term) (pattern : List Bool) → Contains (plan_query plan).body atom
+      → HasPattern (patterns_of fragments) atom.relation pattern → length pattern ≡ length atom.terms
   pattern_columns atom pattern inside has =
       let found = Contains-map_from fact_of plan.atoms atom inside in
       let named = over found.0 found.1 in
       let same_relation : found.0.fragment ≡ atom.relation = ap (λ (it : Fact Term). it.relation) found.2 in
       let at : slice_get (patterns_of fragments) atom.relation ≡ Some named.0.access =
       ap (slice_get (patterns_of fragments)) (sym same_relation) ∙ map_at (λ (it : FragmentDef). it.access) fragments found.0.fragment named.0 named.1 in
-      named.2.columns pattern (subst (λ them. Contains them pattern) (get_or_from_slice_get (patterns_of fragments) atom.relation named.0.access [] at) has) ∙ sym named.3
+      named.2.columns pattern (subst (λ them. Contains them pattern) (get_or_from_slice_get (patterns_of fragments) atom.relation named.0.access [] at) has)
+      ∙ sym named.3
       ∙ ap (λ (it : Fact Term). length it.terms) found.2
 
 -- ---- planning
 
-module _ (patterns : Patterns) (body : List (Fact Term)) (columns : (atom : Fact Term) (pattern : List Bool) → Contains body atom → HasPattern patterns atom.relation pattern → length pattern ≡ length atom.terms) where
+module _ (patterns : Patterns) (body : List (Fact Term))
+    (columns : (atom : Fact Term) (pattern : List Bool) → Contains body atom → HasPattern patterns atom.relation pattern
+    → length pattern ≡ length atom.terms) where
   -- the bound terms are those of the atoms done
   abbrev HaveBound : List ℕ → List Term → Type 0
-  HaveBound done bound = (number : ℕ) (atom : Fact Term) (term : Term) → Contains done number → slice_get body number ≡ Some atom → Contains atom.terms term → Contains bound term
+  HaveBound done bound = (number : ℕ) (atom : Fact Term) (term : Term) → Contains done number → slice_get body number ≡ Some atom → Contains atom.terms term
+      → Contains bound term
 
   abbrev AreAccessible : List ℕ → Type 0
-  AreAccessible order = (place number : ℕ) (atom : Fact Term) → slice_get order place ≡ Some number → slice_get body number ≡ Some atom → IsAccessible patterns body (IsEarlier order place) atom
+  AreAccessible order = (place number : ℕ) (atom : Fact Term) → slice_get order place ≡ Some number → slice_get body number ≡ Some atom
+      → IsAccessible patterns body (IsEarlier order place) atom
 
   before_here : (done rest : List ℕ) (number : ℕ) → IsEarlier (done ++ rest) (length done) number → Contains done number
   before_here done rest number (earlier, below, at) = by done earlier below at
@@ -112,7 +125,8 @@ module _ (patterns : Patterns) (body : List (Fact Term)) (columns : (atom : Fact
       by (first ∷ own) zero below at = let same : first ≡ number = cc in subst (Contains (first ∷ own)) same (Contains-head first own)
       by (first ∷ own) (suc place) below at = Contains-rest first own number (by own place (omega (arith, below)) at)
 
-  meets_here : (done rest : List ℕ) (bound : List Term) (atom : Fact Term) (pattern : List Bool) → HaveBound done bound → MeetsPattern body (IsEarlier (done ++ rest) (length done)) atom pattern → CanMeet bound atom.terms pattern
+  meets_here : (done rest : List ℕ) (bound : List Term) (atom : Fact Term) (pattern : List Bool) → HaveBound done bound
+      → MeetsPattern body (IsEarlier (done ++ rest) (length done)) atom pattern → CanMeet bound atom.terms pattern
   meets_here done rest bound atom pattern have meets column term input at = elim (meets column term input at) [
     | inl constant ↦ inl constant
     | inr (number, earlier, found) ↦ inr (have number found.0 term (before_here done rest number earlier) found.1 found.2)
@@ -120,13 +134,15 @@ module _ (patterns : Patterns) (body : List (Fact Term)) (columns : (atom : Fact
 
   can_plan : (done rest : List ℕ) (bound : List Term) → HaveBound done bound → AreAccessible (done ++ rest) → CanPlan patterns bound (atoms_of body rest)
   can_plan done [] bound have accessible = tt
-  can_plan done (number ∷ rest) bound have accessible = by (slice_get body number) refl (λ more have_more. can_plan (done ++ number ∷ []) rest more have_more after)
+  can_plan done (number ∷ rest) bound have accessible =
+      by (slice_get body number) refl (λ more have_more. can_plan (done ++ number ∷ []) rest more have_more after)
     where
       after : AreAccessible ((done ++ number ∷ []) ++ rest)
       after = subst AreAccessible (sym (append_assoc done (number ∷ []) rest)) accessible
 
       here : slice_get (done ++ number ∷ rest) (length done) ≡ Some number
-      here = ap (slice_get (done ++ number ∷ rest)) (let more : length done ≡ length done + 0 = omega arith in more) ∙ at_right done (number ∷ rest) 0 number refl
+      here = ap (slice_get (done ++ number ∷ rest)) (let more : length done ≡ length done + 0 = omega arith in more)
+          ∙ at_right done (number ∷ rest) 0 number refl
 
       without : slice_get body number ≡ None → HaveBound (done ++ number ∷ []) bound
       without none own atom term inside there among = elim (Contains-push_cases done number own inside) [
@@ -141,7 +157,8 @@ module _ (patterns : Patterns) (body : List (Fact Term)) (columns : (atom : Fact
             (subst (λ (it : Fact Term). Contains it.terms term) (same_Some other atom (sym there ∙ ap (slice_get body) (sym last) ∙ at)) among)
       ]
 
-      by : (read : Option (Fact Term)) → slice_get body number ≡ read → ((more : List Term) → HaveBound (done ++ number ∷ []) more → CanPlan patterns more (atoms_of body rest))
+      by : (read : Option (Fact Term)) → slice_get body number ≡ read
+          → ((more : List Term) → HaveBound (done ++ number ∷ []) more → CanPlan patterns more (atoms_of body rest))
           → CanPlan patterns bound (option_to_list read ++ atoms_of body rest)
       by None at again = again bound (without at)
       by (Some atom) at again =
@@ -154,7 +171,8 @@ module _ (patterns : Patterns) (body : List (Fact Term)) (columns : (atom : Fact
   pub order_can_plan : (set : List Bool) (order : List ℕ) → IsOrder patterns body set order → CanPlan patterns [] (atoms_of body order)
   order_can_plan set order is = can_plan [] order [] (λ number atom term inside there among. absurd (Contains-nil number inside)) is.accessible
 
-pub order_named : (patterns : Patterns) (plan : ConjunctiveQuery) (set : List Bool) (order : List ℕ) → IsOrder patterns plan.body set order → (number : ℕ) → Contains order number → number < length plan.body
+pub order_named : (patterns : Patterns) (plan : ConjunctiveQuery) (set : List Bool) (order : List ℕ) → IsOrder patterns plan.body set order → (number : ℕ)
+    → Contains order number → number < length plan.body
 order_named patterns plan set order is number inside =
     let has = (is.names number).0 inside in let over = is.over in
     elim (cases_lt number (length set)) [

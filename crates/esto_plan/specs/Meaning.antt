@@ -16,7 +16,8 @@ code_at cells (Cell place) = slice_get cells place
 abbrev pub IsMet : List ℕ → List ℕ → Link → Type 0
 IsMet cells row link = (code : ℕ) × (slice_get row link.column ≡ Some code) × (code_at cells link.source ≡ Some code)
 
--- The fragment's row follows the cells of a row so far: it meets the inputs, whose sources are in these cells, and the filters, whose sources may be in the row itself too.
+-- The fragment's row follows the cells of a row so far: it meets the inputs, whose sources are in these cells, and the filters, whose sources may be in the row
+-- itself too.
 pub record Follows (get : Get) (cells row : List ℕ) : Type 0 where
   pub inputs : (link : Link) → Contains get.inputs link → IsMet cells row link
   pub filters : (link : Link) → Contains get.filters link → IsMet (cells ++ row) row link

@@ -14,10 +14,12 @@ use Rattle.esto_plan.specs.declared.steps.Source.{Source}
 use Rattle.esto_plan.specs.declared.steps.Source.TheVariants.{Code, Cell}
 use Rattle.esto_plan.specs.declared.steps.Steps.{Steps}
 
--- The source gives the term where the cells of a row stand for the bound terms: for a constant it is the code of its text, the text's place among the texts, and for another term a place of the term among the bound ones.
+-- The source gives the term where the cells of a row stand for the bound terms: for a constant it is the code of its text, the text's place among the texts,
+-- and for another term a place of the term among the bound ones.
 abbrev pub IsSource : List (List ℕ) → List Term → Term → Source → Type 0
 IsSource texts bound term source =
-    ((text : List ℕ) × (code : ℕ) × (term ≡ Const text) × (slice_get texts code ≡ Some text) × (source ≡ Code code)) ⊎ ((place : ℕ) × (slice_get bound place ≡ Some term) × (source ≡ Cell place) × ¬ (IsConstant term))
+    ((text : List ℕ) × (code : ℕ) × (term ≡ Const text) × (slice_get texts code ≡ Some text) × (source ≡ Code code))
+    ⊎ ((place : ℕ) × (slice_get bound place ≡ Some term) × (source ≡ Cell place) × ¬ (IsConstant term))
 
 -- The link joins its column to a source of the term that the atom has there.
 abbrev pub IsLink : List (List ℕ) → List Term → List Term → Link → Type 0
@@ -51,7 +53,8 @@ IsFirstMet patterns bound terms pattern =
     (number : ℕ) × (slice_get patterns number ≡ Some pattern) × CanMeet bound terms pattern
     × ((lesser : ℕ) (other : List Bool) → lesser < number → slice_get patterns lesser ≡ Some other → ¬ (CanMeet bound terms other))
 
--- The get is that of the atom after the bound terms: it names the input columns of the first pattern that can be met, and every other column that holds a known term, or one that the atom has at an earlier column, is filtered.
+-- The get is that of the atom after the bound terms: it names the input columns of the first pattern that can be met, and every other column that holds a known
+-- term, or one that the atom has at an earlier column, is filtered.
 pub record IsGetOf (texts : List (List ℕ)) (patterns : List (List Bool)) (bound : List Term) (atom : Fact Term) (get : Get) : Type 0 where
   pub fragment : get.fragment ≡ atom.relation
   pub columns : (pattern : List Bool) × IsFirstMet patterns bound atom.terms pattern × (map (λ link. link.column) get.inputs ≡ inputs_of pattern)

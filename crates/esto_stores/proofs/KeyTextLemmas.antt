@@ -26,7 +26,7 @@ none_in_join p c [] e h = refl
 none_in_join p c (x ∷ []) e h = or_left _ _ h
 none_in_join p c (x ∷ y ∷ ys) e h =
     list_any-append p x (c ∷ join_with_byte c (y ∷ ys)) ∙ rw (or_left (list_any p x) (list_any (list_any p) (y ∷ ys)) h, e)
-        (none_in_join p c (y ∷ ys) e (or_right (list_any p x) _ h))
+    (none_in_join p c (y ∷ ys) e (or_right (list_any p x) _ h))
 
 -- The marks, one by one.
 weaker_any : {X : Type 0} (p q : X → Bool) (xs : List X) → ((x : X) → p x ≡ false → q x ≡ false) → list_any p xs ≡ false → list_any q xs ≡ false

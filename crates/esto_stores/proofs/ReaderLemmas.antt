@@ -30,7 +30,7 @@ pub takes_none : (a b : Reader (Bor (List ℕ))) (cells : Row) → Reads a → R
 takes_none a b cells reads read =
     let (y, known) = reads.known in
     left_known a y known ∙ records_none default_config a.state y (rows-end (λ (s : Bor (List ℕ)). Some s.now) a b cells default_config y reads.config known
-        read)
+    read)
 
 pub takes : (a b : Reader (Bor (List ℕ))) (found : Bool) (cells : Row) → Reads a → ReadRecord (λ s. Some s.now) a b found cells
     → Takes (left_of a) found cells (left_of b)

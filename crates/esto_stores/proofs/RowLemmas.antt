@@ -125,7 +125,7 @@ row_length kind width taken all left more rows cells read e size = read.fault �
 
 pub row_text : (kind : FileKind) (width : ℕ) (taken : Row → Row) (all left more rows : List Row) (cells : Row) → HasRead kind width taken all left rows
     → left ≡ cells ∷ more → length cells ≡ width → are_texts (taken cells) ≡ false → first_fault kind width taken 1 all
-        ≡ Some (fault_at NotUtf8 (length rows + 1))
+    ≡ Some (fault_at NotUtf8 (length rows + 1))
 row_text kind width taken all left more rows cells read e size texts = read.fault ∙ ap (first_fault kind width taken (length rows + 1)) e
     ∙ (fault_text kind width taken (length rows + 1) cells more size texts)
 

@@ -34,7 +34,7 @@ records_read (row ∷ rows) some =
     let first = read-write row (records_text rows) in
     records_some default_config st.StartRecord (records_text (row ∷ rows)) (read_back row, st.StartRecord, records_text rows) refl first
     ∙ rw (kept row (All-head (λ (r : Row). 0 < length r) row rows some))
-        (ap (λ (rs : List Row). row ∷ rs) (records_read rows (All-tail (λ (r : Row). 0 < length r) row rows some)))
+    (ap (λ (rs : List Row). row ∷ rs) (records_read rows (All-tail (λ (r : Row). 0 < length r) row rows some)))
 
 -- No mark comes up at the start of the text.
 ends_mark : (a b : Bool) → (a && b && false) ≡ false
@@ -72,7 +72,7 @@ follows x (z ∷ zs) rest = follows_more z zs _ rest
 
 row_parts : (x : List ℕ) (more : Row) (rest : List ℕ) → row_text default_writer (x ∷ more) ++ rest
     ≡ field_text default_writer x ++ ((fields_text default_writer more ++ ((if is_blank default_writer (x ∷ more) then 34 ∷ 34 ∷ [] else []) ++ 10 ∷ []))
-        ++ rest)
+    ++ rest)
 row_parts x more rest =
     ap (λ (t : List ℕ). t ++ rest) (append_assoc (field_text default_writer x) (fields_text default_writer more) _)
     ∙ append_assoc (field_text default_writer x) _ rest

@@ -22,10 +22,12 @@ fields_of-push-requires t c =
     let e : Entry = (c.in-Some.name.now, c.in-Some.value.now) in
     let all : c.args.members.now.entries ≡ (done ++ e ∷ []) ++ c.next.new.self =
     c.members.invariant.1 ∙ ap (λ es. done ++ es) c.in-Some.ensures.steps ∙ sym (append_assoc done (e ∷ []) c.next.new.self) in
-    let more = fields_go c.members.fields (fields_of (members_view done)) _ _ _ _ c.members.invariant.2 (c.in_ok-name.ensures ∙ c.as_str.ensures.value) c.in_ok-tree.ensures
+    let more = fields_go c.members.fields (fields_of (members_view done)) _ _ _ _ c.members.invariant.2
+    (c.in_ok-name.ensures ∙ c.as_str.ensures.value) c.in_ok-tree.ensures
     ∙ sym (fields_push done e) in
     subst (λ (fs : List (FieldOf Tree)). Rise fs) (sym more)
-    (first_rise (done ++ e ∷ []) c.next.new.self (subst (λ (es : List Entry). IsStrictlySortedBy string_cmp (map (λ f. f.0) es)) all c.iter-name-items.ensures.ordered))
+    (first_rise (done ++ e ∷ []) c.next.new.self
+    (subst (λ (es : List Entry). IsStrictlySortedBy string_cmp (map (λ f. f.0) es)) all c.iter-name-items.ensures.ordered))
 
 pub fields_of-members-preserved : goal.fields_of-members-preserved
 fields_of-members-preserved t c =
@@ -34,6 +36,7 @@ fields_of-members-preserved t c =
       done ++ e ∷ [],
       c.members.invariant.1 ∙ ap (λ es. done ++ es) c.in-Some.ensures.steps ∙ sym (append_assoc done (e ∷ []) c.next.new.self),
       c.in_ok-push.ensures.ok
-          ∙ fields_go c.members.fields (fields_of (members_view done)) _ _ _ _ c.members.invariant.2 (c.in_ok-name.ensures ∙ c.as_str.ensures.value) c.in_ok-tree.ensures
+          ∙ fields_go c.members.fields (fields_of (members_view done)) _ _ _ _ c.members.invariant.2
+          (c.in_ok-name.ensures ∙ c.as_str.ensures.value) c.in_ok-tree.ensures
           ∙ sym (fields_push done e),
     )

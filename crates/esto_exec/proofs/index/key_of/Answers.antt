@@ -6,4 +6,5 @@ use Rattle.esto_exec.proofs.index.key_of.Goals as goal
 
 pub returns-in-Some : goal.returns-in-Some
 returns-in-Some c = λ codes named. one_key c.args.row.now c.args.columns.now codes c.in-Some.key named
-    (MatchOption-at_some (¬ ((codes : List ℕ) × NamesCodes c.args.row.now c.args.columns.now codes)) (NamesCodes c.args.row.now c.args.columns.now) c.in-Some.key c.in-Some.is c.in_ok-key.ensures)
+    (MatchOption-at_some (¬ ((codes : List ℕ) × NamesCodes c.args.row.now c.args.columns.now codes))
+    (NamesCodes c.args.row.now c.args.columns.now) c.in-Some.key c.in-Some.is c.in_ok-key.ensures)

@@ -12,8 +12,10 @@ steps_of-requires-clause-named c = λ number inside.
 
 pub steps_of-requires-clause-can : goal.steps_of-requires-clause-can
 steps_of-requires-clause-can c =
-    order_can_plan (patterns_of c.args.fragments.now) (plan_query c.args.plan.now).body (pattern_columns c.args.plan.now c.args.fragments.now c.requires.over) c.requires.order.0 c.args.order.now c.requires.order.1
+    order_can_plan (patterns_of c.args.fragments.now) (plan_query c.args.plan.now).body
+    (pattern_columns c.args.plan.now c.args.fragments.now c.requires.over) c.requires.order.0 c.args.order.now c.requires.order.1
 
 pub steps_of-requires-clause-safe : goal.steps_of-requires-clause-safe
 steps_of-requires-clause-safe c = λ term inside.
-    fixed_in_order (patterns_of c.args.fragments.now) (plan_query c.args.plan.now).body c.requires.order.0 c.args.order.now c.requires.order.1 term (c.requires.order.2 term inside)
+    fixed_in_order (patterns_of c.args.fragments.now) (plan_query c.args.plan.now).body c.requires.order.0 c.args.order.now c.requires.order.1 term
+    (c.requires.order.2 term inside)

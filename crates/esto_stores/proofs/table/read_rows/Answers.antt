@@ -11,7 +11,7 @@ returns-then-len-width c =
     let taken = cells_at c.args.places.now in
     gives_fault (map taken (left_of c.args.reader.now)) _ (fault_at Length (length c.records.rows + 1)) _ (c.fault.ensures ∙ rw c.len.ensures)
     (row_length Length c.args.width taken _ _ _ _ _ c.records.invariant.1 (taken_some _ _ _ _ c.in_ok-read_next.ensures.taken c.if-branch.true)
-        (λ e. c.if-len-width.true (c.len-in-records.ensures ∙ e)))
+    (λ e. c.if-len-width.true (c.len-in-records.ensures ∙ e)))
 
 pub records-preserved : goal.records-preserved
 records-preserved c =
@@ -27,7 +27,7 @@ returns-in-Err-NotUtf8 c =
     let taken = cells_at c.args.places.now in
     gives_fault (map taken (left_of c.args.reader.now)) _ (fault_at NotUtf8 (length c.records.rows + 1)) _ (c.fault-in-Err-NotUtf8.ensures ∙ rw c.len.ensures)
     (row_text Length c.args.width taken _ _ _ _ _ c.records.invariant.1 (taken_some _ _ _ _ c.in_ok-read_next.ensures.taken c.if-branch.true)
-        (sym c.len-in-records.ensures ∙ c.if-len-width.false) (rw c.in-Err-NotUtf8.field-0-is at c.in-Err-NotUtf8.ensures))
+    (sym c.len-in-records.ensures ∙ c.if-len-width.false) (rw c.in-Err-NotUtf8.field-0-is at c.in-Err-NotUtf8.ensures))
 
 pub returns : goal.returns
 returns c = rows_end Length c.args.width (cells_at c.args.places.now) _ _ _ c.records.invariant.1

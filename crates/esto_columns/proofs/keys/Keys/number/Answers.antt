@@ -9,19 +9,24 @@ invariant_of-self c = subst (λ it. AllPairs ◌≢◌ (map (λ key. key.items) 
 
 pub invariant_of-self-2 : goal.invariant_of-self-2
 invariant_of-self-2 c =
-    distinct_grown (λ key. key.items) c.args.key.now (λ key. bytes_eq c.in-Ok.owned.items key.items) (λ key. told_from c.in-Ok.owned.items c.args.key.now key.items c.in-Ok.ensures.items)
+    distinct_grown (λ key. key.items) c.args.key.now (λ key. bytes_eq c.in-Ok.owned.items key.items)
+    (λ key. told_from c.in-Ok.owned.items c.args.key.now key.items c.in-Ok.ensures.items)
     c.self.inside.keys.keys c.insert_full.new.self.keys c.in-Ok.owned c.in-Ok.ensures.items c.in-Ok-insert_full.ensures.keys c.self.invariant
 
 pub returns-clause-found : goal.returns-clause-found
 returns-clause-found c =
     let stored = c.in-Ok-insert_full.ensures.stored in
     numbered (map (λ key. key.items) c.insert_full.new.self.keys) c.args.key.now c.in-Ok-insert_full.number (invariant_of-self-2 c)
-    (passes_at (λ key. key.items) c.args.key.now (λ key. bytes_eq c.in-Ok.owned.items key.items) (λ key. told_from c.in-Ok.owned.items c.args.key.now key.items c.in-Ok.ensures.items)
+    (passes_at (λ key. key.items) c.args.key.now (λ key. bytes_eq c.in-Ok.owned.items key.items)
+    (λ key. told_from c.in-Ok.owned.items c.args.key.now key.items c.in-Ok.ensures.items)
     c.insert_full.new.self.keys c.in-Ok-insert_full.number stored.0 stored.1 stored.2)
 
 pub returns-clause-grown : goal.returns-clause-grown
 returns-clause-grown c =
-    subst (λ (it : List (List ℕ)). (map (λ key. key.items) c.insert_full.new.self.keys ≡ it) ⊎ ((map (λ key. key.items) c.insert_full.new.self.keys ≡ it ++ c.args.key.now ∷ []) × (c.in-Ok-insert_full.number ≡ length it)))
+    subst (λ (it : List (List ℕ)). (map (λ key. key.items) c.insert_full.new.self.keys ≡ it)
+    ⊎ ((map (λ key. key.items) c.insert_full.new.self.keys ≡ it ++ c.args.key.now ∷ []) × (c.in-Ok-insert_full.number ≡ length it)))
     c.self.view_is
-    (list_grown (λ key. key.items) c.args.key.now (λ key. bytes_eq c.in-Ok.owned.items key.items) (λ key. told_from c.in-Ok.owned.items c.args.key.now key.items c.in-Ok.ensures.items)
-    c.self.inside.keys.keys c.insert_full.new.self.keys c.in-Ok.owned c.in-Ok-insert_full.number c.in-Ok.ensures.items c.in-Ok-insert_full.ensures.keys c.self.invariant (returns-clause-found c).0)
+    (list_grown (λ key. key.items) c.args.key.now (λ key. bytes_eq c.in-Ok.owned.items key.items)
+    (λ key. told_from c.in-Ok.owned.items c.args.key.now key.items c.in-Ok.ensures.items)
+    c.self.inside.keys.keys c.insert_full.new.self.keys c.in-Ok.owned c.in-Ok-insert_full.number c.in-Ok.ensures.items c.in-Ok-insert_full.ensures.keys
+    c.self.invariant (returns-clause-found c).0)
