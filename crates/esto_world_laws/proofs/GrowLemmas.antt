@@ -91,6 +91,7 @@ module _ (entries more : List Entry) where
     in_order = follows.in_order;
     chosen = follows.chosen;
     stated = zip_weaker _ _ follows.facts follows.chosen (λ place fact _ c. Claims-append place (Stated fact) c) follows.stated;
+    equalities = λ place inside. let is = follows.equalities place inside in (is.0, is.1, Claims-append place (Same is.0 is.1) is.2);
     matches = IsMatch-more (IsNamed-append places) (body_of rule) follows.chosen follows.matches;
     asked = follows.asked;
   }

@@ -35,6 +35,10 @@ IsChain entries [] term other = term ≡ other
 IsChain entries (place ∷ places) term other =
     (next : Term) × (Claims entries place (Same term next) ⊎ Claims entries place (Same next term)) × IsChain entries places next other
 
+-- The entry at the place says that two terms are one.
+abbrev pub IsEquality : List Entry → ℕ → Type 0
+IsEquality entries place = (left : Term) × (right : Term) × Claims entries place (Same left right)
+
 -- The claim follows by the rule from the entries at the places: first one fact for each atom of the body, in order, and then equalities. The facts match the
 -- body where terms that these equalities link count as one, and the rule asks for the claim at this match.
 pub record FollowsBy (entries : List Entry) (number : ℕ) (rule : Rule) (places : List ℕ) (claim : Claim) : Type 0 where
@@ -43,6 +47,7 @@ pub record FollowsBy (entries : List Entry) (number : ℕ) (rule : Rule) (places
   pub in_order : places ≡ facts ++ links
   pub chosen : List (Fact Term)
   pub stated : AllZip (λ (place : ℕ) (fact : Fact Term). Claims entries place (Stated fact)) facts chosen
+  pub equalities : (place : ℕ) → Contains links place → IsEquality entries place
   pub matches : IsMatch (IsNamed entries places) (body_of rule) chosen
   pub asked : IsAsked number rule (match_map (body_of rule) chosen) claim
 
