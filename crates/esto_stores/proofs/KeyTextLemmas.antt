@@ -25,7 +25,8 @@ none_in_join : (p : ℕ → Bool) (c : ℕ) (cells : Row) → p c ≡ false → 
 none_in_join p c [] e h = refl
 none_in_join p c (x ∷ []) e h = or_left _ _ h
 none_in_join p c (x ∷ y ∷ ys) e h =
-    list_any-append p x (c ∷ join_with_byte c (y ∷ ys)) ∙ rw (or_left (list_any p x) (list_any (list_any p) (y ∷ ys)) h, e) (none_in_join p c (y ∷ ys) e (or_right (list_any p x) _ h))
+    list_any-append p x (c ∷ join_with_byte c (y ∷ ys)) ∙ rw (or_left (list_any p x) (list_any (list_any p) (y ∷ ys)) h, e)
+    (none_in_join p c (y ∷ ys) e (or_right (list_any p x) _ h))
 
 -- The marks, one by one.
 weaker_any : {X : Type 0} (p q : X → Bool) (xs : List X) → ((x : X) → p x ≡ false → q x ≡ false) → list_any p xs ≡ false → list_any q xs ≡ false
@@ -41,7 +42,8 @@ no_feed b h = or_right (b == tab) _ (or_left _ _ h)
 no_return_mark : (b : ℕ) → is_part b ≡ false → (b == carriage_return) ≡ false
 no_return_mark b h = or_right _ _ h
 
-plain_cells : (q : ℕ → Bool) (cells : Row) → ((b : ℕ) → is_part b ≡ false → q b ≡ false) → list_any (list_any is_part) cells ≡ false → list_any (list_any q) cells ≡ false
+plain_cells : (q : ℕ → Bool) (cells : Row) → ((b : ℕ) → is_part b ≡ false → q b ≡ false) → list_any (list_any is_part) cells ≡ false
+    → list_any (list_any q) cells ≡ false
 plain_cells q cells f h = weaker_any (list_any is_part) (list_any q) cells (λ cell. weaker_any is_part q cell f) h
 
 -- A line without a carriage return.
@@ -60,7 +62,8 @@ last_split : (x : List ℕ) → list_any (λ b. b == tab) x ≡ false → slice_
 last_split [] h = refl
 last_split (b ∷ bs) h = rw (or_left (b == tab) _ h) (ap (onto_first b) (last_split bs (or_right (b == tab) _ h)))
 
-cells_split : (cells : Row) → 0 < length cells → list_any (list_any (λ b. b == tab)) cells ≡ false → slice_split (λ b. b == tab) (join_with_byte tab cells) ≡ cells
+cells_split : (cells : Row) → 0 < length cells → list_any (list_any (λ b. b == tab)) cells ≡ false → slice_split (λ b. b == tab) (join_with_byte tab cells)
+    ≡ cells
 cells_split [] some h = absurd (omega arith)
 cells_split (x ∷ []) some h = last_split x (or_left _ _ h)
 cells_split (x ∷ y ∷ ys) some h =
@@ -74,7 +77,8 @@ row_read row plain some =
     rw (return_kept (join_with_byte tab row) (none_in_join (λ b. b == carriage_return) tab row refl (plain_cells _ row no_return_mark h)))
     (cells_split row some (plain_cells _ row no_tab h))
 
-pub rows_read : LinesBeginAnew → (rows : List Row) → All (λ row. row_fault row ≡ None) rows → All (λ row. 0 < length row) rows → key_rows (keys_text rows) ≡ rows
+pub rows_read : LinesBeginAnew → (rows : List Row) → All (λ row. row_fault row ≡ None) rows → All (λ row. 0 < length row) rows → key_rows (keys_text rows)
+    ≡ rows
 unfolding key_rows lines_of
 rows_read anew [] plain some = refl
 rows_read anew (row ∷ rows) plain some =
@@ -103,7 +107,8 @@ no_fault kind width n (row ∷ rows) sizes texts =
     fault_goes kind width (λ cells. cells) n row rows (All-head (λ (r : Row). length r ≡ width) row rows sizes) (both_left _ _ texts)
     ∙ no_fault kind width (n + 1) rows (All-tail (λ (r : Row). length r ≡ width) row rows sizes) (both_right (are_texts row) _ texts)
 
-pub keys_no_fault : LinesBeginAnew → (width : ℕ) (rows : List Row) → All (λ row. row_fault row ≡ None) rows → All (λ row. 0 < length row) rows → list_all are_texts rows ≡ true
+pub keys_no_fault : LinesBeginAnew → (width : ℕ) (rows : List Row) → All (λ row. row_fault row ≡ None) rows → All (λ row. 0 < length row) rows
+    → list_all are_texts rows ≡ true
     → All (λ row. length row ≡ width) rows → key_fault width (keys_text rows) ≡ None
 unfolding key_fault
 keys_no_fault anew width rows plain some texts sizes = rw (rows_read anew rows plain some) (no_fault _ width 1 rows sizes texts)
@@ -112,7 +117,8 @@ keys_no_fault anew width rows plain some texts sizes = rw (rows_read anew rows p
 abbrev pub HasWritten : List Row → ℕ → List ℕ → Type 0
 HasWritten rows i text = (text ≡ keys_text (take i rows)) × (list_all are_texts rows ≡ list_all are_texts (drop i rows))
 
-pub all_written : (rows : List Row) (i : ℕ) (text : List ℕ) → length rows ≤ i → HasWritten rows i text → (text ≡ keys_text rows) × (list_all are_texts rows ≡ true)
+pub all_written : (rows : List Row) (i : ℕ) (text : List ℕ) → length rows ≤ i → HasWritten rows i text → (text ≡ keys_text rows)
+    × (list_all are_texts rows ≡ true)
 all_written rows i text h w = (w.0 ∙ ap keys_text (take_all i rows h), w.1 ∙ at_drop_all (list_all are_texts) rows i h)
 
 -- A turn of the loop over the cells of a row.

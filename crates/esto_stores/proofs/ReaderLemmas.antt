@@ -29,7 +29,8 @@ takes_some a b cells reads read =
 pub takes_none : (a b : Reader (Bor (List ℕ))) (cells : Row) → Reads a → ReadRecord (λ s. Some s.now) a b false cells → left_of a ≡ []
 takes_none a b cells reads read =
     let (y, known) = reads.known in
-    left_known a y known ∙ records_none default_config a.state y (rows-end (λ (s : Bor (List ℕ)). Some s.now) a b cells default_config y reads.config known read)
+    left_known a y known ∙ records_none default_config a.state y (rows-end (λ (s : Bor (List ℕ)). Some s.now) a b cells default_config y reads.config known
+    read)
 
 pub takes : (a b : Reader (Bor (List ℕ))) (found : Bool) (cells : Row) → Reads a → ReadRecord (λ s. Some s.now) a b found cells
     → Takes (left_of a) found cells (left_of b)

@@ -38,7 +38,8 @@ pub places_go : (places : List ℕ) (cells : Row) (i : ℕ) (cell : List ℕ) �
     → are_texts (cells_at (drop i places) cells) ≡ are_texts (cells_at (drop (i + 1) places) cells)
 places_go places cells i cell h e text = at_drop_more (λ ps. are_texts (cells_at ps cells)) places i 0 h ∙ rw (← e, text) refl
 
-pub places_stop : (places : List ℕ) (cells : Row) (i : ℕ) (cell : List ℕ) → i < length places → cell ≡ get_or cells (get_or places i 0) [] → is_utf8 cell ≡ false
+pub places_stop : (places : List ℕ) (cells : Row) (i : ℕ) (cell : List ℕ) → i < length places → cell ≡ get_or cells (get_or places i 0) [] → is_utf8 cell
+    ≡ false
     → are_texts (cells_at (drop i places) cells) ≡ false
 places_stop places cells i cell h e text = at_drop_more (λ ps. are_texts (cells_at ps cells)) places i 0 h ∙ rw (← e, text) refl
 
@@ -47,7 +48,8 @@ pub places_more : (places : List ℕ) (cells : Row) (i : ℕ) (cell : List ℕ) 
 places_more places cells i cell h e = map_more (λ p. get_or cells p []) places i 0 h ∙ rw (← e) refl
 
 -- The first fault of rows, by the first row.
-pub fault_goes : (kind : FileKind) (width : ℕ) (taken : Row → Row) (n : ℕ) (cells : Row) (rest : List Row) → length cells ≡ width → are_texts (taken cells) ≡ true
+pub fault_goes : (kind : FileKind) (width : ℕ) (taken : Row → Row) (n : ℕ) (cells : Row) (rest : List Row) → length cells ≡ width → are_texts (taken cells)
+    ≡ true
     → first_fault kind width taken n (cells ∷ rest) ≡ first_fault kind width taken (n + 1) rest
 unfolding first_fault
 fault_goes kind width taken n cells rest e t = rw (eq-eqb (length cells) width e, t) refl
@@ -57,7 +59,8 @@ pub fault_length : (kind : FileKind) (width : ℕ) (taken : Row → Row) (n : �
 unfolding first_fault
 fault_length kind width taken n cells rest e = rw (ne_eqb (length cells) width e) refl
 
-pub fault_text : (kind : FileKind) (width : ℕ) (taken : Row → Row) (n : ℕ) (cells : Row) (rest : List Row) → length cells ≡ width → are_texts (taken cells) ≡ false
+pub fault_text : (kind : FileKind) (width : ℕ) (taken : Row → Row) (n : ℕ) (cells : Row) (rest : List Row) → length cells ≡ width → are_texts (taken cells)
+    ≡ false
     → first_fault kind width taken n (cells ∷ rest) ≡ Some (fault_at NotUtf8 n)
 unfolding first_fault
 fault_text kind width taken n cells rest e t = rw (eq-eqb (length cells) width e, t) refl
@@ -82,7 +85,8 @@ cell_error old new cell text.NotUtf8 h = utf8_false cell h
 cell_error old new cell text.OutOfMemory h = tt
 
 -- A cell that is no text.
-pub row_error : (cells old new : Row) (cell : List ℕ) (e : TextError) → PutsCell old cell new (Err e) → (is_utf8 cell ≡ false → are_texts cells ≡ false) → ReadsRow cells (Err e)
+pub row_error : (cells old new : Row) (cell : List ℕ) (e : TextError) → PutsCell old cell new (Err e) → (is_utf8 cell ≡ false → are_texts cells ≡ false)
+    → ReadsRow cells (Err e)
 row_error cells old new cell text.NotUtf8 h f = f h
 row_error cells old new cell text.OutOfMemory h f = tt
 
@@ -105,7 +109,8 @@ pub row_goes : (kind : FileKind) (width : ℕ) (taken : Row → Row) (all left m
 row_goes kind width taken all left more rows cells row read e size same texts =
     record {
       same = read.same ∙ rw (e, same) (sym (append_assoc rows (taken cells ∷ []) (map taken more)));
-      fault = read.fault ∙ goes_at kind width taken left more cells (length rows + 1) (length (rows ++ row ∷ []) + 1) e size texts (ap (λ n. n + 1) (length_push rows row));
+      fault = read.fault ∙ goes_at kind width taken left more cells (length rows + 1) (length (rows ++ row ∷ []) + 1) e size texts
+          (ap (λ n. n + 1) (length_push rows row));
     }
 
 pub rows_end : (kind : FileKind) (width : ℕ) (taken : Row → Row) (all left rows : List Row) → HasRead kind width taken all left rows → left ≡ []
@@ -115,11 +120,14 @@ rows_end kind width taken all left rows read e = (read.fault ∙ ap (first_fault
 
 pub row_length : (kind : FileKind) (width : ℕ) (taken : Row → Row) (all left more rows : List Row) (cells : Row) → HasRead kind width taken all left rows
     → left ≡ cells ∷ more → length cells ≢ width → first_fault kind width taken 1 all ≡ Some (fault_at kind (length rows + 1))
-row_length kind width taken all left more rows cells read e size = read.fault ∙ ap (first_fault kind width taken (length rows + 1)) e ∙ (fault_length kind width taken (length rows + 1) cells more size)
+row_length kind width taken all left more rows cells read e size = read.fault ∙ ap (first_fault kind width taken (length rows + 1)) e
+    ∙ (fault_length kind width taken (length rows + 1) cells more size)
 
 pub row_text : (kind : FileKind) (width : ℕ) (taken : Row → Row) (all left more rows : List Row) (cells : Row) → HasRead kind width taken all left rows
-    → left ≡ cells ∷ more → length cells ≡ width → are_texts (taken cells) ≡ false → first_fault kind width taken 1 all ≡ Some (fault_at NotUtf8 (length rows + 1))
-row_text kind width taken all left more rows cells read e size texts = read.fault ∙ ap (first_fault kind width taken (length rows + 1)) e ∙ (fault_text kind width taken (length rows + 1) cells more size texts)
+    → left ≡ cells ∷ more → length cells ≡ width → are_texts (taken cells) ≡ false → first_fault kind width taken 1 all
+    ≡ Some (fault_at NotUtf8 (length rows + 1))
+row_text kind width taken all left more rows cells read e size texts = read.fault ∙ ap (first_fault kind width taken (length rows + 1)) e
+    ∙ (fault_text kind width taken (length rows + 1) cells more size texts)
 
 -- A read that found a record.
 pub taken_some : (before after : List Row) (found : Bool) (cells : Row) → Takes before found cells after → found ≡ true → before ≡ cells ∷ after

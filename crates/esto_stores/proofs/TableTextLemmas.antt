@@ -33,7 +33,8 @@ records_read [] some = records_none default_config st.StartRecord [] refl
 records_read (row ∷ rows) some =
     let first = read-write row (records_text rows) in
     records_some default_config st.StartRecord (records_text (row ∷ rows)) (read_back row, st.StartRecord, records_text rows) refl first
-    ∙ rw (kept row (All-head (λ (r : Row). 0 < length r) row rows some)) (ap (λ (rs : List Row). row ∷ rs) (records_read rows (All-tail (λ (r : Row). 0 < length r) row rows some)))
+    ∙ rw (kept row (All-head (λ (r : Row). 0 < length r) row rows some))
+    (ap (λ (rs : List Row). row ∷ rs) (records_read rows (All-tail (λ (r : Row). 0 < length r) row rows some)))
 
 -- No mark comes up at the start of the text.
 ends_mark : (a b : Bool) → (a && b && false) ≡ false
@@ -70,7 +71,8 @@ follows x [] rest = follows_last (is_blank default_writer (x ∷ [])) rest
 follows x (z ∷ zs) rest = follows_more z zs _ rest
 
 row_parts : (x : List ℕ) (more : Row) (rest : List ℕ) → row_text default_writer (x ∷ more) ++ rest
-    ≡ field_text default_writer x ++ ((fields_text default_writer more ++ ((if is_blank default_writer (x ∷ more) then 34 ∷ 34 ∷ [] else []) ++ 10 ∷ [])) ++ rest)
+    ≡ field_text default_writer x ++ ((fields_text default_writer more ++ ((if is_blank default_writer (x ∷ more) then 34 ∷ 34 ∷ [] else []) ++ 10 ∷ []))
+    ++ rest)
 row_parts x more rest =
     ap (λ (t : List ℕ). t ++ rest) (append_assoc (field_text default_writer x) (fields_text default_writer more) _)
     ∙ append_assoc (field_text default_writer x) _ rest
@@ -167,7 +169,8 @@ rows_none columns (row ∷ rows) n pairs sizes texts =
     fault_goes Length (length columns) (declared columns columns) n row rows size (ap are_texts (declared_same columns row pairs size) ∙ both_left _ _ texts)
     ∙ rows_none columns rows (n + 1) pairs (All-tail (λ (r : Row). length r ≡ length columns) row rows sizes) (both_right (are_texts row) _ texts)
 
-rows_kept : (columns : Row) (rows : List Row) → AllPairs ◌≢◌ columns → All (λ row. length row ≡ length columns) rows → map (declared columns columns) rows ≡ rows
+rows_kept : (columns : Row) (rows : List Row) → AllPairs ◌≢◌ columns → All (λ row. length row ≡ length columns) rows → map (declared columns columns) rows
+    ≡ rows
 rows_kept columns [] pairs sizes = refl
 rows_kept columns (row ∷ rows) pairs sizes =
     rw (declared_same columns row pairs (All-head (λ (r : Row). length r ≡ length columns) row rows sizes))
@@ -193,7 +196,8 @@ abbrev pub HasPut : Row → List Row → ℕ → List ℕ → Type 0
 HasPut columns rows i text =
     (text ≡ table_text columns (take i rows)) × (are_texts columns ≡ true) × (list_all are_texts rows ≡ list_all are_texts (drop i rows))
 
-pub put_start : (columns : Row) (rows : List Row) (text : List ℕ) → text ≡ row_text default_writer columns → are_texts columns ≡ true → HasPut columns rows 0 text
+pub put_start : (columns : Row) (rows : List Row) (text : List ℕ) → text ≡ row_text default_writer columns → are_texts columns ≡ true
+    → HasPut columns rows 0 text
 put_start columns rows text e texts = (e ∙ sym (append-nil (row_text default_writer columns)), texts, refl)
 
 pub put_goes : (columns : Row) (rows : List Row) (i : ℕ) (text new : List ℕ) (row : Row) → HasPut columns rows i text → i < length rows

@@ -34,7 +34,8 @@ fn want(error: csv::Error) -> OutOfMemory
 /// The next record, and whether there is one.
 pub fn read_next(reader: &mut Reader<&[u8]>, cells: &mut ByteRecord) -> Result<bool, OutOfMemory>
     requires { Reads reader.old }
-    ensures taken { IfOk result (λ found. Takes (left_of reader.old) found (fields_of cells.new) (left_of reader.new)) }
+    ensures taken { IfOk result (λ found.
+        Takes (left_of reader.old) found (fields_of cells.new) (left_of reader.new)) }
     ensures reads { IfOk result (λ found. (found ≡ true) → Reads reader.new) }
 {
     match reader.read_byte_record(cells) {

@@ -27,7 +27,8 @@ fn lend_cells<'a>(alloc: Global, row: &'a [Text]) -> Result<Vec<&'a [u8]>, OutOf
 fn put_row(alloc: Global, writer: &mut Writer<Vec<u8>>, row: &[Text]) -> Result<(), OutOfMemory>
     requires { Writes writer.old }
     ensures writes { OnOk result (Writes writer.new) }
-    ensures text { OnOk result (written writer.new ≡ written writer.old ++ row_text default_writer row.now) }
+    ensures text { OnOk result
+        (written writer.new ≡ written writer.old ++ row_text default_writer row.now) }
     ensures texts { OnOk result (are_texts row.now ≡ true) }
 {
     let cells = lend_cells(alloc, row)?;

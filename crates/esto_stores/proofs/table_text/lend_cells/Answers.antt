@@ -8,7 +8,8 @@ pub cells-preserved : goal.cells-preserved
 cells-preserved c =
     let good : is_ok c.push.result ≡ true = search rules in
     let item = get_or_read c.args.row.now c.cells.cell-index c.cell-item.result c.cells-test.true c.cell-item.is [] in
-    lend_goes c.args.row.now c.cells.cell-index c.cells.cells.items _ c.bytes.result c.cell-item.result c.cells.invariant c.cells-test.true item c.bytes.ensures.value c.bytes.ensures.utf8
+    lend_goes c.args.row.now c.cells.cell-index c.cells.cells.items _ c.bytes.result c.cell-item.result c.cells.invariant c.cells-test.true item
+    c.bytes.ensures.value c.bytes.ensures.utf8
     (rw good at c.push.ensures.items)
 
 pub returns-clause-cells : goal.returns-clause-cells
