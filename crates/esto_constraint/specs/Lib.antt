@@ -3,3 +3,4 @@ pub mod Constraints
 pub mod Making
 pub mod Matches
 pub mod Tests
+pub mod EncodingRules

@@ -1,0 +1,79 @@
+-- The rules that the facts of documents and of keys meet, and the names of their variables.
+use Rattle.std.specs.Prelude.{ℕ, ◌+◌, List, [], ◌∷◌, ◌++◌, map, codes}
+use Rattle.esto_term.specs.declared.term.Term.{Term}
+use Rattle.esto_term.specs.declared.term.Term.TheVariants.{Plain}
+use Rattle.esto_semantics.specs.Rules.{Rule, tuple, equality, denial}
+use Rattle.esto_semantics.specs.declared.fact.Fact.{Fact}
+use Rattle.esto_query.specs.declared.query.Name.{Name}
+use Rattle.esto_query.specs.declared.query.Name.TheVariants.{Given}
+use Rattle.esto_constraint.specs.declared.rule.Constraint.{Constraint}
+use Rattle.esto_constraint.specs.declared.rule.Constraint.TheVariants.{Tuple, Equal, Never}
+
+-- An atom over variables.
+abbrev pub atom : ℕ → List ℕ → Fact Term
+atom relation variables = record { relation = relation; terms = map Plain variables }
+
+-- The five relations of documents stand one after another from the base on: root(n), field(n,k,m), item(n,m), value(n,v) and below(n,m).
+abbrev pub root : ℕ → List ℕ → Fact Term
+root base = atom (base + 0)
+
+abbrev pub field : ℕ → List ℕ → Fact Term
+field base = atom (base + 1)
+
+abbrev pub item : ℕ → List ℕ → Fact Term
+item base = atom (base + 2)
+
+abbrev pub value : ℕ → List ℕ → Fact Term
+value base = atom (base + 3)
+
+abbrev pub below : ℕ → List ℕ → Fact Term
+below base = atom (base + 4)
+
+-- The rules of documents, with variables numbered by first occurrence, the body first:
+--   field(n,k,m), field(n,k,p) -> m = p
+--   field(n,k,m), field(p,l,m) -> n = p
+--   field(n,k,m), field(p,l,m) -> k = l
+--   item(n,m), item(p,m) -> n = p
+--   value(n,v), value(n,w) -> v = w
+--   field(n,k,m) -> below(n,m)
+--   item(n,m) -> below(n,m)
+abbrev pub document_rules : ℕ → List Rule
+document_rules base =
+    equality (field base (0 ∷ 1 ∷ 2 ∷ []) ∷ field base (0 ∷ 1 ∷ 3 ∷ []) ∷ []) (Plain 2) (Plain 3)
+    ∷ equality (field base (0 ∷ 1 ∷ 2 ∷ []) ∷ field base (3 ∷ 4 ∷ 2 ∷ []) ∷ []) (Plain 0) (Plain 3)
+    ∷ equality (field base (0 ∷ 1 ∷ 2 ∷ []) ∷ field base (3 ∷ 4 ∷ 2 ∷ []) ∷ []) (Plain 1) (Plain 4)
+    ∷ equality (item base (0 ∷ 1 ∷ []) ∷ item base (2 ∷ 1 ∷ []) ∷ []) (Plain 0) (Plain 2)
+    ∷ equality (value base (0 ∷ 1 ∷ []) ∷ value base (0 ∷ 2 ∷ []) ∷ []) (Plain 1) (Plain 2)
+    ∷ tuple (field base (0 ∷ 1 ∷ 2 ∷ []) ∷ []) (below base (0 ∷ 2 ∷ []) ∷ [])
+    ∷ tuple (item base (0 ∷ 1 ∷ []) ∷ []) (below base (0 ∷ 1 ∷ []) ∷ [])
+    ∷ []
+
+-- Those, and one more that no node below another is a document: root(n), below(m,n) -> false.
+abbrev pub document_rules_2 : ℕ → List Rule
+document_rules_2 base = document_rules base ++ denial (root base (0 ∷ []) ∷ below base (1 ∷ 0 ∷ []) ∷ []) ∷ []
+
+-- The rule of keys: pair(k,f,v), pair(k,f,w) -> v = w.
+abbrev pub key_rules : ℕ → List Rule
+key_rules relation = equality (atom relation (0 ∷ 1 ∷ 2 ∷ []) ∷ atom relation (0 ∷ 1 ∷ 3 ∷ []) ∷ []) (Plain 2) (Plain 3) ∷ []
+
+-- The names of a rule's variables.
+abbrev pub written : Constraint → List Name
+written (Tuple rule) = rule.names
+written (Equal rule) = rule.names
+written (Never rule) = rule.names
+
+-- Names of one letter each.
+abbrev pub letters : List ℕ → List Name
+letters text = map (λ letter. Given (letter ∷ [])) text
+
+-- The names of the variables of those rules, as they stand above.
+abbrev pub document_names : List (List Name)
+document_names =
+    letters (codes "nkmp") ∷ letters (codes "nkmpl") ∷ letters (codes "nkmpl") ∷ letters (codes "nmp") ∷ letters (codes "nvw")
+    ∷ letters (codes "nkm") ∷ letters (codes "nm") ∷ []
+
+abbrev pub document_names_2 : List (List Name)
+document_names_2 = document_names ++ letters (codes "nm") ∷ []
+
+abbrev pub key_names : List (List Name)
+key_names = letters (codes "kfvw") ∷ []
