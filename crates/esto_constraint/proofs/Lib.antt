@@ -2,3 +2,4 @@ pub mod RuleLemmas
 pub mod MakingLemmas
 pub mod RankLemmas
 pub mod MeetingLemmas
+pub mod EncodingLemmas

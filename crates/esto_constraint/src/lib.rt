@@ -1,10 +1,12 @@
 //! Rules, their active matches, and whether facts meet them.
 #![tactic(auto)]
 
+mod encodings;
 mod make;
 mod meeting;
 mod rule;
 
+pub use encodings::{document_rules, document_rules_2, key_rules};
 pub use make::{make_denial, make_equal_rule, make_tuple_rule, rules_are_sound};
 pub use meeting::{Broken, active, active_in, least_active_matches_are_least, meets, value_of};
 pub use rule::{Constraint, Denial, Egd, Rules, Tgd};

@@ -1,0 +1,198 @@
+//! The rules of the encodings: those that the facts of documents and of keys are to meet. Variables are numbered by first
+//! occurrence, the body first, and named as the rules are written.
+ghost use Rattle.std.specs.Prelude.{◌≡◌, ◌<◌, ◌≤◌, ◌+◌, [], ◌∷◌, ◌++◌, length, map, slice_index_or, IfOk, OnOk};
+ghost use Rattle.std.specs.List.{AllByRecursion};
+ghost use Rattle.esto_term.specs.declared.term.Term.TheVariants.{Plain};
+ghost use Rattle.esto_query.specs.declared.query.Name.TheVariants.{Given};
+ghost use Rattle.esto_semantics.specs.Rules.{tuple, equality, denial};
+ghost use Rattle.esto_constraint.specs.Constraints.{rule_of, rules_of};
+ghost use Rattle.esto_constraint.specs.EncodingRules.{atom, document_rules, document_rules_2, key_rules, written, document_names, document_names_2, key_names};
+
+use crate::rule::{Constraint, Denial, Egd, Rules, Tgd};
+use esto_query::{Name, Names};
+use esto_semantics::{Atom, Atoms, Fact};
+use esto_term::{List, OutOfMemory, Term, Text};
+use std::alloc::Global;
+
+/// The greatest number of a base, beyond which one of the five relations of documents has no number.
+const LAST_BASE: usize = usize::MAX - 4;
+
+/// These names, in order.
+fn names_of(alloc: Global, texts: &[&str]) -> Result<Names, OutOfMemory>
+    ensures { IfOk result (λ it. it ≡ map (λ text. Given text.now) texts.now) }
+{
+    let mut names = List::new(alloc);
+    'texts: for text in texts {
+        names.push(Name::Given(Text::from_str(alloc, text)?))?;
+    }
+    Ok(names)
+}
+
+/// The atom of a relation over these variables.
+fn atom(alloc: Global, relation: usize, variables: &[u64]) -> Result<Atom, OutOfMemory>
+    ensures { IfOk result (λ it. it ≡ atom relation variables.now) }
+{
+    let mut terms = List::new(alloc);
+    'variables: for variable in variables {
+        terms.push(Term::Plain(*variable))?;
+    }
+    Ok(Fact { relation, terms })
+}
+
+/// A body or head of these atoms.
+fn of_one(alloc: Global, first: Atom) -> Result<Atoms, OutOfMemory>
+    ensures { IfOk result (λ it. it ≡ first ∷ []) }
+{
+    let mut atoms = List::new(alloc);
+    atoms.push(first)?;
+    Ok(atoms)
+}
+
+fn of_two(alloc: Global, first: Atom, second: Atom) -> Result<Atoms, OutOfMemory>
+    ensures { IfOk result (λ it. it ≡ first ∷ second ∷ []) }
+{
+    let mut atoms = List::new(alloc);
+    atoms.push(first)?;
+    atoms.push(second)?;
+    Ok(atoms)
+}
+
+/// The rule that two atoms of one relation agree at a place.
+fn agree_at(
+    alloc: Global,
+    relation: usize,
+    first: &[u64],
+    second: &[u64],
+    place: usize,
+    names: &[&str],
+) -> Result<Constraint, OutOfMemory>
+    requires in_first { place < length first.now }
+    requires in_second { place < length second.now }
+    requires first_named { AllByRecursion (λ v. v < length names.now) first.now }
+    requires second_named { AllByRecursion (λ v. v < length names.now) second.now }
+    ensures rule { IfOk result (λ it. rule_of it ≡ equality (atom relation first.now ∷ atom relation second.now ∷ [])
+        (Plain (slice_index_or first.now place 0)) (Plain (slice_index_or second.now place 0))) }
+    ensures names { IfOk result (λ it. written it ≡ map (λ text. Given text.now) names.now) }
+{
+    let names = names_of(alloc, names)?;
+    let body = of_two(alloc, atom(alloc, relation, first)?, atom(alloc, relation, second)?)?;
+    Ok(Constraint::Equal(Egd {
+        body,
+        left: Term::Plain(first[place]),
+        right: Term::Plain(second[place]),
+        names,
+    }))
+}
+
+/// The rule that an atom of one relation asks for one of another.
+fn leads_to(
+    alloc: Global,
+    relation: usize,
+    from: &[u64],
+    other: usize,
+    to: &[u64],
+    names: &[&str],
+) -> Result<Constraint, OutOfMemory>
+    requires from_named { AllByRecursion (λ v. v < length names.now) from.now }
+    requires to_named { AllByRecursion (λ v. v < length names.now) to.now }
+    ensures rule { IfOk result (λ it. rule_of it ≡ tuple (atom relation from.now ∷ []) (atom other to.now ∷ [])) }
+    ensures names { IfOk result (λ it. written it ≡ map (λ text. Given text.now) names.now) }
+{
+    let names = names_of(alloc, names)?;
+    let body = of_one(alloc, atom(alloc, relation, from)?)?;
+    let head = of_one(alloc, atom(alloc, other, to)?)?;
+    Ok(Constraint::Tuple(Tgd { body, head, names }))
+}
+
+/// The rule that two atoms never match together.
+fn never(
+    alloc: Global,
+    relation: usize,
+    first: &[u64],
+    other: usize,
+    second: &[u64],
+    names: &[&str],
+) -> Result<Constraint, OutOfMemory>
+    requires first_named { AllByRecursion (λ v. v < length names.now) first.now }
+    requires second_named { AllByRecursion (λ v. v < length names.now) second.now }
+    ensures rule { IfOk result (λ it. rule_of it ≡ denial (atom relation first.now ∷ atom other second.now ∷ [])) }
+    ensures names { IfOk result (λ it. written it ≡ map (λ text. Given text.now) names.now) }
+{
+    let names = names_of(alloc, names)?;
+    let body = of_two(alloc, atom(alloc, relation, first)?, atom(alloc, other, second)?)?;
+    Ok(Constraint::Never(Denial { body, names }))
+}
+
+/// The first seven rules of documents, whose five relations stand from the base on.
+fn rules_of_documents(alloc: Global, base: usize) -> Result<Rules, OutOfMemory>
+    requires { base + 4 ≤ 18446744073709551615 }
+    ensures rules { IfOk result (λ it. rules_of it ≡ document_rules base) }
+    ensures names { IfOk result (λ it. map written it ≡ document_names) }
+{
+    let (field, item, value, below) = (base + 1, base + 2, base + 3, base + 4);
+    let mut rules = List::new(alloc);
+    let names = ["n", "k", "m", "p"];
+    rules.push(agree_at(alloc, field, &[0, 1, 2], &[0, 1, 3], 2, &names)?)?;
+    let names = ["n", "k", "m", "p", "l"];
+    rules.push(agree_at(alloc, field, &[0, 1, 2], &[3, 4, 2], 0, &names)?)?;
+    rules.push(agree_at(alloc, field, &[0, 1, 2], &[3, 4, 2], 1, &names)?)?;
+    let names = ["n", "m", "p"];
+    rules.push(agree_at(alloc, item, &[0, 1], &[2, 1], 0, &names)?)?;
+    let names = ["n", "v", "w"];
+    rules.push(agree_at(alloc, value, &[0, 1], &[0, 2], 1, &names)?)?;
+    let names = ["n", "k", "m"];
+    rules.push(leads_to(alloc, field, &[0, 1, 2], below, &[0, 2], &names)?)?;
+    let names = ["n", "m"];
+    rules.push(leads_to(alloc, item, &[0, 1], below, &[0, 1], &names)?)?;
+    Ok(rules)
+}
+
+/// The eight rules of documents.
+fn rules_of_documents_2(alloc: Global, base: usize) -> Result<Rules, OutOfMemory>
+    requires { base + 4 ≤ 18446744073709551615 }
+    ensures rules { IfOk result (λ it. rules_of it ≡ document_rules_2 base) }
+    ensures names { IfOk result (λ it. map written it ≡ document_names_2) }
+{
+    let mut rules = rules_of_documents(alloc, base)?;
+    rules.push(never(alloc, base, &[0], base + 4, &[1, 0], &["n", "m"])?)?;
+    Ok(rules)
+}
+
+/// The rules that the facts of documents meet, in a catalogue of version 1, over the relations root, field, item, value
+/// and below that stand from the base on: a node has one field of a name, a field has one node and one name, an item has
+/// one node, a node holds one value, and fields and items stand below. OutOfMemory comes too where a relation has no
+/// number of 64 bits.
+pub fn document_rules(alloc: Global, base: usize) -> Result<Rules, OutOfMemory>
+    ensures rules { IfOk result (λ it. rules_of it ≡ document_rules base) }
+    ensures names { IfOk result (λ it. map written it ≡ document_names) }
+{
+    if base > LAST_BASE {
+        return Err(OutOfMemory);
+    }
+    let rules = rules_of_documents(alloc, base)?;
+    Ok(rules)
+}
+
+/// The rules that the facts of documents meet, in a catalogue of version 2: those of version 1, and then that no document
+/// stands below a node. OutOfMemory comes too where a relation has no number of 64 bits.
+pub fn document_rules_2(alloc: Global, base: usize) -> Result<Rules, OutOfMemory>
+    ensures rules { IfOk result (λ it. rules_of it ≡ document_rules_2 base) }
+    ensures names { IfOk result (λ it. map written it ≡ document_names_2) }
+{
+    if base > LAST_BASE {
+        return Err(OutOfMemory);
+    }
+    let rules = rules_of_documents_2(alloc, base)?;
+    Ok(rules)
+}
+
+/// The rule that the facts of keys are to meet: a field of a key has one value.
+pub fn key_rules(alloc: Global, relation: usize) -> Result<Rules, OutOfMemory>
+    ensures rules { IfOk result (λ it. rules_of it ≡ key_rules relation) }
+    ensures names { IfOk result (λ it. map written it ≡ key_names) }
+{
+    let names = ["k", "f", "v", "w"];
+    let mut rules = List::new(alloc);
+    rules.push(agree_at(alloc, relation, &[0, 1, 2], &[0, 1, 3], 2, &names)?)?;
+    Ok(rules)
+}
