@@ -48,7 +48,8 @@ below_turn facts now whole base n xs i within put known = rw put (below_step fac
 
 -- a node's facts and those of the nodes after it
 kid_facts : (base : ℕ) (a : List ℕ) (n : ℕ) (l : Label) (t : Node) (rest : Forest)
-    → flat base (entering a l n) ∷ (map (flat base) (node_facts a n t) ++ map (flat base) (facts_from a (suc n + size t.inside) rest)) ≡ map (flat base) (facts_from a n (kid l t.content t.inside rest))
+    → flat base (entering a l n) ∷ (map (flat base) (node_facts a n t) ++ map (flat base) (facts_from a (suc n + size t.inside) rest)) ≡ map (flat base)
+    (facts_from a n (kid l t.content t.inside rest))
 kid_facts base a n l t rest =
     ap (λ (w : List (Fact Term)). flat base (entering a l n) ∷ w)
     (sym (map-append (flat base) (node_facts a n t) (facts_from a (suc n + size t.inside) rest))
@@ -72,13 +73,18 @@ module _ (base number next : ℕ) (above inner : List ℕ) (facts whole : List (
 
   pub field_facts : (fields : List (FieldOf Tree)) (i : ℕ) (f : FieldOf Tree) → i < length fields → f ≡ get_or fields i f
       → facts ++ map (flat base) (facts_from (number ∷ turned above) next (named_row (map shaped_field (drop i fields)))) ≡ whole
-      → ((facts ++ fact_over (base + 1) (Plain number ∷ Const f.name ∷ Plain next ∷ []) ∷ []) ++ map (flat base) (node_facts (turned inner) next (shape f.tree)))
-      ++ map (flat base) (facts_from (number ∷ turned above) (suc next + size (shape f.tree).inside) (named_row (map shaped_field (drop (i + 1) fields)))) ≡ whole
+      → ((facts ++ fact_over (base + 1) (Plain number ∷ Const f.name ∷ Plain next ∷ []) ∷ [])
+      ++ map (flat base) (node_facts (turned inner) next (shape f.tree)))
+      ++ map (flat base) (facts_from (number ∷ turned above) (suc next + size (shape f.tree).inside) (named_row (map shaped_field (drop (i + 1) fields))))
+      ≡ whole
   field_facts fields i f within is known =
-      ap (λ (a : List ℕ). ((facts ++ fact_over (base + 1) (Plain number ∷ Const f.name ∷ Plain next ∷ []) ∷ []) ++ map (flat base) (node_facts a next (shape f.tree)))
-      ++ map (flat base) (facts_from (number ∷ turned above) (suc next + size (shape f.tree).inside) (named_row (map shaped_field (drop (i + 1) fields))))) inside_turned
+      ap (λ (a : List ℕ). ((facts ++ fact_over (base + 1) (Plain number ∷ Const f.name ∷ Plain next ∷ []) ∷ [])
+      ++ map (flat base) (node_facts a next (shape f.tree)))
+      ++ map (flat base) (facts_from (number ∷ turned above) (suc next + size (shape f.tree).inside) (named_row (map shaped_field (drop (i + 1) fields)))))
+      inside_turned
       ∙ kid_step base facts whole (number ∷ turned above) next (name f.name) (shape f.tree) (named_row (map shaped_field (drop (i + 1) fields)))
-      (ap (λ (w : List (FieldOf Tree)). facts ++ map (flat base) (facts_from (number ∷ turned above) next (named_row (map shaped_field w)))) (sym (drop_at fields i f f within is)) ∙ known)
+      (ap (λ (w : List (FieldOf Tree)). facts ++ map (flat base) (facts_from (number ∷ turned above) next (named_row (map shaped_field w))))
+      (sym (drop_at fields i f f within is)) ∙ known)
 
   pub item_facts : (items : List Tree) (i : ℕ) (t : Tree) → i < length items → t ≡ get_or items i t
       → facts ++ map (flat base) (facts_from (number ∷ turned above) next (row (map shape (drop i items)))) ≡ whole
@@ -88,7 +94,8 @@ module _ (base number next : ℕ) (above inner : List ℕ) (facts whole : List (
       ap (λ (a : List ℕ). ((facts ++ fact_over (base + 2) (Plain number ∷ Plain next ∷ []) ∷ []) ++ map (flat base) (node_facts a next (shape t)))
       ++ map (flat base) (facts_from (number ∷ turned above) (suc next + size (shape t).inside) (row (map shape (drop (i + 1) items))))) inside_turned
       ∙ kid_step base facts whole (number ∷ turned above) next place (shape t) (row (map shape (drop (i + 1) items)))
-      (ap (λ (w : List Tree). facts ++ map (flat base) (facts_from (number ∷ turned above) next (row (map shape w)))) (sym (drop_at items i t t within is)) ∙ known)
+      (ap (λ (w : List Tree). facts ++ map (flat base) (facts_from (number ∷ turned above) next (row (map shape w)))) (sym (drop_at items i t t within is))
+      ∙ known)
 
 pub field_count : (next all : ℕ) (fields : List (FieldOf Tree)) (i : ℕ) (f : FieldOf Tree) → i < length fields → f ≡ get_or fields i f
     → next + size (named_row (map shaped_field (drop i fields))) ≡ all
@@ -104,7 +111,8 @@ item_count next all items i t within is known =
     kid_count next all (shape t) (row (map shape (drop (i + 1) items))) place
     (ap (λ (w : List Tree). next + size (row (map shape w))) (sym (drop_at items i t t within is)) ∙ known)
 
-pub document_facts : (base next : ℕ) (above : List ℕ) (facts whole : List (Fact Term)) → above ≡ [] → (items : List Tree) (i : ℕ) (t : Tree) → i < length items → t ≡ get_or items i t
+pub document_facts : (base next : ℕ) (above : List ℕ) (facts whole : List (Fact Term)) → above ≡ [] → (items : List Tree) (i : ℕ) (t : Tree) → i < length items
+    → t ≡ get_or items i t
     → facts ++ map (flat base) (facts_from [] next (row (map shape (drop i items)))) ≡ whole
     → ((facts ++ fact_over (base + 0) (Plain next ∷ []) ∷ []) ++ map (flat base) (node_facts (turned above) next (shape t)))
     ++ map (flat base) (facts_from [] (suc next + size (shape t).inside) (row (map shape (drop (i + 1) items)))) ≡ whole
@@ -114,24 +122,33 @@ document_facts base next above facts whole none_above items i t within is known 
     ∙ kid_step base facts whole [] next place (shape t) (row (map shape (drop (i + 1) items)))
     (ap (λ (w : List Tree). facts ++ map (flat base) (facts_from [] next (row (map shape w)))) (sym (drop_at items i t t within is)) ∙ known)
 
-module _ (base number next later : ℕ) (above inner : List ℕ) (facts entered now whole : List (Fact Term)) (all : ℕ) (is_inner : inner ≡ above ++ number ∷ []) where
+module _ (base number next later : ℕ) (above inner : List ℕ) (facts entered now whole : List (Fact Term)) (all : ℕ)
+    (is_inner : inner ≡ above ++ number ∷ []) where
   pub field_turn : (fields : List (FieldOf Tree)) (i : ℕ) (f : FieldOf Tree) (named : List ℕ) → i < length fields → f ≡ get_or fields i f → named ≡ f.name
       → entered ≡ facts ++ fact_over (base + 1) (Plain number ∷ Const named ∷ Plain next ∷ []) ∷ []
       → now ≡ entered ++ map (flat base) (node_facts (turned inner) next (shape f.tree))
       → later ≡ suc next + size (shape f.tree).inside
-      → (facts ++ map (flat base) (facts_from (number ∷ turned above) next (named_row (map shaped_field (drop i fields)))) ≡ whole) × (next + size (named_row (map shaped_field (drop i fields))) ≡ all)
-      → (now ++ map (flat base) (facts_from (number ∷ turned above) later (named_row (map shaped_field (drop (i + 1) fields)))) ≡ whole) × (later + size (named_row (map shaped_field (drop (i + 1) fields))) ≡ all)
+      → (facts ++ map (flat base) (facts_from (number ∷ turned above) next (named_row (map shaped_field (drop i fields)))) ≡ whole)
+      × (next + size (named_row (map shaped_field (drop i fields))) ≡ all)
+      → (now ++ map (flat base) (facts_from (number ∷ turned above) later (named_row (map shaped_field (drop (i + 1) fields)))) ≡ whole)
+      × (later + size (named_row (map shaped_field (drop (i + 1) fields))) ≡ all)
   field_turn fields i f named within is copied put more numbered known =
-      rw (more, put, copied, numbered) (field_facts base number next above inner facts whole all is_inner fields i f within is known.0, field_count next all fields i f within is known.1)
+      rw (more, put, copied, numbered)
+      (field_facts base number next above inner facts whole all is_inner fields i f within is known.0, field_count next all fields i f within is known.1)
 
   pub item_turn : (items : List Tree) (i : ℕ) (t : Tree) → i < length items → t ≡ get_or items i t
       → entered ≡ facts ++ fact_over (base + 2) (Plain number ∷ Plain next ∷ []) ∷ []
       → now ≡ entered ++ map (flat base) (node_facts (turned inner) next (shape t))
       → later ≡ suc next + size (shape t).inside
-      → (facts ++ map (flat base) (facts_from (number ∷ turned above) next (row (map shape (drop i items)))) ≡ whole) × (next + size (row (map shape (drop i items))) ≡ all)
-      → (now ++ map (flat base) (facts_from (number ∷ turned above) later (row (map shape (drop (i + 1) items)))) ≡ whole) × (later + size (row (map shape (drop (i + 1) items))) ≡ all)
+      → (facts ++ map (flat base) (facts_from (number ∷ turned above) next (row (map shape (drop i items)))) ≡ whole)
+      × (next + size (row (map shape (drop i items))) ≡ all)
+      → (now ++ map (flat base) (facts_from (number ∷ turned above) later (row (map shape (drop (i + 1) items)))) ≡ whole)
+      × (later + size (row (map shape (drop (i + 1) items))) ≡ all)
   item_turn items i t within is put more numbered known =
-      rw (more, put, numbered) (item_facts base number next above inner facts whole all is_inner items i t within is known.0, item_count next all items i t within is known.1)
+      rw (more, put, numbered) (
+        item_facts base number next above inner facts whole all is_inner items i t within is known.0,
+        item_count next all items i t within is known.1,
+      )
 
 plus_none : (n : ℕ) → n ≡ n + 0
 plus_none n = omega arith
@@ -142,17 +159,23 @@ module _ (base next later : ℕ) (above : List ℕ) (facts entered now whole : L
       → now ≡ entered ++ map (flat base) (node_facts (turned above) next (shape t))
       → later ≡ suc next + size (shape t).inside
       → (facts ++ map (flat base) (facts_from [] next (row (map shape (drop i items)))) ≡ whole) × (next + size (row (map shape (drop i items))) ≡ all)
-      → (now ++ map (flat base) (facts_from [] later (row (map shape (drop (i + 1) items)))) ≡ whole) × (later + size (row (map shape (drop (i + 1) items))) ≡ all)
+      → (now ++ map (flat base) (facts_from [] later (row (map shape (drop (i + 1) items)))) ≡ whole)
+      × (later + size (row (map shape (drop (i + 1) items))) ≡ all)
   document_turn items i t within is put more numbered known =
-      let entered_at : entered ≡ facts ++ fact_over (base + 0) (Plain next ∷ []) ∷ [] = put ∙ ap (λ (r : ℕ). facts ++ fact_over r (Plain next ∷ []) ∷ []) (plus_none base) in
-      rw (more, entered_at, numbered) (document_facts base next above facts whole none_above items i t within is known.0, item_count next all items i t within is known.1)
+      let entered_at : entered ≡ facts ++ fact_over (base + 0) (Plain next ∷ []) ∷ [] =
+      put ∙ ap (λ (r : ℕ). facts ++ fact_over r (Plain next ∷ []) ∷ []) (plus_none base) in
+      rw (more, entered_at, numbered)
+      (document_facts base next above facts whole none_above items i t within is known.0, item_count next all items i t within is known.1)
 
 -- ---- names that rise
 
-pub field_inside : (fields : List (FieldOf Tree)) (i : ℕ) (f : FieldOf Tree) (W : Type 0) → i < length fields → f ≡ get_or fields i f → IsRising (shape f.tree).inside
+pub field_inside : (fields : List (FieldOf Tree)) (i : ℕ) (f : FieldOf Tree) (W : Type 0) → i < length fields → f ≡ get_or fields i f
+    → IsRising (shape f.tree).inside
     → (AreInside (named_row (map shaped_field (drop i fields))) → W) → AreInside (named_row (map shaped_field (drop (i + 1) fields))) → W
-field_inside fields i f W within is rising known rest = known (subst (λ (w : List (FieldOf Tree)). AreInside (named_row (map shaped_field w))) (sym (drop_at fields i f f within is)) (rising, rest))
+field_inside fields i f W within is rising known rest =
+    known (subst (λ (w : List (FieldOf Tree)). AreInside (named_row (map shaped_field w))) (sym (drop_at fields i f f within is)) (rising, rest))
 
 pub item_inside : (items : List Tree) (i : ℕ) (t : Tree) (W : Type 0) → i < length items → t ≡ get_or items i t → IsRising (shape t).inside
     → (AreInside (row (map shape (drop i items))) → W) → AreInside (row (map shape (drop (i + 1) items))) → W
-item_inside items i t W within is rising known rest = known (subst (λ (w : List Tree). AreInside (row (map shape w))) (sym (drop_at items i t t within is)) (rising, rest))
+item_inside items i t W within is rising known rest =
+    known (subst (λ (w : List Tree). AreInside (row (map shape w))) (sym (drop_at items i t t within is)) (rising, rest))

@@ -85,11 +85,13 @@ pub matches_on : (f g : Term → Term) (entries : Entries) (t : Node) → AgreeA
 matches_on f g done t e h = tt
 matches_on f g (holds path x rest) t e (found, others) =
     ((found.0, found.1, (found.2.0, found.2.1, sym (e x (inl refl)) ∙ found.2.2)), matches_on f g rest t (λ y i. e y (inr i)) others)
-matches_on f g (group path inner rest) t e (found, others) = ((found.0, found.1, matches_on f g inner found.0 (λ y i. e y (inl i)) found.2), matches_on f g rest t (λ y i. e y (inr i)) others)
+matches_on f g (group path inner rest) t e (found, others) =
+    ((found.0, found.1, matches_on f g inner found.0 (λ y i. e y (inl i)) found.2), matches_on f g rest t (λ y i. e y (inr i)) others)
 
 module _ (Is : ℕ → Node → Type 0) (IsDocument : Node → Type 0) (P : DocFact Term → Type 0) (world : IsEncoded Is IsDocument P) where
   to_path : (path : List Step) (m : Term → Term) (v next n : ℕ) (t u : Node) → Keeps Const m → v < next → m (Plain v) ≡ Plain n → Is n t → Leads path t u
-      → (more : Term → Term) × (k : ℕ) × Agrees next m more × (more (Plain (end path v next)) ≡ Plain k) × Is k u × ((after : Term → Term) → Agrees (next + length path) more after → Sends after (step_atoms path v next) P)
+      → (more : Term → Term) × (k : ℕ) × Agrees next m more × (more (Plain (end path v next)) ≡ Plain k) × Is k u
+      × ((after : Term → Term) → Agrees (next + length path) more after → Sends after (step_atoms path v next) P)
   to_path [] m v next n t u keeps lt at is leads = (m, n, (λ x b. refl), at, subst (λ (w : Node). Is n w) leads is, λ after a f c. absurd (Contains-nil f c))
   to_path (s ∷ path) m v next n t u keeps lt at is (c, takes, rest) =
       let r = world.to_step s n t c is takes in
@@ -104,18 +106,24 @@ module _ (Is : ℕ → Node → Type 0) (IsDocument : Node → Type 0) (P : DocF
         q.4,
         λ after a f cf.
             let late : Agrees (suc next + length path) q.0 after = agrees_less (suc next + length path) (next + suc (length path)) q.0 after (omega arith) a in
-            let kept : Keeps Const after = keeps_on next m after (agrees_then next m q.0 after here (agrees_less next (next + suc (length path)) q.0 after (omega arith) a)) keeps in
+            let kept : Keeps Const after = keeps_on next m after
+            (agrees_then next m q.0 after here (agrees_less next (next + suc (length path)) q.0 after (omega arith) a)) keeps in
             elim (Contains-cases _ _ f cf) [
               | inl e ↦
                   let x : after (Plain v) ≡ Plain n = sym (here (Plain v) (below_plain _ v lt) ∙ a (Plain v) (below_plain _ v (omega arith))) ∙ at in
-                  let y : after (Plain next) ≡ Plain r.0 = sym (q.2 (Plain next) (below_plain _ next (omega arith)) ∙ a (Plain next) (below_plain _ next (omega arith))) ∙ set_here m next (Plain r.0) in
-                  let two : P (linked Const s (after (Plain v)) (after (Plain next))) = subst (λ (w : Term). P (linked Const s w (after (Plain next)))) (sym x) (subst (λ (w : Term). P (linked Const s (Plain n) w)) (sym y) r.2) in
+                  let y : after (Plain next) ≡ Plain r.0 =
+                  sym (q.2 (Plain next) (below_plain _ next (omega arith)) ∙ a (Plain next) (below_plain _ next (omega arith)))
+                  ∙ set_here m next (Plain r.0) in
+                  let two : P (linked Const s (after (Plain v)) (after (Plain next))) =
+                  subst (λ (w : Term). P (linked Const s w (after (Plain next)))) (sym x)
+                  (subst (λ (w : Term). P (linked Const s (Plain n) w)) (sym y) r.2) in
                   subst (λ (w : DocFact Term). P (carried after w)) e (subst P (sym (carried_linked after kept s (Plain v) (Plain next))) two)
               | inr d ↦ q.5 after late f d
             ],
       )
 
-  pub to_atoms : (entries : Entries) (m : Term → Term) (v next n : ℕ) (t : Node) → Keeps Const m → v < next → m (Plain v) ≡ Plain n → Is n t → AreBelow next entries → Matches m entries t
+  pub to_atoms : (entries : Entries) (m : Term → Term) (v next n : ℕ) (t : Node) → Keeps Const m → v < next → m (Plain v) ≡ Plain n → Is n t
+      → AreBelow next entries → Matches m entries t
       → (more : Term → Term) × Agrees next m more × ((after : Term → Term) → Agrees (next + used entries) more after → Sends after (atoms entries v next) P)
   to_atoms done m v next n t keeps lt at is low matches = (m, (λ x b. refl), λ after a f c. absurd (Contains-nil f c))
   to_atoms (holds path x rest) m v next n t keeps lt at is low (found, others) =
@@ -125,14 +133,20 @@ module _ (Is : ℕ → Node → Type 0) (IsDocument : Node → Type 0) (P : DocF
         r.0,
         agrees_then next m q.0 r.0 q.2 (agrees_less next (next + length path) q.0 r.0 (omega arith) r.1),
         λ after a f cf.
-            let late : Agrees (next + length path) q.0 after = agrees_then (next + length path) q.0 r.0 after r.1 (agrees_less (next + length path) (next + (length path + used rest)) r.0 after (omega arith) a) in
+            let late : Agrees (next + length path) q.0 after =
+            agrees_then (next + length path) q.0 r.0 after r.1
+            (agrees_less (next + length path) (next + (length path + used rest)) r.0 after (omega arith) a) in
             elim (Contains-append_cases (step_atoms path v next) _ f cf) [
               | inl c ↦ q.5 after late f c
               | inr d ↦ elim (Contains-cases _ _ f d) [
                 | inl e ↦
-                    let p : after (Plain (end path v next)) ≡ Plain q.1 = sym (late (Plain (end path v next)) (below_plain _ _ (end_below path v next lt))) ∙ q.3 in
-                    let y : after x ≡ Const found.2.0 = sym (q.2 x (low x (inl refl)) ∙ late x (below_more next (next + length path) (omega arith) x (low x (inl refl)))) ∙ found.2.2 in
-                    let two : P (value (after (Plain (end path v next))) (after x)) = subst (λ (w : Term). P (value w (after x))) (sym p) (subst (λ (w : Term). P (value (Plain q.1) w)) (sym y) (world.to_value q.1 found.0 found.2.0 q.4 found.2.1)) in
+                    let p : after (Plain (end path v next)) ≡ Plain q.1 =
+                    sym (late (Plain (end path v next)) (below_plain _ _ (end_below path v next lt))) ∙ q.3 in
+                    let y : after x ≡ Const found.2.0 =
+                    sym (q.2 x (low x (inl refl)) ∙ late x (below_more next (next + length path) (omega arith) x (low x (inl refl)))) ∙ found.2.2 in
+                    let two : P (value (after (Plain (end path v next))) (after x)) =
+                    subst (λ (w : Term). P (value w (after x))) (sym p)
+                    (subst (λ (w : Term). P (value (Plain q.1) w)) (sym y) (world.to_value q.1 found.0 found.2.0 q.4 found.2.1)) in
                     subst (λ (w : DocFact Term). P (carried after w)) e two
                 | inr c ↦ r.2 after (agrees_less ((next + length path) + used rest) (next + (length path + used rest)) r.0 after (omega arith) a) f c
               ]
@@ -143,17 +157,23 @@ module _ (Is : ℕ → Node → Type 0) (IsDocument : Node → Type 0) (P : DocF
       let i = to_atoms inner q.0 (end path v next) (next + length path) q.1 found.0 (keeps_on next m q.0 q.2 keeps) (end_below path v next lt) q.3 q.4
       (λ y h. below_more next (next + length path) (omega arith) y (low y (inl h))) (matches_on m q.0 inner found.0 (λ y h. q.2 y (low y (inl h))) found.2) in
       let one : Agrees next m i.0 = agrees_then next m q.0 i.0 q.2 (agrees_less next (next + length path) q.0 i.0 (omega arith) i.1) in
-      let r = to_atoms rest i.0 v ((next + length path) + used inner) n t (keeps_on next m i.0 one keeps) (omega arith) (sym (one (Plain v) (below_plain _ v lt)) ∙ at) is
-      (λ y h. below_more next ((next + length path) + used inner) (omega arith) y (low y (inr h))) (matches_on m i.0 rest t (λ y h. one y (low y (inr h))) others) in (
+      let r = to_atoms rest i.0 v ((next + length path) + used inner) n t (keeps_on next m i.0 one keeps) (omega arith)
+      (sym (one (Plain v) (below_plain _ v lt)) ∙ at) is
+      (λ y h. below_more next ((next + length path) + used inner) (omega arith) y (low y (inr h)))
+      (matches_on m i.0 rest t (λ y h. one y (low y (inr h))) others) in (
         r.0,
         agrees_then next m i.0 r.0 one (agrees_less next ((next + length path) + used inner) i.0 r.0 (omega arith) r.1),
         λ after a f cf.
-            let late : Agrees ((next + length path) + used inner) i.0 after = agrees_then ((next + length path) + used inner) i.0 r.0 after r.1 (agrees_less ((next + length path) + used inner) (next + (length path + (used inner + used rest))) r.0 after (omega arith) a) in
+            let late : Agrees ((next + length path) + used inner) i.0 after =
+            agrees_then ((next + length path) + used inner) i.0 r.0 after r.1
+            (agrees_less ((next + length path) + used inner) (next + (length path + (used inner + used rest))) r.0 after (omega arith) a) in
             elim (Contains-append_cases (step_atoms path v next) _ f cf) [
-              | inl c ↦ q.5 after (agrees_then (next + length path) q.0 i.0 after i.1 (agrees_less (next + length path) ((next + length path) + used inner) i.0 after (omega arith) late)) f c
+              | inl c ↦ q.5 after (agrees_then (next + length path) q.0 i.0 after i.1
+                  (agrees_less (next + length path) ((next + length path) + used inner) i.0 after (omega arith) late)) f c
               | inr d ↦ elim (Contains-append_cases (atoms inner (end path v next) (next + length path)) _ f d) [
                 | inl c ↦ i.2 after late f c
-                | inr c ↦ r.2 after (agrees_less (((next + length path) + used inner) + used rest) (next + (length path + (used inner + used rest))) r.0 after (omega arith) a) f c
+                | inr c ↦ r.2 after (agrees_less (((next + length path) + used inner) + used rest) (next + (length path + (used inner + used rest))) r.0 after
+                    (omega arith) a) f c
               ]
             ],
       )

@@ -18,10 +18,13 @@ facts_meet_rules base first forest rising = meets_flat base (facts_from [] first
 
 pub roots_on_top : (base first : ℕ) (forest : Forest) → HaveRootsOnTop base (facts_of base first forest)
 roots_on_top base first forest ancestor node is_root stands_below =
-    no_root_below first forest ancestor node (from_flat_in base (facts_from [] first forest) (root node) is_root) (from_flat_in base (facts_from [] first forest) (below ancestor node) stands_below)
+    no_root_below first forest ancestor node (from_flat_in base (facts_from [] first forest) (root node) is_root)
+    (from_flat_in base (facts_from [] first forest) (below ancestor node) stands_below)
 
-pub these_meet_rules : (base first : ℕ) (forest : Forest) (facts : List (Fact Term)) → facts ≡ facts_of base first forest → IsRising forest → AreMet facts (document_rules_2 base)
-these_meet_rules base first forest facts are rising = subst (λ those. AreMet those (document_rules_2 base)) (sym are) (facts_meet_rules base first forest rising)
+pub these_meet_rules : (base first : ℕ) (forest : Forest) (facts : List (Fact Term)) → facts ≡ facts_of base first forest → IsRising forest
+    → AreMet facts (document_rules_2 base)
+these_meet_rules base first forest facts are rising =
+    subst (λ those. AreMet those (document_rules_2 base)) (sym are) (facts_meet_rules base first forest rising)
 
 pub these_have_roots_on_top : (base first : ℕ) (forest : Forest) (facts : List (Fact Term)) → facts ≡ facts_of base first forest → HaveRootsOnTop base facts
 these_have_roots_on_top base first forest facts are = subst (λ those. HaveRootsOnTop base those) (sym are) (roots_on_top base first forest)

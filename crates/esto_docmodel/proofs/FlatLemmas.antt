@@ -47,25 +47,34 @@ flat_inj base f g e =
     some_inj (sym (decoded f) ∙ ap (λ (w : ℕ). decode w (row_of f)) k ∙ ap (λ (w : List Term). decode (kind g) w) v ∙ decoded g)
 
 pub from_flat_in : (base : ℕ) (facts : List (DocFact Term)) (f : DocFact Term) → Contains (map (flat base) facts) (flat base f) → Contains facts f
-from_flat_in base facts f c = let r = Contains-map_from (flat base) facts (flat base f) c in subst (λ (w : DocFact Term). Contains facts w) (flat_inj base r.0 f r.2) r.1
+from_flat_in base facts f c = let r = Contains-map_from (flat base) facts (flat base f) c in
+    subst (λ (w : DocFact Term). Contains facts w) (flat_inj base r.0 f r.2) r.1
 
-pub sends_flat : (base : ℕ) (m : Term → Term) (body : List (DocFact Term)) (facts : List (DocFact Term)) → Sends m body (Contains facts) ↔ SendsInto m (map (flat base) body) (Contains (map (flat base) facts))
+pub sends_flat : (base : ℕ) (m : Term → Term) (body : List (DocFact Term)) (facts : List (DocFact Term))
+    → Sends m body (Contains facts) ↔ SendsInto m (map (flat base) body) (Contains (map (flat base) facts))
 sends_flat base m body facts = (
   (λ sends a c.
       let r = Contains-map_from (flat base) body a c in
-      subst (λ (w : Fact Term). Contains (map (flat base) facts) (image m w)) r.2 (subst (λ (w : Fact Term). Contains (map (flat base) facts) w) (natural base m r.0) (Contains-map (flat base) facts (carried m r.0) (sends r.0 r.1)))),
-  λ sends a c. from_flat_in base facts (carried m a) (subst (λ (w : Fact Term). Contains (map (flat base) facts) w) (sym (natural base m a)) (sends (flat base a) (Contains-map (flat base) body a c))),
+      subst (λ (w : Fact Term). Contains (map (flat base) facts) (image m w)) r.2
+      (subst (λ (w : Fact Term). Contains (map (flat base) facts) w) (natural base m r.0)
+      (Contains-map (flat base) facts (carried m r.0) (sends r.0 r.1)))),
+  λ sends a c. from_flat_in base facts (carried m a)
+      (subst (λ (w : Fact Term). Contains (map (flat base) facts) w) (sym (natural base m a)) (sends (flat base a) (Contains-map (flat base) body a c))),
 )
 
 module _ (base : ℕ) (facts : List (DocFact Term)) (rules : MeetsDocumentRules (Contains facts)) where
-  first : (m : Term → Term) (a : DocFact Term) (rest : List (Fact Term)) → SendsInto m (flat base a ∷ rest) (Contains (map (flat base) facts)) → Contains facts (carried m a)
-  first m a rest sends = from_flat_in base facts (carried m a) (subst (λ (w : Fact Term). Contains (map (flat base) facts) w) (sym (natural base m a)) (sends (flat base a) (Contains-head (flat base a) rest)))
+  first : (m : Term → Term) (a : DocFact Term) (rest : List (Fact Term)) → SendsInto m (flat base a ∷ rest) (Contains (map (flat base) facts))
+      → Contains facts (carried m a)
+  first m a rest sends = from_flat_in base facts (carried m a)
+      (subst (λ (w : Fact Term). Contains (map (flat base) facts) w) (sym (natural base m a)) (sends (flat base a) (Contains-head (flat base a) rest)))
 
-  second : (m : Term → Term) (a : Fact Term) (b : DocFact Term) (rest : List (Fact Term)) → SendsInto m (a ∷ flat base b ∷ rest) (Contains (map (flat base) facts)) → Contains facts (carried m b)
+  second : (m : Term → Term) (a : Fact Term) (b : DocFact Term) (rest : List (Fact Term))
+      → SendsInto m (a ∷ flat base b ∷ rest) (Contains (map (flat base) facts)) → Contains facts (carried m b)
   second m a b rest sends = first m b rest (λ x c. sends x (Contains-rest a (flat base b ∷ rest) x c))
 
   one : (m : Term → Term) (a : DocFact Term) → Contains facts (carried m a) → SendsInto m (flat base a ∷ []) (Contains (map (flat base) facts))
-  one m a c = (sends_flat base m (a ∷ []) facts).0 (λ x d. elim (Contains-cases a [] x d) [ inl e ↦ subst (λ (w : DocFact Term). Contains facts (carried m w)) e c | inr z ↦ absurd (Contains-nil x z) ])
+  one m a c = (sends_flat base m (a ∷ []) facts).0
+      (λ x d. elim (Contains-cases a [] x d) [ inl e ↦ subst (λ (w : DocFact Term). Contains facts (carried m w)) e c | inr z ↦ absurd (Contains-nil x z) ])
 
   abbrev Each : List Rule → Type 0
   Each [] = Unit {0}
@@ -79,7 +88,8 @@ module _ (base : ℕ) (facts : List (DocFact Term)) (rules : MeetsDocumentRules 
   ]
 
   -- two facts of the images of a body of two atoms
-  both : (m : Term → Term) (a b : DocFact Term) → SendsInto m (flat base a ∷ flat base b ∷ []) (Contains (map (flat base) facts)) → Contains facts (carried m a) × Contains facts (carried m b)
+  both : (m : Term → Term) (a b : DocFact Term) → SendsInto m (flat base a ∷ flat base b ∷ []) (Contains (map (flat base) facts))
+      → Contains facts (carried m a) × Contains facts (carried m b)
   both m a b sends = (first m a (flat base b ∷ []) sends, second m (flat base a) b [] sends)
 
   pub meets_flat : AreMet (map (flat base) facts) (document_rules_2 base)
@@ -94,9 +104,11 @@ module _ (base : ℕ) (facts : List (DocFact Term)) (rules : MeetsDocumentRules 
           (
             (λ m keeps sends. let h = both m (value (Plain 0) (Plain 1)) (value (Plain 0) (Plain 2)) sends in rules.one_value _ _ _ h.0 h.1),
             (
-              (λ m keeps sends. let x = first m (field (Plain 0) (Plain 1) (Plain 2)) [] sends in (m, keeps, (λ v o. refl), one m (below (Plain 0) (Plain 2)) (rules.field_below _ _ _ x))),
+              (λ m keeps sends. let x = first m (field (Plain 0) (Plain 1) (Plain 2)) [] sends in
+                  (m, keeps, (λ v o. refl), one m (below (Plain 0) (Plain 2)) (rules.field_below _ _ _ x))),
               (
-                (λ m keeps sends. let x = first m (item (Plain 0) (Plain 1)) [] sends in (m, keeps, (λ v o. refl), one m (below (Plain 0) (Plain 1)) (rules.item_below _ _ x))),
+                (λ m keeps sends. let x = first m (item (Plain 0) (Plain 1)) [] sends in
+                    (m, keeps, (λ v o. refl), one m (below (Plain 0) (Plain 1)) (rules.item_below _ _ x))),
                 ((λ m keeps sends. let h = both m (root (Plain 0)) (below (Plain 1) (Plain 0)) sends in rules.no_root_below _ _ h.0 h.1), tt),
               ),
             ),

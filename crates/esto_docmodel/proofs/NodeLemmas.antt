@@ -20,13 +20,19 @@ bounds a n (kid l t i rest) s (inr (inr h)) = let b = bounds a (suc n + size i) 
 pub unique : (a : List ℕ) (n : ℕ) (f : Forest) (s u : Spot) → At a n f s → At a n f u → s.number ≡ u.number → s ≡ u
 unique a n none s u h g e = absurd h
 unique a n (kid l t i rest) s u (inl h) (inl g) e = sym h ∙ g
-unique a n (kid l t i rest) s u (inl h) (inr (inl g)) e = let k : n ≡ s.number = ap (λ (w : Spot). w.number) h in let b = bounds (n ∷ a) (suc n) i u g in absurd (omega arith)
-unique a n (kid l t i rest) s u (inl h) (inr (inr g)) e = let k : n ≡ s.number = ap (λ (w : Spot). w.number) h in let b = bounds a (suc n + size i) rest u g in absurd (omega arith)
-unique a n (kid l t i rest) s u (inr (inl h)) (inl g) e = let k : n ≡ u.number = ap (λ (w : Spot). w.number) g in let b = bounds (n ∷ a) (suc n) i s h in absurd (omega arith)
+unique a n (kid l t i rest) s u (inl h) (inr (inl g)) e = let k : n ≡ s.number = ap (λ (w : Spot). w.number) h in let b = bounds (n ∷ a) (suc n) i u g in
+    absurd (omega arith)
+unique a n (kid l t i rest) s u (inl h) (inr (inr g)) e = let k : n ≡ s.number = ap (λ (w : Spot). w.number) h in let b = bounds a (suc n + size i) rest u g in
+    absurd (omega arith)
+unique a n (kid l t i rest) s u (inr (inl h)) (inl g) e = let k : n ≡ u.number = ap (λ (w : Spot). w.number) g in let b = bounds (n ∷ a) (suc n) i s h in
+    absurd (omega arith)
 unique a n (kid l t i rest) s u (inr (inl h)) (inr (inl g)) e = unique (n ∷ a) (suc n) i s u h g e
-unique a n (kid l t i rest) s u (inr (inl h)) (inr (inr g)) e = let b = bounds (n ∷ a) (suc n) i s h in let d = bounds a (suc n + size i) rest u g in absurd (omega arith)
-unique a n (kid l t i rest) s u (inr (inr h)) (inl g) e = let k : n ≡ u.number = ap (λ (w : Spot). w.number) g in let b = bounds a (suc n + size i) rest s h in absurd (omega arith)
-unique a n (kid l t i rest) s u (inr (inr h)) (inr (inl g)) e = let b = bounds (n ∷ a) (suc n) i u g in let d = bounds a (suc n + size i) rest s h in absurd (omega arith)
+unique a n (kid l t i rest) s u (inr (inl h)) (inr (inr g)) e = let b = bounds (n ∷ a) (suc n) i s h in let d = bounds a (suc n + size i) rest u g in
+    absurd (omega arith)
+unique a n (kid l t i rest) s u (inr (inr h)) (inl g) e = let k : n ≡ u.number = ap (λ (w : Spot). w.number) g in let b = bounds a (suc n + size i) rest s h in
+    absurd (omega arith)
+unique a n (kid l t i rest) s u (inr (inr h)) (inr (inl g)) e = let b = bounds (n ∷ a) (suc n) i u g in let d = bounds a (suc n + size i) rest s h in
+    absurd (omega arith)
 unique a n (kid l t i rest) s u (inr (inr h)) (inr (inr g)) e = unique a (suc n + size i) rest s u h g e
 
 -- ---- from trees to nodes
@@ -36,7 +42,8 @@ kid_at a n none l u h = absurd h
 kid_at a n (kid k t i rest) l u (inl (e, g)) = (spot a k n (node t i), inl refl, refl, e, g)
 kid_at a n (kid k t i rest) l u (inr h) = let r = kid_at a (suc n + size i) rest l u h in (r.0, inr (inr r.1), r.2, r.3, r.4)
 
-pub kid_below : (a : List ℕ) (n : ℕ) (f : Forest) (s : Spot) (l : Label) (u : Node) → At a n f s → HasKid s.here.inside l u → (d : Spot) × At a n f d × (d.above ≡ s.number ∷ s.above) × (d.label ≡ l) × (d.here ≡ u)
+pub kid_below : (a : List ℕ) (n : ℕ) (f : Forest) (s : Spot) (l : Label) (u : Node) → At a n f s → HasKid s.here.inside l u
+    → (d : Spot) × At a n f d × (d.above ≡ s.number ∷ s.above) × (d.label ≡ l) × (d.here ≡ u)
 kid_below a n none s l u h g = absurd h
 kid_below a n (kid k t i rest) s l u (inl e) g =
     let here : HasKid i l u = subst (λ (w : Spot). HasKid w.here.inside l u) (sym e) g in
@@ -57,7 +64,8 @@ above_kept a n (kid k t i rest) s x (inl e) c = subst (λ (w : Spot). Contains w
 above_kept a n (kid k t i rest) s x (inr (inl h)) c = above_kept (n ∷ a) (suc n) i s x h (Contains-rest n a x c)
 above_kept a n (kid k t i rest) s x (inr (inr h)) c = above_kept a (suc n + size i) rest s x h c
 
-pub inside_below : (a : List ℕ) (n : ℕ) (f : Forest) (s : Spot) (u : Node) → At a n f s → HasInside s.here.inside u → (d : Spot) × At a n f d × Contains d.above s.number × (d.here ≡ u)
+pub inside_below : (a : List ℕ) (n : ℕ) (f : Forest) (s : Spot) (u : Node) → At a n f s → HasInside s.here.inside u
+    → (d : Spot) × At a n f d × Contains d.above s.number × (d.here ≡ u)
 inside_below a n none s u h g = absurd h
 inside_below a n (kid k t i rest) s u (inl e) g =
     let here : HasInside i u = subst (λ (w : Spot). HasInside w.here.inside u) (sym e) g in
@@ -68,7 +76,8 @@ inside_below a n (kid k t i rest) s u (inr (inr h)) g = let r = inside_below a (
 
 -- ---- from nodes to trees
 
-pub kid_from : (a : List ℕ) (n : ℕ) (f : Forest) (d : Spot) → At a n f d → ((d.above ≡ a) × HasKid f d.label d.here) ⊎ ((s : Spot) × At a n f s × (d.above ≡ s.number ∷ s.above) × HasKid s.here.inside d.label d.here)
+pub kid_from : (a : List ℕ) (n : ℕ) (f : Forest) (d : Spot) → At a n f d
+    → ((d.above ≡ a) × HasKid f d.label d.here) ⊎ ((s : Spot) × At a n f s × (d.above ≡ s.number ∷ s.above) × HasKid s.here.inside d.label d.here)
 kid_from a n none d h = absurd h
 kid_from a n (kid l t i rest) d (inl e) = inl (sym (ap (λ (w : Spot). w.above) e), inl (ap (λ (w : Spot). w.label) e, ap (λ (w : Spot). w.here) e))
 kid_from a n (kid l t i rest) d (inr (inl h)) = elim (kid_from (n ∷ a) (suc n) i d h) [
@@ -86,7 +95,8 @@ inside_here a n (kid l t i rest) d (inl e) = inl (ap (λ (w : Spot). w.here) e)
 inside_here a n (kid l t i rest) d (inr (inl h)) = inr (inl (inside_here (n ∷ a) (suc n) i d h))
 inside_here a n (kid l t i rest) d (inr (inr h)) = inr (inr (inside_here a (suc n + size i) rest d h))
 
-pub inside_from : (a : List ℕ) (n : ℕ) (f : Forest) (d : Spot) (x : ℕ) → At a n f d → Contains d.above x → Contains a x ⊎ ((s : Spot) × At a n f s × (s.number ≡ x) × HasInside s.here.inside d.here)
+pub inside_from : (a : List ℕ) (n : ℕ) (f : Forest) (d : Spot) (x : ℕ) → At a n f d → Contains d.above x
+    → Contains a x ⊎ ((s : Spot) × At a n f s × (s.number ≡ x) × HasInside s.here.inside d.here)
 inside_from a n none d x h c = absurd h
 inside_from a n (kid l t i rest) d x (inl e) c = inl (subst (λ (w : Spot). Contains w.above x) (sym e) c)
 inside_from a n (kid l t i rest) d x (inr (inl h)) c = elim (inside_from (n ∷ a) (suc n) i d x h c) [
@@ -113,7 +123,8 @@ from_belows (p ∷ a) n f c = elim (Contains-append_cases (belows a n) _ f c) [
 to_belows : (a : List ℕ) (n x : ℕ) → Contains a x → Contains (belows a n) (below (Plain x) (Plain n))
 to_belows [] n x c = absurd (Contains-nil x c)
 to_belows (p ∷ a) n x c = elim (Contains-cases p a x c) [
-  | inl e ↦ Contains-append_right (belows a n) _ _ (subst (λ (w : ℕ). Contains (below (Plain w) (Plain n) ∷ []) (below (Plain x) (Plain n))) (sym e) (Contains-head _ []))
+  | inl e ↦ Contains-append_right (belows a n) _ _
+      (subst (λ (w : ℕ). Contains (below (Plain w) (Plain n) ∷ []) (below (Plain x) (Plain n))) (sym e) (Contains-head _ []))
   | inr d ↦ Contains-append_left (belows a n) _ _ (to_belows a n x d)
 ]
 
@@ -140,13 +151,22 @@ from_facts a n (kid l t i rest) f c = elim (Contains-cases _ _ f c) [
   ]
 ]
 
-own_facts : (a : List ℕ) (l : Label) (n : ℕ) (t : Option (List ℕ)) (i : Forest) (others : List (DocFact Term)) (f : DocFact Term) → IsFactOf (spot a l n (node t i)) f → Contains (entering a l n ∷ (belows a n ++ (holding t n ++ others))) f
+own_facts : (a : List ℕ) (l : Label) (n : ℕ) (t : Option (List ℕ)) (i : Forest) (others : List (DocFact Term)) (f : DocFact Term)
+    → IsFactOf (spot a l n (node t i)) f → Contains (entering a l n ∷ (belows a n ++ (holding t n ++ others))) f
 own_facts a l n t i others f (inl e) = subst (λ (w : DocFact Term). Contains (entering a l n ∷ (belows a n ++ (holding t n ++ others))) w) e (Contains-head _ _)
-own_facts a l n t i others f (inr (inl (x, c, e))) = Contains-rest _ _ f (Contains-append_left (belows a n) _ f (subst (λ (w : DocFact Term). Contains (belows a n) w) e (to_belows a n x c)))
-own_facts a l n t i others f (inr (inr (c, g, e))) = Contains-rest _ _ f (Contains-append_right (belows a n) _ f (Contains-append_left (holding t n) _ f (subst (λ (w : DocFact Term). Contains (holding t n) w) e (to_holding t n c g))))
+own_facts a l n t i others f (inr (inl (x, c, e))) =
+    Contains-rest _ _ f (Contains-append_left (belows a n) _ f (subst (λ (w : DocFact Term). Contains (belows a n) w) e (to_belows a n x c)))
+own_facts a l n t i others f (inr (inr (c, g, e))) =
+    Contains-rest _ _ f (Contains-append_right (belows a n) _ f
+    (Contains-append_left (holding t n) _ f (subst (λ (w : DocFact Term). Contains (holding t n) w) e (to_holding t n c g))))
 
 pub to_facts : (a : List ℕ) (n : ℕ) (fs : Forest) (s : Spot) (f : DocFact Term) → At a n fs s → IsFactOf s f → Contains (facts_from a n fs) f
 to_facts a n none s f h g = absurd h
-to_facts a n (kid l t i rest) s f (inl e) g = own_facts a l n t i (facts_from (n ∷ a) (suc n) i ++ facts_from a (suc n + size i) rest) f (subst (λ (w : Spot). IsFactOf w f) (sym e) g)
-to_facts a n (kid l t i rest) s f (inr (inl h)) g = Contains-rest _ _ f (Contains-append_right (belows a n) _ f (Contains-append_right (holding t n) _ f (Contains-append_left (facts_from (n ∷ a) (suc n) i) _ f (to_facts (n ∷ a) (suc n) i s f h g))))
-to_facts a n (kid l t i rest) s f (inr (inr h)) g = Contains-rest _ _ f (Contains-append_right (belows a n) _ f (Contains-append_right (holding t n) _ f (Contains-append_right (facts_from (n ∷ a) (suc n) i) _ f (to_facts a (suc n + size i) rest s f h g))))
+to_facts a n (kid l t i rest) s f (inl e) g =
+    own_facts a l n t i (facts_from (n ∷ a) (suc n) i ++ facts_from a (suc n + size i) rest) f (subst (λ (w : Spot). IsFactOf w f) (sym e) g)
+to_facts a n (kid l t i rest) s f (inr (inl h)) g =
+    Contains-rest _ _ f (Contains-append_right (belows a n) _ f
+    (Contains-append_right (holding t n) _ f (Contains-append_left (facts_from (n ∷ a) (suc n) i) _ f (to_facts (n ∷ a) (suc n) i s f h g))))
+to_facts a n (kid l t i rest) s f (inr (inr h)) g =
+    Contains-rest _ _ f (Contains-append_right (belows a n) _ f
+    (Contains-append_right (holding t n) _ f (Contains-append_right (facts_from (n ∷ a) (suc n) i) _ f (to_facts a (suc n + size i) rest s f h g))))

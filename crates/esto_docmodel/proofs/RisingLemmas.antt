@@ -75,10 +75,12 @@ drop_none (x ∷ xs) zero past = absurd (omega arith)
 drop_none (x ∷ xs) (suc i) past = drop_none xs i (omega arith)
 
 pub field_end : (items fields : List (FieldOf Tree)) (i : ℕ) → length items ≤ i → items ≡ fields → Rise items
-    → (AreInside (named_row (map shaped_field (drop i items))) → AreInside (named_row (map shaped_field items))) → IsRising (named_row (map shaped_field fields))
+    → (AreInside (named_row (map shaped_field (drop i items))) → AreInside (named_row (map shaped_field items)))
+    → IsRising (named_row (map shaped_field fields))
 field_end items fields i past is rise known =
     subst (λ (w : List (FieldOf Tree)). IsRising (named_row (map shaped_field w))) is
     (rising_fields items rise (known (subst (λ (w : List (FieldOf Tree)). AreInside (named_row (map shaped_field w))) (sym (drop_none items i past)) tt)))
 
-pub item_end : (items : List Tree) (i : ℕ) → length items ≤ i → (AreInside (row (map shape (drop i items))) → AreInside (row (map shape items))) → IsRising (row (map shape items))
+pub item_end : (items : List Tree) (i : ℕ) → length items ≤ i → (AreInside (row (map shape (drop i items))) → AreInside (row (map shape items)))
+    → IsRising (row (map shape items))
 item_end items i past known = rising_items items (known (subst (λ (w : List Tree). AreInside (row (map shape w))) (sym (drop_none items i past)) tt))

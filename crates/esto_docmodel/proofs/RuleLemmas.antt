@@ -47,7 +47,8 @@ apart_rest a n k i rest s u low lt h g e =
       | inr c ↦ omega arith
     ]
 
-apart_named : (a : List ℕ) (n : ℕ) (rest : Forest) (c : List ℕ) (u : Spot) → AreLow a n → ((t : Node) → HasKid rest (name c) t → ⊥) → At a n rest u → u.above ≡ a → u.label ≡ name c → ⊥
+apart_named : (a : List ℕ) (n : ℕ) (rest : Forest) (c : List ℕ) (u : Spot) → AreLow a n → ((t : Node) → HasKid rest (name c) t → ⊥) → At a n rest u
+    → u.above ≡ a → u.label ≡ name c → ⊥
 apart_named a n rest c u low once h e g = elim (kid_from a n rest u h) [
   | inl k ↦ once u.here (subst (λ (w : Label). HasKid rest w u.here) g k.1)
   | inr k ↦
@@ -56,23 +57,30 @@ apart_named a n rest c u low once h e g = elim (kid_from a n rest u h) [
       omega arith
 ]
 
-pub once : (a : List ℕ) (n : ℕ) (f : Forest) (s u : Spot) (c : List ℕ) → AreLow a n → AreNamedOnce f → At a n f s → At a n f u → s.above ≡ u.above → s.label ≡ name c → u.label ≡ name c → s ≡ u
+pub once : (a : List ℕ) (n : ℕ) (f : Forest) (s u : Spot) (c : List ℕ) → AreLow a n → AreNamedOnce f → At a n f s → At a n f u → s.above ≡ u.above
+    → s.label ≡ name c → u.label ≡ name c → s ≡ u
 once a n none s u c low names h g e p q = absurd h
 once a n (kid l t i rest) s u c low names (inl h) (inl g) e p q = sym h ∙ g
 once a n (kid l t i rest) s u c low names (inl h) (inr (inl g)) e p q = absurd (apart_inside a n i u low g (sym e ∙ sym (ap (λ (w : Spot). w.above) h)))
-once a n (kid l t i rest) s u c low names (inl h) (inr (inr g)) e p q = absurd (apart_named a (suc n + size i) rest c u (low_on a n _ (omega arith) low) (λ t k. names.0 c t (ap (λ (w : Spot). w.label) h ∙ p) k) g (sym e ∙ sym (ap (λ (w : Spot). w.above) h)) q)
+once a n (kid l t i rest) s u c low names (inl h) (inr (inr g)) e p q =
+    absurd (apart_named a (suc n + size i) rest c u (low_on a n _ (omega arith) low) (λ t k. names.0 c t (ap (λ (w : Spot). w.label) h ∙ p) k) g
+    (sym e ∙ sym (ap (λ (w : Spot). w.above) h)) q)
 once a n (kid l t i rest) s u c low names (inr (inl h)) (inl g) e p q = absurd (apart_inside a n i s low h (e ∙ sym (ap (λ (w : Spot). w.above) g)))
 once a n (kid l t i rest) s u c low names (inr (inl h)) (inr (inl g)) e p q = once (n ∷ a) (suc n) i s u c (low_in a n low) names.1.0 h g e p q
 once a n (kid l t i rest) s u c low names (inr (inl h)) (inr (inr g)) e p q = absurd (apart_rest a n (suc n + size i) i rest s u low (omega arith) h g e)
-once a n (kid l t i rest) s u c low names (inr (inr h)) (inl g) e p q = absurd (apart_named a (suc n + size i) rest c s (low_on a n _ (omega arith) low) (λ t k. names.0 c t (ap (λ (w : Spot). w.label) g ∙ q) k) h (e ∙ sym (ap (λ (w : Spot). w.above) g)) p)
+once a n (kid l t i rest) s u c low names (inr (inr h)) (inl g) e p q =
+    absurd (apart_named a (suc n + size i) rest c s (low_on a n _ (omega arith) low) (λ t k. names.0 c t (ap (λ (w : Spot). w.label) g ∙ q) k) h
+    (e ∙ sym (ap (λ (w : Spot). w.above) g)) p)
 once a n (kid l t i rest) s u c low names (inr (inr h)) (inr (inl g)) e p q = absurd (apart_rest a n (suc n + size i) i rest u s low (omega arith) g h (sym e))
-once a n (kid l t i rest) s u c low names (inr (inr h)) (inr (inr g)) e p q = once a (suc n + size i) rest s u c (low_on a n _ (omega arith) low) names.1.1 h g e p q
+once a n (kid l t i rest) s u c low names (inr (inr h)) (inr (inr g)) e p q =
+    once a (suc n + size i) rest s u c (low_on a n _ (omega arith) low) names.1.1 h g e p q
 
 module _ (base : ℕ) (forest : Forest) where
   same_node : (s u : Spot) (m : Term) → At [] base forest s → At [] base forest u → m ≡ Plain s.number → m ≡ Plain u.number → s ≡ u
   same_node s u m h g p q = unique [] base forest s u h g (node_inj (sym p ∙ q))
 
-  one_kid : AreNamedOnce forest → (n k m p : Term) → Contains (facts_from [] base forest) (field n k m) → Contains (facts_from [] base forest) (field n k p) → m ≡ p
+  one_kid : AreNamedOnce forest → (n k m p : Term) → Contains (facts_from [] base forest) (field n k m) → Contains (facts_from [] base forest) (field n k p)
+      → m ≡ p
   one_kid names n k m p c d =
       let r = from_facts [] base forest _ c in
       let s = from_facts [] base forest _ d in
@@ -121,7 +129,8 @@ module _ (base : ℕ) (forest : Forest) where
       let z : Some f.0 ≡ Some g.0 = sym f.1 ∙ ap (λ (w : Spot). w.here.content) e ∙ g.1 in
       f.3 ∙ ap Const (some_inj z) ∙ sym g.3
 
-  lies_below : (s : Spot) (q : ℕ) (b : List ℕ) (n m : Term) → At [] base forest s → s.above ≡ q ∷ b → n ≡ Plain q → m ≡ Plain s.number → Contains (facts_from [] base forest) (below n m)
+  lies_below : (s : Spot) (q : ℕ) (b : List ℕ) (n m : Term) → At [] base forest s → s.above ≡ q ∷ b → n ≡ Plain q → m ≡ Plain s.number
+      → Contains (facts_from [] base forest) (below n m)
   lies_below s q b n m h e x y = to_facts [] base forest s _ h (inr (inl (q, subst (λ (w : List ℕ). Contains w q) (sym e) (Contains-head q b), cc)))
 
   -- a root has no node above

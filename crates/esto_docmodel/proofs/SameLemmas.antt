@@ -18,7 +18,8 @@ use Rattle.esto_docmodel.specs.Patterns.{Entries, Mentions}
 
 module _ (relation base : ℕ) (forest : Forest) (entries : Entries) (r next : ℕ) where
   -- the atoms by kind, from their flat form
-  by_kind : (m : Term → Term) → maps.Sends m (atoms_of relation entries r next) (facts_of relation base forest) → Sends m (pattern_atoms entries r next) (Contains (facts_from [] base forest))
+  by_kind : (m : Term → Term) → maps.Sends m (atoms_of relation entries r next) (facts_of relation base forest)
+      → Sends m (pattern_atoms entries r next) (Contains (facts_from [] base forest))
   by_kind m sends = (sends_flat relation m (pattern_atoms entries r next) (facts_from [] base forest)).1 sends
 
   from_encoded : (m : Term → Term) → IsEncodedMatch relation base forest entries r next m → IsOwnMatch forest entries m
@@ -26,14 +27,16 @@ module _ (relation base : ℕ) (forest : Forest) (entries : Entries) (r next : �
       let world : IsEncoded (Is base forest) (IsDocument forest) (Contains (facts_from [] base forest)) = encoded base forest in
       let sends = by_kind other flat_sends in
       let q = world.from_root (other (Plain r)) (sends _ (Contains-head _ _)) in
-      let found = from_atoms (Is base forest) (IsDocument forest) (Contains (facts_from [] base forest)) world other keeps entries r next q.0 q.1 q.2 q.3 (λ a c. sends a (Contains-rest _ _ a c)) in
+      let found = from_atoms (Is base forest) (IsDocument forest) (Contains (facts_from [] base forest)) world other keeps entries r next q.0 q.1 q.2 q.3
+      (λ a c. sends a (Contains-rest _ _ a c)) in
       (q.1, q.4, matches_on other m entries q.1 (λ x h. sym (agree x h)) found)
 
   -- the number of the root is no variable of the pattern
   started : (m : Term → Term) (x : Term) → (Mentions entries (Plain r) → ⊥) → AgreeAfter entries m (set m r x)
   started m x free y h = sym (set_other m r x y (λ e. free (subst (λ z. Mentions entries z) e h)))
 
-  to_encoded : AreFresh entries r next → (m : Term → Term) → maps.Keeps Const m → IsOwnMatch forest entries m → IsEncodedMatch relation base forest entries r next m
+  to_encoded : AreFresh entries r next → (m : Term → Term) → maps.Keeps Const m → IsOwnMatch forest entries m
+      → IsEncodedMatch relation base forest entries r next m
   to_encoded fresh m keeps (t, doc, matches) =
       let world : IsEncoded (Is base forest) (IsDocument forest) (Contains (facts_from [] base forest)) = encoded base forest in
       let q = world.to_root t doc in
@@ -47,7 +50,8 @@ module _ (relation base : ℕ) (forest : Forest) (entries : Entries) (r next : �
         (sends_flat relation more.0 (pattern_atoms entries r next) (facts_from [] base forest)).0 (λ a c. elim (Contains-cases _ _ a c) [
           | inl e ↦
               let z : more.0 (Plain r) ≡ Plain q.0 = sym (more.1 (Plain r) (below_plain next r fresh.root_below)) ∙ set_here m r (Plain q.0) in
-              subst (λ (w : DocFact Term). Contains (facts_from [] base forest) (carried more.0 w)) e (subst (λ (w : Term). Contains (facts_from [] base forest) (root w)) (sym z) q.2)
+              subst (λ (w : DocFact Term). Contains (facts_from [] base forest) (carried more.0 w)) e
+              (subst (λ (w : Term). Contains (facts_from [] base forest) (root w)) (sym z) q.2)
           | inr d ↦ more.2 more.0 (λ x b. refl) a d
         ]),
         λ x h. agree x h ∙ more.1 x (fresh.below x h),

@@ -29,4 +29,5 @@ pub entry-Value : (path : List Step) (x : Term) (rest : Entries) → entry_shape
 entry-Value path x rest = ap (λ (f : More). f rest) (ap entry_shape (sym (entry.rolls-Value path x)) ∙ fold-roll-Entry More entry_step (Entry-F.Value path x))
 
 pub entry-Group : (path : List Step) (inner : List Entry) (rest : Entries) → entry_shape (entry.Group path inner) rest ≡ group path (entries_of inner) rest
-entry-Group path inner rest = ap (λ (f : More). f rest) (ap entry_shape (sym (entry.rolls-Group path inner)) ∙ fold-roll-Entry More entry_step (Entry-F.Group path inner))
+entry-Group path inner rest = ap (λ (f : More). f rest)
+    (ap entry_shape (sym (entry.rolls-Group path inner)) ∙ fold-roll-Entry More entry_step (Entry-F.Group path inner))

@@ -22,7 +22,9 @@ At a n none s = ⊥
 At a n (kid l t i rest) s = (spot a l n (node t i) ≡ s) ⊎ (At (n ∷ a) (suc n) i s ⊎ At a (suc n + size i) rest s)
 
 abbrev pub IsFactOf : Spot → DocFact Term → Type 0
-IsFactOf s f = (entering s.above s.label s.number ≡ f) ⊎ (((x : ℕ) × Contains s.above x × (below (Plain x) (Plain s.number) ≡ f)) ⊎ ((c : List ℕ) × (s.here.content ≡ Some c) × (value (Plain s.number) (Const c) ≡ f)))
+IsFactOf s f = (entering s.above s.label s.number ≡ f)
+    ⊎ (((x : ℕ) × Contains s.above x × (below (Plain x) (Plain s.number) ≡ f))
+    ⊎ ((c : List ℕ) × (s.here.content ≡ Some c) × (value (Plain s.number) (Const c) ≡ f)))
 
 -- no two trees of one row, inside, have one name
 abbrev pub AreNamedOnce : Forest → Type 0

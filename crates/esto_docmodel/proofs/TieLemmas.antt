@@ -21,12 +21,14 @@ entering_root [] l n x e = (refl, cc)
 entering_root (p ∷ a) (name k) n x e = cc
 entering_root (p ∷ a) place n x e = cc
 
-entering_field : (a : List ℕ) (l : Label) (n : ℕ) (p k m : Term) → entering a l n ≡ field p k m → (q : ℕ) × (b : List ℕ) × (c : List ℕ) × (a ≡ q ∷ b) × (l ≡ name c) × (p ≡ Plain q) × (k ≡ Const c) × (m ≡ Plain n)
+entering_field : (a : List ℕ) (l : Label) (n : ℕ) (p k m : Term) → entering a l n ≡ field p k m
+    → (q : ℕ) × (b : List ℕ) × (c : List ℕ) × (a ≡ q ∷ b) × (l ≡ name c) × (p ≡ Plain q) × (k ≡ Const c) × (m ≡ Plain n)
 entering_field [] l n p k m e = cc
 entering_field (q ∷ b) (name c) n p k m e = (q, b, c, refl, refl, cc, cc, cc)
 entering_field (q ∷ b) place n p k m e = cc
 
-entering_item : (a : List ℕ) (l : Label) (n : ℕ) (p m : Term) → entering a l n ≡ item p m → (q : ℕ) × (b : List ℕ) × (a ≡ q ∷ b) × (l ≡ place) × (p ≡ Plain q) × (m ≡ Plain n)
+entering_item : (a : List ℕ) (l : Label) (n : ℕ) (p m : Term) → entering a l n ≡ item p m
+    → (q : ℕ) × (b : List ℕ) × (a ≡ q ∷ b) × (l ≡ place) × (p ≡ Plain q) × (m ≡ Plain n)
 entering_item [] l n p m e = cc
 entering_item (q ∷ b) (name c) n p m e = cc
 entering_item (q ∷ b) place n p m e = (q, b, refl, refl, cc, cc)
@@ -46,12 +48,14 @@ root_of s x (inl e) = entering_root s.above s.label s.number x e
 root_of s x (inr (inl (y, c, e))) = cc
 root_of s x (inr (inr (c, g, e))) = cc
 
-pub field_of : (s : Spot) (p k m : Term) → IsFactOf s (field p k m) → (q : ℕ) × (b : List ℕ) × (c : List ℕ) × (s.above ≡ q ∷ b) × (s.label ≡ name c) × (p ≡ Plain q) × (k ≡ Const c) × (m ≡ Plain s.number)
+pub field_of : (s : Spot) (p k m : Term) → IsFactOf s (field p k m)
+    → (q : ℕ) × (b : List ℕ) × (c : List ℕ) × (s.above ≡ q ∷ b) × (s.label ≡ name c) × (p ≡ Plain q) × (k ≡ Const c) × (m ≡ Plain s.number)
 field_of s p k m (inl e) = entering_field s.above s.label s.number p k m e
 field_of s p k m (inr (inl (y, c, e))) = absurd cc
 field_of s p k m (inr (inr (c, g, e))) = absurd cc
 
-pub item_of : (s : Spot) (p m : Term) → IsFactOf s (item p m) → (q : ℕ) × (b : List ℕ) × (s.above ≡ q ∷ b) × (s.label ≡ place) × (p ≡ Plain q) × (m ≡ Plain s.number)
+pub item_of : (s : Spot) (p m : Term) → IsFactOf s (item p m)
+    → (q : ℕ) × (b : List ℕ) × (s.above ≡ q ∷ b) × (s.label ≡ place) × (p ≡ Plain q) × (m ≡ Plain s.number)
 item_of s p m (inl e) = entering_item s.above s.label s.number p m e
 item_of s p m (inr (inl (y, c, e))) = absurd cc
 item_of s p m (inr (inr (c, g, e))) = absurd cc
@@ -69,7 +73,8 @@ value_of s x y (inr (inr (c, g, e))) = (c, g, cc, cc)
 node_inj : {n m : ℕ} → Plain n ≡ Plain m → n ≡ m
 node_inj {n} {m} e = Plain-same n m e
 
-field_at : (s : Spot) (q : ℕ) (b : List ℕ) (c : List ℕ) → s.above ≡ q ∷ b → s.label ≡ name c → entering s.above s.label s.number ≡ field (Plain q) (Const c) (Plain s.number)
+field_at : (s : Spot) (q : ℕ) (b : List ℕ) (c : List ℕ) → s.above ≡ q ∷ b → s.label ≡ name c
+    → entering s.above s.label s.number ≡ field (Plain q) (Const c) (Plain s.number)
 field_at s q b c e g = rw (e, g)
 
 item_at : (s : Spot) (q : ℕ) (b : List ℕ) → s.above ≡ q ∷ b → s.label ≡ place → entering s.above s.label s.number ≡ item (Plain q) (Plain s.number)
@@ -77,7 +82,8 @@ item_at s q b e g = rw (e, g)
 
 module _ (base : ℕ) (forest : Forest) where
   -- the parent of a node that has a node above
-  pub parent : (d : Spot) (q : ℕ) (b : List ℕ) → At [] base forest d → d.above ≡ q ∷ b → (s : Spot) × At [] base forest s × (d.above ≡ s.number ∷ s.above) × (s.number ≡ q) × HasKid s.here.inside d.label d.here
+  pub parent : (d : Spot) (q : ℕ) (b : List ℕ) → At [] base forest d → d.above ≡ q ∷ b
+      → (s : Spot) × At [] base forest s × (d.above ≡ s.number ∷ s.above) × (s.number ≡ q) × HasKid s.here.inside d.label d.here
   parent d q b h e = elim (kid_from [] base forest d h) [
     | inl g ↦ let z : [] ≡ q ∷ b = sym g.0 ∙ e in absurd cc
     | inr g ↦ let z : g.0.number ∷ g.0.above ≡ q ∷ b = sym g.2 ∙ e in (g.0, g.1, g.2, cc, g.3)
@@ -87,13 +93,15 @@ module _ (base : ℕ) (forest : Forest) where
   pub one_is : (n : ℕ) (t : Node) (s : Spot) → Is base forest n t → At [] base forest s → s.number ≡ n → s.here ≡ t
   one_is n t s (u, h, e, g) at k = ap (λ (w : Spot). w.here) (unique [] base forest s u at h (k ∙ sym e)) ∙ g
 
-  from_kid : (n : ℕ) (t : Node) (d : Spot) (q : ℕ) (b : List ℕ) (l : Label) → Is base forest n t → At [] base forest d → d.above ≡ q ∷ b → d.label ≡ l → q ≡ n → HasKid t.inside l d.here
+  from_kid : (n : ℕ) (t : Node) (d : Spot) (q : ℕ) (b : List ℕ) (l : Label) → Is base forest n t → At [] base forest d → d.above ≡ q ∷ b → d.label ≡ l → q ≡ n
+      → HasKid t.inside l d.here
   from_kid n t d q b l is h e g k =
       let r = parent d q b h e in
       let same : r.0.here ≡ t = one_is n t r.0 is r.1 (r.3 ∙ k) in
       subst (λ (w : Node). HasKid w.inside l d.here) same (subst (λ (w : Label). HasKid r.0.here.inside w d.here) g r.4)
 
-  from_step : (s : Step) (n : ℕ) (t : Node) (y : Term) → Is base forest n t → Contains (facts_from [] base forest) (linked Const s (Plain n) y) → (k : ℕ) × (u : Node) × (y ≡ Plain k) × Is base forest k u × Takes s t u
+  from_step : (s : Step) (n : ℕ) (t : Node) (y : Term) → Is base forest n t → Contains (facts_from [] base forest) (linked Const s (Plain n) y)
+      → (k : ℕ) × (u : Node) × (y ≡ Plain k) × Is base forest k u × Takes s t u
   from_step (Name k) n t y is c =
       let r = from_facts [] base forest _ c in
       let f = field_of r.0 (Plain n) (Const k) y r.2 in
@@ -116,10 +124,12 @@ module _ (base : ℕ) (forest : Forest) where
         ],
       )
 
-  to_step : (s : Step) (n : ℕ) (t u : Node) → Is base forest n t → Takes s t u → (k : ℕ) × Is base forest k u × Contains (facts_from [] base forest) (linked Const s (Plain n) (Plain k))
+  to_step : (s : Step) (n : ℕ) (t u : Node) → Is base forest n t → Takes s t u
+      → (k : ℕ) × Is base forest k u × Contains (facts_from [] base forest) (linked Const s (Plain n) (Plain k))
   to_step (Name k) n t u (s, h, e, g) takes =
       let r = kid_below [] base forest s (name k) u h (subst (λ (w : Node). HasKid w.inside (name k) u) (sym g) takes) in
-      let f : field (Plain s.number) (Const k) (Plain r.0.number) ≡ field (Plain n) (Const k) (Plain r.0.number) = ap (λ (w : ℕ). field (Plain w) (Const k) (Plain r.0.number)) e in
+      let f : field (Plain s.number) (Const k) (Plain r.0.number) ≡ field (Plain n) (Const k) (Plain r.0.number) =
+      ap (λ (w : ℕ). field (Plain w) (Const k) (Plain r.0.number)) e in
       (r.0.number, (r.0, r.1, refl, r.4), to_facts [] base forest r.0 _ r.1 (inl (field_at r.0 s.number s.above k r.2 r.3 ∙ f)))
   to_step Item n t u (s, h, e, g) takes =
       let r = kid_below [] base forest s place u h (subst (λ (w : Node). HasKid w.inside place u) (sym g) takes) in
@@ -150,7 +160,8 @@ module _ (base : ℕ) (forest : Forest) where
       let e : entering r.0.above r.0.label r.0.number ≡ root (Plain r.0.number) = ap (λ (w : List ℕ). entering w r.0.label r.0.number) r.2 in
       (r.0.number, (r.0, r.1, refl, r.4), to_facts [] base forest r.0 _ r.1 (inl e))
 
-  from_value : (n : ℕ) (t : Node) (y : Term) → Is base forest n t → Contains (facts_from [] base forest) (value (Plain n) y) → (c : List ℕ) × (y ≡ Const c) × (t.content ≡ Some c)
+  from_value : (n : ℕ) (t : Node) (y : Term) → Is base forest n t → Contains (facts_from [] base forest) (value (Plain n) y)
+      → (c : List ℕ) × (y ≡ Const c) × (t.content ≡ Some c)
   from_value n t y is c =
       let r = from_facts [] base forest _ c in
       let f = value_of r.0 (Plain n) y r.2 in

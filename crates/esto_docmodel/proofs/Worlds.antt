@@ -16,7 +16,8 @@ Sends m body P = (atom : DocFact Term) → Contains body atom → P (carried m a
 pub record IsEncoded (Is : ℕ → Node → Type 0) (IsDocument : Node → Type 0) (P : DocFact Term → Type 0) : Type 0 where
   pub from_root : (x : Term) → P (root x) → (n : ℕ) × (t : Node) × (x ≡ Plain n) × Is n t × IsDocument t
   pub to_root : (t : Node) → IsDocument t → (n : ℕ) × Is n t × P (root (Plain n))
-  pub from_step : (s : Step) (n : ℕ) (t : Node) (y : Term) → Is n t → P (linked Const s (Plain n) y) → (k : ℕ) × (u : Node) × (y ≡ Plain k) × Is k u × Takes s t u
+  pub from_step : (s : Step) (n : ℕ) (t : Node) (y : Term) → Is n t → P (linked Const s (Plain n) y)
+      → (k : ℕ) × (u : Node) × (y ≡ Plain k) × Is k u × Takes s t u
   pub to_step : (s : Step) (n : ℕ) (t u : Node) → Is n t → Takes s t u → (k : ℕ) × Is k u × P (linked Const s (Plain n) (Plain k))
   pub from_value : (n : ℕ) (t : Node) (y : Term) → Is n t → P (value (Plain n) y) → (c : List ℕ) × (y ≡ Const c) × (t.content ≡ Some c)
   pub to_value : (n : ℕ) (t : Node) (c : List ℕ) → Is n t → t.content ≡ Some c → P (value (Plain n) (Const c))

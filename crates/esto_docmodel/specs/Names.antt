@@ -33,4 +33,8 @@ parts_inj field other same = λ i. record { name = (same i).0; tree = (same i).1
 
 -- The code of a field, from that of what stands there.
 abbrev pub field_code : {X : Type 0} → Coded X → Coded (FieldOf X)
-field_code c = record { code = λ field. (coded× (coded_list coded_ℕ) c).code (parts field); inj = λ field other same. parts_inj field other ((coded× (coded_list coded_ℕ) c).inj (parts field) (parts other) same) }
+field_code c = record {
+  code = λ field. (coded× (coded_list coded_ℕ) c).code (parts field);
+  inj =
+      λ field other same. parts_inj field other ((coded× (coded_list coded_ℕ) c).inj (parts field) (parts other) same);
+}

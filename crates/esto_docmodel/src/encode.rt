@@ -76,7 +76,8 @@ fn put_three(
     second: Term,
     third: Term,
 ) -> Result<(), OutOfMemory>
-    ensures { OnOk result (facts.new ≡ facts.old ++ fact_over relation (term ∷ second ∷ third ∷ []) ∷ []) }
+    ensures { OnOk result (facts.new ≡ facts.old
+        ++ fact_over relation (term ∷ second ∷ third ∷ []) ∷ []) }
 {
     let mut terms = List::new(alloc);
     terms.push(term)?;
@@ -94,7 +95,8 @@ fn put_belows(
     number: u64,
 ) -> Result<(), OutOfMemory>
     requires { base + 4 ≤ 18446744073709551615 }
-    ensures { OnOk result (facts.new ≡ facts.old ++ map (flat base) (belows (turned above.now) number)) }
+    ensures { OnOk result (facts.new ≡ facts.old
+        ++ map (flat base) (belows (turned above.now) number)) }
 {
     'above: for ancestor in above {
         put_two(
@@ -128,7 +130,8 @@ fn put_node(
     number: u64,
 ) -> Result<u64, OutOfMemory>
     requires { base + 4 ≤ 18446744073709551615 }
-    ensures facts { OnOk result (facts.new ≡ facts.old ++ map (flat base) (node_facts (turned above.now) number (shape tree.now))) }
+    ensures facts { OnOk result (facts.new ≡ facts.old
+        ++ map (flat base) (node_facts (turned above.now) number (shape tree.now))) }
     ensures rising { OnOk result (IsRising (shape tree.now).inside) }
     ensures next { IfOk result (λ next. next ≡ suc number + size (shape tree.now).inside) }
 {
@@ -188,9 +191,12 @@ fn put_fields(
 ) -> Result<u64, OutOfMemory>
     requires relations { base + 4 ≤ 18446744073709551615 }
     requires inside { inner.now ≡ above.now ++ number ∷ [] }
-    ensures facts { OnOk result (facts.new ≡ facts.old ++ map (flat base) (facts_from (number ∷ turned above.now) first (named_row (map shaped_field fields.now)))) }
+    ensures facts { OnOk result (facts.new ≡ facts.old
+        ++ map (flat base) (facts_from (number ∷ turned above.now) first
+        (named_row (map shaped_field fields.now)))) }
     ensures rising { OnOk result (IsRising (named_row (map shaped_field fields.now))) }
-    ensures next { IfOk result (λ next. next ≡ first + size (named_row (map shaped_field fields.now))) }
+    ensures next { IfOk result (λ next. next ≡ first + size
+        (named_row (map shaped_field fields.now))) }
 {
     let mut next = first;
     'fields: for field in fields.items() {
@@ -221,7 +227,9 @@ fn put_items(
 ) -> Result<u64, OutOfMemory>
     requires relations { base + 4 ≤ 18446744073709551615 }
     requires inside { inner.now ≡ above.now ++ number ∷ [] }
-    ensures facts { OnOk result (facts.new ≡ facts.old ++ map (flat base) (facts_from (number ∷ turned above.now) first (row (map shape items.now)))) }
+    ensures facts { OnOk result (facts.new ≡ facts.old
+        ++ map (flat base) (facts_from (number ∷ turned above.now) first
+        (row (map shape items.now)))) }
     ensures rising { OnOk result (IsRising (row (map shape items.now))) }
     ensures next { IfOk result (λ next. next ≡ first + size (row (map shape items.now))) }
 {
@@ -309,7 +317,8 @@ fn put_step(
     to: u64,
 ) -> Result<(), OutOfMemory>
     requires { base + 4 ≤ 18446744073709551615 }
-    ensures { OnOk result (body.new ≡ body.old ++ map (flat base) (step_atoms (step.now ∷ []) from to)) }
+    ensures { OnOk result (body.new ≡ body.old
+        ++ map (flat base) (step_atoms (step.now ∷ []) from to)) }
 {
     match step {
         Step::Name(name) => put_three(
@@ -335,7 +344,8 @@ fn put_path(
     first: u64,
 ) -> Result<(u64, u64), OutOfMemory>
     requires { base + 4 ≤ 18446744073709551615 }
-    ensures atoms { OnOk result (body.new ≡ body.old ++ map (flat base) (step_atoms path.now start first)) }
+    ensures atoms { OnOk result (body.new ≡ body.old
+        ++ map (flat base) (step_atoms path.now start first)) }
     ensures numbers { IfOk result (λ it. it ≡ (end path.now start first, first + length path.now)) }
 {
     let mut node = start;
@@ -359,7 +369,8 @@ fn put_entry(
     next: u64,
 ) -> Result<u64, OutOfMemory>
     requires { base + 4 ≤ 18446744073709551615 }
-    ensures atoms { OnOk result (body.new ≡ body.old ++ map (flat base) (atoms (entries_of (entry.now ∷ [])) node next)) }
+    ensures atoms { OnOk result (body.new ≡ body.old
+        ++ map (flat base) (atoms (entries_of (entry.now ∷ [])) node next)) }
     ensures next { IfOk result (λ it. it ≡ next + used (entries_of (entry.now ∷ []))) }
 {
     match entry {
@@ -386,7 +397,8 @@ fn put_entries(
     first: u64,
 ) -> Result<u64, OutOfMemory>
     requires { base + 4 ≤ 18446744073709551615 }
-    ensures atoms { OnOk result (body.new ≡ body.old ++ map (flat base) (atoms (entries_of entries.now) node first)) }
+    ensures atoms { OnOk result (body.new ≡ body.old
+        ++ map (flat base) (atoms (entries_of entries.now) node first)) }
     ensures next { IfOk result (λ it. it ≡ first + used (entries_of entries.now)) }
 {
     let mut next = first;

@@ -9,7 +9,8 @@ use Rattle.esto_term.specs.declared.term.Term.TheVariants.{Const}
 use Rattle.esto_semantics.specs.declared.fact.Fact.{Fact}
 use Rattle.esto_relmodel.specs.RowFacts.{row_fact, AreRowFacts}
 
-pub columns_of : (relation count : ℕ) (rows : List (List (List ℕ))) (facts : List (Fact Term)) → All (λ row. length row ≡ count) rows → AreRowFacts relation rows facts
+pub columns_of : (relation count : ℕ) (rows : List (List (List ℕ))) (facts : List (Fact Term)) → All (λ row. length row ≡ count) rows
+    → AreRowFacts relation rows facts
     → All (λ (fact : Fact Term). length fact.terms ≡ count) facts
 columns_of relation count rows facts wide (kept, once, are) k d within =
     let inside : Contains facts (get_or facts k d) = Contains-get_or facts k d within in

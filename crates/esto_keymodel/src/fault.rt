@@ -18,8 +18,7 @@ const CARRIAGE_RETURN: u8 = b'\r';
 fn has_part(cell: &[u8]) -> bool
     ensures { result ≡ list_any is_part cell.now }
 {
-    cell.iter()
-        .any(|byte| *byte == TAB || *byte == LINE_FEED || *byte == CARRIAGE_RETURN)
+    cell.iter().any(|byte| *byte == TAB || *byte == LINE_FEED || *byte == CARRIAGE_RETURN)
 }
 
 /// The first cell, counted from 0, that has a tab, a carriage return or a line feed, so that no line of a key file can hold

@@ -72,15 +72,18 @@ module _ {X : Type 0} where
     only : {last : X} → Contains (thing ∷ []) last → thing ≡ last
     only {last} inside = elim (Contains-cases thing [] last inside) [ inl is ↦ is | inr none ↦ absurd (Contains-nil last none) ]
 
-  pub one_more : (is_new : Bool) (old new : List X) (thing : X) → IsAdded old new thing is_new → (things : List X) → AreEachOnce things old → AreEachOnce (things ++ thing ∷ []) new
+  pub one_more : (is_new : Bool) (old new : List X) (thing : X) → IsAdded old new thing is_new → (things : List X) → AreEachOnce things old
+      → AreEachOnce (things ++ thing ∷ []) new
   one_more true old new thing (apart, is) things once = subst (AreEachOnce (things ++ thing ∷ [])) (sym is) (fresh things old thing once apart)
   one_more false old new thing (there, is) things once = subst (AreEachOnce (things ++ thing ∷ [])) (sym is) (again things old thing once there)
 
 -- the rows so far are one more
-pub more_rows : {X : Type 0} (rows old new : List X) (count : ℕ) (row : X) → count < length rows → row ≡ get_or rows count row → AreEachOnce (take count rows) old
+pub more_rows : {X : Type 0} (rows old new : List X) (count : ℕ) (row : X) → count < length rows → row ≡ get_or rows count row
+    → AreEachOnce (take count rows) old
     → ((things : List X) → AreEachOnce things old → AreEachOnce (things ++ row ∷ []) new) → AreEachOnce (take (count + 1) rows) new
 more_rows rows old new count row within read once step =
-    subst (λ those. AreEachOnce those new) (sym (take_more rows count row within ∙ ap (λ last. take count rows ++ last ∷ []) (sym read))) (step (take count rows) once)
+    subst (λ those. AreEachOnce those new) (sym (take_more rows count row within ∙ ap (λ last. take count rows ++ last ∷ []) (sym read)))
+    (step (take count rows) once)
 
 pub all_rows : {X : Type 0} (rows kept : List X) (count : ℕ) → length rows ≤ count → AreEachOnce (take count rows) kept → AreEachOnce rows kept
 all_rows rows kept count all once = subst (λ those. AreEachOnce those kept) (take_all count rows all) once

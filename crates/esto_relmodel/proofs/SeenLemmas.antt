@@ -49,7 +49,8 @@ module _ {C : Type 0} (bytes : C → List ℕ) where
       ((bytes_eq-Decides (bytes x) (bytes y)).1 (heads same)) (from_same xs ys (tails same))
 
   -- whether the cells of one row are those of another, whose cells are known
-  pub told_from : (xs ys : List C) (wanted : List (List ℕ)) → map bytes xs ≡ wanted → Decides (pointwise (λ x y. bytes_eq (bytes x) (bytes y)) xs ys) (map bytes ys ≡ wanted)
+  pub told_from : (xs ys : List C) (wanted : List (List ℕ)) → map bytes xs ≡ wanted
+      → Decides (pointwise (λ x y. bytes_eq (bytes x) (bytes y)) xs ys) (map bytes ys ≡ wanted)
   told_from xs ys wanted is = ((λ told. sym (same_from xs ys told) ∙ is), λ same. from_same xs ys (is ∙ sym same))
 
 -- ---- a row among others
@@ -73,13 +74,15 @@ module _ {Y Z : Type 0} (seen : Y → Z) (wanted : Z) (test : Y → Bool) (told 
     either true b e = refl
     either false b e = e
 
-  pub added : (old new : List Y) (key : Y) (is_new : Bool) → seen key ≡ wanted → is_new ≡ not (list_any test old) → new ≡ cond (list_any test old) old (old ++ key ∷ [])
+  pub added : (old new : List Y) (key : Y) (is_new : Bool) → seen key ≡ wanted → is_new ≡ not (list_any test old)
+      → new ≡ cond (list_any test old) old (old ++ key ∷ [])
       → IsAdded (map seen old) (map seen new) wanted is_new
   added old new key is_new is told_new grown = go (list_any test old) refl
     where
       go : (b : Bool) → list_any test old ≡ b → IsAdded (map seen old) (map seen new) wanted is_new
       go true e = subst (IsAdded (map seen old) (map seen new) wanted) (sym (told_new ∙ ap not e))
           (among old e, ap (map seen) (grown ∙ ap (λ b. cond b old (old ++ key ∷ [])) e))
-      go false e = subst (IsAdded (map seen old) (map seen new) wanted) (sym (told_new ∙ ap not e))
-          ((λ inside. false≢true (sym e ∙ passes old inside)),
-          ap (map seen) (grown ∙ ap (λ b. cond b old (old ++ key ∷ [])) e) ∙ map-append seen old (key ∷ []) ∙ ap (λ last. map seen old ++ last ∷ []) is)
+      go false e = subst (IsAdded (map seen old) (map seen new) wanted) (sym (told_new ∙ ap not e)) (
+        (λ inside. false≢true (sym e ∙ passes old inside)),
+        ap (map seen) (grown ∙ ap (λ b. cond b old (old ++ key ∷ [])) e) ∙ map-append seen old (key ∷ []) ∙ ap (λ last. map seen old ++ last ∷ []) is,
+      )

@@ -6,4 +6,5 @@ use Rattle.esto_docmodel.proofs.encode.put_belows.Given as goal
 
 -- the facts so far, with those of the nodes above that are left, are all of them
 abbrev pub invariant-above : goal.invariant-above
-invariant-above l = l.facts ++ map (flat l.base) (belows (turned (drop l.ancestor-index l.above)) l.number) ≡ l.initial.facts ++ map (flat l.base) (belows (turned l.above) l.number)
+invariant-above l = l.facts ++ map (flat l.base) (belows (turned (drop l.ancestor-index l.above)) l.number) ≡ l.initial.facts
+    ++ map (flat l.base) (belows (turned l.above) l.number)

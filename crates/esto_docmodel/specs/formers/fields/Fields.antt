@@ -26,7 +26,8 @@ use Rattle.esto_docmodel.specs.declared.fields.Fields.TheView.{view, invariant}
 
 -- A field is a name and what stands there.
 abbrev pub named : Former {0} → Former {0}
-named former = via (pair (const (List ℕ)) former) (λ X. FieldOf (former.Of X)) (λ X it. (it.name, it.tree)) (λ X it. record { name = it.0; tree = it.1 }) (λ X it. refl) (λ X it. refl)
+named former = via (pair (const (List ℕ)) former) (λ X. FieldOf (former.Of X)) (λ X it. (it.name, it.tree)) (λ X it. record { name = it.0; tree = it.1 })
+    (λ X it. refl) (λ X it. refl)
 
 -- Seen from outside, fields are the plain list of them.
 abbrev pub the_former : Former {0} → Former {0}
@@ -34,7 +35,9 @@ the_former former = list (named former)
 
 -- They weigh as much as the heaviest thing that stands at one of them.
 abbrev pub the_weighed : {former : Former {0}} → Weighed former → Weighed (the_former former)
-the_weighed {former} weighed = w_list (w_via (w_pair (w_const (List ℕ)) weighed) (λ X. FieldOf (former.Of X)) (λ X it. (it.name, it.tree)) (λ X it. record { name = it.0; tree = it.1 }) (λ X it. refl) (λ X it. refl))
+the_weighed {former} weighed = w_list
+    (w_via (w_pair (w_const (List ℕ)) weighed) (λ X. FieldOf (former.Of X)) (λ X it. (it.name, it.tree)) (λ X it. record { name = it.0; tree = it.1 })
+    (λ X it. refl) (λ X it. refl))
 
 -- There are fields even where there is nothing to hold, so a recursion can begin at them.
 pub the_empty : List (FieldOf ⊥)
@@ -81,4 +84,5 @@ module _ (R S : RattleType) (h : R.Denot → S.Denot) where
   -- The same holds of the codes by which a proof tells values apart.
   pub the_codes_placed : Recodes R S h → Recodes (contract.the_row R) (contract.the_row S) ((the_former this).map R.Denot S.Denot h)
   the_codes_placed recodes code =
-      sym (code_map (field_code R.coded).code (field_code S.coded).code (over_field h) (λ x i. gcons ((coded_list coded_ℕ).code x.name) (sym (recodes x.tree) i)) code)
+      sym (code_map (field_code R.coded).code (field_code S.coded).code (over_field h)
+      (λ x i. gcons ((coded_list coded_ℕ).code x.name) (sym (recodes x.tree) i)) code)
