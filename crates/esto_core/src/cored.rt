@@ -16,8 +16,8 @@ ghost use Rattle.esto_core.specs.CoredLaws.{CoredIsOne, CoredIsOneForAQuery};
 
 use crate::left::left_of;
 use esto_plan_laws::{
-    cores_are_one, cores_have_no_retract, maps_between_plans_compose,
-    plans_receive_unions, plans_that_map_to_each_other_are_universal_alike, renamed_plans_are_alike,
+    cores_are_one, cores_have_no_retract, maps_between_plans_compose, plans_receive_unions,
+    plans_that_map_to_each_other_are_universal_alike, renamed_plans_are_alike,
     what_is_left_is_a_core,
 };
 use esto_semantics::{Atom, Facts};

@@ -72,12 +72,7 @@ fn with_first(alloc: Global, atom: &Atom, others: &[Atom]) -> Result<Facts, OutO
 
 /// Whether the atom and the others retract into the others. The atom comes first in the search: where it has nowhere to
 /// go, nothing else is tried.
-fn retracts(
-    alloc: Global,
-    head: &Terms,
-    atom: &Atom,
-    others: &Facts,
-) -> Result<bool, OutOfMemory>
+fn retracts(alloc: Global, head: &Terms, atom: &Atom, others: &Facts) -> Result<bool, OutOfMemory>
     requires flat_head { (term : Term) → Contains head.now term → IsFlat term }
     requires flat { AreFlat (atom.now ∷ others.now) }
     ensures { IfOk result (λ answer. IsTrue answer
