@@ -8,3 +8,4 @@ mod steps;
 
 pub use chasing::{Chased, chase};
 pub use esto_chase_laws::Clash;
+pub use making::frontier_of;

@@ -60,7 +60,7 @@ fn add_variables(
 }
 
 /// The frontier: the variables that are in body and head, in order of first occurrence in the body.
-fn frontier_of(alloc: Global, body: &[Atom], head: &[Atom]) -> Result<Terms, OutOfMemory>
+pub fn frontier_of(alloc: Global, body: &[Atom], head: &[Atom]) -> Result<Terms, OutOfMemory>
     ensures { IfOk result (λ it. it ≡ frontier body.now head.now) }
 {
     let mut shared = List::new(alloc);

@@ -11,6 +11,10 @@ use Rattle.esto_semantics.specs.Rules.{Rule}
 use Rattle.esto_semantics.specs.declared.fact.Fact.{Fact}
 use Rattle.esto_plan_laws.specs.Cores.{with_head, IsCore, HasNoRetract, AreLeft, IsRenamedTo}
 
+-- Maps between plans, head to head, follow each other.
+abbrev pub MapsCompose : Type 0
+MapsCompose = (first second third : ConjunctiveQuery) → MapsTo first second → MapsTo second third → MapsTo first third
+
 -- Two plans that map to each other, head to head, are universal for the same queries.
 abbrev pub UniversalAlike : Type 0
 UniversalAlike =

@@ -1,6 +1,11 @@
 //! Laws of cores of plans.
-ghost use Rattle.esto_plan_laws.specs.CoreLaws.{UniversalAlike, LeftIsChosen, MapsToLeft, LeftMapsBack, LeftIsUniversal, LeftIsCore, LeftIsOne};
+ghost use Rattle.esto_plan_laws.specs.CoreLaws.{MapsCompose, UniversalAlike, LeftIsChosen, MapsToLeft, LeftMapsBack, LeftIsUniversal, LeftIsCore, LeftIsOne};
 ghost use Rattle.esto_plan_laws.specs.CoreLaws.{CoreHasNoRetract, CoreIsDistinct, RenamedIsReached, RenamedMapsBack, RenamedIsCore, CoreIsOne};
+
+/// A law: where a plan maps to another, head to head, and that one to a third, the first maps to the third.
+pub fn maps_between_plans_compose()
+    ensures { MapsCompose }
+{}
 
 /// A law: two plans that map to each other, head to head, are universal for the same queries.
 pub fn plans_that_map_to_each_other_are_universal_alike()

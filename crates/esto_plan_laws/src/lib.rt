@@ -6,8 +6,9 @@ mod cores;
 mod unions;
 
 pub use cores::{
-    cores_are_one, cores_have_no_retract, plans_that_map_to_each_other_are_universal_alike,
-    renamed_plans_are_alike, what_is_left_is_a_core,
+    cores_are_one, cores_have_no_retract, maps_between_plans_compose,
+    plans_that_map_to_each_other_are_universal_alike, renamed_plans_are_alike,
+    what_is_left_is_a_core,
 };
 pub use unions::{
     choices_are_executable_unions, executable_unions_exist, executable_unions_map_onto_sets,

@@ -1,17 +1,20 @@
 -- The stated plan is a plan of its end, is over the fragments, and keeps what a plan keeps.
 use Rattle.std.proofs.Common.{◌≡◌, ◌≢◌, ◌⊎◌, ◌<◌, inl, inr, ℕ, List, [], ◌∷◌, map, length, get_or, slice_get, Contains, Some, refl, sym, ap, ◌∙◌, subst, arith}
 use Rattle.std.specs.List.{flat_map, AllPairs}
+use Rattle.std.specs.List.Sorted.{IsPermutation}
 use Rattle.std.proofs.lemmas.List.{length-map, get_or-map}
+use Rattle.std.proofs.lemmas.List.Sorted.{IsPermutation-refl}
 use Rattle.std.proofs.lemmas.List.Elements.{Contains-append_left, Contains-append_right, Contains-get_or}
 use Rattle.std.proofs.lemmas.Option.{slice_get_within}
 use Rattle.esto_term.specs.declared.term.Term.{Term}
 use Rattle.esto_term.specs.declared.term.Term.TheVariants.{Plain}
-use Rattle.esto_semantics.specs.Facts.{image}
+use Rattle.esto_semantics.specs.Facts.{image, Mentions}
 use Rattle.esto_semantics.specs.Maps.{IsConstant}
 use Rattle.esto_semantics.specs.PlanOf.{IsOfRows, IsPlanOf}
 use Rattle.esto_semantics.specs.Queries.{ConjunctiveQuery}
 use Rattle.esto_semantics.specs.declared.fact.Fact.{Fact}
 use Rattle.esto_semantics.proofs.TermLemmas.{term_cases, Const-apart-Plain, Const-apart-Made}
+use Rattle.esto_plan_laws.specs.Cores.{with_head, IsRenamedTo}
 use Rattle.esto_query.specs.Making.{query_of}
 use Rattle.esto_query.specs.declared.query.Name.{Name}
 use Rattle.esto_views.specs.Fragments.{views_of, AreFragments}
@@ -73,6 +76,22 @@ module _ (names : List Name) (rows : List (Fact Term)) (head : List Term) (plan 
       (λ term at. term_undone term (read_row rows head row term inside at))
       ∙ map_itself row.terms in
       λ i. record { relation = row.relation; terms = terms i }
+
+  -- the plan is its rows and the head under a renaming that can be undone
+  pub renamed-IsRenamedTo : IsRenamedTo (with_head head rows) (plan_query plan)
+  renamed-IsRenamedTo = record {
+    renaming = renamed.renaming;
+    back = back renamed.seen;
+    keeps = renamed.is_renaming.keeps;
+    back_keeps = back-Const renamed.seen;
+    undone = λ term inside. term_undone term (is_read term inside);
+    head = sym renamed.head;
+    atoms = subst (IsPermutation (map (image renamed.renaming) rows)) (sym renamed.atoms) (IsPermutation-refl (map (image renamed.renaming) rows));
+  }
+    where
+      is_read : (term : Term) → Contains head term ⊎ Mentions rows term → Contains (terms_read rows head) term
+      is_read term (inl in_head) = read_head rows head term in_head
+      is_read term (inr (row, inside, in_row)) = read_row rows head row term inside in_row
 
   -- rows that are distinct stay so
   pub atoms_distinct : AllPairs ◌≢◌ rows → AllPairs ◌≢◌ (plan_query plan).body

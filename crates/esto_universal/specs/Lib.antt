@@ -4,5 +4,6 @@ pub mod Reading
 pub mod Renamings
 pub mod Stated
 pub mod StatedLaws
+pub mod RenamedLaws
 pub mod Planned
 pub mod PlannedLaws

@@ -16,5 +16,6 @@ pub use planned::{
 };
 pub use planning::{renamed_plan, universal};
 pub use stated::{
-    stated_plans_are_one, stated_plans_are_universal, stated_plans_have_distinct_atoms,
+    renamed_plans_are_one, stated_plans_are_one, stated_plans_are_universal,
+    stated_plans_have_distinct_atoms,
 };

@@ -1,9 +1,17 @@
-//! Laws of stated plans.
+//! Laws of plans under new names, and of stated plans.
+ghost use Rattle.esto_universal.specs.RenamedLaws.{RenamedPlanIsOne, RenamedPlanIsRenamed};
 ghost use Rattle.esto_universal.specs.StatedLaws.{StatedPlanIsOne, StatedAtomsAreDistinct};
 ghost use Rattle.esto_universal.specs.StatedLaws.{StatedPlanIsOfRows, StatedPlanReceivesUnions};
 ghost use Rattle.esto_universal.specs.StatedLaws.{StatedPlanIsUniversal};
 
 use esto_plan_laws::plans_receive_unions;
+
+/// A law: there is one plan of some rows and a head under new names. It is their query under a renaming of its terms that
+/// can be undone.
+pub fn renamed_plans_are_one()
+    ensures one { RenamedPlanIsOne }
+    ensures renamed { RenamedPlanIsRenamed }
+{}
 
 /// A law: there is one stated plan.
 pub fn stated_plans_are_one()

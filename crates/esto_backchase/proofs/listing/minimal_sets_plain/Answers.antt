@@ -24,7 +24,7 @@ returns-clause-listed c set =
     c.in_ok-answering.ensures.minimal in
     let listed = c.listed_sets_are_executable.ensures.executable rules views (patterns_of c.args.catalogue.now.fragments) query plan
     c.in_ok-answering.answering.sets told set in
-    let found = c.in_ok-found.ensures.minimal set in
+    let found = c.in_ok-listed.ensures.minimal set in
     (λ inside. listed.1 (found.0 inside), λ is_listed. found.1 (listed.0 is_listed))
 
 pub returns-clause-complete : goal.returns-clause-complete
@@ -39,6 +39,6 @@ returns-clause-complete c other rewriting =
     c.requires.satisfiable rewriting in (
       onto.0,
       onto.2,
-      minimal-cover (IsRewriting rules views patterns query plan) (length plan.body) (λ set is. is.has_candidate.over) c.in_ok-found.found.sets
+      minimal-cover (IsRewriting rules views patterns query plan) (length plan.body) (λ set is. is.has_candidate.over) c.in_ok-listed.listed.sets
           (returns-clause-listed c) onto.0 onto.1,
     )

@@ -1,0 +1,24 @@
+//! Codes of texts, rows of codes by columns, and what fragments give.
+#![tactic(auto)]
+
+mod codes;
+mod coding;
+mod fragment;
+mod index;
+mod keys;
+mod picks;
+mod rows;
+mod sorted;
+mod stored;
+mod table;
+
+pub use codes::Codes;
+pub use coding::code_rows;
+pub use fragment::{Fragment, Input, Inputs, Ways};
+pub use index::Index;
+pub use keys::Keys;
+pub use picks::{Picks, select};
+pub use rows::Rows;
+pub use sorted::sorted_texts;
+pub use stored::StoredRows;
+pub use table::Column;

@@ -1,0 +1,142 @@
+//! Rows of codes, with indexes.
+ghost use Rattle.std.specs.Prelude.{◌≡◌, ℕ, List, [], ◌∷◌, ◌++◌, ◌<◌, length, map, slice_get, slice_index_or, Some, Contains, IfOk, OnOk, OnErr, MatchOption, IsTrue};
+ghost use Rattle.esto_columns.specs.CodedRows.{CodedRows};
+ghost use Rattle.esto_columns.specs.Columns.{HaveLength};
+ghost use Rattle.esto_columns.specs.Indexed.{IsIndexOf, key_at, places_of_key};
+
+use crate::index::{Index, RowIndex};
+use crate::table::{Column, Table};
+use esto_term::{List, OutOfMemory, Places, Values};
+use std::alloc::Global;
+use std::marker::Model;
+
+/// Rows of codes, which contracts see as their arity and their list. They are kept by columns. Their indexes serve
+/// to find rows faster, and contracts don't see them.
+#[derive(Drop)]
+pub struct Rows {
+    table: Table,
+    indexes: List<RowIndex>,
+}
+
+impl Model for Rows {
+    ghost use Rattle.esto_columns.specs.CodedRows.{CodedRows};
+    ghost use Rattle.esto_columns.specs.RowIndexes.{AreIndexes};
+
+    ghost Value = { CodedRows };
+
+    ghost view = { λ it. it.table };
+
+    ghost invariant = { λ it. AreIndexes it.table.rows it.indexes };
+}
+
+/// The code of the row in the column; a column that is not there has the code 0.
+fn code_at(row: &[u64], column: usize) -> u64
+    ensures { result ≡ slice_index_or row.now column 0 }
+{
+    match row.get(column) {
+        Some(code) => *code,
+        None => 0,
+    }
+}
+
+/// The codes of the row in the columns.
+fn key_of(alloc: Global, columns: &[usize], row: &[u64]) -> Result<Values<u64>, OutOfMemory>
+    ensures { IfOk result (λ it. it ≡ key_at columns.now row.now) }
+{
+    let mut key = Values::new(alloc);
+    'columns: for column in columns {
+        key.push(code_at(row, *column))?;
+    }
+    Ok(key)
+}
+
+/// The index of the table's rows by the columns.
+fn indexed(alloc: Global, table: &Table, columns: &[usize]) -> Result<Index, OutOfMemory>
+    ensures { IfOk result (λ it. IsIndexOf it (map (key_at columns.now) table.now.rows)) }
+{
+    let mut index = Index::new(alloc);
+    'rows: for at in 0..table.len() {
+        let row = table.row(alloc, at)?;
+        let key = key_of(alloc, columns, row.items())?;
+        index.add(alloc, key.items())?;
+    }
+    Ok(index)
+}
+
+impl Rows {
+    /// No rows of the arity.
+    pub fn new(alloc: Global, arity: usize) -> Result<Rows, OutOfMemory>
+        ensures { IfOk result (λ it. it ≡ record { arity = arity; rows = [] }) }
+    {
+        let table = Table::new(alloc, arity)?;
+        Ok(Rows {
+            table,
+            indexes: List::new(alloc),
+        })
+    }
+
+    /// Puts a row at the end. The indexes are dropped.
+    pub fn add(&mut self, row: &[u64]) -> Result<(), OutOfMemory>
+        requires { length row.now ≡ self.old.arity }
+        ensures ok { OnOk result (self.new
+            ≡ record { arity = self.old.arity; rows = self.old.rows ++ row.now ∷ [] }) }
+        ensures err { OnErr result (self.new ≡ self.old) }
+    {
+        self.indexes.truncate(0);
+        self.table.add(row)
+    }
+
+    /// How many columns each row has.
+    pub fn arity(&self) -> usize
+        ensures value { result ≡ self.now.arity }
+        ensures fits { HaveLength self.now.arity self.now.rows }
+    {
+        self.table.arity()
+    }
+
+    /// How many rows there are.
+    pub fn len(&self) -> usize
+        ensures { result ≡ length self.now.rows }
+    {
+        self.table.len()
+    }
+
+    /// The column, which holds the codes of all rows there.
+    pub fn column(&self, column: usize) -> &Column
+        requires { column < self.now.arity }
+        ensures { result.now ≡ map (λ row. slice_index_or row column 0) self.now.rows }
+    {
+        self.table.column(column)
+    }
+
+    /// The row at a place.
+    pub fn row(&self, alloc: Global, at: usize) -> Result<Values<u64>, OutOfMemory>
+        requires { at < length self.now.rows }
+        ensures { IfOk result (λ row. slice_get self.now.rows at ≡ Some row) }
+    {
+        self.table.row(alloc, at)
+    }
+
+    /// Makes an index of the rows by the columns, which stays until a row is added.
+    pub fn index(&mut self, alloc: Global, columns: &[usize]) -> Result<(), OutOfMemory>
+        ensures { self.new ≡ self.old }
+    {
+        let index = indexed(alloc, &self.table, columns)?;
+        let columns = Places::from_slice(alloc, columns)?;
+        self.indexes.push(RowIndex { columns, index })
+    }
+
+    /// The places of the rows that hold the codes of the key in the columns, in rising order. `None` may come where
+    /// the rows have no index by these columns, in this order.
+    pub fn places(&self, columns: &[usize], key: &[u64]) -> Option<&[usize]>
+        ensures { MatchOption result Unit (λ places. places.now
+            ≡ places_of_key key.now (map (key_at columns.now) self.now.rows)) }
+    {
+        'indexes: for own in self.indexes.items() {
+            if own.columns.items() == columns {
+                return Some(own.index.places(key));
+            }
+        }
+        None
+    }
+}

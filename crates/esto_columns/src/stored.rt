@@ -1,0 +1,202 @@
+//! Fragments whose rows are stored.
+ghost use Rattle.std.specs.Prelude.{◌≡◌, ◌==◌, ◌<◌, ◌++◌, ◌∷◌, [], List, ℕ, length, map, slice_index_or, Contains, IfOk, OnOk};
+ghost use Rattle.std.specs.List.{filter};
+ghost use Rattle.esto_columns.specs.declared.fragment.Input.{Input};
+ghost use Rattle.esto_columns.specs.Asked.{holds_all};
+ghost use Rattle.esto_columns.specs.CodedRows.{CodedRows};
+ghost use Rattle.esto_columns.specs.Picked.{rows_at};
+
+use crate::fragment::{Fragment, Input, Inputs, Ways};
+use crate::picks::{Picks, select};
+use crate::rows::Rows;
+use esto_term::{OutOfMemory, Places, Values};
+use std::alloc::Global;
+
+/// Rows that are stored, with the ways in which they may be asked.
+#[derive(Drop)]
+pub struct StoredRows {
+    pub rows: Rows,
+    pub ways: Ways,
+}
+
+/// Whether the row holds at the column of the input its code.
+fn holds(row: &[u64], input: &Input) -> bool
+    requires { input.now.column < length row.now }
+    ensures { result ≡ (slice_index_or row.now input.now.column 0 == input.now.code) }
+{
+    input.column < row.len() && row[input.column] == input.code
+}
+
+/// Whether the row holds at the column of each input its code.
+fn holds_all(row: &[u64], inputs: &[Input]) -> bool
+    requires { (input : Input) → Contains inputs.now input → input.column < length row.now }
+    ensures { result ≡ holds_all inputs.now row.now }
+{
+    'inputs: for input in inputs {
+        if !holds(row, input) {
+            return false;
+        }
+    }
+    true
+}
+
+/// Puts the row at the place at the end of the others, if it holds the inputs.
+fn push_held(
+    alloc: Global,
+    rows: &Rows,
+    at: usize,
+    inputs: &[Input],
+    into: &mut Rows,
+) -> Result<(), OutOfMemory>
+    requires there { at < length rows.now.rows }
+    requires columns { (input : Input) → Contains inputs.now input → input.column < rows.now.arity }
+    requires arity { into.old.arity ≡ rows.now.arity }
+    ensures { OnOk result (into.new ≡ record {
+      arity = into.old.arity;
+      rows = into.old.rows
+          ++ filter (holds_all inputs.now) (slice_index_or rows.now.rows at [] ∷ []);
+    }) }
+{
+    let _arity = rows.arity();
+    let row = rows.row(alloc, at)?;
+    if !holds_all(row.items(), inputs) {
+        return Ok(());
+    }
+    into.add(row.items())
+}
+
+/// The rows that hold the inputs, by a look at each.
+fn scanned(alloc: Global, rows: &Rows, inputs: &[Input]) -> Result<Rows, OutOfMemory>
+    requires { (input : Input) → Contains inputs.now input → input.column < rows.now.arity }
+    ensures { IfOk result (λ it. it ≡ record {
+      arity = rows.now.arity;
+      rows = filter (holds_all inputs.now) rows.now.rows;
+    }) }
+{
+    let mut held = Rows::new(alloc, rows.arity())?;
+    'rows: for at in 0..rows.len() {
+        push_held(alloc, rows, at, inputs, &mut held)?;
+    }
+    Ok(held)
+}
+
+/// The rows at the places that hold the inputs.
+fn held_among(
+    alloc: Global,
+    rows: &Rows,
+    places: &[usize],
+    inputs: &[Input],
+) -> Result<Rows, OutOfMemory>
+    requires columns { (input : Input) → Contains inputs.now input → input.column < rows.now.arity }
+    requires places { (place : ℕ) → Contains places.now place → place < length rows.now.rows }
+    ensures { IfOk result (λ it. it ≡ record {
+      arity = rows.now.arity;
+      rows = filter (holds_all inputs.now) (rows_at rows.now.rows places.now);
+    }) }
+{
+    let mut held = Rows::new(alloc, rows.arity())?;
+    'places: for place in places {
+        push_held(alloc, rows, *place, inputs, &mut held)?;
+    }
+    Ok(held)
+}
+
+/// The rows that hold the inputs, by a look at those that hold the first.
+fn picked(alloc: Global, rows: &Rows, first: &Input, inputs: &[Input]) -> Result<Rows, OutOfMemory>
+    requires columns { (input : Input) → Contains inputs.now input → input.column < rows.now.arity }
+    requires first { Contains inputs.now first.now }
+    ensures { IfOk result (λ it. it ≡ record {
+      arity = rows.now.arity;
+      rows = filter (holds_all inputs.now) rows.now.rows;
+    }) }
+{
+    let mut picks = Picks::new(alloc);
+    picks.reserve(rows.len())?;
+    select(rows.column(first.column), first.code, &mut picks);
+    let held = held_among(alloc, rows, picks.items(), inputs)?;
+    Ok(held)
+}
+
+/// The columns of the inputs.
+fn columns_of(alloc: Global, inputs: &[Input]) -> Result<Places, OutOfMemory>
+    ensures { IfOk result (λ it. it ≡ map (λ input. input.column) inputs.now) }
+{
+    let mut columns = Places::new(alloc);
+    'inputs: for input in inputs {
+        columns.push(input.column)?;
+    }
+    Ok(columns)
+}
+
+/// The codes of the inputs.
+fn codes_of(alloc: Global, inputs: &[Input]) -> Result<Values<u64>, OutOfMemory>
+    ensures { IfOk result (λ it. it ≡ map (λ input. input.code) inputs.now) }
+{
+    let mut codes = Values::new(alloc);
+    'inputs: for input in inputs {
+        codes.push(input.code)?;
+    }
+    Ok(codes)
+}
+
+/// The rows that hold the inputs: by an index where there is one by their columns, else by a look at the column of
+/// the first.
+fn found(alloc: Global, rows: &Rows, inputs: &[Input]) -> Result<Rows, OutOfMemory>
+    requires { (input : Input) → Contains inputs.now input → input.column < rows.now.arity }
+    ensures { IfOk result (λ it. it ≡ record {
+      arity = rows.now.arity;
+      rows = filter (holds_all inputs.now) rows.now.rows;
+    }) }
+{
+    let columns = columns_of(alloc, inputs)?;
+    let codes = codes_of(alloc, inputs)?;
+    if let Some(places) = rows.places(columns.items(), codes.items()) {
+        return held_among(alloc, rows, places, inputs);
+    }
+    if inputs.is_empty() {
+        return scanned(alloc, rows, inputs);
+    }
+    picked(alloc, rows, &inputs[0], inputs)
+}
+
+/// Makes an index of the rows by the columns of each way that has some.
+fn index_ways(alloc: Global, rows: &mut Rows, ways: &Ways) -> Result<(), OutOfMemory>
+    ensures { rows.new ≡ rows.old }
+{
+    'ways: for way in ways.items() {
+        if !way.is_empty() {
+            rows.index(alloc, way.items())?;
+        }
+    }
+    Ok(())
+}
+
+impl StoredRows {
+    /// The rows with these ways, and an index of the rows for each way that has inputs: `get` then finds rows by the
+    /// codes of these inputs, in the way's order, without a look at the others.
+    pub fn new(alloc: Global, rows: Rows, ways: Ways) -> Result<StoredRows, OutOfMemory>
+        ensures { IfOk result (λ it. (it.rows ≡ rows) × (it.ways ≡ ways)) }
+    {
+        let mut rows = rows;
+        index_ways(alloc, &mut rows, &ways)?;
+        Ok(StoredRows { rows, ways })
+    }
+}
+
+impl Fragment for StoredRows {
+    ghost shape = { λ it. record { arity = it.rows.arity; ways = it.ways } };
+
+    ghost rows = { λ it. it.rows.rows };
+
+    fn arity(&self) -> usize {
+        self.rows.arity()
+    }
+
+    fn allowed(&self) -> &Ways {
+        &self.ways
+    }
+
+    fn get(&self, alloc: Global, inputs: &Inputs) -> Result<Rows, OutOfMemory> {
+        found(alloc, &self.rows, inputs.items())
+    }
+}

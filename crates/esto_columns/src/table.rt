@@ -1,0 +1,130 @@
+//! Tables of codes.
+ghost use Rattle.std.specs.Prelude.{◌≡◌, ℕ, List, [], ◌∷◌, ◌++◌, ◌<◌, length, map, slice_get, slice_index_or, Some, Contains, IfOk, OnOk, OnErr, IfErr, take};
+ghost use Rattle.esto_columns.specs.CodedRows.{CodedRows};
+ghost use Rattle.esto_columns.specs.Columns.{pushed, HaveLength};
+
+use esto_term::{List, OutOfMemory, Values};
+use std::alloc::Global;
+use std::marker::Model;
+
+/// A column: a code for each row.
+pub type Column = Values<u64>;
+
+/// Rows of codes, kept by columns, which contracts see as their arity and their list.
+#[derive(Drop)]
+pub(crate) struct Table {
+    columns: Vec<Column>,
+    count: usize,
+}
+
+impl Model for Table {
+    ghost use Rattle.std.specs.Prelude.{◌≡◌, length, map, Contains};
+    ghost use Rattle.esto_columns.specs.CodedRows.{CodedRows, rows_of};
+    ghost use Rattle.esto_columns.specs.Columns.{HaveLength};
+
+    ghost Value = { CodedRows };
+
+    ghost view = { λ it. record {
+      arity = length it.columns.items;
+      rows =
+          rows_of it.columns.items it.count;
+    } };
+
+    ghost invariant = { λ it. HaveLength it.count it.columns.items };
+}
+
+/// Puts the codes of a row at the ends of the columns, one each, as far as memory allows.
+fn push_codes(columns: &mut Vec<Column>, row: &[u64]) -> Result<(), OutOfMemory>
+    requires { length row.now ≡ length columns.old.items }
+    ensures ok { OnOk result
+        (columns.new.items ≡ pushed (length row.now) columns.old.items row.now) }
+    ensures err { OnErr result ((count : ℕ)
+        × (columns.new.items ≡ pushed count columns.old.items row.now)) }
+{
+    'codes: for (at, code) in row.iter().enumerate() {
+        let column = &mut columns[at];
+        column.push(*code)?;
+    }
+    Ok(())
+}
+
+/// Cuts each column to so many codes.
+fn cut(columns: &mut Vec<Column>, count: usize)
+    ensures { columns.new.items ≡ map (λ column. take count column) columns.old.items }
+{
+    'columns: for column in columns.iter_mut() {
+        column.truncate(count);
+    }
+}
+
+impl Table {
+    /// No rows of the arity.
+    pub(crate) fn new(alloc: Global, arity: usize) -> Result<Table, OutOfMemory>
+        ensures { IfOk result (λ it. it ≡ record { arity = arity; rows = [] }) }
+    {
+        let mut columns = Vec::new(alloc);
+        'columns: for _column in 0..arity {
+            let Ok(()) = columns.push(Values::new(alloc)) else {
+                return Err(OutOfMemory);
+            };
+        }
+        Ok(Table { columns, count: 0 })
+    }
+
+    /// Puts a row at the end.
+    pub(crate) fn add(&mut self, row: &[u64]) -> Result<(), OutOfMemory>
+        requires { length row.now ≡ self.old.arity }
+        ensures ok { OnOk result (self.new
+            ≡ record { arity = self.old.arity; rows = self.old.rows ++ row.now ∷ [] }) }
+        ensures err { OnErr result (self.new ≡ self.old) }
+    {
+        if self.count == usize::MAX {
+            return Err(OutOfMemory);
+        }
+        match push_codes(&mut self.columns, row) {
+            Ok(()) => {
+                self.count += 1;
+                Ok(())
+            }
+            Err(error) => {
+                cut(&mut self.columns, self.count);
+                Err(error)
+            }
+        }
+    }
+
+    /// How many columns each row has.
+    pub(crate) fn arity(&self) -> usize
+        ensures value { result ≡ self.now.arity }
+        ensures fits { HaveLength self.now.arity self.now.rows }
+    {
+        self.columns.len()
+    }
+
+    /// How many rows there are.
+    pub(crate) fn len(&self) -> usize
+        ensures { result ≡ length self.now.rows }
+    {
+        self.count
+    }
+
+    /// The column, which holds the codes of all rows there.
+    pub(crate) fn column(&self, column: usize) -> &Column
+        requires { column < self.now.arity }
+        ensures { result.now ≡ map (λ row. slice_index_or row column 0) self.now.rows }
+    {
+        &self.columns[column]
+    }
+
+    /// The row at a place.
+    pub(crate) fn row(&self, alloc: Global, at: usize) -> Result<Values<u64>, OutOfMemory>
+        requires { at < length self.now.rows }
+        ensures { IfOk result (λ row. slice_get self.now.rows at ≡ Some row) }
+    {
+        let mut row = Values::new(alloc);
+        'columns: for column in self.columns.as_slice() {
+            row.push(column.item(at))?;
+        }
+        Ok(row)
+    }
+}

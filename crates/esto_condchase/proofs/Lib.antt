@@ -1,0 +1,5 @@
+pub mod MeetLemmas
+pub mod CoverLemmas
+pub mod WayLemmas
+pub mod RoundLemmas
+pub mod LoopLemmas

@@ -1,0 +1,152 @@
+-- The turns of the loop, and its end.
+use Rattle.std.proofs.Common.{◌≡◌, ◌⊎◌, ◌↔◌, ◌<◌, ◌≤◌, ◌+◌, ◌-◌, inl, inr, ℕ, Bool, false, List, [], ◌∷◌, ◌++◌, length, take, get_or, Contains, refl, sym, ap, ◌∙◌, subst, arith, length-append}
+use Rattle.std.specs.Prelude.{replicate, slice_set, true}
+use Rattle.std.proofs.lemmas.List.{length-set}
+use Rattle.esto_constraint.specs.Constraints.{rules_of}
+use Rattle.esto_constraint.specs.declared.rule.Constraint.{Constraint}
+use Rattle.std.proofs.lemmas.List.{take_all, append-nil, length-replicate}
+use Rattle.std.proofs.lemmas.List.Elements.{Contains-append_cases, Contains-append_left, Contains-push_cases}
+use Rattle.esto_bits.proofs.SetLemmas.{Has-replicate}
+use Rattle.esto_semantics.specs.Rules.{Rule}
+use Rattle.esto_semantics.specs.Sets.{Has}
+use Rattle.esto_semantics.specs.declared.fact.Fact.{Fact}
+use Rattle.esto_term.specs.declared.term.Term.{Term}
+use Rattle.esto_term.proofs.ListLemmas.{Contains-nil}
+use Rattle.esto_views.specs.declared.expansion.ExpandedFact.{ExpandedFact}
+use Rattle.esto_world_laws.specs.Worlds.{InWorld}
+use Rattle.esto_world_laws.specs.Steps.{AreAnswered, AreJoined}
+use Rattle.esto_world_laws.specs.Derived.{AreDerived}
+use Rattle.esto_semantics.specs.Maps.{AreFlat}
+use Rattle.esto_semantics.specs.Rules.{AreRules}
+use Rattle.esto_term.specs.Nesting.{greatest_u64}
+use Rattle.esto_chase_laws.specs.Bounds.{RanksRise}
+use Rattle.esto_views.specs.Expanded.{facts_of}
+use Rattle.esto_world_laws.specs.Bounds.{most_entries}
+use Rattle.esto_world_laws.specs.Laws.{AreGiven, DerivedEntriesAreFew}
+use Rattle.esto_world_laws.specs.declared.entry.Claim.TheVariants.{Fact as Stated}
+use Rattle.esto_world_laws.specs.declared.entry.Reason.TheVariants.{Expanded}
+use Rattle.esto_world_laws.specs.declared.entry.Entry.{Entry}
+use Rattle.esto_world_laws.proofs.GrowLemmas.{InWorld-more, AreDerived-push}
+use Rattle.esto_world_laws.specs.Worlds.{AreOfCount}
+use Rattle.esto_condchase.specs.Rounds.{IsAdded, Grows}
+use Rattle.esto_condchase.proofs.MeetLemmas.{take-item}
+use Rattle.esto_condchase.proofs.CoverLemmas.{added-IsThere}
+
+pub one_number : (old new : List Bool) (count atom : ℕ) → old ≡ replicate count false → ((number : ℕ) → Has new number ↔ ((number ≡ atom) ⊎ Has old number))
+    → (number : ℕ) → Has new number ↔ (number ≡ atom)
+one_number old new count atom is has number = (
+  (λ in_new. elim ((has number).0 in_new) [ inl is_atom ↦ is_atom | inr before ↦ absurd (Has-replicate count number (subst (λ it. Has it number) is before)) ]),
+  (λ is_atom. (has number).1 (inl is_atom)),
+)
+
+pub set_length : (old new : List Bool) (count atom : ℕ) → old ≡ replicate count false → new ≡ slice_set old atom true → length new ≡ count
+set_length old new count atom is set = ap length set ∙ length-set old atom true ∙ ap length is ∙ length-replicate count false
+
+pub rules_same : (count : ℕ) (its rules : List Constraint) (items more : List Entry) → its ≡ rules → Grows (rules_of its) count items [] more
+    → Grows (rules_of rules) count items [] more
+rules_same count its rules items more same grows = subst (λ it. Grows (rules_of it) count items [] more) same grows
+
+pub answered_same : (its rules : List Constraint) (old new : List Entry) → its ≡ rules → AreAnswered (rules_of its) old new
+    → AreAnswered (rules_of rules) old new
+answered_same its rules old new same answered = subst (λ it. AreAnswered (rules_of it) old new) same answered
+
+-- the entries of the expanded facts so far
+pub record GivenSoFar (facts : List ExpandedFact) (count place : ℕ) (entries : List Entry) : Type 0 where
+  pub derived : (rules : List Rule) → AreDerived facts rules entries
+  pub counted : AreOfCount count entries
+  pub given : AreGiven (take place facts) entries
+
+pub given_none : (facts : List ExpandedFact) (count : ℕ) (entries : List Entry) → entries ≡ [] → GivenSoFar facts count 0 entries
+given_none facts count entries none = rw none record {
+  derived = λ rules place entry at. absurd (cc);
+  counted = λ entry inside. absurd (Contains-nil entry inside);
+  given = λ fact inside. absurd (Contains-nil fact inside);
+}
+
+pub given_turn : (facts : List ExpandedFact) (count place : ℕ) (fact : ExpandedFact) (entries later : List Entry) (it : Fact Term) (product : List Bool)
+    → place < length facts → fact ≡ get_or facts place fact → it ≡ fact.fact → length product ≡ count
+    → ((number : ℕ) → Has product number ↔ (number ≡ fact.atom)) → IsAdded [] entries (Stated it) product (Expanded fact.atom fact.place) later
+    → GivenSoFar facts count place entries → GivenSoFar facts count (place + 1) later
+given_turn facts count place fact entries later it product within is it_is counted has added so_far = record {
+  derived = λ rules. elim added [
+    | inl same ↦ subst (AreDerived facts rules) (sym same.1) (so_far.derived rules)
+    | inr new ↦ subst (AreDerived facts rules) (sym new.1) (AreDerived-push facts rules entries entry_of (so_far.derived rules)
+        (record { follows = (fact, (place, within, sym is), refl, refl, ap Stated it_is, has); uncovered = new.0 }))
+  ];
+  counted = elim added [
+    | inl same ↦ subst (AreOfCount count) (sym same.1) so_far.counted
+    | inr new ↦ subst (AreOfCount count) (sym new.1) (λ entry inside. elim
+        (Contains-push_cases entries entry_of entry inside) [
+          | inl earlier ↦ so_far.counted entry earlier
+          | inr same ↦ subst (λ (its : Entry). length its.product
+              ≡ count) same counted
+        ])
+  ];
+  given = λ other inside atoms in_atoms. elim (Contains-push_cases (take place facts) fact other
+      (subst (λ its. Contains its other) (take-item facts place fact within is) inside)) [
+        | inl earlier ↦ InWorld-more entries later atoms kept (Stated other.fact) (so_far.given other earlier atoms in_atoms)
+        | inr same ↦
+            let here : InWorld later atoms (Stated it) =
+            added-IsThere [] count [] entries later (Stated it) product (Expanded fact.atom fact.place) counted added atoms
+            (λ number in_product. subst (Has atoms) (sym ((has number).0 in_product))
+            (subst (λ (its : ExpandedFact). Has atoms its.atom) (sym same) in_atoms)) in
+            subst (λ its. InWorld later atoms (Stated its)) (it_is ∙ ap (λ (its : ExpandedFact). its.fact) same) here
+      ];
+}
+  where
+    entry_of : Entry
+    entry_of = record { claim = Stated it; product = product; reason = Expanded fact.atom fact.place }
+
+    kept : (entry : Entry) → Contains entries entry → Contains later entry
+    kept entry inside = elim added [
+      | inl same ↦ subst (λ its. Contains its entry) (sym same.1) inside
+      | inr new ↦ subst (λ its. Contains its entry) (sym new.1) (Contains-append_left entries (entry_of ∷ []) entry inside)
+    ]
+
+pub given_all : (facts : List ExpandedFact) (place : ℕ) (entries : List Entry) → length facts ≤ place → AreGiven (take place facts) entries
+    → AreGiven facts entries
+given_all facts place entries past given = subst (λ it. AreGiven it entries) (take_all place facts past) given
+
+-- ---- rounds
+
+module _ (facts : List ExpandedFact) (rules : List Rule) (count : ℕ) (entries items more : List Entry) (same : items ≡ entries)
+    (grows : Grows rules count items [] more) where
+  grown : Grows rules count entries [] more
+  grown = subst (λ it. Grows rules count it [] more) same grows
+
+  module _ (later : List Entry) (is : later ≡ entries ++ more) where
+    pub turn_derived : AreDerived facts rules entries → AreDerived facts rules later
+    turn_derived derived = subst (AreDerived facts rules) (sym is) (grown.derived facts (subst (AreDerived facts rules) (sym (append-nil entries)) derived))
+
+    pub turn_counted : AreOfCount count entries → AreOfCount count later
+    turn_counted counted = subst (AreOfCount count) (sym is) (λ entry inside. elim (Contains-append_cases entries more entry inside) [
+      | inl here ↦ counted entry here
+      | inr last ↦ grown.counted (λ other none. absurd (Contains-nil other none)) entry last
+    ])
+
+    pub turn_given : AreGiven facts entries → AreGiven facts later
+    turn_given given = subst (AreGiven facts) (sym is) (λ fact inside atoms has. InWorld-more entries (entries ++ more) atoms
+        (λ entry in_entries. Contains-append_left entries more entry in_entries) (Stated fact.fact) (given fact inside atoms has))
+
+    -- an entry more is a pair less
+    pub turn_falls : DerivedEntriesAreFew → (rank : ℕ → ℕ) (depth : ℕ) → AreRules rules → AreFlat (facts_of facts) → RanksRise rules rank
+        → ((relation : ℕ) → rank relation ≤ depth) → depth < greatest_u64 → AreDerived facts rules entries → AreOfCount count entries
+        → (length more ≡ 0 → ⊥)
+        → most_entries rules (facts_of facts) depth count - length later < most_entries rules (facts_of facts) depth count - length entries
+    turn_falls few rank depth sound flat rise low deep derived counted some =
+        let bound = few facts rules later rank depth count sound flat rise low deep (turn_derived derived) (turn_counted counted) in
+        omega (arith, bound, ap length is, length-append entries more, some)
+
+-- where a round adds nothing, all that is asked for is there
+nothing : (more : List Entry) → length more ≡ 0 → more ≡ []
+nothing [] l = refl
+nothing (first ∷ rest) l = absurd (omega (arith, l))
+
+pub end_answered : (rules : List Rule) (entries items more : List Entry) → items ≡ entries → length more ≡ 0 → AreAnswered rules items (items ++ more)
+    → AreAnswered rules entries entries
+end_answered rules entries items more same none answered = subst (AreAnswered rules entries) (append-nil entries)
+    (subst (λ it. AreAnswered rules entries (entries ++ it)) (nothing more none) (subst (λ it. AreAnswered rules it (it ++ more)) same answered))
+
+pub end_joined : (entries items more : List Entry) → items ≡ entries → length more ≡ 0 → AreJoined items (items ++ more) → AreJoined entries entries
+end_joined entries items more same none joined = subst (AreJoined entries) (append-nil entries)
+    (subst (λ it. AreJoined entries (entries ++ it)) (nothing more none) (subst (λ it. AreJoined it (it ++ more)) same joined))

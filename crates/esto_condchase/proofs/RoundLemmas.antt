@@ -1,0 +1,386 @@
+-- What a round adds, step by step.
+use Rattle.std.proofs.Common.{◌≡◌, ◌⊎◌, ◌↔◌, ◌<◌, ◌≤◌, ◌+◌, inl, inr, ℕ, Bool, List, [], ◌∷◌, ◌++◌, length, map, take, get_or, slice_get, Contains, Some, refl, sym, ap, ◌∙◌, subst, arith}
+use Rattle.std.specs.List.{AllZip}
+use Rattle.std.proofs.lemmas.Bool.{cases_order}
+use Rattle.std.proofs.lemmas.List.{take_all}
+use Rattle.std.proofs.lemmas.List.Elements.{Contains-append_cases, Contains-append_left, Contains-append_right, Contains-push_cases}
+use Rattle.std.proofs.lemmas.Option.{slice_get_within}
+use Rattle.esto_term.specs.declared.term.Term.{Term}
+use Rattle.esto_semantics.specs.Facts.{image, terms_of}
+use Rattle.esto_semantics.specs.Rules.{Rule, tuple, denial, body_of}
+use Rattle.esto_semantics.specs.Sets.{Has, Within, united}
+use Rattle.esto_semantics.specs.declared.fact.Fact.{Fact}
+use Rattle.esto_term.proofs.ListLemmas.{Contains-nil, Contains-head, Contains-rest, Contains-cases, Contains-at}
+use Rattle.esto_term.proofs.ListLemmas.{map_at}
+use Rattle.esto_semantics.proofs.SetLemmas.{has_united, length-united}
+use Rattle.esto_constraint.specs.Constraints.{rule_of, rules_of}
+use Rattle.esto_constraint.specs.declared.rule.Constraint.{Constraint}
+use Rattle.esto_views.specs.declared.expansion.ExpandedFact.{ExpandedFact}
+use Rattle.esto_world_laws.specs.Worlds.{InWorld, Linked}
+use Rattle.esto_world_laws.specs.Matches.{taken, Touching, AreChosen, match_map}
+use Rattle.esto_chase_laws.specs.Making.{frontier, extended}
+use Rattle.esto_world_laws.specs.Steps.{IsAsked, AreAnswered, AreJoined}
+use Rattle.esto_world_laws.specs.Derived.{Claims, IsNamed, IsUnion, FollowsBy, Follows}
+use Rattle.esto_world_laws.specs.declared.entry.Claim.{Claim}
+use Rattle.esto_world_laws.specs.declared.entry.Claim.TheVariants.{Fact as Stated, Same}
+use Rattle.esto_world_laws.specs.declared.entry.Reason.TheVariants.{Step, Equal}
+use Rattle.esto_world_laws.specs.declared.entry.Entry.{Entry}
+use Rattle.esto_world_laws.proofs.LinkLemmas.{Linked-touching, Touching-more, zip_weaker}
+use Rattle.esto_world_laws.proofs.GrowLemmas.{InWorld-more, IsCovered-more, Follows-append}
+use Rattle.esto_world_laws.specs.Worlds.{AreOfCount}
+use Rattle.esto_condchase.specs.Ways.{Links, IsFound, AreFound}
+use Rattle.esto_condchase.specs.Rounds.{IsAdded, IsThere, Grows, made_of, IsAnswered, IsRuleAnswered, LinksAt, IsPairJoined}
+use Rattle.esto_condchase.specs.declared.ways.Way.{Way}
+use Rattle.esto_condchase.proofs.MeetLemmas.{take-item}
+use Rattle.esto_condchase.proofs.WayLemmas.{IsUnion-more}
+use Rattle.esto_condchase.proofs.CoverLemmas.{IsThere-grows, Grows-then, added-Grows, added-IsThere}
+
+-- ---- what a rule asks for follows
+
+chosen_named : (entries : List Entry) (all facts : List ℕ) (body chosen : List (Fact Term)) → ((place : ℕ) → Contains facts place → Contains all place)
+    → AllZip (λ (place : ℕ) (fact : Fact Term). Claims entries place (Stated fact)) facts chosen
+    → AllZip (λ (atom : Fact Term) (fact : Fact Term). (fact.relation ≡ atom.relation) × (length fact.terms ≡ length atom.terms)) body chosen
+    → AreChosen (IsNamed entries all) body chosen
+chosen_named entries all facts [] [] among stated alike = tt
+chosen_named entries all facts [] (fact ∷ chosen) among stated alike = absurd alike
+chosen_named entries all facts (atom ∷ body) [] among stated alike = absurd alike
+chosen_named entries all [] (atom ∷ body) (fact ∷ chosen) among stated alike = absurd stated
+chosen_named entries all (place ∷ facts) (atom ∷ body) (fact ∷ chosen) among stated alike = (
+  ((place, among place (Contains-head place facts), stated.0), alike.0.0, alike.0.1),
+  chosen_named entries all facts body chosen (λ other inside. among other (Contains-rest place facts other inside)) stated.1 alike.1,
+)
+
+module _ (entries : List Entry) (number : ℕ) (rule : Rule) (way : Way) (found : IsFound entries (body_of rule) way) where
+  abbrev places : List ℕ
+  places = way.facts ++ way.links
+
+  linked_places : (c : Claim) → IsNamed entries way.links c → IsNamed entries places c
+  linked_places c (place, inside, claims) = (place, Contains-append_right way.facts way.links place inside, claims)
+
+  follows_found : (claim : Claim) → IsAsked number rule (taken (terms_of (body_of rule)) way.to) claim → FollowsBy entries number rule places claim
+  follows_found claim asked = record {
+    facts = way.facts;
+    links = way.links;
+    in_order = refl;
+    chosen = found.chosen;
+    stated = found.stated;
+    equalities = found.is_way.equalities;
+    matches = (
+      chosen_named entries places way.facts (body_of rule) found.chosen (λ place inside. Contains-append_left way.facts way.links place inside) found.stated
+          found.alike,
+      zip_weaker (Touching (IsNamed entries way.links)) (Linked (IsNamed entries places)) (terms_of found.chosen)
+          (map (match_map (body_of rule) found.chosen) (terms_of (body_of rule)))
+          (λ s t _ one. Linked-touching s t (Touching-more linked_places s t one)) found.is_way.fits,
+    );
+    asked = subst (λ it. IsAsked number rule (taken (terms_of (body_of rule)) it) claim) found.is_way.to_is asked;
+  }
+
+  module _ (rules : List Rule) (at : slice_get rules number ≡ Some rule) (more : List Entry) (claim : Claim)
+      (asked : IsAsked number rule (taken (terms_of (body_of rule)) way.to) claim) where
+    pub asked_follows : (expanded : List ExpandedFact) → Follows expanded rules (entries ++ more) claim way.product (Step number places)
+    asked_follows expanded = Follows-append entries more expanded rules claim way.product (Step number places)
+        (rule, at, follows_found claim asked, found.is_way.union)
+
+    pub asked_Grows : (later : List Entry) → IsAdded entries more claim way.product (Step number places) later
+        → Grows rules (length way.product) entries more later
+    asked_Grows later added = added-Grows rules (length way.product) entries more later claim way.product (Step number places) refl added asked_follows
+
+    pub asked_IsThere : (later : List Entry) → IsAdded entries more claim way.product (Step number places) later → IsThere (entries ++ later) claim way.product
+    asked_IsThere later added = added-IsThere rules (length way.product) entries more later claim way.product (Step number places) refl added
+
+pub side_is : (its_from from terms its_to to : List Term) (term it : Term) → its_from ≡ from → from ≡ terms → its_to ≡ to → it ≡ taken its_from its_to term → it
+    ≡ taken terms to term
+side_is its_from from terms its_to to term it same from_is same_to is = is ∙ (λ i. taken ((same ∙ from_is) i) (same_to i) term)
+
+pub made_is : (number : ℕ) (body head : List (Fact Term)) (its_from from its_to to values shared its_shared its_from_2 its_to_2 : List Term)
+    (atom fact : Fact Term) → its_from ≡ from → from ≡ terms_of body → its_to ≡ to → its_from_2 ≡ from → its_to_2 ≡ to
+    → its_shared ≡ shared → shared ≡ frontier body head → values ≡ map (taken its_from its_to) its_shared → fact
+    ≡ image (made_of number its_from_2 its_to_2 values) atom → fact ≡ image (extended number body head (taken (terms_of body) to)) atom
+made_is number body head its_from from its_to to values shared its_shared its_from_2 its_to_2 atom fact same from_is same_to same_2 same_to_2 same_shared
+    shared_is values_are is =
+    let values_is : values ≡ map (taken (terms_of body) to) (frontier body head) = values_are
+    ∙ (λ i. map (taken ((same ∙ from_is) i) (same_to i)) ((same_shared ∙ shared_is) i)) in
+    is ∙ (λ i. image (made_of number ((same_2 ∙ from_is) i) (same_to_2 i) (values_is i)) atom)
+
+-- one atom of a head more
+module _ (rules : List Rule) (number : ℕ) (body head : List (Fact Term)) (at : slice_get rules number ≡ Some (tuple body head)) (entries : List Entry)
+    (way : Way) (found : IsFound entries body way) where
+  abbrev m : Term → Term
+  m = extended number body head (taken (terms_of body) way.to)
+
+  abbrev AreThere : List Entry → List (Fact Term) → Type 0
+  AreThere more atoms = (atom : Fact Term) → Contains atoms atom → IsThere (entries ++ more) (Stated (image m atom)) way.product
+
+  pub head_turn : (items : List (Fact Term)) (place : ℕ) (atom fact : Fact Term) (first more later : List Entry) → items ≡ head → place < length items → atom
+      ≡ get_or items place atom → fact ≡ image m atom
+      → IsAdded entries more (Stated fact) way.product (Step number (way.facts ++ way.links)) later → Grows rules (length way.product) entries first more
+      → AreThere more (take place items)
+      → Grows rules (length way.product) entries first later × AreThere later (take (place + 1) items)
+  head_turn items place atom fact first more later items_are within is fact_is added grows there =
+      let in_head : Contains head atom = subst (λ it. Contains it atom) items_are (place, within, sym is) in
+      let its : IsAdded entries more (Stated (image m atom)) way.product (Step number (way.facts ++ way.links)) later =
+      subst (λ it. IsAdded entries more (Stated it) way.product (Step number (way.facts ++ way.links)) later) fact_is added in
+      let asked : IsAsked number (tuple body head) (taken (terms_of body) way.to) (Stated (image m atom)) = (atom, in_head, refl) in
+      let step = asked_Grows entries number (tuple body head) way found rules at more (Stated (image m atom)) asked later its in (
+        Grows-then rules (length way.product) entries first more later grows step,
+        rw (take-item items place atom within is) (λ other inside. elim (Contains-push_cases (take place items) atom other inside) [
+          | inl earlier ↦ IsThere-grows entries more later step.kept (Stated (image m other)) way.product (there other earlier)
+          | inr same ↦ subst (λ it. IsThere (entries ++ later) (Stated (image m it)) way.product) same
+              (asked_IsThere entries number (tuple body head) way found rules at more (Stated (image m atom)) asked later its)
+        ]),
+      )
+
+  pub head_all : (items : List (Fact Term)) (place : ℕ) (more : List Entry) → items ≡ head → length items ≤ place → AreThere more (take place items)
+      → IsAnswered (entries ++ more) number (tuple body head) way
+  head_all items place more items_are past there claim (atom, inside, is) =
+      subst (λ it. IsThere (entries ++ more) it way.product) (sym is) (there atom
+      (rw (take_all place items past) (subst (λ it. Contains it atom) (sym items_are) inside)))
+
+-- ---- all ways of a rule
+
+pub IsAnswered-grows : (entries more later : List Entry) (number : ℕ) (rule : Rule) (way : Way) → ((entry : Entry) → Contains more entry → Contains later entry)
+    → IsAnswered (entries ++ more) number rule way → IsAnswered (entries ++ later) number rule way
+IsAnswered-grows entries more later number rule way kept answered claim asked = IsThere-grows entries more later kept claim way.product (answered claim asked)
+
+module _ (rules : List Rule) (count : ℕ) (entries : List Entry) (number : ℕ) (rule : Rule) (ways items : List Way) (items_are : items ≡ ways) where
+  pub ways_turn : (place : ℕ) (way : Way) (first more later : List Entry) → place < length items → way ≡ get_or items place way → length way.product ≡ count
+      → Grows rules count entries first more
+      → ((its : Way) → Contains (take place items) its → IsAnswered (entries ++ more) number rule its) → Grows rules (length way.product) entries more later
+      → IsAnswered (entries ++ later) number rule way
+      → Grows rules count entries first later × ((its : Way) → Contains (take (place + 1) items) its → IsAnswered (entries ++ later) number rule its)
+  ways_turn place way first more later within is counted grows answered step here =
+      let step_count : Grows rules count entries more later = subst (λ it. Grows rules it entries more later) counted step in (
+        Grows-then rules count entries first more later grows step_count,
+        rw (take-item items place way within is) (λ its inside. elim (Contains-push_cases (take place items) way its inside) [
+          | inl earlier ↦ IsAnswered-grows entries more later number rule its step.kept (answered its earlier)
+          | inr same ↦ subst (IsAnswered (entries ++ later) number rule) same here
+        ]),
+      )
+
+  pub ways_all : (place : ℕ) (new : List Entry) → length items ≤ place → AreFound entries (body_of rule) ways
+      → ((its : Way) → Contains (take place items) its → IsAnswered new number rule its) → IsRuleAnswered entries new number rule
+  ways_all place new past found answered atoms chosen matches claim asked =
+      let way = found.complete atoms chosen matches in
+      let inside : Contains (take place items) way.0 = rw (take_all place items past) (subst (λ it. Contains it way.0) (sym items_are) way.1) in
+      answered way.0 inside claim (subst (λ it. IsAsked number rule (taken (terms_of (body_of rule)) it) claim) (sym way.2) asked) atoms way.3
+
+-- ---- all rules
+
+among_more : (entries more later : List Entry) → ((entry : Entry) → Contains more entry → Contains later entry) → (entry : Entry)
+    → Contains (entries ++ more) entry → Contains (entries ++ later) entry
+among_more entries more later kept entry inside = elim (Contains-append_cases entries more entry inside) [
+  | inl here ↦ Contains-append_left entries later entry here
+  | inr last ↦ Contains-append_right entries later entry (kept entry last)
+]
+
+pub IsRuleAnswered-grows : (old entries more later : List Entry) (number : ℕ) (rule : Rule) → ((entry : Entry) → Contains more entry → Contains later entry)
+    → IsRuleAnswered old (entries ++ more) number rule → IsRuleAnswered old (entries ++ later) number rule
+IsRuleAnswered-grows old entries more later number rule kept answered atoms chosen matches claim asked =
+    IsCovered-more (InWorld-more (entries ++ more) (entries ++ later) atoms (among_more entries more later kept)) claim
+    (answered atoms chosen matches claim asked)
+
+pub rule_at : (rules : List Constraint) (place : ℕ) (rule : Constraint) → slice_get rules place ≡ Some rule → slice_get (rules_of rules) place
+    ≡ Some (rule_of rule)
+rule_at rules place rule at = map_at rule_of rules place rule at
+
+-- a denial asks for nothing
+pub IsRuleAnswered-denial : (old new : List Entry) (number : ℕ) (body : List (Fact Term)) → IsRuleAnswered old new number (denial body)
+IsRuleAnswered-denial old new number body atoms chosen matches claim asked = absurd asked
+
+pub rules_turn : (rules : List Rule) (count : ℕ) (entries more later : List Entry) (place : ℕ) (rule : Rule) → slice_get rules place ≡ Some rule
+    → Grows rules count entries [] more
+    → ((number : ℕ) (its : Rule) → number < place → slice_get rules number ≡ Some its → IsRuleAnswered entries (entries ++ more) number its)
+    → Grows rules count entries more later → IsRuleAnswered entries (entries ++ later) place rule
+    → Grows rules count entries [] later × ((number : ℕ) (its : Rule) → number < place + 1 → slice_get rules number ≡ Some its
+    → IsRuleAnswered entries (entries ++ later) number its)
+rules_turn rules count entries more later place rule at grows answered step here = (
+  Grows-then rules count entries [] more later grows step,
+  (λ number its below at_its. elim (cases_order number place) [
+    | inl is ↦
+        let both : Some rule ≡ Some its = sym at ∙ ap (slice_get rules) (sym is) ∙ at_its in
+        let same : rule ≡ its = cc in
+        subst (λ it. IsRuleAnswered entries (entries ++ later) it its) (sym is) (subst (IsRuleAnswered entries (entries ++ later) place) same here)
+    | inr apart ↦ elim apart [
+      | inl lower ↦ IsRuleAnswered-grows entries entries more later number its step.kept (answered number its lower at_its)
+      | inr above ↦ absurd (omega (arith, below, above))
+    ]
+  ]),
+)
+
+pub rules_all : (rules : List Rule) (entries new : List Entry) (place : ℕ) → length rules ≤ place
+    → ((number : ℕ) (its : Rule) → number < place → slice_get rules number ≡ Some its → IsRuleAnswered entries new number its) → AreAnswered rules entries new
+rules_all rules entries new place past answered atoms number rule at chosen matches claim asked =
+    answered number rule (let below = slice_get_within rules number rule at in omega (arith, below, past)) at atoms chosen matches claim asked
+
+-- ---- links
+
+one_place : (entries : List Entry) (place : ℕ) (entry : Entry) → slice_get entries place ≡ Some entry → IsUnion entries (place ∷ []) entry.product
+one_place entries place entry at = record {
+  there = λ other inside. elim (Contains-cases place [] other inside) [
+    | inl is ↦ subst (λ it. it < length entries) is (slice_get_within entries place entry at)
+    | inr none ↦ absurd (Contains-nil other none)
+  ];
+  exact = λ number. (
+    (λ has. (place, entry, Contains-head place [], at, has)),
+    (λ (other, its, inside, at_other, has). elim (Contains-cases place [] other inside) [
+      | inl is ↦ (let both : Some entry ≡ Some its = sym at ∙ ap (slice_get entries) is ∙ at_other in let same : its ≡ entry = cc in
+          subst (λ (it : Entry). Has it.product number) same has)
+      | inr none ↦ absurd (Contains-nil other none)
+    ]),
+  );
+}
+
+two_more : (first second other : ℕ) → Contains (first ∷ second ∷ []) other ↔ (Contains (first ∷ []) other ⊎ (second ≡ other))
+two_more first second other = (
+  (λ inside. elim (Contains-cases first (second ∷ []) other inside) [
+    | inl is ↦ inl (subst (Contains (first ∷ [])) is (Contains-head first []))
+    | inr later ↦ elim (Contains-cases second [] other later) [ inl is ↦ inr is | inr none ↦ absurd (Contains-nil other none) ]
+  ]),
+  (λ which. elim which [
+    | inl inside ↦ elim (Contains-cases first [] other inside) [
+      | inl is ↦ subst (Contains (first ∷ second ∷ [])) is (Contains-head first (second ∷ []))
+      | inr none ↦ absurd (Contains-nil other none)
+    ]
+    | inr is ↦ Contains-rest first (second ∷ []) other (subst (Contains (second ∷ [])) is (Contains-head second []))
+  ]),
+)
+
+module _ (entries : List Entry) (first second : ℕ) (x y : Entry) (term next other : Term) (links : LinksAt entries first x term next)
+    (links_on : LinksAt entries second y next other) (more later : List Entry) where
+  claims_of : (place : ℕ) (entry : Entry) (s t : Term) → LinksAt entries place entry s t → Claims entries place (Same s t) ⊎ Claims entries place (Same t s)
+  claims_of place entry s t (at, inl is) = inl (entry, at, is)
+  claims_of place entry s t (at, inr is) = inr (entry, at, is)
+
+  joined_follows : (rules : List Rule) (expanded : List ExpandedFact) → Follows expanded rules entries (Same term other) (united x.product y.product)
+      (Equal (first ∷ second ∷ []))
+  joined_follows rules expanded = (
+    (λ is. let bad : first ∷ second ∷ [] ≡ [] = is in cc),
+    term,
+    other,
+    refl,
+    (next, claims_of first x term next links, (other, claims_of second y next other links_on, refl)),
+    IsUnion-more entries (first ∷ []) (first ∷ second ∷ []) x.product second y links_on.0 (two_more first second) (one_place entries first x links.0),
+  )
+
+  module _ (count : ℕ) (counted : length (united x.product y.product) ≡ count) (its_term its_other : Term) (product : List Bool) (named : List ℕ)
+      (term_is : its_term ≡ term) (other_is : its_other ≡ other)
+      (product_is : product ≡ united x.product y.product) (named_are : named ≡ first ∷ second ∷ [])
+      (added : IsAdded entries more (Same its_term its_other) product (Equal named) later) where
+    its : IsAdded entries more (Same term other) (united x.product y.product) (Equal (first ∷ second ∷ [])) later
+    its = subst (λ it. IsAdded entries more (Same it other) (united x.product y.product) (Equal (first ∷ second ∷ [])) later) term_is
+        (subst (λ it. IsAdded entries more (Same its_term it) (united x.product y.product) (Equal (first ∷ second ∷ [])) later) other_is
+        (subst (λ it. IsAdded entries more (Same its_term its_other) it (Equal (first ∷ second ∷ [])) later) product_is
+        (subst (λ it. IsAdded entries more (Same its_term its_other) product (Equal it) later) named_are added)))
+
+    pub joined_Grows : (rules : List Rule) → Grows rules count entries more later
+    joined_Grows rules = added-Grows rules count entries more later (Same term other) (united x.product y.product) (Equal (first ∷ second ∷ [])) counted its
+        (λ expanded. Follows-append entries more expanded rules (Same term other) (united x.product y.product) (Equal (first ∷ second ∷ []))
+        (joined_follows rules expanded))
+
+    pub joined_IsThere : IsThere (entries ++ later) (Same term other) (united x.product y.product)
+    joined_IsThere = added-IsThere [] count entries more later (Same term other) (united x.product y.product) (Equal (first ∷ second ∷ [])) counted its
+
+pub joined_count : (entries : List Entry) (count first second : ℕ) (x y : Entry) → AreOfCount count entries → slice_get entries first ≡ Some x
+    → slice_get entries second ≡ Some y → (length x.product ≡ length y.product) × (length (united x.product y.product) ≡ count)
+joined_count entries count first second x y counts at at_other =
+    let one = counts x (Contains-at entries first x at) in
+    let two = counts y (Contains-at entries second y at_other) in
+    (one ∙ sym two, length-united x.product y.product (one ∙ sym two) ∙ one)
+
+-- two entries: each of the four ways to meet
+pub pair_joined : (entries one two three four : List Entry) (x y : Entry) (left right other_left other_right : Term) → x.claim ≡ Same left right → y.claim
+    ≡ Same other_left other_right
+    → ((entry : Entry) → Contains one entry → Contains two entry) → ((entry : Entry) → Contains two entry → Contains three entry)
+    → ((entry : Entry) → Contains three entry → Contains four entry)
+    → (right ≡ other_left → IsThere (entries ++ one) (Same left other_right) (united x.product y.product))
+    → (right ≡ other_right → IsThere (entries ++ two) (Same left other_left) (united x.product y.product))
+    → (left ≡ other_left → IsThere (entries ++ three) (Same right other_right) (united x.product y.product))
+    → (left ≡ other_right → IsThere (entries ++ four) (Same right other_left) (united x.product y.product))
+    → IsPairJoined (entries ++ four) x y
+pair_joined entries one two three four x y left right other_left other_right x_is y_is kept kept_two kept_three joined_one joined_two joined_three joined_four s
+    t u (inl a) (inl b) =
+    let p : Same left right ≡ Same s t = sym x_is ∙ a in let q : Same other_left other_right ≡ Same t u = sym y_is ∙ b in
+    let meet : right ≡ other_left = cc in let s_is : left ≡ s = cc in let u_is : other_right ≡ u = cc in
+    subst (λ it. IsThere (entries ++ four) it (united x.product y.product)) (λ i. Same (s_is i) (u_is i))
+    (IsThere-grows entries one four (λ entry inside. kept_three entry (kept_two entry (kept entry inside))) (Same left other_right) (united x.product y.product)
+    (joined_one meet))
+pair_joined entries one two three four x y left right other_left other_right x_is y_is kept kept_two kept_three joined_one joined_two joined_three joined_four s
+    t u (inl a) (inr b) =
+    let p : Same left right ≡ Same s t = sym x_is ∙ a in let q : Same other_left other_right ≡ Same u t = sym y_is ∙ b in
+    let meet : right ≡ other_right = cc in let s_is : left ≡ s = cc in let u_is : other_left ≡ u = cc in
+    subst (λ it. IsThere (entries ++ four) it (united x.product y.product)) (λ i. Same (s_is i) (u_is i))
+    (IsThere-grows entries two four (λ entry inside. kept_three entry (kept_two entry inside)) (Same left other_left) (united x.product y.product)
+    (joined_two meet))
+pair_joined entries one two three four x y left right other_left other_right x_is y_is kept kept_two kept_three joined_one joined_two joined_three joined_four s
+    t u (inr a) (inl b) =
+    let p : Same left right ≡ Same t s = sym x_is ∙ a in let q : Same other_left other_right ≡ Same t u = sym y_is ∙ b in
+    let meet : left ≡ other_left = cc in let s_is : right ≡ s = cc in let u_is : other_right ≡ u = cc in
+    subst (λ it. IsThere (entries ++ four) it (united x.product y.product)) (λ i. Same (s_is i) (u_is i))
+    (IsThere-grows entries three four kept_three (Same right other_right) (united x.product y.product) (joined_three meet))
+pair_joined entries one two three four x y left right other_left other_right x_is y_is kept kept_two kept_three joined_one joined_two joined_three joined_four s
+    t u (inr a) (inr b) =
+    let p : Same left right ≡ Same t s = sym x_is ∙ a in let q : Same other_left other_right ≡ Same u t = sym y_is ∙ b in
+    let meet : left ≡ other_right = cc in let s_is : right ≡ s = cc in let u_is : other_left ≡ u = cc in
+    subst (λ it. IsThere (entries ++ four) it (united x.product y.product)) (λ i. Same (s_is i) (u_is i)) (joined_four meet)
+
+pub IsPairJoined-grows : (entries more later : List Entry) (x y : Entry) → ((entry : Entry) → Contains more entry → Contains later entry)
+    → IsPairJoined (entries ++ more) x y → IsPairJoined (entries ++ later) x y
+IsPairJoined-grows entries more later x y kept joined s t u a b = IsThere-grows entries more later kept (Same s u) (united x.product y.product)
+    (joined s t u a b)
+
+pub pairs_turn : (entries more later : List Entry) (x : Entry) (place : ℕ) (y : Entry) → place < length entries → y ≡ get_or entries place y
+    → ((entry : Entry) → Contains more entry → Contains later entry)
+    → ((second : Entry) → Contains (take place entries) second → IsPairJoined (entries ++ more) x second) → IsPairJoined (entries ++ later) x y
+    → (second : Entry) → Contains (take (place + 1) entries) second → IsPairJoined (entries ++ later) x second
+pairs_turn entries more later x place y within is kept before here second inside =
+    elim (Contains-push_cases (take place entries) y second (subst (λ it. Contains it second) (take-item entries place y within is) inside)) [
+      | inl earlier ↦ IsPairJoined-grows entries more later x second kept (before second earlier)
+      | inr same ↦ subst (IsPairJoined (entries ++ later) x) same here
+    ]
+
+pub all_pairs_turn : (entries more later : List Entry) (place : ℕ) (x : Entry) → place < length entries → x ≡ get_or entries place x
+    → ((entry : Entry) → Contains more entry → Contains later entry)
+    → ((first second : Entry) → Contains (take place entries) first → Contains entries second → IsPairJoined (entries ++ more) first second)
+    → ((second : Entry) → Contains entries second → IsPairJoined (entries ++ later) x second)
+    → (first second : Entry) → Contains (take (place + 1) entries) first → Contains entries second → IsPairJoined (entries ++ later) first second
+all_pairs_turn entries more later place x within is kept before here first second inside in_entries =
+    elim (Contains-push_cases (take place entries) x first (subst (λ it. Contains it first) (take-item entries place x within is) inside)) [
+      | inl earlier ↦ IsPairJoined-grows entries more later first second kept (before first second earlier in_entries)
+      | inr same ↦ subst (λ it. IsPairJoined (entries ++ later) it second) same (here second in_entries)
+    ]
+
+pub taken_all : (entries : List Entry) (place : ℕ) (entry : Entry) → length entries ≤ place → Contains entries entry → Contains (take place entries) entry
+taken_all entries place entry past inside = rw (take_all place entries past) inside
+
+-- links of all pairs are joined in each world
+pub all_joined : (entries more : List Entry) → ((first second : Entry) → Contains entries first → Contains entries second
+    → IsPairJoined (entries ++ more) first second) → AreJoined entries (entries ++ more)
+all_joined entries more pairs atoms s t u one two = by one two
+  where
+    up : (term next : Term) → Touching (InWorld entries atoms) term next → Touching (InWorld (entries ++ more) atoms) term next
+    up term next it = Touching-more (InWorld-more entries (entries ++ more) atoms (λ entry inside. Contains-append_left entries more entry inside)) term next it
+
+    linked : (term next : Term) → InWorld entries atoms (Same term next) ⊎ InWorld entries atoms (Same next term) → (entry : Entry) × Contains entries entry
+        × Within entry.product atoms × Links entry.claim term next
+    linked term next (inl (entry, inside, within, is)) = (entry, inside, within, inl is)
+    linked term next (inr (entry, inside, within, is)) = (entry, inside, within, inr is)
+
+    by : Touching (InWorld entries atoms) s t → Touching (InWorld entries atoms) t u → Touching (InWorld (entries ++ more) atoms) s u
+    by (inl is) it = subst (λ its. Touching (InWorld (entries ++ more) atoms) its u) (sym is) (up t u it)
+    by (inr it) (inl is) = subst (Touching (InWorld (entries ++ more) atoms) s) is (up s t (inr it))
+    by (inr it) (inr its) =
+        let a = linked s t it in
+        let b = linked t u its in
+        pairs a.0 b.0 a.1 b.1 s t u a.3 b.3 atoms (λ number has. elim ((has_united a.0.product b.0.product number).0 has) [
+          | inl here ↦ a.2 number here
+          | inr
+              there ↦ b.2 number there
+        ])
+
+-- ---- the round
+
+pub AreAnswered-grows : (rules : List Rule) (old entries more later : List Entry) → ((entry : Entry) → Contains more entry → Contains later entry)
+    → AreAnswered rules old (entries ++ more) → AreAnswered rules old (entries ++ later)
+AreAnswered-grows rules old entries more later kept answered atoms number rule at chosen matches claim asked =
+    IsCovered-more (InWorld-more (entries ++ more) (entries ++ later) atoms (among_more entries more later kept)) claim
+    (answered atoms number rule at chosen matches claim asked)

@@ -1,0 +1,20 @@
+use Rattle.std.proofs.Common.{◌-◌, length}
+use Rattle.esto_constraint.specs.Constraints.{rules_of}
+use Rattle.esto_chase.proofs.ChaseLemmas.{depth_of}
+use Rattle.esto_views.specs.Expanded.{facts_of}
+use Rattle.esto_world_laws.specs.Bounds.{most_entries}
+use Rattle.esto_world_laws.specs.Derived.{AreDerived}
+use Rattle.esto_world_laws.specs.Laws.{AreGiven}
+use Rattle.esto_world_laws.specs.Worlds.{AreOfCount}
+use Rattle.esto_condchase.proofs.chase.rounds.Given as goal
+
+abbrev pub invariant-rounds : goal.invariant-rounds
+invariant-rounds l = record {
+  derived : AreDerived l.facts (rules_of l.rules) l.entries;
+  counted : AreOfCount l.atoms l.entries;
+  given : AreGiven l.facts l.entries;
+}
+
+-- what is left of the bound of entries
+abbrev pub decreases-rounds : goal.decreases-rounds
+decreases-rounds l = most_entries (rules_of l.rules) (facts_of l.facts) (depth_of l.ranks) l.atoms - length l.entries

@@ -1,0 +1,25 @@
+use Rattle.std.proofs.Common.{subst}
+use Rattle.esto_semantics.specs.Rules.{equality}
+use Rattle.esto_constraint.specs.Constraints.{rules_of}
+use Rattle.esto_condchase.proofs.MeetLemmas.{item_inside}
+use Rattle.esto_condchase.specs.Ways.{AreFound}
+use Rattle.esto_condchase.proofs.RoundLemmas.{ways_turn, ways_all}
+use Rattle.esto_condchase.proofs.rounds.answer_equalities.Goals as goal
+
+pub found-preserved : goal.found-preserved
+found-preserved c =
+    let inside = item_inside c.in_ok-found.found c.items-way-items.result.now c.found.way-index c.way-item.result c.items-way-items.ensures c.found-test.true
+    c.way-item.is in
+    let turn = ways_turn (rules_of c.args.rules.now) c.args.count c.args.entries.now c.args.number
+    (equality c.args.rule.now.body c.args.rule.now.left c.args.rule.now.right) c.in_ok-found.found c.items-way-items.result.now c.items-way-items.ensures
+    c.found.way-index c.way-item.result c.args.more.now c.found.more c.answer_equality.new.more c.found-test.true c.way-item.is
+    (c.in_ok-found.ensures.counted c.way-item.result inside)
+    c.found.invariant.grows c.found.invariant.answered c.in_ok-answer_equality.ensures.grows c.in_ok-answer_equality.ensures.answered in
+    record { grows = turn.0; answered = turn.1 }
+
+pub returns-clause-answered : goal.returns-clause-answered
+returns-clause-answered c =
+    ways_all (rules_of c.args.rules.now) c.args.count c.args.entries.now c.args.number
+    (equality c.args.rule.now.body c.args.rule.now.left c.args.rule.now.right) c.in_ok-found.found c.items-way-items.result.now c.items-way-items.ensures
+    c.found.way-index _ c.found-test.false (subst (λ it. AreFound c.args.entries.now it c.in_ok-found.found) c.items.ensures c.in_ok-found.ensures.found)
+    c.found.invariant.answered

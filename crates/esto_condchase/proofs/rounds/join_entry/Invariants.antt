@@ -1,0 +1,11 @@
+use Rattle.std.proofs.Common.{◌++◌, take, List, Contains}
+use Rattle.esto_semantics.specs.Rules.{Rule}
+use Rattle.esto_world_laws.specs.declared.entry.Entry.{Entry}
+use Rattle.esto_condchase.specs.Rounds.{Grows, IsPairJoined}
+use Rattle.esto_condchase.proofs.rounds.join_entry.Given as goal
+
+abbrev pub invariant-entries : goal.invariant-entries
+invariant-entries l = record {
+  grows : (rules : List Rule) → Grows rules l.count l.entries l.fn.more l.more;
+  joined : (second : Entry) → Contains (take l.second l.entries) second → IsPairJoined (l.entries ++ l.more) l.first_entry second;
+}

@@ -1,0 +1,34 @@
+use Rattle.std.proofs.Common.{◌++◌, ◌∷◌, [], take, length, ap, sym, ◌∙◌, append_assoc}
+use Rattle.std.proofs.lemmas.List.{append-nil}
+use Rattle.esto_condchase.specs.declared.ways.Way.{Way}
+use Rattle.esto_condchase.proofs.MeetLemmas.{take-item}
+use Rattle.esto_condchase.proofs.WayLemmas.{rows_none, counted_one, row_lengths, row_turn}
+use Rattle.esto_condchase.proofs.ways.through_row.Goals as goal
+
+pub row-init : goal.row-init
+row-init c =
+    let are = c.in_ok-push.ensures.ok ∙ ap (λ it. it ++ c.in_ok-copy.field-0 ∷ []) c.new-ways.ensures in
+    record {
+      rows = rows_none c.args.entries.now c.args.from.now c.args.start.now c.push.new.self c.in_ok-copy.field-0 c.in_ok-copy.ensures are;
+      earlier = c.in_ok-earlier.ensures ∙ sym (append-nil c.args.from.now);
+      counted = counted_one c.args.count c.push.new.self c.in_ok-copy.field-0 are (ap (λ (it : Way). length it.product) c.in_ok-copy.ensures
+          ∙ c.requires.counted);
+    }
+
+pub all_longer-requires-clause-lengths : goal.all_longer-requires-clause-lengths
+all_longer-requires-clause-lengths c =
+    row_lengths c.args.entries.now c.args.from.now c.args.start.now c.args.terms.now c.args.owns.now c.requires.rows c.row.place c.row.earlier
+    c.items.result.now c.row.ways c.items-in-row.result.now
+    c.items.ensures c.row.invariant.earlier c.items-in-row.ensures c.row.invariant.rows c.requires.lengths
+
+pub row-preserved : goal.row-preserved
+row-preserved c = record {
+  rows = row_turn c.args.entries.now c.args.from.now c.args.start.now c.args.terms.now c.args.owns.now c.requires.rows c.row.place c.row.earlier
+      c.items.result.now c.row.ways c.items-in-row.result.now
+      c.items.ensures c.row.invariant.earlier c.items-in-row.ensures c.row.invariant.rows c.index-terms-place.result c.index-owns-place.result c.in_ok-ways.ways
+      c.row-test.true c.index-terms-place.is c.index-owns-place.is c.in_ok-ways.ensures.longer;
+  earlier = c.in_ok-push-2.ensures.ok ∙ (λ i. c.row.invariant.earlier i ++ c.in_ok-copy-2.ensures i ∷ [])
+      ∙ append_assoc c.args.from.now (take c.row.place c.args.terms.now) (c.index-terms-place.result ∷ [])
+      ∙ ap (λ it. c.args.from.now ++ it) (sym (take-item c.args.terms.now c.row.place c.index-terms-place.result c.row-test.true c.index-terms-place.is));
+  counted = c.in_ok-ways.ensures.counted;
+}

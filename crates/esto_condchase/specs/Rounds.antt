@@ -1,0 +1,72 @@
+-- What a round adds.
+use Rattle.std.specs.Prelude.{◌≡◌, ◌⊎◌, ℕ, Bool, cond, List, [], ◌∷◌, ◌++◌, Contains, Some, slice_get}
+use Rattle.std.specs.Set.{is_member}
+use Rattle.esto_term.specs.declared.term.Term.{Term}
+use Rattle.esto_semantics.specs.Rules.{Rule, body_of}
+use Rattle.esto_semantics.specs.declared.fact.Fact.{Fact}
+use Rattle.esto_semantics.specs.Sets.{Within, united}
+use Rattle.esto_views.specs.declared.expansion.ExpandedFact.{ExpandedFact}
+use Rattle.esto_world_laws.specs.Claims.{AreSameClaim}
+use Rattle.esto_world_laws.specs.Worlds.{InWorld, AreOfCount}
+use Rattle.esto_semantics.specs.Facts.{terms_of}
+use Rattle.esto_term.specs.Order.{same_term}
+use Rattle.esto_world_laws.specs.Matches.{taken, match_map, IsDirectMatch}
+use Rattle.esto_chase_laws.specs.Making.{made_for}
+use Rattle.esto_world_laws.specs.Steps.{IsAsked, IsCovered}
+use Rattle.esto_world_laws.specs.Derived.{AreDerived}
+use Rattle.esto_world_laws.specs.declared.entry.Claim.{Claim}
+use Rattle.esto_world_laws.specs.declared.entry.Claim.TheVariants.{Fact as Stated, Same}
+use Rattle.esto_world_laws.specs.declared.entry.Reason.{Reason}
+use Rattle.esto_world_laws.specs.declared.entry.Entry.{Entry}
+use Rattle.esto_condchase.specs.Ways.{Links}
+use Rattle.esto_condchase.specs.declared.ways.Way.{Way}
+
+-- Some entry has the claim, with a product within the set.
+abbrev pub CoversClaim : List Entry → Claim → List Bool → Type 0
+CoversClaim entries claim product = (entry : Entry) × Contains entries entry × AreSameClaim entry.claim claim × Within entry.product product
+
+-- The later list has one entry more, which was not covered, or none, and then the claim was covered.
+abbrev pub IsAdded : List Entry → List Entry → Claim → List Bool → Reason → List Entry → Type 0
+IsAdded entries more claim product reason later =
+    ((IsCovered (InWorld (entries ++ more) product) claim) × (later ≡ more))
+    ⊎ ((IsCovered (InWorld (entries ++ more) product) claim → ⊥) × (later ≡ more ++ (record { claim = claim; product = product; reason = reason }) ∷ []))
+
+-- What was there stays; derived entries stay derived; and products keep their count.
+pub record Grows (rules : List Rule) (count : ℕ) (entries more later : List Entry) : Type 0 where
+  pub kept : (entry : Entry) → Contains more entry → Contains later entry
+  pub derived : (expanded : List ExpandedFact) → AreDerived expanded rules (entries ++ more) → AreDerived expanded rules (entries ++ later)
+  pub counted : AreOfCount count more → AreOfCount count later
+
+-- In each world that has the product, the claim is covered.
+abbrev pub IsThere : List Entry → Claim → List Bool → Type 0
+IsThere entries claim product = (atoms : List Bool) → Within product atoms → IsCovered (InWorld entries atoms) claim
+
+-- The claim is an equality of a term with itself.
+abbrev pub IsTrivial : Claim → Type 0
+IsTrivial (Stated fact) = ⊥
+IsTrivial (Same left right) = left ≡ right
+
+-- What a term of a head becomes: a term of the body what it meets first, and any other the term that the rule makes.
+abbrev pub made_of : ℕ → List Term → List Term → List Term → Term → Term
+made_of number from to values term = cond (is_member same_term from term) (taken from to term) (made_for number values term)
+
+-- The claims that the rule asks for at the way are there.
+abbrev pub IsAnswered : List Entry → ℕ → Rule → Way → Type 0
+IsAnswered entries number rule way =
+    (claim : Claim) → IsAsked number rule (taken (terms_of (body_of rule)) way.to) claim → IsThere entries claim way.product
+
+-- In each world, what the rule asks for at a direct match among the old entries is covered by the new ones.
+abbrev pub IsRuleAnswered : List Entry → List Entry → ℕ → Rule → Type 0
+IsRuleAnswered old new number rule =
+    (atoms : List Bool) (chosen : List (Fact Term)) → IsDirectMatch (InWorld old atoms) (body_of rule) chosen
+    → (claim : Claim) → IsAsked number rule (match_map (body_of rule) chosen) claim → IsCovered (InWorld new atoms) claim
+
+-- The entry at the place links the terms.
+abbrev pub LinksAt : List Entry → ℕ → Entry → Term → Term → Type 0
+LinksAt entries place entry term other = (slice_get entries place ≡ Some entry) × Links entry.claim term other
+
+-- What two entries link one after the other is there.
+abbrev pub IsPairJoined : List Entry → Entry → Entry → Type 0
+IsPairJoined entries first second =
+    (term next other : Term) → Links first.claim term next → Links second.claim next other
+    → IsThere entries (Same term other) (united first.product second.product)

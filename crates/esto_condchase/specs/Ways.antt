@@ -1,0 +1,85 @@
+-- Ways to match the first atoms of a body, with the entries that they use.
+use Rattle.std.specs.Prelude.{◌≡◌, ◌⊎◌, ℕ, Bool, List, [], ◌∷◌, ◌++◌, length, map, Contains}
+use Rattle.std.specs.List.{AllZip}
+use Rattle.esto_term.specs.declared.term.Term.{Term}
+use Rattle.esto_semantics.specs.Sets.{Within, united}
+use Rattle.esto_semantics.specs.declared.fact.Fact.{Fact}
+use Rattle.esto_world_laws.specs.Worlds.{InWorld}
+use Rattle.esto_semantics.specs.Facts.{terms_of}
+use Rattle.esto_world_laws.specs.Matches.{taken, Touching, Fits, IsDirectMatch}
+use Rattle.esto_world_laws.specs.Derived.{Claims, IsNamed, IsUnion, IsEquality}
+use Rattle.esto_world_laws.specs.declared.entry.Claim.{Claim}
+use Rattle.esto_world_laws.specs.declared.entry.Claim.TheVariants.{Fact as Stated, Same}
+use Rattle.esto_world_laws.specs.declared.entry.Entry.{Entry}
+use Rattle.esto_condchase.specs.declared.ways.Way.{Way}
+
+-- Each way's product has the count.
+abbrev pub AreCounted : ℕ → List Way → Type 0
+AreCounted count ways = (way : Way) → Contains ways way → length way.product ≡ count
+
+-- The claim says that the two terms are one, in either order.
+abbrev pub Links : Claim → Term → Term → Type 0
+Links claim term other = (claim ≡ Same term other) ⊎ (claim ≡ Same other term)
+
+-- The way with one more term met.
+abbrev pub met : Way → Term → Way
+met way own = record { to = way.to ++ own ∷ []; facts = way.facts; links = way.links; product = way.product }
+
+-- The same, by an equality.
+abbrev pub met_by : Way → Term → ℕ → List Bool → Way
+met_by way own place product = record { to = way.to ++ own ∷ []; facts = way.facts; links = way.links ++ place ∷ []; product = united way.product product }
+
+-- The way with one more fact.
+abbrev pub begun : Way → ℕ → List Bool → Way
+begun way place product = record { to = way.to; facts = way.facts ++ place ∷ []; links = way.links; product = united way.product product }
+
+-- The way has these facts; the terms `from` of the atoms so far meet the terms `to`, by its links, which are equalities; and its product is exactly the union
+-- of what it uses.
+pub record IsWay (entries : List Entry) (facts : List ℕ) (from to : List Term) (way : Way) : Type 0 where
+  pub lengths : length from ≡ length to
+  pub facts_are : way.facts ≡ facts
+  pub to_is : way.to ≡ to
+  pub fits : Fits (Touching (IsNamed entries way.links)) from to
+  pub equalities : (place : ℕ) → Contains way.links place → IsEquality entries place
+  pub union : IsUnion entries (way.facts ++ way.links) way.product
+
+-- The ways are the given ones with one term more: each comes from one, and each goes on in each world that has its product and makes the term one with what it
+-- has to meet.
+pub record AreLonger (entries : List Entry) (from : List Term) (term own : Term) (given ways : List Way) : Type 0 where
+  pub come_from : (way : Way) → Contains ways way → (before : Way) × Contains given before × (way.to ≡ before.to ++ own ∷ [])
+      × ((facts : List ℕ) (to : List Term) → IsWay entries facts from to before → IsWay entries facts (from ++ term ∷ []) (to ++ own ∷ []) way)
+  pub go_on : (atoms : List Bool) (before : Way) → Contains given before → Within before.product atoms
+      → Touching (InWorld entries atoms) own (taken (from ++ term ∷ []) (before.to ++ own ∷ []) term)
+      → (way : Way) × Contains ways way × (way.to ≡ before.to ++ own ∷ []) × Within way.product atoms
+
+-- The ways are those that begin with the start and go through a row of terms and what they meet.
+pub record AreRows (entries : List Entry) (from terms owns : List Term) (start : Way) (ways : List Way) : Type 0 where
+  pub come_from : (way : Way) → Contains ways way → (way.to ≡ start.to ++ owns)
+      × ((facts : List ℕ) (to : List Term) → IsWay entries facts from to start → IsWay entries facts (from ++ terms) (to ++ owns) way)
+  pub go_on : (atoms : List Bool) → length from ≡ length start.to → Within start.product atoms
+      → AllZip (Touching (InWorld entries atoms)) owns (map (taken (from ++ terms) (start.to ++ owns)) terms)
+      → (way : Way) × Contains ways way × (way.to ≡ start.to ++ owns) × Within way.product atoms
+
+-- The ways are the given ones with a fact for one atom more.
+pub record AreMatched (entries : List Entry) (from : List Term) (atom : Fact Term) (given ways : List Way) : Type 0 where
+  pub come_from : (way : Way) → Contains ways way → (before : Way) × Contains given before × ((place : ℕ) × (fact : Fact Term)
+      × Claims entries place (Stated fact) × (fact.relation ≡ atom.relation) × (length fact.terms ≡ length atom.terms)
+      × ((facts : List ℕ) (to : List Term) → IsWay entries facts from to before
+      → IsWay entries (facts ++ place ∷ []) (from ++ atom.terms) (to ++ fact.terms) way))
+  pub go_on : (atoms : List Bool) (before : Way) (fact : Fact Term) → Contains given before → length from ≡ length before.to → Within before.product atoms
+      → InWorld entries atoms (Stated fact) → fact.relation ≡ atom.relation → length fact.terms ≡ length atom.terms
+      → AllZip (Touching (InWorld entries atoms)) fact.terms (map (taken (from ++ atom.terms) (before.to ++ fact.terms)) atom.terms)
+      → (way : Way) × Contains ways way × (way.to ≡ before.to ++ fact.terms) × Within way.product atoms
+
+-- The way is a direct match of the body among the entries.
+pub record IsFound (entries : List Entry) (body : List (Fact Term)) (way : Way) : Type 0 where
+  pub chosen : List (Fact Term)
+  pub stated : AllZip (λ (place : ℕ) (fact : Fact Term). Claims entries place (Stated fact)) way.facts chosen
+  pub alike : AllZip (λ (atom : Fact Term) (fact : Fact Term). (fact.relation ≡ atom.relation) × (length fact.terms ≡ length atom.terms)) body chosen
+  pub is_way : IsWay entries way.facts (terms_of body) (terms_of chosen) way
+
+-- The ways are direct matches of the body, and in each world each direct match is one of them.
+pub record AreFound (entries : List Entry) (body : List (Fact Term)) (ways : List Way) : Type 0 where
+  pub sound : (way : Way) → Contains ways way → IsFound entries body way
+  pub complete : (atoms : List Bool) (chosen : List (Fact Term)) → IsDirectMatch (InWorld entries atoms) body chosen
+      → (way : Way) × Contains ways way × (way.to ≡ terms_of chosen) × Within way.product atoms

@@ -1,0 +1,132 @@
+//! The loop, and what it promises.
+ghost use Rattle.std.specs.Prelude.{◌≡◌, ◌<◌, ◌⊎◌, ℕ, Bool, List, length, slice_index, Contains, IfOk};
+ghost use Rattle.esto_semantics.specs.Maps.{AreFlat};
+ghost use Rattle.esto_semantics.specs.Rules.{Rule};
+ghost use Rattle.esto_constraint.specs.Constraints.{rules_of};
+ghost use Rattle.esto_acyclic.specs.Graphs.{IsWithin, AreRanks};
+ghost use Rattle.esto_acyclic.specs.Relations.{IsEdge};
+ghost use Rattle.esto_views.specs.Expanded.{facts_of};
+ghost use Rattle.esto_views.specs.declared.expansion.ExpandedFact.{ExpandedFact};
+ghost use Rattle.esto_world_laws.specs.Derived.{AreDerived};
+ghost use Rattle.esto_world_laws.specs.Laws.{AreGiven, IsSound, IsReceivedNowhere, IsDatabase, AreNestedWithin};
+ghost use Rattle.esto_world_laws.specs.Steps.{AreAnswered, AreJoined};
+ghost use Rattle.esto_world_laws.specs.Worlds.{InWorld, AreOfCount, IsClosed, IsBroken, IsDenied};
+
+use crate::covering::add;
+use crate::rounds::round;
+use esto_acyclic::{Ranks, ranks_rise};
+use esto_bits::RowBits;
+use esto_constraint::{Rules, rules_are_sound};
+use esto_prov::Entries;
+use esto_term::{List, OutOfMemory, Replicate};
+use esto_views::{ExpandedFact, ExpandedFacts};
+use esto_world_laws::{
+    Claim, Entry, Reason, closed_worlds_are_databases, complete_entries_are_closed,
+    derived_entries_are_bounded, derived_entries_are_reasoned, derived_entries_are_sound,
+};
+use std::alloc::Global;
+
+/// The entries of the expanded facts.
+fn given(alloc: Global, facts: &[ExpandedFact], atoms: usize) -> Result<List<Entry>, OutOfMemory>
+    requires { (fact : ExpandedFact) → Contains facts.now fact → fact.atom < atoms }
+    ensures derived { IfOk result
+        (λ entries. (rules : List Rule) → AreDerived facts.now rules entries) }
+    ensures counted { IfOk result (AreOfCount atoms) }
+    ensures given { IfOk result (AreGiven facts.now) }
+{
+    let mut entries = List::new(alloc);
+    'facts: for fact in facts {
+        let mut product = RowBits::new(alloc, atoms)?;
+        product.insert(fact.atom);
+        let claim = Claim::Fact(fact.fact.copy(alloc)?);
+        let reason = Reason::Expanded(fact.atom, fact.place);
+        add(alloc, &[], &mut entries, claim, &product, reason)?;
+    }
+    Ok(entries)
+}
+
+/// The rounds, to the end: each entry follows from those before it, each expanded fact is a fact of each world that has its
+/// atom, and no rule and no link asks for more.
+fn rounds(
+    alloc: Global,
+    facts: &ExpandedFacts,
+    atoms: usize,
+    rules: &Rules,
+    ranks: &Ranks,
+) -> Result<List<Entry>, OutOfMemory>
+    requires flat { AreFlat (facts_of facts.now) }
+    requires atoms { (fact : ExpandedFact) → Contains facts.now fact → fact.atom < atoms }
+    requires within { IsWithin (length ranks.now) (IsEdge (rules_of rules.now)) }
+    requires ranks { AreRanks (IsEdge (rules_of rules.now)) (length ranks.now) ranks.now }
+    ensures derived { IfOk result (AreDerived facts.now (rules_of rules.now)) }
+    ensures counted { IfOk result (AreOfCount atoms) }
+    ensures given { IfOk result (AreGiven facts.now) }
+    ensures answered { IfOk result
+        (λ entries. AreAnswered (rules_of rules.now) entries entries) }
+    ensures joined { IfOk result (λ entries. AreJoined entries entries) }
+{
+    rules_are_sound();
+    ranks_rise();
+    derived_entries_are_bounded();
+    let _count = ranks.len();
+    let mut entries = given(alloc, facts.items(), atoms)?;
+    'rounds: loop {
+        let more = round(alloc, entries.items(), rules.items(), atoms)?;
+        if more.is_empty() {
+            return Ok(entries);
+        }
+        entries.append(more)?;
+    }
+}
+
+/// The conditional chase of expanded facts: what the rules make of them in the world of each set of atoms, in one chase for
+/// all sets. An entry is a fact or an equality of two terms, with the set of atoms that it rests on; the world of a set has
+/// the entries whose products are within it. The facts have no made term, their atoms are below `atoms`, and the ranks are
+/// those of the rules' relations.
+///
+/// Each round goes through the matches of all rules among the entries that stood when it began, modulo equalities, and adds
+/// what they ask for and no entry covers; an equality is an entry of its own and replaces nothing. A denial asks for
+/// nothing. The chase ends after a round that added nothing. Each expanded fact of an atom is a fact of each world that has
+/// the atom. Each world is closed: it meets each rule that is no denial, where linked terms count as one. It is sound: every
+/// database that meets the rules and receives the facts of the set's atoms receives the world. Where no two different
+/// constants are one in it and no denial's body has a match, it is a database that meets the rules; else no such database
+/// receives the set's facts. A term of a fact nests no deeper than the rank of the fact's relation. Source: the backchase
+/// with provenance (Ileana, Cautis, Deutsch and Katsis 2014).
+pub fn chase_with_products(
+    alloc: Global,
+    facts: &ExpandedFacts,
+    atoms: usize,
+    rules: &Rules,
+    ranks: &Ranks,
+) -> Result<Entries, OutOfMemory>
+    requires flat { AreFlat (facts_of facts.now) }
+    requires atoms { (fact : ExpandedFact) → Contains facts.now fact → fact.atom < atoms }
+    requires within { IsWithin (length ranks.now) (IsEdge (rules_of rules.now)) }
+    requires ranks { AreRanks (IsEdge (rules_of rules.now)) (length ranks.now) ranks.now }
+    ensures counted { IfOk result (AreOfCount atoms) }
+    ensures given { IfOk result (AreGiven facts.now) }
+    ensures closed { IfOk result
+        (λ entries. (set : List Bool) → IsClosed (rules_of rules.now) (InWorld entries set)) }
+    ensures sound { IfOk result
+        (λ entries. (set : List Bool) → IsSound facts.now (rules_of rules.now) entries set) }
+    ensures database { IfOk result (λ entries. (set : List Bool)
+        → ¬ (IsBroken (InWorld entries set))
+        → ¬ (IsDenied (rules_of rules.now) (InWorld entries set))
+        → IsDatabase (rules_of rules.now) (InWorld entries set)) }
+    ensures nowhere { IfOk result (λ entries. (set : List Bool)
+        → IsBroken (InWorld entries set) ⊎ IsDenied (rules_of rules.now) (InWorld entries set)
+        → IsReceivedNowhere facts.now (rules_of rules.now) set) }
+    ensures bounded { IfOk result (AreNestedWithin (slice_index ranks.now)) }
+    ensures derived { IfOk result (AreDerived facts.now (rules_of rules.now)) }
+    ensures joined { IfOk result (λ entries. AreJoined entries entries) }
+{
+    rules_are_sound();
+    ranks_rise();
+    complete_entries_are_closed();
+    derived_entries_are_sound();
+    closed_worlds_are_databases();
+    derived_entries_are_bounded();
+    derived_entries_are_reasoned();
+    let entries = rounds(alloc, facts, atoms, rules, ranks)?;
+    Ok(Entries::from_list(entries))
+}

@@ -1,0 +1,420 @@
+//! A round: what the rules and the links ask for among the entries that stood when it began.
+ghost use Rattle.std.specs.Prelude.{◌≡◌, ◌++◌, [], List, Some, Contains, length, slice_get, IfOk, OnOk};
+ghost use Rattle.esto_semantics.specs.Facts.{terms_of};
+ghost use Rattle.esto_semantics.specs.Rules.{Rule, tuple, equality};
+ghost use Rattle.esto_semantics.specs.Sets.{united};
+ghost use Rattle.esto_constraint.specs.Constraints.{rule_of, rules_of};
+ghost use Rattle.esto_chase_laws.specs.Making.{frontier};
+ghost use Rattle.esto_world_laws.specs.Worlds.{AreOfCount};
+ghost use Rattle.esto_world_laws.specs.Steps.{AreAnswered, AreJoined};
+ghost use Rattle.esto_world_laws.specs.declared.entry.Claim.TheVariants.{Same};
+ghost use Rattle.esto_world_laws.specs.declared.entry.Entry.{Entry};
+ghost use Rattle.esto_world_laws.specs.declared.entry.Reason.TheVariants.{Step};
+ghost use Rattle.esto_condchase.specs.Ways.{IsFound};
+ghost use Rattle.esto_condchase.specs.Rounds.{IsAdded, Grows, IsAnswered, IsRuleAnswered, IsThere, LinksAt, IsPairJoined};
+
+use crate::covering::add;
+use crate::taking::{made_fact, taken_term, taken_terms, terms_of};
+use crate::ways::{Way, matches_of};
+use esto_chase::frontier_of;
+use esto_constraint::{Constraint, Egd, Tgd};
+use esto_term::{List, OutOfMemory, Places, Replicate, Term, Terms, Values};
+use esto_world_laws::{Claim, Entry, Reason};
+use std::alloc::Global;
+
+/// The entries that a way uses, those of its facts first.
+fn places_of(alloc: Global, way: &Way) -> Result<Places, OutOfMemory>
+    ensures { IfOk result (λ it. it ≡ way.now.facts ++ way.now.links) }
+{
+    let mut places = way.facts.copy(alloc)?;
+    'links: for place in way.links.items() {
+        places.push(*place)?;
+    }
+    Ok(places)
+}
+
+/// Adds a claim that a rule asks for at a way.
+fn ask(
+    alloc: Global,
+    entries: &[Entry],
+    number: usize,
+    way: &Way,
+    claim: Claim,
+    more: &mut List<Entry>,
+) -> Result<(), OutOfMemory>
+    requires counts { AreOfCount (length way.now.product) entries.now }
+    requires more_counts { AreOfCount (length way.now.product) more.old }
+    ensures { OnOk result
+        (IsAdded entries.now more.old claim way.now.product
+        (Step number (way.now.facts ++ way.now.links)) more.new) }
+{
+    let places = places_of(alloc, way)?;
+    add(
+        alloc,
+        entries,
+        more,
+        claim,
+        &way.product,
+        Reason::Step(number, places),
+    )
+}
+
+/// Adds what a tuple rule asks for at a way.
+fn answer_tuple(
+    alloc: Global,
+    entries: &[Entry],
+    rules: &[Constraint],
+    number: usize,
+    rule: &Tgd,
+    from: &Terms,
+    shared: &Terms,
+    way: &Way,
+    more: &mut List<Entry>,
+) -> Result<(), OutOfMemory>
+    requires at { slice_get (rules_of rules.now) number ≡ Some (tuple rule.now.body rule.now.head) }
+    requires found { IsFound entries.now rule.now.body way.now }
+    requires from_is { from.now ≡ terms_of rule.now.body }
+    requires shared_is { shared.now ≡ frontier rule.now.body rule.now.head }
+    requires counts { AreOfCount (length way.now.product) entries.now }
+    requires more_counts { AreOfCount (length way.now.product) more.old }
+    ensures grows { OnOk result
+        (Grows (rules_of rules.now) (length way.now.product) entries.now more.old more.new) }
+    ensures answered { OnOk result
+        (IsAnswered (entries.now ++ more.new) number (tuple rule.now.body rule.now.head) way.now) }
+{
+    let values = taken_terms(alloc, from.items(), way.to.items(), shared.items())?;
+    'head: for atom in rule.head.items() {
+        let fact = made_fact(alloc, number, from.items(), way.to.items(), &values, atom)?;
+        ask(alloc, entries, number, way, Claim::Fact(fact), more)?;
+    }
+    Ok(())
+}
+
+/// Adds what an equality rule asks for at a way.
+fn answer_equality(
+    alloc: Global,
+    entries: &[Entry],
+    rules: &[Constraint],
+    number: usize,
+    rule: &Egd,
+    from: &Terms,
+    way: &Way,
+    more: &mut List<Entry>,
+) -> Result<(), OutOfMemory>
+    requires at { slice_get (rules_of rules.now) number ≡ Some
+        (equality rule.now.body rule.now.left rule.now.right) }
+    requires found { IsFound entries.now rule.now.body way.now }
+    requires from_is { from.now ≡ terms_of rule.now.body }
+    requires counts { AreOfCount (length way.now.product) entries.now }
+    requires more_counts { AreOfCount (length way.now.product) more.old }
+    ensures grows { OnOk result
+        (Grows (rules_of rules.now) (length way.now.product) entries.now more.old more.new) }
+    ensures answered { OnOk result
+        (IsAnswered (entries.now ++ more.new) number
+        (equality rule.now.body rule.now.left rule.now.right) way.now) }
+{
+    let left = taken_term(from.items(), way.to.items(), &rule.left).copy(alloc)?;
+    let right = taken_term(from.items(), way.to.items(), &rule.right).copy(alloc)?;
+    ask(alloc, entries, number, way, Claim::Same(left, right), more)?;
+    Ok(())
+}
+
+/// Adds what a tuple rule asks for at all its direct matches.
+fn answer_tuples(
+    alloc: Global,
+    entries: &[Entry],
+    rules: &[Constraint],
+    number: usize,
+    rule: &Tgd,
+    count: usize,
+    more: &mut List<Entry>,
+) -> Result<(), OutOfMemory>
+    requires at { slice_get (rules_of rules.now) number ≡ Some (tuple rule.now.body rule.now.head) }
+    requires counts { AreOfCount count entries.now }
+    requires more_counts { AreOfCount count more.old }
+    ensures grows { OnOk result (Grows (rules_of rules.now) count entries.now more.old more.new) }
+    ensures answered { OnOk result
+        (IsRuleAnswered entries.now (entries.now ++ more.new) number
+        (tuple rule.now.body rule.now.head)) }
+{
+    let found = matches_of(alloc, entries, rule.body.items(), count)?;
+    let from = terms_of(alloc, rule.body.items())?;
+    let shared = frontier_of(alloc, rule.body.items(), rule.head.items())?;
+    'found: for way in found.items() {
+        answer_tuple(
+            alloc, entries, rules, number, rule, &from, &shared, way, more,
+        )?;
+    }
+    Ok(())
+}
+
+/// Adds what an equality rule asks for at all its direct matches.
+fn answer_equalities(
+    alloc: Global,
+    entries: &[Entry],
+    rules: &[Constraint],
+    number: usize,
+    rule: &Egd,
+    count: usize,
+    more: &mut List<Entry>,
+) -> Result<(), OutOfMemory>
+    requires at { slice_get (rules_of rules.now) number ≡ Some
+        (equality rule.now.body rule.now.left rule.now.right) }
+    requires counts { AreOfCount count entries.now }
+    requires more_counts { AreOfCount count more.old }
+    ensures grows { OnOk result (Grows (rules_of rules.now) count entries.now more.old more.new) }
+    ensures answered { OnOk result
+        (IsRuleAnswered entries.now (entries.now ++ more.new) number
+        (equality rule.now.body rule.now.left rule.now.right)) }
+{
+    let found = matches_of(alloc, entries, rule.body.items(), count)?;
+    let from = terms_of(alloc, rule.body.items())?;
+    'found: for way in found.items() {
+        answer_equality(alloc, entries, rules, number, rule, &from, way, more)?;
+    }
+    Ok(())
+}
+
+/// Adds what a rule asks for at all its direct matches.
+fn answer_rule(
+    alloc: Global,
+    entries: &[Entry],
+    rules: &[Constraint],
+    number: usize,
+    rule: &Constraint,
+    count: usize,
+    more: &mut List<Entry>,
+) -> Result<(), OutOfMemory>
+    requires at { slice_get (rules_of rules.now) number ≡ Some (rule_of rule.now) }
+    requires counts { AreOfCount count entries.now }
+    requires more_counts { AreOfCount count more.old }
+    ensures grows { OnOk result (Grows (rules_of rules.now) count entries.now more.old more.new) }
+    ensures answered { OnOk result
+        (IsRuleAnswered entries.now (entries.now ++ more.new) number (rule_of rule.now)) }
+{
+    match rule {
+        Constraint::Tuple(tuple) => answer_tuples(
+            alloc, entries, rules, number, tuple, count, more,
+        ),
+        Constraint::Equal(equal) => {
+            answer_equalities(alloc, entries, rules, number, equal, count, more)
+        }
+        Constraint::Never(_) => Ok(()),
+    }
+}
+
+/// Adds what the rules ask for at all their direct matches.
+fn answer_rules(
+    alloc: Global,
+    entries: &[Entry],
+    rules: &[Constraint],
+    count: usize,
+) -> Result<List<Entry>, OutOfMemory>
+    requires counts { AreOfCount count entries.now }
+    ensures grows { IfOk result (λ more. Grows (rules_of rules.now) count entries.now [] more) }
+    ensures answered { IfOk result
+        (λ more. AreAnswered (rules_of rules.now) entries.now (entries.now ++ more)) }
+{
+    let mut more = List::new(alloc);
+    'rules: for (number, rule) in rules.iter().enumerate() {
+        answer_rule(alloc, entries, rules, number, rule, count, &mut more)?;
+    }
+    Ok(more)
+}
+
+/// Adds the link of two that meet in one term.
+fn join_ends(
+    alloc: Global,
+    entries: &[Entry],
+    first: usize,
+    first_entry: &Entry,
+    second: usize,
+    second_entry: &Entry,
+    term: &Term,
+    next: &Term,
+    other_next: &Term,
+    other: &Term,
+    count: usize,
+    more: &mut List<Entry>,
+) -> Result<(), OutOfMemory>
+    requires first { LinksAt entries.now first first_entry.now term.now next.now }
+    requires second { LinksAt entries.now second second_entry.now other_next.now other.now }
+    requires counts { AreOfCount count entries.now }
+    requires more_counts { AreOfCount count more.old }
+    ensures grows { OnOk result
+        ((rules : List Rule) → Grows rules count entries.now more.old more.new) }
+    ensures joined { OnOk result
+        (next.now ≡ other_next.now
+        → IsThere (entries.now ++ more.new) (Same term.now other.now)
+        (united first_entry.now.product second_entry.now.product)) }
+{
+    if !next.equal(other_next) {
+        return Ok(());
+    }
+    let mut product = first_entry.product.copy(alloc)?;
+    product.union(&second_entry.product);
+    let mut places = Values::new(alloc);
+    places.push(first)?;
+    places.push(second)?;
+    let claim = Claim::Same(term.copy(alloc)?, other.copy(alloc)?);
+    add(alloc, entries, more, claim, &product, Reason::Equal(places))?;
+    Ok(())
+}
+
+/// Adds the links of two entries that meet in one term.
+fn join_pair(
+    alloc: Global,
+    entries: &[Entry],
+    first: usize,
+    first_entry: &Entry,
+    second: usize,
+    second_entry: &Entry,
+    count: usize,
+    more: &mut List<Entry>,
+) -> Result<(), OutOfMemory>
+    requires first { slice_get entries.now first ≡ Some first_entry.now }
+    requires second { slice_get entries.now second ≡ Some second_entry.now }
+    requires counts { AreOfCount count entries.now }
+    requires more_counts { AreOfCount count more.old }
+    ensures grows { OnOk result
+        ((rules : List Rule) → Grows rules count entries.now more.old more.new) }
+    ensures joined { OnOk result
+        (IsPairJoined (entries.now ++ more.new) first_entry.now second_entry.now) }
+{
+    match &first_entry.claim {
+        Claim::Fact(_) => Ok(()),
+        Claim::Same(left, right) => match &second_entry.claim {
+            Claim::Fact(_) => Ok(()),
+            Claim::Same(other_left, other_right) => {
+                join_ends(
+                    alloc,
+                    entries,
+                    first,
+                    first_entry,
+                    second,
+                    second_entry,
+                    left,
+                    right,
+                    other_left,
+                    other_right,
+                    count,
+                    more,
+                )?;
+                join_ends(
+                    alloc,
+                    entries,
+                    first,
+                    first_entry,
+                    second,
+                    second_entry,
+                    left,
+                    right,
+                    other_right,
+                    other_left,
+                    count,
+                    more,
+                )?;
+                join_ends(
+                    alloc,
+                    entries,
+                    first,
+                    first_entry,
+                    second,
+                    second_entry,
+                    right,
+                    left,
+                    other_left,
+                    other_right,
+                    count,
+                    more,
+                )?;
+                join_ends(
+                    alloc,
+                    entries,
+                    first,
+                    first_entry,
+                    second,
+                    second_entry,
+                    right,
+                    left,
+                    other_right,
+                    other_left,
+                    count,
+                    more,
+                )?;
+                Ok(())
+            }
+        },
+    }
+}
+
+/// Adds the links of an entry with every other.
+fn join_entry(
+    alloc: Global,
+    entries: &[Entry],
+    first: usize,
+    first_entry: &Entry,
+    count: usize,
+    more: &mut List<Entry>,
+) -> Result<(), OutOfMemory>
+    requires first { slice_get entries.now first ≡ Some first_entry.now }
+    requires counts { AreOfCount count entries.now }
+    requires more_counts { AreOfCount count more.old }
+    ensures grows { OnOk result
+        ((rules : List Rule) → Grows rules count entries.now more.old more.new) }
+    ensures joined { OnOk result
+        ((second : Entry) → Contains entries.now second
+        → IsPairJoined (entries.now ++ more.new) first_entry.now second) }
+{
+    'entries: for (second, second_entry) in entries.iter().enumerate() {
+        join_pair(
+            alloc,
+            entries,
+            first,
+            first_entry,
+            second,
+            second_entry,
+            count,
+            more,
+        )?;
+    }
+    Ok(())
+}
+
+/// Adds the links of every two entries that meet in one term.
+fn join(
+    alloc: Global,
+    entries: &[Entry],
+    count: usize,
+    more: &mut List<Entry>,
+) -> Result<(), OutOfMemory>
+    requires counts { AreOfCount count entries.now }
+    requires more_counts { AreOfCount count more.old }
+    ensures grows { OnOk result
+        ((rules : List Rule) → Grows rules count entries.now more.old more.new) }
+    ensures joined { OnOk result (AreJoined entries.now (entries.now ++ more.new)) }
+{
+    'entries: for (first, first_entry) in entries.iter().enumerate() {
+        join_entry(alloc, entries, first, first_entry, count, more)?;
+    }
+    Ok(())
+}
+
+/// What the rules and the links ask for among the entries and the entries do not cover yet: what was derived stays
+/// derived, and in each world all that the entries ask for is covered by them and what is answered.
+pub fn round(
+    alloc: Global,
+    entries: &[Entry],
+    rules: &[Constraint],
+    count: usize,
+) -> Result<List<Entry>, OutOfMemory>
+    requires counts { AreOfCount count entries.now }
+    ensures grows { IfOk result (λ more. Grows (rules_of rules.now) count entries.now [] more) }
+    ensures answered { IfOk result
+        (λ more. AreAnswered (rules_of rules.now) entries.now (entries.now ++ more)) }
+    ensures joined { IfOk result (λ more. AreJoined entries.now (entries.now ++ more)) }
+{
+    let mut more = answer_rules(alloc, entries, rules, count)?;
+    join(alloc, entries, count, &mut more)?;
+    Ok(more)
+}

@@ -1,0 +1,3 @@
+pub mod FixingLemmas
+pub mod LeftLemmas
+pub mod CoredLemmas

@@ -1,0 +1,14 @@
+pub mod Spots
+pub mod Worlds
+pub mod KindRules
+pub mod PatternLemmas
+pub mod ExtendingLemmas
+pub mod NodeLemmas
+pub mod TieLemmas
+pub mod SameLemmas
+pub mod RuleLemmas
+pub mod FlatLemmas
+pub mod ShapeLemmas
+pub mod EncodeLemmas
+pub mod RisingLemmas
+pub mod FactLemmas

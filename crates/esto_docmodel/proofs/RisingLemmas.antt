@@ -1,0 +1,86 @@
+-- A row whose names rise has each name once.
+use Rattle.std.proofs.Common.{◌≡◌, List, ℕ, sym, ap, subst, ◌∙◌, inl, inr}
+use Rattle.std.proofs.lemmas.Bool.{false≢true}
+use Rattle.std.proofs.lemmas.Cmp.{nat_list_cmp_total}
+use Rattle.std.specs.Cmp.Lexicographic.{slice_cmp}
+use Rattle.std.specs.Ordering.{nat_cmp, ordering_reverse}
+use Rattle.std.specs.declared.cmp.Ordering.TheVariants.{Less, Greater}
+use Rattle.esto_docmodel.proofs.Spots.{AreNamedOnce}
+use Rattle.esto_docmodel.specs.Forests.{Label, name, place, Forest, none, kid, Node, HasKid}
+use Rattle.esto_docmodel.specs.Names.{names_of, rise_from, Rise}
+use Rattle.esto_docmodel.specs.Rising.{Precedes, PrecedesRow, IsRising, AreInside}
+use Rattle.esto_docmodel.specs.Shapes.{shape, row, named_row, shaped_field}
+use Rattle.std.specs.Prelude.{IsTrue}
+use Rattle.esto_docmodel.specs.declared.field.FieldOf.{FieldOf}
+use Rattle.esto_docmodel.specs.declared.tree.Tree.{Tree}
+use Rattle.std.proofs.Common.{Bool, false, cond, zero, suc, [], ◌∷◌, ◌≤◌, length, drop, map, refl, arith}
+use Rattle.std.specs.Ordering.{is_lt}
+use Rattle.std.specs.declared.cmp.Ordering.{Ordering}
+use Rattle.std.specs.declared.cmp.Ordering.TheVariants.{Equal}
+
+name_inj : {c d : List ℕ} → name c ≡ name d → c ≡ d
+name_inj e = cc
+
+not_itself : (c : List ℕ) → slice_cmp nat_cmp c c ≡ Less → ⊥
+not_itself c less =
+    let turn : Less ≡ ordering_reverse Less = sym less ∙ nat_list_cmp_total.antisymm c c ∙ ap ordering_reverse less in
+    let wrong : Less ≡ Greater = turn in
+    cc
+
+above : (c d : List ℕ) (k : Label) → slice_cmp nat_cmp c d ≡ Less → Precedes (name d) k → Precedes (name c) k
+above c d (name e) less more = nat_list_cmp_total.trans c d e less more
+above c d place less more = more
+
+above_row : (c d : List ℕ) (rest : Forest) → slice_cmp nat_cmp c d ≡ Less → PrecedesRow (name d) rest → PrecedesRow (name c) rest
+above_row c d none less more = tt
+above_row c d (kid k t i rest) less more = above c d k less more
+
+-- a name before a rising row isn't in it
+absent : (c : List ℕ) (rest : Forest) (u : Node) → PrecedesRow (name c) rest → IsRising rest → HasKid rest (name c) u → ⊥
+absent c none u before rising h = h
+absent c (kid (name d) t i rest) u before rising (inl g) = not_itself c (subst (λ (w : List ℕ). slice_cmp nat_cmp c w ≡ Less) (name_inj g.0) before)
+absent c (kid (name d) t i rest) u before rising (inr h) = absent c rest u (above_row c d rest before rising.0) rising.1.1 h
+absent c (kid place t i rest) u before rising h = before
+
+once_at : (l : Label) (rest : Forest) → PrecedesRow l rest → IsRising rest → (k : List ℕ) (u : Node) → l ≡ name k → HasKid rest (name k) u → ⊥
+once_at l rest before rising k u is h = absent k rest u (subst (λ (w : Label). PrecedesRow w rest) is before) rising h
+
+pub named_once : (f : Forest) → IsRising f → AreNamedOnce f
+named_once none rising = tt
+named_once (kid l t i rest) rising = (once_at l rest rising.0 rising.1.1, (named_once i rising.1.0, named_once rest rising.1.1))
+
+-- ---- rows of the code's trees
+
+less_of : (o : Ordering) (b : Bool) → IsTrue (cond (is_lt o) b false) → (o ≡ Less) × IsTrue b
+less_of Less b h = (refl, h)
+less_of Equal b h = absurd (false≢true h)
+less_of Greater b h = absurd (false≢true h)
+
+rising_fields : (fs : List (FieldOf Tree)) → Rise fs → AreInside (named_row (map shaped_field fs)) → IsRising (named_row (map shaped_field fs))
+rising_fields [] rise inside = tt
+rising_fields (f ∷ []) rise inside = (tt, (inside.0, tt))
+rising_fields (f ∷ g ∷ fs) rise inside =
+    let both = less_of (slice_cmp nat_cmp f.name g.name) (rise_from g.name (names_of fs)) rise in
+    (both.0, (inside.0, rising_fields (g ∷ fs) both.1 inside.1))
+
+rising_items : (ts : List Tree) → AreInside (row (map shape ts)) → IsRising (row (map shape ts))
+rising_items [] inside = tt
+rising_items (t ∷ []) inside = (tt, (inside.0, tt))
+rising_items (t ∷ u ∷ ts) inside = (tt, (inside.0, rising_items (u ∷ ts) inside.1))
+
+drop_none : {X : Type 0} (xs : List X) (i : ℕ) → length xs ≤ i → drop i xs ≡ []
+drop_none [] zero past = refl
+drop_none [] (suc i) past = refl
+drop_none (x ∷ xs) zero past = absurd (omega arith)
+drop_none (x ∷ xs) (suc i) past = drop_none xs i (omega arith)
+
+pub field_end : (items fields : List (FieldOf Tree)) (i : ℕ) → length items ≤ i → items ≡ fields → Rise items
+    → (AreInside (named_row (map shaped_field (drop i items))) → AreInside (named_row (map shaped_field items)))
+    → IsRising (named_row (map shaped_field fields))
+field_end items fields i past is rise known =
+    subst (λ (w : List (FieldOf Tree)). IsRising (named_row (map shaped_field w))) is
+    (rising_fields items rise (known (subst (λ (w : List (FieldOf Tree)). AreInside (named_row (map shaped_field w))) (sym (drop_none items i past)) tt)))
+
+pub item_end : (items : List Tree) (i : ℕ) → length items ≤ i → (AreInside (row (map shape (drop i items))) → AreInside (row (map shape items)))
+    → IsRising (row (map shape items))
+item_end items i past known = rising_items items (known (subst (λ (w : List Tree). AreInside (row (map shape w))) (sym (drop_none items i past)) tt))

@@ -1,0 +1,24 @@
+use Rattle.esto_docmodel.proofs.EncodeLemmas.{field_turn, item_turn, field_inside, item_inside}
+use Rattle.std.proofs.Common.{arith}
+use Rattle.esto_docmodel.proofs.RisingLemmas.{field_end, item_end}
+use Rattle.esto_docmodel.proofs.encode.+put.Goals as goal
+
+pub put_fields-fields-preserved : goal.put_fields-fields-preserved
+put_fields-fields-preserved t c = let p =
+    field_turn _ _ _ _ _ _ _ _ _ _ _ c.requires.inside c.items-field-items.result.now _ _ _ c.fields-test.true c.field-item.is c.in_ok-copy.ensures
+    c.in_ok-put_three.ensures c.in_ok-next.ensures.facts c.in_ok-next.ensures.next (c.fields.invariant.0, c.fields.invariant.1) in
+    (p.0, p.1, field_inside c.items-field-items.result.now _ _ _ c.fields-test.true c.field-item.is c.in_ok-next.ensures.rising c.fields.invariant.2)
+
+pub put_items-items-preserved : goal.put_items-items-preserved
+put_items-items-preserved t c = let p =
+    item_turn _ _ _ _ _ _ _ _ _ _ _ c.requires.inside _ _ _ c.items-test.true c.item-item.is c.in_ok-put_two.ensures c.in_ok-next.ensures.facts
+    c.in_ok-next.ensures.next (c.items.invariant.0, c.items.invariant.1) in
+    (p.0, p.1, item_inside _ _ _ _ c.items-test.true c.item-item.is c.in_ok-next.ensures.rising c.items.invariant.2)
+
+pub put_fields-returns-clause-rising : goal.put_fields-returns-clause-rising
+put_fields-returns-clause-rising t c =
+    field_end c.items-field-items.result.now c.args.fields.now c.fields.field-index
+    (omega (arith, c.fields-test.false)) c.items-field-items.ensures.value c.items-field-items.ensures.rise c.fields.invariant.2
+
+pub put_items-returns-clause-rising : goal.put_items-returns-clause-rising
+put_items-returns-clause-rising t c = item_end c.args.items.now c.items.item-index (omega (arith, c.items-test.false)) c.items.invariant.2

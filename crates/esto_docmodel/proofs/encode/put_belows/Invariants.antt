@@ -1,0 +1,10 @@
+use Rattle.std.proofs.Common.{◌≡◌, ◌++◌, map, drop}
+use Rattle.esto_docmodel.specs.DocumentFacts.{flat}
+use Rattle.esto_docmodel.specs.Encodings.{belows}
+use Rattle.esto_docmodel.specs.Putting.{turned}
+use Rattle.esto_docmodel.proofs.encode.put_belows.Given as goal
+
+-- the facts so far, with those of the nodes above that are left, are all of them
+abbrev pub invariant-above : goal.invariant-above
+invariant-above l = l.facts ++ map (flat l.base) (belows (turned (drop l.ancestor-index l.above)) l.number) ≡ l.initial.facts
+    ++ map (flat l.base) (belows (turned l.above) l.number)

@@ -1,0 +1,10 @@
+pub mod formers
+pub mod Names
+pub mod Forests
+pub mod Shapes
+pub mod Rising
+pub mod Patterns
+pub mod DocumentFacts
+pub mod Encodings
+pub mod Meanings
+pub mod Putting

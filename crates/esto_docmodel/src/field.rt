@@ -1,0 +1,9 @@
+//! Fields.
+use esto_term::Text;
+
+/// A field: its name, and what stands there.
+#[derive(Debug, Drop)]
+pub struct FieldOf<T> {
+    pub name: Text,
+    pub tree: T,
+}

@@ -1,0 +1,16 @@
+//! Documents and patterns of them: the facts of documents, the atoms of a pattern, and a pattern's own meaning. Contracts
+//! see a tree by its shape and a pattern by its entries, as the definitions in `specs/` have them.
+#![tactic(auto)]
+
+mod encode;
+mod field;
+mod fields;
+mod laws;
+mod pattern;
+mod tree;
+
+pub use encode::{Encoded, EncodedAtoms, encode_documents, encode_pattern};
+pub use field::FieldOf;
+pub use laws::{documents_meet_the_rules, encodings_mean_the_same};
+pub use pattern::{Entries, Entry, Path, Pattern, Step};
+pub use tree::{Field, Fields, Tree, Trees};

@@ -1,0 +1,115 @@
+-- Joins, row by row.
+use Rattle.std.proofs.Common.{◌≡◌, ◌⊎◌, ◌↔◌, inl, inr, ℕ, ◌+◌, ◌<◌, ◌≤◌, List, [], ◌∷◌, ◌++◌, length, get_or, take, Some, slice_get, Contains, refl, sym, ap, ◌∙◌, subst}
+use Rattle.std.proofs.lemmas.List.{take_more, take_all}
+use Rattle.std.proofs.lemmas.List.Elements.{Contains-append_left, Contains-push, Contains-push_cases}
+use Rattle.std.proofs.lemmas.Option.{same_Some}
+use Rattle.esto_term.proofs.ListLemmas.{Contains-at}
+use Rattle.esto_term.proofs.ListLemmas.{place-from_Contains}
+use Rattle.esto_plan.specs.declared.steps.Get.{Get}
+use Rattle.esto_plan.specs.declared.steps.Source.{Source}
+use Rattle.esto_plan.specs.Meaning.{Follows}
+use Rattle.esto_exec.specs.Named.{NamesCodes}
+use Rattle.esto_exec.specs.Joined.{IsJoin, IsFollower, IsFollowerAt, GainsOnly}
+use Rattle.esto_exec.proofs.IndexLemmas.{one_key}
+
+-- ---- one more thing of a list
+
+pub taken_more : {X : Type 0} (things : List X) (count : ℕ) (thing it : X) → count < length things → thing ≡ get_or things count thing
+    → Contains (take (count + 1) things) it ↔ (Contains (take count things) it ⊎ (thing ≡ it))
+taken_more things count thing it below is =
+    let more : take (count + 1) things ≡ take count things ++ thing ∷ [] =
+    take_more things count thing below ∙ ap (λ x. take count things ++ x ∷ []) (sym is) in (
+      λ has. Contains-push_cases (take count things) thing it (subst (λ xs. Contains xs it) more has),
+      λ has. subst (λ xs. Contains xs it) (sym more) (elim has [
+        | inl before ↦ Contains-append_left (take count things) (thing ∷ []) it before
+        | inr same ↦ subst (Contains (take count things ++ thing ∷ [])) same (Contains-push (take count things) thing)
+      ]),
+    )
+
+-- what a list gains over some things, one by one
+module _ {X : Type 0} (Has : X → List ℕ → Type 0) (things : List X) where
+  abbrev pub Some_has : List X → List ℕ → Type 0
+  Some_has some it = (x : X) × Contains some x × Has x it
+
+  pub gains_more : (start old new : List (List ℕ)) (count : ℕ) (thing : X) → count < length things → thing ≡ get_or things count thing
+      → GainsOnly start old (Some_has (take count things)) → GainsOnly old new (Has thing)
+      → GainsOnly start new (Some_has (take (count + 1) things))
+  gains_more start old new count thing below is before gains it = (
+    λ has. elim ((gains it).0 has) [
+      | inl in_old ↦ elim ((before it).0 in_old) [
+        | inl in_start ↦ inl in_start
+        | inr (x, among, of_x) ↦ inr (x, (taken_more things count thing x below is).1 (inl among), of_x)
+      ]
+      | inr of_thing ↦ inr (thing, (taken_more things count thing thing below is).1 (inr refl), of_thing)
+    ],
+    λ has. (gains it).1 (elim has [
+      | inl in_start ↦ inl ((before it).1 (inl in_start))
+      | inr (x, among, of_x) ↦ elim ((taken_more things count thing x below is).0 among) [
+        | inl earlier ↦ inl ((before it).1 (inr (x, earlier, of_x)))
+        | inr same ↦ inr (subst (λ y. Has y it) (sym same) of_x)
+      ]
+    ]),
+  )
+
+  pub gains_all : (start new : List (List ℕ)) (count : ℕ) → length things ≤ count → GainsOnly start new (Some_has (take count things))
+      → GainsOnly start new (Some_has things)
+  gains_all start new count past gains = subst (λ xs. GainsOnly start new (Some_has xs)) (take_all count things past) gains
+
+-- ---- followers
+
+pub follower_pushed : (get : Get) (cells : List ℕ) (rows old new : List (List ℕ)) (place : ℕ) (row both : List ℕ) → slice_get rows place ≡ Some row
+    → Follows get cells row → both ≡ cells ++ row → new ≡ old ++ both ∷ []
+    → GainsOnly old new (IsFollowerAt get cells rows place)
+follower_pushed get cells rows old new place row both at follows is grown it = (
+  λ has. elim (Contains-push_cases old both it (subst (λ xs. Contains xs it) grown has)) [
+    | inl before ↦ inl before
+    | inr same ↦ inr (row, at, follows, sym same ∙ is)
+  ],
+  λ has. subst (λ xs. Contains xs it) (sym grown) (elim has [
+    | inl before ↦ Contains-append_left old (both ∷ []) it before
+    | inr (other, at_place, also, it_is) ↦
+        let same : other ≡ row = same_Some other row (sym at_place ∙ at) in
+        subst (Contains (old ++ both ∷ [])) (is ∙ ap (λ xs. cells ++ xs) (sym same) ∙ sym it_is) (Contains-push old both)
+  ]),
+)
+
+-- the places of a key have all followers
+pub followers_found : (get : Get) (cells : List ℕ) (rows old new : List (List ℕ)) (sources columns : List Source) (key places : List ℕ)
+    → NamesCodes cells sources key
+    → ((row : List ℕ) → Follows get cells row → (codes : List ℕ) × NamesCodes cells sources codes × NamesCodes row columns codes)
+    → ((place : ℕ) (row : List ℕ) → slice_get rows place ≡ Some row → NamesCodes row columns key → Contains places place)
+    → GainsOnly old new (λ both. (place : ℕ) × Contains places place × IsFollowerAt get cells rows place both) → GainsOnly old new (IsFollower get cells rows)
+followers_found get cells rows old new sources columns key places named names there gains it = (
+  λ has. elim ((gains it).0 has) [
+    | inl before ↦ inl before
+    | inr (place, among, follower) ↦ inr (follower.0, Contains-at rows place follower.0 follower.1, follower.2, follower.3)
+  ],
+  λ has. (gains it).1 (elim has [
+    | inl before ↦ inl before
+    | inr (row, among, follows, is) ↦
+        let at = place-from_Contains rows row among in let codes = names row follows in
+        inr (at.0, there at.0 row at.1 (subst (NamesCodes row columns) (one_key cells sources codes.0 key codes.1 named) codes.2), (row, at.1, follows, is))
+  ]),
+)
+
+-- ---- joins
+
+pub joins_more : (get : Get) (so_far rows old new items : List (List ℕ)) (count : ℕ) (cells : List ℕ) → count < length items → cells ≡ get_or items count cells
+    → ((both : List ℕ) → Contains old both ↔ IsJoin get (take count items) rows both) → GainsOnly old new (IsFollower get cells rows) → (both : List ℕ)
+    → Contains new both ↔ IsJoin get (take (count + 1) items) rows both
+joins_more get so_far rows old new items count cells below is before gains both = (
+  λ has. elim ((gains both).0 has) [
+    | inl in_old ↦ let join = (before both).0 in_old in (join.0, join.1, (taken_more items count cells join.0 below is).1 (inl join.2), join.3, join.4, join.5)
+    | inr follower ↦ (cells, follower.0, (taken_more items count cells cells below is).1 (inr refl), follower.1, follower.2, follower.3)
+  ],
+  λ join. (gains both).1 (elim ((taken_more items count cells join.0 below is).0 join.2) [
+    | inl earlier ↦ inl ((before both).1 (join.0, join.1, earlier, join.3, join.4, join.5))
+    | inr same ↦ inr (join.1, join.3, subst (λ it. Follows get it join.1) (sym same) join.4, join.5 ∙ ap (λ it. it ++ join.1) (sym same))
+  ]),
+)
+
+pub joins_all : (get : Get) (so_far rows new items : List (List ℕ)) (count : ℕ) → items ≡ so_far → length items ≤ count
+    → ((both : List ℕ) → Contains new both ↔ IsJoin get (take count items) rows both)
+    → (both : List ℕ) → Contains new both ↔ IsJoin get so_far rows both
+joins_all get so_far rows new items count same past joins =
+    subst (λ them. (both : List ℕ) → Contains new both ↔ IsJoin get them rows both) (take_all count items past ∙ same) joins

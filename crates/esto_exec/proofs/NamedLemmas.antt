@@ -1,0 +1,69 @@
+-- Codes that sources name, and links that are met.
+use Rattle.std.proofs.Common.{◌≡◌, ◌⊎◌, inl, inr, ℕ, zero, suc, ◌<◌, ◌≤◌, List, [], ◌∷◌, ◌++◌, map, length, get_or, Some, None, slice_get, Contains, refl, sym, ap, ◌∙◌, subst, arith}
+use Rattle.std.proofs.lemmas.List.{length-map}
+use Rattle.std.proofs.lemmas.Option.{none-some, slice_get-get_or}
+use Rattle.esto_term.proofs.ListLemmas.{map_at, map_at-from}
+use Rattle.esto_term.proofs.ListLemmas.{Contains-head, Contains-rest}
+use Rattle.esto_plan.specs.declared.steps.Get.{Get}
+use Rattle.esto_plan.specs.declared.steps.Link.{Link}
+use Rattle.esto_plan.specs.declared.steps.Source.{Source}
+use Rattle.esto_plan.specs.declared.steps.Source.TheVariants.{Code, Cell}
+use Rattle.esto_plan.specs.Meaning.{code_at, IsMet, Follows}
+use Rattle.esto_exec.specs.Named.{NamesCodes, IsEarly}
+
+-- a source that names nothing
+pub none_names : (cells : List ℕ) (sources items : List Source) → items ≡ sources → (at : ℕ) (source : Source) → at < length items
+    → source ≡ get_or items at source → code_at cells source ≡ None
+    → (codes : List ℕ) × NamesCodes cells sources codes → ⊥
+none_names cells sources items same at source below is none (codes, named) =
+    let there : slice_get sources at ≡ Some source = ap (λ it. slice_get it at) (sym same) ∙ slice_get-get_or items at source below ∙ ap Some (sym is) in
+    let found = map_at-from Some codes at None (ap (λ it. slice_get it at) (sym named) ∙ map_at (code_at cells) sources at source there ∙ ap Some none) in
+    none-some found.0 (sym found.2)
+
+pub length-named : (cells : List ℕ) (sources : List Source) (codes : List ℕ) → NamesCodes cells sources codes → length codes ≡ length sources
+length-named cells sources codes named = sym (length-map codes Some) ∙ sym (ap length named) ∙ length-map sources (code_at cells)
+
+-- links that are met name one list of codes in the cells and in the row
+pub met_names : (cells row : List ℕ) (links : List Link) → ((link : Link) → Contains links link → IsMet cells row link)
+    → (codes : List ℕ) × NamesCodes cells (map (λ link. link.source) links) codes × NamesCodes row (map (λ link. Cell link.column) links) codes
+met_names cells row [] met = ([], refl, refl)
+met_names cells row (link ∷ links) met =
+    let first = met link (Contains-head link links) in let rest = met_names cells row links (λ it inside. met it (Contains-rest link links it inside)) in
+    (first.0 ∷ rest.0, (λ i. first.2 i ∷ rest.1 i), (λ i. first.1 i ∷ rest.2 i))
+
+-- ---- early links
+
+abbrev pub AreEarly : Get → ℕ → List Link → Type 0
+AreEarly get width links = (cells row : List ℕ) → width ≤ length cells → Follows get cells row → (link : Link) → Contains links link → IsMet cells row link
+
+front_at : (cells row : List ℕ) (place : ℕ) → place < length cells → slice_get (cells ++ row) place ≡ slice_get cells place
+front_at [] row place below = absurd (omega (arith, below))
+front_at (first ∷ cells) row zero below = refl
+front_at (first ∷ cells) row (suc place) below = front_at cells row place (omega (arith, below))
+
+early_code : (width : ℕ) (source : Source) (cells row : List ℕ) → IsEarly width source → width ≤ length cells
+    → code_at (cells ++ row) source ≡ code_at cells source
+early_code width (Code code) cells row early wide = refl
+early_code width (Cell place) cells row early wide = front_at cells row place (omega (arith, early, wide))
+
+pub inputs_early : (get : Get) (width : ℕ) (links : List Link) → ((link : Link) → Contains links link → Contains get.inputs link) → AreEarly get width links
+inputs_early get width links among cells row wide follows link inside = follows.inputs link (among link inside)
+
+pub filters_early : (get : Get) (width : ℕ) (links more : List Link) (link : Link) → AreEarly get width links → Contains get.filters link
+    → ((it : Link) → Contains more it → Contains links it ⊎ (IsEarly width link.source × (it ≡ link))) → AreEarly get width more
+filters_early get width links more link early among grown cells row wide follows it inside = elim (grown it inside) [
+  | inl old ↦ early cells row wide follows it old
+  | inr new ↦ let met = follows.filters link among in
+      subst (IsMet cells row) (sym new.1) (met.0, met.1, sym (early_code width link.source cells row new.0 wide) ∙ met.2)
+]
+
+-- the early links name one list of codes in the cells and in each row that follows
+pub early_names : (get : Get) (width : ℕ) (links : List Link) (sources columns : List Source) (so_far items : List (List ℕ)) → items ≡ so_far
+    → (index : ℕ) (cells item : List ℕ) → index < length items → item ≡ get_or items index item
+    → cells ≡ item → ((row : List ℕ) → Contains so_far row → width ≤ length row) → AreEarly get width links → sources ≡ map (λ (link : Link). link.source) links
+    → columns ≡ map (λ (link : Link). Cell link.column) links
+    → (row : List ℕ) → Follows get cells row → (codes : List ℕ) × NamesCodes cells sources codes × NamesCodes row columns codes
+early_names get width links sources columns so_far items same index cells item below at is wide early sources_are columns_are row follows =
+    let in_items : Contains items cells = subst (Contains items) (sym is) (index, below, sym at) in
+    let names = met_names cells row links (early cells row (wide cells (subst (λ them. Contains them cells) same in_items)) follows) in
+    (names.0, subst (λ it. NamesCodes cells it names.0) (sym sources_are) names.1, subst (λ it. NamesCodes row it names.0) (sym columns_are) names.2)

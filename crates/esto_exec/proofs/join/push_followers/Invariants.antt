@@ -1,0 +1,7 @@
+use Rattle.std.proofs.Common.{ℕ, take, Contains}
+use Rattle.esto_exec.specs.Joined.{GainsOnly, IsFollowerAt}
+use Rattle.esto_exec.proofs.join.push_followers.Given as goal
+
+abbrev pub invariant-places : goal.invariant-places
+invariant-places l = GainsOnly l.initial.into l.into
+    (λ both. (place : ℕ) × Contains (take l.place-index l.places) place × IsFollowerAt l.get l.cells l.rows place both)

@@ -1,0 +1,41 @@
+use Rattle.std.proofs.Common.{◌<◌, [], map, get_or, length, arith}
+use Rattle.std.proofs.lemmas.Result.{IfOk-weaker}
+use Rattle.esto_plan.specs.Rows.{IsRowOf}
+use Rattle.esto_exec.proofs.RunLemmas.{fragment_there, fragment_allows, fragment_rows, leads_more, leads_all}
+use Rattle.esto_exec.proofs.run.run_plan.Goals as goal
+
+pub bounds-fragments-get : goal.bounds-fragments-get
+bounds-fragments-get g c =
+    fragment_there g.F.Fragment.shape g.F.Fragment.rows c.args.fragments.now c.args.steps.now.gets c.items-get-items.result.now c.gets.get-index
+    c.get-item.result c.items-get-items.ensures c.gets-test.true c.get-item.is c.requires
+
+pub offset_bounds-fragments-get : goal.offset_bounds-fragments-get
+offset_bounds-fragments-get g c =
+    let below : c.get-item.result.fragment < length c.args.fragments.now =
+    fragment_there g.F.Fragment.shape g.F.Fragment.rows c.args.fragments.now c.args.steps.now.gets c.items-get-items.result.now c.gets.get-index
+    c.get-item.result c.items-get-items.ensures c.gets-test.true c.get-item.is c.requires in
+    omega (arith, below)
+
+pub followed-requires : goal.followed-requires
+followed-requires g c =
+    fragment_allows g.F.Fragment.shape g.F.Fragment.rows c.args.fragments.now c.args.steps.now.gets c.items-get-items.result.now c.gets.get-index
+    c.get-item.result c.index-fragments-get.result c.items-get-items.ensures c.gets-test.true
+    c.get-item.is c.requires c.index-fragments-get.is
+
+pub gets-preserved : goal.gets-preserved
+gets-preserved g c =
+    leads_more (IsRowOf (λ number. get_or (map g.F.Fragment.rows c.args.fragments.now) number [])) c.items-get-items.result.now c.gets.get-index
+    c.get-item.result c.gets.so_far c.in_ok-so_far.so_far
+    (g.F.Fragment.rows c.index-fragments-get.result) c.gets-test.true c.get-item.is
+    (fragment_rows g.F.Fragment.shape g.F.Fragment.rows c.args.fragments.now c.get-item.result.fragment c.index-fragments-get.result
+    (fragment_there g.F.Fragment.shape g.F.Fragment.rows c.args.fragments.now c.args.steps.now.gets c.items-get-items.result.now c.gets.get-index
+    c.get-item.result c.items-get-items.ensures c.gets-test.true c.get-item.is c.requires)
+    c.index-fragments-get.is)
+    c.gets.invariant c.in_ok-so_far.ensures
+
+pub returns-clause-rows : goal.returns-clause-rows
+returns-clause-rows g c =
+    IfOk-weaker c.projected.result _ _
+    (λ it. leads_all (IsRowOf (λ number. get_or (map g.F.Fragment.rows c.args.fragments.now) number [])) c.args.steps.now c.items-get-items.result.now
+    c.gets.get-index c.gets.so_far it.rows c.items-get-items.ensures c.gets-test.false c.gets.invariant)
+    c.projected.ensures.rows

@@ -1,0 +1,14 @@
+-- Codes that sources name.
+use Rattle.std.specs.Prelude.{◌≡◌, ℕ, ◌<◌, List, Some, map}
+use Rattle.esto_plan.specs.declared.steps.Source.{Source}
+use Rattle.esto_plan.specs.declared.steps.Source.TheVariants.{Code, Cell}
+use Rattle.esto_plan.specs.Meaning.{code_at}
+
+-- The sources name the codes in the cells, one each.
+abbrev pub NamesCodes : List ℕ → List Source → List ℕ → Type 0
+NamesCodes cells sources codes = map (code_at cells) sources ≡ map Some codes
+
+-- The source is a code, or one of the first cells, so many.
+abbrev pub IsEarly : ℕ → Source → Type 0
+IsEarly width (Code code) = Unit {0}
+IsEarly width (Cell place) = place < width

@@ -1,0 +1,125 @@
+//! Rows so far joined with rows of a fragment.
+ghost use Rattle.std.specs.Prelude.{◌≡◌, ◌↔◌, ◌++◌, List, ℕ, Contains, IfOk, OnOk, IsTrue};
+ghost use Rattle.esto_plan.specs.Meaning.{Follows};
+ghost use Rattle.esto_plan.specs.declared.steps.Source.{Source};
+ghost use Rattle.esto_exec.specs.Indexed.{FindsRows};
+ghost use Rattle.esto_exec.specs.Joined.{IsJoin, IsFollower, IsFollowerAt, GainsOnly};
+ghost use Rattle.esto_exec.specs.Named.{NamesCodes};
+
+use crate::codes::{CodeRows, codes_at, each_met};
+use crate::index::index_of;
+use crate::links::{columns_of, early_links, least_len, sources_of};
+use esto_columns::Index;
+use esto_plan::{Get, Sources};
+use esto_term::{List, OutOfMemory, Values};
+use std::alloc::Global;
+
+/// The cells with those of the row after them.
+fn appended(alloc: Global, cells: &[u64], row: &[u64]) -> Result<Values<u64>, OutOfMemory>
+    ensures { IfOk result (λ it. it ≡ cells.now ++ row.now) }
+{
+    let mut both = Values::from_slice(alloc, cells)?;
+    'codes: for code in row {
+        both.push(*code)?;
+    }
+    Ok(both)
+}
+
+/// Whether the row follows the cells; the two are also given one after the other.
+fn follows(get: &Get, cells: &[u64], both: &[u64], row: &[u64]) -> bool
+    requires { both.now ≡ cells.now ++ row.now }
+    ensures { IsTrue result ↔ Follows get.now cells.now row.now }
+{
+    each_met(cells, row, &get.inputs) && each_met(both, row, &get.filters)
+}
+
+/// Puts the row at the place after the cells, where it is there and follows them.
+fn push_follower(
+    alloc: Global,
+    get: &Get,
+    cells: &[u64],
+    rows: &CodeRows,
+    place: usize,
+    into: &mut CodeRows,
+) -> Result<(), OutOfMemory>
+    ensures { OnOk result
+        (GainsOnly into.old into.new (IsFollowerAt get.now cells.now rows.now place)) }
+{
+    if place >= rows.len() {
+        return Ok(());
+    }
+    let row = rows.item(place).items();
+    let both = appended(alloc, cells, row)?;
+    if !follows(get, cells, both.items(), row) {
+        return Ok(());
+    }
+    into.push(both)
+}
+
+/// Puts those of the rows at the places that follow the cells after them.
+fn push_followers(
+    alloc: Global,
+    get: &Get,
+    cells: &[u64],
+    rows: &CodeRows,
+    places: &[usize],
+    into: &mut CodeRows,
+) -> Result<(), OutOfMemory>
+    ensures { OnOk result (GainsOnly into.old into.new (λ both. (place : ℕ)
+        × Contains places.now place × IsFollowerAt get.now cells.now rows.now place both)) }
+{
+    'places: for place in places {
+        push_follower(alloc, get, cells, rows, *place, into)?;
+    }
+    Ok(())
+}
+
+/// Puts each of the rows that follows the cells after them.
+fn push_joined(
+    alloc: Global,
+    get: &Get,
+    cells: &[u64],
+    rows: &CodeRows,
+    sources: &Sources,
+    index: &Index,
+    into: &mut CodeRows,
+) -> Result<(), OutOfMemory>
+    requires { (columns : List Source) × FindsRows rows.now columns index.now
+        × ((row : List ℕ) → Follows get.now cells.now row → (codes : List ℕ)
+        × NamesCodes cells.now sources.now codes × NamesCodes row columns codes) }
+    ensures { OnOk result (GainsOnly into.old into.new (IsFollower get.now cells.now rows.now)) }
+{
+    let Some(key) = codes_at(alloc, cells, sources)? else {
+        return Ok(());
+    };
+    push_followers(alloc, get, cells, rows, index.places(key.items()), into)
+}
+
+/// The rows so far, each with every one of the rows that follows it after it.
+pub(crate) fn joined(
+    alloc: Global,
+    get: &Get,
+    so_far: &CodeRows,
+    rows: &CodeRows,
+) -> Result<CodeRows, OutOfMemory>
+    ensures { IfOk result (λ it. (both : List ℕ)
+        → Contains it both ↔ IsJoin get.now so_far.now rows.now both) }
+{
+    let links = early_links(alloc, get, least_len(so_far))?;
+    let sources = sources_of(alloc, &links)?;
+    let columns = columns_of(alloc, &links)?;
+    let index = index_of(alloc, rows, &columns)?;
+    let mut joined = List::new(alloc);
+    'rows: for cells in so_far.items() {
+        push_joined(
+            alloc,
+            get,
+            cells.items(),
+            rows,
+            &sources,
+            &index,
+            &mut joined,
+        )?;
+    }
+    Ok(joined)
+}

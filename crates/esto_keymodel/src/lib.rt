@@ -1,0 +1,8 @@
+//! Key-value sets as facts: the facts of rows of a key, a field and a value, and which rows a key file can hold.
+#![tactic(auto)]
+
+mod facts;
+mod fault;
+
+pub use facts::pair_facts;
+pub use fault::key_row_fault;

@@ -1,0 +1,3 @@
+pub mod LeafLemmas
+pub mod WhyLemmas
+pub mod ProductLemmas

@@ -1,0 +1,60 @@
+use Rattle.std.proofs.Common.{◌≡◌, ◌<◌, ℕ, List, length, take, slice_get, Contains, Some, refl, sym, ap, ◌∙◌, subst, arith}
+use Rattle.esto_world_laws.specs.declared.entry.Entry.{Entry}
+use Rattle.esto_world_laws.specs.declared.entry.Reason.TheVariants as reason
+use Rattle.esto_prov.specs.Derivations.{HasReason, AreWhys}
+use Rattle.esto_prov.specs.Derivations.IsWhy.{expanded, step, same}
+use Rattle.esto_prov.proofs.WhyLemmas.{below_step, below_chain, has_reason, whys_more, place_below}
+use Rattle.esto_prov.proofs.why.+why.Goals as goal
+
+pub why_of-whys_of-requires : goal.why_of-whys_of-requires
+why_of-whys_of-requires t c = (
+  omega (arith, c.decreases),
+  (
+    below_step c.args.entries.now c.args.at c.index-entries-at.result c.in-Step.number c.in-Step.places c.items.result.now
+        c.requires.within c.index-entries-at.is (ap (λ (it : Entry). it.reason) c.index-entries-at.is ∙ c.in-Step.is) c.items.ensures c.requires.reasoned,
+    (omega (arith, c.requires.within), c.requires.reasoned),
+  ),
+)
+
+pub why_of-whys_of-requires-in-Equal : goal.why_of-whys_of-requires-in-Equal
+why_of-whys_of-requires-in-Equal t c = (
+  omega (arith, c.decreases),
+  (
+    below_chain c.args.entries.now c.args.at c.index-entries-at.result c.in-Equal.places c.items-in-Equal.result.now
+        c.requires.within c.index-entries-at.is
+        (ap (λ (it : Entry). it.reason) c.index-entries-at.is ∙ c.in-Equal.is) c.items-in-Equal.ensures c.requires.reasoned,
+    (omega (arith, c.requires.within), c.requires.reasoned),
+  ),
+)
+
+pub why_of-returns-in-Expanded : goal.why_of-returns-in-Expanded
+why_of-returns-in-Expanded t c =
+    expanded c.args.at c.in-Expanded.atom c.in-Expanded.place
+    (has_reason c.args.entries.now c.args.at c.index-entries-at.result (reason.Expanded c.in-Expanded.atom c.in-Expanded.place)
+    c.requires.within c.index-entries-at.is (ap (λ (it : Entry). it.reason) c.index-entries-at.is ∙ c.in-Expanded.is))
+
+pub why_of-returns-in_ok-parts-in-Step : goal.why_of-returns-in_ok-parts-in-Step
+why_of-returns-in_ok-parts-in-Step t c =
+    let whys = subst (λ it. AreWhys c.args.entries.now it c.in_ok-parts-in-Step.parts) c.items.ensures c.in_ok-parts-in-Step.ensures in
+    step c.args.at c.in-Step.number c.in-Step.places c.in_ok-parts-in-Step.parts
+    (has_reason c.args.entries.now c.args.at c.index-entries-at.result (reason.Step c.in-Step.number c.in-Step.places)
+    c.requires.within c.index-entries-at.is (ap (λ (it : Entry). it.reason) c.index-entries-at.is ∙ c.in-Step.is)) whys.as_many whys.each
+
+pub why_of-returns-in_ok-parts-in-Equal : goal.why_of-returns-in_ok-parts-in-Equal
+why_of-returns-in_ok-parts-in-Equal t c =
+    let whys = subst (λ it. AreWhys c.args.entries.now it c.in_ok-parts-in-Equal.parts) c.items-in-Equal.ensures c.in_ok-parts-in-Equal.ensures in
+    same c.args.at c.in-Equal.places c.in_ok-parts-in-Equal.parts
+    (has_reason c.args.entries.now c.args.at c.index-entries-at.result (reason.Equal c.in-Equal.places)
+    c.requires.within c.index-entries-at.is (ap (λ (it : Entry). it.reason) c.index-entries-at.is ∙ c.in-Equal.is)) whys.as_many whys.each
+
+pub whys_of-why_of-requires : goal.whys_of-why_of-requires
+whys_of-why_of-requires t c =
+    let below = place_below c.args.places.now c.places.place-index c.args.bound c.places-test.true c.requires.below in (
+      omega (arith, below, c.decreases),
+      (omega (arith, below, c.requires.within), c.requires.reasoned),
+    )
+
+pub whys_of-places-preserved : goal.whys_of-places-preserved
+whys_of-places-preserved t c =
+    whys_more c.args.entries.now c.args.places.now c.places.whys c.push.new.self c.places.place-index c.in_ok-why_of.field-0 c.places-test.true
+    c.places.invariant c.in_ok-why_of.ensures c.in_ok-push.ensures.ok

@@ -1,0 +1,9 @@
+//! Entries that keep their reasons: derivations of their claims, and the products of a claim.
+#![tactic(auto)]
+
+mod entries;
+mod why;
+
+pub use entries::{Entries, entries_are_reasoned};
+pub use esto_world_laws::{Chain, Claim, Entry, Reason};
+pub use why::{Why, Whys};

@@ -1,0 +1,17 @@
+-- Things each once, in order of first occurrence.
+use Rattle.std.specs.Prelude.{◌≡◌, ◌↔◌, ℕ, ◌<◌, Bool, true, false, List, [], ◌∷◌, ◌++◌, Some, slice_get, Contains, AllPairs}
+
+-- One of the things stands at a place before every place of the other.
+abbrev pub StandsBefore : {X : Type 0} → List X → X → X → Type 0
+StandsBefore things one other =
+    (place : ℕ) × (slice_get things place ≡ Some one) × ((later : ℕ) → slice_get things later ≡ Some other → place < later)
+
+-- What is kept are the things, each once, since none stands before itself, in the order in which they first stand.
+pub record AreEachOnce {X : Type 0} (things kept : List X) : Type 0 where
+  pub same : (thing : X) → Contains kept thing ↔ Contains things thing
+  pub in_order : AllPairs (λ one other. StandsBefore things one other) kept
+
+-- A thing that is new stands at the end now; one that was there adds nothing.
+abbrev pub IsAdded : {X : Type 0} → List X → List X → X → Bool → Type 0
+IsAdded old new thing true = ¬ (Contains old thing) × (new ≡ old ++ thing ∷ [])
+IsAdded old new thing false = Contains old thing × (new ≡ old)

@@ -1,0 +1,7 @@
+//! Tables as facts: the facts of rows, each row once.
+#![tactic(auto)]
+
+mod facts;
+mod seen;
+
+pub use facts::table_facts;

@@ -1,0 +1,60 @@
+//! The text of a CSV file.
+ghost use Rattle.std.specs.Prelude.{◌≡◌, ◌≢◌, ◌<◌, ◌++◌, true, map, length, All, AllPairs, IfOk, OnOk, None};
+ghost use Rattle.csv.specs.Writing.{default_writer, row_text};
+ghost use Rattle.esto_stores.specs.Rows.{are_texts};
+ghost use Rattle.esto_stores.specs.Table.{table_rows, table_fault};
+ghost use Rattle.esto_stores.specs.TableText.{StartsPlain, Writes, written, table_text};
+
+use csv::{Writer, WriterBuilder};
+use esto_term::{Bytes, OutOfMemory, Text, TextRow, TextRows};
+use std::alloc::Global;
+
+// The cells of a row, lent.
+fn lend_cells<'a>(alloc: Global, row: &'a [Text]) -> Result<Vec<&'a [u8]>, OutOfMemory>
+    ensures cells { IfOk result (λ cells. map (λ cell. cell.now) cells.items ≡ row.now) }
+    ensures texts { IfOk result (λ _. are_texts row.now ≡ true) }
+{
+    let mut cells = Vec::new(alloc);
+    'cells: for cell in row {
+        if cells.push(cell.bytes()).is_err() {
+            return Err(OutOfMemory);
+        }
+    }
+    Ok(cells)
+}
+
+// Writes one record. A writer over memory and rows of equal length leave no error but want of memory.
+fn put_row(alloc: Global, writer: &mut Writer<Vec<u8>>, row: &[Text]) -> Result<(), OutOfMemory>
+    requires { Writes writer.old }
+    ensures writes { OnOk result (Writes writer.new) }
+    ensures text { OnOk result
+        (written writer.new ≡ written writer.old ++ row_text default_writer row.now) }
+    ensures texts { OnOk result (are_texts row.now ≡ true) }
+{
+    let cells = lend_cells(alloc, row)?;
+    match writer.write_fields(cells.as_slice()) {
+        Ok(()) => Ok(()),
+        Err(_) => Err(OutOfMemory),
+    }
+}
+
+/// The text of a CSV file with these columns and rows. It is opened as the same rows.
+pub fn write_table(alloc: Global, columns: &TextRow, rows: &TextRows) -> Result<Bytes, OutOfMemory>
+    requires some { 0 < length columns.now }
+    requires distinct { AllPairs ◌≢◌ columns.now }
+    requires plain { StartsPlain columns.now }
+    requires lengths { All (λ row. length row ≡ length columns.now) rows.now }
+    ensures text { IfOk result (λ text. text ≡ table_text columns.now rows.now) }
+    ensures rows { IfOk result (λ text. table_rows columns.now text ≡ rows.now) }
+    ensures fault { IfOk result (λ text. table_fault columns.now text ≡ None) }
+{
+    let mut writer = WriterBuilder::new().from_writer(Vec::new(alloc));
+    put_row(alloc, &mut writer, columns.items())?;
+    'rows: for row in rows.items() {
+        put_row(alloc, &mut writer, row.items())?;
+    }
+    match writer.into_inner() {
+        Ok(text) => Bytes::from_slice(alloc, text.as_slice()),
+        Err(_) => Err(OutOfMemory),
+    }
+}
