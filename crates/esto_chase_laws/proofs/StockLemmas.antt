@@ -29,7 +29,8 @@ in_below (suc count) number less = elim (cases_order number count) [
   ]
 ]
 
-pub flat_longer : {X Y : Type 0} (parts : X → List Y) (things : List X) (thing : X) → Contains things thing → length (parts thing) ≤ length (flat_map parts things)
+pub flat_longer : {X Y : Type 0} (parts : X → List Y) (things : List X) (thing : X)
+    → Contains things thing → length (parts thing) ≤ length (flat_map parts things)
 flat_longer parts [] thing none = absurd (Contains-nil thing none)
 flat_longer parts (first ∷ rest) thing inside = elim (Contains-cases first rest thing inside) [
   | inl is ↦ omega (arith, length-append (parts first) (flat_map parts rest), ap (λ it. length (parts it)) is)

@@ -46,7 +46,8 @@ module _ (atoms : List (Fact Term)) (place : ℕ) (atom : Fact Term) (at : slice
   whole : atoms ≡ take place atoms ++ atom ∷ drop (place + 1) atoms
   whole =
       sym (take-append-drop place atoms)
-      ∙ ap (λ rest. take place atoms ++ rest) (drop_more atoms place atom within ∙ ap (λ it. it ∷ drop (place + 1) atoms) (get_or_from_slice_get atoms place atom atom at))
+      ∙ ap (λ rest. take place atoms ++ rest)
+      (drop_more atoms place atom within ∙ ap (λ it. it ∷ drop (place + 1) atoms) (get_or_from_slice_get atoms place atom atom at))
 
   -- the list has what the atom and the others have
   pub first-from : (fact : Fact Term) → Contains atoms fact → Contains (atom ∷ without place atoms) fact
@@ -85,7 +86,8 @@ module _ (atoms : List (Fact Term)) (place : ℕ) (atom : Fact Term) (at : slice
     dropped-not answer told fails = inr ((λ retracts. absurd (false≢true (sym fails ∙ told.1 (first-retracts.1 retracts)))), refl)
 
 -- what is dropped from flat atoms leaves flat atoms
-pub dropped-flat : (head : List Term) (place : ℕ) (old new : List (Fact Term)) → place < length old → IsDroppedAt head place old new → AreFlat old → AreFlat new
+pub dropped-flat : (head : List Term) (place : ℕ) (old new : List (Fact Term))
+    → place < length old → IsDroppedAt head place old new → AreFlat old → AreFlat new
 dropped-flat head place old new within dropped flat = by dropped
   where
     by : IsDroppedAt head place old new → AreFlat new

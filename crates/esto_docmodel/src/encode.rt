@@ -258,7 +258,8 @@ fn put_documents(
 ) -> Result<u64, OutOfMemory>
     requires relations { base + 4 ≤ 18446744073709551615 }
     requires inside { above.now ≡ [] }
-    ensures facts { OnOk result (facts.new ≡ facts.old ++ facts_of base first (documents trees.now)) }
+    ensures facts { OnOk result
+        (facts.new ≡ facts.old ++ facts_of base first (documents trees.now)) }
     ensures rising { OnOk result (IsRising (documents trees.now)) }
     ensures next { IfOk result (λ next. next ≡ first + size (documents trees.now)) }
 {

@@ -85,7 +85,8 @@ fn compare_entries(facts: &[Atom], entry: &Entry, other: &Entry) -> Ordering
 /// Adds the entries of a fact.
 fn add_entries(fact: &Atom, place: usize, entries: &mut Vec<Entry>) -> Result<(), OutOfMemory>
     ensures { OnOk result
-        (AddsEntries fact.now place (length fact.now.terms + 1) entries.old.items entries.new.items) }
+        (AddsEntries fact.now place (length fact.now.terms + 1)
+        entries.old.items entries.new.items) }
 {
     let terms = fact.terms.items();
     for column in 0..terms.len() + 1 {

@@ -13,7 +13,7 @@ mod search;
 mod trail;
 mod valuation;
 
-pub use answer::answers;
+pub use answer::{answers, in_order};
 pub use body::{first_misfit, mentions, missing_variable};
 pub use esto_semantics::{Atom, Atoms, Facts};
 pub use indexed::IndexedFacts;

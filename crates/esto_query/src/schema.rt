@@ -89,7 +89,8 @@ impl Schema {
     /// relations are there. After an error the schema is as it was.
     pub fn add(&mut self, name: Text, arity: usize) -> Result<usize, SchemaError>
         ensures outcome { AddsRelation self.old name arity result }
-        ensures ok { OnOk result (self.new ≡ self.old ++ record { name = name; arity = arity } ∷ []) }
+        ensures ok { OnOk result
+            (self.new ≡ self.old ++ record { name = name; arity = arity } ∷ []) }
         ensures err { OnErr result (self.new ≡ self.old) }
     {
         if self.find(name.bytes()).is_some() {
