@@ -12,3 +12,4 @@ pub mod ShapeLemmas
 pub mod EncodeLemmas
 pub mod RisingLemmas
 pub mod FactLemmas
+pub mod LayoutLemmas
