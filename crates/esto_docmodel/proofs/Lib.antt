@@ -13,3 +13,6 @@ pub mod EncodeLemmas
 pub mod RisingLemmas
 pub mod FactLemmas
 pub mod LayoutLemmas
+pub mod MentionLemmas
+pub mod MatchLemmas
+pub mod VariableLemmas
