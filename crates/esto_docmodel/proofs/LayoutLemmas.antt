@@ -1,17 +1,17 @@
 -- What makes entries a layout, an entry at a time.
-use Rattle.std.proofs.Common.{◌≡◌, ◌≢◌, ◌⊎◌, ◌↔◌, inl, inr, ℕ, ◌+◌, ◌-◌, ◌<◌, ◌≤◌, ◌==◌, max, Bool, true, false, not, IsTrue, List, [], ◌∷◌, length, drop, get_or, Contains, refl, sym, ap, ◌∙◌, subst, arith}
+use Rattle.std.proofs.Common.{◌≡◌, ◌≢◌, ◌⊎◌, ◌↔◌, inl, inr, ℕ, ◌+◌, ◌<◌, ◌≤◌, ◌==◌, Bool, true, false, not, IsTrue, List, [], ◌∷◌, length, drop, get_or, Contains, refl, sym, ap, ◌∙◌, subst, arith}
 use Rattle.std.proofs.lemmas.Bool.{false≢true, cases_eq}
-use Rattle.esto_term.proofs.ListLemmas.{Contains-nil, Contains-head, Contains-rest, Contains-cases}
+use Rattle.esto_term.proofs.ListLemmas.{Contains-head, Contains-rest, Contains-cases}
 use Rattle.esto_term.specs.declared.term.Term.{Term}
 use Rattle.esto_term.specs.declared.term.Term.TheVariants.{Plain}
-use Rattle.esto_docmodel.specs.Layouts.{paths, Begins, SomeBegins, AreFields, IsOneItem, FitTogether, IsColumn, AreLaidOut, StandsOnce, height, IsLayout}
+use Rattle.esto_docmodel.specs.Layouts.{paths, Begins, SomeBegins, AreFields, IsOneItem, FitTogether, AreLaidOut, StandsOnce, height, IsLayout}
 use Rattle.esto_docmodel.specs.Patterns.{Entries, done, holds, group, Mentions}
 use Rattle.esto_docmodel.specs.Shapes.{entry_shape, entries_of}
 use Rattle.esto_docmodel.proofs.EncodeLemmas.{drop_at}
 use Rattle.esto_docmodel.proofs.ShapeLemmas.{entry-Value, entry-Group}
 use Rattle.esto_docmodel.specs.declared.layout.TheConstants.{MAX_LAYOUT_DEPTH}
 use Rattle.esto_docmodel.specs.declared.pattern.Step.{Step}
-use Rattle.esto_docmodel.specs.declared.pattern.Step.TheVariants.{Name, Item, Below}
+use Rattle.esto_docmodel.specs.declared.pattern.Step.TheVariants.{Name, Below}
 use Rattle.esto_docmodel.specs.declared.pattern.Entry.{Entry, roll-Entry, out-Entry, roll-out-Entry}
 use Rattle.esto_docmodel.specs.declared.pattern.Entry.TheVariants as entry
 use Rattle.esto_docmodel.specs.declared.pattern.Entry.TheOpen.{Entry-F}
@@ -59,7 +59,10 @@ module _ (left rest : List Entry) (it : Entry) (is : left ≡ it ∷ rest) (path
   paths_at = ap (λ (w : List Entry). paths (entries_of w)) is ∙ at (entries_of rest)
 
   pub some_parts : (step : Step) → SomeBegins step (paths (entries_of left)) ↔ (Begins step path ⊎ SomeBegins step (paths (entries_of rest)))
-  some_parts step = (λ it. subst (λ (w : List (List Step)). SomeBegins step w) paths_at it, λ it. subst (λ (w : List (List Step)). SomeBegins step w) (sym paths_at) it)
+  some_parts step = (
+    λ it. subst (λ (w : List (List Step)). SomeBegins step w) paths_at it,
+    λ it. subst (λ (w : List (List Step)). SomeBegins step w) (sym paths_at) it,
+  )
 
   pub fields_parts : AreFields (paths (entries_of left))
       ↔ (((name : List ℕ) × Begins (Name name) path × ¬ (SomeBegins (Name name) (paths (entries_of rest)))) × AreFields (paths (entries_of rest)))
@@ -67,7 +70,7 @@ module _ (left rest : List Entry) (it : Entry) (is : left ≡ it ∷ rest) (path
 
 -- ---- entries
 
--- the parts of a layout that bind a row together, and its depth
+-- laid out, and no deeper than so many steps
 abbrev pub LaidOutWithin : ℕ → ℕ → Entries → Type 0
 LaidOutWithin columns steps entries = AreLaidOut columns entries × (height entries ≤ steps)
 
@@ -220,7 +223,9 @@ one_alone entries (next ∷ rest) it is one =
 
 pub have_paths : (entries : List Entry) → (length entries ≡ 0 → ⊥) → paths (entries_of entries) ≢ []
 have_paths [] some = absurd (some refl)
-have_paths (it ∷ rest) some = let first = some_path it (entries_of rest) in λ none. let wrong : first.0 ∷ paths (entries_of rest) ≡ [] = sym first.1 ∙ none in cc
+have_paths (it ∷ rest) some =
+    let first = some_path it (entries_of rest) in
+    λ nothing. let wrong : first.0 ∷ paths (entries_of rest) ≡ [] = sym first.1 ∙ nothing in cc
 
 same_begun : (path : List Step) (name other : List ℕ) → Begins (Name name) path → Begins (Name other) path → name ≡ other
 same_begun [] name other never also = absurd never

@@ -1,5 +1,5 @@
 -- A pattern's matches in a tree, from the rows of its query.
-use Rattle.std.proofs.Common.{◌≡◌, ◌⊎◌, ◌↔◌, ◌==◌, ℕ, suc, ◌<◌, Bool, true, false, cond, List, [], ◌∷◌, length, map, get_or, Contains, AllPairs, Option, Some, None, IsSome, refl, sym, ap, ◌∙◌, subst, inl, inr, arith}
+use Rattle.std.proofs.Common.{◌≡◌, ◌⊎◌, ◌↔◌, ℕ, suc, ◌<◌, true, false, cond, List, [], ◌∷◌, length, map, get_or, Contains, AllPairs, Option, Some, None, IsSome, refl, sym, ap, ◌∙◌, subst, inl, inr, arith}
 use Rattle.std.proofs.lemmas.Bool.{cases_eq}
 use Rattle.std.proofs.lemmas.Bool.Decides.{nat_tests}
 use Rattle.std.proofs.lemmas.List.{length-map, get_or-map}
@@ -22,9 +22,9 @@ use Rattle.esto_semantics.specs.declared.fact.Fact.{Fact}
 use Rattle.esto_query.specs.Rows.{IsAscending}
 use Rattle.esto_query.specs.Valuations.{Assignment, Extends}
 use Rattle.esto_docmodel.specs.Encodings.{facts_of}
-use Rattle.esto_docmodel.specs.Forests.{Label, Node, node, Forest, place, kid, none, HasKid}
-use Rattle.esto_docmodel.specs.Matching.{AreVariables, AreRows, head_of, Encode, given, valuation_of}
-use Rattle.esto_docmodel.specs.Meanings.{IsOwnMatch, AgreeAfter}
+use Rattle.esto_docmodel.specs.Forests.{Label, Node, Forest, place, kid, none, HasKid}
+use Rattle.esto_docmodel.specs.Matching.{AreVariables, AreRows, head_of, IsEncoding, given, valuation_of}
+use Rattle.esto_docmodel.specs.Meanings.{AgreeAfter}
 use Rattle.esto_docmodel.specs.Patterns.{Entries, done, holds, group, Matches, Mentions}
 use Rattle.esto_docmodel.specs.Valuations.{HaveFlatTerms, AreMatches, BindsVariables, GivesTexts, ComesBefore}
 use Rattle.esto_docmodel.proofs.ExtendingLemmas.{matches_on}
@@ -79,7 +79,8 @@ given_some (v ∷ vs) (t ∷ ts) known variable long =
     ]
 
 -- the value that the map says
-said_value : (m : Term → Term) (known : Assignment) (variable : ℕ) → Extends m known → IsSome (get known variable) → get known variable ≡ Some (m (Plain variable))
+said_value : (m : Term → Term) (known : Assignment) (variable : ℕ) → Extends m known → IsSome (get known variable)
+    → get known variable ≡ Some (m (Plain variable))
 said_value m known variable extends some = by (get known variable) refl some
   where
     by : (found : Option Term) → get known variable ≡ found → IsSome found → found ≡ Some (m (Plain variable))
@@ -125,7 +126,7 @@ abbrev one : Node → Forest
 one start = kid place start.content start.inside none
 
 module _ (entries : Entries) (start : Node) (variables : List ℕ) (said : AreVariables entries variables) (facts body : List (Fact Term))
-    (are_facts : facts ≡ facts_of 0 0 (one start)) (encode : Encode entries body) where
+    (are_facts : facts ≡ facts_of 0 0 (one start)) (encode : IsEncoding entries body) where
   from_query : (m : Term → Term) → Keeps Const m → Sends m body facts → Matches m entries start
   from_query m keeps sends =
       let (root, next, fresh, is) = encode in
@@ -144,7 +145,8 @@ module _ (entries : Entries) (start : Node) (variables : List ℕ) (said : AreVa
       let (other, kept, sends, agree) = (means_the_same 0 0 (one start) entries root next fresh m keeps).1 (start, (place, inl (refl, refl)), matches) in
       (other, kept, rw (is, are_facts) sends, agree)
 
-  heads_agree : (m other : Term → Term) → Keeps Const m → Keeps Const other → AgreeAfter entries m other → map m (head_of variables) ≡ map other (head_of variables)
+  heads_agree : (m other : Term → Term) → Keeps Const m → Keeps Const other → AgreeAfter entries m other
+      → map m (head_of variables) ≡ map other (head_of variables)
   heads_agree m other keeps kept agree = map_agree m other (head_of variables)
       (λ term inside. elim (Contains-cases (Const []) (map Plain variables) term inside) [
         | inl is ↦ ap m (sym is) ∙ keeps [] ∙ sym (kept []) ∙ ap other is
@@ -240,7 +242,8 @@ module _ (m other : Term → Term) where
         ],
       )
 
-      by : (slice_cmp term_cmp (map m (map Plain vs)) (map other (map Plain vs)) ≡ Less → Parts m other vs) → (order : Ordering) → term_cmp (m (Plain v)) (other (Plain v)) ≡ order
+      by : (slice_cmp term_cmp (map m (map Plain vs)) (map other (map Plain vs)) ≡ Less → Parts m other vs) → (order : Ordering)
+          → term_cmp (m (Plain v)) (other (Plain v)) ≡ order
           → ordering_then order (slice_cmp term_cmp (map m (map Plain vs)) (map other (map Plain vs))) ≡ Less → Parts m other (v ∷ vs)
       by later Less is less = (
         v,
@@ -271,10 +274,12 @@ module _ (m other : Term → Term) where
         λ earlier low. same_value variables earlier (λ inside. before earlier inside low),
       )
     where
-      same_value : (variables : List ℕ) (v : ℕ) → (Contains variables v → m (Plain v) ≡ other (Plain v)) → get (made m variables) v ≡ get (made other variables) v
+      same_value : (variables : List ℕ) (v : ℕ) → (Contains variables v → m (Plain v) ≡ other (Plain v))
+          → get (made m variables) v ≡ get (made other variables) v
       same_value variables v same = by (get (made m variables) v) (get (made other variables) v) refl refl
         where
-          by : (one two : Option Term) → get (made m variables) v ≡ one → get (made other variables) v ≡ two → get (made m variables) v ≡ get (made other variables) v
+          by : (one two : Option Term) → get (made m variables) v ≡ one → get (made other variables) v ≡ two
+              → get (made m variables) v ≡ get (made other variables) v
           by None None at also = at ∙ sym also
           by None (Some term) at also =
               absurd (none-some _ (sym at ∙ made_value m variables v ((made_some other variables v).0 (is_some _ term also))))
@@ -282,8 +287,8 @@ module _ (m other : Term → Term) where
               let there = (made_some m variables v).0 (is_some _ term at) in
               made_value m variables v there ∙ ap (λ (w : Term). Some w) (same there) ∙ sym (made_value other variables v there)
 
-pub are_ascending : (entries : Entries) (start : Node) (variables : List ℕ) (rows : List (List Term)) → AllPairs ◌<◌ variables → AreRows entries start variables rows
-    → IsAscending rows → AllPairs ComesBefore (map (valuation_of variables) rows)
+pub are_ascending : (entries : Entries) (start : Node) (variables : List ℕ) (rows : List (List Term)) → AllPairs ◌<◌ variables
+    → AreRows entries start variables rows → IsAscending rows → AllPairs ComesBefore (map (valuation_of variables) rows)
 are_ascending entries start variables rows rising told ascending i j d before within =
     let low : j < length rows = rw (length-map rows (valuation_of variables)) at within in
     let lower : i < length rows = omega (arith, before, low) in

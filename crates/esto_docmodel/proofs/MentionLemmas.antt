@@ -1,5 +1,5 @@
 -- What terms the atoms of a pattern have.
-use Rattle.std.proofs.Common.{◌≡◌, ◌⊎◌, ℕ, suc, ◌+◌, ◌<◌, ◌≤◌, List, [], ◌∷◌, ◌++◌, length, map, Contains, refl, sym, ap, ◌∙◌, subst, inl, inr, arith}
+use Rattle.std.proofs.Common.{ℕ, suc, ◌+◌, ◌<◌, ◌≤◌, List, [], ◌∷◌, ◌++◌, length, Contains, refl, sym, subst, inl, inr, arith}
 use Rattle.std.proofs.lemmas.List.Elements.{Contains-append_cases, Contains-append_left, Contains-append_right}
 use Rattle.esto_term.proofs.ListLemmas.{Contains-nil, Contains-head, Contains-rest, Contains-cases, Contains-map, Contains-map_from}
 use Rattle.esto_term.specs.declared.term.Term.{Term}
@@ -58,12 +58,14 @@ module _ (P : Term → Type 0) where
     have_atoms done v next low room said = λ fact inside. absurd (Contains-nil fact inside)
     have_atoms (holds path term rest) v next low room said =
         have_joined _ _ (have_steps path v next low (omega (arith, room)))
-        (have_more _ _ (only_two (Plain (end path v next)) term (numbers (end path v next) (end_within path v next low (omega (arith, room)))) (said term (inl refl)))
+        (have_more _ _
+        (only_two (Plain (end path v next)) term (numbers (end path v next) (end_within path v next low (omega (arith, room)))) (said term (inl refl)))
         (have_atoms rest v (next + length path) low (omega (arith, room)) (λ x h. said x (inr h))))
     have_atoms (group path inner rest) v next low room said =
         have_joined _ _ (have_steps path v next low (omega (arith, room)))
         (have_joined _ _
-        (have_atoms inner (end path v next) (next + length path) (end_within path v next low (omega (arith, room))) (omega (arith, room)) (λ x h. said x (inl h)))
+        (have_atoms inner (end path v next) (next + length path) (end_within path v next low (omega (arith, room))) (omega (arith, room))
+        (λ x h. said x (inl h)))
         (have_atoms rest v ((next + length path) + used inner) low (omega (arith, room)) (λ x h. said x (inr h))))
 
     pub atoms_have : (base : ℕ) (entries : Entries) (r next : ℕ) → r < bound → next + used entries ≤ bound → ((term : Term) → Mentions entries term → P term)

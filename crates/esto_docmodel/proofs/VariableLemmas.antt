@@ -1,5 +1,5 @@
 -- The variables of a pattern, and its query.
-use Rattle.std.proofs.Common.{◌≡◌, ◌≢◌, ◌⊎◌, ◌↔◌, inl, inr, ℕ, suc, ◌+◌, ◌<◌, ◌≤◌, max, List, [], ◌∷◌, length, map, drop, take, get_or, Contains, refl, sym, ap, ◌∙◌, subst, arith}
+use Rattle.std.proofs.Common.{◌≡◌, ◌⊎◌, ◌↔◌, inl, inr, ℕ, suc, ◌+◌, ◌<◌, ◌≤◌, max, List, [], ◌∷◌, length, map, drop, take, get_or, Contains, refl, sym, ap, ◌∙◌, subst, arith}
 use Rattle.std.proofs.lemmas.List.{drop_all, get_or_default}
 use Rattle.std.specs.FinMap.{insert}
 use Rattle.std.specs.Prelude.{Result, Ok, Err, OnOk}
@@ -14,7 +14,7 @@ use Rattle.esto_query.specs.Soundness.{IsSound, AreNamed}
 use Rattle.esto_query.specs.Valuations.{Assignment}
 use Rattle.esto_query.specs.declared.query.Name.{Name}
 use Rattle.esto_docmodel.specs.Encodings.{used, atoms_of}
-use Rattle.esto_docmodel.specs.Matching.{AreVariables, head_of, Encode, given}
+use Rattle.esto_docmodel.specs.Matching.{AreVariables, head_of, given}
 use Rattle.esto_docmodel.specs.Meanings.{AreFresh}
 use Rattle.esto_docmodel.specs.Patterns.{Entries, done, holds, group, Mentions, IsBelow}
 use Rattle.esto_docmodel.specs.Shapes.{entry_shape, entries_of}
@@ -49,7 +49,8 @@ variables_turn first now next entries i it within is added known v =
       ],
     )
 
-pub variables_end : (first now : List ℕ) (entries : List Entry) (i : ℕ) → length entries ≤ i → HasPut first now (entries_of (drop i entries)) (entries_of entries)
+pub variables_end : (first now : List ℕ) (entries : List Entry) (i : ℕ) → length entries ≤ i
+    → HasPut first now (entries_of (drop i entries)) (entries_of entries)
     → Adds first now (λ v. Mentions (entries_of entries) (Plain v))
 variables_end first now entries i past known v =
     let nothing : entries_of (drop i entries) ≡ done = ap entries_of (drop_all i entries past) in (
@@ -60,7 +61,7 @@ variables_end first now entries i past known v =
       ],
     )
 
--- no entry of a group but the one
+-- those of one entry
 module _ (old new : List ℕ) (it : Entry) where
   pub variables_value : (path : List Step) (term : Term) → it ≡ entry.Value path term → Adds old new (λ v. term ≡ Plain v)
       → Adds old new (λ v. Mentions (entry_shape it done) (Plain v))
@@ -77,7 +78,10 @@ module _ (old new : List ℕ) (it : Entry) where
       → Adds old new (λ v. Mentions (entry_shape it done) (Plain v))
   variables_group path inner is added v =
       let shape : entry_shape it done ≡ group path (entries_of inner) done = ap (λ (w : Entry). entry_shape w done) is ∙ entry-Group path inner done in (
-        λ there. elim ((added v).0 there) [ inl before ↦ inl before | inr inside ↦ inr (subst (λ (w : Entries). Mentions w (Plain v)) (sym shape) (inl inside)) ],
+        λ there. elim ((added v).0 there) [
+          | inl before ↦ inl before
+          | inr inside ↦ inr (subst (λ (w : Entries). Mentions w (Plain v)) (sym shape) (inl inside))
+        ],
         λ whole. elim whole [
           | inl before ↦ (added v).1 (inl before)
           | inr said ↦ elim (subst (λ (w : Entries). Mentions w (Plain v)) shape said) [ inl inside ↦ (added v).1 (inr inside) | inr never ↦ absurd never ]
@@ -120,14 +124,16 @@ module _ (entries : Entries) (variables : List ℕ) (root next : ℕ) (flat : Ha
 
   flat_body : AreFlat (atoms_of 0 entries root next)
   flat_body =
-      atoms_have IsFlat (next + used entries) (λ text. inl (text, refl)) (λ n low. inr (n, refl)) 0 entries root next (omega (arith, is_next)) (omega arith) flat
+      atoms_have IsFlat (next + used entries) (λ text. inl (text, refl)) (λ n low. inr (n, refl)) 0 entries root next (omega (arith, is_next))
+      (omega arith) flat
 
   named_body : (names : List Name) → length names ≡ next + used entries → AreNamed names (atoms_of 0 entries root next)
   named_body names long v there =
       let fresh = fresh_numbers entries variables root next said above is_next in
       let low : v < next + used entries =
-      atoms_have (IsBelow (next + used entries)) (next + used entries) (below_const (next + used entries)) (below_plain (next + used entries)) 0 entries root next
-      (omega (arith, is_next)) (omega arith) (λ term h. below_more next (next + used entries) (omega arith) term (fresh.below term h)) (Plain v) there v refl in
+      atoms_have (IsBelow (next + used entries)) (next + used entries) (below_const (next + used entries)) (below_plain (next + used entries))
+      0 entries root next (omega (arith, is_next)) (omega arith)
+      (λ term h. below_more next (next + used entries) (omega arith) term (fresh.below term h)) (Plain v) there v refl in
       omega (arith, low, long)
 
   pub sound_query : (head : List Term) (body : List (Fact Term)) (names : List Name) → head ≡ head_of variables → body ≡ atoms_of 0 entries root next

@@ -60,9 +60,9 @@ height done = 0
 height (holds path term rest) = max (length path) (height rest)
 height (group path inner rest) = max (length path + height inner) (height rest)
 
--- The entries are a layout for so many columns: no path has `**`; after each `:` stands a column, and each column stands there once; in each group either there is
--- one entry, whose path begins with an item, or there is at least one and all paths begin with fields of distinct names; and each column stands at most 126 path
--- steps below the root.
+-- The entries are a layout for so many columns: no path has `**`; after each `:` stands a column, and each column stands there once; in each group either
+-- there is one entry, whose path begins with an item, or there is at least one and all paths begin with fields of distinct names; and each column stands at
+-- most 126 path steps below the root.
 pub record IsLayout (columns : ℕ) (entries : Entries) : Type 0 where
   pub together : FitTogether (paths entries)
   pub laid_out : AreLaidOut columns entries

@@ -20,8 +20,8 @@ abbrev pub head_of : List ℕ → List Term
 head_of variables = Const [] ∷ map Plain variables
 
 -- The atoms encode the entries, with numbers that are free.
-abbrev pub Encode : Entries → List (Fact Term) → Type 0
-Encode entries body = (root : ℕ) × (next : ℕ) × AreFresh entries root next × (body ≡ atoms_of 0 entries root next)
+abbrev pub IsEncoding : Entries → List (Fact Term) → Type 0
+IsEncoding entries body = (root : ℕ) × (next : ℕ) × AreFresh entries root next × (body ≡ atoms_of 0 entries root next)
 
 -- The rows are the images of that head under the maps that keep constants and match the entries in the node.
 abbrev pub AreRows : Entries → Node → List ℕ → List (List Term) → Type 0

@@ -24,7 +24,7 @@ fn path_of(entry: &Entry) -> &[Step]
 }
 
 /// Whether the step is `**`.
-fn is_below(step: &Step) -> bool
+fn leads_inside(step: &Step) -> bool
     ensures { IsTrue result ↔ (step.now ≡ steps.Below) }
 {
     match step {
@@ -40,7 +40,7 @@ fn has_below(path: &[Step]) -> bool
 {
     let mut left = path;
     'steps: while let Some((step, rest)) = left.split_first() {
-        if is_below(step) {
+        if leads_inside(step) {
             return true;
         }
         left = rest;
@@ -196,22 +196,22 @@ fn is_variable(term: &Term, number: u64) -> bool
 
 /// Whether the variable stands after `:` in the entry.
 #[cycle(mention)]
-fn is_mentioned(entry: &Entry, variable: u64) -> bool
+fn is_mentioned_in(entry: &Entry, variable: u64) -> bool
     ensures { IsTrue result ↔ Mentions (entry_shape entry.now done) (Plain variable) }
 {
     match entry {
         Entry::Value(_, term) => is_variable(term, variable),
-        Entry::Group(_, inner) => are_mentioning(inner.items(), variable),
+        Entry::Group(_, inner) => is_mentioned(inner.items(), variable),
     }
 }
 
 /// Whether the variable stands after `:` in the entries.
 #[cycle(mention)]
-fn are_mentioning(entries: &[Entry], variable: u64) -> bool
+fn is_mentioned(entries: &[Entry], variable: u64) -> bool
     ensures { IsTrue result ↔ Mentions (entries_of entries.now) (Plain variable) }
 {
     'entries: for entry in entries {
-        if is_mentioned(entry, variable) {
+        if is_mentioned_in(entry, variable) {
             return true;
         }
     }
@@ -235,16 +235,16 @@ fn stands_once(entries: &[Entry], variable: u64) -> bool
     ensures { IsTrue result ↔ StandsOnce (Plain variable) (entries_of entries.now) }
 {
     'entries: for (place, entry) in entries.iter().enumerate() {
-        if is_mentioned(entry, variable) {
+        if is_mentioned_in(entry, variable) {
             return stands_once_in(entry, variable)
-                && !are_mentioning(&entries[place + 1..], variable);
+                && !is_mentioned(&entries[place + 1..], variable);
         }
     }
     false
 }
 
 /// Whether each column stands after `:` in exactly one place.
-fn stand_once(entries: &[Entry], columns: usize) -> bool
+fn each_stands_once(entries: &[Entry], columns: usize) -> bool
     ensures { IsTrue result ↔ ((column : ℕ) → column < columns
         → StandsOnce (Plain column) (entries_of entries.now)) }
 {
@@ -266,5 +266,5 @@ pub fn is_layout(pattern: &Pattern, columns: usize) -> bool
     let entries = pattern.entries.items();
     fit_together(entries)
         && are_laid_out(entries, columns, MAX_LAYOUT_DEPTH)
-        && stand_once(entries, columns)
+        && each_stands_once(entries, columns)
 }

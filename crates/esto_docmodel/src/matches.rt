@@ -5,7 +5,7 @@ ghost use Rattle.esto_term.specs.declared.term.Term.{Term};
 ghost use Rattle.esto_term.specs.declared.term.Term.TheVariants.{Plain};
 ghost use Rattle.esto_query.specs.Rows.{Adds, IsAscending};
 ghost use Rattle.esto_query.specs.Valuations.{Assignment};
-ghost use Rattle.esto_docmodel.specs.Matching.{AreVariables, AreRows, head_of, Encode, valuation_of};
+ghost use Rattle.esto_docmodel.specs.Matching.{AreVariables, AreRows, head_of, IsEncoding, valuation_of};
 ghost use Rattle.esto_docmodel.specs.Patterns.{done, Mentions};
 ghost use Rattle.esto_docmodel.specs.Shapes.{shape, entry_shape, entries_of};
 ghost use Rattle.esto_docmodel.specs.Valuations.{HaveFlatTerms, AreMatches, BindsVariables, GivesTexts, ComesBefore};
@@ -124,7 +124,7 @@ fn query_of(alloc: Global, pattern: &Pattern, variables: &[u64]) -> Result<Query
     requires flat { HaveFlatTerms (entries_of pattern.now.entries) }
     requires variables { AreVariables (entries_of pattern.now.entries) variables.now }
     ensures head { IfOk result (λ query. query.head ≡ head_of variables.now) }
-    ensures body { IfOk result (λ query. Encode (entries_of pattern.now.entries) query.body) }
+    ensures body { IfOk result (λ query. IsEncoding (entries_of pattern.now.entries) query.body) }
 {
     let root = greater(variables)?;
     let encoded = encode_pattern(alloc, 0, pattern, root, after(root)?)?;

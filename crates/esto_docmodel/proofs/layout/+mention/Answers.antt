@@ -4,14 +4,14 @@ use Rattle.esto_term.specs.declared.term.Term.TheVariants.{Plain}
 use Rattle.esto_docmodel.proofs.LayoutLemmas.{mention_at, one_more, one_found}
 use Rattle.esto_docmodel.proofs.layout.+mention.Goals as goal
 
-pub are_mentioning-entries-preserved : goal.are_mentioning-entries-preserved
-are_mentioning-entries-preserved t c =
+pub is_mentioned-entries-preserved : goal.is_mentioned-entries-preserved
+is_mentioned-entries-preserved t c =
     one_more (mention_at (Plain c.args.variable) c.args.entries.now c.entries.entry-index _ c.entries-test.true c.entry-item.is)
-    (λ is. false≢true (sym c.if-is_mentioned.false ∙ c.is_mentioned.ensures.1 is)) c.entries.invariant
+    (λ is. false≢true (sym c.if-is_mentioned_in.false ∙ c.is_mentioned_in.ensures.1 is)) c.entries.invariant
 
-pub are_mentioning-returns-then-is_mentioned : goal.are_mentioning-returns-then-is_mentioned
-are_mentioning-returns-then-is_mentioned t c = (
+pub is_mentioned-returns-then-is_mentioned_in : goal.is_mentioned-returns-then-is_mentioned_in
+is_mentioned-returns-then-is_mentioned_in t c = (
   λ e. one_found (mention_at (Plain c.args.variable) c.args.entries.now c.entries.entry-index _ c.entries-test.true c.entry-item.is)
-      (c.is_mentioned.ensures.0 c.if-is_mentioned.true) c.entries.invariant,
+      (c.is_mentioned_in.ensures.0 c.if-is_mentioned_in.true) c.entries.invariant,
   λ h. refl,
 )

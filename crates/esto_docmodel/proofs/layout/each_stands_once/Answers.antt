@@ -4,7 +4,7 @@ use Rattle.esto_term.specs.declared.term.Term.TheVariants.{Plain}
 use Rattle.esto_docmodel.specs.Layouts.{StandsOnce}
 use Rattle.esto_docmodel.specs.Shapes.{entries_of}
 use Rattle.esto_docmodel.proofs.LayoutLemmas.{one_column_more}
-use Rattle.esto_docmodel.proofs.layout.stand_once.Goals as goal
+use Rattle.esto_docmodel.proofs.layout.each_stands_once.Goals as goal
 
 pub returns-then-not-stands_once : goal.returns-then-not-stands_once
 returns-then-not-stands_once c = (
