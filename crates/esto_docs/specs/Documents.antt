@@ -1,6 +1,7 @@
 -- The document that a layout writes for a row.
-use Rattle.std.specs.Prelude.{ℕ, Bool, true, false, if◌then◌else◌, List, [], ◌∷◌, ◌++◌, map, flat_map}
-use Rattle.serde_json.specs.Data.{Data, string, array, object, Items, no_items, item, Members, no_members, member, put}
+use Rattle.std.specs.Prelude.{ℕ, Bool, true, false, if◌then◌else◌, List, [], ◌∷◌, flat_map}
+use Rattle.serde_json.specs.Data.{Data, string, array, object, no_items, item, Members, no_members, member, put}
+use Rattle.serde_json.specs.View.{items_of}
 use Rattle.serde_json.specs.Written.{compact_text}
 use Rattle.esto_lines.specs.Lines.{with_feed}
 use Rattle.esto_docmodel.specs.Patterns.{Entries, done, holds, group}
@@ -52,18 +53,13 @@ abbrev mutual
 
 -- ---- files
 
--- Values as the items of an array.
-abbrev pub items_from : List Data → Items
-items_from [] = no_items
-items_from (d ∷ rest) = item d (items_from rest)
-
 -- The line of a document.
 abbrev pub document_line : Data → List ℕ
 document_line d = with_feed (compact_text d)
 
 -- The text of a file with these documents: each on a line, or all in one array with a line feed after it.
 abbrev pub documents_text : Layout → List Data → List ℕ
-documents_text Array ds = with_feed (compact_text (array (items_from ds)))
+documents_text Array ds = with_feed (compact_text (array (items_of ds)))
 documents_text Lines ds = flat_map document_line ds
 
 -- ---- for private clauses

@@ -75,7 +75,10 @@ fn documents_of(
 {
     let mut documents = Vec::new(alloc);
     'rows: for row in rows.items() {
-        documents.push(document_of(alloc, pattern.entries.items(), row.items())?)?;
+        let document = document_of(alloc, pattern.entries.items(), row.items())?;
+        if documents.push(document).is_err() {
+            return Err(OutOfMemory);
+        }
     }
     Ok(documents)
 }
