@@ -3,6 +3,7 @@ pub mod TreeLemmas
 pub mod LineLemmas
 pub mod TextLemmas
 pub mod FeedLemmas
+pub mod FileLemmas
 pub mod FieldLemmas
 pub mod PathLemmas
 pub mod MatchLemmas

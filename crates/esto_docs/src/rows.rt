@@ -70,7 +70,8 @@ fn put_rows(
         (IsRowOf columns (entries_of pattern.now.entries) (tree.now ∷ [])) rows.old rows.new) }
 {
     let found = match_pattern(alloc, pattern, tree)?;
-    put_found(alloc, found.items(), columns, rows)
+    put_found(alloc, found.items(), columns, rows)?;
+    Ok(())
 }
 
 // Puts the rows of a line's document at the end, unless the line is blank.
@@ -137,7 +138,8 @@ fn put_value(
         rows.old rows.new) }
 {
     let tree = tree_of(alloc, value)?;
-    put_rows(alloc, &tree, pattern, columns, rows)
+    put_rows(alloc, &tree, pattern, columns, rows)?;
+    Ok(())
 }
 
 // The rows of JSON values.

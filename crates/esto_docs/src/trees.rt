@@ -3,7 +3,7 @@ ghost use Rattle.std.specs.Prelude.{◌≡◌, ◌++◌};
 ghost use Rattle.esto_lines.specs.Faults.{Gives};
 ghost use Rattle.esto_lines.specs.Lines.{lines_of};
 ghost use Rattle.esto_docs.specs.Files.{json_of, lines_fault, trees_of_lines, array_fault, trees_of_array, trees_fault, file_trees};
-ghost use Rattle.esto_docs.specs.Parsing.{ReadsLine, PutsLine};
+ghost use Rattle.esto_docs.specs.Parsing.{ParsesTree, ReadsLine, PutsLine};
 
 use crate::from_json::{tree_of, trees_of};
 use crate::layout::Layout;
