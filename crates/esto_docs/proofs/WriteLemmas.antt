@@ -1,7 +1,7 @@
 -- What is written is read as the same documents.
 use Rattle.std.proofs.Common.{◌≡◌, ◌<◌, ◌≤◌, ◌+◌, ◌∙◌, ◌++◌, ◌∷◌, [], ℕ, List, true, false, Some, None, get_or, length, map, take, flat_map, refl, ap, sym, subst, append_assoc, arith}
-use Rattle.std.specs.Prelude.{IsUtf8, Contains}
-use Rattle.std.proofs.lemmas.List.{take_all, map_more, map_push, flat_map_more}
+use Rattle.std.specs.Prelude.{IsUtf8, Contains, All, ◌↔◌}
+use Rattle.std.proofs.lemmas.List.{take_all, take_more, map_more, map_push, flat_map_more}
 use Rattle.esto_term.proofs.ListLemmas.{Contains-head, Contains-rest, map_then, each_more, each_seen}
 use Rattle.serde_json.specs.Data.{Data, array, depth, items_depth}
 use Rattle.serde_json.specs.Read.{read}
@@ -9,18 +9,21 @@ use Rattle.serde_json.specs.View.{view, items_of}
 use Rattle.serde_json.specs.Written.{compact_text}
 use Rattle.serde_json.specs.declared.value.Value.{Value}
 use Rattle.esto_lines.specs.Lines.{line_feed, lines_of, with_feed, LinesBeginAnew}
+use Rattle.esto_docmodel.specs.Layouts.{IsLayout}
 use Rattle.esto_docmodel.specs.Patterns.{Entries}
 use Rattle.esto_docmodel.specs.declared.tree.Tree.{Tree}
 use Rattle.esto_docs.specs.Trees.{tree_of, trees_of}
-use Rattle.esto_docs.specs.Files.{json_of, is_blank, is_bad, trees_of_line, trees_of_lines, lines_fault, trees_of_array, array_fault}
-use Rattle.esto_docs.specs.Rows.{Row}
+use Rattle.esto_docs.specs.Files.{json_of, is_blank, is_bad, trees_of_line, trees_of_lines, lines_fault, trees_of_array, array_fault, file_trees}
+use Rattle.esto_docs.specs.Rows.{Row, IsRowOf}
 use Rattle.esto_docs.specs.Documents.{document, document_line, documents_text}
 use Rattle.esto_docs.specs.Plain.{HasTextsOnly, ItemsHaveTextsOnly, IsPlain, IsReadBack}
 use Rattle.esto_docs.specs.Written.{HasWritten}
+use Rattle.esto_docs.specs.declared.layout.Layout.{Layout}
 use Rattle.esto_docs.specs.declared.layout.Layout.TheVariants.{Array, Lines}
 use Rattle.esto_docs.proofs.FeedLemmas.{array_json}
 use Rattle.esto_docs.proofs.JsonLemmas.{json_some}
-use Rattle.esto_docs.proofs.TextLemmas.{no_float, text_plain, text_not_blank}
+use Rattle.esto_docs.proofs.RowLemmas.{HasRows, written_rows}
+use Rattle.esto_docs.proofs.TextLemmas.{text_plain, text_not_blank}
 
 pub read_back : (d : Data) (text : List ℕ) → text ≡ compact_text d → read text ≡ Some d → IsUtf8 text → IsReadBack d
 read_back d text e r u = subst (λ (t : List ℕ). json_of t ≡ Some d) e (json_some text d u r)
@@ -41,8 +44,9 @@ pub lines_go : (es : Entries) (rows : List Row) (count : ℕ) (row : Row) (text 
 lines_go es rows count row text new so_far within at more back =
     record {
       lines_are = more ∙ ap (λ (t : List ℕ). t ++ document_line (document es row)) so_far.lines_are
-          ∙ ap (λ (r : Row). flat_map (λ row. document_line (document es row)) (take count rows) ++ document_line (document es r)) at
-          ∙ sym (flat_map_more (λ row. document_line (document es row)) rows count row within);
+          ∙ flat_map_more (λ row. document_line (document es row)) [] (take count rows) row
+          ∙ ap (λ (r : Row). flat_map (λ row. document_line (document es row)) (take count rows ++ r ∷ [])) at
+          ∙ ap (flat_map (λ row. document_line (document es row))) (sym (take_more rows count row within));
       read_are = each_more (λ r. IsReadBack (document es r)) rows count row within at back so_far.read_are;
     }
 
@@ -127,3 +131,13 @@ array_written es plain rows d line text is e r u more =
       read = ap trees_of_array json ∙ items_trees (map (document es) rows);
       no_fault = ap array_fault json;
     }
+
+-- ---- both
+
+pub opened_again : (columns : ℕ) (es : Entries) (rows : List Row) (layout other : Layout) (text : List ℕ) → IsLayout columns es → All (λ row. length row ≡ columns) rows
+    → layout ≡ other → HasWritten other (map (document es) rows) text → (row : Row) → IsRowOf columns es (file_trees layout text) row ↔ Contains rows row
+opened_again columns es rows layout other text is sizes same written row =
+    let trees : file_trees layout text ≡ map (λ row. tree_of (document es row)) rows =
+    ap (λ (l : Layout). file_trees l text) same ∙ written.read ∙ map_then (document es) tree_of rows in
+    let both = subst (λ (ts : List Tree). HasRows columns es ts rows) (sym trees) (written_rows columns es rows is sizes) row in
+    (both.1, both.0)

@@ -1,8 +1,9 @@
-use Rattle.std.proofs.Common.{◌∙◌, sym, ap, subst, map, List, ℕ}
+use Rattle.std.proofs.Common.{◌∙◌, ◌++◌, sym, ap, subst, map, List, ℕ}
 use Rattle.std.proofs.lemmas.List.{get_or_read}
 use Rattle.esto_docmodel.specs.Shapes.{entries_of}
 use Rattle.esto_docs.specs.Rows.{Row}
-use Rattle.esto_docs.specs.Documents.{document}
+use Rattle.esto_docs.specs.Documents.{document, document_line}
+use Rattle.esto_docs.specs.Plain.{IsReadBack}
 use Rattle.esto_docs.specs.Written.{HasWritten}
 use Rattle.esto_docs.specs.declared.layout.Layout.TheVariants.{Lines}
 use Rattle.esto_docs.proofs.WriteLemmas.{lines_go, lines_written}
@@ -10,8 +11,13 @@ use Rattle.esto_docs.proofs.write.write_lines.Goals as goal
 
 pub rows-preserved : goal.rows-preserved
 rows-preserved c =
-    lines_go (entries_of c.args.pattern.now.entries) c.items-row-items.result.now c.rows.row-index c.row-item.result c.rows.text _ c.rows.invariant c.rows-test.true
-    c.row-item.is c.in_ok-put_line.ensures.line c.in_ok-put_line.ensures.read
+    let es = entries_of c.args.pattern.now.entries in
+    let rows : List Row = c.items-row-items.result.now in
+    let row : Row = c.row-item.result in
+    lines_go es rows c.rows.row-index row c.rows.text c.put_line.new.text c.rows.invariant c.rows-test.true
+    (get_or_read rows c.rows.row-index row c.rows-test.true c.row-item.is row)
+    (c.in_ok-put_line.ensures.line ∙ ap (λ (r : Row). c.rows.text ++ document_line (document es r)) c.items.ensures)
+    (subst (λ (r : Row). IsReadBack (document es r)) c.items.ensures c.in_ok-put_line.ensures.read)
 
 pub returns : goal.returns
 returns c =
