@@ -94,8 +94,8 @@ lead_item (Below ∷ path) d h = cc h
 -- What stands together in a group is one item, or fields.
 pub fit_cases : (path : List Step) (rest : List (List Step)) → FitTogether (path ∷ rest) → (Begins Item path × (rest ≡ [])) ⊎ AreFields (path ∷ rest)
 fit_cases path [] (inl h) = inl (h, refl)
-fit_cases path [] (inr h) = inr h
-fit_cases path (other ∷ rest) h = inr h
+fit_cases path (other ∷ rest) (inl h) = absurd h
+fit_cases path rest (inr h) = inr h.1
 
 pub as_object : (path : List Step) (first : Data) (rest : Members) → begins_with_field path ≡ true → begun path first rest ≡ object (put (first_name path) first rest)
 as_object path first rest h = rw h refl

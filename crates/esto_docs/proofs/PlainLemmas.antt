@@ -111,7 +111,8 @@ mutual
       (fields_depth row columns rest n laid.3 fields.1 (omega (arith, small)))
 
   document_depth : (row : Row) (columns : ℕ) (es : Entries) → AreLaidOut columns es → FitTogether (paths es) → depth (document es row) ≤ height es
-  document_depth row columns done laid fit = absurd fit
+  document_depth row columns done laid (inl h) = absurd h
+  document_depth row columns done laid (inr h) = absurd (h.0 refl)
   document_depth row columns (holds path term rest) laid fit =
       let first = later_depth path (string (text_in row term)) 0 (fit_steps path (paths rest) fit) (omega arith) in
       let n : ℕ = max (length path) (height rest) - 1 in
