@@ -125,4 +125,3 @@ pub array_json : (d : Data) (line text : List ℕ) → HasTextsOnly d → line �
 array_json d line text h e r u t =
     json_some text d (rw t (IsUtf8-append line (10 ∷ []) u feed_is_text))
     (ap read (t ∙ ap (λ (l : List ℕ). l ++ 10 ∷ []) e) ∙ read_before_feed d h ∙ ap read (sym e) ∙ r)
-

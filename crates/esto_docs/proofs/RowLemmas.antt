@@ -118,6 +118,7 @@ found_rows columns es tree found layout are binds texts row = (into, from) where
       let extends = row_extends columns es valuation layout (binds valuation among) (texts valuation among) in
       let matches = (are (row_map (row_of columns valuation)) (λ text. ap Const (text_constant (row_of columns valuation) text))).1 (valuation, among, extends) in
       (ap length (sym is) ∙ row_length columns valuation, (tree, Contains-head tree [], subst (λ (r : Row). Matches (row_map r) es (shape tree)) is matches))
+
   from : IsRowOf columns es (tree ∷ []) row → Contains (map (row_of columns) found) row
   from (size, (other, among, matches)) =
       let same : tree ≡ other = elim (Contains-cases tree [] other among) [ inl is ↦ is | inr later ↦ absurd (Contains-nil other later) ] in
@@ -140,6 +141,7 @@ rows_append columns es trees more row = (into trees, from) where
       | inr h ↦ inr h
     ]
   ]
+
   from : IsRowOf columns es trees row ⊎ IsRowOf columns es more row → IsRowOf columns es (trees ++ more) row
   from (inl (size, (tree, among, matches))) = (size, (tree, Contains-append_left trees more tree among, matches))
   from (inr (size, (tree, among, matches))) = (size, (tree, Contains-append_right trees more tree among, matches))
@@ -201,6 +203,7 @@ written_rows columns es rows layout sizes row = (into, from) where
       document_from row columns es layout.laid_out layout.together,
     ),
   )
+
   from : IsRowOf columns es (map (λ row. tree_of (document es row)) rows) row → Contains rows row
   from (size, (tree, among, matches)) =
       let (other, there, is) = Contains-map_from (λ (r : Row). tree_of (document es r)) rows tree among in

@@ -30,7 +30,6 @@ read_back d text e r u = subst (λ (t : List ℕ). json_of t ≡ Some d) e (json
 
 -- ---- lines
 
-
 -- The lines of the rows so far are written, and read back.
 pub record HasLines (es : Entries) (rows : List Row) (count : ℕ) (text : List ℕ) : Type 0 where
   pub lines_are : text ≡ flat_map (λ row. document_line (document es row)) (take count rows)
@@ -90,9 +89,9 @@ module _ (begins : LinesBeginAnew) (es : Entries) (plain : (row : Row) → IsPla
         read = ap trees_of_lines lines ∙ trees_are rows back ∙ sym (map_then (document es) tree_of rows);
         no_fault = ap (lines_fault 1) lines ∙ no_fault rows 1 back;
       } where
-    flat_then : (rows : List Row) → flat_map document_line (map (document es) rows) ≡ flat_map (λ row. document_line (document es row)) rows
-    flat_then [] = refl
-    flat_then (row ∷ rest) = ap (λ (t : List ℕ). document_line (document es row) ++ t) (flat_then rest)
+        flat_then : (rows : List Row) → flat_map document_line (map (document es) rows) ≡ flat_map (λ row. document_line (document es row)) rows
+        flat_then [] = refl
+        flat_then (row ∷ rest) = ap (λ (t : List ℕ). document_line (document es row) ++ t) (flat_then rest)
 
 -- ---- one array
 
