@@ -121,7 +121,8 @@ feed_is_text = IsUtf8-from_ascii (10 ∷ []) (λ i. feed_at i) where
   feed_at (suc i) = omega arith
 
 -- The text of an array, with its line feed, is that array.
-pub array_json : (d : Data) (line text : List ℕ) → HasTextsOnly d → line ≡ compact_text d → read line ≡ Some d → IsUtf8 line → text ≡ line ++ 10 ∷ [] → json_of text ≡ Some d
+pub array_json : (d : Data) (line text : List ℕ) → HasTextsOnly d → line ≡ compact_text d → read line ≡ Some d → IsUtf8 line → text ≡ line ++ 10 ∷ []
+    → json_of text ≡ Some d
 array_json d line text h e r u t =
     json_some text d (rw t (IsUtf8-append line (10 ∷ []) u feed_is_text))
     (ap read (t ∙ ap (λ (l : List ℕ). l ++ 10 ∷ []) e) ∙ read_before_feed d h ∙ ap read (sym e) ∙ r)

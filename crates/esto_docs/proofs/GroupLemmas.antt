@@ -46,7 +46,8 @@ unfolding MakesDocument
 document_first e es row = entry_document (entries_of es) row e
 
 -- A turn of the loop over the entries, from the last to the first.
-pub members_go : (row : Row) (entries : List Entry) (left : ℕ) (e d : Entry) (old new : Members) (name : List ℕ) (value : Data) → 0 < left → left ≤ length entries
+pub members_go : (row : Row) (entries : List Entry) (left : ℕ) (e d : Entry) (old new : Members) (name : List ℕ) (value : Data) → 0 < left
+    → left ≤ length entries
     → e ≡ get_or entries (left - 1) d → old ≡ members (entries_of (drop left entries)) row → name ≡ first_name (first_path (entries_of (e ∷ [])))
     → value ≡ first_data (entries_of (e ∷ [])) row → new ≡ put name value old → new ≡ members (entries_of (drop (left - 1) entries)) row
 members_go row entries left e d old new name value some within at so_far n v p =

@@ -31,7 +31,8 @@ apart path rest k fields n e = n (subst (λ (x : List ℕ). Begins (Name x) path
 fresh : (path : List Step) (rest : List (List Step)) → AreFields (path ∷ rest) → ¬ (SomeBegins (Name (first_name path)) rest)
 fresh path rest fields = subst (λ (k : List ℕ). ¬ (SomeBegins (Name k) rest)) (sym (begins_name path fields.0.0 fields.0.1).0) fields.0.2
 
-once_put : (k : List ℕ) (d : Data) (ms : Members) (path : List Step) (target : Node) → first_name path ≢ k → LeadsOnce ms path target → LeadsOnce (put k d ms) path target
+once_put : (k : List ℕ) (d : Data) (ms : Members) (path : List Step) (target : Node) → first_name path ≢ k → LeadsOnce ms path target
+    → LeadsOnce (put k d ms) path target
 once_put k d ms path target n h = (
   put_other_from (first_name path) k d ms target n h.0,
   λ u there. h.1 u (put_other_into (first_name path) k d ms u n there),
@@ -79,7 +80,8 @@ all_lead row (group path inner rest) fields =
     )
 
 -- The first step of an entry, in an object and in an array.
-lead_field : (path : List Step) (ms : Members) (target : Node) → begins_with_field path ≡ true → LeadsOnce ms path target → LeadsTo path (node_of (object ms)) target
+lead_field : (path : List Step) (ms : Members) (target : Node) → begins_with_field path ≡ true → LeadsOnce ms path target
+    → LeadsTo path (node_of (object ms)) target
 lead_field [] ms target e h = cc e
 lead_field (Name k ∷ path) ms target e h = (object_kid ms k target h.0, λ u kid. h.1 u (object_kid_from ms k u kid))
 lead_field (Item ∷ path) ms target e h = cc e
@@ -97,7 +99,8 @@ fit_cases path [] (inl h) = inl (h, refl)
 fit_cases path (other ∷ rest) (inl h) = absurd h
 fit_cases path rest (inr h) = inr h.1
 
-pub as_object : (path : List Step) (first : Data) (rest : Members) → begins_with_field path ≡ true → begun path first rest ≡ object (put (first_name path) first rest)
+pub as_object : (path : List Step) (first : Data) (rest : Members) → begins_with_field path ≡ true
+    → begun path first rest ≡ object (put (first_name path) first rest)
 as_object path first rest h = rw h refl
 
 pub as_array : (path : List Step) (first : Data) (rest : Members) → Begins Item path → begun path first rest ≡ array (item first no_items)
@@ -129,7 +132,8 @@ value_into : (m : Term → Term) (row : Row) (path : List Step) (term : Term) (t
 value_into m row path term t none lead (found, leads, here) =
     held (text_in row term) (m term) (subst (λ (n : Node). HoldsTerm n (m term)) (led_only path t (string (text_in row term)) found none lead leads) here)
 
-group_into : (m : Term → Term) (path : List Step) (inner : Entries) (d : Data) (t : Node) → NoneBelow path → LeadsTo path t (node_of (path_data (later_steps path) d))
+group_into : (m : Term → Term) (path : List Step) (inner : Entries) (d : Data) (t : Node) → NoneBelow path
+    → LeadsTo path t (node_of (path_data (later_steps path) d))
     → SomeMatches m path inner t → Matches m inner (node_of d)
 group_into m path inner d t none lead (found, leads, here) = subst (λ (n : Node). Matches m inner n) (led_only path t d found none lead leads) here
 
@@ -196,7 +200,8 @@ value_from : (row : Row) (path : List Step) (term : Term) (t : Node) → NoneBel
 value_from row path term t none lead =
     (node_of (string (text_in row term)), led_one path t (string (text_in row term)) none lead, holds_string (text_in row term))
 
-group_from : (row : Row) (path : List Step) (inner : Entries) (t : Node) → NoneBelow path → LeadsTo path t (node_of (path_data (later_steps path) (document inner row)))
+group_from : (row : Row) (path : List Step) (inner : Entries) (t : Node) → NoneBelow path
+    → LeadsTo path t (node_of (path_data (later_steps path) (document inner row)))
     → Matches (row_map row) inner (node_of (document inner row)) → SomeMatches (row_map row) path inner t
 group_from row path inner t none lead h = (node_of (document inner row), led_one path t (document inner row) none lead, h)
 
@@ -215,7 +220,8 @@ mutual
         all_from row columns rest ms laid.3 fields.1 lead.1,
       )
 
-  pub document_from : (row : Row) (columns : ℕ) (es : Entries) → AreLaidOut columns es → FitTogether (paths es) → Matches (row_map row) es (node_of (document es row))
+  pub document_from : (row : Row) (columns : ℕ) (es : Entries) → AreLaidOut columns es → FitTogether (paths es)
+      → Matches (row_map row) es (node_of (document es row))
   document_from row columns done laid fit = tt
   document_from row columns (holds path term rest) laid fit =
       let d = path_data (later_steps path) (string (text_in row term)) in

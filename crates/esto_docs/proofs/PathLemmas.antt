@@ -70,7 +70,8 @@ led_one (Name k ∷ path) t d h lead = (node_of (path_data path d), lead.0, ends
 led_one (Item ∷ path) t d h lead = (node_of (path_data path d), lead.0, ends_one path d (none_later Item path h))
 led_one (Below ∷ path) t d h lead = absurd lead
 
-pub led_only : (path : List Step) (t : Node) (d : Data) (end : Node) → NoneBelow path → LeadsTo path t (node_of (path_data (later_steps path) d)) → Leads path t end
+pub led_only : (path : List Step) (t : Node) (d : Data) (end : Node) → NoneBelow path → LeadsTo path t (node_of (path_data (later_steps path) d))
+    → Leads path t end
     → end ≡ node_of d
 led_only [] t d end h lead leads = absurd lead
 led_only (Name k ∷ path) t d end h lead (u, kid, more) =

@@ -14,7 +14,8 @@ use Rattle.esto_docs.proofs.MatchLemmas.{fit_cases, as_object, as_array}
 use Rattle.esto_docs.proofs.PathLemmas.{begins_name, has_steps}
 
 -- A `put` among texts, and how deep it is.
-put_texts_at : (o : Ordering) (k l : List ℕ) (d e : Data) (ms more : Members) → HasTextsOnly d → MembersHaveTextsOnly (member l e ms) → MembersHaveTextsOnly more
+put_texts_at : (o : Ordering) (k l : List ℕ) (d e : Data) (ms more : Members) → HasTextsOnly d → MembersHaveTextsOnly (member l e ms)
+    → MembersHaveTextsOnly more
     → MembersHaveTextsOnly (match_ordering o (member k d (member l e ms)) (member l d ms) (member l e more))
 put_texts_at Less k l d e ms more h m g = (h, m)
 put_texts_at Equal k l d e ms more h m g = (h, m.1)
@@ -99,7 +100,8 @@ fit_steps path rest fit = elim (fit_cases path rest fit) [
 ]
 
 mutual
-  fields_depth : (row : Row) (columns : ℕ) (es : Entries) (n : ℕ) → AreLaidOut columns es → AreFields (paths es) → height es ≤ suc n → members_depth (members es row) ≤ n
+  fields_depth : (row : Row) (columns : ℕ) (es : Entries) (n : ℕ) → AreLaidOut columns es → AreFields (paths es) → height es ≤ suc n
+      → members_depth (members es row) ≤ n
   fields_depth row columns done n laid fields small = omega arith
   fields_depth row columns (holds path term rest) n laid fields small =
       let first = later_depth path (string (text_in row term)) 0 (has_steps (Name fields.0.0) path fields.0.1) (omega arith) in

@@ -63,7 +63,8 @@ mentioned : (columns : ℕ) (es : Entries) (column : ℕ) → IsLayout columns e
 mentioned columns es column layout within = once_mentioned es (Plain column) (layout.once column within)
 
 -- Rows of one length with the same cells.
-same_rows : (columns : ℕ) (row other : Row) → length row ≡ columns → length other ≡ columns → ((k : ℕ) → k < columns → get_or row k [] ≡ get_or other k []) → row ≡ other
+same_rows : (columns : ℕ) (row other : Row) → length row ≡ columns → length other ≡ columns → ((k : ℕ) → k < columns → get_or row k [] ≡ get_or other k [])
+    → row ≡ other
 same_rows columns row other size other_size cells =
     same_lists row other (size ∙ sym other_size) (λ k d within.
     get_or_default row k d [] within ∙ cells k (omega (arith, size, within)) ∙ get_or_default other k [] d (omega (arith, size, other_size, within)))
@@ -73,11 +74,13 @@ same_rows columns row other size other_size cells =
 row_length : (columns : ℕ) (valuation : Assignment) → length (row_of columns valuation) ≡ columns
 row_length columns valuation = length-map-range_with_len (λ column. text_of_value (get valuation column)) 0 columns
 
-row_cell : (columns : ℕ) (valuation : Assignment) (column : ℕ) → column < columns → get_or (row_of columns valuation) column [] ≡ text_of_value (get valuation column)
+row_cell : (columns : ℕ) (valuation : Assignment) (column : ℕ) → column < columns
+    → get_or (row_of columns valuation) column [] ≡ text_of_value (get valuation column)
 row_cell columns valuation column within = get_or-map-range_with_len (λ k. text_of_value (get valuation k)) 0 columns column column [] within (omega arith)
 
 -- A turn of the loop over the columns.
-pub row_more : (columns : ℕ) (valuation : Assignment) (row new : Row) (cell : List ℕ) → row ≡ row_of columns valuation → cell ≡ text_of_value (get valuation columns)
+pub row_more : (columns : ℕ) (valuation : Assignment) (row new : Row) (cell : List ℕ) → row ≡ row_of columns valuation
+    → cell ≡ text_of_value (get valuation columns)
     → new ≡ row ++ cell ∷ [] → new ≡ row_of (columns + 1) valuation
 row_more columns valuation row new cell so_far here more =
     more ∙ ap (λ (r : Row). r ++ cell ∷ []) so_far ∙ ap (λ (x : List ℕ). row_of columns valuation ++ x ∷ []) here
@@ -160,7 +163,8 @@ HasRows columns es trees rows = (row : Row) → Contains rows row ↔ IsRowOf co
 pub rows_start : (columns : ℕ) (es : Entries) → HasRows columns es [] []
 rows_start columns es row = ((λ h. absurd (Contains-nil row h)), (λ h. absurd (Contains-nil h.1.0 h.1.1)))
 
-pub rows_go : (columns : ℕ) (es : Entries) (trees more : List Tree) (old new : List Row) → HasRows columns es trees old → Gains (IsRowOf columns es more) old new
+pub rows_go : (columns : ℕ) (es : Entries) (trees more : List Tree) (old new : List Row) → HasRows columns es trees old
+    → Gains (IsRowOf columns es more) old new
     → HasRows columns es (trees ++ more) new
 rows_go columns es trees more old new has gains row = (
   (λ there. (rows_append columns es trees more row).1 (elim ((gains row).0 there) [ inl h ↦ inl ((has row).0 h) | inr h ↦ inr h ])),

@@ -42,6 +42,7 @@ unfolding IsStrictlySortedBy
 rises_from first [] e more h = rw h.0.0 refl
 rises_from first (f ∷ es) e more h = rw h.0.0 (rises_from f es e more h.1)
 
-pub rises : (es : List Entry) (e : Entry) (more : List Entry) → IsStrictlySortedBy string_cmp (keys_of (es ++ e ∷ more)) → Rise (fields_of (members_view (es ++ e ∷ [])))
+pub rises : (es : List Entry) (e : Entry) (more : List Entry) → IsStrictlySortedBy string_cmp (keys_of (es ++ e ∷ more))
+    → Rise (fields_of (members_view (es ++ e ∷ [])))
 rises [] e more h = refl
 rises (f ∷ es) e more h = rises_from f es e more h

@@ -38,7 +38,8 @@ pub record HasLines (es : Entries) (rows : List Row) (count : ℕ) (text : List 
 pub lines_start : (es : Entries) (rows : List Row) → HasLines es rows 0 []
 lines_start es rows = record { lines_are = refl; read_are = λ row h. absurd (omega (arith, h.1)) }
 
-pub lines_go : (es : Entries) (rows : List Row) (count : ℕ) (row : Row) (text new : List ℕ) → HasLines es rows count text → count < length rows → row ≡ get_or rows count row
+pub lines_go : (es : Entries) (rows : List Row) (count : ℕ) (row : Row) (text new : List ℕ) → HasLines es rows count text → count < length rows
+    → row ≡ get_or rows count row
     → new ≡ text ++ document_line (document es row) → IsReadBack (document es row) → HasLines es rows (count + 1) new
 lines_go es rows count row text new so_far within at more back =
     record {
@@ -79,7 +80,8 @@ module _ (begins : LinesBeginAnew) (es : Entries) (plain : (row : Row) → IsPla
       rw ((good_line (document es row) (plain row) (back row (Contains-head row rows))).0)
       (no_fault rows (number + 1) (λ other there. back other (Contains-rest row rows other there)))
 
-  pub lines_written : (rows : List Row) (count : ℕ) (text : List ℕ) → length rows ≤ count → HasLines es rows count text → HasWritten Lines (map (document es) rows) text
+  pub lines_written : (rows : List Row) (count : ℕ) (text : List ℕ) → length rows ≤ count → HasLines es rows count text
+      → HasWritten Lines (map (document es) rows) text
   lines_written rows count text past so_far =
       let back = each_seen (λ r. IsReadBack (document es r)) rows count past so_far.read_are in
       let is = so_far.lines_are ∙ ap (flat_map (λ row. document_line (document es row))) (take_all count rows past) in
@@ -95,7 +97,8 @@ module _ (begins : LinesBeginAnew) (es : Entries) (plain : (row : Row) → IsPla
 
 -- ---- one array
 
-pub built_more : (es : Entries) (rows : List Row) (count : ℕ) (values new : List Value) (value : Value) (row : Row) → map view values ≡ map (document es) (take count rows)
+pub built_more : (es : Entries) (rows : List Row) (count : ℕ) (values new : List Value) (value : Value) (row : Row)
+    → map view values ≡ map (document es) (take count rows)
     → count < length rows → row ≡ get_or rows count row → view value ≡ document es row → new ≡ values ++ value ∷ [] → map view new ≡ map (document es) (take (count + 1) rows)
 built_more es rows count values new value row so_far within at is more =
     ap (map view) more ∙ map_push view values value ∙ ap (λ (ds : List Data). ds ++ view value ∷ []) so_far
@@ -133,7 +136,8 @@ array_written es plain rows d line text is e r u more =
 
 -- ---- both
 
-pub opened_again : (columns : ℕ) (es : Entries) (rows : List Row) (layout other : Layout) (text : List ℕ) → IsLayout columns es → All (λ row. length row ≡ columns) rows
+pub opened_again : (columns : ℕ) (es : Entries) (rows : List Row) (layout other : Layout) (text : List ℕ) → IsLayout columns es
+    → All (λ row. length row ≡ columns) rows
     → layout ≡ other → HasWritten other (map (document es) rows) text → (row : Row) → IsRowOf columns es (file_trees layout text) row ↔ Contains rows row
 opened_again columns es rows layout other text is sizes same written row =
     let trees : file_trees layout text ≡ map (λ row. tree_of (document es row)) rows =
