@@ -1,35 +1,23 @@
 -- Terms and the numbers of variables.
-use Rattle.std.proofs.Common.{IsUtf8, zero, suc, take, get_or, ◌≡◌, ◌≢◌, ℕ, ◌+◌, ◌<◌, ◌≤◌, ◌⊎◌, inl, inr, List, [], ◌∷◌, ◌++◌, length, Some, refl, sym, ap, subst, ◌∙◌, arith}
-use Rattle.std.specs.Prelude.{Contains, AllPairs, slice_get}
-use Rattle.std.specs.List.{AllByRecursion, AllZip}
-use Rattle.std.proofs.lemmas.List.{length-append, get_or_append_left, get_or_at, get_or-take, length-take-le}
+use Rattle.std.proofs.Common.{IsUtf8, ◌≡◌, ℕ, ◌+◌, ◌<◌, ◌≤◌, ◌⊎◌, inl, inr, List, [], ◌∷◌, ◌++◌, length, Some, refl, sym, ap, subst, ◌∙◌, arith}
+use Rattle.std.specs.Prelude.{Contains, slice_get}
+use Rattle.std.specs.List.{AllByRecursion}
+use Rattle.std.proofs.lemmas.List.{length-append, get_or_append_left, get_or_at}
 use Rattle.std.proofs.lemmas.List.Elements.{Contains-append_cases}
 use Rattle.std.proofs.lemmas.Option.{slice_get_within, slice_get-get_or, get_or_from_slice_get}
 use Rattle.esto_query.specs.declared.query.Name.{Name}
 use Rattle.esto_query.specs.declared.query.Name.TheVariants.{Given, Hidden}
-use Rattle.esto_query.specs.Soundness.{IsSound}
-use Rattle.esto_semantics.specs.Maps.{IsVariable, IsFlat}
-use Rattle.esto_semantics.specs.WellFormed.{IsQueryOver}
-use Rattle.esto_semantics.specs.declared.fact.Fact.{Fact}
+use Rattle.esto_semantics.specs.Maps.{IsFlat}
 use Rattle.esto_term.specs.declared.term.Term.{Term, out-Term}
 use Rattle.esto_term.specs.declared.term.Term.TheOpen.{Term-F}
 use Rattle.esto_term.specs.declared.term.Term.TheVariants.{Const, Plain, outs-Const, outs-Plain}
-use Rattle.esto_text.specs.Faults.{IsNameIn, IsFieldIn, IsTermIn, StandsAt, IsQueryText}
-use Rattle.esto_text.specs.Grammar.{is_term, IsName, IsRow, IsBody}
+use Rattle.esto_text.specs.Faults.{IsNameIn, IsTermIn}
+use Rattle.esto_text.specs.Grammar.{is_term}
 use Rattle.esto_text.specs.Tokens.{text_of, StandsIn}
-use Rattle.esto_text.specs.Trees.{ItemTree, Atom, Part, Pattern, QueryTree, EachOfItem}
-use Rattle.esto_text.specs.declared.fault.ReadError.{ReadError}
-use Rattle.esto_text.specs.declared.fault.ReadError.TheVariants.{Fault, OutOfMemory}
 use Rattle.esto_text.specs.declared.token.Token.{Token}
 use Rattle.esto_text.specs.declared.token.TokenKind.{TokenKind}
 use Rattle.esto_text.specs.declared.token.TokenKind.TheVariants as kind
-use Rattle.esto_read.specs.Heads.{AreDifferent, AreMentioned}
-use Rattle.esto_read.specs.Items.{IsItemOf, AreItems, IsBodyError}
-use Rattle.esto_read.specs.Readings.{IsAllowed, HasVariables, IsRead, IsReadError}
-use Rattle.esto_read.specs.Terms.{IsVariableOf, IsTermOf, AreTerms}
-use Rattle.esto_read.specs.declared.read.Form.{Form}
-use Rattle.esto_read.specs.declared.read.Form.TheVariants.{Query, View}
-use Rattle.esto_read.specs.declared.words.Word.{Word}
+use Rattle.esto_read.specs.Terms.{IsTermOf, AreTerms}
 use Rattle.esto_read.proofs.Utf8Lemmas.{said_utf8, text_inside_utf8, number_token, quoted_token}
 use Rattle.esto_read.proofs.SeenLemmas.{only_item}
 

@@ -1,11 +1,11 @@
 -- The entries of a pattern, and its atoms: how many there are, and that their terms are among the variables.
-use Rattle.std.proofs.Common.{◌≡◌, ◌≢◌, ℕ, suc, ◌+◌, ◌<◌, ◌≤◌, inl, inr, List, [], ◌∷◌, ◌++◌, length, map, Some, refl, sym, ap, subst, ◌∙◌, arith}
+use Rattle.std.proofs.Common.{◌≡◌, ℕ, suc, ◌+◌, ◌<◌, ◌≤◌, inl, inr, List, [], ◌∷◌, ◌++◌, length, Some, refl, sym, ap, subst, ◌∙◌, arith}
 use Rattle.std.specs.Prelude.{IsUtf8, Contains, slice_get, replicate}
 use Rattle.std.specs.List.{AllByRecursion, AllZip}
 use Rattle.std.proofs.lemmas.List.{length-append, length-map, length-replicate}
 use Rattle.esto_term.proofs.ListLemmas.{Contains-map_from}
 use Rattle.esto_docmodel.specs.DocumentFacts.{DocFact, root, field, item, value, below, kind, row_of, flat}
-use Rattle.esto_docmodel.specs.Encodings.{end, step_atoms, used, atoms, pattern_atoms, atoms_of}
+use Rattle.esto_docmodel.specs.Encodings.{end, step_atoms, used, atoms, pattern_atoms}
 use Rattle.esto_docmodel.specs.Patterns.{Entries, done, holds, group}
 use Rattle.esto_docmodel.specs.declared.pattern.Step.{Step}
 use Rattle.esto_docmodel.specs.declared.pattern.Step.TheVariants as step

@@ -4,7 +4,7 @@ use Rattle.std.specs.Prelude.{replicate}
 use Rattle.std.specs.List.{AllZip}
 use Rattle.std.proofs.Math.Seq.{drop-cons}
 use Rattle.std.proofs.lemmas.List.{take_more, map-append, drop_all, append-nil, length-append, length-replicate, replicate_more}
-use Rattle.esto_docmodel.specs.Patterns.{Entries, done, holds, group}
+use Rattle.esto_docmodel.specs.Patterns.{Entries, done}
 use Rattle.esto_docmodel.specs.Shapes.{More, chain, entry_shape, entries_of as pattern_of}
 use Rattle.esto_docmodel.specs.declared.pattern.Entry.{Entry}
 use Rattle.esto_query.specs.declared.query.Name.{Name}

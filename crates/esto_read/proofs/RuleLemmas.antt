@@ -1,5 +1,5 @@
 -- Rules from their parts.
-use Rattle.std.proofs.Common.{IsUtf8, ◌≡◌, ◌≢◌, ℕ, ◌<◌, ◌≤◌, inl, inr, get_or, List, [], ◌∷◌, length, Ok, refl, sym, ap, subst, arith}
+use Rattle.std.proofs.Common.{IsUtf8, ◌≡◌, ◌≢◌, ℕ, ◌≤◌, inl, inr, List, [], ◌∷◌, length, Ok, refl, sym, ap, subst, arith}
 use Rattle.std.specs.Prelude.{Contains, All}
 use Rattle.std.specs.List.{AllByRecursion}
 use Rattle.esto_constraint.specs.Constraints.{rule_of}

@@ -1,5 +1,5 @@
 -- Words: what a name and a part stand for.
-use Rattle.std.proofs.Common.{◌≡◌, ◌≢◌, ℕ, zero, suc, ◌+◌, ◌<◌, ◌≤◌, ◌⊎◌, inl, inr, eqb, cond, get_or, List, [], ◌∷◌, length, Option, Some, None, refl, sym, ap, subst, ◌∙◌, arith}
+use Rattle.std.proofs.Common.{◌≡◌, ◌≢◌, ℕ, zero, suc, ◌+◌, ◌<◌, inl, inr, eqb, cond, get_or, List, [], ◌∷◌, length, Option, Some, None, refl, sym, ap, subst, ◌∙◌, arith}
 use Rattle.std.specs.Prelude.{Contains, All, AllPairs, MatchOption, codes, map, slice_get}
 use Rattle.std.proofs.Math.ListN.{get_or-map}
 use Rattle.std.proofs.lemmas.Bool.{cases_lt}
@@ -11,7 +11,7 @@ use Rattle.esto_query.specs.declared.schema.TheConstants.{MAX_RELATIONS}
 use Rattle.esto_text.specs.Tokens.{text_of}
 use Rattle.esto_text.specs.Trees.{ItemTree, Atom, Part, Pattern}
 use Rattle.esto_read.specs.Items.{IsRelationOf}
-use Rattle.esto_read.specs.Words.{IsBaseOf, IsPart, IsPartOf, HasRelations, IsVocabulary}
+use Rattle.esto_read.specs.Words.{IsBaseOf, IsPart, HasRelations}
 use Rattle.esto_read.specs.declared.words.DataModel.{DataModel}
 use Rattle.esto_read.specs.declared.words.DataModel.TheVariants.{Table, Documents, Keys}
 use Rattle.esto_read.specs.declared.words.Word.{Word}
