@@ -36,10 +36,10 @@ together_known : (list : List (List Step)) → ∥ FitTogether list ∥₁ → F
 together_known [] some = absurd (never some (λ k. k))
 together_known (path ∷ []) some = by path some where
   by : (path : List Step) → ∥ FitTogether (path ∷ []) ∥₁ → FitTogether (path ∷ [])
-  by [] some = absurd (never some (λ k. elim k [ | inl begins ↦ begins | inr fields ↦ fields.0.1.0 ]))
+  by [] some = absurd (never some (λ k. elim k [ inl begins ↦ begins | inr fields ↦ fields.0.1.0 ]))
   by (Item ∷ path) some = inl refl
   by (Name name ∷ path) some = inr ((name, refl, λ begins. begins), tt)
-  by (Below ∷ path) some = absurd (never some (λ k. elim k [ | inl begins ↦ below_item begins | inr fields ↦ below_name fields.0.0 fields.0.1.0 ])) where
+  by (Below ∷ path) some = absurd (never some (λ k. elim k [ inl begins ↦ below_item begins | inr fields ↦ below_name fields.0.0 fields.0.1.0 ])) where
     below_item : Below ≡ Item → ⊥
     below_item is = cc
 
@@ -98,14 +98,14 @@ mentions_column (holds path term rest) column = elim (is_column term column) [
   | inl same ↦ inl (inl same)
   | inr other ↦ elim (mentions_column rest column) [
     | inl there ↦ inl (inr there)
-    | inr none ↦ inr (λ either. elim either [ | inl same ↦ other same | inr there ↦ none there ])
+    | inr none ↦ inr (λ either. elim either [ inl same ↦ other same | inr there ↦ none there ])
   ]
 ]
 mentions_column (group path inner rest) column = elim (mentions_column inner column) [
   | inl there ↦ inl (inl there)
   | inr none ↦ elim (mentions_column rest column) [
     | inl there ↦ inl (inr there)
-    | inr nowhere ↦ inr (λ either. elim either [ | inl there ↦ none there | inr there ↦ nowhere there ])
+    | inr nowhere ↦ inr (λ either. elim either [ inl there ↦ none there | inr there ↦ nowhere there ])
   ]
 ]
 
@@ -123,17 +123,17 @@ stands_mentions (group path inner rest) column stands = elim stands [
 once_known : (entries : Entries) (column : ℕ) → ∥ StandsOnce (Plain column) entries ∥₁ → StandsOnce (Plain column) entries
 once_known done column some = never some (λ k. k)
 once_known (holds path term rest) column some = elim (is_column term column) [
-  | inl same ↦ inl (same, λ there. never some (λ k. elim k [ | inl here ↦ here.1 there | inr later ↦ later.0 same ]))
-  | inr other ↦ inr (other, once_known rest column (∥∥₁_map some (λ k. elim k [ | inl here ↦ absurd (other here.0) | inr later ↦ later.1 ])))
+  | inl same ↦ inl (same, λ there. never some (λ k. elim k [ inl here ↦ here.1 there | inr later ↦ later.0 same ]))
+  | inr other ↦ inr (other, once_known rest column (∥∥₁_map some (λ k. elim k [ inl here ↦ absurd (other here.0) | inr later ↦ later.1 ])))
 ]
 once_known (group path inner rest) column some = elim (mentions_column inner column) [
   | inl there ↦ inl (
-    once_known inner column (∥∥₁_map some (λ k. elim k [ | inl here ↦ here.0 | inr later ↦ absurd (later.0 there) ])),
-    λ rest_there. never some (λ k. elim k [ | inl here ↦ here.1 rest_there | inr later ↦ later.0 there ]),
+    once_known inner column (∥∥₁_map some (λ k. elim k [ inl here ↦ here.0 | inr later ↦ absurd (later.0 there) ])),
+    λ rest_there. never some (λ k. elim k [ inl here ↦ here.1 rest_there | inr later ↦ later.0 there ]),
   )
   | inr none ↦ inr (
     none,
-    once_known rest column (∥∥₁_map some (λ k. elim k [ | inl here ↦ absurd (none (stands_mentions inner column here.0)) | inr later ↦ later.1 ])),
+    once_known rest column (∥∥₁_map some (λ k. elim k [ inl here ↦ absurd (none (stands_mentions inner column here.0)) | inr later ↦ later.1 ])),
   )
 ]
 

@@ -11,8 +11,8 @@ ghost use Rattle.esto_catalog.specs.Scope.{IsScope};
 
 use crate::fault::{CatalogueError, CatalogueKind, Place, Section, fault};
 use crate::row::{knows_keys, needs_text};
-use crate::setting::{Field, KeyList};
 use crate::scope::Scope;
+use crate::setting::{Field, KeyList};
 use esto_constraint::{Constraint, Rules};
 use esto_read::{read_constraint, read_constraint_2};
 use esto_term::{List, Text};

@@ -98,11 +98,7 @@ fn add(schema: &mut Schema, name: Text, arity: usize) -> Result<(), OutOfMemory>
 }
 
 // Adds relations, in order.
-fn add_all(
-    alloc: Global,
-    schema: &mut Schema,
-    relations: &[Relation],
-) -> Result<(), OutOfMemory>
+fn add_all(alloc: Global, schema: &mut Schema, relations: &[Relation]) -> Result<(), OutOfMemory>
     requires { IsSchema (schema.old ++ relations.now) }
     ensures { OnOk result (schema.new ≡ schema.old ++ relations.now) }
 {

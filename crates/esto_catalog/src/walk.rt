@@ -21,7 +21,10 @@ use crate::whole::read_whole;
 use either::{Left, Right};
 use esto_acyclic::{judge, judgements_are_exact};
 use esto_constraint::Rules;
-use esto_read::{constraint_readings_are_determined, readings_are_determined};
+use esto_read::{
+    constraint_readings_are_determined, layout_readings_are_determined, readings_are_determined,
+    views_name_their_columns,
+};
 use esto_text::Version;
 use std::alloc::Global;
 
@@ -105,14 +108,16 @@ pub fn catalogues_rank_their_rules()
         AreRanks (IsEdge (rules_of it.rules)) (length it.ranks) it.ranks }
 {}
 
-/// A law: bytes say at most one catalogue, up to what its views and rules mean, or have at most one first fault, and
-/// never both. Want of memory is excepted.
+/// A law: bytes say at most one catalogue, up to what its views, patterns and rules mean, or have at most one first fault,
+/// and never both. Want of memory is excepted.
 pub fn catalogues_are_determined()
     ensures catalogue { HaveOneCatalogue }
     ensures apart { HaveNoError }
     ensures error { HaveOneError }
 {
     readings_are_determined();
+    layout_readings_are_determined();
+    views_name_their_columns();
     constraint_readings_are_determined();
     judgements_are_exact();
 }

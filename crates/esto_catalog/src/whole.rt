@@ -7,9 +7,7 @@ ghost use Rattle.esto_catalog.specs.Whole.{number_of, reads_version, reads_secti
 
 use crate::fault::{CatalogueError, CatalogueKind, TOP, fault};
 use crate::row::knows_keys;
-use crate::setting::{
-    Document, Field, SectionTables, Setting, read_toml, setting_at,
-};
+use crate::setting::{Document, Field, SectionTables, Setting, read_toml, setting_at};
 use esto_text::Version;
 use std::alloc::Global;
 
