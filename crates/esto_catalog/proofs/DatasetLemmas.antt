@@ -48,11 +48,15 @@ count_most Table = omega arith
 count_most Documents = omega arith
 count_most Keys = omega arith
 
-pub length-schema_more : (datasets : List Dataset) (dataset : Dataset)
+length-schema_more : (datasets : List Dataset) (dataset : Dataset)
     → length (schema_of (datasets ++ dataset ∷ [])) ≡ length (schema_of datasets) + relation_count dataset.model
 length-schema_more datasets dataset =
     ap length (schema_more datasets dataset) ∙ length-append (schema_of datasets) (relations_of dataset)
     ∙ ap (λ n. length (schema_of datasets) + n) (length-relations dataset.name (length dataset.columns) dataset.model)
+
+pub base_more : (datasets : List Dataset) (dataset : Dataset) (base count : ℕ) → base ≡ length (schema_of datasets) → count ≡ relation_count dataset.model
+    → base + count ≡ length (schema_of (datasets ++ dataset ∷ []))
+base_more datasets dataset base count is own = (λ i. is i + own i) ∙ sym (length-schema_more datasets dataset)
 
 pub schema_most : (datasets : List Dataset) → length (schema_of datasets) ≤ 5 * length datasets
 schema_most [] = omega arith

@@ -3,6 +3,7 @@ use Rattle.std.proofs.Common.{◌≡◌, ◌<◌, ◌≤◌, ◌+◌, ℕ, List,
 use Rattle.std.specs.Prelude.{Contains, slice_get, IsUtf8}
 use Rattle.std.proofs.Math.Seq.{take-length}
 use Rattle.std.proofs.lemmas.List.{append-nil, append_assoc, length-map, map-append, take-append-le, take_all, take_more}
+use Rattle.std.proofs.lemmas.List.Elements.{Contains-append_cases}
 use Rattle.esto_constraint.specs.Constraints.{rule_of, rules_of}
 use Rattle.esto_constraint.specs.EncodingRules.{atom, document_rules, document_rules_2, field, item, key_rules, root, value, below, written}
 use Rattle.esto_constraint.specs.declared.rule.Constraint.{Constraint}
@@ -21,7 +22,6 @@ use Rattle.esto_term.specs.declared.term.Term.{Term}
 use Rattle.esto_term.specs.declared.term.Term.TheVariants.{Const, Plain}
 use Rattle.esto_text.specs.declared.version.Version.{Version}
 use Rattle.esto_text.specs.declared.version.Version.TheVariants.{One, Two}
-use Rattle.esto_catalog.proofs.NameLemmas.{append_cases}
 use Rattle.esto_catalog.proofs.SchemaLemmas.{has_relations}
 use Rattle.esto_catalog.specs.Datasets.{IsDataset, schema_of}
 use Rattle.esto_catalog.specs.Rules.{AreAllRules, all_rules, encoding_names, encoding_rules, encodings_names, encodings_rules}
@@ -87,7 +87,7 @@ one_rule schema first rules own over rule inside = elim (Contains-cases first ru
 ]
 
 more_rules : (schema : List ℕ) (rules others : List Rule) → AreRulesOver schema rules → AreRulesOver schema others → AreRulesOver schema (rules ++ others)
-more_rules schema rules others over over' rule inside = elim (append_cases rules others rule inside) [
+more_rules schema rules others over over' rule inside = elim (Contains-append_cases rules others rule inside) [
   | inl left ↦ over rule left
   | inr right ↦ over' rule right
 ]
@@ -162,7 +162,7 @@ given_alone version given = record {
   names = sym (append-nil (map written given));
 }
 
-given_most : (version : Version) (datasets : List Dataset) (given rules : List Constraint) → AreAllRules version datasets given rules → length given ≤ length rules
+pub given_most : (version : Version) (datasets : List Dataset) (given rules : List Constraint) → AreAllRules version datasets given rules → length given ≤ length rules
 given_most version datasets given rules are =
     let one = length-map given rule_of in
     let two = length-map rules rule_of in
@@ -218,7 +218,7 @@ rules_goes version scope datasets given rules more index dataset is same so_far 
       (is.datasets_are.sound dataset inside).relations)
 
   both_sound : (arities : List ℕ) (rules more : List Constraint) → AreSoundRules arities rules → AreSoundRules arities more → AreSoundRules arities (rules ++ more)
-  both_sound arities rules more left right rule there = elim (append_cases rules more rule there) [
+  both_sound arities rules more left right rule there = elim (Contains-append_cases rules more rule there) [
     | inl one ↦ left rule one
     | inr other ↦ right rule other
   ]

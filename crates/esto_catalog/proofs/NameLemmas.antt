@@ -1,11 +1,12 @@
 -- The names of the relations of datasets are all different.
-use Rattle.std.proofs.Common.{◌≡◌, ◌≢◌, ◌&&◌, ◌||◌, ℕ, List, [], ◌∷◌, ◌++◌, length, map, Bool, true, false, not, inl, inr, refl, sym, ap, subst, ◌∙◌, codes}
+use Rattle.std.proofs.Common.{◌≡◌, ◌≢◌, ◌&&◌, ◌||◌, ℕ, List, [], ◌∷◌, ◌++◌, length, map, Bool, true, false, not, inl, inr, refl, sym, ap, subst, ◌∙◌, arith, codes}
 use Rattle.std.specs.Prelude.{◌⊎◌, Contains, AllPairs, nat_eq, nat_le, if◌then◌else◌}
 use Rattle.std.specs.List.{list_all, list_any}
 use Rattle.std.proofs.lemmas.Bool.{false≢true}
 use Rattle.std.proofs.lemmas.Bool.Decides.{nat_tests}
 use Rattle.std.proofs.lemmas.Cmp.{nat_list_eq_equiv}
-use Rattle.std.proofs.lemmas.List.{append-nil, append_assoc, append_cancel_left, map-append}
+use Rattle.std.proofs.lemmas.List.{append_assoc, append_cancel_left, map-append}
+use Rattle.std.proofs.lemmas.List.Elements.{Contains-append_cases}
 use Rattle.esto_query.specs.Schemas.{names_of}
 use Rattle.esto_query.specs.declared.schema.Relation.{Relation}
 use Rattle.esto_read.specs.declared.words.DataModel.{DataModel}
@@ -36,12 +37,12 @@ any_free test (first ∷ items) none item inside =
 
 -- ---- a text up to its first dot
 
-stem : List ℕ → List ℕ
+abbrev stem : List ℕ → List ℕ
 stem [] = []
 stem (byte ∷ rest) = if nat_eq byte 46 then [] else (byte ∷ stem rest)
 
 -- a text without a dot
-plain : List ℕ → Bool
+abbrev plain : List ℕ → Bool
 plain text = list_all (λ byte. not (nat_eq byte 46)) text
 
 stem_cons : (byte : ℕ) (rest : List ℕ) → not (nat_eq byte 46) ≡ true → stem (byte ∷ rest) ≡ byte ∷ stem rest
@@ -93,7 +94,7 @@ part_dotted name own = append_assoc name (codes ".") own
 -- ---- the parts of one dataset
 
 -- no two of the texts are the same, by a test
-apart : List (List ℕ) → Bool
+abbrev apart : List (List ℕ) → Bool
 apart [] = true
 apart (text ∷ texts) = not (list_any (is_same text) texts) && apart texts
 
@@ -102,7 +103,7 @@ not_true true is = absurd (false≢true is)
 not_true false is = refl
 
 apart_pairs : (texts : List (List ℕ)) → apart texts ≡ true → AllPairs ◌≢◌ texts
-apart_pairs [] free = λ i j d before below. absurd (omega below)
+apart_pairs [] free = λ i j d before below. absurd (omega (arith, below))
 apart_pairs (text ∷ texts) free =
     let (none, more) = and_true (not (list_any (is_same text) texts)) (apart texts) free in
     pairs_cons ◌≢◌ text texts
@@ -112,9 +113,9 @@ apart_pairs (text ∷ texts) free =
 
 parts_apart : (name : List ℕ) (owns : List (List ℕ)) → apart owns ≡ true → AllPairs ◌≢◌ (map (part_name name) owns)
 parts_apart name owns free =
-    pairs_map ◌≢◌ ◌≢◌ (λ one other differ same. differ (append_cancel_left (name ++ codes ".") one other same)) owns (apart_pairs owns free)
+    pairs_map (part_name name) ◌≢◌ ◌≢◌ (λ one other differ same. differ (append_cancel_left (name ++ codes ".") one other same)) owns (apart_pairs owns free)
 
-document_parts : List (List ℕ)
+abbrev document_parts : List (List ℕ)
 document_parts = codes "root" ∷ codes "field" ∷ codes "item" ∷ codes "value" ∷ codes "below" ∷ []
 
 one_pair : (text : List ℕ) → AllPairs ◌≢◌ (text ∷ [])
@@ -147,16 +148,6 @@ relation_stem name columns Keys is text inside = parts_stem name (codes "pair" �
 abbrev pub name_of : Dataset → List ℕ
 name_of dataset = dataset.name
 
-pub append_cases : {A : Type 0} (xs ys : List A) (item : A) → Contains (xs ++ ys) item → Contains xs item ⊎ Contains ys item
-append_cases [] ys item inside = inr inside
-append_cases (x ∷ xs) ys item inside = elim (Contains-cases x (xs ++ ys) item inside) [
-  | inl same ↦ inl (subst (Contains (x ∷ xs)) same (Contains-head x xs))
-  | inr later ↦ elim (append_cases xs ys item later) [
-    | inl left ↦ inl (Contains-rest x xs item left)
-    | inr right ↦ inr right
-  ]
-]
-
 names_append : (xs ys : List Relation) → names_of (xs ++ ys) ≡ names_of xs ++ names_of ys
 names_append xs ys = map-append (λ (r : Relation). r.name) xs ys
 
@@ -166,7 +157,7 @@ owner : (datasets : List Dataset) → ((dataset : Dataset) → Contains datasets
     → Contains (map name_of datasets) (stem text)
 owner [] named text inside = absurd (Contains-nil text inside)
 owner (dataset ∷ datasets) named text inside =
-    elim (append_cases (names_of (relations_of dataset)) (names_of (schema_of datasets)) text
+    elim (Contains-append_cases (names_of (relations_of dataset)) (names_of (schema_of datasets)) text
     (subst (λ (l : List (List ℕ)). Contains l text) (names_append (relations_of dataset) (schema_of datasets)) inside)) [
       | inl own ↦
           let same = relation_stem dataset.name (length dataset.columns) dataset.model (named dataset (Contains-head dataset datasets)) text own in

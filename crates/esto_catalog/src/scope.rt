@@ -23,9 +23,9 @@ pub struct Scope {
 fn part_name(alloc: Global, name: &Text, own: &str) -> Result<Text, OutOfMemory>
     ensures { IfOk result (λ it. it ≡ part_name name.now own.now) }
 {
-    let Ok(text) = format!(in alloc; "{}.{own}", name.as_str()) else {
-        return Err(OutOfMemory);
-    };
+    let mut text = String::from_str(alloc, name.as_str())?;
+    text.push_str(".")?;
+    text.push_str(own)?;
     Text::from_str(alloc, text.as_str())
 }
 
