@@ -4,7 +4,7 @@ use Rattle.std.specs.Prelude.{AllPairs, Contains}
 use Rattle.std.proofs.Math.ListN.{get_or-map}
 use Rattle.std.proofs.lemmas.List.{length-map, map-append, take_more}
 use Rattle.std.proofs.lemmas.List.Elements.{Contains-push_cases}
-use Rattle.std.proofs.lemmas.List.FromFn.{length-map-range_with_len}
+use Rattle.std.proofs.lemmas.List.FromFn.{length-map-range_with_len, map-range_with_len_more}
 use Rattle.esto_course.specs.Course.{judges, gives, refuses}
 use Rattle.esto_term.proofs.ListLemmas.{Contains-cases, Contains-map_from, Contains-nil}
 use Rattle.esto_read.specs.declared.words.DataModel.{DataModel}
@@ -62,6 +62,12 @@ written_sound columns texts patterns are =
       distinct = pairs_before written_pattern patterns (subst (AllPairs ◌≢◌) are.written are.distinct);
       wide = are.wide;
     }
+
+-- one column more
+pub usual_more : (model : DataModel) (column : ℕ) (pattern : List Bool) (input : Bool) → pattern ≡ usual_pattern model column
+    → input ≡ is_usual_input model column → pattern ++ input ∷ [] ≡ usual_pattern model (column + 1)
+usual_more model column pattern input so_far is =
+    (λ i. so_far i ++ is i ∷ []) ∙ sym (map-range_with_len_more (is_usual_input model) 0 column column refl)
 
 usual_sound : (model : DataModel) (columns : ℕ) → AreSoundPatterns columns (usual_pattern model columns ∷ [])
 usual_sound model columns = record {

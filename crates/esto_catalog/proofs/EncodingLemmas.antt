@@ -5,7 +5,7 @@ use Rattle.std.proofs.Math.Seq.{take-length}
 use Rattle.std.proofs.lemmas.List.{append-nil, append_assoc, length-map, map-append, take-append-le, take_all, take_more}
 use Rattle.std.proofs.lemmas.List.Elements.{Contains-append_cases}
 use Rattle.esto_constraint.specs.Constraints.{rule_of, rules_of}
-use Rattle.esto_constraint.specs.EncodingRules.{atom, document_rules, document_rules_2, field, item, key_rules, root, value, below, written}
+use Rattle.esto_constraint.specs.EncodingRules.{atom, document_rules, document_rules_2, key_rules, root, below, written}
 use Rattle.esto_constraint.specs.declared.rule.Constraint.{Constraint}
 use Rattle.esto_query.specs.Schemas.{arities_of}
 use Rattle.esto_query.specs.declared.query.Name.{Name}
@@ -77,13 +77,16 @@ denial_over schema body fine = (fine.over, fine.texts)
 abbrev pub AreRulesOver : List ℕ → List Rule → Type 0
 AreRulesOver schema rules = (rule : Rule) → Contains rules rule → IsRuleOver schema rule
 
-no_rules : (schema : List ℕ) → AreRulesOver schema []
-no_rules schema rule inside = absurd (Contains-nil rule inside)
+-- the same, rule by rule
+abbrev AllOver : List ℕ → List Rule → Type 0
+AllOver schema [] = Unit {0}
+AllOver schema (first ∷ rules) = IsRuleOver schema first × AllOver schema rules
 
-one_rule : (schema : List ℕ) (first : Rule) (rules : List Rule) → IsRuleOver schema first → AreRulesOver schema rules → AreRulesOver schema (first ∷ rules)
-one_rule schema first rules own over rule inside = elim (Contains-cases first rules rule inside) [
-  | inl same ↦ subst (IsRuleOver schema) same own
-  | inr later ↦ over rule later
+from_all : (schema : List ℕ) (rules : List Rule) → AllOver schema rules → AreRulesOver schema rules
+from_all schema [] over rule inside = absurd (Contains-nil rule inside)
+from_all schema (first ∷ rules) over rule inside = elim (Contains-cases first rules rule inside) [
+  | inl same ↦ subst (IsRuleOver schema) same over.0
+  | inr later ↦ from_all schema rules over.1 rule later
 ]
 
 more_rules : (schema : List ℕ) (rules others : List Rule) → AreRulesOver schema rules → AreRulesOver schema others → AreRulesOver schema (rules ++ others)
@@ -92,46 +95,65 @@ more_rules schema rules others over over' rule inside = elim (Contains-append_ca
   | inr right ↦ over' rule right
 ]
 
+-- two atoms of one relation that agree at a place
+agree_over : (schema : List ℕ) (relation : ℕ) (one other : List ℕ) (left right : ℕ) → slice_get schema relation ≡ Some (length one) → length other ≡ length one
+    → IsRuleOver schema (equality (atom relation one ∷ atom relation other ∷ []) (Plain left) (Plain right))
+agree_over schema relation one other left right at same =
+    equality_over schema (atom relation one ∷ atom relation other ∷ []) left right
+    (one_atom schema relation one (atom relation other ∷ []) at (one_atom schema relation other [] (at ∙ ap Some (sym same)) (no_atoms schema)))
+
+-- an atom that asks for another
+leads_over : (schema : List ℕ) (from : ℕ) (one : List ℕ) (to : ℕ) (other : List ℕ) → slice_get schema from ≡ Some (length one)
+    → slice_get schema to ≡ Some (length other) → IsRuleOver schema (tuple (atom from one ∷ []) (atom to other ∷ []))
+leads_over schema from one to other at there =
+    tuple_over schema (atom from one ∷ []) (atom to other ∷ []) (one_atom schema from one [] at (no_atoms schema))
+    (one_atom schema to other [] there (no_atoms schema))
+
 module _ (schema : List ℕ) (base : ℕ) (has : HasRelations schema Documents base) where
-  two : (relation : ℕ) (one other : List ℕ) → slice_get schema relation ≡ Some (length one) → length other ≡ length one
-      → AreFine schema (atom relation one ∷ atom relation other ∷ [])
-  two relation one other at same =
-      one_atom schema relation one (atom relation other ∷ []) at
-      (one_atom schema relation other [] (at ∙ ap Some (sym same)) (no_atoms schema))
-
-  single : (relation : ℕ) (one : List ℕ) → slice_get schema relation ≡ Some (length one) → AreFine schema (atom relation one ∷ [])
-  single relation one at = one_atom schema relation one [] at (no_atoms schema)
-
   documents_over : AreRulesOver schema (document_rules base)
-  documents_over =
-      one_rule schema _ _ (equality_over schema _ 2 3 (two (base + 1) (0 ∷ 1 ∷ 2 ∷ []) (0 ∷ 1 ∷ 3 ∷ []) has.1.0 refl))
-      (one_rule schema _ _ (equality_over schema _ 0 3 (two (base + 1) (0 ∷ 1 ∷ 2 ∷ []) (3 ∷ 4 ∷ 2 ∷ []) has.1.0 refl))
-      (one_rule schema _ _ (equality_over schema _ 1 4 (two (base + 1) (0 ∷ 1 ∷ 2 ∷ []) (3 ∷ 4 ∷ 2 ∷ []) has.1.0 refl))
-      (one_rule schema _ _ (equality_over schema _ 0 2 (two (base + 2) (0 ∷ 1 ∷ []) (2 ∷ 1 ∷ []) has.1.1.0 refl))
-      (one_rule schema _ _ (equality_over schema _ 1 2 (two (base + 3) (0 ∷ 1 ∷ []) (0 ∷ 2 ∷ []) has.1.1.1.0 refl))
-      (one_rule schema _ _ (tuple_over schema _ _ (single (base + 1) (0 ∷ 1 ∷ 2 ∷ []) has.1.0) (single (base + 4) (0 ∷ 2 ∷ []) has.1.1.1.1))
-      (one_rule schema _ _ (tuple_over schema _ _ (single (base + 2) (0 ∷ 1 ∷ []) has.1.1.0) (single (base + 4) (0 ∷ 1 ∷ []) has.1.1.1.1))
-      (no_rules schema)))))))
+  documents_over = from_all schema (document_rules base) (
+    agree_over schema (base + 1) (0 ∷ 1 ∷ 2 ∷ []) (0 ∷ 1 ∷ 3 ∷ []) 2 3 has.1 refl,
+    (
+      agree_over schema (base + 1) (0 ∷ 1 ∷ 2 ∷ []) (3 ∷ 4 ∷ 2 ∷ []) 0 3 has.1 refl,
+      (
+        agree_over schema (base + 1) (0 ∷ 1 ∷ 2 ∷ []) (3 ∷ 4 ∷ 2 ∷ []) 1 4 has.1 refl,
+        (
+          agree_over schema (base + 2) (0 ∷ 1 ∷ []) (2 ∷ 1 ∷ []) 0 2 has.2 refl,
+          (
+            agree_over schema (base + 3) (0 ∷ 1 ∷ []) (0 ∷ 2 ∷ []) 1 2 has.3 refl,
+            (
+              leads_over schema (base + 1) (0 ∷ 1 ∷ 2 ∷ []) (base + 4) (0 ∷ 2 ∷ []) has.1 has.4,
+              (leads_over schema (base + 2) (0 ∷ 1 ∷ []) (base + 4) (0 ∷ 1 ∷ []) has.2 has.4, tt),
+            ),
+          ),
+        ),
+      ),
+    ),
+  )
+
+  plus_none : base + 0 ≡ base
+  plus_none = omega arith
 
   documents_over_2 : AreRulesOver schema (document_rules_2 base)
   documents_over_2 =
-      more_rules schema (document_rules base) _ documents_over
-      (one_rule schema _ [] (denial_over schema (root base (0 ∷ []) ∷ below base (1 ∷ 0 ∷ []) ∷ [])
-      (one_atom schema (base + 0) (0 ∷ []) (below base (1 ∷ 0 ∷ []) ∷ []) (subst (λ n. slice_get schema n ≡ Some 1) (sym (plus_none base)) has.0)
-      (single (base + 4) (1 ∷ 0 ∷ []) has.1.1.1.1)))
-      (no_rules schema)) where
-        plus_none : (n : ℕ) → n + 0 ≡ n
-        plus_none n = omega arith
+      more_rules schema (document_rules base) (denial (root base (0 ∷ []) ∷ below base (1 ∷ 0 ∷ []) ∷ []) ∷ []) documents_over
+      (from_all schema (denial (root base (0 ∷ []) ∷ below base (1 ∷ 0 ∷ []) ∷ []) ∷ []) (
+        denial_over schema (root base (0 ∷ []) ∷ below base (1 ∷ 0 ∷ []) ∷ [])
+            (one_atom schema (base + 0) (0 ∷ []) (below base (1 ∷ 0 ∷ []) ∷ [])
+            (subst (λ n. slice_get schema n ≡ Some 1) (sym plus_none) has.0)
+            (one_atom schema (base + 4) (1 ∷ 0 ∷ []) [] has.4 (no_atoms schema))),
+        tt,
+      ))
 
 encoding_over : (schema : List ℕ) (version : Version) (model : DataModel) (base : ℕ) → HasRelations schema model base
     → AreRulesOver schema (encoding_rules version model base)
-encoding_over schema version Table base has = no_rules schema
+encoding_over schema version Table base has = from_all schema [] tt
 encoding_over schema One Documents base has = documents_over schema base has
 encoding_over schema Two Documents base has = documents_over_2 schema base has
-encoding_over schema version Keys base has =
-    one_rule schema _ [] (equality_over schema _ 2 3
-    (one_atom schema base (0 ∷ 1 ∷ 2 ∷ []) (atom base (0 ∷ 1 ∷ 3 ∷ []) ∷ []) has (one_atom schema base (0 ∷ 1 ∷ 3 ∷ []) [] has (no_atoms schema))))
-    (no_rules schema)
+encoding_over schema version Keys base has = from_all schema (key_rules base) (
+  agree_over schema base (0 ∷ 1 ∷ 2 ∷ []) (0 ∷ 1 ∷ 3 ∷ []) 2 3 has refl,
+  tt,
+)
 
 -- a list of constraints whose rules are over the schema
 sound_of : (schema : List ℕ) (rules : List Constraint) (meant : List Rule) → rules_of rules ≡ meant → AreRulesOver schema meant → AreSoundRules schema rules

@@ -1,5 +1,5 @@
 -- The walk has one outcome.
-use Rattle.std.proofs.Common.{◌≡◌, ◌≢◌, ◌⊎◌, ℕ, suc, pos, arith, Bool, List, [], ◌∷◌, ◌++◌, length, map, Option, Some, None, Ordering, Less, Equal, Greater, inl, inr, refl, sym, ap, subst, ◌∙◌, codes}
+use Rattle.std.proofs.Common.{◌≡◌, ◌≢◌, ◌⊎◌, ℕ, suc, pos, arith, Bool, List, [], ◌∷◌, ◌++◌, length, map, Option, Some, None, get_or, Ordering, Less, Equal, Greater, inl, inr, refl, sym, ap, subst, ◌∙◌, codes}
 use Rattle.std.specs.Prelude.{slice_get}
 use Rattle.std.specs.Ordering.{ordering_reverse}
 use Rattle.std.proofs.Math.Logic.{∥∥₁_prop}
@@ -206,8 +206,8 @@ model_one Keys Keys same = refl
 
 layout_one : (layout other : Layout) → layout_word layout ≡ layout_word other → layout ≡ other
 layout_one Array Array same = refl
-layout_one Array Lines same = absurd cc
-layout_one Lines Array same = absurd cc
+layout_one Array Lines same = let first : 97 ≡ 108 = ap (λ l. get_or l 0 0) same in absurd (omega (arith, first))
+layout_one Lines Array same = let first : 108 ≡ 97 = ap (λ l. get_or l 0 0) same in absurd (omega (arith, first))
 layout_one Lines Lines same = refl
 
 model_determined : (kind : CatalogueKind) (place : Place) (key : List ℕ) (entry : List Field) → IsDetermined (needs_model kind place key entry)
@@ -297,7 +297,7 @@ gives_alike caused Same value other alike = record {
 stopped : (place : Place) (view : Query) (pattern : Pattern) (error : CatalogueError) → (checks place view pattern).stops error
     → (¬ IsLayout (length view.head) (entries_of pattern.entries)) × (error ≡ fault_at BadPattern place (codes "pattern"))
 unfolding and_then demands gives
-stopped place view pattern error stops = elim stops [ inl none ↦ none | inr (v, holds, no) ↦ absurd no ]
+stopped place view pattern error stops = elim stops [ inl none ↦ none | inr (v, holds, never) ↦ absurd never ]
 
 checked : (place : Place) (view : Query) (pattern other : Pattern) → AreSameEntries pattern other
     → Agree (λ _. Unit {0}) AreSameEntries (checks place view pattern) (checks place view other)

@@ -232,10 +232,10 @@ module _ (schema : List Relation) (words : List Word) (datasets : List Dataset) 
   has_known arities Table base some = ∥∥₁_elim some le_prop (λ has. has)
   has_known arities Documents base some = (
     ∥∥₁_elim some (Coded-set (coded_option coded_ℕ) _ _) (λ (has : HasRelations arities Documents base). has.0),
-    ∥∥₁_elim some (Coded-set (coded_option coded_ℕ) _ _) (λ (has : HasRelations arities Documents base). has.1.0),
-    ∥∥₁_elim some (Coded-set (coded_option coded_ℕ) _ _) (λ (has : HasRelations arities Documents base). has.1.1.0),
-    ∥∥₁_elim some (Coded-set (coded_option coded_ℕ) _ _) (λ (has : HasRelations arities Documents base). has.1.1.1.0),
-    ∥∥₁_elim some (Coded-set (coded_option coded_ℕ) _ _) (λ (has : HasRelations arities Documents base). has.1.1.1.1),
+    ∥∥₁_elim some (Coded-set (coded_option coded_ℕ) _ _) (λ (has : HasRelations arities Documents base). has.1),
+    ∥∥₁_elim some (Coded-set (coded_option coded_ℕ) _ _) (λ (has : HasRelations arities Documents base). has.2),
+    ∥∥₁_elim some (Coded-set (coded_option coded_ℕ) _ _) (λ (has : HasRelations arities Documents base). has.3),
+    ∥∥₁_elim some (Coded-set (coded_option coded_ℕ) _ _) (λ (has : HasRelations arities Documents base). has.4),
   )
   has_known arities Keys base some = ∥∥₁_elim some (Coded-set (coded_option coded_ℕ) _ _) (λ has. has)
 

@@ -2,7 +2,7 @@
 ghost use Rattle.std.specs.Prelude.{◌≡◌, ◌≢◌, codes, MatchOption};
 ghost use Rattle.esto_docs.specs.declared.layout.Layout.{Layout};
 ghost use Rattle.esto_read.specs.declared.words.DataModel.{DataModel};
-ghost use Rattle.esto_catalog.specs.Models.{model_word, layout_word, needs_model, reads_layout, allows_layout, unfit_row, no_layout, layout_row};
+ghost use Rattle.esto_catalog.specs.Models.{model_word, layout_word, reads_model, needs_model, reads_layout, allows_layout, unfit_row, no_layout, layout_row};
 ghost use Rattle.esto_catalog.specs.Rows.{Walks};
 ghost use Rattle.esto_catalog.specs.Settings.{setting_at};
 
@@ -45,6 +45,23 @@ fn layout_of(text: &Text) -> Option<Layout>
     None
 }
 
+// The model of which the text is the word; else a fault of this kind.
+#[tactic(auto, using(crate::proofs::RowLemmas::rows))]
+fn written_model(
+    alloc: Global,
+    kind: CatalogueKind,
+    place: Place,
+    key: &str,
+    text: &Text,
+) -> Result<DataModel, CatalogueError>
+    ensures { Walks (reads_model kind place key.now text.now) result }
+{
+    match model_of(text) {
+        Some(model) => Ok(model),
+        None => Err(fault(alloc, kind, place, key, None)),
+    }
+}
+
 /// The model of which the text at the key is the word; a fault of this kind where it is the word for none.
 #[tactic(auto, using(crate::proofs::RowLemmas::rows))]
 pub fn needs_model(
@@ -57,10 +74,8 @@ pub fn needs_model(
     ensures { Walks (needs_model kind place key.now entry.now) result }
 {
     let text = needs_text(alloc, place, key, entry)?;
-    match model_of(&text) {
-        Some(model) => Ok(model),
-        None => Err(fault(alloc, kind, place, key, None)),
-    }
+    let model = written_model(alloc, kind, place, key, &text)?;
+    Ok(model)
 }
 
 // The layout of which the text is the word; else BadLayout.

@@ -57,7 +57,8 @@ pub fn with_encodings(
 {
     let mut rules = given;
     'datasets: for dataset in scope.datasets.items() {
-        rules.append(encoding(alloc, version, dataset)?)?;
+        let more = encoding(alloc, version, dataset)?;
+        rules.append(more)?;
     }
     Ok(rules)
 }

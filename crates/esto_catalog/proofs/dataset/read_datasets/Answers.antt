@@ -13,7 +13,7 @@ entries-init c = record {
 
 pub entries-preserved : goal.entries-preserved
 entries-preserved c =
-    let count = c.relation_count.ensures in
+    let count = c.relation_count-base.ensures in
     let most = count_most c.in_ok-dataset.dataset.model in
     record {
       leads =
