@@ -67,7 +67,8 @@ written_sound columns texts patterns are =
 pub usual_more : (model : DataModel) (column : ℕ) (pattern : List Bool) (input : Bool) → pattern ≡ usual_pattern model column
     → input ≡ is_usual_input model column → pattern ++ input ∷ [] ≡ usual_pattern model (column + 1)
 usual_more model column pattern input so_far is =
-    (λ i. so_far i ++ is i ∷ []) ∙ sym (map-range_with_len_more (is_usual_input model) 0 column column refl)
+    let first : 0 + column ≡ column = omega arith in
+    (λ i. so_far i ++ is i ∷ []) ∙ sym (map-range_with_len_more (is_usual_input model) 0 column column first)
 
 usual_sound : (model : DataModel) (columns : ℕ) → AreSoundPatterns columns (usual_pattern model columns ∷ [])
 usual_sound model columns = record {

@@ -11,4 +11,4 @@ returns-in_err-text c =
 pub returns-in_err-model : goal.returns-in_err-model
 returns-in_err-model c =
     row_exit (needs_model c.args.kind c.args.place c.args.key.now c.args.entry.now) _ _ c.from_residual-in_err-model.ensures.1
-    (then_stops _ _ _ (c.in_ok-text.ensures) (first_stops _ _ (c.in_err-model.ensures)))
+    (then_stops _ _ _ (c.in_ok-text.ensures) (c.in_err-model.ensures))
