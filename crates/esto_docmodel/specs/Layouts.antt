@@ -28,11 +28,15 @@ abbrev pub AreFields : List (List Step) → Type 0
 AreFields [] = Unit {0}
 AreFields (path ∷ rest) = ((name : List ℕ) × Begins (Name name) path × ¬ (SomeBegins (Name name) rest)) × AreFields rest
 
--- What stands at the ends of the paths fits into one array of one item, or into one object with at least one field.
+-- There is one path, and it begins with an item.
+abbrev pub IsOneItem : List (List Step) → Type 0
+IsOneItem [] = ⊥
+IsOneItem (path ∷ []) = Begins Item path
+IsOneItem (path ∷ other ∷ rest) = ⊥
+
+-- One array of one item, or one object with at least one field, has room for what stands at the ends of the paths.
 abbrev pub FitTogether : List (List Step) → Type 0
-FitTogether [] = ⊥
-FitTogether (path ∷ []) = Begins Item path ⊎ AreFields (path ∷ [])
-FitTogether (path ∷ other ∷ rest) = AreFields (path ∷ other ∷ rest)
+FitTogether paths = IsOneItem paths ⊎ ((paths ≢ []) × AreFields paths)
 
 -- The term is the variable of a column.
 abbrev pub IsColumn : ℕ → Term → Type 0

@@ -10,3 +10,4 @@ pub mod Meanings
 pub mod Putting
 pub mod Layouts
 pub mod Valuations
+pub mod Matching

@@ -13,7 +13,7 @@ mod tree;
 
 pub use encode::{Encoded, EncodedAtoms, encode_documents, encode_pattern};
 pub use field::FieldOf;
-pub use laws::{documents_meet_the_rules, encodings_mean_the_same};
+pub use laws::{documents_meet_the_rules, encodings_mean_the_same, matches_rest_on_their_terms};
 pub use layout::{MAX_LAYOUT_DEPTH, is_layout};
 pub use matches::{Valuations, match_pattern};
 pub use pattern::{Entries, Entry, Path, Pattern, Step};
