@@ -1,5 +1,5 @@
 -- What a text of a layout means, and its first fault.
-use Rattle.std.specs.Prelude.{◌≡◌, ◌≢◌, ◌⊎◌, ℕ, ◌<◌, IsUtf8, List, [], ◌∷◌, ◌++◌, Some, slice_get, map, Contains, AllPairs}
+use Rattle.std.specs.Prelude.{◌≡◌, ◌≢◌, ◌⊎◌, ℕ, IsUtf8, List, [], ◌∷◌, ◌++◌, Contains, AllPairs}
 use Rattle.esto_docmodel.specs.Shapes.{entries_of}
 use Rattle.esto_docmodel.specs.declared.pattern.Pattern.{Pattern}
 use Rattle.esto_query.specs.declared.query.Name.{Name}

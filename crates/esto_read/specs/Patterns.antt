@@ -45,7 +45,8 @@ AreEntries bytes before _ _ after = ⊥
 -- What an entry of the text puts before others, where these names came before it, and the names after it.
 abbrev pub Puts : List ℕ → List Name → EntryTree → (Entries → Entries) → List Name → Type 0
 Puts bytes before entry put after =
-    (others : EntryTrees) (rest : Entries) (end : List Name) → AreEntries bytes after others rest end → AreEntries bytes before (AndEntry entry others) (put rest) end
+    (others : EntryTrees) (rest : Entries) (end : List Name) → AreEntries bytes after others rest end
+    → AreEntries bytes before (AndEntry entry others) (put rest) end
 
 -- The atoms of the pattern that a group writes over the five relations from the base on, where these names came before it, and the names after it. Its root
 -- takes the next number, then its terms take theirs, and then the nodes of its steps, in the order of the text; root and nodes have no name.

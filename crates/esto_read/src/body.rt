@@ -41,6 +41,8 @@ fn relation_of(bytes: &[u8], item: &ItemSyntax, words: &[Word], schema: &Schema)
         (IsRelationOf words.now bytes.now (item_of item.now)) }
     ensures inside { MatchOption result Unit (λ relation. relation < length schema.now) }
 {
+    // A schema's relations are few, so that no sum of their numbers overflows.
+    let _few = schema.len();
     match item {
         ItemSyntax::Atom { name, .. } => base_of(words, bytes_of(bytes, *name), DataModel::Table),
         ItemSyntax::Part { name, part, .. } => {
@@ -93,7 +95,8 @@ fn fitting(
         (item_of item.now) }
     requires relations { All (λ word.
         HasRelations (arities_of schema.now) word.model word.base) words.now }
-    ensures ok { IfOk result (λ relation. IsRelationOf words.now bytes.now (item_of item.now) relation
+    ensures ok { IfOk result (λ relation.
+        IsRelationOf words.now bytes.now (item_of item.now) relation
         × HasArity (arities_of schema.now) (item_of item.now) relation
         × (atoms + item_size (item_of item.now) ≤ MAX_ATOMS)) }
     ensures err { IfErr result (IsMisfit

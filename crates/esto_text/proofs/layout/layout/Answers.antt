@@ -1,7 +1,7 @@
 use Rattle.std.proofs.Common.{false-eqb}
 use Rattle.std.proofs.lemmas.Result.{err_from_is_err_and}
 use Rattle.esto_text.specs.View.{entries_of}
-use Rattle.esto_text.proofs.LayoutLemmas.{no_layout, group_fails, more_fails, layout_is}
+use Rattle.esto_text.proofs.LayoutLemmas.{no_layout, group_fails, more_fails}
 use Rattle.esto_text.proofs.layout.layout.Goals as goal
 
 pub returns-in_err-rest-clause-err : goal.returns-in_err-rest-clause-err
