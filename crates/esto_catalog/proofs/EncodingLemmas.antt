@@ -62,7 +62,8 @@ one_atom schema relation variables rest at fine = record {
 plain_utf8 : (variable : ℕ) (text : List ℕ) → Plain variable ≡ Const text → IsUtf8 text
 plain_utf8 variable text is = absurd (Const-apart-Plain text variable (sym is))
 
-equality_over : (schema : List ℕ) (body : List (Fact Term)) (left right : ℕ) → AreFine schema body → IsRuleOver schema (equality body (Plain left) (Plain right))
+equality_over : (schema : List ℕ) (body : List (Fact Term)) (left right : ℕ) → AreFine schema body
+    → IsRuleOver schema (equality body (Plain left) (Plain right))
 equality_over schema body left right fine = (fine.over, fine.texts, plain_utf8 left, plain_utf8 right)
 
 tuple_over : (schema : List ℕ) (body head : List (Fact Term)) → AreFine schema body → AreFine schema head → IsRuleOver schema (tuple body head)
@@ -184,7 +185,8 @@ given_alone version given = record {
   names = sym (append-nil (map written given));
 }
 
-pub given_most : (version : Version) (datasets : List Dataset) (given rules : List Constraint) → AreAllRules version datasets given rules → length given ≤ length rules
+pub given_most : (version : Version) (datasets : List Dataset) (given rules : List Constraint) → AreAllRules version datasets given rules
+    → length given ≤ length rules
 given_most version datasets given rules are =
     let one = length-map given rule_of in
     let two = length-map rules rule_of in
@@ -219,7 +221,8 @@ pub rules_start : (version : Version) (arities : List ℕ) (datasets : List Data
     → AreRulesSoFar version arities datasets given given 0
 rules_start version arities datasets given over = record { are = given_alone version given; over = over }
 
-pub rules_goes : (version : Version) (scope : Scope) (datasets : List Dataset) (given rules more : List Constraint) (index : ℕ) (dataset : Dataset) → IsScope scope
+pub rules_goes : (version : Version) (scope : Scope) (datasets : List Dataset) (given rules more : List Constraint) (index : ℕ) (dataset : Dataset)
+    → IsScope scope
     → datasets ≡ scope.datasets → AreRulesSoFar version (arities_of scope.schema) datasets given rules index → index < length datasets
     → dataset ≡ get_or datasets index dataset
     → rules_of more ≡ encoding_rules version dataset.model dataset.base → map written more ≡ encoding_names version dataset.model
@@ -239,7 +242,8 @@ rules_goes version scope datasets given rules more index dataset is same so_far 
       (has_relations (schema_of scope.datasets) dataset.name (length dataset.columns) dataset.model dataset.base
       (is.datasets_are.sound dataset inside).relations)
 
-  both_sound : (arities : List ℕ) (rules more : List Constraint) → AreSoundRules arities rules → AreSoundRules arities more → AreSoundRules arities (rules ++ more)
+  both_sound : (arities : List ℕ) (rules more : List Constraint) → AreSoundRules arities rules → AreSoundRules arities more
+      → AreSoundRules arities (rules ++ more)
   both_sound arities rules more left right rule there = elim (Contains-append_cases rules more rule there) [
     | inl one ↦ left rule one
     | inr other ↦ right rule other

@@ -305,7 +305,8 @@ unfolding and_then demands gives
 checked place view pattern other alike = record {
   one = λ value other_value (u, holds, is) (v, holds', is').
       ap (λ (p : Pattern). entries_of p.entries) is ∙ alike ∙ sym (ap (λ (p : Pattern). entries_of p.entries) is');
-  one_stop = λ error other_error because because' stops stops'. (stopped place view pattern error stops).1 ∙ sym (stopped place view other other_error stops').1;
+  one_stop = λ error other_error because because' stops stops'. (stopped place view pattern error stops).1
+      ∙ sym (stopped place view other other_error stops').1;
   apart = λ value error because (u, holds, is) stops. (stopped place view other error stops).0 (subst (IsLayout (length view.head)) alike holds);
   other_apart = λ value error because (u, holds, is) stops.
       (stopped place view pattern error stops).0 (subst (IsLayout (length view.head)) (sym alike) holds);
@@ -382,7 +383,8 @@ module _ (one : HaveOneReading) (no_fault : HaveNoFault) (one_fault : HaveOneFau
     pattern_determined =
         then_agree (λ _. Unit {0}) ◌≡◌ AreSameEntries _ _ _ _ (text_determined place _ _) (λ text text' goes same.
         subst (λ t. Agree (λ _. Unit {0}) AreSameEntries (reads_on place view text) (reads_on place view t)) same
-        (then_agree (λ _. Unit {0}) AreSameEntries AreSameEntries _ _ _ _ (reading text) (λ pattern other reads alike. checked place view pattern other alike))) where
+        (then_agree (λ _. Unit {0}) AreSameEntries AreSameEntries _ _ _ _ (reading text) (λ pattern other reads alike. checked place view pattern other
+        alike))) where
           named : AreNamed (map Given (head_columns view))
           named = names_are (head_columns view) distinct
 

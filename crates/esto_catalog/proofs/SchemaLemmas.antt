@@ -34,21 +34,23 @@ relations_sized name Table columns fit relation inside = elim (Contains-cases _ 
   | inl same ↦ let is : length columns ≡ relation.arity = ap (λ (r : Relation). r.arity) same in (omega (arith, fit.some, is), omega (arith, fit.few, is))
   | inr later ↦ absurd (Contains-nil relation later)
 ]
-relations_sized name Documents columns fit relation inside = sized_from (1 ∷ 3 ∷ 2 ∷ 2 ∷ 2 ∷ []) all (Contains-map (λ (r : Relation). r.arity) (model_relations name (length columns) Documents) relation inside) where
-  sized_from : (arities : List ℕ) → ((arity : ℕ) → Contains arities arity → IsArity arity) → Contains arities relation.arity → IsArity relation.arity
-  sized_from arities each there = each relation.arity there
+relations_sized name Documents columns fit relation inside = sized_from (1 ∷ 3 ∷ 2 ∷ 2 ∷ 2 ∷ []) all (Contains-map (λ (r : Relation). r.arity)
+    (model_relations name (length columns) Documents) relation inside) where
+      sized_from : (arities : List ℕ) → ((arity : ℕ) → Contains arities arity → IsArity arity) → Contains arities relation.arity → IsArity relation.arity
+      sized_from arities each there = each relation.arity there
 
-  one : (arity number : ℕ) (rest : List ℕ) → IsArity number → ((other : ℕ) → Contains rest other → IsArity other) → Contains (number ∷ rest) arity → IsArity arity
-  one arity number rest own later there = elim (Contains-cases number rest arity there) [
-    | inl same ↦ subst IsArity same own
-    | inr after ↦ later arity after
-  ]
+      one : (arity number : ℕ) (rest : List ℕ) → IsArity number → ((other : ℕ) → Contains rest other → IsArity other) → Contains (number ∷ rest) arity
+          → IsArity arity
+      one arity number rest own later there = elim (Contains-cases number rest arity there) [
+        | inl same ↦ subst IsArity same own
+        | inr after ↦ later arity after
+      ]
 
-  all : (arity : ℕ) → Contains (1 ∷ 3 ∷ 2 ∷ 2 ∷ 2 ∷ []) arity → IsArity arity
-  all arity = one arity 1 (3 ∷ 2 ∷ 2 ∷ 2 ∷ []) (omega arith, omega arith)
-      (λ a. one a 3 (2 ∷ 2 ∷ 2 ∷ []) (omega arith, omega arith)
-      (λ b. one b 2 (2 ∷ 2 ∷ []) (omega arith, omega arith)
-      (λ c. one c 2 (2 ∷ []) (omega arith, omega arith) (λ d. one d 2 [] (omega arith, omega arith) (λ e there. absurd (Contains-nil e there))))))
+      all : (arity : ℕ) → Contains (1 ∷ 3 ∷ 2 ∷ 2 ∷ 2 ∷ []) arity → IsArity arity
+      all arity = one arity 1 (3 ∷ 2 ∷ 2 ∷ 2 ∷ []) (omega arith, omega arith)
+          (λ a. one a 3 (2 ∷ 2 ∷ 2 ∷ []) (omega arith, omega arith)
+          (λ b. one b 2 (2 ∷ 2 ∷ []) (omega arith, omega arith)
+          (λ c. one c 2 (2 ∷ []) (omega arith, omega arith) (λ d. one d 2 [] (omega arith, omega arith) (λ e there. absurd (Contains-nil e there))))))
 relations_sized name Keys columns fit relation inside = elim (Contains-cases _ [] relation inside) [
   | inl same ↦ let is : 3 ≡ relation.arity = ap (λ (r : Relation). r.arity) same in (omega (arith, is), omega (arith, is))
   | inr later ↦ absurd (Contains-nil relation later)
@@ -109,7 +111,8 @@ pub schema_turn : (datasets : List Dataset) (index : ℕ) (dataset : Dataset) (s
 schema_turn datasets index dataset schema relations are below is so_far own =
     let whole : schema_of datasets ≡ schema_of (take (index + 1) datasets) ++ schema_of (drop (index + 1) datasets) =
     ap schema_of (sym (take-append-drop (index + 1) datasets)) ∙ schema_append (take (index + 1) datasets) (drop (index + 1) datasets) in
-    let front = first_schema (schema_of (take (index + 1) datasets)) (schema_of (drop (index + 1) datasets)) (subst IsSchema whole (datasets_schema datasets are)) in
+    let front = first_schema (schema_of (take (index + 1) datasets)) (schema_of (drop (index + 1) datasets)) (subst IsSchema whole (datasets_schema datasets
+    are)) in
     let here : schema ++ relations ≡ schema_of (take (index + 1) datasets) =
     (λ i. so_far i ++ own i) ∙ sym (schema_step datasets index dataset below is) in
     subst IsSchema (sym here) front

@@ -262,12 +262,14 @@ pub rules_same_stops : (version : Version) (others datasets : List Dataset) (see
 rules_same_stops version others datasets seen entries error =
     over_same (λ d e. Stops IsWant IsAny (reads_constraints version d e) error) others datasets seen entries
 
-pub acyclic_same : (version : Version) (seen datasets : List Dataset) (fragments : Fragments) (given : List Constraint) (catalogue : Catalogue) → seen ≡ datasets
+pub acyclic_same : (version : Version) (seen datasets : List Dataset) (fragments : Fragments) (given : List Constraint) (catalogue : Catalogue)
+    → seen ≡ datasets
     → (is_acyclic version seen fragments given).goes catalogue → (is_acyclic version datasets fragments given).goes catalogue
 acyclic_same version seen datasets fragments given catalogue same goes =
     subst (λ (d : List Dataset). (is_acyclic version d fragments given).goes catalogue) same goes
 
 pub acyclic_same_stops : (version : Version) (seen datasets : List Dataset) (fragments : Fragments) (given : List Constraint) (error : CatalogueError)
-    → seen ≡ datasets → Stops IsWant IsAny (is_acyclic version seen fragments given) error → Stops IsWant IsAny (is_acyclic version datasets fragments given) error
+    → seen ≡ datasets → Stops IsWant IsAny (is_acyclic version seen fragments given) error
+    → Stops IsWant IsAny (is_acyclic version datasets fragments given) error
 acyclic_same_stops version seen datasets fragments given error same stops =
     subst (λ (d : List Dataset). Stops IsWant IsAny (is_acyclic version d fragments given) error) same stops

@@ -18,8 +18,8 @@ use Rattle.esto_catalog.specs.declared.fault.CatalogueError.{CatalogueError}
 use Rattle.esto_catalog.specs.declared.fault.CatalogueError.TheVariants.{NotAcyclic, OutOfMemory}
 use Rattle.esto_catalog.specs.declared.fragment.Fragments.{Fragments}
 
--- The catalogue of this version, of these datasets, fragments and constraints: its relations and words are the datasets', its rules are the constraints and then
--- those of the encodings, no relation leads back to itself by them, and its ranks are those of the relations by them.
+-- The catalogue of this version, of these datasets, fragments and constraints: its relations and words are the datasets', its rules are the constraints and
+-- then those of the encodings, no relation leads back to itself by them, and its ranks are those of the relations by them.
 pub record IsMadeOf (version : Version) (datasets : List Dataset) (fragments : Fragments) (given : List Constraint) (catalogue : Catalogue) : Type 0 where
   pub schema : catalogue.schema ≡ schema_of datasets
   pub words : catalogue.words ≡ words_of datasets

@@ -24,22 +24,27 @@ returns-in_err-model-clause-fragment c =
 pub returns-in_err-file-clause-fragment : goal.returns-in_err-file-clause-fragment
 returns-in_err-file-clause-fragment c =
     row_exit (reads_fragment c.args.place c.args.scope.now.datasets c.args.earlier.now c.args.entry.now) _ _ c.from_residual-in_err-file.ensures.1
-    (then_stops _ _ _ (c.in_ok-knows_keys.ensures) (then_stops _ _ _ (c.in_ok-view.ensures.view) (then_stops _ _ _ (c.in_ok-model.ensures) (first_stops _ _ (c.in_err-file.ensures)))))
+    (then_stops _ _ _ (c.in_ok-knows_keys.ensures) (then_stops _ _ _ (c.in_ok-view.ensures.view) (then_stops _ _ _ (c.in_ok-model.ensures)
+    (first_stops _ _ (c.in_err-file.ensures)))))
 
 pub returns-in_err-shape-clause-fragment : goal.returns-in_err-shape-clause-fragment
 returns-in_err-shape-clause-fragment c =
     row_exit (reads_fragment c.args.place c.args.scope.now.datasets c.args.earlier.now c.args.entry.now) _ _ c.from_residual-in_err-shape.ensures.1
-    (then_stops _ _ _ (c.in_ok-knows_keys.ensures) (then_stops _ _ _ (c.in_ok-view.ensures.view) (then_stops _ _ _ (c.in_ok-model.ensures) (then_stops _ _ _ (c.in_ok-file.ensures) (first_stops _ _ (c.in_err-shape.ensures))))))
+    (then_stops _ _ _ (c.in_ok-knows_keys.ensures) (then_stops _ _ _ (c.in_ok-view.ensures.view) (then_stops _ _ _ (c.in_ok-model.ensures)
+    (then_stops _ _ _ (c.in_ok-file.ensures) (first_stops _ _ (c.in_err-shape.ensures))))))
 
 pub returns-in_err-access-clause-fragment : goal.returns-in_err-access-clause-fragment
 returns-in_err-access-clause-fragment c =
     row_exit (reads_fragment c.args.place c.args.scope.now.datasets c.args.earlier.now c.args.entry.now) _ _ c.from_residual-in_err-access.ensures.1
-    (then_stops _ _ _ (c.in_ok-knows_keys.ensures) (then_stops _ _ _ (c.in_ok-view.ensures.view) (then_stops _ _ _ (c.in_ok-model.ensures) (then_stops _ _ _ (c.in_ok-file.ensures) (then_stops _ _ _ (c.in_ok-shape.ensures) (first_stops _ _ (c.in_err-access.ensures)))))))
+    (then_stops _ _ _ (c.in_ok-knows_keys.ensures) (then_stops _ _ _ (c.in_ok-view.ensures.view) (then_stops _ _ _ (c.in_ok-model.ensures)
+    (then_stops _ _ _ (c.in_ok-file.ensures) (then_stops _ _ _ (c.in_ok-shape.ensures) (first_stops _ _ (c.in_err-access.ensures)))))))
 
 pub returns-in_err-weight-clause-fragment : goal.returns-in_err-weight-clause-fragment
 returns-in_err-weight-clause-fragment c =
     row_exit (reads_fragment c.args.place c.args.scope.now.datasets c.args.earlier.now c.args.entry.now) _ _ c.from_residual-in_err-weight.ensures.1
-    (then_stops _ _ _ (c.in_ok-knows_keys.ensures) (then_stops _ _ _ (c.in_ok-view.ensures.view) (then_stops _ _ _ (c.in_ok-model.ensures) (then_stops _ _ _ (c.in_ok-file.ensures) (then_stops _ _ _ (c.in_ok-shape.ensures) (then_stops _ _ _ (c.in_ok-access.ensures) (first_stops _ _ (c.in_err-weight.ensures))))))))
+    (then_stops _ _ _ (c.in_ok-knows_keys.ensures) (then_stops _ _ _ (c.in_ok-view.ensures.view) (then_stops _ _ _ (c.in_ok-model.ensures)
+    (then_stops _ _ _ (c.in_ok-file.ensures) (then_stops _ _ _ (c.in_ok-shape.ensures) (then_stops _ _ _ (c.in_ok-access.ensures)
+    (first_stops _ _ (c.in_err-weight.ensures))))))))
 
 pub returns-clause-sound : goal.returns-clause-sound
 returns-clause-sound c =

@@ -10,7 +10,8 @@ pub datasets-preserved : goal.datasets-preserved
 datasets-preserved c =
     rw c.in_ok-append.ensures.ok
     (rules_goes c.args.version c.args.scope.now _ c.args.given c.datasets.rules c.in_ok-more.more c.datasets.dataset-index c.dataset-item.result
-    c.requires.scope c.items-dataset-items.ensures c.datasets.invariant c.datasets-test.true c.dataset-item.is c.in_ok-more.ensures.rules c.in_ok-more.ensures.names)
+    c.requires.scope c.items-dataset-items.ensures c.datasets.invariant c.datasets-test.true c.dataset-item.is c.in_ok-more.ensures.rules
+    c.in_ok-more.ensures.names)
 
 pub returns-clause-rules : goal.returns-clause-rules
 returns-clause-rules c =
