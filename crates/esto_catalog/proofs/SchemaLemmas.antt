@@ -34,11 +34,8 @@ relations_sized name Table columns fit relation inside = elim (Contains-cases _ 
   | inl same ↦ let is : length columns ≡ relation.arity = ap (λ (r : Relation). r.arity) same in (omega (arith, fit.some, is), omega (arith, fit.few, is))
   | inr later ↦ absurd (Contains-nil relation later)
 ]
-relations_sized name Documents columns fit relation inside = sized_from (1 ∷ 3 ∷ 2 ∷ 2 ∷ 2 ∷ []) all (Contains-map (λ (r : Relation). r.arity)
-    (model_relations name (length columns) Documents) relation inside) where
-      sized_from : (arities : List ℕ) → ((arity : ℕ) → Contains arities arity → IsArity arity) → Contains arities relation.arity → IsArity relation.arity
-      sized_from arities each there = each relation.arity there
-
+relations_sized name Documents columns fit relation inside =
+    all relation.arity (Contains-map (λ (r : Relation). r.arity) (model_relations name (length columns) Documents) relation inside) where
       one : (arity number : ℕ) (rest : List ℕ) → IsArity number → ((other : ℕ) → Contains rest other → IsArity other) → Contains (number ∷ rest) arity
           → IsArity arity
       one arity number rest own later there = elim (Contains-cases number rest arity there) [
