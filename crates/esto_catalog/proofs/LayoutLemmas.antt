@@ -3,7 +3,7 @@ use Rattle.std.proofs.Common.{◌≡◌, ◌≢◌, ◌⊎◌, ℕ, ◌<◌, ◌
 use Rattle.std.specs.Prelude.{Contains}
 use Rattle.std.specs.Coded.{le_prop}
 use Rattle.std.proofs.Math.Logic.{∥∥₁_elim, ∥∥₁_map}
-use Rattle.esto_docmodel.specs.Layouts.{AreFields, AreLaidOut, Begins, FitTogether, IsColumn, IsLayout, SomeBegins, StandsOnce, paths}
+use Rattle.esto_docmodel.specs.Layouts.{AreFields, AreLaidOut, Begins, FitTogether, IsColumn, IsLayout, IsOneItem, SomeBegins, StandsOnce, paths}
 use Rattle.esto_docmodel.specs.Patterns.{Entries, done, holds, group, Mentions}
 use Rattle.esto_docmodel.specs.declared.pattern.Step.{Step}
 use Rattle.esto_docmodel.specs.declared.pattern.Step.TheVariants.{Name, Item, Below}
@@ -32,20 +32,29 @@ fields_known ((Below ∷ path) ∷ rest) some = absurd (never some (λ (k : AreF
   below_name : (name : List ℕ) → Below ≡ Name name → ⊥
   below_name name is = cc
 
-together_known : (list : List (List Step)) → ∥ FitTogether list ∥₁ → FitTogether list
-together_known [] some = absurd (never some (λ k. k))
-together_known (path ∷ []) some = by path some where
-  by : (path : List Step) → ∥ FitTogether (path ∷ []) ∥₁ → FitTogether (path ∷ [])
-  by [] some = absurd (never some (λ k. elim k [ inl begins ↦ begins | inr fields ↦ fields.0.1 ]))
-  by (Item ∷ path) some = inl refl
-  by (Name name ∷ path) some = inr ((name, refl, λ begins. begins), tt)
-  by (Below ∷ path) some = absurd (never some (λ k. elim k [ inl begins ↦ below_item begins | inr fields ↦ below_name fields.0.0 fields.0.1 ])) where
-    below_item : Below ≡ Item → ⊥
-    below_item is = cc
+begins_item : (path : List Step) → Begins Item path ⊎ ¬ Begins Item path
+begins_item [] = inr (λ begins. begins)
+begins_item (Item ∷ path) = inl refl
+begins_item (Name name ∷ path) = inr (λ begins. name_item begins) where
+  name_item : Name name ≡ Item → ⊥
+  name_item is = cc
+begins_item (Below ∷ path) = inr (λ begins. below_item begins) where
+  below_item : Below ≡ Item → ⊥
+  below_item is = cc
 
-    below_name : (name : List ℕ) → Below ≡ Name name → ⊥
-    below_name name is = cc
-together_known (path ∷ other ∷ rest) some = fields_known (path ∷ other ∷ rest) some
+one_item : (list : List (List Step)) → IsOneItem list ⊎ ¬ IsOneItem list
+one_item [] = inr (λ one. one)
+one_item (path ∷ []) = begins_item path
+one_item (path ∷ other ∷ rest) = inr (λ one. one)
+
+together_known : (list : List (List Step)) → ∥ FitTogether list ∥₁ → FitTogether list
+together_known list some = elim (one_item list) [
+  | inl one ↦ inl one
+  | inr none ↦ inr (
+    λ empty. never some (λ (k : FitTogether list). elim k [ inl one ↦ none one | inr both ↦ both.0 empty ]),
+    fields_known list (∥∥₁_map some (λ (k : FitTogether list). elim k [ inl one ↦ absurd (none one) | inr both ↦ both.1 ])),
+  )
+]
 
 -- ---- what stands after `:`
 
