@@ -1,23 +1,18 @@
 -- A text of an array of documents is read as them, also before a line feed.
-use Rattle.std.proofs.Common.{◌≡◌, ◌<◌, ◌≤◌, ◌∙◌, ◌++◌, ◌∷◌, [], ℕ, zero, suc, List, Bool, true, false, Option, Some, get_or, map, refl, ap, sym, arith, append_assoc, append-nil}
-use Rattle.std.specs.Prelude.{All, IsUtf8, option_and_then}
-use Rattle.std.proofs.lemmas.List.Elements.{All-head, All-tail}
+use Rattle.std.proofs.Common.{◌≡◌, ◌<◌, ◌∙◌, ◌++◌, ◌∷◌, [], ℕ, zero, suc, List, Bool, true, false, Option, Some, get_or, refl, ap, sym, arith, append_assoc, append-nil}
+use Rattle.std.specs.Prelude.{IsUtf8, option_and_then}
 use Rattle.std.proofs.lemmas.Str.{IsUtf8-append, IsUtf8-from_ascii}
 use Rattle.json.specs.Token.{Token, begin_array, end_array, begin_object, end_object}
 use Rattle.json.specs.Lex.{Lexeme, token, comma, colon, string_token, lex, between, tokens, punctuate, fresh}
 use Rattle.json.specs.Json as grammar
 use Rattle.json.specs.Print.{escape, quoted}
 use Rattle.json.proofs.Printed.Strings.{content-escape, lex-escape}
-use Rattle.serde_json.specs.Data.{Data, null, boolean, number, string, array, object, Items, no_items, item, Members, no_members, member, depth, items_depth}
+use Rattle.serde_json.specs.Data.{Data, null, boolean, number, string, array, object, Items, no_items, item, Members, no_members, member}
 use Rattle.serde_json.specs.Read.{read, of_json, max_depth}
-use Rattle.serde_json.specs.View.{view, items_view}
 use Rattle.serde_json.specs.Written.{compact_text, items_text, members_text, comma_if}
-use Rattle.serde_json.specs.declared.value.Value.{Value}
-use Rattle.esto_docs.specs.Trees.{tree_of, trees_of}
 use Rattle.esto_docs.specs.Files.{json_of}
 use Rattle.esto_docs.proofs.JsonLemmas.{json_some}
 use Rattle.esto_docs.specs.Plain.{HasTextsOnly, ItemsHaveTextsOnly, MembersHaveTextsOnly}
-use Rattle.esto_docmodel.specs.declared.tree.Tree.{Tree}
 
 -- A text that is lexed alike before whatever follows.
 record Lexes (text : List ℕ) : Type 0 where

@@ -1,5 +1,5 @@
 -- The fields of written objects.
-use Rattle.std.proofs.Common.{◌≡◌, ◌≢◌, ◌⊎◌, ◌∙◌, ◌∷◌, [], ℕ, List, map, Some, None, inl, inr, refl, sym, ap, subst, nat_cmp, Ordering, Less, Equal, Greater, is_eq}
+use Rattle.std.proofs.Common.{◌≡◌, ◌≢◌, ◌⊎◌, ◌∙◌, ℕ, List, map, Some, None, inl, inr, refl, sym, ap, nat_cmp, Ordering, Less, Equal, Greater, is_eq}
 use Rattle.std.specs.Cmp.Lexicographic.{slice_cmp}
 use Rattle.std.specs.Ordering.{match_ordering}
 use Rattle.std.proofs.lemmas.Map.Text.{is_eq-slice_cmp}
@@ -10,7 +10,7 @@ use Rattle.esto_docmodel.specs.Shapes.{shape, shape_step, shaped_field, row, nam
 use Rattle.esto_docmodel.specs.declared.field.FieldOf.{FieldOf}
 use Rattle.esto_docmodel.specs.declared.tree.Tree.{Tree, fold-roll-Tree}
 use Rattle.esto_docmodel.specs.declared.tree.Tree.TheOpen.{Tree-F}
-use Rattle.esto_docmodel.specs.declared.tree.Tree.TheVariants.{Value, Fields, Items as Listed, rolls-Value, rolls-Fields, rolls-Items}
+use Rattle.esto_docmodel.specs.declared.tree.Tree.TheVariants.{rolls-Value, rolls-Fields, rolls-Items}
 use Rattle.esto_docs.specs.Trees.{tree_of, trees_of, fields_of}
 
 -- The node of a value, and the nodes of fields in a row.

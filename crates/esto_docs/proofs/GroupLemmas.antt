@@ -2,11 +2,9 @@
 use Rattle.std.proofs.Common.{◌≡◌, ◌<◌, ◌≤◌, ◌+◌, ◌-◌, ◌∙◌, ◌∷◌, [], ℕ, List, length, drop, get_or, refl, ap, sym, subst, arith}
 use Rattle.std.proofs.lemmas.List.{at_drop_more}
 use Rattle.serde_json.specs.Data.{Data, Members, put}
-use Rattle.esto_term.specs.declared.term.Term.{Term}
-use Rattle.esto_docmodel.specs.Patterns.{Entries, done, holds, group}
-use Rattle.esto_docmodel.specs.Shapes.{More, chain, entry_shape, entry_step, entries_of}
-use Rattle.esto_docmodel.specs.declared.pattern.Step.{Step}
-use Rattle.esto_docmodel.specs.declared.pattern.Entry.{Entry, out-Entry, fold_out-Entry}
+use Rattle.esto_docmodel.specs.Patterns.{Entries, done}
+use Rattle.esto_docmodel.specs.Shapes.{More, entry_shape, entry_step, entries_of}
+use Rattle.esto_docmodel.specs.declared.pattern.Entry.{Entry, fold_out-Entry}
 use Rattle.esto_docmodel.specs.declared.pattern.Entry.TheOpen.{Entry-F}
 use Rattle.esto_docs.specs.Rows.{Row}
 use Rattle.esto_docs.specs.Documents.{first_name, begun, document, members, first_path, first_data}

@@ -1,9 +1,9 @@
 -- A layout is matched in the document of a row under the maps that agree with the row alone.
-use Rattle.std.proofs.Common.{◌≡◌, ◌≢◌, ◌⊎◌, ◌∙◌, ◌∷◌, [], ℕ, List, true, false, inl, inr, refl, sym, ap, subst}
+use Rattle.std.proofs.Common.{◌≡◌, ◌≢◌, ◌⊎◌, ◌∙◌, ◌∷◌, [], ℕ, List, true, inl, inr, refl, sym, subst}
 use Rattle.std.specs.Prelude.{⊤}
 use Rattle.esto_term.specs.declared.term.Term.{Term}
 use Rattle.esto_term.specs.declared.term.Term.TheVariants.{Const}
-use Rattle.serde_json.specs.Data.{Data, string, array, object, no_items, item, Members, no_members, member, put}
+use Rattle.serde_json.specs.Data.{Data, string, array, object, no_items, item, Members, put}
 use Rattle.esto_docmodel.specs.Forests.{Node}
 use Rattle.esto_docmodel.specs.Patterns.{Entries, done, holds, group, Leads, HoldsTerm, Matches}
 use Rattle.esto_docmodel.specs.Layouts.{paths, Begins, SomeBegins, AreFields, FitTogether, AreLaidOut}

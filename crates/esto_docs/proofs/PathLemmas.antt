@@ -1,5 +1,5 @@
 -- What a path writes is followed to the one node at its end.
-use Rattle.std.proofs.Common.{◌≡◌, ◌≢◌, ◌⊎◌, ◌≤◌, ◌∙◌, ◌∷◌, [], ℕ, List, Bool, true, false, length, Some, None, inl, inr, refl, sym, ap, subst, arith}
+use Rattle.std.proofs.Common.{◌≡◌, ◌⊎◌, ◌≤◌, ◌∙◌, ◌∷◌, [], ℕ, List, true, false, length, Some, inl, inr, refl, sym, ap, subst, arith}
 use Rattle.std.specs.Prelude.{Contains}
 use Rattle.esto_term.proofs.ListLemmas.{Contains-head, Contains-rest}
 use Rattle.esto_term.specs.declared.term.Term.{Term}

@@ -1,16 +1,14 @@
 -- The rows of documents, and those of written ones.
-use Rattle.std.proofs.Common.{◌≡◌, ◌<◌, ◌⊎◌, ◌↔◌, ◌∙◌, ◌+◌, ◌++◌, ◌∷◌, [], ℕ, List, true, Option, Some, None, length, map, get_or, inl, inr, refl, sym, ap, subst, arith}
+use Rattle.std.proofs.Common.{◌≡◌, ◌<◌, ◌⊎◌, ◌↔◌, ◌∙◌, ◌+◌, ◌++◌, ◌∷◌, [], ℕ, List, Option, Some, None, length, map, get_or, inl, inr, refl, sym, ap, subst, arith}
 use Rattle.std.specs.Prelude.{Contains, All, IsSome}
 use Rattle.std.specs.FinMap.{get}
 use Rattle.std.proofs.lemmas.List.{same_lists, get_or_default}
 use Rattle.std.proofs.lemmas.List.FromFn.{length-map-range_with_len, get_or-map-range_with_len, map-range_with_len_more}
 use Rattle.std.proofs.lemmas.List.Elements.{All-contains, Contains-append_left, Contains-append_right}
 use Rattle.esto_term.proofs.ListLemmas.{Contains-head, Contains-rest, Contains-cases, Contains-map, Contains-map_from, Contains-nil}
-use Rattle.esto_term.specs.Kinds.{IsConstant}
 use Rattle.esto_term.specs.declared.term.Term.{Term}
 use Rattle.esto_term.specs.declared.term.Term.TheVariants.{Const, Plain, outs-Const, outs-Plain}
 use Rattle.esto_query.specs.Valuations.{Assignment, Extends}
-use Rattle.esto_docmodel.specs.Forests.{Node}
 use Rattle.esto_docmodel.specs.Layouts.{IsColumn, AreLaidOut, StandsOnce, IsLayout}
 use Rattle.esto_docmodel.specs.Patterns.{Entries, done, holds, group, Matches, Mentions}
 use Rattle.esto_docmodel.specs.Shapes.{shape}

@@ -1,5 +1,5 @@
 -- What is written is read as the same documents.
-use Rattle.std.proofs.Common.{◌≡◌, ◌<◌, ◌≤◌, ◌+◌, ◌∙◌, ◌++◌, ◌∷◌, [], ℕ, List, true, false, Some, None, get_or, length, map, take, flat_map, refl, ap, sym, subst, append_assoc, arith}
+use Rattle.std.proofs.Common.{◌≡◌, ◌<◌, ◌≤◌, ◌+◌, ◌∙◌, ◌++◌, ◌∷◌, [], ℕ, List, false, Some, None, get_or, length, map, take, flat_map, refl, ap, sym, subst, append_assoc, arith}
 use Rattle.std.specs.Prelude.{IsUtf8, Contains, All, ◌↔◌}
 use Rattle.std.proofs.lemmas.List.{take_all, take_more, map_more, map_push, flat_map_more}
 use Rattle.esto_term.proofs.ListLemmas.{Contains-head, Contains-rest, map_then, each_more, each_seen}
@@ -13,9 +13,9 @@ use Rattle.esto_docmodel.specs.Layouts.{IsLayout}
 use Rattle.esto_docmodel.specs.Patterns.{Entries}
 use Rattle.esto_docmodel.specs.declared.tree.Tree.{Tree}
 use Rattle.esto_docs.specs.Trees.{tree_of, trees_of}
-use Rattle.esto_docs.specs.Files.{json_of, is_blank, is_bad, trees_of_line, trees_of_lines, lines_fault, trees_of_array, array_fault, file_trees}
+use Rattle.esto_docs.specs.Files.{json_of, is_bad, trees_of_line, trees_of_lines, lines_fault, trees_of_array, array_fault, file_trees}
 use Rattle.esto_docs.specs.Rows.{Row, IsRowOf}
-use Rattle.esto_docs.specs.Documents.{document, document_line, documents_text}
+use Rattle.esto_docs.specs.Documents.{document, document_line}
 use Rattle.esto_docs.specs.Plain.{HasTextsOnly, ItemsHaveTextsOnly, IsPlain, IsReadBack}
 use Rattle.esto_docs.specs.Written.{HasWritten}
 use Rattle.esto_docs.specs.declared.layout.Layout.{Layout}

@@ -1,6 +1,6 @@
 use Rattle.std.proofs.Common.{◌∙◌, ap, arith}
 use Rattle.esto_docs.specs.Documents.{first_name}
-use Rattle.esto_docs.proofs.GroupLemmas.{members_go, document_first}
+use Rattle.esto_docs.proofs.GroupLemmas.{members_go}
 use Rattle.esto_docs.proofs.document.+write.Goals as goal
 
 pub members_of-entries-preserved : goal.members_of-entries-preserved

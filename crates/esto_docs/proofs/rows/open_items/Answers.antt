@@ -1,4 +1,4 @@
-use Rattle.std.proofs.Common.{◌∙◌, List, subst, sym, take}
+use Rattle.std.proofs.Common.{◌∙◌, List, subst, sym}
 use Rattle.std.proofs.lemmas.List.{take_all}
 use Rattle.serde_json.specs.View.{items_view}
 use Rattle.serde_json.specs.declared.value.Value.{Value}

@@ -3,8 +3,8 @@ use Rattle.std.proofs.lemmas.Bool.{eqb-true}
 use Rattle.esto_docmodel.specs.Shapes.{entries_of}
 use Rattle.esto_docmodel.specs.declared.tree.Tree.{Tree}
 use Rattle.esto_docs.specs.Files.{trees_of_line}
-use Rattle.esto_docs.proofs.LineLemmas.{start, goes, stops, end}
-use Rattle.esto_docs.proofs.RowLemmas.{HasRows, rows_start, rows_go}
+use Rattle.esto_docs.proofs.LineLemmas.{goes, stops, end}
+use Rattle.esto_docs.proofs.RowLemmas.{HasRows, rows_go}
 use Rattle.esto_docs.proofs.rows.open_lines.Goals as goal
 
 pub returns-in-Err-BadJson : goal.returns-in-Err-BadJson

@@ -1,6 +1,6 @@
-use Rattle.std.proofs.Common.{◌∙◌, ◌++◌, ◌∷◌, [], List, ap, map, subst, sym}
+use Rattle.std.proofs.Common.{◌∙◌, ◌++◌, ◌∷◌, [], ap, map, subst, sym}
 use Rattle.esto_docmodel.specs.Shapes.{entries_of}
-use Rattle.esto_docs.specs.Rows.{Row, IsRowOf, Gains, row_of}
+use Rattle.esto_docs.specs.Rows.{IsRowOf, Gains, row_of}
 use Rattle.esto_docs.proofs.RowLemmas.{flat_terms, found_rows, gains_append}
 use Rattle.esto_docs.proofs.rows.put_rows.Goals as goal
 

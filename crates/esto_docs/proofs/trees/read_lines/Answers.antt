@@ -1,7 +1,6 @@
 use Rattle.std.proofs.Common.{◌∙◌, ◌+◌, List, sym, length, subst}
 use Rattle.std.proofs.lemmas.Bool.{eqb-true}
 use Rattle.esto_docmodel.specs.declared.tree.Tree.{Tree}
-use Rattle.esto_docs.specs.Files.{trees_of_line}
 use Rattle.esto_docs.proofs.LineLemmas.{HasGone, goes, stops, end}
 use Rattle.esto_docs.proofs.trees.read_lines.Goals as goal
 

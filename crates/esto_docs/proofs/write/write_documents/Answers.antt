@@ -1,10 +1,4 @@
-use Rattle.std.proofs.Common.{◌≡◌, ◌∙◌, List, map, subst, sym}
-use Rattle.std.specs.Prelude.{◌↔◌, Contains}
 use Rattle.esto_docmodel.specs.Shapes.{entries_of}
-use Rattle.esto_docmodel.specs.declared.tree.Tree.{Tree}
-use Rattle.esto_docs.specs.Files.{file_trees}
-use Rattle.esto_docs.specs.Rows.{Row}
-use Rattle.esto_docs.specs.declared.layout.Layout.{Layout}
 use Rattle.esto_docs.proofs.PlainLemmas.{documents_are_plain}
 use Rattle.esto_docs.proofs.WriteLemmas.{opened_again}
 use Rattle.esto_docs.proofs.write.write_documents.Goals as goal
