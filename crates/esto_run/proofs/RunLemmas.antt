@@ -1,15 +1,16 @@
 -- The run of a set over stored rows.
 use Rattle.std.proofs.Common.{◌≡◌, ◌≢◌, ◌↔◌, inl, inr, ℕ, zero, suc, ◌+◌, ◌<◌, ◌≤◌, Bool, List, [], ◌∷◌, ◌++◌, map, length, get_or, Some, slice_get, Contains, refl, sym, ap, ◌∙◌, subst, arith}
-use Rattle.std.specs.Prelude.{AllPairs, All}
+use Rattle.std.specs.Prelude.{All, Option, None, option_to_list}
 use Rattle.std.proofs.lemmas.Bool.{cases_order}
 use Rattle.std.proofs.lemmas.List.{length-map, get_or-map}
+use Rattle.std.proofs.lemmas.List.Elements.{Contains-get_or, Contains-append_cases}
 use Rattle.std.proofs.lemmas.Option.{same_Some, slice_get_within, get_or_from_slice_get, slice_get_cases}
 use Rattle.esto_term.specs.declared.term.Term.{Term}
 use Rattle.esto_columns.specs.Asked.{Shape}
 use Rattle.esto_columns.specs.Interned.{Grows, AreCodesOf, AreCodedRows}
 use Rattle.esto_columns.specs.declared.stored.StoredRows.{StoredRows}
 use Rattle.esto_exec.specs.Runnable.{HaveShapes}
-use Rattle.esto_plan.specs.Planned.{Fits, inputs_of}
+use Rattle.esto_plan.specs.Planned.{Fits, atoms_of, inputs_of}
 use Rattle.esto_plan.specs.Rows.{IsRowOf, held_by, AreCoded}
 use Rattle.esto_semantics.specs.Access.{Patterns, IsOrder}
 use Rattle.esto_semantics.specs.Listed.{chosen, candidate, IsSafe}
@@ -17,7 +18,7 @@ use Rattle.esto_semantics.specs.ListedLaws.{ChosenAreNamed}
 use Rattle.esto_semantics.specs.Queries.{ConjunctiveQuery}
 use Rattle.esto_semantics.specs.declared.fact.Fact.{Fact}
 use Rattle.esto_stores.specs.Rows.{Row}
-use Rattle.esto_term.proofs.ListLemmas.{Contains-nil, Contains-at, Contains-map, Contains-map_from, place-from_Contains, thing_at, map_at}
+use Rattle.esto_term.proofs.ListLemmas.{Contains-nil, Contains-at, Contains-cases, Contains-map, Contains-map_from, place-from_Contains, thing_at, map_at}
 use Rattle.esto_views.specs.Fragments.{patterns_of}
 use Rattle.esto_views.specs.Plans.{fact_of, plan_query, IsPlanOver}
 use Rattle.esto_views.specs.declared.fragments.FragmentDef.{FragmentDef}
@@ -73,8 +74,8 @@ module _ (texts : List (List ℕ)) (fragments : List FragmentDef) (opened : List
   held_own number own at = get_or_from_slice_get (map codes_of stored) number own.rows.rows [] (map_at codes_of stored number own at)
 
   pub all_coded : AreCoded texts (held_by (map codes_of stored)) (held_by opened)
-  all_coded number = elim (slice_get_cases fragments number) [
-    | inl (fragment, at) ↦
+  all_coded number = elim (slice_get_cases fragments number).1 [
+    | inl (fragment, within, at, is) ↦
         let own = own_of number fragment at in
         subst (λ them. AreCodedRows texts them (held_by opened number)) (sym (held_own number own.0 own.1)) own.2.coded
     | inr (past, none) ↦ both
@@ -128,12 +129,12 @@ module _ (texts : List (List ℕ)) (fragments : List FragmentDef) (opened : List
         its.2 ∙ sym (codes_wide fact.relation its.0 (ap (slice_get fragments) same ∙ its.1) fact.terms holds)
 
 -- stored rows stay so as texts come
-pub all_stored_on : StayCoded → (old new : List (List ℕ)) (fragments : List FragmentDef) (opened : List (List Row)) (count : ℕ) (stored : List StoredRows)
-    → Grows old new → AreStored old fragments opened count stored → AreStored new fragments opened count stored
-all_stored_on stay old new fragments opened count stored grown are = record {
+pub stored_in : StayCoded → (old new : List (List ℕ)) (fragments : List FragmentDef) (opened : List (List Row)) (stored items : List StoredRows)
+    → Grows old new → items ≡ stored → AreStored old fragments opened (length fragments) stored → AreStored new fragments opened (length fragments) items
+stored_in stay old new fragments opened stored items grown same are = subst (AreStored new fragments opened (length fragments)) (sym same) (record {
   many = are.many;
   each = λ number fragment own at there. stored_on stay old new fragment (held_by opened number) own grown (are.each number fragment own at there);
-}
+})
 
 -- ---- the sets of an order
 
@@ -147,8 +148,25 @@ module _ (named : ChosenAreNamed) (patterns : Patterns) (plan : ConjunctiveQuery
   pub answers_same : (Holds : Fact (List ℕ) → Type 0) (row : Row) → IsAnswerOver Holds (candidate plan other) row → IsAnswerOver Holds (candidate plan set) row
   answers_same Holds row (m, keeps, sends, is) = (m, keeps, (λ atom inside. sends atom (same_chosen atom inside)), is)
 
+-- the atoms of a set are among all
 pub chosen_among : ChosenAreNamed → (set : List Bool) (atoms : List (Fact Term)) (atom : Fact Term) → Contains (chosen set atoms) atom → Contains atoms atom
 chosen_among named set atoms atom inside = let found = (named set atoms atom).0 inside in Contains-at atoms found.0 atom found.2
+
+-- so are those of numbers
+pub atoms_among : (atoms : List (Fact Term)) (numbers : List ℕ) (atom : Fact Term) → Contains (atoms_of atoms numbers) atom → Contains atoms atom
+atoms_among atoms [] atom inside = absurd (Contains-nil atom inside)
+atoms_among atoms (first ∷ rest) atom inside =
+    elim (Contains-append_cases (option_to_list (slice_get atoms first)) (atoms_of atoms rest) atom inside) [
+      | inl here ↦ there (slice_get atoms first) refl here
+      | inr later ↦ atoms_among atoms rest atom later
+    ]
+  where
+    there : (read : Option (Fact Term)) → slice_get atoms first ≡ read → Contains (option_to_list read) atom → Contains atoms atom
+    there None is here = absurd (Contains-nil atom here)
+    there (Some own) is here = elim (Contains-cases own [] atom here) [
+      | inl same ↦ Contains-at atoms first atom (is ∙ ap Some same)
+      | inr none ↦ absurd (Contains-nil atom none)
+    ]
 
 -- ---- the text
 
@@ -156,7 +174,4 @@ pub answers_long : (Holds : Fact (List ℕ) → Type 0) (query : ConjunctiveQuer
 answers_long Holds query row (m, keeps, sends, is) = ap length is ∙ length-map query.head m
 
 pub all_long : (width : ℕ) (rows : List Row) → ((row : Row) → Contains rows row → length row ≡ width) → All (λ row. length row ≡ width) rows
-all_long width rows long k d below = long (get_or rows k d) (k, below, refl_at k d)
-  where
-    refl_at : (k : ℕ) (d : Row) → get_or rows k (get_or rows k d) ≡ get_or rows k d
-    refl_at k d = refl
+all_long width rows long k d below = long (get_or rows k d) (Contains-get_or rows k d below)

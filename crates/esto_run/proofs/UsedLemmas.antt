@@ -1,5 +1,5 @@
 -- The fragments that a set uses.
-use Rattle.std.proofs.Common.{◌≡◌, ◌↔◌, inl, inr, ℕ, zero, suc, ◌+◌, ◌<◌, ◌≤◌, Bool, true, false, List, [], ◌∷◌, ◌++◌, length, map, Some, None, slice_get, Contains, refl, sym, ap, ◌∙◌, subst, arith}
+use Rattle.std.proofs.Common.{◌≡◌, ◌↔◌, inl, inr, ℕ, zero, suc, ◌+◌, ◌<◌, ◌≤◌, Bool, true, false, List, [], ◌∷◌, ◌++◌, length, map, get_or, Some, None, slice_get, Contains, refl, sym, ap, ◌∙◌, subst, arith}
 use Rattle.std.specs.Prelude.{AllPairs}
 use Rattle.std.proofs.lemmas.Bool.{cases_order, cases_Bool}
 use Rattle.std.proofs.lemmas.List.Elements.{Contains-push_cases, Contains-append_left, Contains-append_right}
@@ -61,10 +61,10 @@ same_number x y = elim (cases_order x y) [
 
 module _ (atoms : List (Fact Term)) (set : List Bool) where
   uses_decided : (fragment number : ℕ) → Decided (Uses atoms set fragment number)
-  uses_decided fragment number = elim (slice_get_cases atoms number) [
-    | inl (atom, at) ↦ elim (cases_Bool (get_bool set number)) [
+  uses_decided fragment number = elim (slice_get_cases atoms number).1 [
+    | inl (atom, within, at, is) ↦ elim (cases_Bool (get_or set number false)) [
       | inl has ↦ elim (same_number atom.relation fragment) [
-        | inl same ↦ inl (has, atom, at, same)
+        | inl same ↦ inl (has, (atom, at, same))
         | inr apart ↦ inr (λ uses. apart (ap (λ (it : Fact Term). it.relation) (same_Some atom uses.1.0 (sym at ∙ uses.1.1)) ∙ uses.1.2))
       ]
       | inr hasnt ↦ inr (λ uses. absurd (cc))
@@ -83,11 +83,11 @@ module _ (atoms : List (Fact Term)) (set : List Bool) where
 
   pub used_once : (fragments others : List ℕ) → AreUsed atoms set fragments → AreUsed atoms set others → fragments ≡ others
   used_once fragments others are too = one_list Before fragments others
-      (λ fragment inside before. let use = (are.exact fragment).0 inside in let first = first_use fragment use.0 use.1 in
+      (λ fragment inside before. let found = (are.exact fragment).0 inside in let first = first_use fragment found.0 found.1 in
       let less = before first.0 first.0 first.2 first.2 in omega (arith, less))
       (λ fragment other inside there before after.
-      let use = (are.exact fragment).0 inside in let first = first_use fragment use.0 use.1 in
-      let second_use = (are.exact other).0 there in let second = first_use other second_use.0 second_use.1 in
+      let found = (are.exact fragment).0 inside in let first = first_use fragment found.0 found.1 in
+      let later = (are.exact other).0 there in let second = first_use other later.0 later.1 in
       let less = before first.0 second.0 first.2 second.2 in let more = after second.0 first.0 second.2 first.2 in omega (arith, less, more))
       are.rising too.rising
       (λ fragment. (
@@ -141,7 +141,7 @@ module _ (atoms : List (Fact Term)) (set : List Bool) where
       (λ inside. elim (Contains-push_cases old atom.relation fragment (subst (λ them. Contains them fragment) is inside)) [
         | inl there ↦ let found = (are.exact fragment).0 there in
             (found.0, (let below = found.1 in let more : found.0 < count + 1 = omega (arith, below) in more), found.2)
-        | inr last ↦ (count, (let more : count < count + 1 = omega arith in more), has, atom, at, last)
+        | inr last ↦ (count, (let more : count < count + 1 = omega arith in more), (has, (atom, at, last)))
       ]),
       (λ (number, below, uses). subst (λ them. Contains them fragment) (sym is) (elim (cases_order number count) [
         | inl last ↦ subst (Contains (old ++ atom.relation ∷ []))
@@ -171,10 +171,10 @@ module _ (atoms : List (Fact Term)) (set : List Bool) where
       less_past : (number later : ℕ) → count < later → number < count → number < later
       less_past number later more less = omega (arith, more, less)
 
-      no_more : {fragment : ℕ} (number later : ℕ) → UsesFirst atoms set fragment number → (use : ℕ) → use < count → Uses atoms set fragment use
+      no_more : {fragment : ℕ} (number later : ℕ) → UsesFirst atoms set fragment number → (earlier : ℕ) → earlier < count → Uses atoms set fragment earlier
           → (number < count → number < later) → number < later
-      no_more number later first use below uses then = elim (cases_order use number) [
+      no_more number later first earlier below uses then = elim (cases_order earlier number) [
         | inl same ↦ then (omega (arith, same, below))
-        | inr (inl less) ↦ absurd (first.least use less uses)
+        | inr (inl less) ↦ absurd (first.least earlier less uses)
         | inr (inr more) ↦ then (omega (arith, more, below))
       ]

@@ -42,7 +42,9 @@ pub(crate) fn stored_fragments(
     coded_rows_stay_coded();
     let mut all = List::new(alloc);
     'fragments: for number in 0..fragments.len() {
-        let own = stored(alloc, fragments.item(number), opened.item(number), codes)?;
+        let fragment = fragments.item(number);
+        let rows = opened.item(number);
+        let own = stored(alloc, fragment, rows, codes)?;
         all.push(own)?;
     }
     Ok(all)

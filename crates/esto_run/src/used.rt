@@ -12,12 +12,7 @@ use std::alloc::Global;
 fn has_number(numbers: &[usize], number: usize) -> bool
     ensures { IsTrue result ↔ Contains numbers.now number }
 {
-    'numbers: for other in numbers {
-        if *other == number {
-            return true;
-        }
-    }
-    false
+    numbers.contains(&number)
 }
 
 /// Puts the fragment of the atom of that number at the end, if the atom is in the set and the fragment isn't there yet.
