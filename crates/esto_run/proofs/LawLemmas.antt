@@ -1,5 +1,5 @@
 -- Laws of runs.
-use Rattle.std.proofs.Common.{◌≡◌, ◌↔◌, ℕ, Bool, List, Contains, map}
+use Rattle.std.proofs.Common.{◌≡◌}
 use Rattle.std.specs.Cmp.{IsTotalOrder}
 use Rattle.std.specs.Cmp.Lexicographic.{slice_cmp}
 use Rattle.std.specs.Ordering.{nat_cmp}
@@ -9,7 +9,7 @@ use Rattle.esto_semantics.specs.Listed.{candidate}
 use Rattle.esto_term.proofs.ChoiceLemmas.{one_list}
 use Rattle.esto_run.specs.Laws.{AnswersAreOverFiles, RewritingsAnswerQueries, RisingRowsAreOne}
 use Rattle.esto_catalog.specs.declared.catalogue.Store.{Store}
-use Rattle.esto_run.specs.Stores.{IsFileRow, IsRowIn}
+use Rattle.esto_run.specs.Stores.{IsRowIn}
 use Rattle.std.proofs.Common.{Some, slice_get}
 
 pub answers_over_files : AnswersAreOverFiles

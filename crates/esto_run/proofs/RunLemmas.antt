@@ -1,10 +1,9 @@
 -- The run of a set over stored rows.
-use Rattle.std.proofs.Common.{◌≡◌, ◌≢◌, ◌↔◌, inl, inr, ℕ, zero, suc, ◌+◌, ◌<◌, ◌≤◌, Bool, List, [], ◌∷◌, ◌++◌, map, length, get_or, Some, slice_get, Contains, refl, sym, ap, ◌∙◌, subst, arith}
+use Rattle.std.proofs.Common.{◌≡◌, inl, inr, ℕ, zero, suc, ◌<◌, ◌≤◌, Bool, List, [], ◌∷◌, map, length, get_or, Some, slice_get, Contains, refl, sym, ap, ◌∙◌, subst, arith}
 use Rattle.std.specs.Prelude.{All, Option, None, option_to_list}
-use Rattle.std.proofs.lemmas.Bool.{cases_order}
-use Rattle.std.proofs.lemmas.List.{length-map, get_or-map}
+use Rattle.std.proofs.lemmas.List.{length-map}
 use Rattle.std.proofs.lemmas.List.Elements.{Contains-get_or, Contains-append_cases}
-use Rattle.std.proofs.lemmas.Option.{same_Some, slice_get_within, get_or_from_slice_get, slice_get_cases}
+use Rattle.std.proofs.lemmas.Option.{slice_get_within, get_or_from_slice_get, slice_get_cases}
 use Rattle.esto_term.specs.declared.term.Term.{Term}
 use Rattle.esto_columns.specs.Asked.{Shape}
 use Rattle.esto_columns.specs.Interned.{Grows, AreCodesOf, AreCodedRows}
@@ -13,18 +12,18 @@ use Rattle.esto_exec.specs.Runnable.{HaveShapes}
 use Rattle.esto_plan.specs.Planned.{Fits, atoms_of, inputs_of}
 use Rattle.esto_plan.specs.Rows.{IsRowOf, held_by, AreCoded}
 use Rattle.esto_semantics.specs.Access.{Patterns, IsOrder}
-use Rattle.esto_semantics.specs.Listed.{chosen, candidate, IsSafe}
+use Rattle.esto_semantics.specs.Listed.{chosen, candidate}
 use Rattle.esto_semantics.specs.ListedLaws.{ChosenAreNamed}
 use Rattle.esto_semantics.specs.Queries.{ConjunctiveQuery}
 use Rattle.esto_semantics.specs.declared.fact.Fact.{Fact}
 use Rattle.esto_stores.specs.Rows.{Row}
-use Rattle.esto_term.proofs.ListLemmas.{Contains-nil, Contains-at, Contains-cases, Contains-map, Contains-map_from, place-from_Contains, thing_at, map_at}
+use Rattle.esto_term.proofs.ListLemmas.{Contains-nil, Contains-at, Contains-cases, Contains-map, Contains-map_from, thing_at, map_at}
 use Rattle.esto_views.specs.Fragments.{patterns_of}
 use Rattle.esto_views.specs.Plans.{fact_of, plan_query, IsPlanOver}
 use Rattle.esto_views.specs.declared.fragments.FragmentDef.{FragmentDef}
 use Rattle.esto_views.specs.declared.plan.Plan.{Plan}
 use Rattle.esto_run.specs.Laws.{IsAnswerOver}
-use Rattle.esto_run.specs.Opened.{AreRowsFor, HaveWidth}
+use Rattle.esto_run.specs.Opened.{AreRowsFor}
 use Rattle.esto_run.specs.Stored.{IsStored, AreStored}
 use Rattle.esto_run.proofs.StoredLemmas.{StayCoded, stored_on}
 

@@ -5,7 +5,7 @@ use Rattle.std.proofs.lemmas.List.{length-map}
 use Rattle.esto_ports.specs.declared.file_fault.FileError.{FileError}
 use Rattle.esto_ports.specs.declared.file_fault.FileFault.{FileFault}
 use Rattle.esto_stores.specs.Rows.{Row}
-use Rattle.esto_stores.specs.Table.{records_of, place_in, cells_at, declared, rows_of_records, table_rows}
+use Rattle.esto_stores.specs.Table.{records_of, place_in, declared, rows_of_records, table_rows}
 use Rattle.esto_term.proofs.ListLemmas.{Contains-nil, Contains-map_from}
 use Rattle.esto_run.specs.Opened.{HaveWidth}
 use Rattle.esto_run.specs.Stores.{IsRowIn, first_fault_in, GivesRows}

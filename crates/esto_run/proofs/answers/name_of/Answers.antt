@@ -1,4 +1,4 @@
-use Rattle.std.proofs.Common.{◌≡◌, ◌≤◌, [], ap, sym, ◌∙◌, length, subst}
+use Rattle.std.proofs.Common.{◌≤◌, ap, sym, ◌∙◌, length, subst}
 use Rattle.std.proofs.lemmas.Option.{slice_get_past}
 use Rattle.esto_term.specs.declared.term.Term.{out-Term}
 use Rattle.esto_run.specs.Answers.{given_name, level_name}

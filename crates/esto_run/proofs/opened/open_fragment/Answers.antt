@@ -1,4 +1,4 @@
-use Rattle.std.proofs.Common.{◌≡◌, ◌<◌, ◌↔◌, ℕ, List, length, sym, subst, arith, Contains}
+use Rattle.std.proofs.Common.{◌<◌, ◌↔◌, ℕ, List, length, sym, subst, arith, Contains}
 use Rattle.esto_stores.specs.Rows.{Row}
 use Rattle.esto_run.specs.Stores.{IsRowIn}
 use Rattle.esto_run.proofs.OpenedLemmas.{opened_more}

@@ -1,11 +1,9 @@
-use Rattle.std.proofs.Common.{List, map, length, sym, subst}
-use Rattle.esto_columns.specs.declared.stored.StoredRows.{StoredRows}
+use Rattle.std.proofs.Common.{map}
 use Rattle.esto_plan.specs.Planned.{ordered, atoms_of}
 use Rattle.esto_plan.specs.Rows.{IsRowOf, held_by}
 use Rattle.esto_semantics.specs.Listed.{candidate}
 use Rattle.esto_views.specs.Fragments.{patterns_of}
 use Rattle.esto_views.specs.Plans.{plan_query}
-use Rattle.esto_run.specs.Stored.{AreStored}
 use Rattle.esto_run.proofs.RunLemmas.{shape_of, codes_of, stored_in, all_coded, codes_have_texts, shapes, fits, answers_same, atoms_among, chosen_among}
 use Rattle.esto_run.proofs.run.rows_of_set.Goals as goal
 

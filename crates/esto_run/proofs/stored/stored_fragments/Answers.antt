@@ -1,4 +1,4 @@
-use Rattle.std.proofs.Common.{◌≡◌, ◌≤◌, ◌+◌, [], length, arith}
+use Rattle.std.proofs.Common.{◌≤◌, ◌+◌, [], length, arith}
 use Rattle.std.proofs.lemmas.Option.{get_or_from_slice_get}
 use Rattle.esto_run.proofs.StoredLemmas.{stored_more}
 use Rattle.esto_run.proofs.stored.stored_fragments.Goals as goal
