@@ -8,3 +8,5 @@ pub mod DocumentFacts
 pub mod Encodings
 pub mod Meanings
 pub mod Putting
+pub mod Layouts
+pub mod Valuations
