@@ -5,24 +5,31 @@ ghost use Rattle.esto_run.specs.Opened.{HaveWidth};
 ghost use Rattle.esto_run.specs.Stores.{IsRowIn, first_fault_in, GivesRows};
 
 use esto_catalog::{Shape, Store};
+use esto_docs::open_documents;
 use esto_ports::FileError;
-use esto_stores::open_table;
+use esto_stores::{open_keys, open_table};
 use esto_term::TextRows;
 use esto_views::FragmentDef;
 use std::alloc::Global;
 
-// The rows of a file in this shape, with so many columns, or its first fault.
+// The rows of a fragment's file, in the shape of its store, or the file's first fault.
 fn rows_in(
     alloc: Global,
     shape: &Shape,
+    fragment: &FragmentDef,
     bytes: &[u8],
-    _columns: usize,
 ) -> Result<TextRows, FileError>
+    requires { IsShapeFor shape.now fragment.now.view }
     ensures { GivesRows (IsRowIn shape.now bytes.now)
-        (first_fault_in shape.now _columns bytes.now) result }
+        (first_fault_in shape.now (length fragment.now.view.head) bytes.now) result }
 {
+    let columns = fragment.view.head.len();
     match shape {
-        Shape::Table(columns) => open_table(alloc, bytes, columns),
+        Shape::Table(names) => open_table(alloc, bytes, names),
+        Shape::Documents(layout, pattern) => {
+            open_documents(alloc, bytes, layout, pattern, columns)
+        }
+        Shape::Keys => open_keys(alloc, bytes, columns),
     }
 }
 
@@ -34,10 +41,10 @@ pub fn open_store(
     fragment: &FragmentDef,
     bytes: &[u8],
 ) -> Result<TextRows, FileError>
-    requires { IsShapeFor store.now.shape fragment.now }
+    requires { IsShapeFor store.now.shape fragment.now.view }
     ensures rows { GivesRows (IsRowIn store.now.shape bytes.now)
         (first_fault_in store.now.shape (length fragment.now.view.head) bytes.now) result }
     ensures wide { IfOk result (HaveWidth (length fragment.now.view.head)) }
 {
-    rows_in(alloc, &store.shape, bytes, fragment.view.head.len())
+    rows_in(alloc, &store.shape, fragment, bytes)
 }
