@@ -49,21 +49,22 @@ rows_wide : (kind : FileKind) (width : ℕ) (taken : Row → Row) (number : ℕ)
     → HaveWidth width rows
 unfolding first_fault
 rows_wide kind width taken number [] none row inside = absurd (Contains-nil row inside)
-rows_wide kind width taken number (cells ∷ rest) none row inside = by (length cells == width) refl none
+rows_wide kind width taken number (cells ∷ rest) none row inside =
+    by (length cells == width) refl none (λ passed there. rows_wide kind width taken (number + 1) rest passed row there)
   where
     later : (good : Bool) → (if good then first_fault kind width taken (number + 1) rest else Some (fault_at NotUtf8 number)) ≡ None
-        → length cells ≡ width → length row ≡ width
-    later true passed long = elim (Contains-cases cells rest row inside) [
+        → length cells ≡ width → (first_fault kind width taken (number + 1) rest ≡ None → Contains rest row → length row ≡ width) → length row ≡ width
+    later true passed long again = elim (Contains-cases cells rest row inside) [
       | inl is ↦ ap length (sym is) ∙ long
-      | inr there ↦ rows_wide kind width taken (number + 1) rest passed row there
+      | inr there ↦ again passed there
     ]
-    later false passed long = absurd (none-some _ (sym passed))
+    later false passed long again = absurd (none-some _ (sym passed))
 
     by : (same : Bool) → (length cells == width) ≡ same
         → (if same then (if are_texts (taken cells) then first_fault kind width taken (number + 1) rest else Some (fault_at NotUtf8 number))
-        else Some (fault_at kind number)) ≡ None → length row ≡ width
-    by true is passed = later (are_texts (taken cells)) passed (eqb-true (length cells) width is)
-    by false is passed = absurd (none-some _ (sym passed))
+        else Some (fault_at kind number)) ≡ None → (first_fault kind width taken (number + 1) rest ≡ None → Contains rest row → length row ≡ width) → length row ≡ width
+    by true is passed again = later (are_texts (taken cells)) passed (eqb-true (length cells) width is) again
+    by false is passed again = absurd (none-some _ (sym passed))
 
 keys_wide : (width : ℕ) (bytes : List ℕ) → key_fault width bytes ≡ None → HaveWidth width (key_rows bytes)
 unfolding key_fault
