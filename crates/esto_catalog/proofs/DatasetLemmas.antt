@@ -1,13 +1,13 @@
 -- Datasets that were read are sound over the relations of all.
-use Rattle.std.proofs.Common.{◌≡◌, ◌≢◌, ◌<◌, ◌≤◌, ◌+◌, ◌*◌, ℕ, suc, List, [], ◌∷◌, ◌++◌, length, map, drop, get_or, Bool, true, false, Option, Some, None, inl, inr, refl, sym, ap, subst, ◌∙◌, arith, length-append}
-use Rattle.std.specs.Prelude.{Contains, All, AllPairs, slice_get}
+use Rattle.std.proofs.Common.{◌≡◌, ◌≢◌, ◌<◌, ◌≤◌, ◌+◌, ◌*◌, ℕ, suc, List, [], ◌∷◌, ◌++◌, length, map, drop, get_or, true, false, Some, inl, inr, refl, sym, ap, subst, ◌∙◌, arith, length-append}
+use Rattle.std.specs.Prelude.{Contains, AllPairs, slice_get}
 use Rattle.std.proofs.lemmas.Bool.{false≢true}
 use Rattle.std.proofs.lemmas.Cmp.{nat_list_eq_equiv}
 use Rattle.std.proofs.lemmas.List.{append-nil, append_assoc, map-append}
 use Rattle.std.proofs.lemmas.List.Elements.{Contains-push_cases, Contains-get_or}
 use Rattle.std.proofs.lemmas.List.Quantifiers.{all_pairs_push}
 use Rattle.esto_course.proofs.Steps.{Leads, first_stops, then_goes, gives_goes, turn_next, turn_stops}
-use Rattle.esto_course.specs.Course.{Course, Stops, and_then, judges, gives, refuses, demands, each}
+use Rattle.esto_course.specs.Course.{Course, Stops, and_then, gives, demands, each}
 use Rattle.esto_docs.specs.declared.layout.Layout.{Layout}
 use Rattle.esto_docs.specs.declared.layout.Layout.TheVariants.{Lines}
 use Rattle.esto_query.specs.declared.schema.Relation.{Relation}

@@ -1,5 +1,5 @@
 -- The rules of encodings are over the relations of their datasets, and all the rules are the given ones and those.
-use Rattle.std.proofs.Common.{◌≡◌, ◌<◌, ◌≤◌, ◌+◌, ℕ, List, [], ◌∷◌, ◌++◌, length, map, take, drop, get_or, Some, inl, inr, refl, sym, ap, subst, ◌∙◌, arith, length-append}
+use Rattle.std.proofs.Common.{◌≡◌, ◌<◌, ◌≤◌, ◌+◌, ℕ, List, [], ◌∷◌, ◌++◌, length, map, take, get_or, Some, inl, inr, refl, sym, ap, subst, ◌∙◌, arith, length-append}
 use Rattle.std.specs.Prelude.{Contains, slice_get, IsUtf8}
 use Rattle.std.proofs.Math.Seq.{take-length}
 use Rattle.std.proofs.lemmas.List.{append-nil, append_assoc, length-map, map-append, take-append-le, take_all, take_more}
@@ -8,7 +8,6 @@ use Rattle.esto_constraint.specs.Constraints.{rule_of, rules_of}
 use Rattle.esto_constraint.specs.EncodingRules.{atom, document_rules, document_rules_2, key_rules, root, below, written}
 use Rattle.esto_constraint.specs.declared.rule.Constraint.{Constraint}
 use Rattle.esto_query.specs.Schemas.{arities_of}
-use Rattle.esto_query.specs.declared.query.Name.{Name}
 use Rattle.esto_query.specs.declared.schema.Relation.{Relation}
 use Rattle.esto_read.specs.Words.{HasRelations}
 use Rattle.esto_read.specs.declared.words.DataModel.{DataModel}
@@ -17,14 +16,14 @@ use Rattle.esto_semantics.proofs.TermLemmas.{Const-apart-Plain}
 use Rattle.esto_semantics.specs.Rules.{Rule, tuple, equality, denial}
 use Rattle.esto_semantics.specs.WellFormed.{AreOver, HaveUtf8, IsRuleOver}
 use Rattle.esto_semantics.specs.declared.fact.Fact.{Fact}
-use Rattle.esto_term.proofs.ListLemmas.{Contains-cases, Contains-head, Contains-map, Contains-map_from, Contains-nil, Contains-read, Contains-rest}
+use Rattle.esto_term.proofs.ListLemmas.{Contains-cases, Contains-map, Contains-map_from, Contains-nil, Contains-read}
 use Rattle.esto_term.specs.declared.term.Term.{Term}
 use Rattle.esto_term.specs.declared.term.Term.TheVariants.{Const, Plain}
 use Rattle.esto_text.specs.declared.version.Version.{Version}
 use Rattle.esto_text.specs.declared.version.Version.TheVariants.{One, Two}
 use Rattle.esto_catalog.proofs.SchemaLemmas.{has_relations}
-use Rattle.esto_catalog.specs.Datasets.{IsDataset, schema_of}
-use Rattle.esto_catalog.specs.Rules.{AreAllRules, all_rules, encoding_names, encoding_rules, encodings_names, encodings_rules}
+use Rattle.esto_catalog.specs.Datasets.{schema_of}
+use Rattle.esto_catalog.specs.Rules.{AreAllRules, encoding_names, encoding_rules, encodings_names, encodings_rules}
 use Rattle.esto_catalog.specs.Scope.{IsScope}
 use Rattle.esto_catalog.specs.Soundness.{AreSoundRules}
 use Rattle.esto_catalog.specs.declared.dataset.Dataset.{Dataset}

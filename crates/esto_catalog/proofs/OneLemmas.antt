@@ -10,7 +10,6 @@ use Rattle.toml.specs.Data.{Members}
 use Rattle.esto_acyclic.specs.Graphs.{AreRanks, IsLeastCycle}
 use Rattle.esto_acyclic.specs.Relations.{IsEdge}
 use Rattle.esto_acyclic.specs.declared.relations.Cycle.{Cycle}
-use Rattle.esto_constraint.specs.Constraints.{rules_of}
 use Rattle.esto_constraint.specs.Soundness.{IsSoundTuple, IsSoundEquality, IsSoundDenial}
 use Rattle.esto_constraint.specs.declared.rule.Constraint.{Constraint}
 use Rattle.esto_constraint.specs.declared.rule.Constraint.TheVariants.{Tuple, Equal as Equality, Never}

@@ -1,14 +1,13 @@
 -- The relations of datasets are a schema, and their words a vocabulary.
-use Rattle.std.proofs.Common.{◌≡◌, ◌≢◌, ◌<◌, ◌≤◌, ◌+◌, ◌*◌, ℕ, suc, List, [], ◌∷◌, ◌++◌, length, map, take, drop, get_or, Some, inl, inr, refl, sym, ap, subst, ◌∙◌, arith, codes, length-append}
+use Rattle.std.proofs.Common.{◌≡◌, ◌≢◌, ◌<◌, ◌≤◌, ◌+◌, ℕ, List, [], ◌∷◌, ◌++◌, length, take, drop, get_or, Some, inl, inr, refl, sym, ap, subst, ◌∙◌, arith, codes, length-append}
 use Rattle.std.proofs.Math.ListN.{get_or-append}
 use Rattle.std.proofs.Math.Seq.{get_or-append_seam}
 use Rattle.std.specs.Prelude.{Contains, All, AllPairs, slice_get}
-use Rattle.std.proofs.lemmas.List.{append_assoc, length-map, map-append, take-append-drop, take_all, take_more}
+use Rattle.std.proofs.lemmas.List.{append_assoc, map-append, take-append-drop, take_all, take_more}
 use Rattle.std.proofs.lemmas.List.Elements.{Contains-append_cases, Contains-get_or, Contains-push}
 use Rattle.std.proofs.lemmas.Option.{slice_get_within}
 use Rattle.esto_query.specs.Schemas.{IsArity, IsSchema, arities_of, names_of}
 use Rattle.esto_query.specs.declared.schema.Relation.{Relation}
-use Rattle.esto_query.specs.declared.schema.TheConstants.{MAX_RELATIONS}
 use Rattle.esto_read.specs.Words.{HasRelations, IsVocabulary}
 use Rattle.esto_read.specs.declared.words.DataModel.{DataModel}
 use Rattle.esto_read.specs.declared.words.DataModel.TheVariants.{Table, Documents, Keys}
@@ -17,11 +16,10 @@ use Rattle.esto_term.proofs.ChoiceLemmas.{pairs_head, pairs_tail}
 use Rattle.esto_term.proofs.ListLemmas.{Contains-cases, Contains-map, Contains-map_from, Contains-nil, Contains-rest, Contains-head, map_at, map_then}
 use Rattle.esto_catalog.proofs.DatasetLemmas.{AreSet, datasets_set, schema_append, schema_more, schema_most}
 use Rattle.esto_catalog.proofs.NameLemmas.{names_apart}
-use Rattle.esto_catalog.specs.Datasets.{AreDatasets, FitModel, IsDataset, StandFrom, model_relations, part, relations_of, schema_of, words_of}
+use Rattle.esto_catalog.specs.Datasets.{AreDatasets, FitModel, StandFrom, model_relations, part, relations_of, schema_of, words_of}
 use Rattle.esto_catalog.specs.Scope.{IsScope}
 use Rattle.esto_catalog.specs.declared.dataset.Dataset.{Dataset}
 use Rattle.esto_catalog.specs.declared.scope.Scope.{Scope}
-use Rattle.esto_catalog.specs.declared.whole.TheConstants.{MAX_ENTRIES}
 
 all_from : {A : Type 0} (P : A → Type 0) (items : List A) → ((item : A) → Contains items item → P item) → All P items
 all_from P items each_item k d below = each_item _ (Contains-get_or items k d below)

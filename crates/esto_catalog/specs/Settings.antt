@@ -1,5 +1,5 @@
 -- What is written in a catalogue, without the form in which TOML keeps it.
-use Rattle.std.specs.Prelude.{◌≡◌, ℕ, List, [], ◌∷◌, Option, Some, None, Bool, false, option_map, if◌then◌else◌, nat_eq, IsUtf8, codes}
+use Rattle.std.specs.Prelude.{◌≡◌, ℕ, List, [], ◌∷◌, Option, Some, None, Bool, option_map, if◌then◌else◌, nat_eq, IsUtf8, codes}
 use Rattle.std.specs.List.{list_any}
 use Rattle.std.specs.Cmp.Lexicographic.{pointwise}
 use Rattle.toml.specs.Data.{Data, string, integer, array, table, Items, no_items, item, Members, no_members, member, get_member}

@@ -1,4 +1,4 @@
-use Rattle.std.proofs.Common.{◌∙◌, ap, sym, ◌++◌}
+use Rattle.std.proofs.Common.{◌∙◌}
 use Rattle.esto_catalog.proofs.SchemaLemmas.{schema_more_step, schema_turn}
 use Rattle.esto_catalog.proofs.scope.schema_of.Goals as goal
 

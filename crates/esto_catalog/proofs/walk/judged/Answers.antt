@@ -1,12 +1,10 @@
-use Rattle.std.proofs.Common.{ap, inl, length, refl, sym, subst, ◌≡◌, ◌≤◌, ◌∙◌}
+use Rattle.std.proofs.Common.{inl, length, refl, sym, subst, ◌≤◌}
 use Rattle.esto_acyclic.specs.Graphs.{AreRanks, IsAcyclic}
-use Rattle.esto_acyclic.specs.Relations.{AreNamesOf, IsEdge}
+use Rattle.esto_acyclic.specs.Relations.{IsEdge}
 use Rattle.esto_constraint.specs.Constraints.{rules_of}
 use Rattle.esto_catalog.proofs.EncodingLemmas.{given_most}
 use Rattle.esto_catalog.proofs.RowLemmas.{judges_goes, judges_stops}
 use Rattle.esto_catalog.proofs.WalkLemmas.{cycle_as, ranks_as, rules_within, sound_catalogue}
-use Rattle.esto_catalog.specs.Reading.{IsCycleOf}
-use Rattle.esto_catalog.specs.Rules.{all_rules}
 use Rattle.esto_catalog.proofs.walk.judged.Goals as goal
 
 pub judge-requires : goal.judge-requires
