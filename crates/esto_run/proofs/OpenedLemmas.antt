@@ -19,7 +19,7 @@ pub none_more : (count : ℕ) (old new : List (List Row)) (given : List Row) →
 none_more count old new given are empty is =
     is ∙ ap (λ them. them ++ given ∷ []) are ∙ ap (λ one. replicate count [] ++ one ∷ []) empty ∙ replicate_more count []
 
-none_held : (count number : ℕ) → held_by (replicate count []) number ≡ []
+none_held : (count number : ℕ) → held_by {V = List ℕ} (replicate count []) number ≡ []
 none_held zero number = refl
 none_held (suc count) zero = refl
 none_held (suc count) (suc number) = none_held count number
