@@ -1,47 +1,34 @@
 -- Rows of fragments, opened one by one.
-use Rattle.std.proofs.Common.{◌≡◌, ◌↔◌, ◌⊎◌, inl, inr, ℕ, zero, suc, ◌+◌, ◌<◌, List, [], ◌∷◌, ◌++◌, length, set, Some, slice_get, Contains, refl, sym, ap, ◌∙◌, subst, arith}
+use Rattle.std.proofs.Common.{◌≡◌, ◌↔◌, ◌⊎◌, inl, inr, ℕ, zero, suc, ◌+◌, ◌<◌, List, [], ◌∷◌, ◌++◌, length, replicate, set, Some, slice_get, Contains, refl, sym, ap, ◌∙◌, subst, arith}
 use Rattle.std.proofs.lemmas.Bool.{cases_order}
-use Rattle.std.proofs.lemmas.List.{get_or-set_other, get_or-set_same, length-set, length-append}
+use Rattle.std.proofs.lemmas.List.{get_or-set_other, get_or-set_same, length-set, length-replicate, replicate_more}
 use Rattle.std.proofs.lemmas.List.Elements.{Contains-push_cases}
 use Rattle.std.proofs.lemmas.Option.{same_Some}
 use Rattle.esto_catalog.specs.declared.catalogue.Store.{Store}
 use Rattle.esto_plan.specs.Rows.{held_by}
 use Rattle.esto_stores.specs.Rows.{Row}
-use Rattle.esto_term.proofs.ListLemmas.{Contains-nil, Contains-head, Contains-rest}
+use Rattle.esto_term.proofs.ListLemmas.{Contains-nil}
 use Rattle.esto_views.specs.declared.fragments.FragmentDef.{FragmentDef}
 use Rattle.esto_run.specs.Opened.{HaveWidth, AreRowsFor, AreOpened}
 use Rattle.esto_run.specs.Stores.{IsRowIn, IsFileRow}
 
 -- ---- no rows
 
--- so many lists of rows, each empty
-pub record AreNone (count : ℕ) (opened : List (List Row)) : Type 0 where
-  pub many : length opened ≡ count
-  pub none : (rows : List Row) → Contains opened rows → rows ≡ []
+pub none_more : (count : ℕ) (old new : List (List Row)) (given : List Row) → old ≡ replicate count [] → given ≡ [] → new ≡ old ++ given ∷ []
+    → new ≡ replicate (count + 1) []
+none_more count old new given are empty is =
+    is ∙ ap (λ them. them ++ given ∷ []) are ∙ ap (λ one. replicate count [] ++ one ∷ []) empty ∙ replicate_more count []
 
-pub none_at_first : AreNone 0 []
-none_at_first = record { many = refl; none = λ rows inside. absurd (Contains-nil rows inside) }
+none_held : (count number : ℕ) → held_by {V = List ℕ} (replicate count []) number ≡ []
+none_held zero number = refl
+none_held (suc count) zero = refl
+none_held (suc count) (suc number) = none_held count number
 
-pub none_more : (count : ℕ) (old new : List (List Row)) (given : List Row) → AreNone count old → given ≡ [] → new ≡ old ++ given ∷ []
-    → AreNone (count + 1) new
-none_more count old new given are empty is = record {
-  many = let long = length-append old (given ∷ []) in let same = ap length is in let many = are.many in omega (arith, long, same, many);
-  none = λ rows inside. elim (Contains-push_cases old given rows (subst (λ them. Contains them rows) is inside)) [
-    | inl there ↦ are.none rows there
-    | inr last ↦ sym last ∙ empty
-  ];
-}
-
-none_held : (opened : List (List Row)) → ((rows : List Row) → Contains opened rows → rows ≡ []) → (number : ℕ) → held_by opened number ≡ []
-none_held [] none number = refl
-none_held (rows ∷ opened) none zero = none rows (Contains-head rows opened)
-none_held (rows ∷ opened) none (suc number) = none_held opened (λ other inside. none other (Contains-rest rows opened other inside)) number
-
-pub rows_for_none : (fragments : List FragmentDef) (opened : List (List Row)) (count : ℕ) → AreNone count opened → count ≡ length fragments
-    → AreRowsFor fragments opened
-rows_for_none fragments opened count are same = record {
-  many = are.many ∙ same;
-  wide = λ number fragment at row inside. absurd (Contains-nil row (subst (λ them. Contains them row) (none_held opened are.none number) inside));
+pub rows_for_none : (fragments : List FragmentDef) (opened : List (List Row)) → opened ≡ replicate (length fragments) [] → AreRowsFor fragments opened
+rows_for_none fragments opened are = record {
+  many = ap length are ∙ length-replicate (length fragments) [];
+  wide = λ number fragment at row inside. absurd (Contains-nil row (subst (λ them. Contains them row)
+      (ap (λ them. held_by them number) are ∙ none_held (length fragments) number) inside));
 }
 
 -- ---- the rows of one fragment more
@@ -50,7 +37,7 @@ module _ (old new : List (List Row)) (number : ℕ) (rows : List Row) (below : n
   here : held_by new number ≡ rows
   here = ap (λ them. held_by them number) is ∙ get_or-set_same old number rows [] below
 
-  elsewhere : (other : ℕ) → (other ≡ number → ⊥) → held_by new other ≡ held_by old other
+  pub elsewhere : (other : ℕ) → (other ≡ number → ⊥) → held_by new other ≡ held_by old other
   elsewhere other apart = ap (λ them. held_by them other) is ∙ get_or-set_other old number other rows [] apart
 
   pub rows_set : (fragments : List FragmentDef) (fragment : FragmentDef) → slice_get fragments number ≡ Some fragment

@@ -1,5 +1,5 @@
 -- The rows of fragments' files.
-use Rattle.std.proofs.Common.{◌≡◌, ◌≢◌, ◌==◌, ◌<◌, ◌+◌, inl, inr, ℕ, Bool, true, false, if◌then◌else◌, List, [], ◌∷◌, map, length, Option, None, Some, Contains, refl, sym, ap, ◌∙◌, subst, arith}
+use Rattle.std.proofs.Common.{◌≡◌, ◌==◌, ◌+◌, inl, inr, ℕ, Bool, true, false, if◌then◌else◌, List, [], ◌∷◌, map, length, Option, None, Some, Contains, refl, sym, ap, ◌∙◌, subst, arith}
 use Rattle.std.specs.Prelude.{Result, Ok, Err, IfOk}
 use Rattle.std.proofs.lemmas.Bool.{cases_order, eqb-true}
 use Rattle.std.proofs.lemmas.List.{length-map}
@@ -93,13 +93,17 @@ pub documents_give : (columns : ℕ) (layout : Layout) (pattern : Pattern) (byte
     → IsLayout columns (entries_of pattern.entries)
     → Opens (IsRowOf columns (entries_of pattern.entries) (file_trees layout bytes)) (trees_fault layout bytes) result
     → GivesRows (IsDocumentRow layout pattern bytes) (trees_fault layout bytes) result
-documents_give columns layout pattern bytes (Ok rows) is opens = (opens.0, λ row. (
-  (λ inside. let found = (opens.1 row).0 inside in
-      (subst (λ n. IsLayout n (entries_of pattern.entries)) (sym found.0) is,
-      subst (λ n. IsRowOf n (entries_of pattern.entries) (file_trees layout bytes) row) (sym found.0) found)),
-  (λ (own, has). (opens.1 row).1 (subst (λ n. IsRowOf n (entries_of pattern.entries) (file_trees layout bytes) row)
-      (one_width (length row) columns (entries_of pattern.entries) own is) has)),
-))
+documents_give columns layout pattern bytes (Ok rows) is opens = (
+  opens.0,
+  λ row. (
+    (λ inside. let found = (opens.1 row).0 inside in (
+      subst (λ n. IsLayout n (entries_of pattern.entries)) (sym found.0) is,
+      subst (λ n. IsRowOf n (entries_of pattern.entries) (file_trees layout bytes) row) (sym found.0) found,
+    )),
+    (λ (own, has). (opens.1 row).1 (subst (λ n. IsRowOf n (entries_of pattern.entries) (file_trees layout bytes) row)
+        (one_width (length row) columns (entries_of pattern.entries) own is) has)),
+  ),
+)
 documents_give columns layout pattern bytes (Err (Fault found)) is opens = opens
 documents_give columns layout pattern bytes (Err OutOfMemory) is opens = tt
 

@@ -18,7 +18,7 @@ use Rattle.esto_run.specs.Opened.{AreOpened}
 use Rattle.esto_run.specs.Stores.{IsFileRow}
 use Rattle.esto_run.specs.Used.{AreUsed}
 
--- The row is an answer of the query over the fragments where a fact tells which rows they hold.
+-- The row is an answer of the query over the fragments, where a predicate tells which rows they hold.
 abbrev pub IsAnswerOver : (Fact (List ℕ) → Type 0) → ConjunctiveQuery → Row → Type 0
 IsAnswerOver Holds query row = IsAnswerInto (λ text. text) query Holds row
 

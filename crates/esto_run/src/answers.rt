@@ -8,7 +8,7 @@ use esto_stores::write_records;
 use esto_term::{Bytes, List, OutOfMemory, Replicate, Term, Text, TextRow, TextRows};
 use std::alloc::Global;
 
-/// The given name of the variable of that number; the empty text where it has none.
+/// The given name of the variable that the term is; the empty text where it has none, or where the term is no variable.
 fn name_of(alloc: Global, names: &Names, term: &Term) -> Result<Text, OutOfMemory>
     ensures { IfOk result (λ it. it ≡ level_name names.now (out-Term term.now)) }
 {

@@ -1,7 +1,8 @@
 //! The rows of all fragments, opened one by one.
-ghost use Rattle.std.specs.Prelude.{◌≡◌, ℕ, List, [], ◌∷◌, ◌++◌, ◌<◌, length, slice_get, IfOk, OnOk, IfSome};
+ghost use Rattle.std.specs.Prelude.{◌≡◌, ◌≢◌, ℕ, List, [], ◌∷◌, ◌++◌, ◌<◌, length, replicate, slice_get, IfOk, IfSome, OnOk, OnErr};
 ghost use Rattle.esto_catalog.specs.declared.catalogue.Store.{Store};
 ghost use Rattle.esto_lines.specs.Faults.{Gives};
+ghost use Rattle.esto_plan.specs.Rows.{held_by};
 ghost use Rattle.esto_run.specs.Opened.{AreRowsFor, AreOpened};
 ghost use Rattle.esto_run.specs.Stores.{first_fault_in};
 
@@ -17,6 +18,7 @@ pub type FragmentRows = List<TextRows>;
 
 /// No rows for each of the fragments.
 pub fn no_rows(alloc: Global, fragments: &FragmentDefs) -> Result<FragmentRows, OutOfMemory>
+    ensures none { IfOk result (λ it. it ≡ replicate (length fragments.now) []) }
     ensures rows { IfOk result (AreRowsFor fragments.now) }
     ensures opened { IfOk result
         (λ it. (stores : List Store) (files : ℕ → List ℕ) → AreOpened stores files [] it) }
@@ -29,7 +31,7 @@ pub fn no_rows(alloc: Global, fragments: &FragmentDefs) -> Result<FragmentRows, 
 }
 
 /// Puts the rows of the fragment's file, in the shape of its store, in place of what the fragment had; or the file has
-/// a fault, and this is the first. Other fragments keep their rows.
+/// a fault, and this is the first. Other fragments keep their rows, and after an error this one does too.
 pub fn open_fragment(
     alloc: Global,
     catalogue: &Catalogue,
@@ -40,6 +42,9 @@ pub fn open_fragment(
     requires there { number < length catalogue.now.fragments }
     requires rows { AreRowsFor catalogue.now.fragments opened.old }
     ensures rows { AreRowsFor catalogue.now.fragments opened.new }
+    ensures others { (other : ℕ) → other ≢ number
+        → held_by opened.new other ≡ held_by opened.old other }
+    ensures kept { OnErr result (opened.new ≡ opened.old) }
     ensures opened { OnOk result ((files : ℕ → List ℕ) (numbers : List ℕ)
         → files number ≡ bytes.now → AreOpened catalogue.now.stores files numbers opened.old
         → AreOpened catalogue.now.stores files (numbers ++ number ∷ []) opened.new) }

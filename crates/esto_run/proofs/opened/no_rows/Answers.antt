@@ -1,4 +1,4 @@
-use Rattle.std.proofs.Common.{◌≡◌, ◌≤◌, ◌+◌, length, arith}
+use Rattle.std.proofs.Common.{◌≡◌, ◌≤◌, ◌+◌, [], length, replicate, ap, ◌∙◌, arith}
 use Rattle.esto_run.proofs.OpenedLemmas.{none_more, rows_for_none}
 use Rattle.esto_run.proofs.opened.no_rows.Goals as goal
 
@@ -10,10 +10,18 @@ fragments-preserved c = (
       let next : c.fragments._number + 1 ≤ length c.args.fragments.now = omega (arith, below, long) in next,
 )
 
+pub returns-clause-none : goal.returns-clause-none
+returns-clause-none c =
+    let past = c.fragments-test.false in
+    let long = c.len-number-end.ensures in
+    let within = c.fragments.invariant.1 in
+    let all : c.fragments._number ≡ length c.args.fragments.now = omega (arith, past, long, within) in
+    c.fragments.invariant.0 ∙ ap (λ n. replicate n []) all
+
 pub returns-clause-rows : goal.returns-clause-rows
 returns-clause-rows c =
     let past = c.fragments-test.false in
     let long = c.len-number-end.ensures in
     let within = c.fragments.invariant.1 in
-    rows_for_none c.args.fragments.now c.fragments.opened c.fragments._number c.fragments.invariant.0
-    (let all : c.fragments._number ≡ length c.args.fragments.now = omega (arith, past, long, within) in all)
+    let all : c.fragments._number ≡ length c.args.fragments.now = omega (arith, past, long, within) in
+    rows_for_none c.args.fragments.now c.fragments.opened (c.fragments.invariant.0 ∙ ap (λ n. replicate n []) all)

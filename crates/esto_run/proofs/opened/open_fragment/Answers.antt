@@ -1,7 +1,7 @@
 use Rattle.std.proofs.Common.{◌<◌, ◌↔◌, ℕ, List, length, sym, subst, arith, Contains}
 use Rattle.esto_stores.specs.Rows.{Row}
 use Rattle.esto_run.specs.Stores.{IsRowIn}
-use Rattle.esto_run.proofs.OpenedLemmas.{opened_more}
+use Rattle.esto_run.proofs.OpenedLemmas.{opened_more, elsewhere}
 use Rattle.esto_run.proofs.opened.open_fragment.Goals as goal
 
 pub returns-clause-opened : goal.returns-clause-opened
@@ -14,3 +14,10 @@ returns-clause-opened c files numbers same are =
     (subst (λ (bytes : List ℕ). (row : Row) → Contains c.in_ok-rows.rows row ↔ IsRowIn c.item-store.result.now.shape bytes row) (sym same)
     c.in_ok-rows.ensures.rows.1)
     numbers are
+
+pub returns-clause-others : goal.returns-clause-others
+returns-clause-others c other apart =
+    let many = c.requires.rows.many in
+    let there = c.requires.there in
+    let below : c.args.number < length c.args.opened.now = omega (arith, many, there) in
+    elsewhere c.args.opened.now c.set.new.self c.args.number c.in_ok-rows.rows below c.set.ensures other apart
