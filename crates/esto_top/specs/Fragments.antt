@@ -61,6 +61,11 @@ Takes catalogue number bytes old new =
     (contents : ℕ → List ℕ) (numbers : List ℕ) → contents number ≡ bytes → AreOpened catalogue.stores contents numbers old
     → AreOpened catalogue.stores contents (numbers ++ number ∷ []) new
 
+-- The content of the fragment's file has no fault, and its rows were taken; or the course stops.
+abbrev pub Reads : Catalogue → ℕ → Stored → List ℕ → List (List Row) → List (List Row) → Result (Unit {0}) Status → Type 0
+Reads catalogue number stored bytes old new (Ok _) = (reads_content stored bytes).goes tt × Takes catalogue number bytes old new
+Reads catalogue number stored bytes old new (Err refusal) = Stops IsWant (IsCaused ⊥) (reads_content stored bytes) refusal
+
 -- The file of the fragment of the number was opened, and its rows taken; or the course stops.
 abbrev pub OpensNext : Option Files → Catalogue → ℕ → List (List Row) → List (List Row) → Type 0 → Result (Unit {0}) Status → Type 0
 OpensNext files catalogue number old new rose (Ok _) =

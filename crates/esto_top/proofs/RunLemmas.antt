@@ -1,0 +1,125 @@
+-- The set that is run, and the text of its rows.
+use Rattle.std.proofs.Common.{◌≡◌, ◌≢◌, ◌↔◌, ◌<◌, ◌≤◌, ◌-◌, ℕ, Bool, List, [], ◌∷◌, map, length, All, Contains, slice_get, Option, Some, None, Result, Ok, Err, refl, sym, ap, subst, ◌∙◌, arith}
+use Rattle.std.specs.Prelude.{MatchOption}
+use Rattle.std.proofs.lemmas.List.{length-map}
+use Rattle.std.proofs.lemmas.Option.{slice_get_within}
+use Rattle.esto_catalog.specs.declared.catalogue.Catalogue.{Catalogue}
+use Rattle.esto_course.specs.Course.{Course, Stops, judges, gives, and_then}
+use Rattle.esto_course.specs.Course.Stops.{refused}
+use Rattle.esto_list.specs.Items.{IsPickOf, sets_of, totals_of}
+use Rattle.esto_list.specs.declared.listing.Listed.{Listed}
+use Rattle.esto_query.specs.declared.query.Query.{Query}
+use Rattle.esto_run.specs.Answers.{IsAnswersText}
+use Rattle.esto_run.specs.Laws.{AnswersAreOverFiles, IsAnswerOver, UsesOnly}
+use Rattle.esto_run.specs.Opened.{AreOpened}
+use Rattle.esto_run.specs.Stores.{IsFileRow}
+use Rattle.esto_run.specs.Used.{AreUsed}
+use Rattle.esto_plan.specs.Planned.{IsSafeOrder}
+use Rattle.esto_plan.specs.Rows.{IsRowOf, held_by}
+use Rattle.esto_semantics.specs.Access.{IsOrder, IsStatedOrder}
+use Rattle.esto_semantics.specs.Listed.{IsPick, candidate, chosen}
+use Rattle.esto_semantics.specs.ListedLaws.{ChosenAreNamed}
+use Rattle.esto_semantics.specs.declared.fact.Fact.{Fact}
+use Rattle.esto_stores.specs.Rows.{Row}
+use Rattle.esto_term.specs.declared.term.Term.{Term}
+use Rattle.esto_term.proofs.ListLemmas.{Contains-at, Contains-map, Contains-map_from}
+use Rattle.esto_views.specs.Fragments.{patterns_of}
+use Rattle.esto_views.specs.Plans.{IsPlanOver, fact_of, plan_query}
+use Rattle.esto_views.specs.declared.fragments.FragmentDef.{FragmentDef}
+use Rattle.esto_views.specs.declared.plan.Plan.{Plan}
+use Rattle.esto_top.specs.Answers.{IsWant, IsCaused, Answers}
+use Rattle.esto_top.specs.Listing.{IsListOf}
+use Rattle.esto_top.specs.Run.{IsItemOf, IsPlace, HasNoPlace, IsRunText, chooses}
+use Rattle.esto_top.specs.Run.HasNoPlace.{is_empty, is_above}
+use Rattle.esto_top.specs.declared.status.Status.{Status}
+use Rattle.esto_top.specs.declared.status.Status.TheVariants.{NoRewriting, NoSuchNumber}
+
+-- ---- the choice
+
+module _ (items : List Listed) (number : Option ℕ) where
+  pub none_listed : (pick : Option ℕ) → pick ≡ None → IsPickOf items pick → Stops IsWant (IsCaused ⊥) (chooses items number) NoRewriting
+  unfolding judges
+  none_listed pick none is = refused (record { cause = tt }) (is_empty (subst (λ it. MatchOption it (items ≡ []) (IsPick (totals_of items))) none is) refl)
+
+  pub picked : (pick : ℕ) → number ≡ None → IsPick (totals_of items) pick → (chooses items number).goes pick
+  unfolding judges
+  picked pick none is = subst (λ it. IsPlace items it pick) (sym none) is
+
+  module _ (pick : ℕ) (is_pick : IsPick (totals_of items) pick) where
+    some_listed : 0 < length items
+    some_listed = omega (arith, is_pick.there, length-map items (λ item. item.weight))
+
+    pub above : (asked listed : ℕ) → number ≡ Some asked → listed ≡ length items → listed < asked
+        → Stops IsWant (IsCaused ⊥) (chooses items number) (NoSuchNumber asked listed)
+    unfolding judges
+    above asked listed is length_is less = refused (record { cause = tt })
+        (is_above asked is (λ none. omega (arith, some_listed, ap length none)) (omega (arith, less, length_is)) (ap (NoSuchNumber asked) length_is))
+
+    pub numbered : (asked place : ℕ) → number ≡ Some asked → asked ≤ length items → place ≡ asked - 1 → (chooses items number).goes place
+    unfolding judges
+    numbered asked place is le place_is = subst (λ it. IsPlace items it place) (sym is) (place_is, omega (arith, some_listed, le, place_is))
+
+-- the place is one of the list
+pub place_within : (items : List Listed) (number : Option ℕ) (place : ℕ) → (chooses items number).goes place → place < length items
+unfolding judges
+place_within items None place is = omega (arith, is.there, length-map items (λ item. item.weight))
+place_within items (Some number) place is = is.1
+
+-- ---- the item
+
+all_at : (P : Listed → Type 0) (items : List Listed) → All P items → (place : ℕ) (item : Listed) → slice_get items place ≡ Some item → P item
+all_at P items all place item is = grind (all, is)
+
+-- an item of the list has a listed set and its stated order
+pub item_of : (catalogue : Catalogue) (query : Query) (plan : Plan) (items : List Listed) → IsListOf catalogue query plan items → (place : ℕ) (item : Listed)
+    → slice_get items place ≡ Some item → IsItemOf catalogue query plan item
+item_of catalogue query plan items list place item is = record {
+  set = (list.sets.exact item.set).0 (Contains-map (λ it. it.set) items item (Contains-at items place item is));
+  order = all_at (λ it. IsStatedOrder (patterns_of catalogue.fragments) (plan_query plan).body it.set it.order) items list.orders place item is;
+}
+
+pub safe_order : (catalogue : Catalogue) (query : Query) (plan : Plan) (item : Listed) → IsItemOf catalogue query plan item
+    → IsSafeOrder (patterns_of catalogue.fragments) (plan_query plan) item.order
+safe_order catalogue query plan item is = (item.set, is.order.is_order, is.set.0.safe)
+
+-- ---- the fragments
+
+-- the fragments that a set uses are there
+pub used_are_there : (plan : Plan) (fragments : List FragmentDef) (set : List Bool) (numbers : List ℕ) → IsPlanOver plan fragments
+    → AreUsed (plan_query plan).body set numbers → (number : ℕ) → Contains numbers number → number < length fragments
+used_are_there plan fragments set numbers over used number inside =
+    let (place, has, atom, is_atom, relation) = (used.exact number).0 inside in
+    let (own, there, same) = Contains-map_from fact_of plan.atoms atom (Contains-at (plan_query plan).body place atom is_atom) in
+    let found = over own there in
+    let fragment : own.fragment ≡ number = ap (λ (it : Fact Term). it.relation) same ∙ relation in
+    subst (λ (it : ℕ). it < length fragments) fragment (slice_get_within fragments own.fragment found.0 found.1)
+
+-- and they are all that its candidate uses
+pub uses_only : ChosenAreNamed → (plan : Plan) (set : List Bool) (numbers : List ℕ) → AreUsed (plan_query plan).body set numbers
+    → UsesOnly numbers (candidate (plan_query plan) set)
+uses_only named plan set numbers used atom inside =
+    let (place, has, is_atom) = (named set (plan_query plan).body atom).0 inside in
+    (used.exact atom.relation).1 (place, has, (atom, is_atom, refl))
+
+-- ---- the text
+
+-- the text of rows is that of the same rows
+pub same_rows : (query : Query) (Has Other : Row → Type 0) (text : List ℕ) → ((row : Row) → Has row ↔ Other row) → IsAnswersText query Has text
+    → IsAnswersText query Other text
+same_rows query Has Other text same is = record {
+  rows = is.rows;
+  exact = λ row. (λ inside. (same row).0 ((is.exact row).0 inside), λ other. (is.exact row).1 ((same row).1 other));
+  rising = is.rising;
+  printed = is.printed;
+}
+
+-- over the rows of the files of all fragments that are used, the text is that of the candidate's answers over the files
+pub text_over_files : AnswersAreOverFiles → ChosenAreNamed → (catalogue : Catalogue) (query : Query) (plan : Plan) (set : List Bool) (numbers : List ℕ)
+    (contents : ℕ → List ℕ) (opened : List (List Row)) (text : List ℕ) → AreUsed (plan_query plan).body set numbers
+    → AreOpened catalogue.stores contents numbers opened
+    → IsAnswersText query (IsAnswerOver (IsRowOf (held_by opened)) (candidate (plan_query plan) set)) text
+    → IsRunText catalogue query plan set contents text
+text_over_files over named catalogue query plan set numbers contents opened text used are is =
+    same_rows query (IsAnswerOver (IsRowOf (held_by opened)) (candidate (plan_query plan) set))
+    (IsAnswerOver (IsFileRow catalogue.stores contents) (candidate (plan_query plan) set)) text
+    (over catalogue.stores contents numbers opened (candidate (plan_query plan) set) are (uses_only named plan set numbers used)) is
