@@ -1,5 +1,5 @@
 -- Fragments and texts of runs over catalogues that say the same.
-use Rattle.std.proofs.Common.{◌≡◌, ◌↔◌, ℕ, suc, Bool, List, [], ◌∷◌, map, length, slice_get, Option, Some, None, Contains, refl, sym, ap, subst, ◌∙◌}
+use Rattle.std.proofs.Common.{◌≡◌, ◌↔◌, ℕ, zero, suc, Bool, List, [], ◌∷◌, map, length, slice_get, Option, Some, None, Contains, refl, sym, ap, subst, ◌∙◌}
 use Rattle.std.proofs.lemmas.Option.{same_Some}
 use Rattle.esto_catalog.specs.Determined.{AreSame}
 use Rattle.esto_catalog.specs.declared.catalogue.Catalogue.{Catalogue}
@@ -28,7 +28,7 @@ use Rattle.esto_top.proofs.SameListLemmas.{IsSamePlan}
 mapped : {X Y : Type 0} (m : X → Y) (things : List X) (place : ℕ) (thing : X) → slice_get things place ≡ Some thing
     → slice_get (map m things) place ≡ Some (m thing)
 mapped m [] place thing is = absurd (cc)
-mapped m (first ∷ rest) 0 thing is = ap Some (ap m (same_Some first thing is))
+mapped m (first ∷ rest) zero thing is = ap Some (ap m (same_Some first thing is))
 mapped m (first ∷ rest) (suc place) thing is = mapped m rest place thing is
 
 -- what is the same of all things is the same of those at a place

@@ -1,7 +1,9 @@
 -- The files of the fragments that a set uses, opened one after the other.
-use Rattle.std.proofs.Common.{◌≡◌, ◌≢◌, ◌↔◌, ◌<◌, ◌≤◌, ◌+◌, ◌==◌, ℕ, suc, true, false, cond, List, [], ◌∷◌, ◌++◌, take, drop, length, get_or, drop-cons, add-one, Contains, slice_get, Option, Some, None, Result, Ok, Err, refl, sym, ap, subst, ◌∙◌, arith, nat_tests, inl, inr}
+use Rattle.std.proofs.Common.{◌≡◌, ◌≢◌, ◌↔◌, ◌<◌, ◌≤◌, ◌+◌, ◌==◌, ℕ, suc, true, false, cond, List, [], ◌∷◌, ◌++◌, take, drop, length, get_or, drop-cons, add-one, Contains, slice_get, Option, Some, None, Result, Ok, Err, refl, sym, ap, subst, ◌∙◌, arith, inl, inr}
+use Rattle.std.proofs.lemmas.Bool.Decides.{nat_tests}
 use Rattle.std.specs.Prelude.{IfSome}
 use Rattle.std.specs.List.{AllPairs}
+use Rattle.std.specs.Result.{IsErrAnd}
 use Rattle.std.proofs.lemmas.List.{take_more, take-append-drop, take_all}
 use Rattle.std.proofs.lemmas.List.Elements.{Contains-append_left}
 use Rattle.std.proofs.lemmas.Option.{same_Some}
@@ -22,6 +24,7 @@ use Rattle.esto_semantics.specs.declared.fact.Fact.{Fact}
 use Rattle.esto_stores.specs.Rows.{Row}
 use Rattle.esto_term.proofs.DistinctLemmas.{outside}
 use Rattle.esto_term.proofs.ListLemmas.{thing_at}
+use Rattle.esto_views.specs.declared.fragments.FragmentDef.{FragmentDef}
 use Rattle.esto_top.specs.Answers.{IsWant, IsCaused, Answers}
 use Rattle.esto_top.specs.Fetch.{fetches}
 use Rattle.esto_top.specs.Fragments.{IsStoredAt, content_fault, reads_content, opens_stored, opens_fragment, no_contents, with_content, opens_next, opens_fragments, Takes, Reads, OpensNext, OpensAll}
@@ -54,9 +57,15 @@ unfolding judges
 content_stops stored bytes name fault found is = refused (record { cause = tt }) (fault, found, ap (λ it. BadFragment it fault) is)
 
 -- the name of the fragment at the number
-pub same_name : (catalogue : Catalogue) (number : ℕ) (stored : Stored) → IsStoredAt catalogue number stored
-    → (own : Stored) → slice_get catalogue.fragments number ≡ Some own.definition → own.definition.name ≡ stored.definition.name
-same_name catalogue number stored at own is = ap (λ it. it.name) (same_Some own.definition stored.definition (sym is ∙ at.definition))
+pub same_name : (catalogue : Catalogue) (number : ℕ) (stored : Stored) → IsStoredAt catalogue number stored → (own : FragmentDef)
+    → slice_get catalogue.fragments number ≡ Some own → own.name ≡ stored.definition.name
+same_name catalogue number stored at own is = ap (λ (it : FragmentDef). it.name) (same_Some own stored.definition (sym is ∙ at.definition))
+
+-- there is a fragment at the number, with the store
+pub stored_at : (catalogue : Catalogue) (number : ℕ) (store : Store) → number < length catalogue.fragments → slice_get catalogue.stores number ≡ Some store
+    → (definition : FragmentDef) × IsStoredAt catalogue number (record { definition = definition; store = store })
+stored_at catalogue number store below is =
+    let found = thing_at catalogue.fragments number below in (found.0, record { definition = found.1; store = is })
 
 -- ---- one file
 
@@ -74,6 +83,13 @@ module _ (files : Option Files) (catalogue : Catalogue) (number : ℕ) (stored :
   pub fetch_stops : {rose : Type 0} {refusal : Status} → Stops IsWant (IsCaused rose) (fetches files stored.store.file FRAGMENT_LIMIT) refusal
       → Stops IsWant (IsCaused rose) (opens_fragment files catalogue number) refusal
   fetch_stops stops = found_stops (first_stops _ _ stops)
+
+  -- an error that `?` hands on
+  pub next_exit : {rose : Type 0} (old new : List (List Row)) (error : Status) (result : Result (Unit {0}) Status)
+      → IsErrAnd result (λ handed. handed ≡ error) → Stops IsWant (IsCaused rose) (fetches files stored.store.file FRAGMENT_LIMIT) error
+      → OpensNext files catalogue number old new rose result
+  next_exit old new error (Ok _) handed stops = absurd handed
+  next_exit old new error (Err handed_on) handed stops = rw handed (fetch_stops stops)
 
   module _ (bytes : List ℕ) (fetched : (fetches files stored.store.file FRAGMENT_LIMIT).goes bytes) where
     -- it is fetched and its content read
@@ -159,3 +175,10 @@ module _ (files : Option Files) (catalogue : Catalogue) (numbers : List ℕ) whe
       subst (λ (it : List ℕ). AreOpened catalogue.stores so_far.contents it opened) (take_all numbers index le) so_far.are,
       rows,
     )
+
+-- the error of one file that `?` hands on
+pub opening_exit : {rose : Type 0} (files : Option Files) (catalogue : Catalogue) (numbers : List ℕ) (error : Status) (result : Result (List (List Row)) Status)
+    → IsErrAnd result (λ handed. handed ≡ error) → Stops IsWant (IsCaused rose) (opens_fragments files catalogue numbers) error
+    → OpensAll files catalogue numbers rose result
+opening_exit files catalogue numbers error (Ok _) handed stops = absurd handed
+opening_exit files catalogue numbers error (Err handed_on) handed stops = rw handed stops

@@ -2,7 +2,7 @@
 use Rattle.std.proofs.Common.{◌≡◌, ◌≢◌, ◌↔◌, ◌<◌, ◌≤◌, ◌-◌, ℕ, Bool, List, [], ◌∷◌, map, length, All, Contains, slice_get, Option, Some, None, Result, Ok, Err, refl, sym, ap, subst, ◌∙◌, arith}
 use Rattle.std.specs.Prelude.{MatchOption}
 use Rattle.std.proofs.lemmas.List.{length-map}
-use Rattle.std.proofs.lemmas.Option.{slice_get_within}
+use Rattle.std.proofs.lemmas.Option.{slice_get_within, get_or_from_slice_get}
 use Rattle.esto_catalog.specs.declared.catalogue.Catalogue.{Catalogue}
 use Rattle.esto_course.specs.Course.{Course, Stops, judges, gives, and_then}
 use Rattle.esto_course.specs.Course.Stops.{refused}
@@ -68,7 +68,8 @@ place_within items (Some number) place is = is.1
 -- ---- the item
 
 all_at : (P : Listed → Type 0) (items : List Listed) → All P items → (place : ℕ) (item : Listed) → slice_get items place ≡ Some item → P item
-all_at P items all place item is = grind (all, is)
+all_at P items all place item is =
+    subst P (get_or_from_slice_get items place item item is) (all place item (slice_get_within items place item is))
 
 -- an item of the list has a listed set and its stated order
 pub item_of : (catalogue : Catalogue) (query : Query) (plan : Plan) (items : List Listed) → IsListOf catalogue query plan items → (place : ℕ) (item : Listed)
@@ -88,18 +89,19 @@ safe_order catalogue query plan item is = (item.set, is.order.is_order, is.set.0
 pub used_are_there : (plan : Plan) (fragments : List FragmentDef) (set : List Bool) (numbers : List ℕ) → IsPlanOver plan fragments
     → AreUsed (plan_query plan).body set numbers → (number : ℕ) → Contains numbers number → number < length fragments
 used_are_there plan fragments set numbers over used number inside =
-    let (place, has, atom, is_atom, relation) = (used.exact number).0 inside in
-    let (own, there, same) = Contains-map_from fact_of plan.atoms atom (Contains-at (plan_query plan).body place atom is_atom) in
-    let found = over own there in
-    let fragment : own.fragment ≡ number = ap (λ (it : Fact Term). it.relation) same ∙ relation in
-    subst (λ (it : ℕ). it < length fragments) fragment (slice_get_within fragments own.fragment found.0 found.1)
+    let place = (used.exact number).0 inside in
+    let atom : Fact Term = place.1.1.0 in
+    let own = Contains-map_from fact_of plan.atoms atom (Contains-at (plan_query plan).body place.0 atom place.1.1.1) in
+    let found = over own.0 own.1 in
+    let fragment : own.0.fragment ≡ number = ap (λ (it : Fact Term). it.relation) own.2 ∙ place.1.1.2 in
+    subst (λ (it : ℕ). it < length fragments) fragment (slice_get_within fragments own.0.fragment found.0 found.1)
 
 -- and they are all that its candidate uses
 pub uses_only : ChosenAreNamed → (plan : Plan) (set : List Bool) (numbers : List ℕ) → AreUsed (plan_query plan).body set numbers
     → UsesOnly numbers (candidate (plan_query plan) set)
 uses_only named plan set numbers used atom inside =
-    let (place, has, is_atom) = (named set (plan_query plan).body atom).0 inside in
-    (used.exact atom.relation).1 (place, has, (atom, is_atom, refl))
+    let found = (named set (plan_query plan).body atom).0 inside in
+    (used.exact atom.relation).1 (found.0, (found.1, (atom, found.2, refl)))
 
 -- ---- the text
 

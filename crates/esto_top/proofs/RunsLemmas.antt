@@ -1,6 +1,7 @@
 -- What `run` answers where the files say a catalogue and a query over it.
-use Rattle.std.proofs.Common.{◌≡◌, ◌≢◌, ◌⊎◌, ◌↔◌, ◌==◌, ◌<◌, ℕ, suc, true, false, Bool, IsTrue, List, [], ◌∷◌, map, length, slice_get, Contains, Option, Some, None, refl, sym, ap, subst, ◌∙◌, inl, inr, arith, nat_tests}
+use Rattle.std.proofs.Common.{◌≡◌, ◌≢◌, ◌⊎◌, ◌↔◌, ◌==◌, ◌<◌, ℕ, suc, true, false, Bool, IsTrue, List, [], ◌∷◌, map, length, slice_get, Contains, Option, Some, None, refl, sym, ap, subst, ◌∙◌, inl, inr, arith}
 use Rattle.std.specs.Prelude.{codes}
+use Rattle.std.proofs.lemmas.Bool.Decides.{nat_tests}
 use Rattle.std.proofs.lemmas.Option.{same_Some, none-some}
 use Rattle.either.specs.declared.Either.{Either}
 use Rattle.either.specs.declared.Either.TheVariants.{Left, Right}
@@ -373,9 +374,10 @@ module _ (sound : CataloguesAreSound) (one : HaveOneCatalogue) (apart : HaveNoEr
             -- the files of the used fragments are readable
             readable : (fragment : ℕ) → Contains numbers fragment → IsReadable files catalogue fragment (can.contents fragment)
             readable fragment inside =
-                let (at, has, atom, is_atom, relation) = (used_here.exact fragment).0 inside in
-                subst (λ (it : ℕ). IsReadable files catalogue it (can.contents it)) relation
-                (can.readable atom ((run_laws.named can.item.set (plan_query can.plan).body atom).1 (at, has, is_atom)))
+                let at = (used_here.exact fragment).0 inside in
+                let atom : Fact Term = at.1.1.0 in
+                subst (λ (it : ℕ). IsReadable files catalogue it (can.contents it)) at.1.1.2
+                (can.readable atom ((run_laws.named can.item.set (plan_query can.plan).body atom).1 (at.0, at.1.0, at.1.1.1)))
 
             opened_anyway : (refusal : Status) → IsCaused ⊥ refusal → (opens_fragments (Some files) other numbers).stops refusal → ⊥
             opened_anyway = opened_always files catalogue other alike can.contents numbers readable
@@ -501,7 +503,7 @@ run_words words catalogue_name query_name (Some number) files (word, is_number, 
     by_test : (test : Bool) → is_list_number word ≡ test
         → course_of (codes "run" ∷ catalogue_name ∷ query_name ∷ word ∷ []) files ≡ run_course files catalogue_name query_name (Some number)
     by_test true test = rw (test, number_is) refl
-    by_test false test = absurd (let h : IsTrue false = subst IsTrue test is_number in h)
+    by_test false test = let h : false ≡ true = sym test ∙ is_number in absurd (cc)
 
 module _ (sound : CataloguesAreSound) (one : HaveOneCatalogue) (apart : HaveNoError) (one_reading : HaveOneReading) (no_fault : HaveNoFault)
     (laws : ListingLaws) (list_laws : ListLaws) (run_laws : RunLaws) where
