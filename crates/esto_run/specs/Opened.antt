@@ -14,8 +14,8 @@ HaveWidth width rows = (row : Row) → Contains rows row → length row ≡ widt
 -- The rows are those of the fragments, a list for each, with as many cells as the fragment's view has columns.
 pub record AreRowsFor (fragments : List FragmentDef) (opened : List (List Row)) : Type 0 where
   pub many : length opened ≡ length fragments
-  pub wide : (number : ℕ) (fragment : FragmentDef) (rows : List Row) → slice_get fragments number ≡ Some fragment → slice_get opened number ≡ Some rows
-      → HaveWidth (length fragment.view.head) rows
+  pub wide : (number : ℕ) (fragment : FragmentDef) → slice_get fragments number ≡ Some fragment
+      → HaveWidth (length fragment.view.head) (held_by opened number)
 
 -- The rows of the fragments of these numbers are exactly those of their files.
 abbrev pub AreOpened : List Store → (ℕ → List ℕ) → List ℕ → List (List Row) → Type 0

@@ -1,5 +1,5 @@
 -- The rows of fragments' files, or the first fault of one.
-use Rattle.std.specs.Prelude.{◌≡◌, ◌↔◌, ℕ, List, Option, Some, None, Result, Ok, Err, slice_get, length, Contains}
+use Rattle.std.specs.Prelude.{◌≡◌, ◌↔◌, ℕ, List, Option, Some, None, Result, Ok, Err, slice_get, Contains}
 use Rattle.esto_catalog.specs.declared.catalogue.Shape.{Shape}
 use Rattle.esto_catalog.specs.declared.catalogue.Shape.TheVariants.{Table}
 use Rattle.esto_catalog.specs.declared.catalogue.Store.{Store}

@@ -1,5 +1,5 @@
 -- The fragments that a set of a plan's atoms uses.
-use Rattle.std.specs.Prelude.{◌≡◌, ◌↔◌, ℕ, ◌<◌, Bool, List, Some, slice_get, Contains, AllPairs}
+use Rattle.std.specs.Prelude.{◌≡◌, ◌↔◌, ◌⊎◌, ℕ, ◌<◌, Bool, List, [], ◌∷◌, ◌++◌, Some, slice_get, Contains, AllPairs}
 use Rattle.esto_term.specs.declared.term.Term.{Term}
 use Rattle.esto_semantics.specs.Sets.{Has}
 use Rattle.esto_semantics.specs.declared.fact.Fact.{Fact}
@@ -17,3 +17,9 @@ pub record UsesFirst (atoms : List (Fact Term)) (set : List Bool) (fragment numb
 pub record AreUsed (atoms : List (Fact Term)) (set : List Bool) (fragments : List ℕ) : Type 0 where
   pub exact : (fragment : ℕ) → Contains fragments fragment ↔ ((number : ℕ) × Uses atoms set fragment number)
   pub rising : AllPairs (λ fragment other. (number later : ℕ) → UsesFirst atoms set fragment number → UsesFirst atoms set other later → number < later) fragments
+
+-- The fragment of the atom of that number comes to the others, if the atom is in the set and the fragment isn't one of them.
+abbrev pub AddsUse : List Bool → ℕ → ℕ → List ℕ → List ℕ → Type 0
+AddsUse set number fragment old new =
+    ((¬ (Has set number) ⊎ (Has set number × Contains old fragment)) × (new ≡ old))
+    ⊎ (Has set number × ¬ (Contains old fragment) × (new ≡ old ++ fragment ∷ []))

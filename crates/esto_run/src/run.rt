@@ -15,9 +15,12 @@ use crate::opened::FragmentRows;
 use crate::stored::stored_fragments;
 use esto_access::Order;
 use esto_columns::{Codes, sorted_texts};
-use esto_exec::run_plan;
-use esto_plan::plan_of;
+use esto_exec::{plans_are_runnable, run_plan};
+use esto_plan::{
+    coded_rows_stay_coded, plan_of, results_are_candidate_answers, results_have_texts,
+};
 use esto_query::Query;
+use esto_semantics::chosen_atoms_are_named;
 use esto_term::{Bytes, OutOfMemory, TextRows};
 use esto_views::{FragmentDefs, Plan};
 use std::alloc::Global;
@@ -41,9 +44,16 @@ pub fn rows_of_set(
         (IsRowOf (held_by opened.now)) (candidate (plan_query plan.now) set) row) }
     ensures rising { IfOk result AreRising }
 {
+    plans_are_runnable();
+    results_are_candidate_answers();
+    results_have_texts();
+    coded_rows_stay_coded();
+    chosen_atoms_are_named();
     let mut codes = Codes::new(alloc);
     let stored = stored_fragments(alloc, fragments, opened, &mut codes)?;
     let steps = plan_of(alloc, order, plan, fragments, &mut codes)?;
+    // the count is read so that the texts are known to be distinct
+    let _count = codes.len();
     let rows = run_plan(alloc, &steps, stored.items())?;
     let texts = sorted_texts(alloc, &rows, &codes)?;
     Ok(texts)

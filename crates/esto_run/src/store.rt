@@ -11,6 +11,21 @@ use esto_term::TextRows;
 use esto_views::FragmentDef;
 use std::alloc::Global;
 
+// The rows of a file in this shape, with so many columns, or its first fault.
+fn rows_in(
+    alloc: Global,
+    shape: &Shape,
+    bytes: &[u8],
+    _columns: usize,
+) -> Result<TextRows, FileError>
+    ensures { GivesRows (IsRowIn shape.now bytes.now)
+        (first_fault_in shape.now _columns bytes.now) result }
+{
+    match shape {
+        Shape::Table(columns) => open_table(alloc, bytes, columns),
+    }
+}
+
 /// The rows of a fragment's file, in the shape of its store, or the file's first fault. Each row has as many cells as
 /// the fragment's view has columns.
 pub fn open_store(
@@ -24,7 +39,5 @@ pub fn open_store(
         (first_fault_in store.now.shape (length fragment.now.view.head) bytes.now) result }
     ensures wide { IfOk result (HaveWidth (length fragment.now.view.head)) }
 {
-    match &store.shape {
-        Shape::Table(columns) => open_table(alloc, bytes, columns),
-    }
+    rows_in(alloc, &store.shape, bytes, fragment.view.head.len())
 }

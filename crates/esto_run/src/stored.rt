@@ -1,39 +1,15 @@
 //! Rows of fragments as rows of codes that an executor asks.
-ghost use Rattle.std.specs.Prelude.{◌≡◌, map, length, IfOk, slice_get, Some};
+ghost use Rattle.std.specs.Prelude.{length, IfOk};
 ghost use Rattle.esto_columns.specs.Interned.{Grows};
-ghost use Rattle.esto_plan.specs.Planned.{inputs_of};
 ghost use Rattle.esto_run.specs.Opened.{AreRowsFor, HaveWidth};
 ghost use Rattle.esto_run.specs.Stored.{IsStored, AreStored};
 
 use crate::opened::FragmentRows;
-use esto_columns::{Codes, StoredRows, Ways, code_rows};
-use esto_term::{List, OutOfMemory, Places, TextRows, Values};
-use esto_views::{Access, AccessList, FragmentDef, FragmentDefs};
+use esto_columns::{Codes, StoredRows, code_rows};
+use esto_plan::{coded_rows_stay_coded, ways_of};
+use esto_term::{List, OutOfMemory, TextRows};
+use esto_views::{FragmentDef, FragmentDefs};
 use std::alloc::Global;
-
-/// The places of the pattern's inputs.
-fn inputs_of(alloc: Global, pattern: &Access) -> Result<Places, OutOfMemory>
-    ensures { IfOk result (λ it. it ≡ inputs_of pattern.now) }
-{
-    let mut inputs = Values::new(alloc);
-    'columns: for column in 0..pattern.len() {
-        if pattern.item(column) {
-            inputs.push(column)?;
-        }
-    }
-    Ok(inputs)
-}
-
-/// The ways in which a fragment of these patterns can be asked.
-fn ways_of(alloc: Global, patterns: &AccessList) -> Result<Ways, OutOfMemory>
-    ensures { IfOk result (λ it. it ≡ map inputs_of patterns.now) }
-{
-    let mut ways = List::new(alloc);
-    'patterns: for pattern in patterns.items() {
-        ways.push(inputs_of(alloc, pattern)?)?;
-    }
-    Ok(ways)
-}
 
 /// The rows of the fragment as codes. New texts get codes.
 fn stored(
@@ -60,13 +36,15 @@ pub(crate) fn stored_fragments(
     codes: &mut Codes,
 ) -> Result<List<StoredRows>, OutOfMemory>
     requires { AreRowsFor fragments.now opened.now }
-    ensures stored { IfOk result
+    ensures { IfOk result
         (AreStored codes.new fragments.now opened.now (length fragments.now)) }
-    ensures grown { Grows codes.old codes.new }
 {
+    coded_rows_stay_coded();
     let mut all = List::new(alloc);
     'fragments: for number in 0..fragments.len() {
-        let own = stored(alloc, fragments.item(number), opened.item(number), codes)?;
+        let fragment = fragments.item(number);
+        let rows = opened.item(number);
+        let own = stored(alloc, fragment, rows, codes)?;
         all.push(own)?;
     }
     Ok(all)
