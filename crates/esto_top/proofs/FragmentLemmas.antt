@@ -4,8 +4,8 @@ use Rattle.std.proofs.lemmas.Bool.Decides.{nat_tests}
 use Rattle.std.specs.Prelude.{IfSome}
 use Rattle.std.specs.List.{AllPairs}
 use Rattle.std.specs.Result.{IsErrAnd}
-use Rattle.std.proofs.lemmas.List.{take_more, take-append-drop, take_all}
-use Rattle.std.proofs.lemmas.List.Elements.{Contains-append_left}
+use Rattle.std.proofs.lemmas.List.{get_or_default, take_more, take-append-drop, take_all}
+use Rattle.std.proofs.lemmas.List.Elements.{Contains-append_left, Contains-get_or}
 use Rattle.std.proofs.lemmas.Option.{same_Some}
 use Rattle.esto_catalog.specs.declared.catalogue.Catalogue.{Catalogue}
 use Rattle.esto_catalog.specs.declared.catalogue.Store.{Store}
@@ -172,9 +172,18 @@ module _ (files : Option Files) (catalogue : Catalogue) (numbers : List ℕ) whe
     opening_ends le rows rose = (
       so_far.contents,
       each_goes (opens_next files catalogue) numbers (opens_fragments files catalogue numbers) so_far.counter index so_far.contents so_far.leads le,
-      subst (λ (it : List ℕ). AreOpened catalogue.stores so_far.contents it opened) (take_all numbers index le) so_far.are,
+      subst (λ (it : List ℕ). AreOpened catalogue.stores so_far.contents it opened) (take_all index numbers le) so_far.are,
       rows,
     )
+
+-- the number at a place of the list, as it is read off a slice of it
+pub number_inside : (numbers items : List ℕ) (index : ℕ) → items ≡ numbers → index < length items → Contains numbers (get_or items index 0)
+number_inside numbers items index is below = subst (λ (it : List ℕ). Contains it (get_or items index 0)) is (Contains-get_or items index 0 below)
+
+pub number_read : (numbers items : List ℕ) (index : ℕ) → items ≡ numbers → index < length items
+    → get_or items index 0 ≡ get_or numbers index (get_or items index 0)
+number_read numbers items index is below =
+    get_or_default items index 0 (get_or items index 0) below ∙ ap (λ (it : List ℕ). get_or it index (get_or items index 0)) is
 
 -- the error of one file that `?` hands on
 pub opening_exit : {rose : Type 0} (files : Option Files) (catalogue : Catalogue) (numbers : List ℕ) (error : Status) (result : Result (List (List Row)) Status)

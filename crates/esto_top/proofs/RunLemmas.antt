@@ -1,19 +1,21 @@
 -- The set that is run, and the text of its rows.
-use Rattle.std.proofs.Common.{◌≡◌, ◌≢◌, ◌↔◌, ◌<◌, ◌≤◌, ◌-◌, ℕ, Bool, List, [], ◌∷◌, map, length, All, Contains, slice_get, Option, Some, None, Result, Ok, Err, refl, sym, ap, subst, ◌∙◌, arith}
-use Rattle.std.specs.Prelude.{MatchOption}
+use Rattle.std.proofs.Common.{◌≡◌, ◌≢◌, ◌↔◌, ◌<◌, ◌≤◌, ◌-◌, ℕ, Bool, List, [], ◌∷◌, map, length, All, Contains, slice_get, get_or, Option, Some, None, Result, Ok, Err, refl, sym, ap, subst, ◌∙◌, arith}
+use Rattle.std.specs.List.{AllPairs}
+use Rattle.std.proofs.lemmas.List.Elements.{Contains-get_or}
 use Rattle.std.proofs.lemmas.List.{length-map}
 use Rattle.std.proofs.lemmas.Option.{slice_get_within, get_or_from_slice_get}
 use Rattle.esto_catalog.specs.declared.catalogue.Catalogue.{Catalogue}
 use Rattle.esto_course.specs.Course.{Course, Stops, judges, gives, and_then}
 use Rattle.esto_course.specs.Course.Stops.{refused}
-use Rattle.esto_list.specs.Items.{IsPickOf, sets_of, totals_of}
+use Rattle.esto_list.specs.Items.{sets_of, totals_of}
 use Rattle.esto_list.specs.declared.listing.Listed.{Listed}
 use Rattle.esto_query.specs.declared.query.Query.{Query}
 use Rattle.esto_run.specs.Answers.{IsAnswersText}
 use Rattle.esto_run.specs.Laws.{AnswersAreOverFiles, IsAnswerOver, UsesOnly}
 use Rattle.esto_run.specs.Opened.{AreOpened}
 use Rattle.esto_run.specs.Stores.{IsFileRow}
-use Rattle.esto_run.specs.Used.{AreUsed}
+use Rattle.esto_run.specs.Used.{AreUsed, UsesFirst}
+use Rattle.esto_run.proofs.UsedLemmas.{first_use}
 use Rattle.esto_plan.specs.Planned.{IsSafeOrder}
 use Rattle.esto_plan.specs.Rows.{IsRowOf, held_by}
 use Rattle.esto_semantics.specs.Access.{IsOrder, IsStatedOrder}
@@ -37,9 +39,9 @@ use Rattle.esto_top.specs.declared.status.Status.TheVariants.{NoRewriting, NoSuc
 -- ---- the choice
 
 module _ (items : List Listed) (number : Option ℕ) where
-  pub none_listed : (pick : Option ℕ) → pick ≡ None → IsPickOf items pick → Stops IsWant (IsCaused ⊥) (chooses items number) NoRewriting
+  pub none_listed : items ≡ [] → Stops IsWant (IsCaused ⊥) (chooses items number) NoRewriting
   unfolding judges
-  none_listed pick none is = refused (record { cause = tt }) (is_empty (subst (λ it. MatchOption it (items ≡ []) (IsPick (totals_of items))) none is) refl)
+  none_listed none = refused (record { cause = tt }) (is_empty none refl)
 
   pub picked : (pick : ℕ) → number ≡ None → IsPick (totals_of items) pick → (chooses items number).goes pick
   unfolding judges
@@ -95,6 +97,14 @@ used_are_there plan fragments set numbers over used number inside =
     let found = over own.0 own.1 in
     let fragment : own.0.fragment ≡ number = ap (λ (it : Fact Term). it.relation) own.2 ∙ place.1.1.2 in
     subst (λ (it : ℕ). it < length fragments) fragment (slice_get_within fragments own.0.fragment found.0 found.1)
+
+-- each of them once
+pub used_once : (atoms : List (Fact Term)) (set : List Bool) (numbers : List ℕ) → AreUsed atoms set numbers → AllPairs ◌≢◌ numbers
+used_once atoms set numbers used = λ i j d less within same.
+    let use_of = (used.exact (get_or numbers i d)).0 (Contains-get_or numbers i d (omega (arith, less, within))) in
+    let first = first_use atoms set (get_or numbers i d) use_of.0 use_of.1 in
+    let below = used.rising i j d less within first.0 first.0 first.2 (subst (λ (it : ℕ). UsesFirst atoms set it first.0) same first.2) in
+    omega (arith, below)
 
 -- and they are all that its candidate uses
 pub uses_only : ChosenAreNamed → (plan : Plan) (set : List Bool) (numbers : List ℕ) → AreUsed (plan_query plan).body set numbers

@@ -2,11 +2,12 @@
 use Rattle.std.proofs.Common.{◌≡◌, ◌<◌, ◌≤◌, ◌+◌, ◌-◌, ◌*◌, ℕ, zero, suc, true, false, Bool, List, ◌∷◌, drop, length, get_or, drop-cons, add-one, refl, sym, ap, subst, ◌∙◌, arith}
 use Rattle.std.proofs.lemmas.Bool.Decides.{nat_tests}
 use Rattle.std.specs.List.{list_all}
+use Rattle.std.proofs.lemmas.List.{get_or_default}
 use Rattle.std.proofs.lemmas.List.Folds.{list_all_at}
 use Rattle.esto_top.specs.Grammar.{is_digit, value_after}
 
 -- the power of ten
-pub tens : ℕ → ℕ
+abbrev pub tens : ℕ → ℕ
 tens zero = 1
 tens (suc n) = 10 * tens n
 
@@ -48,3 +49,7 @@ below_more value index digit next less le grown = omega (arith, less, le, grown,
 -- nine digits stay far below what a word holds
 pub stays_low : (value index : ℕ) → value < tens index → index < 9 → value < 100_000_000
 stays_low value index less low = omega (arith, less, tens_le index 8 (omega (arith, low)))
+
+-- a digit read off the list with a number in reserve is the one read off it with itself
+pub number_itself : (digits : List ℕ) (index : ℕ) → index < length digits → get_or digits index 0 ≡ get_or digits index (get_or digits index 0)
+number_itself digits index below = get_or_default digits index 0 (get_or digits index 0) below
