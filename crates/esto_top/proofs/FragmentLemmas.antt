@@ -16,6 +16,7 @@ use Rattle.esto_course.proofs.Steps.{Leads, first_stops, then_stops, then_goes, 
 use Rattle.esto_lines.specs.Faults.{Gives}
 use Rattle.esto_ports.specs.Files.{Files}
 use Rattle.esto_ports.specs.declared.file_fault.FileError.{FileError}
+use Rattle.esto_ports.specs.declared.file_fault.FileError.TheVariants.{Fault}
 use Rattle.esto_ports.specs.declared.file_fault.FileFault.{FileFault}
 use Rattle.esto_plan.specs.Rows.{IsRowOf, held_by}
 use Rattle.esto_run.specs.Opened.{AreOpened, AreRowsFor}
@@ -46,6 +47,13 @@ module _ (catalogue : Catalogue) (number : ℕ) (bytes : List ℕ) (result : Res
       subst (λ (it : Option Store). IfSome it (λ store. Gives tt (first_fault_in store.shape (length stored.definition.view.head) bytes) result)) at.store
       (subst (λ it. IfSome it (λ fragment. IfSome (slice_get catalogue.stores number) (λ store.
       Gives tt (first_fault_in store.shape (length fragment.view.head) bytes) result))) at.definition gives)
+
+-- the error that was given is the first fault
+pub fault_given : (stored : Stored) (bytes same : List ℕ) (error : FileError) (fault : FileFault) → same ≡ bytes → error ≡ Fault fault
+    → Gives {A = Unit {0}} tt (content_fault stored same) (Err error) → content_fault stored bytes ≡ Some fault
+fault_given stored bytes same error fault is error_is gives =
+    subst (λ (it : List ℕ). content_fault stored it ≡ Some fault) is
+    (subst (λ (it : FileError). Gives {A = Unit {0}} tt (content_fault stored same) (Err it)) error_is gives)
 
 pub content_goes : (stored : Stored) (bytes : List ℕ) → content_fault stored bytes ≡ None → (reads_content stored bytes).goes tt
 unfolding judges

@@ -1,16 +1,20 @@
 -- The set that is run, and the text of its rows.
+use Rattle.either.specs.declared.Either.TheVariants.{Left, Right}
 use Rattle.std.proofs.Common.{◌≡◌, ◌≢◌, ◌↔◌, ◌<◌, ◌≤◌, ◌-◌, ℕ, Bool, List, [], ◌∷◌, map, length, All, Contains, slice_get, get_or, Option, Some, None, Result, Ok, Err, refl, sym, ap, subst, ◌∙◌, arith}
 use Rattle.std.specs.List.{AllPairs}
 use Rattle.std.proofs.lemmas.List.Elements.{Contains-get_or}
 use Rattle.std.proofs.lemmas.List.{length-map}
 use Rattle.std.proofs.lemmas.Option.{slice_get_within, get_or_from_slice_get}
 use Rattle.esto_catalog.specs.declared.catalogue.Catalogue.{Catalogue}
+use Rattle.esto_chase_laws.specs.declared.clash.Clash.{Clash}
 use Rattle.esto_course.specs.Course.{Course, Stops, judges, gives, and_then}
 use Rattle.esto_course.specs.Course.Stops.{refused}
+use Rattle.esto_course.proofs.Steps.{caused_more, first_stops, then_goes, then_stops}
 use Rattle.esto_list.specs.Items.{sets_of, totals_of}
 use Rattle.esto_list.specs.declared.listing.Listed.{Listed}
+use Rattle.esto_ports.specs.Files.{Files}
 use Rattle.esto_query.specs.declared.query.Query.{Query}
-use Rattle.esto_run.specs.Answers.{IsAnswersText}
+use Rattle.esto_run.specs.Answers.{IsAnswersText, rows_text}
 use Rattle.esto_run.specs.Laws.{AnswersAreOverFiles, IsAnswerOver, UsesOnly}
 use Rattle.esto_run.specs.Opened.{AreOpened}
 use Rattle.esto_run.specs.Stores.{IsFileRow}
@@ -30,11 +34,15 @@ use Rattle.esto_views.specs.Plans.{IsPlanOver, fact_of, plan_query}
 use Rattle.esto_views.specs.declared.fragments.FragmentDef.{FragmentDef}
 use Rattle.esto_views.specs.declared.plan.Plan.{Plan}
 use Rattle.esto_top.specs.Answers.{IsWant, IsCaused, Answers}
-use Rattle.esto_top.specs.Listing.{IsListOf}
-use Rattle.esto_top.specs.Run.{IsItemOf, IsPlace, HasNoPlace, IsRunText, chooses}
+use Rattle.esto_top.specs.Fragments.{opens_fragments}
+use Rattle.esto_top.specs.Listing.{IsClash, IsListOf, IsPlanned}
+use Rattle.esto_top.specs.Run.{IsItemOf, IsPlace, HasNoPlace, IsRunText, chooses, ends_query, lists_plan, runs_end, runs_item, runs_plan, runs_query}
 use Rattle.esto_top.specs.Run.HasNoPlace.{is_empty, is_above}
+use Rattle.esto_top.specs.declared.ending.Reply.{Reply}
+use Rattle.esto_top.specs.declared.ending.Reply.TheVariants.{Done, Unsatisfiable}
 use Rattle.esto_top.specs.declared.status.Status.{Status}
 use Rattle.esto_top.specs.declared.status.Status.TheVariants.{NoRewriting, NoSuchNumber}
+use Rattle.esto_top.proofs.Steps.{caused_weaker}
 
 -- ---- the choice
 
@@ -135,3 +143,62 @@ text_over_files over named catalogue query plan set numbers contents opened text
     same_rows query (IsAnswerOver (IsRowOf (held_by opened)) (candidate (plan_query plan) set))
     (IsAnswerOver (IsFileRow catalogue.stores contents) (candidate (plan_query plan) set)) text
     (over catalogue.stores contents numbers opened (candidate (plan_query plan) set) are (uses_only named plan set numbers used)) is
+
+-- ---- the item's course
+
+module _ (files : Option Files) (catalogue : Catalogue) (query : Query) (plan : Plan) (item : Listed) (numbers : List ℕ)
+    (used : AreUsed (plan_query plan).body item.set numbers) where
+  -- a file of the set's is not opened
+  pub item_stops : {rose : Type 0} {refusal : Status} → Stops IsWant (IsCaused rose) (opens_fragments files catalogue numbers) refusal
+      → Stops IsWant (IsCaused rose) (runs_item files catalogue query plan item) refusal
+  unfolding judges
+  item_stops stops = then_stops (judges (AreUsed (plan_query plan).body item.set) (λ _. ⊥)) _ numbers used (first_stops _ _ stops)
+
+  -- all are opened, and the text is made
+  pub item_goes : (contents : ℕ → List ℕ) (text : List ℕ) → (opens_fragments files catalogue numbers).goes contents
+      → IsRunText catalogue query plan item.set contents text → (runs_item files catalogue query plan item).goes (Done text)
+  unfolding and_then judges gives
+  item_goes contents text goes is = (numbers, used, (contents, goes, (text, is, refl)))
+
+-- ---- the plan's course
+
+module _ (files : Option Files) (catalogue : Catalogue) (query : Query) (number : Option ℕ) (plan : Plan) (items : List Listed)
+    (list : IsListOf catalogue query plan items) where
+  -- no item is chosen
+  pub choice_stops : {rose : Type 0} {refusal : Status} → Stops IsWant (IsCaused ⊥) (chooses items number) refusal
+      → Stops IsWant (IsCaused rose) (runs_plan files catalogue query number plan) refusal
+  unfolding judges
+  choice_stops {refusal = refusal} stops = then_stops (lists_plan catalogue query plan) _ items list
+      (first_stops _ _ (caused_more _ refusal (caused_weaker (λ none. absurd none)) stops))
+
+  module _ (place : ℕ) (chosen : (chooses items number).goes place) (item : Listed) (there : slice_get items place ≡ Some item) where
+    -- the chosen item is not run
+    pub chosen_stops : {rose : Type 0} {refusal : Status} → Stops IsWant (IsCaused rose) (runs_item files catalogue query plan item) refusal
+        → Stops IsWant (IsCaused rose) (runs_plan files catalogue query number plan) refusal
+    unfolding judges
+    chosen_stops stops = then_stops (lists_plan catalogue query plan) _ items list (then_stops (chooses items number) _ place chosen
+        (then_stops (judges (λ it. slice_get items place ≡ Some it) (λ _. ⊥)) (runs_item files catalogue query plan) item there stops))
+
+    pub chosen_goes : (reply : Reply) → (runs_item files catalogue query plan item).goes reply → (runs_plan files catalogue query number plan).goes reply
+    unfolding judges
+    chosen_goes reply goes = then_goes (lists_plan catalogue query plan) _ items reply list (then_goes (chooses items number) _ place reply chosen
+        (then_goes (judges (λ it. slice_get items place ≡ Some it) (λ _. ⊥)) (runs_item files catalogue query plan) item reply there goes))
+
+-- ---- the query's course
+
+module _ (files : Option Files) (catalogue : Catalogue) (query : Query) (number : Option ℕ) where
+  pub plan_goes : (plan : Plan) → IsPlanned catalogue query plan → (reply : Reply) → (runs_plan files catalogue query number plan).goes reply
+      → (runs_query files catalogue query number).goes reply
+  unfolding judges
+  plan_goes plan planned reply goes = then_goes (ends_query catalogue query) (runs_end files catalogue query number) (Left plan) reply planned goes
+
+  pub plan_stops : {rose : Type 0} {refusal : Status} (plan : Plan) → IsPlanned catalogue query plan
+      → Stops IsWant (IsCaused rose) (runs_plan files catalogue query number plan) refusal
+      → Stops IsWant (IsCaused rose) (runs_query files catalogue query number) refusal
+  unfolding judges
+  plan_stops plan planned stops = then_stops (ends_query catalogue query) (runs_end files catalogue query number) (Left plan) planned stops
+
+  pub clash_goes : (clash : Clash) → IsClash catalogue query clash → (reply : Reply) → reply ≡ Unsatisfiable clash (rows_text query [])
+      → (runs_query files catalogue query number).goes reply
+  unfolding judges gives
+  clash_goes clash clashes reply is = then_goes (ends_query catalogue query) (runs_end files catalogue query number) (Right clash) reply clashes is
