@@ -36,7 +36,8 @@ use Rattle.esto_views.specs.declared.plan.Plan.{Plan}
 use Rattle.esto_top.specs.Answers.{IsWant, IsCaused, Answers}
 use Rattle.esto_top.specs.Fragments.{opens_fragments}
 use Rattle.esto_top.specs.Listing.{IsClash, IsListOf, IsPlanned}
-use Rattle.esto_top.specs.Run.{IsItemOf, IsPlace, HasNoPlace, IsRunText, chooses, ends_query, lists_plan, runs_end, runs_item, runs_plan, runs_query}
+use Rattle.esto_top.specs.Opening.{opens_catalogue, opens_query}
+use Rattle.esto_top.specs.Run.{IsItemOf, IsPlace, HasNoPlace, IsRunText, chooses, ends_query, lists_plan, runs_end, run_course, runs_item, runs_plan, runs_query}
 use Rattle.esto_top.specs.Run.HasNoPlace.{is_empty, is_above}
 use Rattle.esto_top.specs.declared.ending.Reply.{Reply}
 use Rattle.esto_top.specs.declared.ending.Reply.TheVariants.{Done, Unsatisfiable}
@@ -202,3 +203,22 @@ module _ (files : Option Files) (catalogue : Catalogue) (query : Query) (number 
       → (runs_query files catalogue query number).goes reply
   unfolding judges gives
   clash_goes clash clashes reply is = then_goes (ends_query catalogue query) (runs_end files catalogue query number) (Right clash) reply clashes is
+
+-- ---- the whole course
+
+module _ (files read_files query_files : Option Files) (same : read_files ≡ files) (same_too : query_files ≡ read_files)
+    (catalogue_name query_name : List ℕ) (number : Option ℕ) (catalogue : Catalogue) (read : (opens_catalogue files catalogue_name).goes catalogue)
+    (query : Query) (read_too : (opens_query read_files query_name catalogue).goes query) where
+  query_read : (opens_query files query_name catalogue).goes query
+  query_read = subst (λ (it : Option Files). (opens_query it query_name catalogue).goes query) same read_too
+
+  pub course_goes : (reply : Reply) → (runs_query query_files catalogue query number).goes reply → (run_course files catalogue_name query_name number).goes reply
+  course_goes reply goes = then_goes (opens_catalogue files catalogue_name) _ catalogue reply read
+      (then_goes (opens_query files query_name catalogue) (λ it. runs_query files catalogue it number) query reply query_read
+      (subst (λ (it : Option Files). (runs_query it catalogue query number).goes reply) (same_too ∙ same) goes))
+
+  pub course_stops : {rose : Type 0} {refusal : Status} → Stops IsWant (IsCaused rose) (runs_query query_files catalogue query number) refusal
+      → Stops IsWant (IsCaused rose) (run_course files catalogue_name query_name number) refusal
+  course_stops {rose} {refusal} stops = then_stops (opens_catalogue files catalogue_name) _ catalogue read
+      (then_stops (opens_query files query_name catalogue) (λ it. runs_query files catalogue it number) query query_read
+      (subst (λ (it : Option Files). Stops IsWant (IsCaused rose) (runs_query it catalogue query number) refusal) (same_too ∙ same) stops))

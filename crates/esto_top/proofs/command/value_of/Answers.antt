@@ -20,8 +20,7 @@ overflow_add-value c =
 pub digits-preserved : goal.digits-preserved
 digits-preserved c =
     let is = number_itself c.args.digits.now c.digits.digit-index c.digits-test.true in
-    let digit = digit_at c.args.digits.now c.digits.digit-index _ c.digits-test.true is c.requires.digits in
-    (
+    let digit = digit_at c.args.digits.now c.digits.digit-index _ c.digits-test.true is c.requires.digits in (
       value_more c.args.digits.now c.digits.digit-index _ c.digits-test.true is c.digits.value _ _ refl c.digits.invariant.0,
       below_more c.digits.value c.digits.digit-index _ _ c.digits.invariant.1 digit.1 refl,
     )

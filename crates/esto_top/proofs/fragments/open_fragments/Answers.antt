@@ -37,8 +37,7 @@ pub numbers-preserved : goal.numbers-preserved
 numbers-preserved g c =
     let opens = rw c.numbers.invariant.0 at c.in_ok-open_next.ensures.answer in
     let items = c.items-number-items.result.now in
-    let below : c.numbers.number-index < length c.args.numbers.now = omega (arith, c.numbers-test.true, ap length c.items-number-items.ensures) in
-    (
+    let below : c.numbers.number-index < length c.args.numbers.now = omega (arith, c.numbers-test.true, ap length c.items-number-items.ensures) in (
       c.in_ok-open_next.ensures.files ∙ c.numbers.invariant.0,
       omega (arith, c.numbers.invariant.1, c.in_ok-open_next.ensures.later),
       c.open_next.ensures.rows,
