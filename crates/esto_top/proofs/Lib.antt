@@ -2,6 +2,7 @@ pub mod Steps
 pub mod ValueLemmas
 pub mod FragmentLemmas
 pub mod RunLemmas
+pub mod ListCourseLemmas
 pub mod Mediation
 pub mod CheckLemmas
 pub mod OpeningLemmas
