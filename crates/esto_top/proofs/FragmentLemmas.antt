@@ -116,7 +116,8 @@ still_opened : (stores : List Store) (contents : ℕ → List ℕ) (numbers : Li
 still_opened stores contents numbers opened number bytes absent are fact inside =
     let same : with_content contents number bytes fact.relation ≡ contents fact.relation = elsewhere fact.relation
     (λ is. absent (subst (Contains numbers) is inside)) in
-    subst (λ (it : List ℕ). IsRowOf (held_by opened) fact ↔ ((store : Store) × (slice_get stores fact.relation ≡ Some store) × IsRowIn store.shape it fact.terms))
+    subst (λ (it : List ℕ). IsRowOf (held_by opened) fact
+    ↔ ((store : Store) × (slice_get stores fact.relation ≡ Some store) × IsRowIn store.shape it fact.terms))
     (sym same) (are fact inside)
   where
     elsewhere : (other : ℕ) → other ≢ number → with_content contents number bytes other ≡ contents other

@@ -201,7 +201,8 @@ module _ (sound : CataloguesAreSound) (one : HaveOneCatalogue) (apart : HaveNoEr
   list_leads : Leads (list_course (Some files) catalogue_name query_name) Printed Refused
   list_leads =
       then-leads _ _ _ _ _ (catalogue_leads sound one apart one_reading no_fault files catalogue_name query_name catalogue query say Refused) (λ other is_other.
-      then-leads _ _ _ _ _ (query_leads sound one apart one_reading no_fault files catalogue_name query_name catalogue query say other is_other Refused) (λ read is_query.
+      then-leads _ _ _ _ _ (query_leads sound one apart one_reading no_fault files catalogue_name query_name catalogue query say other is_other Refused)
+      (λ read is_query.
       then-leads _ _ _ _ _ (text_leads other is_other read is_query) (λ text has_text. reply_leads other is_other read is_query text has_text)))
 
   module _ (laws : ListingLaws) where
@@ -209,7 +210,8 @@ module _ (sound : CataloguesAreSound) (one : HaveOneCatalogue) (apart : HaveNoEr
     printed_exact : (reply : Reply) → Printed reply → HasAnswers catalogue query × IsExactList catalogue query (reply_status reply) (reply_text reply)
     printed_exact reply run =
         let alike = one say.catalogue_bytes catalogue run.catalogue say.is_catalogue run.is_catalogue in
-        let same = same_as_read sound one apart one_reading no_fault files catalogue_name query_name catalogue query say run.catalogue run.is_catalogue run.query run.is_query in
+        let same = same_as_read sound one apart one_reading no_fault files catalogue_name query_name catalogue query say
+        run.catalogue run.is_catalogue run.query run.is_query in
         let plan = run.has_text.plan in
         let planned = planned_moved catalogue run.catalogue alike query run.query same plan run.has_text.planned in
         let listing = listing_moved catalogue run.catalogue alike query run.query same plan run.text run.has_text.listing in (
@@ -225,7 +227,8 @@ module _ (sound : CataloguesAreSound) (one : HaveOneCatalogue) (apart : HaveNoEr
         → ¬ (HasAnswers catalogue query) × IsExactRefusal catalogue query said text
     refused_exact said text run text_is =
         let alike = one say.catalogue_bytes catalogue run.catalogue say.is_catalogue run.is_catalogue in
-        let same = same_as_read sound one apart one_reading no_fault files catalogue_name query_name catalogue query say run.catalogue run.is_catalogue run.query run.is_query in
+        let same = same_as_read sound one apart one_reading no_fault files catalogue_name query_name catalogue query say
+        run.catalogue run.is_catalogue run.query run.is_query in
         let clashes = clash_moved catalogue run.catalogue alike query run.query same run.clash run.clashes in
         (clash_excludes laws catalogue query run.clash clashes, (run.clash, clashes, run.refusal_is, text_is ∙ ap line_of run.refusal_is))
 

@@ -45,7 +45,8 @@ use Rattle.esto_top.proofs.SameListLemmas.{ListLaws, IsSamePlan, items_one}
 -- ---- the choice
 
 -- a list has one place to run
-pub one_place : PickIsOne → (items : List Listed) (number : Option ℕ) (place other : ℕ) → IsPlace items number place → IsPlace items number other → place ≡ other
+pub one_place : PickIsOne → (items : List Listed) (number : Option ℕ) (place other : ℕ) → IsPlace items number place → IsPlace items number other
+    → place ≡ other
 one_place one items None place other is is_other = one (totals_of items) place other is is_other
 one_place one items (Some number) place other is is_other = is.0 ∙ sym is_other.0
 
@@ -83,7 +84,8 @@ module _ (files : Files) (catalogue other : Catalogue) (alike : AreSame catalogu
     there : IsStoredAt other number other_stored
 
   module _ (number : ℕ) (stored other_stored : Stored) (are : AreStoredAt number stored other_stored) where
-    faults_one : (bytes : List ℕ) (fault other_fault : FileFault) → content_fault stored bytes ≡ Some fault → content_fault other_stored bytes ≡ Some other_fault
+    faults_one : (bytes : List ℕ) (fault other_fault : FileFault)
+        → content_fault stored bytes ≡ Some fault → content_fault other_stored bytes ≡ Some other_fault
         → fault ≡ other_fault
     faults_one bytes fault other_fault is is_other =
         same_Some fault other_fault (sym is ∙ same_fault catalogue other alike number stored other_stored are.here are.there bytes ∙ is_other)
@@ -91,7 +93,8 @@ module _ (files : Files) (catalogue other : Catalogue) (alike : AreSame catalogu
     read_agree : (bytes : List ℕ) → AgreeCalmly ◌≡◌ (reads_content stored bytes) (reads_content other_stored bytes)
     read_agree bytes = judges_agree _ _ _ _ _ _ (λ value other_value is is_other. refl)
         (λ said other_said caused other_caused is is_other. is.2 ∙ (λ i. status.BadFragment
-        (same_named catalogue other alike number stored other_stored are.here are.there i) (faults_one bytes is.0 is_other.0 is.1 is_other.1 i)) ∙ sym is_other.2)
+        (same_named catalogue other alike number stored other_stored are.here are.there i)
+        (faults_one bytes is.0 is_other.0 is.1 is_other.1 i)) ∙ sym is_other.2)
         (λ value said caused none is. none-some is.0
         (sym none ∙ same_fault catalogue other alike number stored other_stored are.here are.there bytes ∙ is.1))
         (λ value said caused none is. none-some is.0
@@ -152,7 +155,8 @@ module _ (files : Files) (catalogue other : Catalogue) (alike : AreSame catalogu
           text other_text here (run_text_moved catalogue other alike query other_query same plan other_plan plans set contents other_text there))
           (λ said other_said caused other_caused here there. absurd here) (λ value said caused here there. there) (λ value said caused here there. there)
 
-      item_agree : (item : Listed) → AgreeCalmly ◌≡◌ (runs_item (Some files) catalogue query plan item) (runs_item (Some files) other other_query other_plan item)
+      item_agree : (item : Listed) → AgreeCalmly ◌≡◌ (runs_item (Some files) catalogue query plan item)
+          (runs_item (Some files) other other_query other_plan item)
       item_agree item =
           then_agree _ ◌≡◌ ◌≡◌ _ _ _ _ (used_agree item.set) (λ numbers others goes one.
           then_agree _ ◌≡◌ ◌≡◌ _ _ _ _

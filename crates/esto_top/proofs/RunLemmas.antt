@@ -212,7 +212,8 @@ module _ (files read_files query_files : Option Files) (same : read_files ≡ fi
   query_read : (opens_query files query_name catalogue).goes query
   query_read = subst (λ (it : Option Files). (opens_query it query_name catalogue).goes query) same read_too
 
-  pub course_goes : (reply : Reply) → (runs_query query_files catalogue query number).goes reply → (run_course files catalogue_name query_name number).goes reply
+  pub course_goes : (reply : Reply) → (runs_query query_files catalogue query number).goes reply
+      → (run_course files catalogue_name query_name number).goes reply
   course_goes reply goes = then_goes (opens_catalogue files catalogue_name) _ catalogue reply read
       (then_goes (opens_query files query_name catalogue) (λ it. runs_query files catalogue it number) query reply query_read
       (subst (λ (it : Option Files). (runs_query it catalogue query number).goes reply) (same_too ∙ same) goes))

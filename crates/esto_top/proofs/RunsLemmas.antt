@@ -100,7 +100,27 @@ module _ (files : Files) (catalogue : Catalogue) (query : Query) (number : Optio
   run_stops refusal caused (inr (Left plan, planned, inr (items, list, inr (place, chosen, inr (item, there, inl never))))) = absurd never
   run_stops refusal caused (inr (Left plan, planned, inr (items, list, inr (place, chosen, inr (item, there, inr (numbers, used, inl stops)))))) =
       not_opened plan planned items list place chosen item there numbers used caused stops
-  run_stops refusal caused (inr (Left plan, planned, inr (items, list, inr (place, chosen, inr (item, there, inr (numbers, used, inr (contents, opened, inl never))))))) =
+  run_stops refusal caused (inr (
+    Left plan,
+    planned,
+    inr (
+      items,
+      list,
+      inr (
+        place,
+        chosen,
+        inr (
+          item,
+          there,
+          inr (
+            numbers,
+            used,
+            inr (contents, opened, inl never),
+          ),
+        ),
+      ),
+    ),
+  )) =
       absurd never
   run_stops refusal caused (inr (
     Left plan,
@@ -186,7 +206,8 @@ module _ (files : Files) (catalogue other : Catalogue) (alike : AreSame catalogu
       then-leads _ _ (IsStoredAt other number) _ Never (judges-leads _ _ Never (λ refusal caused never. never)) (λ other_stored other_at.
       then-leads _ _ (λ got. got ≡ bytes) _ Never
       (fetches-leads files other_stored.store.file FRAGMENT_LIMIT bytes
-      (subst (λ (it : Store). HasWithin files it.file FRAGMENT_LIMIT bytes) (same_store catalogue other alike number stored other_stored at other_at) has) Never)
+      (subst (λ (it : Store). HasWithin files it.file FRAGMENT_LIMIT bytes)
+      (same_store catalogue other alike number stored other_stored at other_at) has) Never)
       (λ got is.
       then-leads _ _ (λ _. content_fault other_stored got ≡ None) _ Never
       (judges-leads _ _ Never (λ refusal caused (fault, found, said). none-some fault
@@ -222,7 +243,10 @@ module _ (files : Files) (catalogue other : Catalogue) (alike : AreSame catalogu
         ])
           where
             own : (it : ℕ) → with_content before it (want it) it ≡ want it
-            own it = elim (content_cases before it (want it) it) [ inl changed ↦ changed.1 | inr stays ↦ (let test : (it == it) ≡ true = grind (arith, nat_tests) in rw test refl) ]
+            own it = elim (content_cases before it (want it) it) [
+              | inl changed ↦ changed.1
+              | inr stays ↦ (let test : (it == it) ≡ true = grind (arith, nat_tests) in rw test refl)
+            ]
 
         wider : (next : ℕ → List ℕ) → next ≡ with_content before first (want first) → (got : ℕ → List ℕ) → AreWanted rest next got
             → AreWanted (first ∷ rest) before got
@@ -321,7 +345,8 @@ module _ (sound : CataloguesAreSound) (one : HaveOneCatalogue) (apart : HaveNoEr
       then-leads _ _ _ _ _ (query_leads sound one apart one_reading no_fault files catalogue_name query_name catalogue query say other is_other HasStopped)
       (λ read is_query. let leads = query_runs files other read number in record {
         goes = λ reply goes. record { other = other; is_other = is_other; read = read; is_query = is_query; goes = leads.goes reply goes };
-        stops = λ refusal caused stops. record { other = other; is_other = is_other; read = read; is_query = is_query; stops = leads.stops refusal caused stops };
+        stops = λ refusal caused stops.
+            record { other = other; is_other = is_other; read = read; is_query = is_query; stops = leads.stops refusal caused stops };
       }))
 
   module _ (laws : ListingLaws) (list_laws : ListLaws) (run_laws : RunLaws) where

@@ -69,6 +69,7 @@ module _ (sound : CataloguesAreSound) (one : HaveOneCatalogue) (apart : HaveNoEr
             no_fault form.Query other.words (arities_of other.schema) say.query_bytes say.named fault (sound other).vocabulary reading first
 
   -- what was read is the catalogue and the query that the files say
-  pub same_as_read : (other : Catalogue) → IsCatalogueOf say.catalogue_bytes other → (read : Query) → IsQueryOf other say.query_bytes read → IsSameQuery query read
+  pub same_as_read : (other : Catalogue) → IsCatalogueOf say.catalogue_bytes other → (read : Query) → IsQueryOf other say.query_bytes read
+      → IsSameQuery query read
   same_as_read other is_other read is_query =
       same_reading one_reading (sound other).vocabulary say.query_bytes query read (say.named, reading other is_other, say.query_is) is_query

@@ -14,8 +14,8 @@ use Rattle.esto_top.specs.declared.status.Status.TheVariants.{Usage, NotBuilt}
 use Rattle.esto_top.specs.declared.command.TheConstants.{MAX_DIGITS}
 use Rattle.esto_top.specs.declared.status.Status.{Status}
 
--- What words of the grammar ask for: the check of a catalogue's file; the list for a catalogue's and a query's file; the run for them of the pick, or of the set
--- of a number of the list; or what is not built yet.
+-- What words of the grammar ask for: the check of a catalogue's file; the list for a catalogue's and a query's file; the run for them of the pick, or of the
+-- set of a number of the list; or what is not built yet.
 pub data Request : Type 0 where
   CheckOf : List ℕ → Request
   ListFor : List ℕ → List ℕ → Request

@@ -66,8 +66,8 @@ lists_plan catalogue query plan = judges (IsListOf catalogue query plan) (λ _. 
 abbrev pub chooses : List Listed → Option ℕ → Course Status ℕ
 chooses items number = judges (IsPlace items number) (HasNoPlace items number)
 
--- The fragments that the item's set uses are found and their files opened, each once, in rising order of the least number of their atoms in the set; and the text
--- of the rows is the reply.
+-- The fragments that the item's set uses are found and their files opened, each once, in rising order of the least number of their atoms in the set; and the
+-- text of the rows is the reply.
 abbrev pub runs_item : Option Files → Catalogue → Query → Plan → Listed → Course Status Reply
 runs_item files catalogue query plan item =
     and_then (judges (AreUsed (plan_query plan).body item.set) (λ _. ⊥)) (λ numbers.

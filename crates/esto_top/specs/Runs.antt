@@ -89,7 +89,8 @@ abbrev pub RunsExactly : Files → Option ℕ → Catalogue → Query → Status
 RunsExactly files number catalogue query said text =
     (can : CanRun files catalogue query number) → (said ≡ status.Done) × PrintsRun catalogue query can.plan can.item.set can.contents text
 
--- The query is unsatisfiable exactly where the status tells it, with the clash at which the query's run ends; then the text has the names of the query's head alone.
+-- The query is unsatisfiable exactly where the status tells it, with the clash at which the query's run ends; then the text has the names of the query's head
+-- alone.
 abbrev pub RefusesRun : Files → Option ℕ → Catalogue → Query → Status → List ℕ → Type 0
 RefusesRun files number catalogue query said text =
     ¬ (HasAnswers catalogue query)

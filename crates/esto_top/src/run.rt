@@ -58,7 +58,8 @@ fn run_item<S: Shelf>(
 ) -> Result<Reply, Status>
     requires planned { IsPlanned catalogue.now query.now plan.now }
     requires item { IsItemOf catalogue.now query.now plan.now item.now }
-    ensures answer { Answers (runs_item (S.files shelf.old) catalogue.now query.now plan.now item.now)
+    ensures answer { Answers
+        (runs_item (S.files shelf.old) catalogue.now query.now plan.now item.now)
         (Rises S.faults shelf.old shelf.new) result }
     ensures files { S.files shelf.new ≡ S.files shelf.old }
     ensures later { S.faults shelf.old ≤ S.faults shelf.new }
