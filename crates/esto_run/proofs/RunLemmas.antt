@@ -82,7 +82,8 @@ module _ (texts : List (List ℕ)) (fragments : List FragmentDef) (opened : List
         (held_past opened number (let many = rows_are.many in omega (arith, many, past)))
   ]
     where
-      both : held_by (map codes_of stored) number ≡ [] → held_by opened number ≡ [] → AreCodedRows texts (held_by (map codes_of stored) number) (held_by opened number)
+      both : held_by (map codes_of stored) number ≡ [] → held_by opened number ≡ []
+          → AreCodedRows texts (held_by (map codes_of stored) number) (held_by opened number)
       both left right = subst (λ them. AreCodedRows texts them (held_by opened number)) (sym left) (subst (AreCodedRows texts []) (sym right) refl)
 
   pub codes_wide : (number : ℕ) (fragment : FragmentDef) → slice_get fragments number ≡ Some fragment → (codes : List ℕ)

@@ -151,7 +151,8 @@ module _ (atoms : List (Fact Term)) (set : List Bool) where
         | inr (inr more) ↦ absurd (omega (arith, below, more))
       ])),
     );
-    rising = subst (AllPairs Before) (sym is) (pairs_append Before old (atom.relation ∷ []) are.rising (λ i j d below within. absurd (omega (arith, below, within)))
+    rising = subst (AllPairs Before) (sym is) (pairs_append Before old (atom.relation ∷ []) are.rising
+        (λ i j d below within. absurd (omega (arith, below, within)))
         (λ fragment other inside last. elim (Contains-cases atom.relation [] other last) [
           | inl same ↦ subst (Before fragment) same (λ number later first second.
               let found = (are.exact fragment).0 inside in

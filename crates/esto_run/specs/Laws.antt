@@ -53,7 +53,8 @@ RewritingsAnswerQueries =
 
 -- A set's fragments are one list.
 abbrev pub UsedAreOne : Type 0
-UsedAreOne = (atoms : List (Fact Term)) (set : List Bool) (fragments others : List ℕ) → AreUsed atoms set fragments → AreUsed atoms set others → fragments ≡ others
+UsedAreOne = (atoms : List (Fact Term)) (set : List Bool) (fragments others : List ℕ)
+    → AreUsed atoms set fragments → AreUsed atoms set others → fragments ≡ others
 
 -- Rising rows are one list where they are the same rows.
 abbrev pub RisingRowsAreOne : Type 0

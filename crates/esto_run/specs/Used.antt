@@ -16,7 +16,8 @@ pub record UsesFirst (atoms : List (Fact Term)) (set : List Bool) (fragment numb
 -- These are exactly the fragments that the set uses, each once, in rising order of the least number of their atoms in it.
 pub record AreUsed (atoms : List (Fact Term)) (set : List Bool) (fragments : List ℕ) : Type 0 where
   pub exact : (fragment : ℕ) → Contains fragments fragment ↔ ((number : ℕ) × Uses atoms set fragment number)
-  pub rising : AllPairs (λ fragment other. (number later : ℕ) → UsesFirst atoms set fragment number → UsesFirst atoms set other later → number < later) fragments
+  pub rising : AllPairs (λ fragment other. (number later : ℕ)
+      → UsesFirst atoms set fragment number → UsesFirst atoms set other later → number < later) fragments
 
 -- The fragment of the atom of that number comes to the others, if the atom is in the set and the fragment isn't one of them.
 abbrev pub AddsUse : List Bool → ℕ → ℕ → List ℕ → List ℕ → Type 0

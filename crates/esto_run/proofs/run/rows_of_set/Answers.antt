@@ -40,7 +40,8 @@ returns-clause-rows c set is_order row =
     let own = c.requires.order in
     let are = stored_in c.coded_rows_stay_coded.ensures c.stored_fragments.new.codes texts fragments opened c.in_ok-stored.stored stored
     c.plan_of.ensures.grown c.items.ensures c.in_ok-stored.ensures in
-    let law = c.results_are_candidate_answers.ensures texts patterns plan c.args.order.now own c.in_ok-steps.steps (held_by (map codes_of stored)) (held_by opened)
+    let law = c.results_are_candidate_answers.ensures texts patterns plan c.args.order.now own c.in_ok-steps.steps
+    (held_by (map codes_of stored)) (held_by opened)
     c.len-count.ensures.distinct (all_coded texts fragments opened stored c.requires.rows are) c.in_ok-steps.ensures.steps
     (fits texts fragments opened stored c.requires.rows are c.args.plan.now c.requires.over (candidate plan own.0).body
     (chosen_among c.chosen_atoms_are_named.ensures own.0 plan.body))
