@@ -73,7 +73,7 @@ module _ (catalogue other : Catalogue) (alike : AreSame catalogue other) (query 
       (subst (λ it. AreListed it (views_of other.fragments) (patterns_of other.fragments) (query_of other_query) (plan_query plan) (sets_of items))
       (sym alike.rules) listed)))
 
-  list_moved : (plan : Plan) (items : List Listed) → IsListOf other other_query plan items → IsListOf catalogue query plan items
+  pub list_moved : (plan : Plan) (items : List Listed) → IsListOf other other_query plan items → IsListOf catalogue query plan items
   list_moved plan items list = record {
     sets = sets_moved plan items list.sets;
     orders = subst (λ (it : Patterns). All (λ (item : Listed). IsStatedOrder it (plan_query plan).body item.set item.order) items)

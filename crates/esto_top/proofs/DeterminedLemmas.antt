@@ -7,11 +7,7 @@ use Rattle.esto_catalog.specs.Reading.{IsCatalogueOf, IsCatalogueError}
 use Rattle.esto_catalog.specs.declared.catalogue.Catalogue.{Catalogue}
 use Rattle.esto_catalog.specs.declared.fault.CatalogueError.{CatalogueError}
 use Rattle.esto_catalog.specs.declared.fault.CatalogueError.TheVariants as error
-use Rattle.esto_constraint.specs.Constraints.{rule_of, rules_of}
-use Rattle.esto_constraint.specs.declared.rule.Constraint.{Constraint}
-use Rattle.esto_list.specs.Items.{sets_of, IsPickOf}
-use Rattle.esto_list.specs.Text.{list_text}
-use Rattle.esto_list.specs.declared.listing.Listed.{Listed}
+use Rattle.esto_constraint.specs.Constraints.{rules_of}
 use Rattle.esto_ports.specs.Files.{Files}
 use Rattle.esto_query.specs.Making.{query_of}
 use Rattle.esto_query.specs.Schemas.{names_of, arities_of}
@@ -19,24 +15,18 @@ use Rattle.esto_query.specs.declared.query.Query.{Query}
 use Rattle.esto_read.specs.Readings.{IsReading, IsFirstFault, HaveOneReading, HaveNoFault, HaveOneFault}
 use Rattle.esto_read.specs.declared.read.Form.TheVariants as form
 use Rattle.esto_read.specs.declared.read.NamedQuery.{NamedQuery}
-use Rattle.esto_semantics.specs.AccessLaws.{StatedOrderIsOne}
-use Rattle.esto_semantics.specs.Listed.{AreListed}
-use Rattle.esto_semantics.specs.ListedLaws.{ListedIsOne, PickIsOne, WeightIsOne}
-use Rattle.esto_semantics.specs.Queries.{ConjunctiveQuery}
-use Rattle.esto_semantics.specs.Rules.{AreRules, IsRule}
+use Rattle.esto_semantics.specs.Rules.{AreRules}
 use Rattle.esto_text.specs.declared.fault.TextFault.{TextFault}
-use Rattle.esto_universal.specs.PlannedLaws.{PlanOfRunIsOne, ClashOfRunIsOne, PlanExcludesClash}
-use Rattle.esto_views.specs.Fragments.{views_of, patterns_of, weights_of}
-use Rattle.esto_views.specs.Plans.{plan_query}
+use Rattle.esto_views.specs.Fragments.{views_of}
 use Rattle.esto_views.specs.declared.plan.Plan.{Plan}
 use Rattle.esto_top.specs.Check.{check_text, check_course, count_lines, rank_lines}
 use Rattle.esto_course.proofs.Determined.{then_agree, gives_agree, refuses_agree, judges_agree}
 use Rattle.esto_top.specs.Answers.{IsCaused}
 use Rattle.esto_top.specs.Determined.{OutcomesAreDetermined, ExactWhereTold}
 use Rattle.esto_top.specs.Grammar.{Request, request_of, course_of_request, course_of_asked}
-use Rattle.esto_top.specs.Grammar.Request.{CheckOf, ListFor, Unbuilt}
+use Rattle.esto_top.specs.Grammar.Request.{CheckOf, ListFor, RunFor, Unbuilt}
 use Rattle.esto_top.specs.List.{plans_query, prints_list, lists_query, list_course}
-use Rattle.esto_top.specs.Listing.{IsListing, IsListOf}
+use Rattle.esto_top.specs.Run.{run_course}
 use Rattle.esto_top.specs.Outcome.{CompleteWhereTold}
 use Rattle.esto_top.specs.Opening.{status_of, reads_catalogue, opens_catalogue, reads_query, opens_query}
 use Rattle.esto_top.specs.declared.ending.Reply.TheVariants.{Done}
@@ -44,59 +34,11 @@ use Rattle.esto_top.specs.declared.status.Status.{Status}
 use Rattle.esto_top.specs.declared.status.Status.TheVariants as status
 use Rattle.esto_top.proofs.AlikeLemmas.{IsSameQuery, same_reading, planned_moved, clash_moved, listing_moved}
 use Rattle.esto_top.proofs.AgreeLemmas.{AgreeCalmly, fetches-agree, says-agree}
-use Rattle.esto_top.proofs.OneListLemmas.{HasOrder, HasWeight, same_items, same_pick, same_atoms, same_text}
+use Rattle.esto_top.proofs.RunAgreeLemmas.{runs-agree}
+use Rattle.esto_top.proofs.SameListLemmas.{ListLaws, IsSamePlan, texts_one}
 use Rattle.esto_top.specs.declared.opening.TheConstants.{CATALOGUE_LIMIT, QUERY_LIMIT}
 use Rattle.esto_top.proofs.RuleLemmas.{are_rules}
 use Rattle.esto_top.proofs.Steps.{never_wanting}
-
--- the laws of lists
-pub record ListLaws : Type 0 where
-  pub rules : (constraint : Constraint) → IsRule (rule_of constraint)
-  pub plan : PlanOfRunIsOne
-  pub clash : ClashOfRunIsOne
-  pub apart : PlanExcludesClash
-  pub sets : ListedIsOne
-  pub orders : StatedOrderIsOne
-  pub weights : WeightIsOne
-  pub picks : PickIsOne
-
--- two plans of the same atoms and head, with the same names
-abbrev IsSamePlan : Plan → Plan → Type 0
-IsSamePlan plan other = (plan_query plan ≡ plan_query other) × (plan.names ≡ other.names)
-
--- ---- the text of a list
-
-module _ (laws : ListLaws) (catalogue : Catalogue) (query : Query) where
-  items_one : (plan other_plan : Plan) → plan_query plan ≡ plan_query other_plan → (items others : List Listed) → IsListOf catalogue query plan items
-      → IsListOf catalogue query other_plan others → items ≡ others
-  items_one plan other_plan plans items others list other_list =
-      same_items laws.orders laws.weights (patterns_of catalogue.fragments) (weights_of catalogue.fragments) (plan_query plan).body items others
-      (laws.sets (rules_of catalogue.rules) (views_of catalogue.fragments) (patterns_of catalogue.fragments) (query_of query) (plan_query plan)
-      (sets_of items) (sets_of others) list.sets
-      (subst (λ it. AreListed (rules_of catalogue.rules) (views_of catalogue.fragments) (patterns_of catalogue.fragments) (query_of query) it
-      (sets_of others)) (sym plans) other_list.sets))
-      list.orders
-      (subst (λ it. All (HasOrder laws.orders laws.weights (patterns_of catalogue.fragments) (weights_of catalogue.fragments) it.body) others)
-      (sym plans) other_list.orders)
-      list.weights
-      (subst (λ it. All (HasWeight laws.orders laws.weights (patterns_of catalogue.fragments) (weights_of catalogue.fragments) it.body) others)
-      (sym plans) other_list.weights)
-
-  texts_one : (plan other_plan : Plan) → IsSamePlan plan other_plan → (text other_text : List ℕ) → IsListing catalogue query plan text
-      → IsListing catalogue query other_plan other_text → text ≡ other_text
-  texts_one plan other_plan plans text other_text listing other_listing =
-      let items : listing.items ≡ other_listing.items = items_one plan other_plan plans.0 listing.items other_listing.items listing.list
-      other_listing.list in
-      let pick = same_pick laws.picks other_listing.items listing.printed.0 other_listing.printed.0
-      (subst (λ it. IsPickOf it listing.printed.0) items listing.printed.1) other_listing.printed.1 in
-      let texts : list_text catalogue.fragments plan listing.items listing.printed.0
-      ≡ list_text catalogue.fragments plan other_listing.items other_listing.printed.0 =
-      λ i. list_text catalogue.fragments plan (items i) (pick i) in
-      listing.printed.2 ∙ texts
-      ∙ same_text catalogue.fragments catalogue.fragments refl plan other_plan other_listing.items other_listing.printed.0
-      (same_atoms plan.atoms other_plan.atoms (ap (λ (it : ConjunctiveQuery). it.body) plans.0))
-      (ap (λ (it : ConjunctiveQuery). it.head) plans.0) plans.1
-      ∙ sym other_listing.printed.2
 
 -- ---- the text of a check
 
@@ -195,6 +137,13 @@ module _ (sound : CataloguesAreSound) (one : HaveOneCatalogue) (apart : HaveNoEr
       then_agree _ ◌≡◌ ◌≡◌ _ _ _ _ (listed_agree catalogue other alike query other_query same)
       (λ text other_text goes2 texts. gives_agree _ (Done text) (Done other_text) (ap Done texts))))
 
+  run_agrees : (catalogue_name query_name : List ℕ) (number : Option ℕ) → AgreeCalmly ◌≡◌ (run_course (Some files) catalogue_name query_name number)
+      (run_course (Some files) catalogue_name query_name number)
+  run_agrees catalogue_name query_name number =
+      then_agree _ AreSame ◌≡◌ _ _ _ _ (opened_agree catalogue_name) (λ catalogue other goes alike.
+      then_agree _ IsSameQuery ◌≡◌ _ _ _ _ (queries_agree catalogue other alike query_name) (λ query other_query goes1 same.
+      runs-agree laws files catalogue other alike query other_query same number))
+
   check_agrees : (name : List ℕ) → AgreeCalmly ◌≡◌ (check_course (Some files) name) (check_course (Some files) name)
   check_agrees name =
       then_agree _ AreSame ◌≡◌ _ _ _ _ (opened_agree name) (λ catalogue other goes alike. gives_agree _ (Done (check_text catalogue))
@@ -203,6 +152,7 @@ module _ (sound : CataloguesAreSound) (one : HaveOneCatalogue) (apart : HaveNoEr
   request_agrees : (request : Request) → AgreeCalmly ◌≡◌ (course_of_request (Some files) request) (course_of_request (Some files) request)
   request_agrees (CheckOf name) = check_agrees name
   request_agrees (ListFor catalogue_name query_name) = list_agrees catalogue_name query_name
+  request_agrees (RunFor catalogue_name query_name number) = run_agrees catalogue_name query_name number
   request_agrees Unbuilt = refuses_agree _ _ status.NotBuilt
 
   pub asked_agrees : (asked : Option Request) → AgreeCalmly ◌≡◌ (course_of_asked (Some files) asked) (course_of_asked (Some files) asked)

@@ -3,9 +3,8 @@ use Rattle.std.proofs.Common.{◌≡◌, ℕ, Bool, List, [], ◌∷◌, All, Op
 use Rattle.std.specs.List.{AllZip}
 use Rattle.std.proofs.lemmas.List.Elements.{All-head, All-tail}
 use Rattle.esto_catalog.specs.Determined.{CataloguesAreSound, HaveOneCatalogue, HaveNoError}
-use Rattle.esto_catalog.specs.Reading.{IsCatalogueOf, IsCatalogueError}
+use Rattle.esto_catalog.specs.Reading.{IsCatalogueOf}
 use Rattle.esto_catalog.specs.declared.catalogue.Catalogue.{Catalogue}
-use Rattle.esto_catalog.specs.declared.fault.CatalogueError.{CatalogueError}
 use Rattle.esto_backchase.specs.Listing.{ListedCoverRewritings}
 use Rattle.esto_chase_laws.specs.declared.clash.Clash.{Clash}
 use Rattle.esto_constraint.specs.Constraints.{rule_of, rules_of}
@@ -14,13 +13,9 @@ use Rattle.esto_list.specs.Items.{sets_of, totals_of}
 use Rattle.esto_list.specs.declared.listing.Listed.{Listed}
 use Rattle.esto_ports.specs.Files.{Files}
 use Rattle.esto_query.specs.Making.{query_of}
-use Rattle.esto_query.specs.Schemas.{arities_of}
 use Rattle.esto_query.specs.Soundness.{IsSound}
 use Rattle.esto_query.specs.declared.query.Query.{Query}
-use Rattle.esto_read.specs.Readings.{IsReading, IsFirstFault, HaveOneReading, HaveNoFault}
-use Rattle.esto_read.specs.declared.read.Form.TheVariants as form
-use Rattle.esto_read.specs.declared.read.NamedQuery.{NamedQuery}
-use Rattle.esto_read.specs.declared.words.Word.{Word}
+use Rattle.esto_read.specs.Readings.{HaveOneReading, HaveNoFault}
 use Rattle.esto_semantics.specs.Instances.{IsUniversalFor}
 use Rattle.esto_semantics.specs.Listed.{chosen, IsWeight}
 use Rattle.esto_semantics.specs.ListedLaws.{AreWeights, NoRewritingExists, PickWeighsLeastOfAll}
@@ -33,26 +28,22 @@ use Rattle.esto_views.specs.Fragments.{views_of, patterns_of, weights_of}
 use Rattle.esto_views.specs.Plans.{plan_query}
 use Rattle.esto_views.specs.Soundness.{IsSoundPlan}
 use Rattle.esto_views.specs.declared.plan.Plan.{Plan}
-use Rattle.esto_text.specs.declared.fault.TextFault.{TextFault}
 use Rattle.esto_course.specs.Course.{gives}
-use Rattle.esto_top.specs.Answers.{IsCaused}
-use Rattle.esto_top.specs.Headline.{FilesSay, HasAnswers, PrintsExactly, IsExactList, IsExactRefusal, SaidOfLists, OutcomesAreLists, OutcomesAreRefusals, HoldsOfLists}
+use Rattle.esto_top.specs.Headline.{FilesSay, HasAnswers, PrintsExactly, IsExactList, IsExactRefusal, IsEmptyWithoutRewriting, SaidOfLists, OutcomesAreLists, OutcomesAreRefusals, HoldsOfLists}
 use Rattle.esto_top.specs.Line.{line_of}
 use Rattle.esto_top.specs.List.{plans_query, lists_query, list_course}
-use Rattle.esto_top.specs.Listing.{IsClash, IsListing, IsPlanned}
-use Rattle.esto_top.specs.Opening.{status_of, reads_catalogue, opens_catalogue, reads_query, opens_query}
+use Rattle.esto_top.specs.Listing.{IsClash, IsListing, IsListOf, IsPlanned}
 use Rattle.esto_top.specs.Outcome.{Says, CompleteWhereTold, reply_status, reply_text}
 use Rattle.esto_top.specs.Grammar.{course_of}
 use Rattle.esto_top.specs.declared.ending.Reply.{Reply}
 use Rattle.esto_top.specs.declared.ending.Reply.TheVariants.{Done}
 use Rattle.esto_top.specs.declared.status.Status.{Status}
 use Rattle.esto_top.specs.declared.status.Status.TheVariants as status
-use Rattle.esto_top.proofs.AlikeLemmas.{IsSameQuery, same_reading, planned_moved, clash_moved, listing_moved}
+use Rattle.esto_top.proofs.AlikeLemmas.{planned_moved, clash_moved, listing_moved}
 use Rattle.esto_top.proofs.FormLemmas.{plan_form}
-use Rattle.esto_top.proofs.LeadLemmas.{Leads, then-leads, leads-more, gives-leads, judges-leads, fetches-leads, says-leads}
+use Rattle.esto_top.proofs.LeadLemmas.{Leads, then-leads, leads-more, gives-leads, judges-leads, says-leads}
 use Rattle.esto_top.proofs.RuleLemmas.{are_rules}
-use Rattle.esto_top.specs.declared.opening.TheConstants.{CATALOGUE_LIMIT, QUERY_LIMIT}
-use Rattle.esto_top.proofs.Steps.{never_wanting}
+use Rattle.esto_top.proofs.SayLemmas.{IsQueryOf, catalogue_leads, query_leads, same_as_read}
 
 -- ---- the items
 
@@ -108,6 +99,13 @@ module _ (laws : ListingLaws) (catalogue : Catalogue) (query : Query) where
     universal =
         laws.universal (rules_of catalogue.rules) (views_of catalogue.fragments) query.names (query_of query) plan rules_are (laws.queries query).query planned
 
+    -- the list is empty exactly where there is no executable rewriting
+    pub empty-without : (items : List Listed) → IsListOf catalogue query plan items → IsEmptyWithoutRewriting catalogue query items
+    empty-without items list =
+        let none = laws.none (rules_of catalogue.rules) (views_of catalogue.fragments) (patterns_of catalogue.fragments) (query_of query)
+        (plan_query plan) (sets_of items) is_for universal plan_tells list.sets in
+        (λ empty. none.0 (ap sets_of empty), λ absent. no_item items (none.1 absent))
+
     module _ (text : List ℕ) (listing : IsListing catalogue query plan text) where
       weights_are : AreWeights (weights_of catalogue.fragments) (plan_query plan) (sets_of listing.items) (totals_of listing.items)
       weights_are = items_zip (λ set weight. IsWeight (weights_of catalogue.fragments) (chosen set (plan_query plan).body) weight) listing.items
@@ -115,8 +113,6 @@ module _ (laws : ListingLaws) (catalogue : Catalogue) (query : Query) where
 
       pub prints-exactly : PrintsExactly catalogue query text
       prints-exactly =
-          let none = laws.none (rules_of catalogue.rules) (views_of catalogue.fragments) (patterns_of catalogue.fragments) (query_of query)
-          (plan_query plan) (sets_of listing.items) is_for universal plan_tells listing.list.sets in
           record {
             plan = plan;
             items = listing.items;
@@ -131,14 +127,10 @@ module _ (laws : ListingLaws) (catalogue : Catalogue) (query : Query) where
                 laws.lightest (rules_of catalogue.rules) (views_of catalogue.fragments) (patterns_of catalogue.fragments) (query_of query)
                 (plan_query plan) (sets_of listing.items) (weights_of catalogue.fragments) (totals_of listing.items) is_for.flat_body universal plan_tells
                 listing.list.sets weights_are pick is_pick other weight rewriting weighs;
-            empty = (λ empty. none.0 (ap sets_of empty), λ absent. no_item listing.items (none.1 absent));
+            empty = empty-without listing.items listing.list;
           }
 
 -- ---- the course
-
--- the query is a reading of the bytes over a catalogue
-abbrev IsQueryOf : Catalogue → List ℕ → Query → Type 0
-IsQueryOf catalogue bytes query = (named : NamedQuery) × IsReading form.Query catalogue.words (arities_of catalogue.schema) bytes named × (query ≡ named.query)
 
 -- what `list` makes of a query
 record HasText (catalogue : Catalogue) (query : Query) (text : List ℕ) : Type 0 where
@@ -166,12 +158,6 @@ record HasRefused (catalogue_bytes query_bytes : List ℕ) (refusal : Status) : 
   clashes : IsClash catalogue query clash
   refusal_is : refusal ≡ status.Unsatisfiable clash
 
--- a reading over words and a schema is one over the same
-reading-same : (words others : List Word) (schema other : List ℕ) (bytes : List ℕ) (named : NamedQuery) → words ≡ others → schema ≡ other
-    → IsReading form.Query words schema bytes named → IsReading form.Query others other bytes named
-reading-same words others schema other bytes named words_are schema_is reading =
-    subst (λ it. IsReading form.Query it other bytes named) words_are (subst (λ it. IsReading form.Query words it bytes named) schema_is reading)
-
 module _ (sound : CataloguesAreSound) (one : HaveOneCatalogue) (apart : HaveNoError) (one_reading : HaveOneReading) (no_fault : HaveNoFault)
     (files : Files) (catalogue_name query_name : List ℕ) (catalogue : Catalogue) (query : Query)
     (say : FilesSay files catalogue_name query_name catalogue query) where
@@ -181,87 +167,51 @@ module _ (sound : CataloguesAreSound) (one : HaveOneCatalogue) (apart : HaveNoEr
   abbrev Refused : Status → Type 0
   Refused = HasRefused say.catalogue_bytes say.query_bytes
 
-  -- the catalogue is fetched and read
-  catalogue_leads : Leads (opens_catalogue (Some files) catalogue_name) (IsCatalogueOf say.catalogue_bytes) Refused
-  catalogue_leads =
-      then-leads _ _ (λ bytes. bytes ≡ say.catalogue_bytes) _ _
-      (fetches-leads files catalogue_name CATALOGUE_LIMIT say.catalogue_bytes say.has_catalogue Refused)
-      (λ bytes is. subst (λ it. Leads (reads_catalogue it) (IsCatalogueOf say.catalogue_bytes) Refused) (sym is)
-      (judges-leads _ _ Refused (λ refusal caused stop. absurd (no_error refusal caused stop))))
-    where
-      no_error : (refusal : Status) → IsCaused ⊥ refusal → (cause : CatalogueError) × IsCatalogueError say.catalogue_bytes cause
-          × (refusal ≡ status_of cause) → ⊥
-      no_error refusal caused (cause, is_error, is) =
-          let wanting : refusal ≡ status.OutOfMemory = is ∙ ap status_of (apart say.catalogue_bytes catalogue cause say.is_catalogue is_error) in
-          never_wanting ⊥ refusal wanting caused
+  module _ (other : Catalogue) (is_other : IsCatalogueOf say.catalogue_bytes other) (read : Query) (is_query : IsQueryOf other say.query_bytes read) where
+    -- the query has a plan, or is refused
+    plan_leads : Leads (plans_query other read) (IsPlanned other read) Refused
+    plan_leads = judges-leads _ _ Refused (λ refusal caused stop. record {
+      catalogue = other;
+      is_catalogue = is_other;
+      query = read;
+      is_query = is_query;
+      clash = stop.0;
+      clashes = stop.1;
+      refusal_is = stop.2;
+    })
 
-  module _ (other : Catalogue) (is_other : IsCatalogueOf say.catalogue_bytes other) where
-    reading : IsReading form.Query other.words (arities_of other.schema) say.query_bytes say.named
-    reading =
-        let same = one say.catalogue_bytes catalogue other say.is_catalogue is_other in
-        reading-same catalogue.words other.words (arities_of catalogue.schema) (arities_of other.schema) say.query_bytes say.named same.words
-        (ap arities_of same.schema) say.is_query
+    -- the list is printed
+    text_leads : Leads (lists_query other read) (HasText other read) Refused
+    text_leads = then-leads _ _ (IsPlanned other read) _ _ plan_leads (λ plan planned.
+        leads-more _ (IsListing other read plan) _ Refused (λ text listing. record { plan = plan; planned = planned; listing = listing })
+        (judges-leads _ _ Refused (λ refusal caused stop. absurd stop)))
 
-    -- the query is fetched and read
-    query_leads : Leads (opens_query (Some files) query_name other) (IsQueryOf other say.query_bytes) Refused
-    query_leads =
-        then-leads _ _ (λ bytes. bytes ≡ say.query_bytes) _ _ (fetches-leads files query_name QUERY_LIMIT say.query_bytes say.has_query Refused)
-        (λ bytes is. subst (λ it. Leads (reads_query other it) (IsQueryOf other say.query_bytes) Refused) (sym is)
-        (judges-leads _ _ Refused (λ refusal caused stop. absurd (none refusal caused stop))))
-      where
-        none : (refusal : Status) → IsCaused ⊥ refusal
-            → (fault : TextFault) × IsFirstFault form.Query other.words (arities_of other.schema) say.query_bytes fault × (refusal ≡ status.BadQuery fault) → ⊥
-        none refusal caused (fault, first, is) =
-            no_fault form.Query other.words (arities_of other.schema) say.query_bytes say.named fault (sound other).vocabulary reading first
-
-    module _ (read : Query) (is_query : IsQueryOf other say.query_bytes read) where
-      -- the query has a plan, or is refused
-      plan_leads : Leads (plans_query other read) (IsPlanned other read) Refused
-      plan_leads = judges-leads _ _ Refused (λ refusal caused stop. record {
-        catalogue = other;
-        is_catalogue = is_other;
-        query = read;
-        is_query = is_query;
-        clash = stop.0;
-        clashes = stop.1;
-        refusal_is = stop.2;
-      })
-
-      -- the list is printed
-      text_leads : Leads (lists_query other read) (HasText other read) Refused
-      text_leads = then-leads _ _ (IsPlanned other read) _ _ plan_leads (λ plan planned.
-          leads-more _ (IsListing other read plan) _ Refused (λ text listing. record { plan = plan; planned = planned; listing = listing })
-          (judges-leads _ _ Refused (λ refusal caused stop. absurd stop)))
-
-      reply_leads : (text : List ℕ) → HasText other read text → Leads (gives (Done text)) Printed Refused
-      reply_leads text has_text =
-          leads-more _ (λ reply. reply ≡ Done text) _ Refused (λ reply reply_is. record {
-            catalogue = other;
-            is_catalogue = is_other;
-            query = read;
-            is_query = is_query;
-            text = text;
-            has_text = has_text;
-            reply_is = reply_is;
-          }) (gives-leads (Done text) Refused)
+    reply_leads : (text : List ℕ) → HasText other read text → Leads (gives (Done text)) Printed Refused
+    reply_leads text has_text =
+        leads-more _ (λ reply. reply ≡ Done text) _ Refused (λ reply reply_is. record {
+          catalogue = other;
+          is_catalogue = is_other;
+          query = read;
+          is_query = is_query;
+          text = text;
+          has_text = has_text;
+          reply_is = reply_is;
+        }) (gives-leads (Done text) Refused)
 
   list_leads : Leads (list_course (Some files) catalogue_name query_name) Printed Refused
   list_leads =
-      then-leads _ _ _ _ _ catalogue_leads (λ other is_other.
-      then-leads _ _ _ _ _ (query_leads other is_other) (λ read is_query.
+      then-leads _ _ _ _ _ (catalogue_leads sound one apart one_reading no_fault files catalogue_name query_name catalogue query say Refused) (λ other is_other.
+      then-leads _ _ _ _ _ (query_leads sound one apart one_reading no_fault files catalogue_name query_name catalogue query say other is_other Refused)
+      (λ read is_query.
       then-leads _ _ _ _ _ (text_leads other is_other read is_query) (λ text has_text. reply_leads other is_other read is_query text has_text)))
-
-  -- what was read is the catalogue and the query that the files say
-  same_as_read : (other : Catalogue) → IsCatalogueOf say.catalogue_bytes other → (read : Query) → IsQueryOf other say.query_bytes read → IsSameQuery query read
-  same_as_read other is_other read is_query =
-      same_reading one_reading (sound other).vocabulary say.query_bytes query read (say.named, reading other is_other, say.query_is) is_query
 
   module _ (laws : ListingLaws) where
     -- where the list was printed, the query is satisfiable and the text is exact
     printed_exact : (reply : Reply) → Printed reply → HasAnswers catalogue query × IsExactList catalogue query (reply_status reply) (reply_text reply)
     printed_exact reply run =
         let alike = one say.catalogue_bytes catalogue run.catalogue say.is_catalogue run.is_catalogue in
-        let same = same_as_read run.catalogue run.is_catalogue run.query run.is_query in
+        let same = same_as_read sound one apart one_reading no_fault files catalogue_name query_name catalogue query say
+        run.catalogue run.is_catalogue run.query run.is_query in
         let plan = run.has_text.plan in
         let planned = planned_moved catalogue run.catalogue alike query run.query same plan run.has_text.planned in
         let listing = listing_moved catalogue run.catalogue alike query run.query same plan run.text run.has_text.listing in (
@@ -277,7 +227,8 @@ module _ (sound : CataloguesAreSound) (one : HaveOneCatalogue) (apart : HaveNoEr
         → ¬ (HasAnswers catalogue query) × IsExactRefusal catalogue query said text
     refused_exact said text run text_is =
         let alike = one say.catalogue_bytes catalogue run.catalogue say.is_catalogue run.is_catalogue in
-        let same = same_as_read run.catalogue run.is_catalogue run.query run.is_query in
+        let same = same_as_read sound one apart one_reading no_fault files catalogue_name query_name catalogue query say
+        run.catalogue run.is_catalogue run.query run.is_query in
         let clashes = clash_moved catalogue run.catalogue alike query run.query same run.clash run.clashes in
         (clash_excludes laws catalogue query run.clash clashes, (run.clash, clashes, run.refusal_is, text_is ∙ ap line_of run.refusal_is))
 

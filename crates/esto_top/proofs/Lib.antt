@@ -1,4 +1,8 @@
 pub mod Steps
+pub mod ValueLemmas
+pub mod FragmentLemmas
+pub mod RunLemmas
+pub mod ListCourseLemmas
 pub mod Mediation
 pub mod CheckLemmas
 pub mod OpeningLemmas
@@ -7,6 +11,11 @@ pub mod FormLemmas
 pub mod LeadLemmas
 pub mod OneListLemmas
 pub mod AlikeLemmas
+pub mod SameListLemmas
+pub mod AlikeRunLemmas
+pub mod RunAgreeLemmas
+pub mod SayLemmas
 pub mod HeadlineLemmas
+pub mod RunsLemmas
 pub mod AgreeLemmas
 pub mod DeterminedLemmas

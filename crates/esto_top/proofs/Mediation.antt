@@ -46,6 +46,8 @@ complete words (Some files) rose sink_rose old new result (nothing keeps e) = λ
 -- no command says that a write failed
 never_said : (course : Course Status Reply) (rose : Type 0) (said : Status) (text : List ℕ) → Says course rose said text → said ≡ status.WriteFault → ⊥
 never_said course rose said text (replies (reply.Done written) goes e f) is = let h : status.Done ≡ status.WriteFault = sym e ∙ is in cc
+never_said course rose said text (replies (reply.Unsatisfiable clash written) goes e f) is =
+    let h : status.Unsatisfiable clash ≡ status.WriteFault = sym e ∙ is in cc
 never_said course rose said text (refuses caused stops e) is = never_write rose said is caused
 
 pub write_fault : (course : Course Status Reply) (rose sink_rose : Type 0) (old new : Option (List ℕ)) (result : Status)
@@ -58,6 +60,8 @@ pub read_fault : (course : Course Status Reply) (rose sink_rose : Type 0) (old n
     → Mediates course rose old new sink_rose result → CausedReadFault course rose old new result
 read_fault course rose sink_rose old new result (whole text (replies (reply.Done written) goes e f) appends) name is =
     let h : status.Done ≡ status.ReadFault name = sym e ∙ is in cc
+read_fault course rose sink_rose old new result (whole text (replies (reply.Unsatisfiable clash written) goes e f) appends) name is =
+    let h : status.Unsatisfiable clash ≡ status.ReadFault name = sym e ∙ is in cc
 read_fault course rose sink_rose old new result (whole text (refuses caused stops e) appends) name is =
     (read_cause rose result name is caused, subst course.stops is stops, subst (λ it. Appends old new it) (e ∙ ap line_of is) appends)
 read_fault course rose sink_rose old new result (cut said text kept says risen appends e) name is = let h : status.WriteFault ≡ status.ReadFault name =

@@ -24,10 +24,10 @@ use Rattle.esto_views.specs.declared.plan.Plan.{Plan}
 same_item : (item other : Listed) → item.set ≡ other.set → item.order ≡ other.order → item.weight ≡ other.weight → item ≡ other
 same_item item other set order weight = λ i. record { set = set i; order = order i; weight = weight i }
 
-first_same : {A : Type 0} (one other : A) (rest others : List A) → one ∷ rest ≡ other ∷ others → one ≡ other
+pub first_same : {A : Type 0} (one other : A) (rest others : List A) → one ∷ rest ≡ other ∷ others → one ≡ other
 first_same one other rest others same = cc
 
-rest_same : {A : Type 0} (one other : A) (rest others : List A) → one ∷ rest ≡ other ∷ others → rest ≡ others
+pub rest_same : {A : Type 0} (one other : A) (rest others : List A) → one ∷ rest ≡ other ∷ others → rest ≡ others
 rest_same one other rest others same = cc
 
 module _ (one_order : StatedOrderIsOne) (one_weight : WeightIsOne) (patterns : Patterns) (weights : List ℕ) (atoms : List (Fact Term)) where

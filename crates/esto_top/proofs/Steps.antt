@@ -60,5 +60,15 @@ pub last_stops : {A : Type 0} {course : Course Status A} {rose : Type 0} {status
     → Stops IsWant (IsCaused rose) course status
 last_stops stops = caused_more _ _ (caused_weaker (λ none. absurd none)) stops
 
+-- the last step stops, and the count rose in it
+pub end_stops : {A : Type 0} {course : Course Status A} (before before' now' now : ℕ) {status : Status}
+    → Stops IsWant (IsCaused (Rose before' now')) course status → before ≤ before' → before' ≤ now' → now' ≤ now
+    → Stops IsWant (IsCaused (Rose before now)) course status
+end_stops {course = course} before before' now' now stops early inner late =
+    caused_more course _ (caused_weaker (rose_within before before' now' now early inner late)) stops
+
 -- the steps of a command, for the search
 pub ruleset steps = (at_exit, rose_stops, still_stops, last_stops, later_stops, then_goes, gives_goes)
+
+-- and of one whose last step fetches
+pub ruleset run_steps = (at_exit, rose_stops, still_stops, end_stops, later_stops, then_goes, gives_goes)

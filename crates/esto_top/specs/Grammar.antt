@@ -1,11 +1,12 @@
 -- The command line: its grammar, and the course of each command.
-use Rattle.std.specs.Prelude.{ℕ, ◌==◌, nat_le, nat_lt, List, [], ◌∷◌, length, Bool, false, ◌&&◌, ◌||◌, Option, Some, None, if◌then◌else◌, codes, nat_eq}
+use Rattle.std.specs.Prelude.{ℕ, ◌+◌, ◌-◌, ◌*◌, ◌==◌, nat_le, nat_lt, List, [], ◌∷◌, length, Bool, false, ◌&&◌, ◌||◌, Option, Some, None, if◌then◌else◌, codes, nat_eq}
 use Rattle.std.specs.Cmp.Lexicographic.{pointwise}
 use Rattle.std.specs.List.{list_all}
 use Rattle.esto_ports.specs.Files.{Files}
 use Rattle.esto_top.specs.Check.{check_course}
 use Rattle.esto_course.specs.Course.{Course, refuses}
 use Rattle.esto_top.specs.List.{list_course}
+use Rattle.esto_top.specs.Run.{run_course}
 use Rattle.esto_top.specs.declared.command.Command.{Command}
 use Rattle.esto_top.specs.declared.command.Command.TheVariants as command
 use Rattle.esto_top.specs.declared.ending.Reply.{Reply}
@@ -13,10 +14,12 @@ use Rattle.esto_top.specs.declared.status.Status.TheVariants.{Usage, NotBuilt}
 use Rattle.esto_top.specs.declared.command.TheConstants.{MAX_DIGITS}
 use Rattle.esto_top.specs.declared.status.Status.{Status}
 
--- What words of the grammar ask for: the check of a catalogue's file, the list for a catalogue's and a query's file, or what is not built yet.
+-- What words of the grammar ask for: the check of a catalogue's file; the list for a catalogue's and a query's file; the run for them of the pick, or of the
+-- set of a number of the list; or what is not built yet.
 pub data Request : Type 0 where
   CheckOf : List ℕ → Request
   ListFor : List ℕ → List ℕ → Request
+  RunFor : List ℕ → List ℕ → Option ℕ → Request
   Unbuilt : Request
 
 -- The word has these bytes.
@@ -36,6 +39,15 @@ abbrev pub is_list_number : List ℕ → Bool
 is_list_number [] = false
 is_list_number (first ∷ rest) = is_leading_digit first && (nat_lt (length rest) MAX_DIGITS && list_all is_digit rest)
 
+-- The number that digits write in decimal after a number that is there.
+abbrev pub value_after : ℕ → List ℕ → ℕ
+value_after value [] = value
+value_after value (digit ∷ rest) = value_after (value * 10 + (digit - 48)) rest
+
+-- The number that digits write in decimal.
+abbrev pub value_of : List ℕ → ℕ
+value_of digits = value_after 0 digits
+
 -- The word is a size of the made case: 1 to 14 in decimal, so a digit other than 0, or 1 and a digit up to 4.
 abbrev pub is_made_size : List ℕ → Bool
 is_made_size (digit ∷ []) = is_leading_digit digit
@@ -53,30 +65,34 @@ request_of_one verb word =
 abbrev pub request_of_two : List ℕ → List ℕ → List ℕ → Option Request
 request_of_two verb first second =
     if is_word verb (codes "list") then Some (Request.ListFor first second)
-    else if is_word verb (codes "run") || (is_word verb (codes "fill") || is_word verb (codes "answer")) then Some Request.Unbuilt
+    else if is_word verb (codes "run") then Some (Request.RunFor first second None)
+    else if is_word verb (codes "fill") || is_word verb (codes "answer") then Some Request.Unbuilt
     else None
 
 -- The command of three words: run C Q N.
-abbrev pub request_of_three : List ℕ → List ℕ → Option Request
-request_of_three verb number = if is_word verb (codes "run") && is_list_number number then Some Request.Unbuilt else None
+abbrev pub request_of_three : List ℕ → List ℕ → List ℕ → List ℕ → Option Request
+request_of_three verb first second number =
+    if is_word verb (codes "run") && is_list_number number then Some (Request.RunFor first second (Some (value_of number))) else None
 
 -- What the words ask for; nothing where they are outside the grammar.
 abbrev pub request_of : List (List ℕ) → Option Request
 request_of (verb ∷ word ∷ []) = request_of_one verb word
 request_of (verb ∷ first ∷ second ∷ []) = request_of_two verb first second
-request_of (verb ∷ first ∷ second ∷ third ∷ []) = request_of_three verb third
+request_of (verb ∷ first ∷ second ∷ third ∷ []) = request_of_three verb first second third
 request_of _ = None
 
 -- A command of the program as what its words ask for.
 abbrev pub asked : Command → Request
 asked (command.Check catalogue) = Request.CheckOf catalogue.now
 asked (command.List catalogue query) = Request.ListFor catalogue.now query.now
+asked (command.Run catalogue query number) = Request.RunFor catalogue.now query.now number
 asked command.Unbuilt = Request.Unbuilt
 
 -- The course of what is asked for.
 abbrev pub course_of_request : Option Files → Request → Course Status Reply
 course_of_request files (Request.CheckOf catalogue) = check_course files catalogue
 course_of_request files (Request.ListFor catalogue query) = list_course files catalogue query
+course_of_request files (Request.RunFor catalogue query number) = run_course files catalogue query number
 course_of_request files Request.Unbuilt = refuses NotBuilt
 
 -- The course of the words that ask for something, and the refusal of words outside the grammar.

@@ -5,7 +5,10 @@ pub mod Opening
 pub mod Check
 pub mod Listing
 pub mod List
+pub mod Fragments
+pub mod Run
 pub mod Grammar
 pub mod Outcome
 pub mod Headline
+pub mod Runs
 pub mod Determined

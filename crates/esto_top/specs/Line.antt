@@ -10,11 +10,13 @@ use Rattle.esto_catalog.specs.declared.fault.Section.TheVariants.{Top, Dataset, 
 use Rattle.esto_chase_laws.specs.declared.clash.Clash.{Clash}
 use Rattle.esto_chase_laws.specs.declared.clash.Clash.TheVariants.{Equal, Denied}
 use Rattle.esto_list.specs.Text.{constant_text}
+use Rattle.esto_ports.specs.declared.file_fault.FileKind.{FileKind}
+use Rattle.esto_ports.specs.declared.file_fault.FileKind.TheVariants as file
 use Rattle.esto_text.specs.declared.fault.TextFault.{TextFault}
 use Rattle.esto_text.specs.declared.fault.TextKind.{TextKind}
 use Rattle.esto_text.specs.declared.fault.TextKind.TheVariants.{Utf8, Syntax, Unknown, Arity, TooLarge, SameVariable, Unsafe}
 use Rattle.esto_top.specs.declared.status.Status.{Status}
-use Rattle.esto_top.specs.declared.status.Status.TheVariants.{Done, OutOfMemory, Usage, ReadFault, WriteFault, TooLong, BadCatalogue, BadQuery, NotAcyclic, Unsatisfiable, NotBuilt}
+use Rattle.esto_top.specs.declared.status.Status.TheVariants.{Done, OutOfMemory, Usage, ReadFault, WriteFault, TooLong, BadCatalogue, BadQuery, NotAcyclic, BadFragment, Unsatisfiable, NoRewriting, NoSuchNumber, NotBuilt}
 
 -- A cell as the record of this one cell has it, without the line feed that ends the record. The empty cell is two quotes.
 abbrev pub cell_of : List ℕ → List ℕ
@@ -31,7 +33,10 @@ code_of (TooLong name limit) = 5
 code_of (BadCatalogue fault) = 6
 code_of (BadQuery fault) = 7
 code_of (NotAcyclic cycle) = 8
+code_of (BadFragment name fault) = 9
 code_of (Unsatisfiable clash) = 10
+code_of NoRewriting = 11
+code_of (NoSuchNumber number listed) = 12
 code_of NotBuilt = 18
 
 -- The word that names a kind of fault.
@@ -71,6 +76,16 @@ section_word Dataset = codes "dataset"
 section_word Fragment = codes "fragment"
 section_word Constraint = codes "constraint"
 
+-- The word that names a kind of a file's fault.
+abbrev pub file_word : FileKind → List ℕ
+file_word file.NoHeader = codes "NoHeader"
+file_word file.Header = codes "Header"
+file_word file.Length = codes "Length"
+file_word file.NotUtf8 = codes "NotUtf8"
+file_word file.BadJson = codes "BadJson"
+file_word file.NotArray = codes "NotArray"
+file_word file.Cells = codes "Cells"
+
 -- After a catalogue's fault, that of a text, where there is one.
 abbrev pub within_text : Option TextFault → List ℕ
 within_text None = []
@@ -99,5 +114,9 @@ line_of (BadCatalogue fault) =
     ++ cell_of fault.key ++ within_text fault.text ++ codes "\n"
 line_of (BadQuery fault) = codes "BadQuery " ++ (decimal fault.offset ++ (codes " " ++ (kind_word fault.kind ++ codes "\n")))
 line_of (NotAcyclic cycle) = codes "NotAcyclic " ++ way_text cycle.names ++ codes "\n"
+line_of (BadFragment name fault) =
+    codes "BadFragment " ++ (cell_of name ++ (codes " " ++ (file_word fault.kind ++ (codes " " ++ (decimal fault.place ++ codes "\n")))))
 line_of (Unsatisfiable clash) = codes "Unsatisfiable " ++ clash_text clash ++ codes "\n"
+line_of NoRewriting = codes "NoRewriting\n"
+line_of (NoSuchNumber number listed) = codes "NoSuchNumber " ++ (decimal number ++ (codes " " ++ (decimal listed ++ codes "\n")))
 line_of NotBuilt = codes "NotBuilt\n"

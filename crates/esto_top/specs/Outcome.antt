@@ -14,10 +14,12 @@ use Rattle.esto_top.specs.declared.status.Status.TheVariants as status
 -- The status of a reply.
 abbrev pub reply_status : Reply → Status
 reply_status (reply.Done text) = status.Done
+reply_status (reply.Unsatisfiable clash text) = status.Unsatisfiable clash
 
 -- The text of a reply.
 abbrev pub reply_text : Reply → List ℕ
 reply_text (reply.Done text) = text
+reply_text (reply.Unsatisfiable clash text) = text
 
 -- A course says a status and the text that is put with it: a reply's, or a refusal's line.
 pub data Says (course : Course Status Reply) (rose : Type 0) (status : Status) (text : List ℕ) : Type 0 where

@@ -1,13 +1,14 @@
 //! The words of the command line.
-ghost use Rattle.std.specs.Prelude.{◌≡◌, ◌≤◌, None, Some, MatchOption};
+ghost use Rattle.std.specs.Prelude.{◌≡◌, ◌≤◌, ◌+◌, length, true, None, Some, MatchOption};
 ghost use Rattle.std.specs.List.{list_all};
 ghost use Rattle.esto_ports.specs.Faults.{Rises};
 ghost use Rattle.esto_top.specs.Answers.{Answers};
-ghost use Rattle.esto_top.specs.Grammar.{is_word, is_digit, is_leading_digit, is_list_number, is_made_size, request_of_one, request_of_two, request_of_three, request_of, asked, course_of_request};
+ghost use Rattle.esto_top.specs.Grammar.{is_word, is_digit, is_leading_digit, is_list_number, is_made_size, value_of, request_of_one, request_of_two, request_of_three, request_of, asked, course_of_request};
 
 use crate::check::check;
 use crate::ending::Reply;
 use crate::list::list;
+use crate::run::run;
 use crate::status::Status;
 use esto_ports::Shelf;
 use esto_term::Text;
@@ -23,7 +24,10 @@ pub enum Command<'a> {
     Check(&'a Text),
     /// `list C Q`: the plan and the list for a catalogue's file and a query's file.
     List(&'a Text, &'a Text),
-    /// A command that is not built yet: `run C Q`, `run C Q N`, `fill C F`, `answer C Q`, `audit C` or `bench N`.
+    /// `run C Q` or `run C Q N`: the rows by the pick, or by the set of that number of the list, counted from 1, for a
+    /// catalogue's file and a query's file.
+    Run(&'a Text, &'a Text, Option<u64>),
+    /// A command that is not built yet: `fill C F`, `answer C Q`, `audit C` or `bench N`.
     Unbuilt,
 }
 
@@ -61,6 +65,19 @@ fn is_list_number(word: &[u8]) -> bool
     is_leading_digit(*first) && rest.len() < MAX_DIGITS && are_digits(rest)
 }
 
+// The number that the digits write in decimal.
+fn value_of(digits: &[u8]) -> u64
+    requires digits { list_all is_digit digits.now ≡ true }
+    requires few { length digits.now ≤ MAX_DIGITS }
+    ensures { result ≡ value_of digits.now }
+{
+    let mut value: u64 = 0;
+    'digits: for digit in digits {
+        value = value * 10 + (*digit - b'0') as u64;
+    }
+    value
+}
+
 // Whether the word is 1 to 14 in decimal.
 fn is_made_size(word: &[u8]) -> bool
     ensures { result ≡ is_made_size word.now }
@@ -93,7 +110,9 @@ fn command_of_two<'a>(verb: &Text, first: &'a Text, second: &'a Text) -> Option<
 {
     if is_word(verb, b"list") {
         Some(Command::List(first, second))
-    } else if is_word(verb, b"run") || is_word(verb, b"fill") || is_word(verb, b"answer") {
+    } else if is_word(verb, b"run") {
+        Some(Command::Run(first, second, None))
+    } else if is_word(verb, b"fill") || is_word(verb, b"answer") {
         Some(Command::Unbuilt)
     } else {
         None
@@ -101,12 +120,20 @@ fn command_of_two<'a>(verb: &Text, first: &'a Text, second: &'a Text) -> Option<
 }
 
 // The command of three words after the verb.
-fn command_of_three<'a>(verb: &Text, number: &Text) -> Option<Command<'a>>
-    ensures { MatchOption result (request_of_three verb.now number.now ≡ None)
-        (λ command. request_of_three verb.now number.now ≡ Some (asked command)) }
+fn command_of_three<'a>(
+    verb: &Text,
+    first: &'a Text,
+    second: &'a Text,
+    number: &Text,
+) -> Option<Command<'a>>
+    ensures { MatchOption result
+        (request_of_three verb.now first.now second.now number.now ≡ None)
+        (λ command. request_of_three verb.now first.now second.now number.now
+        ≡ Some (asked command)) }
 {
     if is_word(verb, b"run") && is_list_number(number.bytes()) {
-        Some(Command::Unbuilt)
+        let number = value_of(number.bytes());
+        Some(Command::Run(first, second, Some(number)))
     } else {
         None
     }
@@ -120,7 +147,7 @@ pub fn command_of<'a>(words: &'a [Text]) -> Option<Command<'a>>
     match words {
         [verb, word] => command_of_one(verb, word),
         [verb, first, second] => command_of_two(verb, first, second),
-        [verb, _first, _second, third] => command_of_three(verb, third),
+        [verb, first, second, third] => command_of_three(verb, first, second, third),
         _ => None,
     }
 }
@@ -135,6 +162,7 @@ pub fn obey<S: Shelf>(alloc: Global, shelf: &mut S, command: Command<'_>) -> Res
     match command {
         Command::Check(catalogue) => check(alloc, shelf, catalogue),
         Command::List(catalogue, query) => list(alloc, shelf, catalogue, query),
+        Command::Run(catalogue, query, number) => run(alloc, shelf, catalogue, query, number),
         Command::Unbuilt => Err(Status::NotBuilt),
     }
 }

@@ -8,6 +8,7 @@ ghost use Rattle.esto_top.specs.Outcome.{IsSaid, Finishes};
 use crate::line::status_line;
 use crate::status::Status;
 use esto_catalog::MARK;
+use esto_chase::Clash;
 use esto_ports::{Shelf, ShelfError, Sink, SinkError};
 use esto_term::{Bytes, OutOfMemory, Replicate, Text};
 use std::alloc::Global;
@@ -17,6 +18,8 @@ use std::alloc::Global;
 pub enum Reply {
     /// The whole text of the command.
     Done(Bytes),
+    /// The text of a query's answers, of which there are none: its chase ends with the clash.
+    Unsatisfiable(Clash, Bytes),
 }
 
 // The bytes without the one byte-order mark that they may begin with.
@@ -81,6 +84,7 @@ fn said(alloc: Global, answer: Result<Reply, Status>) -> Option<(Status, Bytes)>
 {
     match answer {
         Ok(Reply::Done(text)) => Some((Status::Done, text)),
+        Ok(Reply::Unsatisfiable(clash, text)) => Some((Status::Unsatisfiable(clash), text)),
         Err(status) => refusal(alloc, status),
     }
 }

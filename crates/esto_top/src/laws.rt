@@ -1,15 +1,17 @@
 //! Laws of outcomes.
 ghost use Rattle.esto_top.specs.Determined.{OutcomesAreDetermined};
 ghost use Rattle.esto_top.specs.Headline.{OutcomesAreLists, OutcomesAreRefusals};
+ghost use Rattle.esto_top.specs.Runs.{OutcomesAreRuns};
 
 use esto_backchase::listed_sets_cover_rewritings;
 use esto_catalog::{catalogues_are_determined, catalogues_are_sound};
 use esto_constraint::rules_are_sound;
 use esto_query::queries_are_sound;
 use esto_read::readings_are_determined;
+use esto_run::{rewritings_answer_queries, rising_rows_are_one, used_fragments_are_one};
 use esto_semantics::{
-    listed_sets_are_minimal, picks_exist, queries_are_their_own_instances, stated_orders_exist,
-    weights_exist,
+    chosen_atoms_are_named, listed_sets_are_minimal, picks_exist, queries_are_their_own_instances,
+    stated_orders_exist, weights_exist,
 };
 use esto_universal::{
     plans_of_runs_are_universal, plans_tell_satisfiable_queries, runs_have_one_outcome,
@@ -37,6 +39,33 @@ pub(crate) fn lists_are_exact()
     picks_exist();
 }
 
+/// A law: where the files say a catalogue and a query over it, each outcome of `run` prints exactly the answers of the
+/// chosen listed set over the rows of the files, which are the query's over each database that they are the view rows of;
+/// or it tells that the query is unsatisfiable, or that it has no executable rewriting, exactly where it is so.
+pub(crate) fn runs_are_exact()
+    ensures { OutcomesAreRuns }
+{
+    catalogues_are_sound();
+    catalogues_are_determined();
+    queries_are_sound();
+    rules_are_sound();
+    readings_are_determined();
+    plans_tell_satisfiable_queries();
+    plans_of_runs_are_universal();
+    plans_are_sound();
+    queries_are_their_own_instances();
+    listed_sets_cover_rewritings();
+    listed_sets_are_minimal();
+    stated_orders_exist();
+    weights_exist();
+    picks_exist();
+    runs_have_one_outcome();
+    used_fragments_are_one();
+    rising_rows_are_one();
+    rewritings_answer_queries();
+    chosen_atoms_are_named();
+}
+
 /// A law: the same words over the same files have at most one outcome.
 pub fn outcomes_are_determined()
     ensures { OutcomesAreDetermined }
@@ -50,4 +79,6 @@ pub fn outcomes_are_determined()
     stated_orders_exist();
     weights_exist();
     picks_exist();
+    used_fragments_are_one();
+    rising_rows_are_one();
 }

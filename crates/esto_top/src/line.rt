@@ -2,7 +2,7 @@
 ghost use Rattle.std.specs.Prelude.{◌≡◌, ◌+◌, ◌++◌, IfOk, OnOk, codes};
 ghost use Rattle.std.specs.Fmt.{decimal};
 ghost use Rattle.std.specs.List.{flat_map};
-ghost use Rattle.esto_top.specs.Line.{catalogue_word, clash_text, kind_word, line_of, section_word, way_text, within_text};
+ghost use Rattle.esto_top.specs.Line.{catalogue_word, clash_text, file_word, kind_word, line_of, section_word, way_text, within_text};
 ghost use Rattle.esto_list.specs.Text.{constant_text};
 ghost use Rattle.esto_top.specs.declared.status.Status.TheVariants as status;
 
@@ -12,6 +12,7 @@ use esto_acyclic::Cycle;
 use esto_catalog::{CatalogueFault, CatalogueKind, Section};
 use esto_chase::Clash;
 use esto_list::put_constant;
+use esto_ports::{FileFault, FileKind};
 use esto_term::{Bytes, OutOfMemory, Text};
 use esto_text::{TextFault, TextKind};
 use std::alloc::Global;
@@ -216,8 +217,45 @@ fn unsatisfiable_line(alloc: Global, clash: &Clash) -> Result<Bytes, OutOfMemory
     Ok(line)
 }
 
-/// The line of a status, ended by a line feed. Done and OutOfMemory have none. The name of a file and the key of a
-/// catalogue are written as one CSV cell. A cycle is written as the names of its relations with arrows between them,
+// The word of a kind of a file's fault.
+fn file_word(kind: FileKind) -> &'static str
+    ensures { result.now ≡ file_word kind }
+{
+    match kind {
+        FileKind::NoHeader => "NoHeader",
+        FileKind::Header => "Header",
+        FileKind::Length => "Length",
+        FileKind::NotUtf8 => "NotUtf8",
+        FileKind::BadJson => "BadJson",
+        FileKind::NotArray => "NotArray",
+        FileKind::Cells => "Cells",
+    }
+}
+
+// The line of a fault of a fragment's file.
+fn bad_fragment_line(alloc: Global, name: &Text, fault: FileFault) -> Result<Bytes, OutOfMemory>
+    ensures { IfOk result (λ line. line ≡ line_of (status.BadFragment name.now fault)) }
+{
+    let cell = cell_text(alloc, name.bytes())?;
+    let word = file_word(fault.kind);
+    let place = fault.place;
+    let end = format!(in alloc; " {word} {place}\n")?;
+    let mut line = Bytes::from_slice(alloc, b"BadFragment ")?;
+    line.append(cell.bytes())?;
+    line.append(end.as_str().as_bytes())?;
+    Ok(line)
+}
+
+// The line of a number above the length of the list.
+fn no_such_number_line(alloc: Global, number: u64, listed: u64) -> Result<Bytes, OutOfMemory>
+    ensures { IfOk result (λ line. line ≡ line_of (status.NoSuchNumber number listed)) }
+{
+    let line = format!(in alloc; "NoSuchNumber {number} {listed}\n")?;
+    Bytes::from_slice(alloc, line.as_str().as_bytes())
+}
+
+/// The line of a status, ended by a line feed. Done and OutOfMemory have none. The name of a file or a fragment and the
+/// key of a catalogue are written as one CSV cell. A cycle is written as the names of its relations with arrows between them,
 /// back to the first. Of a clash two constants are written as a list writes them, the lesser first, and a denial as
 /// `constraint` and its number among all rules, counted from 1.
 pub fn status_line(alloc: Global, status: &Status) -> Result<Bytes, OutOfMemory>
@@ -233,7 +271,10 @@ pub fn status_line(alloc: Global, status: &Status) -> Result<Bytes, OutOfMemory>
         Status::BadCatalogue(fault) => bad_catalogue_line(alloc, fault),
         Status::BadQuery(fault) => bad_query_line(alloc, *fault),
         Status::NotAcyclic(cycle) => not_acyclic_line(alloc, cycle),
+        Status::BadFragment(name, fault) => bad_fragment_line(alloc, name, *fault),
         Status::Unsatisfiable(clash) => unsatisfiable_line(alloc, clash),
+        Status::NoRewriting => Bytes::from_slice(alloc, b"NoRewriting\n"),
+        Status::NoSuchNumber(number, listed) => no_such_number_line(alloc, *number, *listed),
         Status::NotBuilt => Bytes::from_slice(alloc, b"NotBuilt\n"),
     }
 }

@@ -35,8 +35,8 @@ fn plan_of(alloc: Global, query: &Query, catalogue: &Catalogue) -> Result<Plan, 
     }
 }
 
-// The list of the plan.
-fn listing_of(
+/// The list of the plan.
+pub fn listing_of(
     alloc: Global,
     plan: &Plan,
     query: &Query,

@@ -6,6 +6,7 @@ ghost use Rattle.esto_top.specs.declared.status.Status.TheVariants as status;
 use esto_acyclic::Cycle;
 use esto_catalog::CatalogueFault;
 use esto_chase::Clash;
+use esto_ports::FileFault;
 use esto_term::{OutOfMemory, Text};
 use esto_text::TextFault;
 
@@ -30,8 +31,14 @@ pub enum Status {
     BadQuery(TextFault),
     /// By the catalogue's constraints a relation leads back to itself, along this cycle.
     NotAcyclic(Cycle),
+    /// The content of the file of the fragment of this name has this first fault.
+    BadFragment(Text, FileFault),
     /// No database that meets the catalogue's rules gives the query an answer: its chase ends with this clash.
     Unsatisfiable(Clash),
+    /// No executable query over the fragments is equivalent to the query, so no set is listed.
+    NoRewriting,
+    /// The first number was asked for, counted from 1, and so many sets are listed, which are fewer.
+    NoSuchNumber(u64, u64),
     /// The command, or the form of the catalogue, is not built yet.
     NotBuilt,
 }
@@ -59,7 +66,10 @@ impl Status {
             Status::BadCatalogue(_) => 6,
             Status::BadQuery(_) => 7,
             Status::NotAcyclic(_) => 8,
+            Status::BadFragment(_, _) => 9,
             Status::Unsatisfiable(_) => 10,
+            Status::NoRewriting => 11,
+            Status::NoSuchNumber(_, _) => 12,
             Status::NotBuilt => 18,
         }
     }

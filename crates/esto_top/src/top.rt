@@ -5,11 +5,12 @@ ghost use Rattle.esto_top.specs.Answers.{Answers};
 ghost use Rattle.esto_top.specs.Determined.{ExactWhereTold};
 ghost use Rattle.esto_top.specs.Grammar.{course_of};
 ghost use Rattle.esto_top.specs.Headline.{ListsWhereTold, RefusesWhereTold};
+ghost use Rattle.esto_top.specs.Runs.{RunsWhereTold};
 ghost use Rattle.esto_top.specs.Outcome.{Mediates, CompleteWhereTold, CausedReadFault, CausedWriteFault};
 
 use crate::command::{command_of, obey};
 use crate::ending::{Reply, finish};
-use crate::laws::{lists_are_exact, outcomes_are_determined};
+use crate::laws::{lists_are_exact, outcomes_are_determined, runs_are_exact};
 use crate::status::Status;
 use esto_ports::{Shelf, Sink};
 use esto_term::Text;
@@ -64,6 +65,16 @@ pub fn mediate<S: Shelf, O: Sink>(
         (Rises S.faults shelf.old shelf.new) (Rises O.faults out.old out.new) (O.written out.old)
         (O.written out.new) result }
 
+    // The headline of `run`, where the files say a catalogue and a query over it. Where a listed set is the pick, or has the
+    // number that is asked for, and the files of the fragments that it uses are readable, the status is Done and the text
+    // is that of exactly the answers of the set's candidate over the rows of the files, each once, in order. For each
+    // database that meets the rules, and whose view rows are the rows of these files, they are exactly the query's answers.
+    // The status is Unsatisfiable, and the text the names of the query's head, exactly where no database that meets the
+    // rules gives the query an answer; else it is NoRewriting exactly where the query has no executable rewriting.
+    ensures run { RunsWhereTold words.now (S.files shelf.old)
+        (Rises S.faults shelf.old shelf.new) (Rises O.faults out.old out.new) (O.written out.old)
+        (O.written out.new) result }
+
     // A fault has its cause.
     ensures read_fault { CausedReadFault (course_of words.now (S.files shelf.old))
         (Rises S.faults shelf.old shelf.new) (O.written out.old) (O.written out.new) result }
@@ -77,6 +88,7 @@ pub fn mediate<S: Shelf, O: Sink>(
     ensures sink_later { O.faults out.old ≤ O.faults out.new }
 {
     lists_are_exact();
+    runs_are_exact();
     outcomes_are_determined();
     let answer = answer(alloc, words, shelf);
     finish(alloc, answer, out)

@@ -15,4 +15,6 @@ returns c =
       orders = c.stated_orders_exist.ensures.one;
       weights = c.weights_exist.ensures.one;
       picks = c.picks_exist.ensures.one;
+      used = c.used_fragments_are_one.ensures;
+      rising = c.rising_rows_are_one.ensures;
     })

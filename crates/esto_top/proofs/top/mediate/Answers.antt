@@ -1,5 +1,6 @@
 use Rattle.esto_top.proofs.DeterminedLemmas.{exact}
 use Rattle.esto_top.proofs.HeadlineLemmas.{holds_of_lists}
+use Rattle.esto_top.proofs.RunsLemmas.{runs_where_told}
 use Rattle.esto_top.proofs.Mediation.{mediates, complete, read_fault, write_fault}
 use Rattle.esto_top.proofs.top.mediate.Goals as goal
 
@@ -28,4 +29,9 @@ returns-clause-refusal g c =
 pub returns-clause-exact : goal.returns-clause-exact
 returns-clause-exact g c =
     exact c.outcomes_are_determined.ensures c.args.words.now _ _ _ _ _ _
+    (complete c.args.words.now _ _ _ _ _ _ (mediates _ _ _ _ _ _ _ c.answer-answer.ensures.answer c.finish.ensures.put))
+
+pub returns-clause-run : goal.returns-clause-run
+returns-clause-run g c =
+    runs_where_told c.runs_are_exact.ensures c.args.words.now _ _ _ _ _ _
     (complete c.args.words.now _ _ _ _ _ _ (mediates _ _ _ _ _ _ _ c.answer-answer.ensures.answer c.finish.ensures.put))

@@ -1,0 +1,225 @@
+-- The set that is run, and the text of its rows.
+use Rattle.either.specs.declared.Either.TheVariants.{Left, Right}
+use Rattle.std.proofs.Common.{◌≡◌, ◌≢◌, ◌↔◌, ◌<◌, ◌≤◌, ◌-◌, ℕ, Bool, List, [], ◌∷◌, map, length, All, Contains, slice_get, get_or, Option, Some, None, Result, Ok, Err, refl, sym, ap, subst, ◌∙◌, arith}
+use Rattle.std.specs.List.{AllPairs}
+use Rattle.std.proofs.lemmas.List.Elements.{Contains-get_or}
+use Rattle.std.proofs.lemmas.List.{length-map}
+use Rattle.std.proofs.lemmas.Option.{slice_get_within, get_or_from_slice_get}
+use Rattle.esto_catalog.specs.declared.catalogue.Catalogue.{Catalogue}
+use Rattle.esto_chase_laws.specs.declared.clash.Clash.{Clash}
+use Rattle.esto_course.specs.Course.{Course, Stops, judges, gives, and_then}
+use Rattle.esto_course.specs.Course.Stops.{refused}
+use Rattle.esto_course.proofs.Steps.{caused_more, first_stops, then_goes, then_stops}
+use Rattle.esto_list.specs.Items.{sets_of, totals_of}
+use Rattle.esto_list.specs.declared.listing.Listed.{Listed}
+use Rattle.esto_ports.specs.Files.{Files}
+use Rattle.esto_query.specs.declared.query.Query.{Query}
+use Rattle.esto_run.specs.Answers.{IsAnswersText, rows_text}
+use Rattle.esto_run.specs.Laws.{AnswersAreOverFiles, IsAnswerOver, UsesOnly}
+use Rattle.esto_run.specs.Opened.{AreOpened}
+use Rattle.esto_run.specs.Stores.{IsFileRow}
+use Rattle.esto_run.specs.Used.{AreUsed, UsesFirst}
+use Rattle.esto_run.proofs.UsedLemmas.{first_use}
+use Rattle.esto_plan.specs.Planned.{IsSafeOrder}
+use Rattle.esto_plan.specs.Rows.{IsRowOf, held_by}
+use Rattle.esto_semantics.specs.Access.{IsOrder, IsStatedOrder}
+use Rattle.esto_semantics.specs.Listed.{IsPick, candidate, chosen}
+use Rattle.esto_semantics.specs.ListedLaws.{ChosenAreNamed}
+use Rattle.esto_semantics.specs.declared.fact.Fact.{Fact}
+use Rattle.esto_stores.specs.Rows.{Row}
+use Rattle.esto_term.specs.declared.term.Term.{Term}
+use Rattle.esto_term.proofs.ListLemmas.{Contains-at, Contains-map, Contains-map_from}
+use Rattle.esto_views.specs.Fragments.{patterns_of}
+use Rattle.esto_views.specs.Plans.{IsPlanOver, fact_of, plan_query}
+use Rattle.esto_views.specs.declared.fragments.FragmentDef.{FragmentDef}
+use Rattle.esto_views.specs.declared.plan.Plan.{Plan}
+use Rattle.esto_top.specs.Answers.{IsWant, IsCaused, Answers}
+use Rattle.esto_top.specs.Fragments.{opens_fragments}
+use Rattle.esto_top.specs.Listing.{IsClash, IsListOf, IsPlanned}
+use Rattle.esto_top.specs.Opening.{opens_catalogue, opens_query}
+use Rattle.esto_top.specs.Run.{IsItemOf, IsPlace, HasNoPlace, IsRunText, chooses, ends_query, lists_plan, runs_end, run_course, runs_item, runs_plan, runs_query}
+use Rattle.esto_top.specs.Run.HasNoPlace.{is_empty, is_above}
+use Rattle.esto_top.specs.declared.ending.Reply.{Reply}
+use Rattle.esto_top.specs.declared.ending.Reply.TheVariants.{Done, Unsatisfiable}
+use Rattle.esto_top.specs.declared.status.Status.{Status}
+use Rattle.esto_top.specs.declared.status.Status.TheVariants.{NoRewriting, NoSuchNumber}
+use Rattle.esto_top.proofs.Steps.{caused_weaker}
+
+-- ---- the choice
+
+module _ (items : List Listed) (number : Option ℕ) where
+  pub none_listed : items ≡ [] → Stops IsWant (IsCaused ⊥) (chooses items number) NoRewriting
+  unfolding judges
+  none_listed none = refused (record { cause = tt }) (is_empty none refl)
+
+  pub picked : (pick : ℕ) → number ≡ None → IsPick (totals_of items) pick → (chooses items number).goes pick
+  unfolding judges
+  picked pick none is = subst (λ it. IsPlace items it pick) (sym none) is
+
+  module _ (pick : ℕ) (is_pick : IsPick (totals_of items) pick) where
+    some_listed : 0 < length items
+    some_listed = omega (arith, is_pick.there, length-map items (λ item. item.weight))
+
+    pub above : (asked listed : ℕ) → number ≡ Some asked → listed ≡ length items → listed < asked
+        → Stops IsWant (IsCaused ⊥) (chooses items number) (NoSuchNumber asked listed)
+    unfolding judges
+    above asked listed is length_is less = refused (record { cause = tt })
+        (is_above asked is (λ none. omega (arith, some_listed, ap length none)) (omega (arith, less, length_is)) (ap (NoSuchNumber asked) length_is))
+
+    pub numbered : (asked place : ℕ) → number ≡ Some asked → asked ≤ length items → place ≡ asked - 1 → (chooses items number).goes place
+    unfolding judges
+    numbered asked place is le place_is = subst (λ it. IsPlace items it place) (sym is) (place_is, omega (arith, some_listed, le, place_is))
+
+-- the place is one of the list
+pub place_within : (items : List Listed) (number : Option ℕ) (place : ℕ) → (chooses items number).goes place → place < length items
+unfolding judges
+place_within items None place is = omega (arith, is.there, length-map items (λ item. item.weight))
+place_within items (Some number) place is = is.1
+
+-- ---- the item
+
+all_at : (P : Listed → Type 0) (items : List Listed) → All P items → (place : ℕ) (item : Listed) → slice_get items place ≡ Some item → P item
+all_at P items all place item is =
+    subst P (get_or_from_slice_get items place item item is) (all place item (slice_get_within items place item is))
+
+-- an item of the list has a listed set and its stated order
+pub item_of : (catalogue : Catalogue) (query : Query) (plan : Plan) (items : List Listed) → IsListOf catalogue query plan items → (place : ℕ) (item : Listed)
+    → slice_get items place ≡ Some item → IsItemOf catalogue query plan item
+item_of catalogue query plan items list place item is = record {
+  set = (list.sets.exact item.set).0 (Contains-map (λ it. it.set) items item (Contains-at items place item is));
+  order = all_at (λ it. IsStatedOrder (patterns_of catalogue.fragments) (plan_query plan).body it.set it.order) items list.orders place item is;
+}
+
+pub safe_order : (catalogue : Catalogue) (query : Query) (plan : Plan) (item : Listed) → IsItemOf catalogue query plan item
+    → IsSafeOrder (patterns_of catalogue.fragments) (plan_query plan) item.order
+safe_order catalogue query plan item is = (item.set, is.order.is_order, is.set.0.safe)
+
+-- ---- the fragments
+
+-- the fragments that a set uses are there
+pub used_are_there : (plan : Plan) (fragments : List FragmentDef) (set : List Bool) (numbers : List ℕ) → IsPlanOver plan fragments
+    → AreUsed (plan_query plan).body set numbers → (number : ℕ) → Contains numbers number → number < length fragments
+used_are_there plan fragments set numbers over used number inside =
+    let place = (used.exact number).0 inside in
+    let atom : Fact Term = place.1.1.0 in
+    let own = Contains-map_from fact_of plan.atoms atom (Contains-at (plan_query plan).body place.0 atom place.1.1.1) in
+    let found = over own.0 own.1 in
+    let fragment : own.0.fragment ≡ number = ap (λ (it : Fact Term). it.relation) own.2 ∙ place.1.1.2 in
+    subst (λ (it : ℕ). it < length fragments) fragment (slice_get_within fragments own.0.fragment found.0 found.1)
+
+-- each of them once
+pub used_once : (atoms : List (Fact Term)) (set : List Bool) (numbers : List ℕ) → AreUsed atoms set numbers → AllPairs ◌≢◌ numbers
+used_once atoms set numbers used = λ i j d less within same.
+    let use_of = (used.exact (get_or numbers i d)).0 (Contains-get_or numbers i d (omega (arith, less, within))) in
+    let first = first_use atoms set (get_or numbers i d) use_of.0 use_of.1 in
+    let below = used.rising i j d less within first.0 first.0 first.2 (subst (λ (it : ℕ). UsesFirst atoms set it first.0) same first.2) in
+    omega (arith, below)
+
+-- and they are all that its candidate uses
+pub uses_only : ChosenAreNamed → (plan : Plan) (set : List Bool) (numbers : List ℕ) → AreUsed (plan_query plan).body set numbers
+    → UsesOnly numbers (candidate (plan_query plan) set)
+uses_only named plan set numbers used atom inside =
+    let found = (named set (plan_query plan).body atom).0 inside in
+    (used.exact atom.relation).1 (found.0, (found.1, (atom, found.2, refl)))
+
+-- ---- the text
+
+-- the text of rows is that of the same rows
+pub same_rows : (query : Query) (Has Other : Row → Type 0) (text : List ℕ) → ((row : Row) → Has row ↔ Other row) → IsAnswersText query Has text
+    → IsAnswersText query Other text
+same_rows query Has Other text same is = record {
+  rows = is.rows;
+  exact = λ row. (λ inside. (same row).0 ((is.exact row).0 inside), λ other. (is.exact row).1 ((same row).1 other));
+  rising = is.rising;
+  printed = is.printed;
+}
+
+-- over the rows of the files of all fragments that are used, the text is that of the candidate's answers over the files
+pub text_over_files : AnswersAreOverFiles → ChosenAreNamed → (catalogue : Catalogue) (query : Query) (plan : Plan) (set : List Bool) (numbers : List ℕ)
+    (contents : ℕ → List ℕ) (opened : List (List Row)) (text : List ℕ) → AreUsed (plan_query plan).body set numbers
+    → AreOpened catalogue.stores contents numbers opened
+    → IsAnswersText query (IsAnswerOver (IsRowOf (held_by opened)) (candidate (plan_query plan) set)) text
+    → IsRunText catalogue query plan set contents text
+text_over_files over named catalogue query plan set numbers contents opened text used are is =
+    same_rows query (IsAnswerOver (IsRowOf (held_by opened)) (candidate (plan_query plan) set))
+    (IsAnswerOver (IsFileRow catalogue.stores contents) (candidate (plan_query plan) set)) text
+    (over catalogue.stores contents numbers opened (candidate (plan_query plan) set) are (uses_only named plan set numbers used)) is
+
+-- ---- the item's course
+
+module _ (files : Option Files) (catalogue : Catalogue) (query : Query) (plan : Plan) (item : Listed) (numbers : List ℕ)
+    (used : AreUsed (plan_query plan).body item.set numbers) where
+  -- a file of the set's is not opened
+  pub item_stops : {rose : Type 0} {refusal : Status} → Stops IsWant (IsCaused rose) (opens_fragments files catalogue numbers) refusal
+      → Stops IsWant (IsCaused rose) (runs_item files catalogue query plan item) refusal
+  unfolding judges
+  item_stops stops = then_stops (judges (AreUsed (plan_query plan).body item.set) (λ _. ⊥)) _ numbers used (first_stops _ _ stops)
+
+  -- all are opened, and the text is made
+  pub item_goes : (contents : ℕ → List ℕ) (text : List ℕ) → (opens_fragments files catalogue numbers).goes contents
+      → IsRunText catalogue query plan item.set contents text → (runs_item files catalogue query plan item).goes (Done text)
+  unfolding and_then judges gives
+  item_goes contents text goes is = (numbers, used, (contents, goes, (text, is, refl)))
+
+-- ---- the plan's course
+
+module _ (files : Option Files) (catalogue : Catalogue) (query : Query) (number : Option ℕ) (plan : Plan) (items : List Listed)
+    (list : IsListOf catalogue query plan items) where
+  -- no item is chosen
+  pub choice_stops : {rose : Type 0} {refusal : Status} → Stops IsWant (IsCaused ⊥) (chooses items number) refusal
+      → Stops IsWant (IsCaused rose) (runs_plan files catalogue query number plan) refusal
+  unfolding judges
+  choice_stops {refusal = refusal} stops = then_stops (lists_plan catalogue query plan) _ items list
+      (first_stops _ _ (caused_more _ refusal (caused_weaker (λ none. absurd none)) stops))
+
+  module _ (place : ℕ) (chosen : (chooses items number).goes place) (item : Listed) (there : slice_get items place ≡ Some item) where
+    -- the chosen item is not run
+    pub chosen_stops : {rose : Type 0} {refusal : Status} → Stops IsWant (IsCaused rose) (runs_item files catalogue query plan item) refusal
+        → Stops IsWant (IsCaused rose) (runs_plan files catalogue query number plan) refusal
+    unfolding judges
+    chosen_stops stops = then_stops (lists_plan catalogue query plan) _ items list (then_stops (chooses items number) _ place chosen
+        (then_stops (judges (λ it. slice_get items place ≡ Some it) (λ _. ⊥)) (runs_item files catalogue query plan) item there stops))
+
+    pub chosen_goes : (reply : Reply) → (runs_item files catalogue query plan item).goes reply → (runs_plan files catalogue query number plan).goes reply
+    unfolding judges
+    chosen_goes reply goes = then_goes (lists_plan catalogue query plan) _ items reply list (then_goes (chooses items number) _ place reply chosen
+        (then_goes (judges (λ it. slice_get items place ≡ Some it) (λ _. ⊥)) (runs_item files catalogue query plan) item reply there goes))
+
+-- ---- the query's course
+
+module _ (files : Option Files) (catalogue : Catalogue) (query : Query) (number : Option ℕ) where
+  pub plan_goes : (plan : Plan) → IsPlanned catalogue query plan → (reply : Reply) → (runs_plan files catalogue query number plan).goes reply
+      → (runs_query files catalogue query number).goes reply
+  unfolding judges
+  plan_goes plan planned reply goes = then_goes (ends_query catalogue query) (runs_end files catalogue query number) (Left plan) reply planned goes
+
+  pub plan_stops : {rose : Type 0} {refusal : Status} (plan : Plan) → IsPlanned catalogue query plan
+      → Stops IsWant (IsCaused rose) (runs_plan files catalogue query number plan) refusal
+      → Stops IsWant (IsCaused rose) (runs_query files catalogue query number) refusal
+  unfolding judges
+  plan_stops plan planned stops = then_stops (ends_query catalogue query) (runs_end files catalogue query number) (Left plan) planned stops
+
+  pub clash_goes : (clash : Clash) → IsClash catalogue query clash → (reply : Reply) → reply ≡ Unsatisfiable clash (rows_text query [])
+      → (runs_query files catalogue query number).goes reply
+  unfolding judges gives
+  clash_goes clash clashes reply is = then_goes (ends_query catalogue query) (runs_end files catalogue query number) (Right clash) reply clashes is
+
+-- ---- the whole course
+
+module _ (files read_files query_files : Option Files) (same : read_files ≡ files) (same_too : query_files ≡ read_files)
+    (catalogue_name query_name : List ℕ) (number : Option ℕ) (catalogue : Catalogue) (read : (opens_catalogue files catalogue_name).goes catalogue)
+    (query : Query) (read_too : (opens_query read_files query_name catalogue).goes query) where
+  query_read : (opens_query files query_name catalogue).goes query
+  query_read = subst (λ (it : Option Files). (opens_query it query_name catalogue).goes query) same read_too
+
+  pub course_goes : (reply : Reply) → (runs_query query_files catalogue query number).goes reply
+      → (run_course files catalogue_name query_name number).goes reply
+  course_goes reply goes = then_goes (opens_catalogue files catalogue_name) _ catalogue reply read
+      (then_goes (opens_query files query_name catalogue) (λ it. runs_query files catalogue it number) query reply query_read
+      (subst (λ (it : Option Files). (runs_query it catalogue query number).goes reply) (same_too ∙ same) goes))
+
+  pub course_stops : {rose : Type 0} {refusal : Status} → Stops IsWant (IsCaused rose) (runs_query query_files catalogue query number) refusal
+      → Stops IsWant (IsCaused rose) (run_course files catalogue_name query_name number) refusal
+  course_stops {rose} {refusal} stops = then_stops (opens_catalogue files catalogue_name) _ catalogue read
+      (then_stops (opens_query files query_name catalogue) (λ it. runs_query files catalogue it number) query query_read
+      (subst (λ (it : Option Files). Stops IsWant (IsCaused rose) (runs_query it catalogue query number) refusal) (same_too ∙ same) stops))

@@ -1,0 +1,548 @@
+-- What `run` answers where the files say a catalogue and a query over it.
+use Rattle.std.proofs.Common.{◌≡◌, ◌≢◌, ◌⊎◌, ◌↔◌, ◌==◌, ◌<◌, ℕ, suc, true, false, Bool, IsTrue, List, [], ◌∷◌, map, length, slice_get, Contains, Option, Some, None, refl, sym, ap, subst, ◌∙◌, inl, inr, arith}
+use Rattle.std.specs.Prelude.{codes}
+use Rattle.std.proofs.lemmas.Bool.Decides.{nat_tests}
+use Rattle.std.proofs.lemmas.Option.{same_Some, none-some}
+use Rattle.either.specs.declared.Either.{Either}
+use Rattle.either.specs.declared.Either.TheVariants.{Left, Right}
+use Rattle.esto_catalog.specs.Determined.{AreSame, CataloguesAreSound, HaveOneCatalogue, HaveNoError}
+use Rattle.esto_catalog.specs.Reading.{IsCatalogueOf}
+use Rattle.esto_catalog.specs.declared.catalogue.Catalogue.{Catalogue}
+use Rattle.esto_catalog.specs.declared.catalogue.Store.{Store}
+use Rattle.esto_chase_laws.specs.declared.clash.Clash.{Clash}
+use Rattle.esto_constraint.specs.Constraints.{rules_of}
+use Rattle.esto_course.specs.Course.{Course, judges, gives, and_then, each}
+use Rattle.esto_list.specs.Items.{sets_of}
+use Rattle.esto_list.specs.declared.listing.Listed.{Listed}
+use Rattle.esto_ports.specs.Files.{Files}
+use Rattle.esto_query.specs.Making.{query_of}
+use Rattle.esto_query.specs.declared.query.Query.{Query}
+use Rattle.esto_read.specs.Readings.{HaveOneReading, HaveNoFault}
+use Rattle.esto_run.specs.Answers.{rows_text}
+use Rattle.esto_run.specs.Laws.{IsAnswerOver, FilesHoldViewRows, RewritingsAnswerQueries}
+use Rattle.esto_run.specs.Stores.{IsFileRow, IsRowIn}
+use Rattle.esto_run.specs.Used.{AreUsed}
+use Rattle.esto_semantics.specs.Facts.{Database}
+use Rattle.esto_semantics.specs.Listed.{IsListed, candidate}
+use Rattle.esto_semantics.specs.ListedLaws.{ChosenAreNamed}
+use Rattle.esto_semantics.specs.Queries.{ConjunctiveQuery, IsAnswer}
+use Rattle.esto_semantics.specs.Rules.{Meets}
+use Rattle.esto_semantics.specs.declared.fact.Fact.{Fact}
+use Rattle.esto_semantics.specs.declared.fact.Value.{Value}
+use Rattle.esto_semantics.specs.declared.fact.Value.TheVariants.{Text}
+use Rattle.esto_stores.specs.Rows.{Row}
+use Rattle.esto_term.specs.declared.term.Term.{Term}
+use Rattle.esto_term.proofs.ListLemmas.{Contains-nil, Contains-head, Contains-rest, Contains-cases}
+use Rattle.esto_views.specs.Fragments.{views_of, patterns_of}
+use Rattle.esto_views.specs.Plans.{plan_query}
+use Rattle.esto_views.specs.declared.plan.Plan.{Plan}
+use Rattle.esto_top.specs.Answers.{IsCaused}
+use Rattle.esto_top.specs.Fetch.{FetchStops, fetches}
+use Rattle.esto_top.specs.Fetch.FetchStops.{fails, is_longer}
+use Rattle.esto_top.specs.Fragments.{IsStoredAt, content_fault, reads_content, opens_stored, opens_fragment, opens_next, opens_fragments, with_content, no_contents}
+use Rattle.esto_top.specs.Grammar.{course_of, course_of_asked, request_of, is_list_number, value_of}
+use Rattle.esto_top.specs.Headline.{FilesSay, HasAnswers, HasWithin, Rewrites}
+use Rattle.esto_top.specs.Line.{line_of}
+use Rattle.esto_top.specs.Listing.{IsClash, IsListOf, IsPlanned}
+use Rattle.esto_top.specs.Outcome.{Says, CompleteWhereTold, reply_status, reply_text}
+use Rattle.esto_top.specs.Run.{IsPlace, HasNoPlace, IsRunText, runs_query, run_course}
+use Rattle.esto_top.specs.Run.HasNoPlace.{is_empty, is_above}
+use Rattle.esto_top.specs.Runs.{AsksRun, IsReadable, CanRun, PrintsAnswers, PrintsRun, SaidOfRuns, RunsExactly, RefusesRun, NeedsRewriting, IsExactRun, OutcomesAreRuns, RunsWhereTold}
+use Rattle.esto_top.specs.declared.ending.Reply.{Reply}
+use Rattle.esto_top.specs.declared.ending.Reply.TheVariants.{Done, Unsatisfiable}
+use Rattle.esto_top.specs.declared.fragments.TheConstants.{FRAGMENT_LIMIT}
+use Rattle.esto_top.specs.declared.status.Status.{Status}
+use Rattle.esto_top.specs.declared.status.Status.TheVariants as status
+use Rattle.esto_top.proofs.AlikeLemmas.{IsSameQuery, planned_moved, clash_moved, list_moved}
+use Rattle.esto_top.proofs.AlikeRunLemmas.{same_store, same_fault, same_rows_text, run_text_moved}
+use Rattle.esto_top.proofs.HeadlineLemmas.{ListingLaws, clash_excludes, plan_tells, empty-without}
+use Rattle.esto_top.proofs.LeadLemmas.{Leads, then-leads, leads-more, gives-leads, judges-leads, fetches-leads, says-leads}
+use Rattle.esto_top.proofs.OneListLemmas.{first_same, rest_same}
+use Rattle.esto_top.proofs.RuleLemmas.{are_rules}
+use Rattle.esto_top.proofs.RunAgreeLemmas.{one_place, no_cause}
+use Rattle.esto_top.proofs.RunLemmas.{item_of, same_rows, uses_only}
+use Rattle.esto_top.proofs.SameListLemmas.{ListLaws, IsSamePlan, items_one}
+use Rattle.esto_top.proofs.SayLemmas.{IsQueryOf, catalogue_leads, query_leads, same_as_read}
+
+-- ---- the course of a query
+
+module _ (files : Files) (catalogue : Catalogue) (query : Query) (number : Option ℕ) where
+  -- how a run of the query ends with a reply: a listed set is run, or the query's run ends with a clash
+  pub data RunGoes (reply : Reply) : Type 0 where
+    is_run : (plan : Plan) → IsPlanned catalogue query plan → (items : List Listed) → IsListOf catalogue query plan items → (place : ℕ)
+        → IsPlace items number place → (item : Listed) → slice_get items place ≡ Some item → (numbers : List ℕ)
+        → AreUsed (plan_query plan).body item.set numbers → (contents : ℕ → List ℕ) → (opens_fragments (Some files) catalogue numbers).goes contents
+        → (text : List ℕ) → IsRunText catalogue query plan item.set contents text → reply ≡ Done text → RunGoes reply
+    has_clash : (clash : Clash) → IsClash catalogue query clash → reply ≡ Unsatisfiable clash (rows_text query []) → RunGoes reply
+
+  -- and how it stops: no set is chosen, or a file of the chosen set's is not opened
+  pub data RunStops (refusal : Status) : Type 0 where
+    none_chosen : (plan : Plan) → IsPlanned catalogue query plan → (items : List Listed) → IsListOf catalogue query plan items
+        → HasNoPlace items number refusal → RunStops refusal
+    not_opened : (plan : Plan) → IsPlanned catalogue query plan → (items : List Listed) → IsListOf catalogue query plan items → (place : ℕ)
+        → IsPlace items number place → (item : Listed) → slice_get items place ≡ Some item → (numbers : List ℕ)
+        → AreUsed (plan_query plan).body item.set numbers → IsCaused ⊥ refusal → (opens_fragments (Some files) catalogue numbers).stops refusal
+        → RunStops refusal
+
+  run_goes : (reply : Reply) → (runs_query (Some files) catalogue query number).goes reply → RunGoes reply
+  unfolding and_then judges gives
+  run_goes reply (Left plan, planned, (items, list, (place, chosen, (item, there, (numbers, used, (contents, opened, (text, printed, is))))))) =
+      is_run plan planned items list place chosen item there numbers used contents opened text printed is
+  run_goes reply (Right clash, clashes, is) = has_clash clash clashes is
+
+  run_stops : (refusal : Status) → IsCaused ⊥ refusal → (runs_query (Some files) catalogue query number).stops refusal → RunStops refusal
+  unfolding and_then judges gives
+  run_stops refusal caused (inl never) = absurd never
+  run_stops refusal caused (inr (Right clash, clashes, never)) = absurd never
+  run_stops refusal caused (inr (Left plan, planned, inl never)) = absurd never
+  run_stops refusal caused (inr (Left plan, planned, inr (items, list, inl none))) = none_chosen plan planned items list none
+  run_stops refusal caused (inr (Left plan, planned, inr (items, list, inr (place, chosen, inl never)))) = absurd never
+  run_stops refusal caused (inr (Left plan, planned, inr (items, list, inr (place, chosen, inr (item, there, inl never))))) = absurd never
+  run_stops refusal caused (inr (Left plan, planned, inr (items, list, inr (place, chosen, inr (item, there, inr (numbers, used, inl stops)))))) =
+      not_opened plan planned items list place chosen item there numbers used caused stops
+  run_stops refusal caused (inr (
+    Left plan,
+    planned,
+    inr (
+      items,
+      list,
+      inr (
+        place,
+        chosen,
+        inr (
+          item,
+          there,
+          inr (
+            numbers,
+            used,
+            inr (contents, opened, inl never),
+          ),
+        ),
+      ),
+    ),
+  )) =
+      absurd never
+  run_stops refusal caused (inr (
+    Left plan,
+    planned,
+    inr (
+      items,
+      list,
+      inr (
+        place,
+        chosen,
+        inr (
+          item,
+          there,
+          inr (
+            numbers,
+            used,
+            inr (contents, opened, inr (text, printed, never)),
+          ),
+        ),
+      ),
+    ),
+  )) = absurd never
+
+  pub query_runs : Leads (runs_query (Some files) catalogue query number) RunGoes RunStops
+  query_runs = record { goes = run_goes; stops = run_stops }
+
+-- ---- the files
+
+-- files that are not opened are no cause for NoRewriting
+module _ (files : Files) (catalogue : Catalogue) where
+  abbrev IsOther : Status → Type 0
+  IsOther refusal = refusal ≢ status.NoRewriting
+
+  fetch_other : (name : List ℕ) (limit : ℕ) → Leads (fetches (Some files) name limit) (λ _. Unit {0}) IsOther
+  unfolding fetches
+  fetch_other name limit = record { goes = λ bytes goes. tt; stops = λ refusal caused stops. other refusal stops }
+    where
+      other : (refusal : Status) → FetchStops (Some files) name limit refusal → IsOther refusal
+      other refusal (fails is) = λ none. let h : status.ReadFault name ≡ status.NoRewriting = sym is ∙ none in cc
+      other refusal (is_longer file holds longer is) = λ none. let h : status.TooLong name limit ≡ status.NoRewriting = sym is ∙ none in cc
+
+  content_other : (number : ℕ) → Leads (opens_fragment (Some files) catalogue number) (λ _. Unit {0}) IsOther
+  content_other number =
+      then-leads _ _ (IsStoredAt catalogue number) _ IsOther (judges-leads _ _ IsOther (λ refusal caused never. absurd never)) (λ stored at.
+      then-leads _ _ (λ _. Unit {0}) _ IsOther (fetch_other stored.store.file FRAGMENT_LIMIT) (λ bytes fetched.
+      then-leads _ _ (λ _. content_fault stored bytes ≡ None) _ IsOther
+      (judges-leads _ _ IsOther (λ refusal caused (fault, found, is). λ none.
+      let h : status.BadFragment stored.definition.name fault ≡ status.NoRewriting = sym is ∙ none in cc))
+      (λ value good. leads-more _ (λ other. other ≡ bytes) _ IsOther (λ other is. tt) (gives-leads bytes IsOther))))
+
+  each_other : (counter : ℕ) (contents : ℕ → List ℕ) (numbers : List ℕ)
+      → Leads (each (opens_next (Some files) catalogue) counter contents numbers) (λ _. Unit {0}) IsOther
+  each_other counter contents [] = leads-more _ (λ other. other ≡ contents) _ IsOther (λ other is. tt) (gives-leads contents IsOther)
+  each_other counter contents (number ∷ rest) =
+      then-leads _ _ (λ _. Unit {0}) _ IsOther
+      (then-leads _ _ (λ _. Unit {0}) _ IsOther (content_other number) (λ bytes goes.
+      leads-more _ (λ other. other ≡ with_content contents number bytes) _ IsOther (λ other is. tt)
+      (gives-leads (with_content contents number bytes) IsOther)))
+      (λ next goes. each_other (suc counter) next rest)
+
+  pub opened_other : (numbers : List ℕ) (refusal : Status) → IsCaused ⊥ refusal → (opens_fragments (Some files) catalogue numbers).stops refusal
+      → refusal ≢ status.NoRewriting
+  opened_other numbers refusal caused stops = (each_other 0 no_contents numbers).stops refusal caused stops
+
+-- with a further content: that of its number, and the others as they were
+content_cases : (contents : ℕ → List ℕ) (number : ℕ) (bytes : List ℕ) (other : ℕ)
+    → ((other ≡ number) × (with_content contents number bytes other ≡ bytes)) ⊎ (with_content contents number bytes other ≡ contents other)
+content_cases contents number bytes other = decide (other == number) refl
+  where
+    decide : (test : Bool) → (other == number) ≡ test
+        → ((other ≡ number) × (with_content contents number bytes other ≡ bytes)) ⊎ (with_content contents number bytes other ≡ contents other)
+    decide true is = inl (grind (arith, nat_tests, is), rw is refl)
+    decide false is = inr (rw is refl)
+
+-- readable files are opened, over each catalogue that says the same
+module _ (files : Files) (catalogue other : Catalogue) (alike : AreSame catalogue other) where
+  abbrev Never : Status → Type 0
+  Never refusal = ⊥
+
+  read_leads : (number : ℕ) (bytes : List ℕ) → IsReadable files catalogue number bytes
+      → Leads (opens_fragment (Some files) other number) (λ got. got ≡ bytes) Never
+  read_leads number bytes (stored, at, has, none) =
+      then-leads _ _ (IsStoredAt other number) _ Never (judges-leads _ _ Never (λ refusal caused never. never)) (λ other_stored other_at.
+      then-leads _ _ (λ got. got ≡ bytes) _ Never
+      (fetches-leads files other_stored.store.file FRAGMENT_LIMIT bytes
+      (subst (λ (it : Store). HasWithin files it.file FRAGMENT_LIMIT bytes)
+      (same_store catalogue other alike number stored other_stored at other_at) has) Never)
+      (λ got is.
+      then-leads _ _ (λ _. content_fault other_stored got ≡ None) _ Never
+      (judges-leads _ _ Never (λ refusal caused (fault, found, said). none-some fault
+      (sym none ∙ ap (content_fault stored) (sym is) ∙ same_fault catalogue other alike number stored other_stored at other_at got ∙ found)))
+      (λ value good. leads-more _ (λ it. it ≡ got) _ Never (λ it same. same ∙ is) (gives-leads got Never))))
+
+  module _ (want : ℕ → List ℕ) where
+    -- the contents of the numbers are the wanted ones, and those of others that were stay so
+    abbrev AreWanted : List ℕ → (ℕ → List ℕ) → (ℕ → List ℕ) → Type 0
+    AreWanted numbers before got = (number : ℕ) → Contains numbers number ⊎ (before number ≡ want number) → got number ≡ want number
+
+    each_leads : (counter : ℕ) (before : ℕ → List ℕ) (numbers : List ℕ)
+        → ((number : ℕ) → Contains numbers number → IsReadable files catalogue number (want number))
+        → Leads (each (opens_next (Some files) other) counter before numbers) (AreWanted numbers before) Never
+    each_leads counter before [] readable = leads-more _ (λ got. got ≡ before) _ Never (λ got is number cases.
+        elim cases [ inl inside ↦ absurd (Contains-nil number inside) | inr same ↦ ap (λ (it : ℕ → List ℕ). it number) is ∙ same ]) (gives-leads before Never)
+    each_leads counter before (first ∷ rest) readable =
+        then-leads _ _ (λ next. next ≡ with_content before first (want first)) _ Never
+        (then-leads _ _ (λ bytes. bytes ≡ want first) _ Never (read_leads first (want first) (readable first (Contains-head first rest)))
+        (λ bytes is. leads-more _ (λ next. next ≡ with_content before first bytes) _ Never
+        (λ next same. same ∙ ap (with_content before first) is) (gives-leads (with_content before first bytes) Never)))
+        (λ next is. leads-more _ (AreWanted rest next) _ Never (λ got are. wider next is got are)
+        (each_leads (suc counter) next rest (λ number inside. readable number (Contains-rest first rest number inside))))
+      where
+        here : (next : ℕ → List ℕ) → next ≡ with_content before first (want first) → (number : ℕ)
+            → (first ≡ number) ⊎ (before number ≡ want number) → next number ≡ want number
+        here next is number cases = ap (λ (it : ℕ → List ℕ). it number) is ∙ (elim (content_cases before first (want first) number) [
+          | inl changed ↦ changed.1 ∙ ap want (sym changed.0)
+          | inr stays ↦ (elim cases [
+            | inl same ↦ subst (λ (it : ℕ). with_content before first (want first) it ≡ want it) same (own first)
+            | inr was ↦ stays ∙ was
+          ])
+        ])
+          where
+            own : (it : ℕ) → with_content before it (want it) it ≡ want it
+            own it = elim (content_cases before it (want it) it) [
+              | inl changed ↦ changed.1
+              | inr stays ↦ (let test : (it == it) ≡ true = grind (arith, nat_tests) in rw test refl)
+            ]
+
+        wider : (next : ℕ → List ℕ) → next ≡ with_content before first (want first) → (got : ℕ → List ℕ) → AreWanted rest next got
+            → AreWanted (first ∷ rest) before got
+        wider next is got are number (inr was) = are number (inr (here next is number (inr was)))
+        wider next is got are number (inl inside) = elim (Contains-cases first rest number inside) [
+          | inl same ↦ are number (inr (here next is number (inl same)))
+          | inr later ↦ are number (inl later)
+        ]
+
+    module _ (numbers : List ℕ) (readable : (number : ℕ) → Contains numbers number → IsReadable files catalogue number (want number)) where
+      pub opened_wanted : (contents : ℕ → List ℕ) → (opens_fragments (Some files) other numbers).goes contents → (number : ℕ) → Contains numbers number
+          → contents number ≡ want number
+      opened_wanted contents goes number inside = (each_leads 0 no_contents numbers readable).goes contents goes number (inl inside)
+
+      pub opened_always : (refusal : Status) → IsCaused ⊥ refusal → (opens_fragments (Some files) other numbers).stops refusal → ⊥
+      opened_always refusal caused stops = (each_leads 0 no_contents numbers readable).stops refusal caused stops
+
+-- ---- the rows
+
+same_texts : (row other : Row) → map Text row ≡ map Text other → row ≡ other
+same_texts [] [] same = refl
+same_texts [] (text ∷ texts) same = absurd (cc)
+same_texts (text ∷ texts) [] same = absurd (cc)
+same_texts (text ∷ texts) (other ∷ others) same =
+    let first : text ≡ other = one text other (first_same (Text text) (Text other) (map Text texts) (map Text others) same) in
+    let rest : texts ≡ others = same_texts texts others (rest_same (Text text) (Text other) (map Text texts) (map Text others) same) in
+    λ i. first i ∷ rest i
+  where
+    one : (text other : List ℕ) → Text text ≡ Text other → text ≡ other
+    one text other same = cc
+
+-- the answers of a query over files rest on the contents of those that it uses
+over_same : (stores : List Store) (contents others : ℕ → List ℕ) (query : ConjunctiveQuery)
+    → ((atom : Fact Term) → Contains query.body atom → contents atom.relation ≡ others atom.relation)
+    → (row : Row) → IsAnswerOver (IsFileRow stores contents) query row → IsAnswerOver (IsFileRow stores others) query row
+over_same stores contents others query same row (m, keeps, sends, is) = (
+  m,
+  keeps,
+  λ atom inside. let (store, there, has) = sends atom inside in
+      (store, there, subst (λ (it : List ℕ). IsRowIn store.shape it (map m atom.terms)) (same atom inside) has),
+  is,
+)
+
+-- the laws of runs
+pub record RunLaws : Type 0 where
+  pub answers : RewritingsAnswerQueries
+  pub named : ChosenAreNamed
+
+module _ (laws : RunLaws) (catalogue : Catalogue) (query : Query) (plan : Plan) (set : List Bool)
+    (listed : IsListed (rules_of catalogue.rules) (views_of catalogue.fragments) (patterns_of catalogue.fragments) (query_of query) (plan_query plan) set)
+    (contents : ℕ → List ℕ) (text : List ℕ) (is_text : IsRunText catalogue query plan set contents text) where
+  answers-printed : (database : Database) → Meets (rules_of catalogue.rules) database
+      → FilesHoldViewRows (views_of catalogue.fragments) database (candidate (plan_query plan) set) catalogue.stores contents
+      → PrintsAnswers query database text
+  answers-printed database meets holds =
+      let law = laws.answers (rules_of catalogue.rules) (views_of catalogue.fragments) (patterns_of catalogue.fragments) (query_of query) (plan_query plan)
+      set catalogue.stores contents database listed.0 meets holds in
+      record {
+        exact = same_rows query (IsAnswerOver (IsFileRow catalogue.stores contents) (candidate (plan_query plan) set))
+            (λ row. IsAnswer (query_of query) database (map Text row)) text
+            (λ row. (
+              λ over. (law (map Text row)).1 (row, refl, over),
+              λ answer. let (other, same, over) = (law (map Text row)).0 answer in
+                  subst (IsAnswerOver (IsFileRow catalogue.stores contents) (candidate (plan_query plan) set)) (sym (same_texts row other same)) over,
+            )) is_text;
+        texts = λ values answer. let (row, is, over) = (law values).0 answer in (row, is);
+      }
+
+  pub run_printed : PrintsRun catalogue query plan set contents text
+  run_printed = record { rows = is_text; answers = answers-printed }
+
+-- ---- the whole course
+
+module _ (sound : CataloguesAreSound) (one : HaveOneCatalogue) (apart : HaveNoError) (one_reading : HaveOneReading) (no_fault : HaveNoFault)
+    (files : Files) (catalogue_name query_name : List ℕ) (catalogue : Catalogue) (query : Query)
+    (say : FilesSay files catalogue_name query_name catalogue query) (number : Option ℕ) where
+  -- what a whole run read, and how it replied or stopped
+  record HasRun (reply : Reply) : Type 0 where
+    other : Catalogue
+    is_other : IsCatalogueOf say.catalogue_bytes other
+    read : Query
+    is_query : IsQueryOf other say.query_bytes read
+    goes : RunGoes files other read number reply
+
+  record HasStopped (refusal : Status) : Type 0 where
+    other : Catalogue
+    is_other : IsCatalogueOf say.catalogue_bytes other
+    read : Query
+    is_query : IsQueryOf other say.query_bytes read
+    stops : RunStops files other read number refusal
+
+  run_leads : Leads (run_course (Some files) catalogue_name query_name number) HasRun HasStopped
+  run_leads =
+      then-leads _ _ _ _ _ (catalogue_leads sound one apart one_reading no_fault files catalogue_name query_name catalogue query say HasStopped)
+      (λ other is_other.
+      then-leads _ _ _ _ _ (query_leads sound one apart one_reading no_fault files catalogue_name query_name catalogue query say other is_other HasStopped)
+      (λ read is_query. let leads = query_runs files other read number in record {
+        goes = λ reply goes. record { other = other; is_other = is_other; read = read; is_query = is_query; goes = leads.goes reply goes };
+        stops = λ refusal caused stops.
+            record { other = other; is_other = is_other; read = read; is_query = is_query; stops = leads.stops refusal caused stops };
+      }))
+
+  module _ (laws : ListingLaws) (list_laws : ListLaws) (run_laws : RunLaws) where
+    module _ (other : Catalogue) (is_other : IsCatalogueOf say.catalogue_bytes other) (read : Query) (is_query : IsQueryOf other say.query_bytes read) where
+      alike : AreSame catalogue other
+      alike = one say.catalogue_bytes catalogue other say.is_catalogue is_other
+
+      same : IsSameQuery query read
+      same = same_as_read sound one apart one_reading no_fault files catalogue_name query_name catalogue query say other is_other read is_query
+
+      module _ (plan : Plan) (planned : IsPlanned other read plan) where
+        planned_here : IsPlanned catalogue query plan
+        planned_here = planned_moved catalogue other alike query read same plan planned
+
+        answers_here : HasAnswers catalogue query
+        answers_here = plan_tells laws catalogue query plan planned_here
+
+        list_here : (items : List Listed) → IsListOf other read plan items → IsListOf catalogue query plan items
+        list_here items list = list_moved catalogue other alike query read same plan items list
+
+        empty_here : (items : List Listed) → IsListOf other read plan items
+            → (items ≡ []) ↔ ((rewriting : ConjunctiveQuery) → ¬ (Rewrites catalogue query rewriting))
+        empty_here items list = empty-without laws catalogue query plan planned_here items (list_here items list)
+
+        module _ (items : List Listed) (list : IsListOf other read plan items) (can : CanRun files catalogue query number) where
+          plans : IsSamePlan can.plan plan
+          plans = list_laws.plan (rules_of catalogue.rules) (views_of catalogue.fragments) query.names (query_of query) can.plan plan
+              (are_rules list_laws.rules catalogue.rules) can.planned planned_here
+
+          same_list : can.items ≡ items
+          same_list = items_one list_laws catalogue query can.plan plan plans.0 can.items items can.list (list_here items list)
+
+          chosen_anyway : (refusal : Status) → HasNoPlace items number refusal → ⊥
+          chosen_anyway refusal none = no_cause can.items number can.place refusal can.chosen
+              (subst (λ (it : List Listed). HasNoPlace it number refusal) (sym same_list) none)
+
+          module _ (place : ℕ) (chosen : IsPlace items number place) (item : Listed) (there : slice_get items place ≡ Some item) (numbers : List ℕ)
+              (used : AreUsed (plan_query plan).body item.set numbers) where
+            same_place : can.place ≡ place
+            same_place = one_place list_laws.picks can.items number can.place place can.chosen
+                (subst (λ (it : List Listed). IsPlace it number place) (sym same_list) chosen)
+
+            same_item : can.item ≡ item
+            same_item = same_Some can.item item (sym can.there ∙ (λ i. slice_get (same_list i) (same_place i)) ∙ there)
+
+            used_here : AreUsed (plan_query can.plan).body can.item.set numbers
+            used_here = subst (λ (it : ConjunctiveQuery). AreUsed it.body can.item.set numbers) (sym plans.0)
+                (subst (λ (it : Listed). AreUsed (plan_query plan).body it.set numbers) (sym same_item) used)
+
+            -- the files of the used fragments are readable
+            readable : (fragment : ℕ) → Contains numbers fragment → IsReadable files catalogue fragment (can.contents fragment)
+            readable fragment inside =
+                let at = (used_here.exact fragment).0 inside in
+                let atom : Fact Term = at.1.1.0 in
+                subst (λ (it : ℕ). IsReadable files catalogue it (can.contents it)) at.1.1.2
+                (can.readable atom ((run_laws.named can.item.set (plan_query can.plan).body atom).1 (at.0, at.1.0, at.1.1.1)))
+
+            opened_anyway : (refusal : Status) → IsCaused ⊥ refusal → (opens_fragments (Some files) other numbers).stops refusal → ⊥
+            opened_anyway = opened_always files catalogue other alike can.contents numbers readable
+
+            module _ (contents : ℕ → List ℕ) (opened : (opens_fragments (Some files) other numbers).goes contents) (text : List ℕ)
+                (printed : IsRunText other read plan item.set contents text) where
+              text_here : IsRunText catalogue query can.plan can.item.set contents text
+              text_here = subst (λ (it : Listed). IsRunText catalogue query can.plan it.set contents text) (sym same_item)
+                  (run_text_moved catalogue other alike query read same can.plan plan plans item.set contents text printed)
+
+              same_contents : (atom : Fact Term) → Contains (candidate (plan_query can.plan) can.item.set).body atom
+                  → contents atom.relation ≡ can.contents atom.relation
+              same_contents atom inside = opened_wanted files catalogue other alike can.contents numbers readable contents opened atom.relation
+                  (uses_only run_laws.named can.plan can.item.set numbers used_here atom inside)
+
+              text_over : IsRunText catalogue query can.plan can.item.set can.contents text
+              text_over = same_rows query (IsAnswerOver (IsFileRow catalogue.stores contents) (candidate (plan_query can.plan) can.item.set))
+                  (IsAnswerOver (IsFileRow catalogue.stores can.contents) (candidate (plan_query can.plan) can.item.set)) text
+                  (λ row. (
+                    over_same catalogue.stores contents can.contents (candidate (plan_query can.plan) can.item.set) same_contents row,
+                    over_same catalogue.stores can.contents contents (candidate (plan_query can.plan) can.item.set)
+                        (λ atom inside. sym (same_contents atom inside)) row,
+                  )) text_here
+
+              prints_exactly : PrintsRun catalogue query can.plan can.item.set can.contents text
+              prints_exactly = run_printed run_laws catalogue query can.plan can.item.set (item_of catalogue query can.plan can.items can.list can.place
+                  can.item can.there).set can.contents text text_over
+
+      -- where a set can be run, it is
+      runs_reply : (reply : Reply) → RunGoes files other read number reply → (can : CanRun files catalogue query number)
+          → (reply_status reply ≡ status.Done) × PrintsRun catalogue query can.plan can.item.set can.contents (reply_text reply)
+      runs_reply reply (is_run plan planned items list place chosen item there numbers used contents opened text printed is) can = (
+        ap reply_status is,
+        subst (PrintsRun catalogue query can.plan can.item.set can.contents) (sym (ap reply_text is))
+            (prints_exactly plan planned items list can place chosen item there numbers used contents opened text printed),
+      )
+      runs_reply reply (has_clash clash clashes is) can =
+          absurd (clash_excludes laws catalogue query clash (clash_moved catalogue other alike query read same clash clashes)
+          (plan_tells laws catalogue query can.plan can.planned))
+
+      never_stops : (refusal : Status) → RunStops files other read number refusal → CanRun files catalogue query number → ⊥
+      never_stops refusal (none_chosen plan planned items list none) can = chosen_anyway plan planned items list can refusal none
+      never_stops refusal (not_opened plan planned items list place chosen item there numbers used caused stops) can =
+          opened_anyway plan planned items list can place chosen item there numbers used refusal caused stops
+
+      -- where the query is unsatisfiable, the reply tells it
+      refuses_reply : (reply : Reply) → RunGoes files other read number reply → ¬ (HasAnswers catalogue query)
+          → (clash : Clash) × IsClash catalogue query clash × (reply_status reply ≡ status.Unsatisfiable clash) × (reply_text reply ≡ rows_text query [])
+      refuses_reply reply (is_run plan planned items list place chosen item there numbers used contents opened text printed is) none =
+          absurd (none (answers_here plan planned))
+      refuses_reply reply (has_clash clash clashes is) none = (
+        clash,
+        clash_moved catalogue other alike query read same clash clashes,
+        ap reply_status is,
+        ap reply_text is ∙ sym (same_rows_text query read same []),
+      )
+
+      answers_stops : (refusal : Status) → RunStops files other read number refusal → HasAnswers catalogue query
+      answers_stops refusal (none_chosen plan planned items list none) = answers_here plan planned
+      answers_stops refusal (not_opened plan planned items list place chosen item there numbers used caused stops) = answers_here plan planned
+
+      -- a reply is not NoRewriting, and comes only where there is one
+      replies_apart : (reply : Reply) → reply_status reply ≢ status.NoRewriting
+      replies_apart (Done text) is = let h : status.Done ≡ status.NoRewriting = is in cc
+      replies_apart (Unsatisfiable clash text) is = let h : status.Unsatisfiable clash ≡ status.NoRewriting = is in cc
+
+      reply_needs : (reply : Reply) → RunGoes files other read number reply → HasAnswers catalogue query
+          → ((rewriting : ConjunctiveQuery) → ¬ (Rewrites catalogue query rewriting)) → ⊥
+      reply_needs reply (is_run plan planned items list place chosen item there numbers used contents opened text printed is) answers none =
+          none-some item (sym (ap (λ (it : List Listed). slice_get it place) ((empty_here plan planned items list).1 none)) ∙ there)
+      reply_needs reply (has_clash clash clashes is) answers none =
+          clash_excludes laws catalogue query clash (clash_moved catalogue other alike query read same clash clashes) answers
+
+      stop_tells : (refusal : Status) → RunStops files other read number refusal
+          → (refusal ≡ status.NoRewriting) ↔ ((rewriting : ConjunctiveQuery) → ¬ (Rewrites catalogue query rewriting))
+      stop_tells refusal (none_chosen plan planned items list (is_empty none is)) = (λ said. (empty_here plan planned items list).0 none, λ absent. is)
+      stop_tells refusal (none_chosen plan planned items list (is_above asked is_asked some less is)) = (
+        λ said. let h : status.NoSuchNumber asked (length items) ≡ status.NoRewriting = sym is ∙ said in absurd (cc),
+        λ absent. absurd (some ((empty_here plan planned items list).1 absent)),
+      )
+      stop_tells refusal (not_opened plan planned items list place chosen item there numbers used caused stops) = (
+        λ said. absurd (opened_other files other numbers refusal caused stops said),
+        λ absent. absurd (none-some item (sym (ap (λ (it : List Listed). slice_get it place) ((empty_here plan planned items list).1 absent)) ∙ there)),
+      )
+
+    module _ (said : Status) (text : List ℕ) (says : Says (run_course (Some files) catalogue_name query_name number) ⊥ said text) where
+      pub exact_run : IsExactRun files number catalogue query said text
+      exact_run = elim (says-leads _ HasRun HasStopped said text run_leads says) [
+        | inl (reply, run, said_is, text_is) ↦ record {
+          runs = λ can. let exact = runs_reply run.other run.is_other run.read run.is_query reply run.goes can in (
+            said_is ∙ exact.0,
+            subst (PrintsRun catalogue query can.plan can.item.set can.contents) (sym text_is) exact.1,
+          );
+          refused = (
+            λ none. let (clash, clashes, is, header) = refuses_reply run.other run.is_other run.read run.is_query reply run.goes none in
+                (clash, clashes, said_is ∙ is, text_is ∙ header),
+            λ (clash, clashes, is, header). clash_excludes laws catalogue query clash clashes,
+          );
+          no_rewriting = λ answers. (
+            λ none. absurd (replies_apart run.other run.is_other run.read run.is_query reply (sym said_is ∙ none)),
+            λ absent. absurd (reply_needs run.other run.is_other run.read run.is_query reply run.goes answers absent),
+          );
+        }
+        | inr (stopped, text_is) ↦ record {
+          runs = λ can. absurd (never_stops stopped.other stopped.is_other stopped.read stopped.is_query said stopped.stops can);
+          refused = (
+            λ none. absurd (none (answers_stops stopped.other stopped.is_other stopped.read stopped.is_query said stopped.stops)),
+            λ (clash, clashes, is, header). clash_excludes laws catalogue query clash clashes,
+          );
+          no_rewriting = λ answers. stop_tells stopped.other stopped.is_other stopped.read stopped.is_query said stopped.stops;
+        }
+      ]
+
+-- ---- the words
+
+-- words that ask for a run have its course
+run_words : (words : List (List ℕ)) (catalogue_name query_name : List ℕ) (number : Option ℕ) (files : Option Files)
+    → AsksRun words catalogue_name query_name number → course_of words files ≡ run_course files catalogue_name query_name number
+run_words words catalogue_name query_name None files is = ap (λ (it : List (List ℕ)). course_of it files) is
+run_words words catalogue_name query_name (Some number) files (word, is_number, number_is, is) =
+    ap (λ (it : List (List ℕ)). course_of it files) is ∙ by_test (is_list_number word) refl
+  where
+    by_test : (test : Bool) → is_list_number word ≡ test
+        → course_of (codes "run" ∷ catalogue_name ∷ query_name ∷ word ∷ []) files ≡ run_course files catalogue_name query_name (Some number)
+    by_test true test = rw (test, number_is) refl
+    by_test false test = let h : false ≡ true = sym test ∙ is_number in absurd (cc)
+
+module _ (sound : CataloguesAreSound) (one : HaveOneCatalogue) (apart : HaveNoError) (one_reading : HaveOneReading) (no_fault : HaveNoFault)
+    (laws : ListingLaws) (list_laws : ListLaws) (run_laws : RunLaws) where
+  pub outcomes_are_runs : OutcomesAreRuns
+  outcomes_are_runs words files catalogue_name query_name number catalogue query said text asks say outcome =
+      exact_run sound one apart one_reading no_fault files catalogue_name query_name catalogue query say number laws list_laws run_laws said text
+      (subst (λ it. Says it ⊥ said text) (run_words words catalogue_name query_name number (Some files) asks) outcome)
+
+-- what is said of each outcome holds of what was put
+pub runs_where_told : OutcomesAreRuns → (words : List (List ℕ)) (files : Option Files) (rose sink_rose : Type 0) (old new : Option (List ℕ)) (result : Status)
+    → CompleteWhereTold words files rose sink_rose old new result → RunsWhereTold words files rose sink_rose old new result
+runs_where_told are words None rose sink_rose old new result complete = tt
+runs_where_told are words (Some files) rose sink_rose old new result complete =
+    λ calm sink_calm catalogue_name query_name number catalogue query asks say. elim (complete calm sink_calm) [
+      | inl whole ↦ inl (whole.0, are words files catalogue_name query_name number catalogue query result whole.0 asks say whole.1, whole.2)
+      | inr wanting ↦ inr wanting
+    ]

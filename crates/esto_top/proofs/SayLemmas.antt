@@ -1,0 +1,75 @@
+-- The catalogue and the query that the files say are read.
+use Rattle.std.proofs.Common.{◌≡◌, ℕ, List, Some, sym, ap, subst, ◌∙◌}
+use Rattle.esto_catalog.specs.Determined.{CataloguesAreSound, HaveOneCatalogue, HaveNoError}
+use Rattle.esto_catalog.specs.Reading.{IsCatalogueOf, IsCatalogueError}
+use Rattle.esto_catalog.specs.declared.catalogue.Catalogue.{Catalogue}
+use Rattle.esto_catalog.specs.declared.fault.CatalogueError.{CatalogueError}
+use Rattle.esto_ports.specs.Files.{Files}
+use Rattle.esto_query.specs.Schemas.{arities_of}
+use Rattle.esto_query.specs.declared.query.Query.{Query}
+use Rattle.esto_read.specs.Readings.{IsReading, IsFirstFault, HaveOneReading, HaveNoFault}
+use Rattle.esto_read.specs.declared.read.Form.TheVariants as form
+use Rattle.esto_read.specs.declared.read.NamedQuery.{NamedQuery}
+use Rattle.esto_read.specs.declared.words.Word.{Word}
+use Rattle.esto_text.specs.declared.fault.TextFault.{TextFault}
+use Rattle.esto_top.specs.Answers.{IsCaused}
+use Rattle.esto_top.specs.Headline.{FilesSay}
+use Rattle.esto_top.specs.Opening.{status_of, reads_catalogue, opens_catalogue, reads_query, opens_query}
+use Rattle.esto_top.specs.declared.opening.TheConstants.{CATALOGUE_LIMIT, QUERY_LIMIT}
+use Rattle.esto_top.specs.declared.status.Status.{Status}
+use Rattle.esto_top.specs.declared.status.Status.TheVariants as status
+use Rattle.esto_top.proofs.AlikeLemmas.{IsSameQuery, same_reading}
+use Rattle.esto_top.proofs.LeadLemmas.{Leads, then-leads, judges-leads, fetches-leads}
+use Rattle.esto_top.proofs.Steps.{never_wanting}
+
+-- the query is a reading of the bytes over a catalogue
+abbrev pub IsQueryOf : Catalogue → List ℕ → Query → Type 0
+IsQueryOf catalogue bytes query = (named : NamedQuery) × IsReading form.Query catalogue.words (arities_of catalogue.schema) bytes named × (query ≡ named.query)
+
+-- a reading over words and a schema is one over the same
+reading-same : (words others : List Word) (schema other : List ℕ) (bytes : List ℕ) (named : NamedQuery) → words ≡ others → schema ≡ other
+    → IsReading form.Query words schema bytes named → IsReading form.Query others other bytes named
+reading-same words others schema other bytes named words_are schema_is reading =
+    subst (λ it. IsReading form.Query it other bytes named) words_are (subst (λ it. IsReading form.Query words it bytes named) schema_is reading)
+
+module _ (sound : CataloguesAreSound) (one : HaveOneCatalogue) (apart : HaveNoError) (one_reading : HaveOneReading) (no_fault : HaveNoFault)
+    (files : Files) (catalogue_name query_name : List ℕ) (catalogue : Catalogue) (query : Query)
+    (say : FilesSay files catalogue_name query_name catalogue query) where
+  -- the catalogue is fetched and read
+  pub catalogue_leads : (Refused : Status → Type 0) → Leads (opens_catalogue (Some files) catalogue_name) (IsCatalogueOf say.catalogue_bytes) Refused
+  catalogue_leads Refused =
+      then-leads _ _ (λ bytes. bytes ≡ say.catalogue_bytes) _ _
+      (fetches-leads files catalogue_name CATALOGUE_LIMIT say.catalogue_bytes say.has_catalogue Refused)
+      (λ bytes is. subst (λ it. Leads (reads_catalogue it) (IsCatalogueOf say.catalogue_bytes) Refused) (sym is)
+      (judges-leads _ _ Refused (λ refusal caused stop. absurd (no_error refusal caused stop))))
+    where
+      no_error : (refusal : Status) → IsCaused ⊥ refusal → (cause : CatalogueError) × IsCatalogueError say.catalogue_bytes cause
+          × (refusal ≡ status_of cause) → ⊥
+      no_error refusal caused (cause, is_error, is) =
+          let wanting : refusal ≡ status.OutOfMemory = is ∙ ap status_of (apart say.catalogue_bytes catalogue cause say.is_catalogue is_error) in
+          never_wanting ⊥ refusal wanting caused
+
+  module _ (other : Catalogue) (is_other : IsCatalogueOf say.catalogue_bytes other) where
+    reading : IsReading form.Query other.words (arities_of other.schema) say.query_bytes say.named
+    reading =
+        let same = one say.catalogue_bytes catalogue other say.is_catalogue is_other in
+        reading-same catalogue.words other.words (arities_of catalogue.schema) (arities_of other.schema) say.query_bytes say.named same.words
+        (ap arities_of same.schema) say.is_query
+
+    -- the query is fetched and read
+    pub query_leads : (Refused : Status → Type 0) → Leads (opens_query (Some files) query_name other) (IsQueryOf other say.query_bytes) Refused
+    query_leads Refused =
+        then-leads _ _ (λ bytes. bytes ≡ say.query_bytes) _ _ (fetches-leads files query_name QUERY_LIMIT say.query_bytes say.has_query Refused)
+        (λ bytes is. subst (λ it. Leads (reads_query other it) (IsQueryOf other say.query_bytes) Refused) (sym is)
+        (judges-leads _ _ Refused (λ refusal caused stop. absurd (none refusal caused stop))))
+      where
+        none : (refusal : Status) → IsCaused ⊥ refusal
+            → (fault : TextFault) × IsFirstFault form.Query other.words (arities_of other.schema) say.query_bytes fault × (refusal ≡ status.BadQuery fault) → ⊥
+        none refusal caused (fault, first, is) =
+            no_fault form.Query other.words (arities_of other.schema) say.query_bytes say.named fault (sound other).vocabulary reading first
+
+  -- what was read is the catalogue and the query that the files say
+  pub same_as_read : (other : Catalogue) → IsCatalogueOf say.catalogue_bytes other → (read : Query) → IsQueryOf other say.query_bytes read
+      → IsSameQuery query read
+  same_as_read other is_other read is_query =
+      same_reading one_reading (sound other).vocabulary say.query_bytes query read (say.named, reading other is_other, say.query_is) is_query

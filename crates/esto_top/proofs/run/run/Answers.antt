@@ -1,0 +1,21 @@
+use Rattle.std.proofs.Common.{arith}
+use Rattle.esto_course.proofs.Steps.{at_exit}
+use Rattle.esto_top.proofs.RunLemmas.{course_goes, course_stops}
+use Rattle.esto_top.proofs.Steps.{end_stops}
+use Rattle.esto_top.proofs.run.run.Goals as goal
+
+pub returns-in_err-reply-clause-answer : goal.returns-in_err-reply-clause-answer
+returns-in_err-reply-clause-answer g c =
+    at_exit _ _ c.from_residual-in_err-reply.result c.from_residual-in_err-reply.ensures.1
+    (end_stops (g.S.Shelf.faults c.args.shelf.now) (g.S.Shelf.faults c.open_query.new.shelf) (g.S.Shelf.faults c.run_query.new.shelf)
+    (g.S.Shelf.faults c.run_query.new.shelf)
+    (course_stops (g.S.Shelf.files c.args.shelf.now) (g.S.Shelf.files c.open_catalogue.new.shelf) (g.S.Shelf.files c.open_query.new.shelf)
+    c.in_ok-catalogue.ensures.files c.in_ok-query.ensures.files c.args.catalogue.now c.args.query.now c.args.number c.in_ok-catalogue.catalogue
+    c.in_ok-catalogue.ensures.answer c.in_ok-query.query c.in_ok-query.ensures.answer c.in_err-reply.ensures.answer)
+    (omega (arith, c.in_ok-catalogue.ensures.later, c.in_ok-query.ensures.later)) c.in_err-reply.ensures.later (omega arith))
+
+pub returns-clause-answer : goal.returns-clause-answer
+returns-clause-answer g c =
+    course_goes (g.S.Shelf.files c.args.shelf.now) (g.S.Shelf.files c.open_catalogue.new.shelf) (g.S.Shelf.files c.open_query.new.shelf)
+    c.in_ok-catalogue.ensures.files c.in_ok-query.ensures.files c.args.catalogue.now c.args.query.now c.args.number c.in_ok-catalogue.catalogue
+    c.in_ok-catalogue.ensures.answer c.in_ok-query.query c.in_ok-query.ensures.answer c.in_ok-reply.reply c.in_ok-reply.ensures.answer

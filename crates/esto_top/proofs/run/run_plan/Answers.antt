@@ -1,0 +1,28 @@
+use Rattle.esto_course.proofs.Steps.{at_exit}
+use Rattle.esto_top.proofs.RunLemmas.{choice_stops, chosen_goes, chosen_stops, item_of, place_within}
+use Rattle.esto_top.proofs.run.run_plan.Goals as goal
+
+pub item-requires : goal.item-requires
+item-requires g c = place_within c.in_ok-listing.listing c.args.number c.in_ok-place.place c.in_ok-place.ensures
+
+pub run_item-requires-clause-item : goal.run_item-requires-clause-item
+run_item-requires-clause-item g c =
+    item_of c.args.catalogue.now c.args.query.now c.args.plan.now c.in_ok-listing.listing c.in_ok-listing.ensures c.in_ok-place.place c.item.result.now
+    c.item.ensures
+
+pub returns-in_err-place-clause-answer : goal.returns-in_err-place-clause-answer
+returns-in_err-place-clause-answer g c =
+    at_exit _ _ c.from_residual-in_err-place.result c.from_residual-in_err-place.ensures.1
+    (choice_stops (g.S.Shelf.files c.args.shelf.now) c.args.catalogue.now c.args.query.now c.args.number c.args.plan.now c.in_ok-listing.listing
+    c.in_ok-listing.ensures c.in_err-place.ensures)
+
+pub returns-in_err-reply-clause-answer : goal.returns-in_err-reply-clause-answer
+returns-in_err-reply-clause-answer g c =
+    at_exit _ _ c.from_residual-in_err-reply.result c.from_residual-in_err-reply.ensures.1
+    (chosen_stops (g.S.Shelf.files c.args.shelf.now) c.args.catalogue.now c.args.query.now c.args.number c.args.plan.now c.in_ok-listing.listing
+    c.in_ok-listing.ensures c.in_ok-place.place c.in_ok-place.ensures c.item.result.now c.item.ensures c.in_err-reply.ensures.answer)
+
+pub returns-clause-answer : goal.returns-clause-answer
+returns-clause-answer g c =
+    chosen_goes (g.S.Shelf.files c.args.shelf.now) c.args.catalogue.now c.args.query.now c.args.number c.args.plan.now c.in_ok-listing.listing
+    c.in_ok-listing.ensures c.in_ok-place.place c.in_ok-place.ensures c.item.result.now c.item.ensures c.in_ok-reply.reply c.in_ok-reply.ensures.answer

@@ -1,0 +1,22 @@
+use Rattle.esto_course.proofs.Steps.{at_exit}
+use Rattle.esto_top.proofs.RunLemmas.{clash_goes, plan_goes, plan_stops}
+use Rattle.esto_top.proofs.run.run_query.Goals as goal
+
+pub returns-in_err-reply-in-Left-clause-answer : goal.returns-in_err-reply-in-Left-clause-answer
+returns-in_err-reply-in-Left-clause-answer g c =
+    let planned = rw c.in-Left.is at c.in_ok-plan.ensures.run in
+    at_exit _ _ c.from_residual-in_err-reply-in-Left.result c.from_residual-in_err-reply-in-Left.ensures.1
+    (plan_stops (g.S.Shelf.files c.args.shelf.now) c.args.catalogue.now c.args.query.now c.args.number c.in-Left.plan planned
+    c.in_err-reply-in-Left.ensures.answer)
+
+pub returns-in_ok-reply-in-Left-clause-answer : goal.returns-in_ok-reply-in-Left-clause-answer
+returns-in_ok-reply-in-Left-clause-answer g c =
+    let planned = rw c.in-Left.is at c.in_ok-plan.ensures.run in
+    plan_goes (g.S.Shelf.files c.args.shelf.now) c.args.catalogue.now c.args.query.now c.args.number c.in-Left.plan planned c.in_ok-reply-in-Left.reply
+    c.in_ok-reply-in-Left.ensures.answer
+
+pub returns-in_ok-reply-in-Right-clause-answer : goal.returns-in_ok-reply-in-Right-clause-answer
+returns-in_ok-reply-in-Right-clause-answer g c =
+    let clashes = rw c.in-Right.is at c.in_ok-plan.ensures.run in
+    clash_goes (g.S.Shelf.files c.args.shelf.now) c.args.catalogue.now c.args.query.now c.args.number c.in-Right.clash clashes c.in_ok-reply-in-Right.reply
+    c.in_ok-reply-in-Right.ensures

@@ -1,0 +1,159 @@
+//! The command `run`.
+ghost use Rattle.std.specs.Prelude.{◌≡◌, ◌≤◌};
+ghost use Rattle.esto_ports.specs.Faults.{Rises};
+ghost use Rattle.esto_top.specs.Answers.{Answers};
+ghost use Rattle.esto_top.specs.Listing.{IsPlanned, IsClash};
+ghost use Rattle.esto_top.specs.Run.{chooses, IsItemOf, runs_item, runs_plan, runs_query, run_course};
+ghost use Rattle.esto_top.specs.declared.ending.Reply.TheVariants as reply;
+ghost use Rattle.esto_run.specs.Answers.{rows_text};
+ghost use Rattle.std.specs.Prelude.{IfOk, []};
+
+use crate::ending::Reply;
+use crate::fragments::open_fragments;
+use crate::list::listing_of;
+use crate::opening::{open_catalogue, open_query};
+use crate::status::Status;
+use either::{Left, Right};
+use esto_catalog::{Catalogue, catalogues_are_sound};
+use esto_chase::Clash;
+use esto_constraint::rules_are_sound;
+use esto_list::{Listed, Listing};
+use esto_ports::Shelf;
+use esto_query::{Query, queries_are_sound};
+use esto_run::{answers_are_over_files, answers_text, fragments_of_set, run_text};
+use esto_semantics::{chosen_atoms_are_named, queries_are_their_own_instances};
+use esto_term::{List, OutOfMemory, Text};
+use esto_universal::{
+    plans_of_runs_are_over_fragments, plans_of_runs_are_universal, plans_tell_satisfiable_queries,
+    universal,
+};
+use esto_views::{Plan, plans_are_sound};
+use std::alloc::Global;
+
+// The place of the item of the list that is run: the pick, or that of the number, counted from 1.
+fn choose(listing: &Listing, number: Option<u64>) -> Result<usize, Status>
+    ensures { Answers (chooses listing.now number) ⊥ result }
+{
+    let Some(pick) = listing.pick() else {
+        return Err(Status::NoRewriting);
+    };
+    let Some(number) = number else {
+        return Ok(pick);
+    };
+    let listed = listing.len() as u64;
+    if number > listed {
+        return Err(Status::NoSuchNumber(number, listed));
+    }
+    Ok(number.saturating_sub(1) as usize)
+}
+
+// Opens the files of the fragments that the item's set uses, and gives the text of the rows.
+fn run_item<S: Shelf>(
+    alloc: Global,
+    shelf: &mut S,
+    query: &Query,
+    catalogue: &Catalogue,
+    plan: &Plan,
+    item: &Listed,
+) -> Result<Reply, Status>
+    requires planned { IsPlanned catalogue.now query.now plan.now }
+    requires item { IsItemOf catalogue.now query.now plan.now item.now }
+    ensures answer { Answers
+        (runs_item (S.files shelf.old) catalogue.now query.now plan.now item.now)
+        (Rises S.faults shelf.old shelf.new) result }
+    ensures files { S.files shelf.new ≡ S.files shelf.old }
+    ensures later { S.faults shelf.old ≤ S.faults shelf.new }
+{
+    catalogues_are_sound();
+    queries_are_sound();
+    rules_are_sound();
+    plans_of_runs_are_over_fragments();
+    plans_of_runs_are_universal();
+    plans_tell_satisfiable_queries();
+    plans_are_sound();
+    queries_are_their_own_instances();
+    answers_are_over_files();
+    chosen_atoms_are_named();
+    let numbers = fragments_of_set(alloc, &item.set, plan)?;
+    let opened = open_fragments(alloc, shelf, catalogue, &numbers)?;
+    let fragments = &catalogue.fragments;
+    let text = run_text(alloc, query, plan, &item.order, fragments, &opened)?;
+    Ok(Reply::Done(text))
+}
+
+// Makes the list of the plan, and runs the chosen item of it.
+fn run_plan<S: Shelf>(
+    alloc: Global,
+    shelf: &mut S,
+    query: &Query,
+    catalogue: &Catalogue,
+    plan: &Plan,
+    number: Option<u64>,
+) -> Result<Reply, Status>
+    requires { IsPlanned catalogue.now query.now plan.now }
+    ensures answer { Answers (runs_plan (S.files shelf.old) catalogue.now query.now number plan.now)
+        (Rises S.faults shelf.old shelf.new) result }
+    ensures files { S.files shelf.new ≡ S.files shelf.old }
+    ensures later { S.faults shelf.old ≤ S.faults shelf.new }
+{
+    let listing = listing_of(alloc, plan, query, catalogue)?;
+    let place = choose(&listing, number)?;
+    let reply = run_item(alloc, shelf, query, catalogue, plan, listing.item(place))?;
+    Ok(reply)
+}
+
+// The reply to a query whose run ends with the clash: the names of its head alone.
+fn no_answers(alloc: Global, query: &Query, clash: Clash) -> Result<Reply, OutOfMemory>
+    ensures { IfOk result (λ it. it ≡ reply.Unsatisfiable clash (rows_text query.now [])) }
+{
+    let rows = List::new(alloc);
+    let text = answers_text(alloc, query, &rows)?;
+    Ok(Reply::Unsatisfiable(clash, text))
+}
+
+// Chases the query and runs its plan, or gives the names of its head alone where the run ends with a clash.
+fn run_query<S: Shelf>(
+    alloc: Global,
+    shelf: &mut S,
+    query: &Query,
+    catalogue: &Catalogue,
+    number: Option<u64>,
+) -> Result<Reply, Status>
+    ensures answer { Answers (runs_query (S.files shelf.old) catalogue.now query.now number)
+        (Rises S.faults shelf.old shelf.new) result }
+    ensures files { S.files shelf.new ≡ S.files shelf.old }
+    ensures later { S.faults shelf.old ≤ S.faults shelf.new }
+{
+    match universal(alloc, query, catalogue)? {
+        Left(plan) => {
+            let reply = run_plan(alloc, shelf, query, catalogue, &plan, number)?;
+            Ok(reply)
+        }
+        Right(clash) => {
+            let reply = no_answers(alloc, query, clash)?;
+            Ok(reply)
+        }
+    }
+}
+
+/// Fetches and reads the catalogue, then the query, makes the query's plan and its list, opens the files of the fragments
+/// that the chosen set uses, and gives the text of the rows. The set is the pick, or that of the number, counted from 1.
+/// For a query that no database gives an answer the text has the names of its head alone.
+#[tactic(auto, using(crate::proofs::Steps::run_steps))]
+pub fn run<S: Shelf>(
+    alloc: Global,
+    shelf: &mut S,
+    catalogue: &Text,
+    query: &Text,
+    number: Option<u64>,
+) -> Result<Reply, Status>
+    ensures answer { Answers (run_course (S.files shelf.old) catalogue.now query.now number)
+        (Rises S.faults shelf.old shelf.new) result }
+    ensures files { S.files shelf.new ≡ S.files shelf.old }
+    ensures later { S.faults shelf.old ≤ S.faults shelf.new }
+{
+    let catalogue = open_catalogue(alloc, shelf, catalogue)?;
+    let query = open_query(alloc, shelf, query, &catalogue)?;
+    let reply = run_query(alloc, shelf, &query, &catalogue, number)?;
+    Ok(reply)
+}
