@@ -21,7 +21,6 @@ use Rattle.esto_top.specs.declared.opening.TheConstants.{CATALOGUE_LIMIT, QUERY_
 abbrev pub status_of : CatalogueError → Status
 status_of (error.Fault fault) = status.BadCatalogue fault
 status_of (error.NotAcyclic cycle) = status.NotAcyclic cycle
-status_of error.NotBuilt = status.NotBuilt
 status_of error.OutOfMemory = status.OutOfMemory
 
 -- The bytes say a catalogue, or there is a cause for which they say none.

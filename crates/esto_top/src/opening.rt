@@ -27,7 +27,6 @@ fn status_of(error: CatalogueError) -> Status
     match error {
         CatalogueError::Fault(fault) => Status::BadCatalogue(fault),
         CatalogueError::NotAcyclic(cycle) => Status::NotAcyclic(cycle),
-        CatalogueError::NotBuilt => Status::NotBuilt,
         CatalogueError::OutOfMemory => Status::OutOfMemory,
     }
 }

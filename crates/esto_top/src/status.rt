@@ -39,7 +39,7 @@ pub enum Status {
     NoRewriting,
     /// The first number was asked for, counted from 1, and so many sets are listed, which are fewer.
     NoSuchNumber(u64, u64),
-    /// The command, or the form of the catalogue, is not built yet.
+    /// The command is not built yet.
     NotBuilt,
 }
 
