@@ -1,5 +1,5 @@
 # Reads crates.txt, and of each crate the code, the list of its specs and the specs, and writes the tables of
-# DEFINITIONS.md: a reading list of what the clause CLAUSE of the function CALL rests on, and each definition with its
+# DEFINITIONS.md: a reading list of what the CLAUSES of the function CALL rest on, and each definition with its
 # sentence. What a definition rests on are the names in it, by the imports of its file.
 #
 # A definition is known as CRATE/FILE/NAME, and a type of the code as CRATE/src/FILE/NAME.
@@ -205,8 +205,8 @@ in_function && /^ *(requires|ensures)/ {
 in_function {
     is_end = /^ *\{\}?$/ || (!has_clauses && /\{\}?$/) || (kind == "trait" && /;$/)
     if (has_clauses) clauses = clauses " " $0
-    if (has_clauses && name == CALL && clause == CLAUSE) main = main " " $0
-    if (name == CALL && clause == CLAUSE) main_file = file
+    if (has_clauses && name == CALL && index(" " CLAUSES " ", " " clause " ")) main = main " " $0
+    if (name == CALL && index(" " CLAUSES " ", " " clause " ")) main_file = file
     if (is_end) {
         if (has_clauses && is_public) {
             root[++roots] = clauses
