@@ -16,6 +16,4 @@ error_stops bytes same (error.Fault fault) said is is_error said_is = rw said_is
     (refused (record { cause = tt }) (error.Fault fault, subst (λ it. IsCatalogueError it (error.Fault fault)) is is_error, refl))
 error_stops bytes same (error.NotAcyclic cycle) said is is_error said_is =
     rw said_is (refused (record { cause = tt }) (error.NotAcyclic cycle, subst (λ it. IsCatalogueError it (error.NotAcyclic cycle)) is is_error, refl))
-error_stops bytes same error.NotBuilt said is is_error said_is = rw said_is
-    (refused (record { cause = tt }) (error.NotBuilt, subst (λ it. IsCatalogueError it error.NotBuilt) is is_error, refl))
 error_stops bytes same error.OutOfMemory said is is_error said_is = is_free said_is

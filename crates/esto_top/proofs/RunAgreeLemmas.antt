@@ -38,7 +38,7 @@ use Rattle.esto_top.specs.declared.status.Status.{Status}
 use Rattle.esto_top.specs.declared.status.Status.TheVariants as status
 use Rattle.esto_top.proofs.AgreeLemmas.{AgreeCalmly, fetches-agree}
 use Rattle.esto_top.proofs.AlikeLemmas.{IsSameQuery, planned_moved, clash_moved, list_moved}
-use Rattle.esto_top.proofs.AlikeRunLemmas.{same_store, same_named, same_fault, same_rows_text, one_text, run_text_moved}
+use Rattle.esto_top.proofs.AlikeRunLemmas.{same_file, same_named, same_fault, same_rows_text, one_text, run_text_moved}
 use Rattle.esto_top.proofs.RuleLemmas.{are_rules}
 use Rattle.esto_top.proofs.SameListLemmas.{ListLaws, IsSamePlan, items_one}
 
@@ -102,7 +102,7 @@ module _ (files : Files) (catalogue other : Catalogue) (alike : AreSame catalogu
 
     fetched_agree : AgreeCalmly ◌≡◌ (fetches (Some files) stored.store.file FRAGMENT_LIMIT) (fetches (Some files) other_stored.store.file FRAGMENT_LIMIT)
     fetched_agree = subst (λ it. AgreeCalmly ◌≡◌ (fetches (Some files) stored.store.file FRAGMENT_LIMIT) (fetches (Some files) it FRAGMENT_LIMIT))
-        (ap (λ it. it.file) (same_store catalogue other alike number stored other_stored are.here are.there))
+        (same_file catalogue other alike number stored other_stored are.here are.there)
         (fetches-agree files stored.store.file FRAGMENT_LIMIT)
 
     stored_agree : AgreeCalmly ◌≡◌ (opens_stored (Some files) stored) (opens_stored (Some files) other_stored)

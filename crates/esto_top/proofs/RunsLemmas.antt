@@ -54,7 +54,7 @@ use Rattle.esto_top.specs.declared.fragments.TheConstants.{FRAGMENT_LIMIT}
 use Rattle.esto_top.specs.declared.status.Status.{Status}
 use Rattle.esto_top.specs.declared.status.Status.TheVariants as status
 use Rattle.esto_top.proofs.AlikeLemmas.{IsSameQuery, planned_moved, clash_moved, list_moved}
-use Rattle.esto_top.proofs.AlikeRunLemmas.{same_store, same_fault, same_rows_text, run_text_moved}
+use Rattle.esto_top.proofs.AlikeRunLemmas.{same_file, same_fault, same_rows_text, run_text_moved}
 use Rattle.esto_top.proofs.HeadlineLemmas.{ListingLaws, clash_excludes, plan_tells, empty-without}
 use Rattle.esto_top.proofs.LeadLemmas.{Leads, then-leads, leads-more, gives-leads, judges-leads, fetches-leads, says-leads}
 use Rattle.esto_top.proofs.OneListLemmas.{first_same, rest_same}
@@ -206,8 +206,8 @@ module _ (files : Files) (catalogue other : Catalogue) (alike : AreSame catalogu
       then-leads _ _ (IsStoredAt other number) _ Never (judges-leads _ _ Never (λ refusal caused never. never)) (λ other_stored other_at.
       then-leads _ _ (λ got. got ≡ bytes) _ Never
       (fetches-leads files other_stored.store.file FRAGMENT_LIMIT bytes
-      (subst (λ (it : Store). HasWithin files it.file FRAGMENT_LIMIT bytes)
-      (same_store catalogue other alike number stored other_stored at other_at) has) Never)
+      (subst (λ it. HasWithin files it FRAGMENT_LIMIT bytes)
+      (same_file catalogue other alike number stored other_stored at other_at) has) Never)
       (λ got is.
       then-leads _ _ (λ _. content_fault other_stored got ≡ None) _ Never
       (judges-leads _ _ Never (λ refusal caused (fault, found, said). none-some fault

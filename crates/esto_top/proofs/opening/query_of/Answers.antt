@@ -6,11 +6,8 @@ use Rattle.esto_course.specs.Course.{judges}
 use Rattle.esto_course.specs.Course.Stops.{refused}
 use Rattle.esto_top.proofs.opening.query_of.Goals as goal
 
-pub read_query-requires-clause-words : goal.read_query-requires-clause-words
-read_query-requires-clause-words c = (c.catalogues_are_sound.ensures c.args.catalogue.now).vocabulary
-
-pub read_query-requires-clause-tables : goal.read_query-requires-clause-tables
-read_query-requires-clause-tables c = (c.catalogues_are_sound.ensures c.args.catalogue.now).tables
+pub read_query-requires : goal.read_query-requires
+read_query-requires c = record { words = (c.catalogues_are_sound.ensures c.args.catalogue.now).vocabulary }
 
 pub returns-in-Ok : goal.returns-in-Ok
 unfolding judges
