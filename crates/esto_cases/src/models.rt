@@ -1,4 +1,7 @@
 //! Rows of tables and keys, documents, and codes of texts.
+ghost use Rattle.std.specs.Prelude.{IfOk};
+ghost use Rattle.esto_docmodel.specs.Shapes.{entries_of};
+ghost use Rattle.esto_docmodel.specs.Valuations.{HaveFlatTerms};
 
 use crate::printing::{put_numbers, put_row};
 use crate::reading::{Refused, text};
@@ -79,7 +82,9 @@ pub fn put_codes<R: Print>(rt: &R, alloc: Global, line: &str) -> Result<(), Refu
 }
 
 // The pattern `{ **: x }`.
-fn anything_inside(alloc: Global) -> Result<Pattern, Refused> {
+fn anything_inside(alloc: Global) -> Result<Pattern, Refused>
+    ensures { IfOk result (λ it. HaveFlatTerms (entries_of it.entries)) }
+{
     let mut path = List::new(alloc);
     path.push(Step::Below)?;
     let mut entries = List::new(alloc);
