@@ -3,7 +3,7 @@ use Rattle.std.specs.Prelude.{◌≡◌, ◌⊎◌, ℕ, Bool, List, length, sli
 use Rattle.esto_catalog.specs.declared.catalogue.Catalogue.{Catalogue}
 use Rattle.esto_constraint.specs.Constraints.{rules_of}
 use Rattle.esto_semantics.specs.Rules.{Rule}
-use Rattle.esto_views.specs.Expanded.{AreExpanded}
+use Rattle.esto_views.specs.Expanded.{AreExpanded, Expands}
 use Rattle.esto_views.specs.declared.expansion.ExpandedFact.{ExpandedFact}
 use Rattle.esto_views.specs.declared.plan.Plan.{Plan}
 use Rattle.esto_world_laws.specs.Derived.{AreDerived}
@@ -28,4 +28,5 @@ pub record AreConditional (rules : List Rule) (rank : ℕ → ℕ) (count : ℕ)
 abbrev pub AreEntriesOf : Catalogue → Plan → List Entry → Type 0
 AreEntriesOf catalogue plan entries =
     (expanded : List ExpandedFact) × AreExpanded catalogue.fragments 0 (length plan.names) plan.atoms expanded
+    × Expands plan catalogue.fragments expanded
     × AreConditional (rules_of catalogue.rules) (slice_index catalogue.ranks) (length plan.atoms) expanded entries

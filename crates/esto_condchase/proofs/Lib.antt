@@ -3,3 +3,4 @@ pub mod CoverLemmas
 pub mod WayLemmas
 pub mod RoundLemmas
 pub mod LoopLemmas
+pub mod ProductLemmas
