@@ -4,6 +4,7 @@
 
 mod chase;
 mod covering;
+mod matching;
 mod products;
 mod rounds;
 mod taking;
