@@ -29,9 +29,7 @@ use esto_semantics::{
 };
 use esto_term::{List, OutOfMemory};
 use esto_views::{Plan, expand, plans_are_sound};
-use esto_world_laws::{
-    derived_claims_rest_on_atoms, matches_are_direct, matches_decide_containment,
-};
+use esto_world_laws::{derived_claims_rest_on_atoms, matches_decide_containment};
 use std::alloc::Global;
 
 /// The listed sets of a plan, with the entries that they come from.
@@ -82,7 +80,6 @@ fn answering_products(
     rules_are_sound();
     queries_are_sound();
     queries_have_starts();
-    matches_are_direct();
     matches_decide_containment();
     derived_claims_rest_on_atoms();
     chosen_atoms_are_named();
@@ -92,7 +89,7 @@ fn answering_products(
     let found = products_of_matches(
         alloc,
         entries.items(),
-        query.head.items(),
+        &query.head,
         query.body.items(),
         plan.head.items(),
         plan.atoms.len(),

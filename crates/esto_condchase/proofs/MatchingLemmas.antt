@@ -200,11 +200,11 @@ module _ (entries : List Entry) (head : List Term) (body : List (Fact Term)) (ta
           visited_as entries head body targets (SomeWayGoesOn entries longer (drop (depth + 1) body) items)
           (EntryGoesOn entries from (drop depth body) before entry) earlier later visited
           (λ set goes.
-              let (within, entry_within, (its, its_states, by)) = goes in
-              let claims : Stated fact ≡ Stated its = sym states ∙ its_states in
-              let same_fact : fact ≡ its = cc in
-              goes_by set its same_fact (start_within set goes)
-              (subst (λ rest. GoesOnBy (InWorld entries set) from before.to rest its) rest_is by))
+          let (within, entry_within, (its, its_states, by)) = goes in
+          let claims : Stated fact ≡ Stated its = sym states ∙ its_states in
+          let same_fact : fact ≡ its = cc in
+          goes_by set its same_fact (start_within set goes)
+          (subst (λ rest. GoesOnBy (InWorld entries set) from before.to rest its) rest_is by))
 
   -- a fact that does not fit the next atom does not go on
   pub unfit : (depth : ℕ) (from : List Term) (before : Way) (entry : Entry) (fact : Fact Term) → entry.claim ≡ Stated fact → (atom : Fact Term)

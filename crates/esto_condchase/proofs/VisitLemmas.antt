@@ -77,7 +77,7 @@ module _ (entries : List Entry) (head : List Term) (body : List (Fact Term)) (ta
       visited_both (SomeWayGoesOn entries from rest (take place ways)) (WayGoesOn entries from rest way)
       (SomeWayGoesOn entries from rest (take (place + 1) ways)) earlier middle later first second
       (λ set (its, inside, goes). elim (Contains-push_cases (take place ways) way its
-          (subst (λ it. Contains it its) (take-item ways place way within is) inside)) [
+      (subst (λ it. Contains it its) (take-item ways place way within is) inside)) [
         | inl before ↦ inl (its, before, goes)
         | inr same ↦ inr (subst (λ it. WayGoesOn entries from rest it set) (sym same) goes)
       ])
@@ -91,7 +91,7 @@ module _ (entries : List Entry) (head : List Term) (body : List (Fact Term)) (ta
       visited_both (SomeEntryGoesOn entries (take place some) from rest way free) (SomeEntryGoesOn entries (entry ∷ []) from rest way free)
       (SomeEntryGoesOn entries (take (place + 1) some) from rest way free) earlier middle later first second
       (λ set (its, inside, goes). elim (Contains-push_cases (take place some) entry its
-          (subst (λ it. Contains it its) (take-item some place entry within is) inside)) [
+      (subst (λ it. Contains it its) (take-item some place entry within is) inside)) [
         | inl before ↦ inl (its, before, goes)
         | inr same ↦ inr (its, subst (Contains (entry ∷ [])) same (Rattle.esto_term.proofs.ListLemmas.Contains-head entry []), goes)
       ])
@@ -114,8 +114,8 @@ module _ (entries : List Entry) (head : List Term) (body : List (Fact Term)) (ta
   no_turn from rest way free entry sets answer told apart =
       visited_none (SomeEntryGoesOn entries (entry ∷ []) from rest way free) sets
       (λ set (its, inside, turn, goes).
-          let own : (free ≡ true) ↔ IsFree way entry = subst (λ (it : Entry). (free ≡ true) ↔ IsFree way it) (sym (only entry its inside)) turn in
-          apart (same_answer answer free ((λ is. own.1 (told.0 is)), (λ is. told.1 (own.0 is)))))
+      let own : (free ≡ true) ↔ IsFree way entry = subst (λ (it : Entry). (free ≡ true) ↔ IsFree way it) (sym (only entry its inside)) turn in
+      apart (same_answer answer free ((λ is. own.1 (told.0 is)), (λ is. told.1 (own.0 is)))))
 
   -- it is an equality
   pub no_fact : (from : List Term) (rest : List (Fact Term)) (way : Way) (free : Bool) (entry : Entry) (sets : List (List Bool)) (left right : Term)
@@ -123,8 +123,8 @@ module _ (entries : List Entry) (head : List Term) (body : List (Fact Term)) (ta
   no_fact from rest way free entry sets left right is =
       visited_none (SomeEntryGoesOn entries (entry ∷ []) from rest way free) sets
       (λ set (its, inside, turn, (within, its_within, (fact, states, goes))).
-          let same : Same left right ≡ Stated fact = sym is ∙ ap (λ (it : Entry). it.claim) (only entry its inside) ∙ states in
-          cc)
+      let same : Same left right ≡ Stated fact = sym is ∙ ap (λ (it : Entry). it.claim) (only entry its inside) ∙ states in
+      cc)
 
   pub one_entry : (from : List Term) (rest : List (Fact Term)) (way : Way) (free : Bool) (entry : Entry) (earlier later : List (List Bool))
       → Seen (EntryGoesOn entries from rest way entry) earlier later → Seen (SomeEntryGoesOn entries (entry ∷ []) from rest way free) earlier later

@@ -24,7 +24,7 @@ pub struct Matching<'a> {
 
 impl Matching<'_> {
     /// Goes on from a way that has matched the first atoms, unless its product is covered. Entries that ask for no
-    /// further atom are tried first.
+    /// further atom are tried first, since what they lead to may cover it.
     #[cycle(visit)]
     fn visit(
         &self,
@@ -43,15 +43,16 @@ impl Matching<'_> {
             (WayGoesOn self.now.entries.now from.now (drop depth self.now.body.now) way.now)
             found.old.sets found.new.sets) }
     {
-        if found.covered(&way.product) {
-            return Ok(());
-        }
         if depth >= self.body.len() {
             found.add(alloc, &way.product)?;
             return Ok(());
         }
-        self.visit_entries(alloc, depth, from, way, true, found)?;
         if found.covered(&way.product) {
+            return Ok(());
+        }
+        let before = found.len();
+        self.visit_entries(alloc, depth, from, way, true, found)?;
+        if found.len() != before && found.covered(&way.product) {
             return Ok(());
         }
         self.visit_entries(alloc, depth, from, way, false, found)?;
@@ -178,9 +179,6 @@ impl Matching<'_> {
             return Ok(());
         }
         let start = begun(alloc, way, place, &entry.product)?;
-        if found.covered(&start.product) {
-            return Ok(());
-        }
         let ways = through_row(
             alloc,
             self.entries,

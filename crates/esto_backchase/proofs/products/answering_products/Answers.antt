@@ -17,11 +17,10 @@ returns-clause-tell c set over =
     let is_plan : IsPlanFor query (plan_query plan) = record
     { same_length = c.requires.same_length; has_head = sound_plan.has_head; flat_body = plan-flat plan sound_plan } in
     let (expanded, exact, expands, are) = c.requires.entries in
-    let direct = c.matches_are_direct.ensures c.args.entries.now set query.head query.body plan.head c.requires.joined is_query.safe in
     let answers = told rules c.args.catalogue.now.fragments _ query plan expanded expands c.args.entries.now are
     (rules-are c.args.catalogue.now.rules c.rules_are_sound.ensures.rules) is_query sound_plan is_plan c.requires.universal
     c.queries_have_starts.ensures.body c.an_expansion_of_a_plan_expands_its_candidates.ensures c.an_expansion_means_the_same.ensures.answers
     c.chosen_atoms_are_named.ensures c.candidates_contain_the_query.ensures.equivalent c.matches_decide_containment.ensures.shown
     c.matches_decide_containment.ensures.found c.derived_claims_rest_on_atoms.ensures set over c.requires.satisfiable in
     let tell = c.in_ok-found.ensures.tell set in
-    (λ covers. answers.0 (direct.0 (tell.0 covers)), λ holds. tell.1 (direct.1 (answers.1 holds)))
+    (λ covers. answers.0 (tell.0 covers), λ holds. tell.1 (answers.1 holds))
