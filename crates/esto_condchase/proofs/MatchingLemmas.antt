@@ -260,9 +260,7 @@ module _ (entries : List Entry) (head : List Term) (body : List (Fact Term)) (ta
     first_goes : AreJoined entries entries → (set : List Bool) → HasMatch (InWorld entries set) head body targets
         → SomeWayGoesOn entries head body items set
     first_goes joined set (val, keeps, sends, fits) =
-        let Holds = InWorld entries set in
         let (chosen, are, chosen_fits) = choose (InWorld entries set) val keeps body sends in
-        let to = targets ++ terms_of chosen in
         let all : AllZip (Linked (InWorld entries set)) (targets ++ terms_of chosen) (map val (head ++ terms_of body)) =
         subst (AllZip (Linked (InWorld entries set)) (targets ++ terms_of chosen)) (sym (map-append val head (terms_of body)))
         (zip_append (Linked (InWorld entries set)) targets (terms_of chosen) (map val head) (map val (terms_of body)) fits chosen_fits) in
