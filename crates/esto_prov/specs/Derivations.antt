@@ -63,8 +63,8 @@ AreChain [] term other = term ≡ other
 AreChain (first ∷ claims) term other =
     (next : Term) × ((first ≡ claim.Same term next) ⊎ (first ≡ claim.Same next term)) × AreChain claims next other
 
--- The tree derives the claim from expanded facts by rules: it is such a fact, it follows by a rule from what the parts derive, or it says that the ends of a chain
--- of equalities are one, each of which a part derives. No entry is named.
+-- The tree derives the claim from expanded facts by rules: it is such a fact, it follows by a rule from what the parts derive, or it says that the ends of a
+-- chain of equalities are one, each of which a part derives. No entry is named.
 pub data Derives (expanded : List ExpandedFact) (rules : List Rule) : Why → Claim → Type 0 where
   given : (fact : ExpandedFact) → Contains expanded fact → Derives expanded rules (Expanded fact.atom fact.place) (claim.Fact fact.fact)
   by_rule : (number : ℕ) (rule : Rule) (whys : List Why) (claims : List Claim) (its : Claim) → slice_get rules number ≡ Some rule

@@ -148,7 +148,8 @@ module _ (expanded : List ExpandedFact) (rules : List Rule) (are_rules : AreRule
     }
 
     -- a match has a fact, and a variable of its facts stands where they rest
-    facts_some : (facts : List ℕ) (body chosen : List (Fact Term)) → body ≢ [] → AllZip (λ (place : ℕ) (fact : Fact Term). Claims entries place (Stated fact)) facts chosen
+    facts_some : (facts : List ℕ) (body chosen : List (Fact Term)) → body ≢ []
+        → AllZip (λ (place : ℕ) (fact : Fact Term). Claims entries place (Stated fact)) facts chosen
         → AreChosen (IsNamed entries places) body chosen → ((place : ℕ) → Contains facts place → Contains places place) → (number : ℕ) × Has product number
     facts_some facts [] chosen full stated are among = absurd (full refl)
     facts_some facts (atom ∷ body) [] full stated are among = absurd are
