@@ -3,19 +3,19 @@ use Rattle.esto_condchase.specs.Products.{SomeEntryGoesOn, SomeWayGoesOn, Visite
 use Rattle.esto_condchase.proofs.matching.Matching.+visit.Given as goal
 
 abbrev pub decreases-visit : goal.decreases-visit
-decreases-visit l = 5 * (length l.self.body.now - l.depth) + 3
+decreases-visit l = 5 * (length l.self.now.body.now - l.depth) + 3
 
 abbrev pub decreases-visit_all : goal.decreases-visit_all
-decreases-visit_all l = 5 * (length l.self.body.now - l.depth) + 4
+decreases-visit_all l = 5 * (length l.self.now.body.now - l.depth) + 4
 
 abbrev pub decreases-visit_entries : goal.decreases-visit_entries
-decreases-visit_entries l = 5 * (length l.self.body.now - l.depth) + 2
+decreases-visit_entries l = 5 * (length l.self.now.body.now - l.depth) + 2
 
 abbrev pub decreases-visit_entry : goal.decreases-visit_entry
-decreases-visit_entry l = 5 * (length l.self.body.now - l.depth) + 1
+decreases-visit_entry l = 5 * (length l.self.now.body.now - l.depth) + 1
 
 abbrev pub decreases-visit_fact : goal.decreases-visit_fact
-decreases-visit_fact l = 5 * (length l.self.body.now - l.depth)
+decreases-visit_fact l = 5 * (length l.self.now.body.now - l.depth)
 
 abbrev pub invariant-visit_all-ways : goal.invariant-visit_all-ways
 invariant-visit_all-ways l = record {
