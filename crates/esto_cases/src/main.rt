@@ -7,6 +7,7 @@ mod contents;
 mod files;
 mod making;
 mod matching;
+mod models;
 mod orders;
 mod printing;
 mod reading;

@@ -2,6 +2,7 @@
 
 use crate::contents::{put_constraint, put_dataset, put_fragment, put_line};
 use crate::files::{FileSet, run_on_machine};
+use crate::models::{put_codes, put_inside, put_key_row, put_table};
 use crate::reading::Refused;
 use crate::sets::{put_joined, put_products, put_union};
 use crate::stage::Stage;
@@ -80,6 +81,10 @@ impl Script {
             "run" => self.files.run(rt, alloc, rest),
             "machine" => run_on_machine(rt, alloc, rest),
             "terms" => put_terms(rt, alloc),
+            "table" => put_table(rt, alloc, rest),
+            "key_row" => put_key_row(rt, alloc, rest),
+            "codes" => put_codes(rt, alloc, rest),
+            "inside" => put_inside(rt, alloc, rest),
             "products" => put_products(rt, alloc, rest),
             "union" => put_union(rt, alloc, rest),
             "joined" => put_joined(rt, alloc, rest),

@@ -1,12 +1,14 @@
 -- The binding patterns and the weight of a fragment.
-use Rattle.std.proofs.Common.{◌≡◌, ◌≢◌, ◌<◌, ◌≤◌, ◌+◌, ℕ, ℤ, pos, zero, suc, Bool, true, false, List, [], ◌∷◌, ◌++◌, map, take, length, get_or, replicate, Option, Some, None, inl, inr, refl, sym, ap, subst, ◌∙◌, arith}
+use Rattle.std.proofs.Common.{◌≡◌, ◌≢◌, ◌<◌, ◌≤◌, ◌+◌, ℕ, ℤ, pos, Bool, true, false, List, [], ◌∷◌, ◌++◌, map, take, length, get_or, Option, Some, None, inl, inr, refl, sym, ap, subst, ◌∙◌, arith}
 use Rattle.std.specs.Prelude.{AllPairs, Contains}
 use Rattle.std.proofs.Math.ListN.{get_or-map}
 use Rattle.std.proofs.lemmas.List.{length-map, map-append, take_more}
 use Rattle.std.proofs.lemmas.List.Elements.{Contains-push_cases}
+use Rattle.std.proofs.lemmas.List.FromFn.{length-map-range_with_len, map-range_with_len_more}
 use Rattle.esto_course.specs.Course.{judges, gives, refuses}
 use Rattle.esto_term.proofs.ListLemmas.{Contains-cases, Contains-map_from, Contains-nil}
-use Rattle.esto_catalog.specs.Access.{letter_of, written_pattern, IsPattern, ArePatterns, IsWeight, allows_access, allows_weight}
+use Rattle.esto_read.specs.declared.words.DataModel.{DataModel}
+use Rattle.esto_catalog.specs.Access.{is_usual_input, letter_of, usual_pattern, written_pattern, IsPattern, ArePatterns, IsWeight, allows_access, allows_weight}
 use Rattle.esto_catalog.specs.declared.access.TheConstants.{MAX_PATTERNS, MAX_WEIGHT}
 use Rattle.esto_catalog.specs.declared.fault.Place.{Place}
 use Rattle.esto_catalog.specs.declared.setting.Setting.{Setting}
@@ -61,29 +63,33 @@ written_sound columns texts patterns are =
       wide = are.wide;
     }
 
-length-outputs : (columns : ℕ) → length (replicate columns false) ≡ columns
-length-outputs zero = refl
-length-outputs (suc columns) = ap suc (length-outputs columns)
+-- one column more
+pub usual_more : (model : DataModel) (column : ℕ) (pattern : List Bool) (input : Bool) → pattern ≡ usual_pattern model column
+    → input ≡ is_usual_input model column → pattern ++ input ∷ [] ≡ usual_pattern model (column + 1)
+usual_more model column pattern input so_far is =
+    let first : 0 + column ≡ column = omega arith in
+    (λ i. so_far i ++ is i ∷ []) ∙ sym (map-range_with_len_more (is_usual_input model) 0 column column first)
 
-outputs_sound : (columns : ℕ) → AreSoundPatterns columns (replicate columns false ∷ [])
-outputs_sound columns = record {
+usual_sound : (model : DataModel) (columns : ℕ) → AreSoundPatterns columns (usual_pattern model columns ∷ [])
+usual_sound model columns = record {
   some = λ none. cc;
   few = omega arith;
   distinct = λ i j d before below same. omega (arith, before, below);
-  wide = λ pattern own. elim (Contains-cases (replicate columns false) [] pattern own) [
-    | inl same ↦ ap length (sym same) ∙ length-outputs columns
+  wide = λ pattern own. elim (Contains-cases (usual_pattern model columns) [] pattern own) [
+    | inl same ↦ ap length (sym same) ∙ length-map-range_with_len (is_usual_input model) 0 columns
     | inr later ↦ absurd (Contains-nil pattern later)
   ];
 }
 
-pub access_sound : (place : Place) (columns : ℕ) (setting : Option Setting) (patterns : List (List Bool)) → (allows_access place columns setting).goes patterns
+pub access_sound : (place : Place) (model : DataModel) (columns : ℕ) (setting : Option Setting) (patterns : List (List Bool))
+    → (allows_access place model columns setting).goes patterns
     → AreSoundPatterns columns patterns
 unfolding judges gives refuses
-access_sound place columns None patterns goes = subst (AreSoundPatterns columns) (sym goes) (outputs_sound columns)
-access_sound place columns (Some (Text text)) patterns goes = written_sound columns (text ∷ []) patterns goes
-access_sound place columns (Some (Texts texts)) patterns goes = written_sound columns texts patterns goes
-access_sound place columns (Some (Integer number)) patterns goes = absurd goes
-access_sound place columns (Some Other) patterns goes = absurd goes
+access_sound place model columns None patterns goes = subst (AreSoundPatterns columns) (sym goes) (usual_sound model columns)
+access_sound place model columns (Some (Text text)) patterns goes = written_sound columns (text ∷ []) patterns goes
+access_sound place model columns (Some (Texts texts)) patterns goes = written_sound columns texts patterns goes
+access_sound place model columns (Some (Integer number)) patterns goes = absurd goes
+access_sound place model columns (Some Other) patterns goes = absurd goes
 
 pub weight_light : (place : Place) (setting : Option Setting) (weight : ℕ) → (allows_weight place setting).goes weight → weight ≤ MAX_WEIGHT
 unfolding judges gives refuses

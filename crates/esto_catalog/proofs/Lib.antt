@@ -1,7 +1,11 @@
 pub mod SettingLemmas
 pub mod RowLemmas
+pub mod NameLemmas
 pub mod LeastLemmas
 pub mod DatasetLemmas
+pub mod SchemaLemmas
+pub mod EncodingLemmas
+pub mod LayoutLemmas
 pub mod ShapeLemmas
 pub mod AccessLemmas
 pub mod WalkLemmas

@@ -1,9 +1,10 @@
 -- The walk has one outcome.
-use Rattle.std.proofs.Common.{◌≡◌, ◌≢◌, ◌⊎◌, ℕ, pos, arith, List, [], ◌∷◌, ◌++◌, map, Option, Some, None, Ordering, Less, Equal, Greater, inl, inr, refl, sym, ap, subst, ◌∙◌, codes}
+use Rattle.std.proofs.Common.{◌≡◌, ◌≢◌, ◌⊎◌, ℕ, suc, pos, arith, Bool, List, [], ◌∷◌, ◌++◌, length, map, Option, Some, None, get_or, Ordering, Less, Equal, Greater, inl, inr, refl, sym, ap, subst, ◌∙◌, codes}
 use Rattle.std.specs.Prelude.{slice_get}
 use Rattle.std.specs.Ordering.{ordering_reverse}
 use Rattle.std.proofs.Math.Logic.{∥∥₁_prop}
 use Rattle.std.proofs.lemmas.Cmp.{nat_list_cmp_total}
+use Rattle.std.proofs.lemmas.List.{map-append}
 use Rattle.std.proofs.lemmas.Map.Lookups.{exact_bytes}
 use Rattle.toml.specs.Data.{Members}
 use Rattle.esto_acyclic.specs.Graphs.{AreRanks, IsLeastCycle}
@@ -13,14 +14,24 @@ use Rattle.esto_constraint.specs.Constraints.{rules_of}
 use Rattle.esto_constraint.specs.Soundness.{IsSoundTuple, IsSoundEquality, IsSoundDenial}
 use Rattle.esto_constraint.specs.declared.rule.Constraint.{Constraint}
 use Rattle.esto_constraint.specs.declared.rule.Constraint.TheVariants.{Tuple, Equal as Equality, Never}
-use Rattle.esto_course.proofs.Determined.{IsDetermined, IsDeterminedUpTo, then_determined, gives_determined, refuses_determined, demands_determined, judges_determined, each_determined}
-use Rattle.esto_course.specs.Course.{Stops, gives}
+use Rattle.esto_course.proofs.Determined.{Agree, IsDetermined, IsDeterminedUpTo, then_agree, judges_agree, then_determined, gives_determined, refuses_determined, demands_determined, judges_determined, each_determined}
+use Rattle.esto_course.specs.Course.{Course, Stops, and_then, demands, each, gives}
 use Rattle.esto_course.specs.Course.Stops.{is_free, refused}
 use Rattle.esto_query.specs.Schemas.{arities_of, names_of}
 use Rattle.esto_query.specs.Soundness.{IsSound}
 use Rattle.esto_query.specs.declared.query.Name.{Name}
+use Rattle.esto_query.specs.declared.query.Name.TheVariants.{Given}
 use Rattle.esto_query.specs.declared.query.Query.{Query}
 use Rattle.esto_read.specs.Constraints.{AreSameRule, HaveOneRule, HaveNoRuleFault, HaveOneRuleFault}
+use Rattle.esto_docmodel.specs.Layouts.{IsLayout}
+use Rattle.esto_docmodel.specs.Shapes.{entries_of}
+use Rattle.esto_docmodel.specs.declared.pattern.Pattern.{Pattern}
+use Rattle.esto_docs.specs.declared.layout.Layout.{Layout}
+use Rattle.esto_docs.specs.declared.layout.Layout.TheVariants.{Array, Lines}
+use Rattle.esto_read.specs.Layouts.{AreColumns as AreNamed, HaveOneLayout, HaveNoLayoutFault, HaveOneLayoutFault}
+use Rattle.esto_read.specs.Naming.{ViewsNameTheirColumns}
+use Rattle.esto_read.specs.declared.words.DataModel.{DataModel}
+use Rattle.esto_read.specs.declared.words.DataModel.TheVariants.{Table, Documents, Keys}
 use Rattle.esto_read.specs.Readings.{AreSame, HaveOneReading, HaveNoFault, HaveOneFault}
 use Rattle.esto_read.specs.Words.{IsVocabulary}
 use Rattle.esto_read.specs.declared.read.Form.TheVariants.{View}
@@ -35,22 +46,31 @@ use Rattle.esto_text.specs.declared.version.Version.TheVariants.{One, Two}
 use Rattle.esto_catalog.proofs.AccessLemmas.{patterns_one, weight_one}
 use Rattle.esto_catalog.specs.Access.{reads_patterns, allows_access, allows_weight}
 use Rattle.esto_catalog.specs.Constraints.{reads_rule, reads_constraint, adds_constraint, reads_constraints}
-use Rattle.esto_catalog.specs.Datasets.{name_row, model_row, columns_row, reads_dataset, adds_dataset, reads_datasets, schema_of, words_of}
-use Rattle.esto_catalog.proofs.DatasetLemmas.{read_set, set_words}
-use Rattle.esto_catalog.specs.Determined.{HaveOneCatalogue, HaveNoError, HaveOneError, AreSame as AreSameCatalogue}
-use Rattle.esto_catalog.specs.Fragments.{reads_view, view_row, store_columns, reads_fragment, adds_fragment, reads_fragments, no_fragments, with_fragment}
+use Rattle.esto_catalog.specs.Datasets.{name_row, columns_row, reads_dataset, adds_dataset, reads_datasets, schema_of, words_of}
+use Rattle.esto_catalog.proofs.DatasetLemmas.{read_set}
+use Rattle.esto_catalog.proofs.SchemaLemmas.{set_words}
+use Rattle.esto_catalog.proofs.ShapeLemmas.{head_fit, names_are, view_reading}
+use Rattle.esto_catalog.specs.Determined.{HaveOneCatalogue, HaveNoError, HaveOneError, AreSame as AreSameCatalogue, as_documents, shape_as, stored_as}
+use Rattle.esto_catalog.specs.Models.{allows_layout, layout_row, layout_word, model_word, needs_model, unfit_row}
+use Rattle.esto_catalog.specs.Rules.{all_rules}
+use Rattle.esto_catalog.specs.Shapes.{AreDistinctNames, documents_row, head_columns, keys_row, pattern_row, reads_pattern, shape_row, store_columns, table_row}
+use Rattle.esto_catalog.specs.Fragments.{reads_view, view_row, stored_fragment, reads_fragment, adds_fragment, reads_fragments, no_fragments, with_fragment}
 use Rattle.esto_catalog.specs.Reading.{IsCatalogueError, IsCycleOf, IsMadeOf, is_acyclic, reads_catalogue}
 use Rattle.esto_catalog.specs.Rows.{IsWant, IsAny, fault_at, text_fault_at, IsLeastUnknown, knows_keys, needs_text, needs_texts, allows_text, top}
 use Rattle.esto_catalog.specs.Settings.{document_of}
 use Rattle.esto_catalog.specs.Whole.{number_of, reads_toml, reads_version, reads_section, reads_whole}
 use Rattle.esto_catalog.specs.declared.catalogue.Catalogue.{Catalogue}
+use Rattle.esto_catalog.specs.declared.catalogue.Shape.{Shape}
+use Rattle.esto_catalog.specs.declared.catalogue.Shape.TheVariants.{Documents as FromDocuments}
 use Rattle.esto_catalog.specs.declared.dataset.Dataset.{Dataset}
 use Rattle.esto_catalog.specs.declared.fault.CatalogueError.{CatalogueError}
-use Rattle.esto_catalog.specs.declared.fault.CatalogueError.TheVariants.{Fault, NotAcyclic, NotBuilt, OutOfMemory}
-use Rattle.esto_catalog.specs.declared.fault.CatalogueKind.TheVariants.{UnknownKey}
+use Rattle.esto_catalog.specs.declared.fault.CatalogueError.TheVariants.{Fault, NotAcyclic, OutOfMemory}
+use Rattle.esto_catalog.specs.declared.fault.CatalogueKind.{CatalogueKind}
+use Rattle.esto_catalog.specs.declared.fault.CatalogueKind.TheVariants.{BadPattern, UnknownKey}
 use Rattle.esto_catalog.specs.declared.fault.Place.{Place}
 use Rattle.esto_catalog.specs.declared.fault.Section.TheVariants as section
 use Rattle.esto_catalog.specs.declared.fragment.Fragments.{Fragments}
+use Rattle.esto_catalog.specs.declared.fragment.Stored.{Stored}
 use Rattle.esto_catalog.specs.declared.setting.Field.{Field}
 use Rattle.esto_catalog.specs.declared.setting.Setting.{Setting}
 use Rattle.esto_catalog.specs.declared.setting.Setting.TheVariants.{Text, Integer, Texts, Other}
@@ -169,27 +189,70 @@ whole_determined bytes =
     then_determined ◌≡◌ _ _ (version_determined _) (λ version goes0.
     then_determined ◌≡◌ _ _ (section_determined _ document.datasets) (λ datasets goes1.
     then_determined ◌≡◌ _ _ (section_determined _ document.fragments) (λ fragments goes2.
-    then_determined ◌≡◌ _ _ (section_determined _ document.constraints) (λ constraints goes3.
-    then_determined ◌≡◌ _ _ (demands_determined _ _) (λ unit'' built. gives_determined _ _)))))))
+    then_determined ◌≡◌ _ _ (section_determined _ document.constraints) (λ constraints goes3. gives_determined _ _))))))
+
+-- ---- models and layouts
+
+model_one : (model other : DataModel) → model_word model ≡ model_word other → model ≡ other
+model_one Table Table same = refl
+model_one Table Documents same = absurd cc
+model_one Table Keys same = absurd cc
+model_one Documents Table same = absurd cc
+model_one Documents Documents same = refl
+model_one Documents Keys same = absurd cc
+model_one Keys Table same = absurd cc
+model_one Keys Documents same = absurd cc
+model_one Keys Keys same = refl
+
+layout_one : (layout other : Layout) → layout_word layout ≡ layout_word other → layout ≡ other
+layout_one Array Array same = refl
+layout_one Array Lines same = let first : 97 ≡ 108 = ap (λ l. get_or l 0 0) same in absurd (omega (arith, first))
+layout_one Lines Array same = let first : 108 ≡ 97 = ap (λ l. get_or l 0 0) same in absurd (omega (arith, first))
+layout_one Lines Lines same = refl
+
+model_determined : (kind : CatalogueKind) (place : Place) (key : List ℕ) (entry : List Field) → IsDetermined (needs_model kind place key entry)
+model_determined kind place key entry = then_determined ◌≡◌ _ _ (text_determined place _ _) (λ text goes. judges_determined ◌≡◌ _ _
+    (λ model other is is'. model_one model other (sym is ∙ is'))
+    (λ error other (none, is) (none', is'). is ∙ sym is')
+    (λ model error is (none, is'). none model is))
+
+free_determined : (key : List ℕ) (place : Place) (entry : List Field) → IsDetermined (unfit_row key place entry)
+free_determined key place entry = demands_determined _ _
+
+allowed_layout_determined : (place : Place) (setting : Option Setting) → IsDetermined (allows_layout place setting)
+allowed_layout_determined place None = gives_determined _ _
+allowed_layout_determined place (Some (Text text)) = judges_determined ◌≡◌ _ _
+    (λ layout other is is'. layout_one layout other (sym is ∙ is'))
+    (λ error other (none, is) (none', is'). is ∙ sym is')
+    (λ layout error is (none, is'). none layout is)
+allowed_layout_determined place (Some (Integer n)) = refuses_determined _ _
+allowed_layout_determined place (Some (Texts n)) = refuses_determined _ _
+allowed_layout_determined place (Some Other) = refuses_determined _ _
+
+layout_determined : (place : Place) (model : DataModel) (entry : List Field) → IsDetermined (layout_row place model entry)
+layout_determined place Table entry = then_determined ◌≡◌ _ _ (free_determined _ place entry) (λ unit free. gives_determined _ _)
+layout_determined place Documents entry = allowed_layout_determined place _
+layout_determined place Keys entry = then_determined ◌≡◌ _ _ (free_determined _ place entry) (λ unit free. gives_determined _ _)
+
+-- ---- datasets
+
+columns_determined : (place : Place) (model : DataModel) (entry : List Field) → IsDetermined (columns_row place model entry)
+columns_determined place Table entry = then_determined ◌≡◌ _ _ (texts_determined place _ _)
+    (λ texts goes. then_determined ◌≡◌ _ _ (demands_determined _ _) (λ u g. gives_determined _ _))
+columns_determined place Documents entry = then_determined ◌≡◌ _ _ (free_determined _ place entry) (λ unit free. gives_determined _ _)
+columns_determined place Keys entry = then_determined ◌≡◌ _ _ (free_determined _ place entry) (λ unit free. gives_determined _ _)
 
 dataset_determined : (place : Place) (earlier : List Dataset) (entry : List Field) → IsDetermined (reads_dataset place earlier entry)
 dataset_determined place earlier entry =
     then_determined ◌≡◌ _ _ (keys_determined place entry) (λ unit known.
     then_determined ◌≡◌ _ _ name (λ name goes.
-    then_determined ◌≡◌ _ _ model (λ model goes1.
-    then_determined ◌≡◌ _ _ columns (λ columns goes2.
-    then_determined ◌≡◌ _ _ (demands_determined _ _) (λ unit' fit.
-    then_determined ◌≡◌ _ _ (allowed_determined place _ _) (λ file goes3. gives_determined _ _)))))) where
+    then_determined ◌≡◌ _ _ (model_determined _ place _ entry) (λ model goes1.
+    then_determined ◌≡◌ _ _ (columns_determined place model entry) (λ columns goes2.
+    then_determined ◌≡◌ _ _ (layout_determined place model entry) (λ layout goes3.
+    then_determined ◌≡◌ _ _ (allowed_determined place _ _) (λ file goes4. gives_determined _ _)))))) where
       name : IsDetermined (name_row place earlier entry)
       name = then_determined ◌≡◌ _ _ (text_determined place _ _) (λ name goes. then_determined ◌≡◌ _ _ (demands_determined _ _)
           (λ u g. then_determined ◌≡◌ _ _ (demands_determined _ _) (λ v h. gives_determined _ _)))
-
-      model : IsDetermined (model_row place entry)
-      model = then_determined ◌≡◌ _ _ (text_determined place _ _) (λ text goes. then_determined ◌≡◌ _ _ (demands_determined _ _) (λ u g. gives_determined _ _))
-
-      columns : IsDetermined (columns_row place entry)
-      columns = then_determined ◌≡◌ _ _ (texts_determined place _ _) (λ texts goes. then_determined ◌≡◌ _ _ (demands_determined _ _)
-          (λ u g. gives_determined _ _))
 
 pub datasets_determined : (entries : List (List Field)) → IsDetermined (reads_datasets entries)
 datasets_determined entries = each_determined adds_dataset (λ number earlier entry. then_determined ◌≡◌
@@ -198,7 +261,81 @@ datasets_determined entries = each_determined adds_dataset (λ number earlier en
 
 -- ---- the rows that read texts
 
-module _ (one : HaveOneReading) (no_fault : HaveNoFault) (one_fault : HaveOneFault) (datasets : List Dataset)
+-- ---- what is the same up to the entries of patterns
+
+abbrev AreSameEntries : Pattern → Pattern → Type 0
+AreSameEntries pattern other = entries_of pattern.entries ≡ entries_of other.entries
+
+abbrev AreSameShape : Shape → Shape → Type 0
+AreSameShape shape other = (file : List ℕ) → shape_as shape file ≡ shape_as other file
+
+abbrev AreSameStored : Stored → Stored → Type 0
+AreSameStored stored other = (stored.definition ≡ other.definition) × (stored_as stored.store ≡ stored_as other.store)
+
+abbrev AreSameFragments : Fragments → Fragments → Type 0
+AreSameFragments fragments others = (fragments.definitions ≡ others.definitions) × (map stored_as fragments.stores ≡ map stored_as others.stores)
+
+-- what follows once a pattern is read, and once its text is
+abbrev checks : Place → Query → Pattern → Course CatalogueError Pattern
+checks place view pattern =
+    and_then (demands (IsLayout (length view.head) (entries_of pattern.entries)) (fault_at BadPattern place (codes "pattern"))) (λ _. gives pattern)
+
+abbrev reads_on : Place → Query → List ℕ → Course CatalogueError Pattern
+reads_on place view text = and_then (reads_pattern place view text) (checks place view)
+
+-- two values that count as the same
+gives_alike : {E A : Type 0} (caused : E → Type 0) (Same : A → A → Type 0) (value other : A) → Same value other
+    → Agree caused Same (gives {E = E} value) (gives other)
+unfolding gives
+gives_alike caused Same value other alike = record {
+  one = λ one two here there. subst (λ t. Same one t) (sym there) (subst (λ t. Same t other) (sym here) alike);
+  one_stop = λ error other_error because because' here there. absurd here;
+  apart = λ one error because here there. there;
+  other_apart = λ one error because here there. there;
+}
+
+stopped : (place : Place) (view : Query) (pattern : Pattern) (error : CatalogueError) → (checks place view pattern).stops error
+    → (¬ IsLayout (length view.head) (entries_of pattern.entries)) × (error ≡ fault_at BadPattern place (codes "pattern"))
+unfolding and_then demands gives
+stopped place view pattern error stops = elim stops [ inl none ↦ none | inr (v, holds, never) ↦ absurd never ]
+
+checked : (place : Place) (view : Query) (pattern other : Pattern) → AreSameEntries pattern other
+    → Agree (λ _. Unit {0}) AreSameEntries (checks place view pattern) (checks place view other)
+unfolding and_then demands gives
+checked place view pattern other alike = record {
+  one = λ value other_value (u, holds, is) (v, holds', is').
+      ap (λ (p : Pattern). entries_of p.entries) is ∙ alike ∙ sym (ap (λ (p : Pattern). entries_of p.entries) is');
+  one_stop = λ error other_error because because' stops stops'. (stopped place view pattern error stops).1
+      ∙ sym (stopped place view other other_error stops').1;
+  apart = λ value error because (u, holds, is) stops. (stopped place view other error stops).0 (subst (IsLayout (length view.head)) alike holds);
+  other_apart = λ value error because (u, holds, is) stops.
+      (stopped place view pattern error stops).0 (subst (IsLayout (length view.head)) (sym alike) holds);
+}
+
+shape_agree : (shape other : Shape) → AreSameShape shape other → Agree (λ _. Unit {0}) AreSameShape (gives {E = CatalogueError} shape) (gives other)
+shape_agree shape other alike = gives_alike (λ _. Unit {0}) AreSameShape shape other alike
+
+shape_itself : (shape : Shape) → IsDeterminedUpTo AreSameShape (gives {E = CatalogueError} shape)
+shape_itself shape = shape_agree shape shape (λ file. refl)
+
+stored_agree : (view : NamedQuery) (file : List ℕ) (shape other : Shape) (access access' : List (List Bool)) (weight weight' : ℕ) → AreSameShape shape other
+    → access ≡ access' → weight ≡ weight'
+    → Agree (λ _. Unit {0}) AreSameStored (gives {E = CatalogueError} (stored_fragment view file shape access weight))
+    (gives (stored_fragment view file other access' weight'))
+stored_agree view file shape other access access' weight weight' alike same same' =
+    gives_alike (λ _. Unit {0}) AreSameStored _ _
+    ((λ i. record { name = view.name; view = view.query; access = same i; weight = same' i }), alike file)
+
+fragments_agree : (earlier others : Fragments) (stored other : Stored) → AreSameFragments earlier others → AreSameStored stored other
+    → Agree (λ _. Unit {0}) AreSameFragments (gives {E = CatalogueError} (with_fragment earlier stored)) (gives (with_fragment others other))
+fragments_agree earlier others stored other (same, alike) (same', alike') =
+    gives_alike (λ _. Unit {0}) AreSameFragments _ _ (
+      (λ i. same i ++ same' i ∷ []),
+      map-append stored_as earlier.stores (stored.store ∷ []) ∙ (λ i. alike i ++ alike' i ∷ []) ∙ sym (map-append stored_as others.stores (other.store ∷ [])),
+    )
+
+module _ (one : HaveOneReading) (no_fault : HaveNoFault) (one_fault : HaveOneFault) (name_columns : ViewsNameTheirColumns) (one_layout : HaveOneLayout)
+    (no_layout_fault : HaveNoLayoutFault) (one_layout_fault : HaveOneLayoutFault) (datasets : List Dataset)
     (words : IsVocabulary (arities_of (schema_of datasets)) (words_of datasets)) where
   view_determined : (place : Place) (text : List ℕ) → IsDetermined (reads_view place datasets text)
   view_determined place text = judges_determined ◌≡◌ _ _
@@ -207,7 +344,7 @@ module _ (one : HaveOneReading) (no_fault : HaveNoFault) (one_fault : HaveOneFau
       (one_fault View _ _ text fault fault' words first first') ∙ sym is'))
       (λ view error reads (fault, first, is). no_fault View _ _ text view fault words reads first)
 
-  view_row_determined : (place : Place) (earlier : Fragments) (entry : List Field) → IsDetermined (view_row place datasets earlier.definitions entry)
+  view_row_determined : (place : Place) (earlier : List FragmentDef) (entry : List Field) → IsDetermined (view_row place datasets earlier entry)
   view_row_determined place earlier entry =
       then_determined ◌≡◌ _ _ (text_determined place _ _) (λ text goes. then_determined ◌≡◌ _ _ (view_determined place text)
       (λ view reads. then_determined ◌≡◌ _ _ (demands_determined _ _) (λ u g. gives_determined _ _)))
@@ -224,12 +361,12 @@ module _ (one : HaveOneReading) (no_fault : HaveNoFault) (one_fault : HaveOneFau
       (λ error other (none, is) (none', is'). is ∙ sym is')
       (λ patterns error are (none, is). none patterns are)
 
-  access_determined : (place : Place) (columns : ℕ) (setting : Option Setting) → IsDetermined (allows_access place columns setting)
-  access_determined place columns None = gives_determined _ _
-  access_determined place columns (Some (Text text)) = patterns_determined place columns (text ∷ [])
-  access_determined place columns (Some (Texts texts)) = patterns_determined place columns texts
-  access_determined place columns (Some (Integer n)) = refuses_determined _ _
-  access_determined place columns (Some Other) = refuses_determined _ _
+  access_determined : (place : Place) (model : DataModel) (columns : ℕ) (setting : Option Setting) → IsDetermined (allows_access place model columns setting)
+  access_determined place model columns None = gives_determined _ _
+  access_determined place model columns (Some (Text text)) = patterns_determined place columns (text ∷ [])
+  access_determined place model columns (Some (Texts texts)) = patterns_determined place columns texts
+  access_determined place model columns (Some (Integer n)) = refuses_determined _ _
+  access_determined place model columns (Some Other) = refuses_determined _ _
 
   weight_determined : (place : Place) (setting : Option Setting) → IsDetermined (allows_weight place setting)
   weight_determined place None = gives_determined _ _
@@ -240,27 +377,86 @@ module _ (one : HaveOneReading) (no_fault : HaveNoFault) (one_fault : HaveOneFau
   weight_determined place (Some (Texts texts)) = refuses_determined _ _
   weight_determined place (Some Other) = refuses_determined _ _
 
-  fragment_determined : (place : Place) (earlier : Fragments) (entry : List Field) → IsDetermined (reads_fragment place datasets earlier.definitions entry)
-  fragment_determined place earlier entry =
-      then_determined ◌≡◌ _ _ (keys_determined place entry) (λ unit known.
-      then_determined ◌≡◌ _ _ (view_row_determined place earlier entry) (λ view goes.
-      then_determined ◌≡◌ _ _ (then_determined ◌≡◌ _ _ (text_determined place _ _) (λ text goes1. demands_determined _ _)) (λ unit' stored.
-      then_determined ◌≡◌ _ _ (text_determined place _ _) (λ file goes2.
-      then_determined ◌≡◌ _ _ (store_columns_determined place view.query _) (λ columns goes3.
-      then_determined ◌≡◌ _ _ (demands_determined _ _) (λ u g.
-      then_determined ◌≡◌ _ _ (demands_determined _ _) (λ v h.
-      then_determined ◌≡◌ _ _ (access_determined place _ _) (λ access goes4.
-      then_determined ◌≡◌ _ _ (weight_determined place _) (λ weight goes5. gives_determined _ _)))))))))
+  -- the shape of a view whose head's names are told apart
+  module _ (place : Place) (view : Query) (entry : List Field) (distinct : AreDistinctNames view) where
+    pattern_determined : IsDeterminedUpTo AreSameEntries (pattern_row place view entry)
+    pattern_determined =
+        then_agree (λ _. Unit {0}) ◌≡◌ AreSameEntries _ _ _ _ (text_determined place _ _) (λ text text' goes same.
+        subst (λ t. Agree (λ _. Unit {0}) AreSameEntries (reads_on place view text) (reads_on place view t)) same
+        (then_agree (λ _. Unit {0}) AreSameEntries AreSameEntries _ _ _ _ (reading text) (λ pattern other reads alike. checked place view pattern other
+        alike))) where
+          named : AreNamed (map Given (head_columns view))
+          named = names_are (head_columns view) distinct
 
-  pub fragments_determined : (entries : List (List Field)) → IsDetermined (reads_fragments datasets entries)
-  fragments_determined entries = each_determined (adds_fragment datasets)
-      (λ number earlier entry. then_determined ◌≡◌ (reads_fragment (record {
-        section = section.Fragment;
-        number =
-            number;
-      }) datasets earlier.definitions entry) (λ fragment. gives (with_fragment earlier fragment))
-      (fragment_determined (record { section = section.Fragment; number = number }) earlier entry)
-      (λ fragment goes. gives_determined _ _)) 1 no_fragments entries
+          reading : (text : List ℕ) → IsDeterminedUpTo AreSameEntries (reads_pattern place view text)
+          reading text = judges_determined AreSameEntries _ _
+              (λ pattern other reads reads'. one_layout _ text pattern other named reads reads')
+              (λ error other (fault, first, is) (fault', first', is'). is ∙ (ap (λ f. text_fault_at f place (codes "pattern"))
+              (one_layout_fault _ text fault fault' named first first') ∙ sym is'))
+              (λ pattern error reads (fault, first, is). no_layout_fault _ text pattern fault named reads first)
+
+    table_determined : IsDeterminedUpTo AreSameShape (table_row place view entry)
+    table_determined =
+        then_determined AreSameShape _ _ (store_columns_determined place view _) (λ columns goes.
+        then_determined AreSameShape _ _ (free_determined _ place entry) (λ u free.
+        then_determined AreSameShape _ _ (free_determined _ place entry) (λ v free'. shape_itself _)))
+
+    documents_determined : IsDeterminedUpTo AreSameShape (documents_row place view entry)
+    documents_determined =
+        then_determined AreSameShape _ _ (free_determined _ place entry) (λ u free.
+        then_determined AreSameShape _ _ (layout_determined place Documents entry) (λ layout goes.
+        then_agree (λ _. Unit {0}) AreSameEntries AreSameShape _ _ _ _ pattern_determined (λ pattern other reads alike.
+        shape_agree (FromDocuments layout pattern) (FromDocuments layout other) (λ file. ap (λ entries. as_documents layout entries file) alike))))
+
+    keys_determined_as : IsDeterminedUpTo AreSameShape (keys_row place entry)
+    keys_determined_as =
+        then_determined AreSameShape _ _ (free_determined _ place entry) (λ u free.
+        then_determined AreSameShape _ _ (free_determined _ place entry) (λ v free'.
+        then_determined AreSameShape _ _ (free_determined _ place entry) (λ w free''. shape_itself _)))
+
+    shape_determined : (model : DataModel) → IsDeterminedUpTo AreSameShape (shape_row place model view entry)
+    shape_determined Table = table_determined
+    shape_determined Documents = documents_determined
+    shape_determined Keys = keys_determined_as
+
+  fragment_determined : (place : Place) (earlier : List FragmentDef) (entry : List Field)
+      → IsDeterminedUpTo AreSameStored (reads_fragment place datasets earlier entry)
+  fragment_determined place earlier entry =
+      then_determined AreSameStored _ _ (keys_determined place entry) (λ unit known.
+      then_determined AreSameStored _ _ (view_row_determined place earlier entry) (λ view goes.
+      then_determined AreSameStored _ _ (model_determined _ place _ entry) (λ model goes1.
+      then_determined AreSameStored _ _ (text_determined place _ _) (λ file goes2.
+      then_agree (λ _. Unit {0}) AreSameShape AreSameStored _ _ _ _ (shape_determined place view.query entry (distinct view goes) model)
+      (λ shape other goes3 alike.
+      then_agree (λ _. Unit {0}) ◌≡◌ AreSameStored _ _ _ _ (access_determined place model _ _) (λ access access' goes4 same.
+      then_agree (λ _. Unit {0}) ◌≡◌ AreSameStored _ _ _ _ (weight_determined place _) (λ weight weight' goes5 same'.
+      stored_agree view file shape other access access' weight weight' alike same same'))))))) where
+        distinct : (view : NamedQuery) → (view_row place datasets earlier entry).goes view → AreDistinctNames view.query
+        distinct view goes =
+            let reading = view_reading place datasets earlier entry view goes in
+            let names = name_columns _ _ reading.0 view reading.1 in
+            (head_fit view.query names.0 names.1).distinct
+
+  abbrev entry_place : ℕ → Place
+  entry_place number = record { section = section.Fragment; number = number }
+
+  added_agree : (number : ℕ) (earlier others : Fragments) (entry : List Field) → AreSameFragments earlier others
+      → Agree (λ _. Unit {0}) AreSameFragments (adds_fragment datasets number earlier entry) (adds_fragment datasets number others entry)
+  added_agree number earlier others entry (same, alike) =
+      then_agree (λ _. Unit {0}) AreSameStored AreSameFragments _ _ _ _
+      (subst (λ (d : List FragmentDef). Agree (λ _. Unit {0}) AreSameStored (reads_fragment (entry_place number) datasets earlier.definitions entry)
+      (reads_fragment (entry_place number) datasets d entry)) same (fragment_determined (entry_place number) earlier.definitions entry))
+      (λ stored other goes both. fragments_agree earlier others stored other (same, alike) both)
+
+  all_agree : (number : ℕ) (earlier others : Fragments) (entries : List (List Field)) → AreSameFragments earlier others
+      → Agree (λ _. Unit {0}) AreSameFragments (each (adds_fragment datasets) number earlier entries) (each (adds_fragment datasets) number others entries)
+  all_agree number earlier others [] alike = gives_alike (λ _. Unit {0}) AreSameFragments earlier others alike
+  all_agree number earlier others (entry ∷ entries) alike =
+      then_agree (λ _. Unit {0}) AreSameFragments AreSameFragments _ _ _ _ (added_agree number earlier others entry alike)
+      (λ next other goes more. all_agree (suc number) next other entries more)
+
+  pub fragments_determined : (entries : List (List Field)) → IsDeterminedUpTo AreSameFragments (reads_fragments datasets entries)
+  fragments_determined entries = all_agree 1 no_fragments no_fragments entries (refl, refl)
 
 module _ (one : HaveOneRule) (no_fault : HaveNoRuleFault) (one_fault : HaveOneRuleFault) (datasets : List Dataset)
     (words : IsVocabulary (arities_of (schema_of datasets)) (words_of datasets)) where
@@ -287,14 +483,12 @@ module _ (one : HaveOneRule) (no_fault : HaveNoRuleFault) (one_fault : HaveOneRu
 error_stops : (bytes : List ℕ) (cause : CatalogueError) → IsCatalogueError bytes cause → (cause ≡ OutOfMemory) ⊎ (reads_catalogue bytes).stops cause
 error_stops bytes (Fault fault) stops = inr stops
 error_stops bytes (NotAcyclic cycle) stops = inr stops
-error_stops bytes NotBuilt stops = inr stops
 error_stops bytes OutOfMemory stops = inl refl
 
 pub error_of : (bytes : List ℕ) (cause : CatalogueError) → Stops IsWant IsAny (reads_catalogue bytes) cause → IsCatalogueError bytes cause
 error_of bytes cause (is_free is) = subst (IsCatalogueError bytes) (sym is) tt
 error_of bytes (Fault fault) (refused because stops) = stops
 error_of bytes (NotAcyclic cycle) (refused because stops) = stops
-error_of bytes NotBuilt (refused because stops) = stops
 error_of bytes OutOfMemory (refused because stops) = tt
 
 some_names : (names others : List (List ℕ)) → map Some names ≡ map Some others → names ≡ others
@@ -315,11 +509,12 @@ HaveOneRanks = (rules : List Rule) (count : ℕ) (ranks others : List ℕ) → A
 abbrev pub HaveOneCycle : Type 0
 HaveOneCycle = (rules : List Rule) (relations others : List ℕ) → IsLeastCycle (IsEdge rules) relations → IsLeastCycle (IsEdge rules) others → relations ≡ others
 
-module _ (one_ranks : HaveOneRanks) (one_cycle : HaveOneCycle) (datasets : List Dataset) (fragments : Fragments) (rules : List Constraint) where
-  same_catalogue : (catalogue other : Catalogue) → IsMadeOf datasets fragments rules catalogue → IsMadeOf datasets fragments rules other
+module _ (one_ranks : HaveOneRanks) (one_cycle : HaveOneCycle) (version : Version) (datasets : List Dataset) (given : List Constraint) where
+  same_catalogue : (fragments others : Fragments) (catalogue other : Catalogue) → AreSameFragments fragments others
+      → IsMadeOf version datasets fragments given catalogue → IsMadeOf version datasets others given other
       → AreSameCatalogue catalogue other
-  same_catalogue catalogue other made made' =
-      let same : catalogue.fragments ≡ other.fragments = made.definitions ∙ sym made'.definitions in
+  same_catalogue fragments others catalogue other (definitions, alike) made made' =
+      let same : catalogue.fragments ≡ other.fragments = made.definitions ∙ definitions ∙ sym made'.definitions in
       record {
         schema = made.schema ∙ sym made'.schema;
         words = made.words ∙ sym made'.words;
@@ -328,34 +523,43 @@ module _ (one_ranks : HaveOneRanks) (one_cycle : HaveOneCycle) (datasets : List 
         views = ap views_of same;
         patterns = ap patterns_of same;
         weights = ap weights_of same;
-        stores = made.stores ∙ sym made'.stores;
-        rules = ap rules_of (made.same_rules ∙ sym made'.same_rules);
-        given = made.given ∙ sym made'.given;
-        ranks = one_ranks (rules_of rules) _ _ _ made.ranks made'.ranks;
+        stores = ap (map stored_as) made.stores ∙ alike ∙ sym (ap (map stored_as) made'.stores);
+        rules = made.rules.all ∙ sym made'.rules.all;
+        given = made.given_are ∙ sym made'.given_are;
+        ranks = one_ranks (all_rules version datasets given) _ _ _ made.ranks made'.ranks;
       }
 
-  same_cycle : (cycle other : Cycle) → IsCycleOf datasets rules cycle → IsCycleOf datasets rules other → cycle ≡ other
+  same_cycle : (cycle other : Cycle) → IsCycleOf datasets (all_rules version datasets given) cycle → IsCycleOf datasets (all_rules version datasets given) other
+      → cycle ≡ other
   same_cycle cycle other (least, names) (least', names') =
-      let relations : cycle.relations ≡ other.relations = one_cycle (rules_of rules) _ _ least least' in
+      let relations : cycle.relations ≡ other.relations = one_cycle (all_rules version datasets given) _ _ least least' in
       let all : cycle.names ≡ other.names = some_names _ _ (names ∙ (ap (map (slice_get (names_of (schema_of datasets)))) relations ∙ sym names')) in
       λ i. record { relations = relations i; names = all i }
 
-  acyclic_determined : IsDeterminedUpTo AreSameCatalogue (is_acyclic datasets fragments rules)
-  acyclic_determined = judges_determined AreSameCatalogue _ _ same_catalogue
-      (λ error other (cycle, is_cycle, is) (cycle', is_cycle', is'). is ∙ (ap NotAcyclic (same_cycle cycle cycle' is_cycle is_cycle') ∙ sym is'))
-      (λ catalogue error made (cycle, is_cycle, is). made.acyclic is_cycle.0.start cycle.relations is_cycle.0.here.cycle)
+  acyclic_agree : (fragments others : Fragments) → AreSameFragments fragments others
+      → Agree (λ _. Unit {0}) AreSameCatalogue (is_acyclic version datasets fragments given) (is_acyclic version datasets others given)
+  acyclic_agree fragments others alike = judges_agree (λ _. Unit {0}) AreSameCatalogue _ _ _ _
+      (λ catalogue other made made'. same_catalogue fragments others catalogue other alike made made')
+      (λ error other because because' (cycle, is_cycle, is) (cycle', is_cycle', is').
+      is ∙ (ap NotAcyclic (same_cycle cycle cycle' is_cycle is_cycle') ∙ sym is'))
+      (λ catalogue error because made (cycle, is_cycle, is). made.acyclic is_cycle.0.start cycle.relations is_cycle.0.here.cycle)
+      (λ catalogue error because made (cycle, is_cycle, is). made.acyclic is_cycle.0.start cycle.relations is_cycle.0.here.cycle)
 
-module _ (one : HaveOneReading) (no_fault : HaveNoFault) (one_fault : HaveOneFault) (one_rule : HaveOneRule) (no_rule_fault : HaveNoRuleFault)
+module _ (one : HaveOneReading) (no_fault : HaveNoFault) (one_fault : HaveOneFault) (name_columns : ViewsNameTheirColumns) (one_layout : HaveOneLayout)
+    (no_layout_fault : HaveNoLayoutFault) (one_layout_fault : HaveOneLayoutFault) (one_rule : HaveOneRule) (no_rule_fault : HaveNoRuleFault)
     (one_rule_fault : HaveOneRuleFault) (one_ranks : HaveOneRanks) (one_cycle : HaveOneCycle) where
   walk_determined : (bytes : List ℕ) → IsDeterminedUpTo AreSameCatalogue (reads_catalogue bytes)
   walk_determined bytes =
       then_determined AreSameCatalogue _ _ (whole_determined bytes) (λ sections goes.
       then_determined AreSameCatalogue _ _ (datasets_determined sections.datasets) (λ datasets read.
-      then_determined AreSameCatalogue _ _ (fragments_determined one no_fault one_fault datasets (named sections.datasets datasets read) sections.fragments)
-      (λ fragments goes1.
-      then_determined AreSameCatalogue _ _ (constraints_determined one_rule no_rule_fault one_rule_fault datasets
-      (named sections.datasets datasets read) sections.version sections.constraints) (λ rules goes2.
-      acyclic_determined one_ranks one_cycle datasets fragments rules)))) where
+      then_agree (λ _. Unit {0}) AreSameFragments AreSameCatalogue _ _ _ _
+      (fragments_determined one no_fault one_fault name_columns one_layout no_layout_fault one_layout_fault datasets (named sections.datasets datasets read)
+      sections.fragments) (λ fragments others goes1 alike.
+      then_agree (λ _. Unit {0}) ◌≡◌ AreSameCatalogue _ _ _ _ (constraints_determined one_rule no_rule_fault one_rule_fault datasets
+      (named sections.datasets datasets read) sections.version sections.constraints) (λ given given' goes2 same.
+      subst (λ (g : List Constraint). Agree (λ _. Unit {0}) AreSameCatalogue (is_acyclic sections.version datasets fragments given)
+      (is_acyclic sections.version datasets others g)) same
+      (acyclic_agree one_ranks one_cycle sections.version datasets given fragments others alike))))) where
         named : (entries : List (List Field)) (datasets : List Dataset) → (reads_datasets entries).goes datasets
             → IsVocabulary (arities_of (schema_of datasets)) (words_of datasets)
         named entries datasets read = set_words datasets (read_set entries datasets read).0

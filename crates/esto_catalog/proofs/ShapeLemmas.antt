@@ -1,26 +1,37 @@
--- The columns under which a fragment is stored fit its view.
-use Rattle.std.proofs.Common.{◌≡◌, ◌&&◌, ℕ, List, [], ◌∷◌, map, take, Bool, false, Option, Some, None, refl, sym, ap, subst, ◌∙◌, arith, inl, inr}
+-- The shape in which a fragment is stored is one for its view.
+use Rattle.std.proofs.Common.{◌≡◌, ◌&&◌, ℕ, List, [], ◌∷◌, length, map, take, codes, Bool, false, Option, Some, None, refl, sym, ap, subst, ◌∙◌, arith, inl, inr}
 use Rattle.std.specs.Prelude.{◌≢◌, AllPairs, Contains, nat_eq}
 use Rattle.std.specs.Cmp.Lexicographic.{pointwise}
 use Rattle.std.specs.List.{AllZip, starts_with}
 use Rattle.std.proofs.lemmas.Bool.Decides.{nat_tests}
 use Rattle.std.proofs.lemmas.List.{length-map}
 use Rattle.esto_course.specs.Course.{and_then, judges, gives, refuses, demands}
+use Rattle.esto_docmodel.specs.Layouts.{IsLayout}
+use Rattle.esto_docmodel.specs.Shapes.{entries_of}
+use Rattle.esto_docmodel.specs.declared.pattern.Pattern.{Pattern}
 use Rattle.esto_query.specs.Schemas.{arities_of}
 use Rattle.esto_query.specs.declared.query.Name.{Name}
+use Rattle.esto_query.specs.declared.query.Name.TheVariants.{Given}
 use Rattle.esto_query.specs.declared.query.Query.{Query}
+use Rattle.esto_read.specs.Layouts.{AreColumns as AreNamed}
 use Rattle.esto_read.specs.Naming.{IsCalled, AreHeadNames}
 use Rattle.esto_read.specs.Readings.{IsReading}
 use Rattle.esto_read.specs.declared.read.Form.TheVariants.{View}
 use Rattle.esto_read.specs.declared.read.NamedQuery.{NamedQuery}
-use Rattle.esto_term.proofs.ListLemmas.{Contains-head}
+use Rattle.esto_read.specs.declared.words.DataModel.{DataModel}
+use Rattle.esto_read.specs.declared.words.DataModel.TheVariants.{Table, Documents, Keys}
+use Rattle.esto_term.proofs.ChoiceLemmas.{pairs_map}
+use Rattle.esto_term.proofs.ListLemmas.{Contains-head, Contains-map_from}
 use Rattle.esto_term.specs.declared.term.Term.{Term}
 use Rattle.esto_text.specs.Gaps.{IsLetter}
 use Rattle.esto_text.specs.Lexemes.{IsNameText}
 use Rattle.esto_views.specs.declared.fragments.FragmentDef.{FragmentDef}
 use Rattle.esto_catalog.specs.Datasets.{begins_plain, schema_of, words_of}
-use Rattle.esto_catalog.specs.Fragments.{column_of, head_columns, name_at, store_columns, view_row}
-use Rattle.esto_catalog.specs.Soundness.{FitView}
+use Rattle.esto_catalog.specs.Fragments.{view_row}
+use Rattle.esto_catalog.specs.Settings.{setting_at}
+use Rattle.esto_catalog.specs.Shapes.{column_of, head_columns, name_at, shape_row, store_columns}
+use Rattle.esto_catalog.specs.Soundness.{FitView, IsShapeFor}
+use Rattle.esto_catalog.specs.declared.catalogue.Shape.{Shape}
 use Rattle.esto_catalog.specs.declared.dataset.Dataset.{Dataset}
 use Rattle.esto_catalog.specs.declared.fault.Place.{Place}
 use Rattle.esto_catalog.specs.declared.setting.Field.{Field}
@@ -72,6 +83,27 @@ store_fit place view (Some (Texts given)) columns fit (unit, (are, many), is) =
 store_fit place view (Some (Text text)) columns fit goes = absurd goes
 store_fit place view (Some (Integer number)) columns fit goes = absurd goes
 store_fit place view (Some Other) columns fit goes = absurd goes
+
+-- the names of columns that are told apart
+given_one : (one other : List ℕ) → Given one ≡ Given other → one ≡ other
+given_one one other same = cc
+
+pub names_are : (texts : List (List ℕ)) → AllPairs ◌≢◌ texts → AreNamed (map Given texts)
+names_are texts distinct = record {
+  given = λ column inside. let (text, there, is) = Contains-map_from Given texts column inside in (text, sym is);
+  distinct = pairs_map Given ◌≢◌ ◌≢◌ (λ one other apart same. apart (given_one one other same)) texts distinct;
+}
+
+-- the shape that a fragment has is one for its view
+pub shape_fit : (place : Place) (model : DataModel) (view : Query) (entry : List Field) (shape : Shape) → FitView view (head_columns view)
+    → (shape_row place model view entry).goes shape → IsShapeFor shape view
+unfolding and_then gives demands
+shape_fit place Table view entry shape fit (columns, columns_goes, (u, layout, (v, pattern, is))) =
+    subst (λ (it : Shape). IsShapeFor it view) (sym is) (store_fit place view (setting_at (codes "columns") entry) columns fit columns_goes)
+shape_fit place Documents view entry shape fit (u, none, (layout, layout_goes, (pattern, (text, needed, (read, reads, (v, is_layout, same))), is))) =
+    subst (λ (it : Shape). IsShapeFor it view) (sym is)
+    (subst (λ (it : Pattern). IsLayout (length view.head) (entries_of it.entries)) (sym same) is_layout)
+shape_fit place Keys view entry shape fit (u, none, (v, layout, (w, pattern, is))) = subst (λ (it : Shape). IsShapeFor it view) (sym is) tt
 
 -- a fragment's view is read from a text
 pub view_reading : (place : Place) (datasets : List Dataset) (earlier : List FragmentDef) (entry : List Field) (view : NamedQuery)

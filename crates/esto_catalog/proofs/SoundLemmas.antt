@@ -19,7 +19,10 @@ use Rattle.esto_read.specs.declared.words.DataModel.TheVariants.{Table, Document
 use Rattle.esto_read.specs.declared.words.Word.{Word}
 use Rattle.esto_query.proofs.SoundLemmas.{sound_of}
 use Rattle.esto_query.specs.Making.{query_of}
-use Rattle.esto_read.specs.Words.{HasRelations, AreTables}
+use Rattle.esto_docmodel.specs.Shapes.{entries_of}
+use Rattle.esto_docs.specs.declared.layout.Layout.{Layout}
+use Rattle.esto_docs.specs.declared.layout.Layout.TheVariants.{Array, Lines}
+use Rattle.esto_read.specs.Words.{HasRelations}
 use Rattle.esto_semantics.proofs.TermLemmas.{Const-apart-Plain}
 use Rattle.esto_semantics.specs.Maps.{IsConstant, IsFlat, IsVariable}
 use Rattle.esto_semantics.specs.Queries.{ConjunctiveQuery}
@@ -29,12 +32,13 @@ use Rattle.esto_semantics.specs.declared.fact.Fact.{Fact}
 use Rattle.esto_term.specs.declared.term.Term.{Term}
 use Rattle.esto_views.specs.Fragments.{IsFragment}
 use Rattle.esto_views.specs.declared.fragments.FragmentDef.{FragmentDef}
-use Rattle.esto_catalog.specs.Datasets.{IsTableDataset, begins_plain}
+use Rattle.esto_catalog.proofs.LayoutLemmas.{layout_known}
+use Rattle.esto_catalog.specs.Datasets.{AreColumns, FitModel, IsDataset, begins_plain}
 use Rattle.esto_catalog.specs.Soundness.{FitView, IsShapeFor, IsSoundCatalogue}
 use Rattle.esto_catalog.specs.declared.dataset.Dataset.{Dataset}
 use Rattle.esto_catalog.specs.declared.catalogue.Catalogue.{Catalogue}
 use Rattle.esto_catalog.specs.declared.catalogue.Shape.{Shape}
-use Rattle.esto_catalog.specs.declared.catalogue.Shape.TheVariants.{Table as FromTable}
+use Rattle.esto_catalog.specs.declared.catalogue.Shape.TheVariants.{Table as FromTable, Documents as FromDocuments, Keys as FromKeys}
 use Rattle.esto_catalog.specs.declared.catalogue.Store.{Store}
 use Rattle.esto_term.proofs.ListLemmas.{Contains-cases, Contains-head, Contains-nil, Contains-rest}
 
@@ -58,6 +62,22 @@ model_back Keys = refl
 
 pub coded_model : Coded DataModel
 coded_model = code_by ℕ coded_ℕ model_number model_of model_back
+
+layout_number : Layout → ℕ
+layout_number Array = 0
+layout_number Lines = 1
+
+layout_at : ℕ → Layout
+layout_at zero = Array
+layout_at (suc n) = Lines
+
+layout_back : (layout : Layout) → layout_at (layout_number layout) ≡ layout
+unfolding layout_number layout_at
+layout_back Array = refl
+layout_back Lines = refl
+
+pub coded_layout : Coded Layout
+coded_layout = code_by ℕ coded_ℕ layout_number layout_at layout_back
 
 pub coded_relation : Coded Relation
 coded_relation = code_by (List ℕ × ℕ) (coded× (coded_list coded_ℕ) coded_ℕ) (λ r. (r.name, r.arity)) (λ p. record { name = p.0; arity = p.1 }) (λ _. refl)
@@ -189,27 +209,39 @@ module _ (schema : List Relation) (words : List Word) (datasets : List Dataset) 
   plain_known [] some = tt
   plain_known (first ∷ rest) some = ∥∥₁_elim some (Coded-set coded_bool _ _) (λ plain. plain)
 
-  dataset_known : (dataset : Dataset) → Contains datasets dataset → IsTableDataset schema dataset
+  fit_known : (model : DataModel) (columns : List (List ℕ)) → ∥ FitModel model columns ∥₁ → FitModel model columns
+  fit_known Table columns some = record {
+    some = ∥∥₁_elim some le_prop (λ fit. fit.some);
+    few = ∥∥₁_elim some le_prop (λ fit. fit.few);
+    distinct = λ i j d before below same. ∥∥₁_elim some (λ p q. absurd p) (λ fit. fit.distinct i j d before below same);
+    plain = plain_known columns (∥∥₁_map some (λ (fit : AreColumns columns). fit.plain));
+  }
+  fit_known Documents columns some = ∥∥₁_elim some (Coded-set (coded_list (coded_list coded_ℕ)) _ _) (λ fit. fit)
+  fit_known Keys columns some = ∥∥₁_elim some (Coded-set (coded_list (coded_list coded_ℕ)) _ _) (λ fit. fit)
+
+  dataset_known : (dataset : Dataset) → Contains datasets dataset → IsDataset schema dataset
   dataset_known dataset inside = record {
-    model = ∥∥₁_elim sound (Coded-set coded_model _ _) (λ kept. (kept.datasets_are dataset inside).model);
-    columns = record {
-      some = ∥∥₁_elim sound le_prop (λ kept. (kept.datasets_are dataset inside).columns.some);
-      few = ∥∥₁_elim sound le_prop (λ kept. (kept.datasets_are dataset inside).columns.few);
-      distinct = λ i j d before below same. refute (λ kept. (kept.datasets_are dataset inside).columns.distinct i j d before below same);
-      plain = plain_known dataset.columns (∥∥₁_map sound (λ (kept : Kept). (kept.datasets_are dataset inside).columns.plain));
-    };
-    relation = ∥∥₁_elim sound (Coded-set (coded_option coded_relation) _ _) (λ kept. (kept.datasets_are dataset inside).relation);
+    named = ∥∥₁_elim sound (Coded-set coded_bool _ _) (λ kept. (kept.datasets_are dataset inside).named);
+    columns = fit_known dataset.model dataset.columns (∥∥₁_map sound (λ (kept : Kept). (kept.datasets_are dataset inside).columns));
+    layout = λ other. ∥∥₁_elim sound (Coded-set coded_layout _ _) (λ kept. (kept.datasets_are dataset inside).layout other);
+    relations = λ number relation at. ∥∥₁_elim sound (Coded-set (coded_option coded_relation) _ _)
+        (λ kept. (kept.datasets_are dataset inside).relations number relation at);
   }
 
-  tables_known : AreTables words
-  tables_known k d below = ∥∥₁_elim sound (Coded-set coded_model _ _) (λ kept. kept.tables k d below)
+  has_known : (arities : List ℕ) (model : DataModel) (base : ℕ) → ∥ HasRelations arities model base ∥₁ → HasRelations arities model base
+  has_known arities Table base some = ∥∥₁_elim some le_prop (λ has. has)
+  has_known arities Documents base some = (
+    ∥∥₁_elim some (Coded-set (coded_option coded_ℕ) _ _) (λ (has : HasRelations arities Documents base). has.0),
+    ∥∥₁_elim some (Coded-set (coded_option coded_ℕ) _ _) (λ (has : HasRelations arities Documents base). has.1),
+    ∥∥₁_elim some (Coded-set (coded_option coded_ℕ) _ _) (λ (has : HasRelations arities Documents base). has.2),
+    ∥∥₁_elim some (Coded-set (coded_option coded_ℕ) _ _) (λ (has : HasRelations arities Documents base). has.3),
+    ∥∥₁_elim some (Coded-set (coded_option coded_ℕ) _ _) (λ (has : HasRelations arities Documents base). has.4),
+  )
+  has_known arities Keys base some = ∥∥₁_elim some (Coded-set (coded_option coded_ℕ) _ _) (λ has. has)
 
   relations_known : All (λ (word : Word). HasRelations (arities_of schema) word.model word.base) words
   relations_known k d below =
-      let model : (get_or words k d).model ≡ Table = tables_known k d below in
-      let within : (get_or words k d).base < length (arities_of schema) =
-      ∥∥₁_elim sound le_prop (λ kept. subst (λ m. HasRelations (arities_of schema) m (get_or words k d).base) model (kept.vocabulary.relations k d below)) in
-      subst (λ m. HasRelations (arities_of schema) m (get_or words k d).base) (sym model) within
+      has_known (arities_of schema) (get_or words k d).model (get_or words k d).base (∥∥₁_map sound (λ (kept : Kept). kept.vocabulary.relations k d below))
 
   query_known : (query : ConjunctiveQuery) → ∥ IsQueryOver (arities_of schema) query ∥₁ → IsQueryOver (arities_of schema) query
   query_known query some = record {
@@ -234,12 +266,14 @@ module _ (schema : List Relation) (words : List Word) (datasets : List Dataset) 
     apart : {term : Term} → IsConstant term → IsVariable term → ⊥
     apart (text, is) (number, is') = Const-apart-Plain text number (sym is ∙ is')
 
-  shape_known : (shape : Shape) (fragment : FragmentDef) → ∥ IsShapeFor shape fragment ∥₁ → IsShapeFor shape fragment
-  shape_known (FromTable columns) fragment some = record {
+  shape_known : (shape : Shape) (view : Query) → ∥ IsShapeFor shape view ∥₁ → IsShapeFor shape view
+  shape_known (FromTable columns) view some = record {
     many = ∥∥₁_elim some (Coded-set coded_ℕ _ _) (λ fit. fit.many);
     distinct = λ i j d before below same. ∥∥₁_elim some (λ p q. absurd p) (λ fit. fit.distinct i j d before below same);
-    plain = plain_known columns (∥∥₁_map some (λ (fit : FitView fragment.view columns). fit.plain));
+    plain = plain_known columns (∥∥₁_map some (λ (fit : FitView view columns). fit.plain));
   }
+  shape_known (FromDocuments layout pattern) view some = layout_known (length view.head) (entries_of pattern.entries) some
+  shape_known FromKeys view some = tt
 
   over_known : (atoms : List (Fact Term)) → ∥ AreOver (arities_of schema) atoms ∥₁ → AreOver (arities_of schema) atoms
   over_known atoms some atom inside = ∥∥₁_elim some (Coded-set (coded_option coded_ℕ) _ _) (λ over. over atom inside)
@@ -275,16 +309,15 @@ module _ (schema : List Relation) (words : List Word) (datasets : List Dataset) 
       relations =
           relations_known;
     };
-    tables = tables_known;
     fragments_are = fragment_known;
     views = λ fragment inside. query_known (query_of fragment.view) (∥∥₁_map sound (λ (kept : Kept). kept.views fragment inside));
     few = λ fragment inside. ∥∥₁_elim sound le_prop (λ kept. kept.few fragment inside);
     distinct = λ fragment inside i j d before below same. refute (λ kept. kept.distinct fragment inside i j d before below same);
     light = λ fragment inside. ∥∥₁_elim sound le_prop (λ kept. kept.light fragment inside);
     stored = ∥∥₁_elim sound (Coded-set coded_ℕ _ _) (λ kept. kept.stored);
-    shapes = λ number store fragment at_store at_fragment. shape_known store.shape fragment
+    shapes = λ number store fragment at_store at_fragment. shape_known store.shape fragment.view
         (∥∥₁_map sound (λ (kept : Kept). kept.shapes number store fragment at_store at_fragment));
-    given_are = ∥∥₁_elim sound (Coded-set coded_ℕ _ _) (λ kept. kept.given_are);
+    given_are = ∥∥₁_elim sound le_prop (λ kept. kept.given_are);
     rules_are = λ rule inside. rule_known (rule_of rule) (∥∥₁_map sound (λ (kept : Kept). kept.rules_are rule inside));
     within = λ from to edge. (∥∥₁_elim sound le_prop (λ kept. (kept.within from to edge).0), ∥∥₁_elim sound le_prop (λ kept. (kept.within from to edge).1));
     ranks_are = ranks_known (rules_of rules) (length schema) ranks (∥∥₁_map sound (λ (kept : Kept). kept.ranks_are));

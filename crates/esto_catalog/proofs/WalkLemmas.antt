@@ -4,28 +4,30 @@ use Rattle.std.proofs.Math.ListN.{length-map}
 use Rattle.std.specs.Prelude.{slice_get}
 use Rattle.std.proofs.lemmas.List.Elements.{Contains-push_cases}
 use Rattle.std.proofs.lemmas.Option.{none-some, slice_get_within}
-use Rattle.esto_acyclic.specs.Graphs.{AreRanks, IsWithin}
-use Rattle.esto_acyclic.specs.Relations.{HasRelation, IsEdge}
+use Rattle.esto_acyclic.specs.Graphs.{AreRanks, IsLeastCycle, IsWithin}
+use Rattle.esto_acyclic.specs.Relations.{AreNamesOf, HasRelation, IsEdge}
+use Rattle.esto_acyclic.specs.declared.relations.Cycle.{Cycle}
 use Rattle.esto_constraint.specs.Constraints.{rule_of, rules_of}
 use Rattle.esto_constraint.specs.declared.rule.Constraint.{Constraint}
 use Rattle.esto_course.proofs.Steps.{Leads, first_stops, then_goes, gives_goes, turn_next, turn_stops}
 use Rattle.esto_course.specs.Course.{Course, Stops, gives, each}
 use Rattle.esto_query.specs.Schemas.{IsSchema, arities_of}
 use Rattle.esto_query.specs.declared.schema.Relation.{Relation}
-use Rattle.esto_semantics.specs.Rules.{tuple}
+use Rattle.esto_semantics.specs.Rules.{Rule, tuple}
 use Rattle.esto_semantics.specs.WellFormed.{AreOver, IsRuleOver}
 use Rattle.esto_semantics.specs.declared.fact.Fact.{Fact}
 use Rattle.esto_term.specs.declared.term.Term.{Term}
-use Rattle.esto_catalog.proofs.DatasetLemmas.{tables_schema}
-use Rattle.esto_catalog.specs.Datasets.{IsTableDataset, schema_of, words_of}
-use Rattle.esto_catalog.specs.Tables.{IsTables}
-use Rattle.esto_catalog.specs.declared.tables.Tables.{Tables}
+use Rattle.esto_catalog.proofs.SchemaLemmas.{datasets_schema}
+use Rattle.esto_catalog.specs.Datasets.{IsDataset, schema_of, words_of}
+use Rattle.esto_catalog.specs.Scope.{IsScope}
+use Rattle.esto_catalog.specs.declared.scope.Scope.{Scope}
 use Rattle.esto_catalog.specs.Constraints.{adds_constraint, reads_constraint, reads_constraints}
 use Rattle.esto_catalog.specs.Fragments.{adds_fragment, reads_fragment, reads_fragments, with_fragment, no_fragments, stored_fragment}
-use Rattle.esto_catalog.specs.Reading.{is_acyclic}
+use Rattle.esto_catalog.specs.Reading.{IsCycleOf, is_acyclic}
 use Rattle.esto_catalog.specs.Rows.{IsWant, IsAny}
 use Rattle.esto_catalog.specs.declared.catalogue.Catalogue.{Catalogue}
-use Rattle.esto_catalog.specs.Soundness.{AreSoundRules, AreSoundFragments, FitView, IsShapeFor, IsSoundCatalogue, IsSoundFragment, IsSoundStored, IsSoundView}
+use Rattle.esto_catalog.specs.Soundness.{AreSoundRules, AreSoundFragments, IsShapeFor, IsSoundCatalogue, IsSoundFragment, IsSoundStored, IsSoundView}
+use Rattle.esto_catalog.specs.declared.catalogue.Shape.{Shape}
 use Rattle.esto_catalog.specs.declared.catalogue.Store.{Store}
 use Rattle.esto_catalog.specs.declared.dataset.Dataset.{Dataset}
 use Rattle.esto_catalog.specs.declared.fault.CatalogueError.{CatalogueError}
@@ -73,8 +75,8 @@ pub no_rules : (arities : List ℕ) → AreSoundRules arities []
 no_rules arities rule inside = absurd (Contains-nil rule inside)
 
 -- a turn of the loop over the entries of constraints
-module _ (version : Version) (tables : List Dataset) (entries : List (List Field)) (to : Course CatalogueError (List Constraint)) (index : ℕ)
-    (rules : List Constraint) (leads : Leads (each (adds_constraint version tables) (suc index) rules (drop index entries)) to) (item : List Field)
+module _ (version : Version) (datasets : List Dataset) (entries : List (List Field)) (to : Course CatalogueError (List Constraint)) (index : ℕ)
+    (rules : List Constraint) (leads : Leads (each (adds_constraint version datasets) (suc index) rules (drop index entries)) to) (item : List Field)
     (below : index < length entries)
     (is : item ≡ get_or entries index item)
     (place : Place) (there : place ≡ record { section = section.Constraint; number = index + 1 }) (entry : List Field) (fields : entry ≡ item) where
@@ -85,23 +87,23 @@ module _ (version : Version) (tables : List Dataset) (entries : List (List Field
   rule_moved : (P : Place → List Field → Type 0) → P place entry → P rule_place item
   rule_moved P holds = subst (λ it. P it item) there (subst (P place) fields holds)
 
-  pub rule_turn : (rule : Constraint) → (reads_constraint version place tables entry).goes rule
-      → Leads (each (adds_constraint version tables) (suc (index + 1)) (rules ++ rule ∷ []) (drop (index + 1) entries)) to
+  pub rule_turn : (rule : Constraint) → (reads_constraint version place datasets entry).goes rule
+      → Leads (each (adds_constraint version datasets) (suc (index + 1)) (rules ++ rule ∷ []) (drop (index + 1) entries)) to
   rule_turn rule goes =
-      let here = rule_moved (λ (at : Place) (fields : List Field). (reads_constraint version at tables fields).goes rule) goes in
-      turn_next (adds_constraint version tables) entries to index rules leads item below is (rules ++ rule ∷ [])
-      (then_goes (reads_constraint version rule_place tables item) (λ r. gives (rules ++ r ∷ [])) rule (rules ++ rule ∷ []) here
+      let here = rule_moved (λ (at : Place) (fields : List Field). (reads_constraint version at datasets fields).goes rule) goes in
+      turn_next (adds_constraint version datasets) entries to index rules leads item below is (rules ++ rule ∷ [])
+      (then_goes (reads_constraint version rule_place datasets item) (λ r. gives (rules ++ r ∷ [])) rule (rules ++ rule ∷ []) here
       (gives_goes CatalogueError _ _ refl))
 
-  pub rule_fails : (error : CatalogueError) → Stops IsWant IsAny (reads_constraint version place tables entry) error → Stops IsWant IsAny to error
+  pub rule_fails : (error : CatalogueError) → Stops IsWant IsAny (reads_constraint version place datasets entry) error → Stops IsWant IsAny to error
   rule_fails error stops =
-      let here = rule_moved (λ (at : Place) (fields : List Field). Stops IsWant IsAny (reads_constraint version at tables fields) error) stops in
-      turn_stops (adds_constraint version tables) entries to index rules leads item below is error
-      (first_stops (reads_constraint version rule_place tables item) (λ r. gives (rules ++ r ∷ [])) here)
+      let here = rule_moved (λ (at : Place) (fields : List Field). Stops IsWant IsAny (reads_constraint version at datasets fields) error) stops in
+      turn_stops (adds_constraint version datasets) entries to index rules leads item below is error
+      (first_stops (reads_constraint version rule_place datasets item) (λ r. gives (rules ++ r ∷ [])) here)
 
 -- a turn of the loop over the entries of fragments
-module _ (tables : List Dataset) (entries : List (List Field)) (to : Course CatalogueError Fragments) (index : ℕ) (fragments : Fragments)
-    (leads : Leads (each (adds_fragment tables) (suc index) fragments (drop index entries)) to) (item : List Field) (below : index < length entries)
+module _ (datasets : List Dataset) (entries : List (List Field)) (to : Course CatalogueError Fragments) (index : ℕ) (fragments : Fragments)
+    (leads : Leads (each (adds_fragment datasets) (suc index) fragments (drop index entries)) to) (item : List Field) (below : index < length entries)
     (is : item ≡ get_or entries index item)
     (place : Place) (there : place ≡ record { section = section.Fragment; number = index + 1 }) (seen : List FragmentDef) (entry : List Field)
     (same : seen ≡ fragments.definitions) (fields : entry ≡ item) where
@@ -112,21 +114,21 @@ module _ (tables : List Dataset) (entries : List (List Field)) (to : Course Cata
   fragment_moved : (P : Place → List FragmentDef → List Field → Type 0) → P place seen entry → P fragment_place fragments.definitions item
   fragment_moved P holds = subst (λ it. P it fragments.definitions item) there (subst (λ it. P place it item) same (subst (P place seen) fields holds))
 
-  pub fragment_turn : (fragment : Stored) → (reads_fragment place tables seen entry).goes fragment
-      → Leads (each (adds_fragment tables) (suc (index + 1)) (with_fragment fragments fragment) (drop (index + 1) entries)) to
+  pub fragment_turn : (fragment : Stored) → (reads_fragment place datasets seen entry).goes fragment
+      → Leads (each (adds_fragment datasets) (suc (index + 1)) (with_fragment fragments fragment) (drop (index + 1) entries)) to
   fragment_turn fragment goes =
       let here = fragment_moved (λ (at : Place) (earlier : List FragmentDef)
-      (fields : List Field). (reads_fragment at tables earlier fields).goes fragment) goes in
-      turn_next (adds_fragment tables) entries to index fragments leads item below is (with_fragment fragments fragment)
-      (then_goes (reads_fragment fragment_place tables fragments.definitions item) (λ f. gives (with_fragment fragments f)) fragment
+      (fields : List Field). (reads_fragment at datasets earlier fields).goes fragment) goes in
+      turn_next (adds_fragment datasets) entries to index fragments leads item below is (with_fragment fragments fragment)
+      (then_goes (reads_fragment fragment_place datasets fragments.definitions item) (λ f. gives (with_fragment fragments f)) fragment
       (with_fragment fragments fragment) here (gives_goes CatalogueError _ _ refl))
 
-  pub fragment_fails : (error : CatalogueError) → Stops IsWant IsAny (reads_fragment place tables seen entry) error → Stops IsWant IsAny to error
+  pub fragment_fails : (error : CatalogueError) → Stops IsWant IsAny (reads_fragment place datasets seen entry) error → Stops IsWant IsAny to error
   fragment_fails error stops =
       let here = fragment_moved (λ (at : Place) (earlier : List FragmentDef) (fields : List Field). Stops IsWant IsAny
-      (reads_fragment at tables earlier fields) error) stops in
-      turn_stops (adds_fragment tables) entries to index fragments leads item below is error
-      (first_stops (reads_fragment fragment_place tables fragments.definitions item) (λ f. gives (with_fragment fragments f)) here)
+      (reads_fragment at datasets earlier fields) error) stops in
+      turn_stops (adds_fragment datasets) entries to index fragments leads item below is error
+      (first_stops (reads_fragment fragment_place datasets fragments.definitions item) (λ f. gives (with_fragment fragments f)) here)
 
 -- one fragment more
 pub fragments_more : (arities : List ℕ) (fragments : Fragments) (stored : Stored) → AreSoundFragments arities fragments → IsSoundStored arities stored
@@ -145,14 +147,14 @@ fragments_more arities fragments stored sound one = record {
   shape_more : (number : ℕ) (store : Store) (fragment : FragmentDef)
       → (slice_get fragments.stores number ≡ Some store) ⊎ ((number ≡ length fragments.stores) × (stored.store ≡ store))
       → (slice_get fragments.definitions number ≡ Some fragment) ⊎ ((number ≡ length fragments.definitions) × (stored.definition ≡ fragment))
-      → IsShapeFor store.shape fragment
+      → IsShapeFor store.shape fragment.view
   shape_more number store fragment (inl at_store) (inl at_fragment) = sound.shapes number store fragment at_store at_fragment
   shape_more number store fragment (inl at_store) (inr (end, same)) =
       let within = slice_get_within fragments.stores number store at_store in absurd (omega (arith, within, end, sound.stored))
   shape_more number store fragment (inr (end, same)) (inl at_fragment) =
       let within = slice_get_within fragments.definitions number fragment at_fragment in absurd (omega (arith, within, end, sound.stored))
   shape_more number store fragment (inr (end, same_store)) (inr (at, same)) =
-      subst (λ (it : Store). IsShapeFor it.shape fragment) same_store (subst (IsShapeFor stored.store.shape) same one.shape)
+      subst (λ (it : Store). IsShapeFor it.shape fragment.view) same_store (subst (λ (it : FragmentDef). IsShapeFor stored.store.shape it.view) same one.shape)
 
 pub no_fragments_sound : (arities : List ℕ) → AreSoundFragments arities no_fragments
 no_fragments_sound arities = record {
@@ -161,11 +163,11 @@ no_fragments_sound arities = record {
   shapes = λ number store fragment at_store at_fragment. absurd (none-some store at_store);
 }
 
--- the fragment of a view over the schema, stored under columns that fit the view, with patterns as wide as the view
-pub stored_sound : (arities : List ℕ) (view : NamedQuery) (file : List ℕ) (columns : List (List ℕ)) (access : List (List Bool)) (weight : ℕ) (stored : Stored)
-    → stored ≡ stored_fragment view file columns access weight → IsSoundView arities view → FitView view.query columns
+-- the fragment of a view over the schema, stored in a shape for the view, with patterns as wide as the view
+pub stored_sound : (arities : List ℕ) (view : NamedQuery) (file : List ℕ) (shape : Shape) (access : List (List Bool)) (weight : ℕ) (stored : Stored)
+    → stored ≡ stored_fragment view file shape access weight → IsSoundView arities view → IsShapeFor shape view.query
     → AreSoundPatterns (length view.query.head) access → weight ≤ MAX_WEIGHT → IsSoundStored arities stored
-stored_sound arities view file columns access weight stored is (over, variables) fit patterns light = subst (IsSoundStored arities) (sym is) (record {
+stored_sound arities view file shape access weight stored is (over, variables) fit patterns light = subst (IsSoundStored arities) (sym is) (record {
   definition = record {
     made = record { has_pattern = patterns.some; variables = variables.0; distinct = variables.1; columns = patterns.wide };
     view = over;
@@ -177,16 +179,15 @@ stored_sound arities view file columns access weight stored is (over, variables)
 })
 
 -- what a catalogue keeps, where its graph has ranks
-pub sound_catalogue : (tables : Tables) (fragments : Fragments) (rules : List Constraint) (ranks : List ℕ) → IsTables tables
-    → AreSoundFragments (arities_of tables.schema) fragments → AreSoundRules (arities_of tables.schema) rules
-    → AreRanks (IsEdge (rules_of rules)) (length tables.schema) ranks
-    → IsSoundCatalogue tables.schema tables.words tables.datasets fragments.definitions fragments.stores rules (length rules) ranks
-sound_catalogue tables fragments rules ranks are sound over exact = record {
-  schema_is = subst IsSchema (sym are.schema) (tables_schema tables.datasets are.datasets_are);
-  datasets_are = λ dataset inside. subst (λ (s : List Relation). IsTableDataset s dataset) (sym are.schema) (are.datasets_are.tables dataset inside);
+pub sound_catalogue : (scope : Scope) (fragments : Fragments) (rules : List Constraint) (given : ℕ) (ranks : List ℕ) → IsScope scope
+    → AreSoundFragments (arities_of scope.schema) fragments → AreSoundRules (arities_of scope.schema) rules → given ≤ length rules
+    → AreRanks (IsEdge (rules_of rules)) (length scope.schema) ranks
+    → IsSoundCatalogue scope.schema scope.words scope.datasets fragments.definitions fragments.stores rules given ranks
+sound_catalogue scope fragments rules given ranks are sound over own exact = record {
+  schema_is = subst IsSchema (sym are.schema) (datasets_schema scope.datasets are.datasets_are);
+  datasets_are = λ dataset inside. subst (λ (s : List Relation). IsDataset s dataset) (sym are.schema) (are.datasets_are.sound dataset inside);
   named = are.words;
   vocabulary = are.vocabulary;
-  tables = are.named;
   fragments_are = λ fragment inside. (sound.sound fragment inside).made;
   views = λ fragment inside. (sound.sound fragment inside).view;
   few = λ fragment inside. (sound.sound fragment inside).few;
@@ -194,65 +195,81 @@ sound_catalogue tables fragments rules ranks are sound over exact = record {
   light = λ fragment inside. (sound.sound fragment inside).light;
   stored = sound.stored;
   shapes = sound.shapes;
-  given_are = refl;
+  given_are = own;
   rules_are = over;
-  within = rules_within tables.schema rules over;
+  within = rules_within scope.schema rules over;
   ranks_are = exact;
 }
 
--- what a text says over tables, said over their datasets
-module _ (tables : Tables) (are : IsTables tables) (text : List ℕ) where
-  over_datasets : (P : List Word → List ℕ → Type 0) → P tables.words (arities_of tables.schema)
-      → P (words_of tables.datasets) (arities_of (schema_of tables.datasets))
-  over_datasets P holds = subst (λ (s : List Relation). P (words_of tables.datasets) (arities_of s)) are.schema
-      (subst (λ (w : List Word). P w (arities_of tables.schema)) are.words holds)
+-- ranks and cycles by other words of the rules and the relations
+pub ranks_as : (rules others : List Rule) (schema relations : List Relation) (ranks : List ℕ) → rules ≡ others → schema ≡ relations
+    → AreRanks (IsEdge rules) (length schema) ranks → AreRanks (IsEdge others) (length relations) ranks
+ranks_as rules others schema relations ranks same is exact =
+    subst (λ (r : List Rule). AreRanks (IsEdge r) (length relations) ranks) same
+    (subst (λ (s : List Relation). AreRanks (IsEdge rules) (length s) ranks) is exact)
 
-  pub view_over : (view : NamedQuery) → IsReading View tables.words (arities_of tables.schema) text view
-      → IsReading View (words_of tables.datasets) (arities_of (schema_of tables.datasets)) text view
+pub cycle_as : (datasets : List Dataset) (rules others : List Rule) (schema : List Relation) (cycle : Cycle) → rules ≡ others → schema ≡ schema_of datasets
+    → IsLeastCycle (IsEdge rules) cycle.relations × AreNamesOf schema cycle.relations cycle.names → IsCycleOf datasets others cycle
+cycle_as datasets rules others schema cycle same is (least, names) = (
+  subst (λ (r : List Rule). IsLeastCycle (IsEdge r) cycle.relations) same least,
+  subst (λ (s : List Relation). AreNamesOf s cycle.relations cycle.names) is names,
+)
+
+-- what a text says over a scope, said over its datasets
+module _ (scope : Scope) (are : IsScope scope) (text : List ℕ) where
+  over_datasets : (P : List Word → List ℕ → Type 0) → P scope.words (arities_of scope.schema)
+      → P (words_of scope.datasets) (arities_of (schema_of scope.datasets))
+  over_datasets P holds = subst (λ (s : List Relation). P (words_of scope.datasets) (arities_of s)) are.schema
+      (subst (λ (w : List Word). P w (arities_of scope.schema)) are.words holds)
+
+  pub view_over : (view : NamedQuery) → IsReading View scope.words (arities_of scope.schema) text view
+      → IsReading View (words_of scope.datasets) (arities_of (schema_of scope.datasets)) text view
   view_over view reading = over_datasets (λ words arities. IsReading View words arities text view) reading
 
-  pub view_fault_over : (fault : TextFault) → IsFirstFault View tables.words (arities_of tables.schema) text fault
-      → IsFirstFault View (words_of tables.datasets) (arities_of (schema_of tables.datasets)) text fault
+  pub view_fault_over : (fault : TextFault) → IsFirstFault View scope.words (arities_of scope.schema) text fault
+      → IsFirstFault View (words_of scope.datasets) (arities_of (schema_of scope.datasets)) text fault
   view_fault_over fault first = over_datasets (λ words arities. IsFirstFault View words arities text fault) first
 
-  pub rule_over : (version : Version) (rule : Constraint) → IsConstraintReading version tables.words (arities_of tables.schema) text rule
-      → IsConstraintReading version (words_of tables.datasets) (arities_of (schema_of tables.datasets)) text rule
+  pub rule_over : (version : Version) (rule : Constraint) → IsConstraintReading version scope.words (arities_of scope.schema) text rule
+      → IsConstraintReading version (words_of scope.datasets) (arities_of (schema_of scope.datasets)) text rule
   rule_over version rule reading = over_datasets (λ words arities. IsConstraintReading version words arities text rule) reading
 
-  pub rule_fault_over : (version : Version) (fault : TextFault) → IsConstraintFault version tables.words (arities_of tables.schema) text fault
-      → IsConstraintFault version (words_of tables.datasets) (arities_of (schema_of tables.datasets)) text fault
+  pub rule_fault_over : (version : Version) (fault : TextFault) → IsConstraintFault version scope.words (arities_of scope.schema) text fault
+      → IsConstraintFault version (words_of scope.datasets) (arities_of (schema_of scope.datasets)) text fault
   rule_fault_over version fault first = over_datasets (λ words arities. IsConstraintFault version words arities text fault) first
 
 -- what holds of datasets and entries, by other names of them
-pub over_same : (P : List Dataset → List (List Field) → Type 0) (tables datasets : List Dataset) (seen entries : List (List Field)) → tables ≡ datasets
-    → seen ≡ entries → P tables seen → P datasets entries
-over_same P tables datasets seen entries same is holds = subst (λ (d : List Dataset). P d entries) same (subst (λ (e : List (List Field)). P tables e) is holds)
+pub over_same : (P : List Dataset → List (List Field) → Type 0) (others datasets : List Dataset) (seen entries : List (List Field)) → others ≡ datasets
+    → seen ≡ entries → P others seen → P datasets entries
+over_same P others datasets seen entries same is holds = subst (λ (d : List Dataset). P d entries) same (subst (λ (e : List (List Field)). P others e) is holds)
 
-pub fragments_same : (tables datasets : List Dataset) (seen entries : List (List Field)) (fragments : Fragments) → tables ≡ datasets → seen ≡ entries
-    → (reads_fragments tables seen).goes fragments → (reads_fragments datasets entries).goes fragments
-fragments_same tables datasets seen entries fragments = over_same (λ d e. (reads_fragments d e).goes fragments) tables datasets seen entries
+pub fragments_same : (others datasets : List Dataset) (seen entries : List (List Field)) (fragments : Fragments) → others ≡ datasets → seen ≡ entries
+    → (reads_fragments others seen).goes fragments → (reads_fragments datasets entries).goes fragments
+fragments_same others datasets seen entries fragments = over_same (λ d e. (reads_fragments d e).goes fragments) others datasets seen entries
 
-pub fragments_same_stops : (tables datasets : List Dataset) (seen entries : List (List Field)) (error : CatalogueError) → tables ≡ datasets → seen ≡ entries
-    → Stops IsWant IsAny (reads_fragments tables seen) error
+pub fragments_same_stops : (others datasets : List Dataset) (seen entries : List (List Field)) (error : CatalogueError) → others ≡ datasets → seen ≡ entries
+    → Stops IsWant IsAny (reads_fragments others seen) error
     → Stops IsWant IsAny (reads_fragments datasets entries) error
-fragments_same_stops tables datasets seen entries error = over_same (λ d e. Stops IsWant IsAny (reads_fragments d e) error) tables datasets seen entries
+fragments_same_stops others datasets seen entries error = over_same (λ d e. Stops IsWant IsAny (reads_fragments d e) error) others datasets seen entries
 
-pub rules_same : (version : Version) (tables datasets : List Dataset) (seen entries : List (List Field)) (rules : List Constraint) → tables ≡ datasets
-    → seen ≡ entries → (reads_constraints version tables seen).goes rules → (reads_constraints version datasets entries).goes rules
-rules_same version tables datasets seen entries rules = over_same (λ d e. (reads_constraints version d e).goes rules) tables datasets seen entries
+pub rules_same : (version : Version) (others datasets : List Dataset) (seen entries : List (List Field)) (rules : List Constraint) → others ≡ datasets
+    → seen ≡ entries → (reads_constraints version others seen).goes rules → (reads_constraints version datasets entries).goes rules
+rules_same version others datasets seen entries rules = over_same (λ d e. (reads_constraints version d e).goes rules) others datasets seen entries
 
-pub rules_same_stops : (version : Version) (tables datasets : List Dataset) (seen entries : List (List Field)) (error : CatalogueError) → tables ≡ datasets
-    → seen ≡ entries → Stops IsWant IsAny (reads_constraints version tables seen) error
+pub rules_same_stops : (version : Version) (others datasets : List Dataset) (seen entries : List (List Field)) (error : CatalogueError) → others ≡ datasets
+    → seen ≡ entries → Stops IsWant IsAny (reads_constraints version others seen) error
     → Stops IsWant IsAny (reads_constraints version datasets entries) error
-rules_same_stops version tables datasets seen entries error =
-    over_same (λ d e. Stops IsWant IsAny (reads_constraints version d e) error) tables datasets seen entries
+rules_same_stops version others datasets seen entries error =
+    over_same (λ d e. Stops IsWant IsAny (reads_constraints version d e) error) others datasets seen entries
 
-pub acyclic_same : (tables datasets : List Dataset) (fragments : Fragments) (rules : List Constraint) (catalogue : Catalogue) → tables ≡ datasets
-    → (is_acyclic tables fragments rules).goes catalogue → (is_acyclic datasets fragments rules).goes catalogue
-acyclic_same tables datasets fragments rules catalogue same goes = subst (λ (d : List Dataset). (is_acyclic d fragments rules).goes catalogue) same goes
+pub acyclic_same : (version : Version) (seen datasets : List Dataset) (fragments : Fragments) (given : List Constraint) (catalogue : Catalogue)
+    → seen ≡ datasets
+    → (is_acyclic version seen fragments given).goes catalogue → (is_acyclic version datasets fragments given).goes catalogue
+acyclic_same version seen datasets fragments given catalogue same goes =
+    subst (λ (d : List Dataset). (is_acyclic version d fragments given).goes catalogue) same goes
 
-pub acyclic_same_stops : (tables datasets : List Dataset) (fragments : Fragments) (rules : List Constraint) (error : CatalogueError) → tables ≡ datasets
-    → Stops IsWant IsAny (is_acyclic tables fragments rules) error
-    → Stops IsWant IsAny (is_acyclic datasets fragments rules) error
-acyclic_same_stops tables datasets fragments rules error same stops = subst
-    (λ (d : List Dataset). Stops IsWant IsAny (is_acyclic d fragments rules) error) same stops
+pub acyclic_same_stops : (version : Version) (seen datasets : List Dataset) (fragments : Fragments) (given : List Constraint) (error : CatalogueError)
+    → seen ≡ datasets → Stops IsWant IsAny (is_acyclic version seen fragments given) error
+    → Stops IsWant IsAny (is_acyclic version datasets fragments given) error
+acyclic_same_stops version seen datasets fragments given error same stops =
+    subst (λ (d : List Dataset). Stops IsWant IsAny (is_acyclic version d fragments given) error) same stops

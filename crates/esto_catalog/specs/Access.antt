@@ -1,7 +1,10 @@
 -- The rows of a fragment's binding patterns and of its weight.
-use Rattle.std.specs.Prelude.{◌≡◌, ◌≢◌, ℕ, ◌≤◌, ℤ, pos, List, [], ◌∷◌, Option, Some, None, Bool, true, false, length, map, replicate, codes, AllPairs, Contains}
+use Rattle.std.specs.Prelude.{◌≡◌, ◌≢◌, ℕ, ◌≤◌, ℤ, pos, List, [], ◌∷◌, Option, Some, None, Bool, true, false, length, map, nat_eq, codes, AllPairs, Contains}
+use Rattle.std.specs.List.{range_with_len}
 use Rattle.esto_course.specs.Course.{Course, judges, gives, refuses}
 use Rattle.esto_query.specs.declared.query.Query.{Query}
+use Rattle.esto_read.specs.declared.words.DataModel.{DataModel}
+use Rattle.esto_read.specs.declared.words.DataModel.TheVariants.{Table, Documents, Keys}
 use Rattle.esto_catalog.specs.Rows.{fault_at}
 use Rattle.esto_catalog.specs.Settings.{setting_at}
 use Rattle.esto_catalog.specs.declared.access.TheConstants.{MAX_PATTERNS, MAX_WEIGHT}
@@ -39,16 +42,26 @@ reads_patterns place columns texts =
     judges (ArePatterns columns texts)
     (λ error. ((patterns : List (List Bool)) → ¬ ArePatterns columns texts patterns) × (error ≡ fault_at BadAccess place (codes "access")))
 
--- The access may be absent, and is then the one pattern by which no column is an input. Else it is the text of a pattern, or the texts of some.
-abbrev pub allows_access : Place → ℕ → Option Setting → Course CatalogueError (List (List Bool))
-allows_access place columns None = gives (replicate columns false ∷ [])
-allows_access place columns (Some (Text text)) = reads_patterns place columns (text ∷ [])
-allows_access place columns (Some (Texts texts)) = reads_patterns place columns texts
-allows_access place columns (Some _) = refuses (fault_at WrongType place (codes "access"))
+-- Where no pattern is written, the first column of keys is an input, and no other column is one.
+abbrev pub is_usual_input : DataModel → ℕ → Bool
+is_usual_input Table column = false
+is_usual_input Documents column = false
+is_usual_input Keys column = nat_eq column 0
 
--- The binding patterns of the view's fragment.
-abbrev pub access_row : Place → Query → List Field → Course CatalogueError (List (List Bool))
-access_row place view entry = allows_access place (length view.head) (setting_at (codes "access") entry)
+-- The pattern of so many columns for which none is written.
+abbrev pub usual_pattern : DataModel → ℕ → List Bool
+usual_pattern model columns = map (is_usual_input model) (range_with_len 0 columns)
+
+-- The access may be absent, and is then the one usual pattern. Else it is the text of a pattern, or the texts of some.
+abbrev pub allows_access : Place → DataModel → ℕ → Option Setting → Course CatalogueError (List (List Bool))
+allows_access place model columns None = gives (usual_pattern model columns ∷ [])
+allows_access place model columns (Some (Text text)) = reads_patterns place columns (text ∷ [])
+allows_access place model columns (Some (Texts texts)) = reads_patterns place columns texts
+allows_access place model columns (Some _) = refuses (fault_at WrongType place (codes "access"))
+
+-- The binding patterns of the view's fragment, whose store is of this model.
+abbrev pub access_row : Place → DataModel → Query → List Field → Course CatalogueError (List (List Bool))
+access_row place model view entry = allows_access place model (length view.head) (setting_at (codes "access") entry)
 
 -- The integer is this weight, which is no greater than a fragment's may be.
 abbrev pub IsWeight : ℤ → ℕ → Type 0

@@ -15,7 +15,7 @@ use Rattle.esto_catalog.specs.declared.fault.Place.{Place}
 use Rattle.esto_catalog.specs.declared.fault.Section.TheVariants as section
 use Rattle.esto_catalog.specs.declared.setting.Field.{Field}
 
--- The text is a constraint of this version over the datasets' tables; else BadText with the text's first fault.
+-- The text is a constraint of this version over the datasets' relations; else BadText with the text's first fault.
 abbrev pub reads_rule : Version → Place → List Dataset → List ℕ → Course CatalogueError Constraint
 reads_rule version place datasets text =
     judges (λ rule. IsConstraintReading version (words_of datasets) (arities_of (schema_of datasets)) text rule)

@@ -1,16 +1,18 @@
 -- The rows of a dataset, and what datasets give.
-use Rattle.std.specs.Prelude.{◌≡◌, ◌≢◌, ℕ, ◌≤◌, List, [], ◌∷◌, ◌++◌, Option, Some, Bool, true, false, ◌&&◌, ◌||◌, nat_le, nat_lt, nat_eq, length, map, codes, AllPairs, Contains, slice_get}
+use Rattle.std.specs.Prelude.{◌≡◌, ◌≢◌, ℕ, ◌+◌, ◌≤◌, List, [], ◌∷◌, ◌++◌, Option, Some, Bool, true, false, ◌&&◌, ◌||◌, nat_le, nat_lt, nat_eq, length, map, codes, AllPairs, Contains, slice_get}
 use Rattle.std.specs.List.{list_all, list_any, starts_with}
 use Rattle.esto_course.specs.Course.{Course, gives, demands, and_then, each}
+use Rattle.esto_docs.specs.declared.layout.Layout.TheVariants.{Lines}
 use Rattle.esto_query.specs.declared.schema.Relation.{Relation}
 use Rattle.esto_read.specs.declared.words.DataModel.{DataModel}
-use Rattle.esto_read.specs.declared.words.DataModel.TheVariants.{Table}
+use Rattle.esto_read.specs.declared.words.DataModel.TheVariants.{Table, Documents, Keys}
 use Rattle.esto_read.specs.declared.words.Word.{Word}
+use Rattle.esto_catalog.specs.Models.{layout_row, needs_model, unfit_row}
 use Rattle.esto_catalog.specs.Rows.{fault_at, knows_keys, needs_text, needs_texts, allows_text}
-use Rattle.esto_catalog.specs.Settings.{is_same, has_key, setting_at}
+use Rattle.esto_catalog.specs.Settings.{is_same, setting_at}
 use Rattle.esto_catalog.specs.declared.dataset.Dataset.{Dataset}
 use Rattle.esto_catalog.specs.declared.fault.CatalogueError.{CatalogueError}
-use Rattle.esto_catalog.specs.declared.fault.CatalogueKind.TheVariants.{BadName, SameName, BadModel, BadColumns, Unfit}
+use Rattle.esto_catalog.specs.declared.fault.CatalogueKind.TheVariants.{BadName, SameName, BadModel, BadColumns}
 use Rattle.esto_catalog.specs.declared.fault.Place.{Place}
 use Rattle.esto_catalog.specs.declared.fault.Section.TheVariants as section
 use Rattle.esto_catalog.specs.declared.setting.Field.{Field}
@@ -55,38 +57,67 @@ name_row place earlier entry =
     and_then (demands (has_dataset name earlier ≡ false) (fault_at SameName place (codes "name"))) (λ _.
     gives name)))
 
--- The model is needed, and is a table; the models that are not built yet have been refused before.
-abbrev pub model_row : Place → List Field → Course CatalogueError DataModel
-model_row place entry =
-    and_then (needs_text place (codes "model") (setting_at (codes "model") entry)) (λ model.
-    and_then (demands (is_same model (codes "table") ≡ true) (fault_at BadModel place (codes "model"))) (λ _.
-    gives Table))
-
 -- The columns are needed, and are columns of a table.
-abbrev pub columns_row : Place → List Field → Course CatalogueError (List (List ℕ))
-columns_row place entry =
+abbrev pub needs_columns : Place → List Field → Course CatalogueError (List (List ℕ))
+needs_columns place entry =
     and_then (needs_texts place (codes "columns") (setting_at (codes "columns") entry)) (λ columns.
     and_then (demands (AreColumns columns) (fault_at BadColumns place (codes "columns"))) (λ _.
     gives columns))
 
--- The key is absent, since it is for other models or stores than tables; else Unfit.
-abbrev pub unfit_row : List ℕ → Place → List Field → Course CatalogueError (Unit {0})
-unfit_row key place entry = demands (has_key key entry ≡ false) (fault_at Unfit place key)
+-- No columns are written; else Unfit.
+abbrev pub no_columns : Place → List Field → Course CatalogueError (List (List ℕ))
+no_columns place entry = and_then (unfit_row (codes "columns") place entry) (λ _. gives [])
+
+-- The columns of a table; another model has none.
+abbrev pub columns_row : Place → DataModel → List Field → Course CatalogueError (List (List ℕ))
+columns_row place Table entry = needs_columns place entry
+columns_row place Documents entry = no_columns place entry
+columns_row place Keys entry = no_columns place entry
 
 -- The file may be absent.
 abbrev pub dataset_file_row : Place → List Field → Course CatalogueError (Option (List ℕ))
 dataset_file_row place entry = allows_text place (codes "file") (setting_at (codes "file") entry)
 
--- The rows of a dataset, in order: unknown keys, name, model, columns, layout, file.
+-- The name of a part of a dataset: the dataset's, a dot, and the part's own.
+abbrev pub part_name : List ℕ → List ℕ → List ℕ
+part_name name own = name ++ codes "." ++ own
+
+-- The relation of a part of a dataset.
+abbrev pub part : List ℕ → List ℕ → ℕ → Relation
+part name own arity = record { name = part_name name own; arity = arity }
+
+-- The relations of a dataset of this name and model, which has so many columns where it is a table.
+abbrev pub model_relations : List ℕ → ℕ → DataModel → List Relation
+model_relations name columns Table = record { name = name; arity = columns } ∷ []
+model_relations name columns Documents =
+    part name (codes "root") 1 ∷ part name (codes "field") 3 ∷ part name (codes "item") 2 ∷ part name (codes "value") 2 ∷ part name (codes "below") 2 ∷ []
+model_relations name columns Keys = part name (codes "pair") 3 ∷ []
+
+-- The number of relations of a dataset of this model.
+abbrev pub relation_count : DataModel → ℕ
+relation_count Table = 1
+relation_count Documents = 5
+relation_count Keys = 1
+
+-- The relations of a dataset, in order.
+abbrev pub relations_of : Dataset → List Relation
+relations_of dataset = model_relations dataset.name (length dataset.columns) dataset.model
+
+-- The relations of datasets, in order.
+abbrev pub schema_of : List Dataset → List Relation
+schema_of [] = []
+schema_of (dataset ∷ datasets) = relations_of dataset ++ schema_of datasets
+
+-- The rows of a dataset, in order: unknown keys, name, model, columns, layout, file. Its first relation comes after those of the datasets before.
 abbrev pub reads_dataset : Place → List Dataset → List Field → Course CatalogueError Dataset
 reads_dataset place earlier entry =
     and_then (knows_keys place entry) (λ _.
     and_then (name_row place earlier entry) (λ name.
-    and_then (model_row place entry) (λ model.
-    and_then (columns_row place entry) (λ columns.
-    and_then (unfit_row (codes "layout") place entry) (λ _.
+    and_then (needs_model BadModel place (codes "model") entry) (λ model.
+    and_then (columns_row place model entry) (λ columns.
+    and_then (layout_row place model entry) (λ layout.
     and_then (dataset_file_row place entry) (λ file.
-    gives (record { name = name; model = model; base = length earlier; columns = columns; file = file })))))))
+    gives (record { name = name; model = model; base = length (schema_of earlier); columns = columns; layout = layout; file = file })))))))
 
 -- One dataset more.
 abbrev pub adds_dataset : ℕ → List Dataset → List Field → Course CatalogueError (List Dataset)
@@ -98,22 +129,31 @@ adds_dataset number earlier entry =
 abbrev pub reads_datasets : List (List Field) → Course CatalogueError (List Dataset)
 reads_datasets entries = each adds_dataset 1 [] entries
 
--- The relations of table datasets, in order.
-abbrev pub schema_of : List Dataset → List Relation
-schema_of datasets = map (λ (dataset : Dataset). record { name = dataset.name; arity = length dataset.columns }) datasets
-
 -- The words that name datasets.
 abbrev pub words_of : List Dataset → List Word
 words_of datasets = map (λ (dataset : Dataset). record { name = dataset.name; model = dataset.model; base = dataset.base }) datasets
 
--- A dataset is a table: it has columns, and its relation, of its name and as many columns, stands at its base.
-pub record IsTableDataset (schema : List Relation) (dataset : Dataset) : Type 0 where
-  pub model : dataset.model ≡ Table
-  pub columns : AreColumns dataset.columns
-  pub relation : slice_get schema dataset.base ≡ Some (record { name = dataset.name; arity = length dataset.columns })
+-- The columns fit the model: a table has columns, and another model none.
+abbrev pub FitModel : DataModel → List (List ℕ) → Type 0
+FitModel Table columns = AreColumns columns
+FitModel Documents columns = columns ≡ []
+FitModel Keys columns = columns ≡ []
 
--- Each dataset is a table, no two have one name, and there are no more than a section may have entries.
-pub record AreTableDatasets (datasets : List Dataset) : Type 0 where
+-- The schema has these relations one after another, from that number on.
+abbrev pub StandFrom : List Relation → ℕ → List Relation → Type 0
+StandFrom schema base relations =
+    (number : ℕ) (relation : Relation) → slice_get relations number ≡ Some relation → slice_get schema (base + number) ≡ Some relation
+
+-- A dataset has a name, columns that fit its model, the layout of lines where it is no collection of documents, and its relations in the schema from its base
+-- on.
+pub record IsDataset (schema : List Relation) (dataset : Dataset) : Type 0 where
+  pub named : is_name dataset.name ≡ true
+  pub columns : FitModel dataset.model dataset.columns
+  pub layout : dataset.model ≢ Documents → dataset.layout ≡ Lines
+  pub relations : StandFrom schema dataset.base (relations_of dataset)
+
+-- Each dataset is one over the relations of all, no two have one name, and there are no more than a section may have entries.
+pub record AreDatasets (datasets : List Dataset) : Type 0 where
   pub distinct : AllPairs ◌≢◌ (map (λ (dataset : Dataset). dataset.name) datasets)
-  pub tables : (dataset : Dataset) → Contains datasets dataset → IsTableDataset (schema_of datasets) dataset
+  pub sound : (dataset : Dataset) → Contains datasets dataset → IsDataset (schema_of datasets) dataset
   pub room : length datasets ≤ MAX_ENTRIES

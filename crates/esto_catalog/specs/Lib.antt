@@ -1,11 +1,14 @@
 pub mod Settings
 pub mod Rows
 pub mod Whole
+pub mod Models
 pub mod Datasets
-pub mod Tables
+pub mod Scope
 pub mod Access
+pub mod Shapes
 pub mod Fragments
 pub mod Constraints
+pub mod Rules
 pub mod Soundness
 pub mod Reading
 pub mod Determined

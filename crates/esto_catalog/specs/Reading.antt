@@ -3,12 +3,14 @@ use Rattle.std.specs.Prelude.{◌≡◌, ℕ, List, length}
 use Rattle.esto_acyclic.specs.Graphs.{IsAcyclic, AreRanks, IsLeastCycle}
 use Rattle.esto_acyclic.specs.Relations.{IsEdge, AreNamesOf}
 use Rattle.esto_acyclic.specs.declared.relations.Cycle.{Cycle}
-use Rattle.esto_constraint.specs.Constraints.{rules_of}
 use Rattle.esto_constraint.specs.declared.rule.Constraint.{Constraint}
 use Rattle.esto_course.specs.Course.{Course, judges, and_then}
+use Rattle.esto_semantics.specs.Rules.{Rule}
+use Rattle.esto_text.specs.declared.version.Version.{Version}
 use Rattle.esto_catalog.specs.Constraints.{reads_constraints}
 use Rattle.esto_catalog.specs.Datasets.{reads_datasets, schema_of, words_of}
 use Rattle.esto_catalog.specs.Fragments.{reads_fragments}
+use Rattle.esto_catalog.specs.Rules.{AreAllRules, all_rules}
 use Rattle.esto_catalog.specs.Whole.{reads_whole}
 use Rattle.esto_catalog.specs.declared.catalogue.Catalogue.{Catalogue}
 use Rattle.esto_catalog.specs.declared.dataset.Dataset.{Dataset}
@@ -16,28 +18,28 @@ use Rattle.esto_catalog.specs.declared.fault.CatalogueError.{CatalogueError}
 use Rattle.esto_catalog.specs.declared.fault.CatalogueError.TheVariants.{NotAcyclic, OutOfMemory}
 use Rattle.esto_catalog.specs.declared.fragment.Fragments.{Fragments}
 
--- The catalogue of these datasets, fragments and constraints: its relations and words are the datasets', its rules are the constraints, no relation leads
--- back to itself by them, and its ranks are those of the relations by them.
-pub record IsMadeOf (datasets : List Dataset) (fragments : Fragments) (rules : List Constraint) (catalogue : Catalogue) : Type 0 where
+-- The catalogue of this version, of these datasets, fragments and constraints: its relations and words are the datasets', its rules are the constraints and
+-- then those of the encodings, no relation leads back to itself by them, and its ranks are those of the relations by them.
+pub record IsMadeOf (version : Version) (datasets : List Dataset) (fragments : Fragments) (given : List Constraint) (catalogue : Catalogue) : Type 0 where
   pub schema : catalogue.schema ≡ schema_of datasets
   pub words : catalogue.words ≡ words_of datasets
   pub same_datasets : catalogue.datasets ≡ datasets
   pub definitions : catalogue.fragments ≡ fragments.definitions
   pub stores : catalogue.stores ≡ fragments.stores
-  pub same_rules : catalogue.rules ≡ rules
-  pub given : catalogue.given ≡ length rules
-  pub acyclic : IsAcyclic (IsEdge (rules_of rules))
-  pub ranks : AreRanks (IsEdge (rules_of rules)) (length (schema_of datasets)) catalogue.ranks
+  pub rules : AreAllRules version datasets given catalogue.rules
+  pub given_are : catalogue.given ≡ length given
+  pub acyclic : IsAcyclic (IsEdge (all_rules version datasets given))
+  pub ranks : AreRanks (IsEdge (all_rules version datasets given)) (length (schema_of datasets)) catalogue.ranks
 
 -- It is the least cycle of the graph of the rules, with the names of its relations.
-abbrev pub IsCycleOf : List Dataset → List Constraint → Cycle → Type 0
-IsCycleOf datasets rules cycle =
-    IsLeastCycle (IsEdge (rules_of rules)) cycle.relations × AreNamesOf (schema_of datasets) cycle.relations cycle.names
+abbrev pub IsCycleOf : List Dataset → List Rule → Cycle → Type 0
+IsCycleOf datasets rules cycle = IsLeastCycle (IsEdge rules) cycle.relations × AreNamesOf (schema_of datasets) cycle.relations cycle.names
 
 -- No relation leads back to itself by the rules; else NotAcyclic with the least cycle.
-abbrev pub is_acyclic : List Dataset → Fragments → List Constraint → Course CatalogueError Catalogue
-is_acyclic datasets fragments rules =
-    judges (IsMadeOf datasets fragments rules) (λ error. (cycle : Cycle) × IsCycleOf datasets rules cycle × (error ≡ NotAcyclic cycle))
+abbrev pub is_acyclic : Version → List Dataset → Fragments → List Constraint → Course CatalogueError Catalogue
+is_acyclic version datasets fragments given =
+    judges (IsMadeOf version datasets fragments given)
+    (λ error. (cycle : Cycle) × IsCycleOf datasets (all_rules version datasets given) cycle × (error ≡ NotAcyclic cycle))
 
 -- The walk over the rows: the whole file, the datasets, the fragments and the constraints; then the graph of the rules.
 abbrev pub reads_catalogue : List ℕ → Course CatalogueError Catalogue
@@ -45,8 +47,8 @@ reads_catalogue bytes =
     and_then (reads_whole bytes) (λ sections.
     and_then (reads_datasets sections.datasets) (λ datasets.
     and_then (reads_fragments datasets sections.fragments) (λ fragments.
-    and_then (reads_constraints sections.version datasets sections.constraints) (λ rules.
-    is_acyclic datasets fragments rules))))
+    and_then (reads_constraints sections.version datasets sections.constraints) (λ given.
+    is_acyclic sections.version datasets fragments given))))
 
 -- The bytes say this catalogue: with it the walk ends.
 abbrev pub IsCatalogueOf : List ℕ → Catalogue → Type 0

@@ -69,8 +69,3 @@ has_key key entry = list_any (λ (field : Field). is_same field.key key) entry
 abbrev pub setting_at : List ℕ → List Field → Option Setting
 setting_at key [] = None
 setting_at key (field ∷ entry) = if is_same field.key key then Some field.setting else setting_at key entry
-
--- It is set, and to this text.
-abbrev pub is_set_to : List ℕ → Option Setting → Bool
-is_set_to text (Some (Text other)) = is_same other text
-is_set_to text _ = false

@@ -1,14 +1,12 @@
 -- The rows of the whole file, before its entries.
-use Rattle.std.specs.Prelude.{◌≡◌, ℕ, ◌≤◌, ◌||◌, pos, List, Option, Some, None, Bool, false, length, codes}
-use Rattle.std.specs.List.{list_any}
+use Rattle.std.specs.Prelude.{◌≡◌, ℕ, ◌≤◌, pos, List, Option, Some, None, length, codes}
 use Rattle.toml.specs.Data.{Members}
 use Rattle.esto_course.specs.Course.{Course, judges, gives, refuses, demands, and_then}
 use Rattle.esto_text.specs.declared.version.Version.{Version}
 use Rattle.esto_text.specs.declared.version.Version.TheVariants.{One, Two}
 use Rattle.esto_catalog.specs.Rows.{fault_at, top, knows_keys}
-use Rattle.esto_catalog.specs.Settings.{IsTable, document_of, setting_at, is_set_to}
+use Rattle.esto_catalog.specs.Settings.{IsTable, document_of, setting_at}
 use Rattle.esto_catalog.specs.declared.fault.CatalogueError.{CatalogueError}
-use Rattle.esto_catalog.specs.declared.fault.CatalogueError.TheVariants.{NotBuilt}
 use Rattle.esto_catalog.specs.declared.fault.CatalogueKind.TheVariants.{Toml, Version as NoVersion, WrongType, TooMany}
 use Rattle.esto_catalog.specs.declared.setting.Document.{Document}
 use Rattle.esto_catalog.specs.declared.setting.Field.{Field}
@@ -39,16 +37,7 @@ abbrev pub reads_section : List ℕ → Option (List (List Field)) → Course Ca
 reads_section key None = refuses (fault_at WrongType top key)
 reads_section key (Some entries) = and_then (demands (length entries ≤ MAX_ENTRIES) (fault_at TooMany top key)) (λ _. gives entries)
 
--- The entry is set to documents or keys at this key.
-abbrev pub is_no_table : List ℕ → List Field → Bool
-is_no_table key entry = is_set_to (codes "documents") (setting_at key entry) || is_set_to (codes "keys") (setting_at key entry)
-
--- No dataset is documents or keys, and no fragment is stored so; else NotBuilt.
-abbrev pub is_built : List (List Field) → List (List Field) → Course CatalogueError (Unit {0})
-is_built datasets fragments =
-    demands ((list_any (is_no_table (codes "model")) datasets || list_any (is_no_table (codes "store")) fragments) ≡ false) NotBuilt
-
--- The rows of the whole file, in order: TOML, unknown keys, the version, each section, and what is not built yet.
+-- The rows of the whole file, in order: TOML, unknown keys, the version, each section.
 abbrev pub reads_whole : List ℕ → Course CatalogueError Sections
 reads_whole bytes =
     and_then (reads_toml bytes) (λ document.
@@ -57,5 +46,4 @@ reads_whole bytes =
     and_then (reads_section (codes "dataset") document.datasets) (λ datasets.
     and_then (reads_section (codes "fragment") document.fragments) (λ fragments.
     and_then (reads_section (codes "constraint") document.constraints) (λ constraints.
-    and_then (is_built datasets fragments) (λ _.
-    gives (record { version = version; datasets = datasets; fragments = fragments; constraints = constraints }))))))))
+    gives (record { version = version; datasets = datasets; fragments = fragments; constraints = constraints })))))))

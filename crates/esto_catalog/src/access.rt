@@ -1,12 +1,13 @@
 //! The rows of a fragment's binding patterns and of its weight.
-ghost use Rattle.std.specs.Prelude.{◌≡◌, ◌≢◌, ℕ, List, Bool, [], ◌∷◌, length, replicate, false, MatchOption, IfOk};
-ghost use Rattle.esto_catalog.specs.Access.{letter_of, IsPattern, ArePatterns, IsWeight, reads_patterns, access_row, reads_weight, weight_row};
+ghost use Rattle.std.specs.Prelude.{◌≡◌, ◌≢◌, ℕ, List, Bool, [], ◌∷◌, length, MatchOption, IfOk};
+ghost use Rattle.esto_catalog.specs.Access.{letter_of, IsPattern, ArePatterns, IsWeight, is_usual_input, reads_patterns, usual_pattern, access_row, reads_weight, weight_row};
 ghost use Rattle.esto_catalog.specs.Rows.{Walks};
 
 use crate::columns::are_distinct;
 use crate::fault::{CatalogueError, CatalogueKind, Place, fault};
 use crate::setting::{Field, Setting, setting_at};
 use esto_query::Query;
+use esto_read::DataModel;
 use esto_term::{List, OutOfMemory, Text, Values};
 use esto_views::{Access, AccessList};
 use std::alloc::Global;
@@ -90,31 +91,52 @@ fn written_access(
     }
 }
 
-// The one pattern by which no column of the view is an input.
-fn all_outputs(alloc: Global, view: &Query) -> Result<AccessList, OutOfMemory>
-    ensures { IfOk result (λ it. it ≡ replicate (length view.now.head) false ∷ []) }
+// Whether the column of this number is an input by the usual pattern of a store of this model.
+fn is_usual_input(model: DataModel, column: usize) -> bool
+    ensures { result ≡ is_usual_input model column }
+{
+    match model {
+        DataModel::Table => false,
+        DataModel::Documents => false,
+        DataModel::Keys => column == 0,
+    }
+}
+
+// The pattern of so many columns for which none is written.
+fn usual_pattern(alloc: Global, model: DataModel, columns: usize) -> Result<Access, OutOfMemory>
+    ensures { IfOk result (λ it. it ≡ usual_pattern model columns) }
 {
     let mut pattern = Values::new(alloc);
-    'terms: for _term in view.head.items() {
-        pattern.push(false)?;
+    'columns: for column in 0..columns {
+        pattern.push(is_usual_input(model, column))?;
     }
+    Ok(pattern)
+}
+
+// The one usual pattern.
+fn usual_access(alloc: Global, model: DataModel, view: &Query) -> Result<AccessList, OutOfMemory>
+    ensures { IfOk result (λ it. it ≡ usual_pattern model (length view.now.head) ∷ []) }
+{
+    let pattern = usual_pattern(alloc, model, view.head.len())?;
     let mut access = List::new(alloc);
     access.push(pattern)?;
     Ok(access)
 }
 
-/// The binding patterns of the view's fragment: those that are written, or the one by which no column is an input.
+/// The binding patterns of the view's fragment: those that are written, or the one by which no column is an input, but
+/// for the first column of keys.
 #[tactic(auto, using(crate::proofs::RowLemmas::rows))]
 pub fn access(
     alloc: Global,
     place: Place,
+    model: DataModel,
     view: &Query,
     entry: &[Field],
 ) -> Result<AccessList, CatalogueError>
-    ensures { Walks (access_row place view.now entry.now) result }
+    ensures { Walks (access_row place model view.now entry.now) result }
 {
     match setting_at("access", entry) {
-        None => Ok(all_outputs(alloc, view)?),
+        None => Ok(usual_access(alloc, model, view)?),
         Some(Setting::Text(text)) => written_access(alloc, place, view, slice::from_ref(text)),
         Some(Setting::Texts(texts)) => written_access(alloc, place, view, texts.items()),
         Some(Setting::Integer(_)) => {

@@ -4,6 +4,8 @@ ghost use Rattle.esto_catalog.specs.Soundness.{IsSoundCatalogue};
 use crate::dataset::Datasets;
 use esto_acyclic::Ranks;
 use esto_constraint::Rules;
+use esto_docmodel::Pattern;
+use esto_docs::Layout;
 use esto_query::Schema;
 use esto_read::Vocabulary;
 use esto_term::{List, Text, TextRow};
@@ -14,6 +16,11 @@ use esto_views::FragmentDefs;
 pub enum Shape {
     /// As a CSV file with these columns.
     Table(TextRow),
+    /// As a JSON file of documents that stand in it so, each with the cells of rows where the pattern has the columns'
+    /// variables.
+    Documents(Layout, Pattern),
+    /// As a file of lines whose cells are parted by tabs.
+    Keys,
 }
 
 /// Where a fragment is stored.
@@ -27,10 +34,12 @@ pub struct Store {
 pub type Stores = List<Store>;
 
 /// What a catalogue says: the relations of its datasets, the names that texts may use, the datasets, the fragments
-/// and where each is stored, and the rules, of which the first `given` are its own constraints, with the ranks of the
-/// relations by them. Words, views and rules are over the schema, the fragments are well made, and no relation leads
-/// back to itself by the rules. A fragment has at most `MAX_PATTERNS` binding patterns, all distinct, and weighs at most
-/// `MAX_WEIGHT`.
+/// and where each is stored, and the rules, with the ranks of the relations by them. The first `given` rules are the
+/// catalogue's own constraints; those that the encodings of documents and keys bring follow, in order of dataset. Words,
+/// views and rules are over the schema, in which each dataset's relations stand from its base on; the fragments are well
+/// made; and no relation leads back to itself by the rules. A fragment has at most `MAX_PATTERNS` binding patterns, all
+/// distinct, and weighs at most `MAX_WEIGHT`. The columns of a table are distinct, as many as its view has, and the first
+/// does not begin with a byte-order mark; the pattern of documents is a layout for as many columns.
 #[derive(Debug, Drop)]
 pub struct Catalogue {
     pub schema: Schema,

@@ -7,12 +7,12 @@ ghost use Rattle.esto_semantics.specs.WellFormed.{IsRuleOver};
 ghost use Rattle.esto_catalog.specs.Constraints.{reads_rule, rule_row, reads_constraint, reads_constraints};
 ghost use Rattle.esto_catalog.specs.Rows.{Walks};
 ghost use Rattle.esto_catalog.specs.Soundness.{AreSoundRules};
-ghost use Rattle.esto_catalog.specs.Tables.{IsTables};
+ghost use Rattle.esto_catalog.specs.Scope.{IsScope};
 
 use crate::fault::{CatalogueError, CatalogueKind, Place, Section, fault};
 use crate::row::{knows_keys, needs_text};
+use crate::scope::Scope;
 use crate::setting::{Field, KeyList};
-use crate::tables::Tables;
 use esto_constraint::{Constraint, Rules};
 use esto_read::{read_constraint, read_constraint_2};
 use esto_term::{List, Text};
@@ -23,19 +23,19 @@ use std::alloc::Global;
 fn read_rule(
     alloc: Global,
     version: Version,
-    tables: &Tables,
+    scope: &Scope,
     text: &[u8],
 ) -> Result<Constraint, ReadError>
-    requires { IsTables tables.now }
+    requires { IsScope scope.now }
     ensures rule { IfOk result (IsConstraintReading
-        version tables.now.words (arities_of tables.now.schema) text.now) }
-    ensures over { IfOk result (λ rule. IsRuleOver (arities_of tables.now.schema) (rule_of rule)) }
+        version scope.now.words (arities_of scope.now.schema) text.now) }
+    ensures over { IfOk result (λ rule. IsRuleOver (arities_of scope.now.schema) (rule_of rule)) }
     ensures error { IfErr result (IsConstraintError
-        version tables.now.words (arities_of tables.now.schema) text.now) }
+        version scope.now.words (arities_of scope.now.schema) text.now) }
 {
     match version {
-        Version::One => read_constraint(alloc, text, &tables.words, &tables.schema),
-        Version::Two => read_constraint_2(alloc, text, &tables.words, &tables.schema),
+        Version::One => read_constraint(alloc, text, &scope.words, &scope.schema),
+        Version::Two => read_constraint_2(alloc, text, &scope.words, &scope.schema),
     }
 }
 
@@ -44,14 +44,14 @@ fn rule_of_text(
     alloc: Global,
     version: Version,
     place: Place,
-    tables: &Tables,
+    scope: &Scope,
     text: &Text,
 ) -> Result<Constraint, CatalogueError>
-    requires { IsTables tables.now }
-    ensures rule { Walks (reads_rule version place tables.now.datasets text.now) result }
-    ensures over { IfOk result (λ rule. IsRuleOver (arities_of tables.now.schema) (rule_of rule)) }
+    requires { IsScope scope.now }
+    ensures rule { Walks (reads_rule version place scope.now.datasets text.now) result }
+    ensures over { IfOk result (λ rule. IsRuleOver (arities_of scope.now.schema) (rule_of rule)) }
 {
-    match read_rule(alloc, version, tables, text.bytes()) {
+    match read_rule(alloc, version, scope, text.bytes()) {
         Ok(rule) => Ok(rule),
         Err(ReadError::Fault(found)) => Err(fault(
             alloc,
@@ -70,15 +70,15 @@ fn rule(
     alloc: Global,
     version: Version,
     place: Place,
-    tables: &Tables,
+    scope: &Scope,
     entry: &[Field],
 ) -> Result<Constraint, CatalogueError>
-    requires { IsTables tables.now }
-    ensures rule { Walks (rule_row version place tables.now.datasets entry.now) result }
-    ensures over { IfOk result (λ rule. IsRuleOver (arities_of tables.now.schema) (rule_of rule)) }
+    requires { IsScope scope.now }
+    ensures rule { Walks (rule_row version place scope.now.datasets entry.now) result }
+    ensures over { IfOk result (λ rule. IsRuleOver (arities_of scope.now.schema) (rule_of rule)) }
 {
     let text = needs_text(alloc, place, "rule", entry)?;
-    let rule = rule_of_text(alloc, version, place, tables, &text)?;
+    let rule = rule_of_text(alloc, version, place, scope, &text)?;
     Ok(rule)
 }
 
@@ -88,16 +88,16 @@ fn read_entry(
     alloc: Global,
     version: Version,
     place: Place,
-    tables: &Tables,
+    scope: &Scope,
     entry: &[Field],
 ) -> Result<Constraint, CatalogueError>
-    requires { IsTables tables.now }
+    requires { IsScope scope.now }
     ensures rule { Walks
-        (reads_constraint version place tables.now.datasets entry.now) result }
-    ensures over { IfOk result (λ rule. IsRuleOver (arities_of tables.now.schema) (rule_of rule)) }
+        (reads_constraint version place scope.now.datasets entry.now) result }
+    ensures over { IfOk result (λ rule. IsRuleOver (arities_of scope.now.schema) (rule_of rule)) }
 {
     knows_keys(alloc, place, entry)?;
-    let rule = rule(alloc, version, place, tables, entry)?;
+    let rule = rule(alloc, version, place, scope, entry)?;
     Ok(rule)
 }
 
@@ -105,18 +105,18 @@ fn read_entry(
 pub fn read_constraints(
     alloc: Global,
     version: Version,
-    tables: &Tables,
+    scope: &Scope,
     entries: &[KeyList],
 ) -> Result<Rules, CatalogueError>
-    requires { IsTables tables.now }
-    ensures rules { Walks (reads_constraints version tables.now.datasets entries.now) result }
-    ensures over { IfOk result (AreSoundRules (arities_of tables.now.schema)) }
+    requires { IsScope scope.now }
+    ensures rules { Walks (reads_constraints version scope.now.datasets entries.now) result }
+    ensures over { IfOk result (AreSoundRules (arities_of scope.now.schema)) }
 {
     let mut rules = List::new(alloc);
     'entries: for (index, entry) in entries.iter().enumerate() {
         let place = Place::entry(Section::Constraint, index);
         let fields = entry.items();
-        let rule = read_entry(alloc, version, place, tables, fields)?;
+        let rule = read_entry(alloc, version, place, scope, fields)?;
         rules.push(rule)?;
     }
     Ok(rules)

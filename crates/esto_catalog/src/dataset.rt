@@ -1,25 +1,28 @@
 //! Datasets, and the rows of one.
 ghost use Rattle.std.specs.Prelude.{◌≡◌, ◌≤◌, length, IfOk};
-ghost use Rattle.esto_catalog.specs.Datasets.{AreTableDatasets, has_dataset, name_row, model_row, columns_row, dataset_file_row, reads_dataset, reads_datasets};
+ghost use Rattle.esto_catalog.specs.Datasets.{AreDatasets, has_dataset, name_row, needs_columns, no_columns, columns_row, dataset_file_row, relation_count, schema_of, reads_dataset, reads_datasets};
 ghost use Rattle.esto_catalog.specs.Rows.{Walks};
 ghost use Rattle.esto_catalog.specs.declared.whole.TheConstants.{MAX_ENTRIES};
 
 use crate::columns::{are_columns, is_name};
 use crate::fault::{CatalogueError, CatalogueKind, Place, Section, demand};
-use crate::row::{allows_text, knows_keys, needs_text, needs_texts, unfit};
+use crate::model::{layout, needs_model, unfit};
+use crate::row::{allows_text, knows_keys, needs_text, needs_texts};
 use crate::setting::{Field, KeyList, is_same};
+use esto_docs::Layout;
 use esto_read::DataModel;
 use esto_term::{List, Text, TextRow};
 use std::alloc::Global;
 
-/// A dataset: its name, what it is, the number of its first relation, the names of its columns where it is a table,
-/// and its file where it has one.
+/// A dataset: its name, what it is, the number of its first relation, the names of its columns, which a table alone has,
+/// how its documents stand in their file, which is in lines where nothing else is written, and its file where it has one.
 #[derive(Debug, Drop)]
 pub struct Dataset {
     pub name: Text,
     pub model: DataModel,
     pub base: usize,
     pub columns: TextRow,
+    pub layout: Layout,
     pub file: Option<Text>,
 }
 
@@ -54,21 +57,10 @@ fn name(
     Ok(name)
 }
 
-// The model: a table.
-#[tactic(auto, using(crate::proofs::RowLemmas::rows))]
-fn model(alloc: Global, place: Place, entry: &[Field]) -> Result<DataModel, CatalogueError>
-    ensures { Walks (model_row place entry.now) result }
-{
-    let model = needs_text(alloc, place, "model", entry)?;
-    let is_table = is_same(&model, "table");
-    demand(alloc, is_table, CatalogueKind::BadModel, place, "model")?;
-    Ok(DataModel::Table)
-}
-
 // The columns of a table.
 #[tactic(auto, using(crate::proofs::RowLemmas::rows))]
-fn columns(alloc: Global, place: Place, entry: &[Field]) -> Result<TextRow, CatalogueError>
-    ensures { Walks (columns_row place entry.now) result }
+fn needs_columns(alloc: Global, place: Place, entry: &[Field]) -> Result<TextRow, CatalogueError>
+    ensures { Walks (needs_columns place entry.now) result }
 {
     let columns = needs_texts(alloc, place, "columns", entry)?;
     let texts = columns.items();
@@ -83,6 +75,31 @@ fn columns(alloc: Global, place: Place, entry: &[Field]) -> Result<TextRow, Cata
     Ok(columns)
 }
 
+// No columns are written, since they are for tables; else Unfit.
+#[tactic(auto, using(crate::proofs::RowLemmas::rows))]
+fn no_columns(alloc: Global, place: Place, entry: &[Field]) -> Result<TextRow, CatalogueError>
+    ensures { Walks (no_columns place entry.now) result }
+{
+    unfit(alloc, "columns", place, entry)?;
+    Ok(List::new(alloc))
+}
+
+// The columns, which a table alone has.
+fn columns(
+    alloc: Global,
+    place: Place,
+    model: DataModel,
+    entry: &[Field],
+) -> Result<TextRow, CatalogueError>
+    ensures { Walks (columns_row place model entry.now) result }
+{
+    match model {
+        DataModel::Table => needs_columns(alloc, place, entry),
+        DataModel::Documents => no_columns(alloc, place, entry),
+        DataModel::Keys => no_columns(alloc, place, entry),
+    }
+}
+
 // The file, where there is one.
 #[tactic(auto, using(crate::proofs::RowLemmas::rows))]
 fn file(alloc: Global, place: Place, entry: &[Field]) -> Result<Option<Text>, CatalogueError>
@@ -91,27 +108,42 @@ fn file(alloc: Global, place: Place, entry: &[Field]) -> Result<Option<Text>, Ca
     allows_text(alloc, place, "file", entry)
 }
 
-// The rows of a dataset, in order: unknown keys, name, model, columns, layout, file.
+// The number of relations of a dataset of this model.
+fn relation_count(model: DataModel) -> usize
+    ensures { result ≡ relation_count model }
+{
+    match model {
+        DataModel::Table => 1,
+        DataModel::Documents => 5,
+        DataModel::Keys => 1,
+    }
+}
+
+// The rows of a dataset whose first relation is that of the base, in order: unknown keys, name, model, columns, layout,
+// file.
 #[tactic(auto, using(crate::proofs::RowLemmas::rows))]
 fn read_dataset(
     alloc: Global,
     place: Place,
     earlier: &[Dataset],
+    base: usize,
     entry: &[Field],
 ) -> Result<Dataset, CatalogueError>
+    requires { base ≡ length (schema_of earlier.now) }
     ensures { Walks (reads_dataset place earlier.now entry.now) result }
 {
     knows_keys(alloc, place, entry)?;
     let name = name(alloc, place, earlier, entry)?;
-    let model = model(alloc, place, entry)?;
-    let columns = columns(alloc, place, entry)?;
-    unfit(alloc, "layout", place, entry)?;
+    let model = needs_model(alloc, CatalogueKind::BadModel, place, "model", entry)?;
+    let columns = columns(alloc, place, model, entry)?;
+    let layout = layout(alloc, place, model, entry)?;
     let file = file(alloc, place, entry)?;
     Ok(Dataset {
         name,
         model,
-        base: earlier.len(),
+        base,
         columns,
+        layout,
         file,
     })
 }
@@ -120,14 +152,16 @@ fn read_dataset(
 pub fn read_datasets(alloc: Global, entries: &[KeyList]) -> Result<Datasets, CatalogueError>
     requires { length entries.now ≤ MAX_ENTRIES }
     ensures datasets { Walks (reads_datasets entries.now) result }
-    ensures tables { IfOk result AreTableDatasets }
+    ensures sound { IfOk result AreDatasets }
 {
     let mut datasets = List::new(alloc);
+    let mut base = 0;
     'entries: for (index, entry) in entries.iter().enumerate() {
         let place = Place::entry(Section::Dataset, index);
         let earlier = datasets.items();
         let fields = entry.items();
-        let dataset = read_dataset(alloc, place, earlier, fields)?;
+        let dataset = read_dataset(alloc, place, earlier, base, fields)?;
+        base += relation_count(dataset.model);
         datasets.push(dataset)?;
     }
     Ok(datasets)

@@ -101,8 +101,6 @@ pub enum CatalogueError {
     Fault(CatalogueFault),
     /// It has no fault, and a relation leads back to itself: this is the least cycle.
     NotAcyclic(Cycle),
-    /// It has a model or a store that is not built yet. This comes before the faults of the entries.
-    NotBuilt,
     OutOfMemory,
 }
 

@@ -8,9 +8,12 @@ mod constraint;
 mod dataset;
 mod fault;
 mod fragment;
+mod model;
 mod row;
+mod rules;
+mod scope;
 mod setting;
-mod tables;
+mod shape;
 mod walk;
 mod whole;
 

@@ -1,12 +1,10 @@
 //! What rows of the catalogue's table have in common.
 ghost use Rattle.std.specs.Prelude.{◌≡◌, ℕ, List, codes, Contains, MatchOption, option_copied};
-ghost use Rattle.esto_course.specs.Course.{demands};
-ghost use Rattle.esto_catalog.specs.Datasets.{unfit_row};
 ghost use Rattle.esto_catalog.specs.Rows.{Walks, is_known, IsUnknown, IsLeastUnknown, IsLesserOf, knows_keys, needs_text, allows_text, needs_texts};
 ghost use Rattle.esto_catalog.specs.Settings.{setting_at};
 
-use crate::fault::{CatalogueError, CatalogueKind, Place, Section, demand, fault};
-use crate::setting::{Field, Setting, has_key, is_same, setting_at};
+use crate::fault::{CatalogueError, CatalogueKind, Place, Section, fault};
+use crate::setting::{Field, Setting, is_same, setting_at};
 use esto_term::{Replicate, Text, TextRow};
 use std::alloc::Global;
 
@@ -137,18 +135,4 @@ pub fn needs_texts(
         Some(Setting::Integer(_)) => Err(fault(alloc, CatalogueKind::WrongType, place, key, None)),
         Some(Setting::Other) => Err(fault(alloc, CatalogueKind::WrongType, place, key, None)),
     }
-}
-
-/// The key is absent, since it is for other models or stores than tables; else Unfit.
-#[tactic(auto, using(crate::proofs::RowLemmas::rows))]
-pub fn unfit(alloc: Global, key: &str, place: Place, entry: &[Field]) -> Result<(), CatalogueError>
-    ensures { Walks (unfit_row key.now place entry.now) result }
-{
-    demand(
-        alloc,
-        !has_key(key, entry),
-        CatalogueKind::Unfit,
-        place,
-        key,
-    )
 }

@@ -3,7 +3,7 @@ ghost use Rattle.std.specs.Prelude.{◌≡◌, ◌↔◌, None, Some, IfOk, IsTr
 ghost use Rattle.toml.specs.Data.{get_member};
 ghost use Rattle.toml.specs.View.{view, items_view, table_view};
 ghost use Rattle.esto_catalog.specs.Rows.{Walks};
-ghost use Rattle.esto_catalog.specs.Settings.{is_same, has_key, is_set_to, setting_at, texts_of, array_setting, setting_of, entry_of, entries_of, section_of, document_of};
+ghost use Rattle.esto_catalog.specs.Settings.{is_same, has_key, setting_at, texts_of, array_setting, setting_of, entry_of, entries_of, section_of, document_of};
 ghost use Rattle.esto_catalog.specs.Whole.{reads_toml};
 
 use crate::fault::{CatalogueError, CatalogueKind, TOP, fault};
@@ -172,17 +172,4 @@ pub fn setting_at<'a>(key: &str, entry: &'a [Field]) -> Option<&'a Setting>
         }
     }
     None
-}
-
-/// Whether the key is set to this text.
-pub fn is_set_to(text: &str, key: &str, entry: &[Field]) -> bool
-    ensures { result ≡ is_set_to text.now (setting_at key.now entry.now) }
-{
-    match setting_at(key, entry) {
-        Some(Setting::Text(other)) => is_same(other, text),
-        Some(Setting::Integer(_)) => false,
-        Some(Setting::Texts(_)) => false,
-        Some(Setting::Other) => false,
-        None => false,
-    }
 }

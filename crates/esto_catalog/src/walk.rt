@@ -8,38 +8,47 @@ ghost use Rattle.esto_catalog.specs.Determined.{CataloguesAreSound, HaveOneCatal
 ghost use Rattle.esto_catalog.specs.Reading.{IsCatalogueOf, IsCatalogueError, is_acyclic, reads_catalogue};
 ghost use Rattle.esto_catalog.specs.Rows.{Walks};
 ghost use Rattle.esto_catalog.specs.Soundness.{AreSoundFragments, AreSoundRules};
-ghost use Rattle.esto_catalog.specs.Tables.{IsTables};
+ghost use Rattle.esto_catalog.specs.Scope.{IsScope};
 
 use crate::catalogue::Catalogue;
 use crate::constraint::read_constraints;
 use crate::dataset::read_datasets;
 use crate::fault::CatalogueError;
 use crate::fragment::{Fragments, read_fragments};
-use crate::tables::{Tables, tables_of};
+use crate::rules::with_encodings;
+use crate::scope::{Scope, scope_of};
 use crate::whole::read_whole;
 use either::{Left, Right};
 use esto_acyclic::{judge, judgements_are_exact};
 use esto_constraint::Rules;
-use esto_read::{constraint_readings_are_determined, readings_are_determined};
+use esto_read::{
+    constraint_readings_are_determined, layout_readings_are_determined, readings_are_determined,
+    views_name_their_columns,
+};
+use esto_text::Version;
 use std::alloc::Global;
 
-// The catalogue of datasets, fragments and rules; or the least cycle of the rules' graph of relations.
+// The catalogue of datasets, fragments, its own constraints and the rules of the encodings; or the least cycle of the
+// rules' graph of relations.
 fn judged(
     alloc: Global,
-    tables: Tables,
+    version: Version,
+    scope: Scope,
     fragments: Fragments,
-    rules: Rules,
+    given: Rules,
 ) -> Result<Catalogue, CatalogueError>
-    requires tables { IsTables tables }
-    requires fragments { AreSoundFragments (arities_of tables.schema) fragments }
-    requires rules { AreSoundRules (arities_of tables.schema) rules }
-    ensures { Walks (is_acyclic tables.datasets fragments rules) result }
+    requires scope { IsScope scope }
+    requires fragments { AreSoundFragments (arities_of scope.schema) fragments }
+    requires rules { AreSoundRules (arities_of scope.schema) given }
+    ensures { Walks (is_acyclic version scope.datasets fragments given) result }
 {
-    let Tables {
+    let count = given.len();
+    let rules = with_encodings(alloc, version, &scope, given)?;
+    let Scope {
         datasets,
         schema,
         words,
-    } = tables;
+    } = scope;
     let Fragments {
         definitions,
         stores,
@@ -51,8 +60,8 @@ fn judged(
             datasets,
             fragments: definitions,
             stores,
-            given: rules.len(),
             rules,
+            given: count,
             ranks,
         }),
         Right(cycle) => Err(CatalogueError::NotAcyclic(cycle)),
@@ -67,17 +76,17 @@ fn walk(alloc: Global, bytes: &[u8]) -> Result<Catalogue, CatalogueError>
     let sections = read_whole(alloc, bytes)?;
     let dataset_entries = sections.datasets.items();
     let datasets = read_datasets(alloc, dataset_entries)?;
-    let tables = tables_of(alloc, datasets)?;
+    let scope = scope_of(alloc, datasets)?;
     let fragment_entries = sections.fragments.items();
-    let fragments = read_fragments(alloc, &tables, fragment_entries)?;
+    let fragments = read_fragments(alloc, &scope, fragment_entries)?;
     let constraint_entries = sections.constraints.items();
-    let rules = read_constraints(alloc, sections.version, &tables, constraint_entries)?;
-    let catalogue = judged(alloc, tables, fragments, rules)?;
+    let given = read_constraints(alloc, sections.version, &scope, constraint_entries)?;
+    let catalogue = judged(alloc, sections.version, scope, fragments, given)?;
     Ok(catalogue)
 }
 
-/// The catalogue that the bytes say; or its first fault; or NotBuilt, which stands between the faults of the whole file
-/// and those of its entries; or, where there is no fault, the least cycle by which a relation leads back to itself.
+/// The catalogue that the bytes say; or its first fault; or, where there is none, the least cycle by which a relation
+/// leads back to itself.
 pub fn read_catalogue(alloc: Global, bytes: &[u8]) -> Result<Catalogue, CatalogueError>
     // The answer is the reading of the bytes.
     ensures reading { IfOk result (IsCatalogueOf bytes.now) }
@@ -99,14 +108,16 @@ pub fn catalogues_rank_their_rules()
         AreRanks (IsEdge (rules_of it.rules)) (length it.ranks) it.ranks }
 {}
 
-/// A law: bytes say at most one catalogue, up to what its views and rules mean, or have at most one first fault, and
-/// never both. Want of memory is excepted.
+/// A law: bytes say at most one catalogue, up to what its views, patterns and rules mean, or have at most one first fault,
+/// and never both. Want of memory is excepted.
 pub fn catalogues_are_determined()
     ensures catalogue { HaveOneCatalogue }
     ensures apart { HaveNoError }
     ensures error { HaveOneError }
 {
     readings_are_determined();
+    layout_readings_are_determined();
+    views_name_their_columns();
     constraint_readings_are_determined();
     judgements_are_exact();
 }

@@ -1,16 +1,13 @@
 //! The rows of the whole file, before its entries.
-ghost use Rattle.std.specs.Prelude.{◌≡◌, ◌≢◌, ◌||◌, ◌≤◌, Some, codes, pos, option_copied, length, IfOk, MatchOption};
-ghost use Rattle.std.specs.List.{list_any};
+ghost use Rattle.std.specs.Prelude.{◌≡◌, ◌≢◌, ◌≤◌, Some, codes, pos, option_copied, length, IfOk, MatchOption};
 ghost use Rattle.esto_catalog.specs.Rows.{Walks};
 ghost use Rattle.esto_catalog.specs.Settings.{setting_at};
 ghost use Rattle.esto_catalog.specs.declared.setting.Setting.TheVariants.{Integer};
-ghost use Rattle.esto_catalog.specs.Whole.{number_of, reads_version, reads_section, is_no_table, is_built, reads_whole};
+ghost use Rattle.esto_catalog.specs.Whole.{number_of, reads_version, reads_section, reads_whole};
 
 use crate::fault::{CatalogueError, CatalogueKind, TOP, fault};
 use crate::row::knows_keys;
-use crate::setting::{
-    Document, Field, KeyList, SectionTables, Setting, is_set_to, read_toml, setting_at,
-};
+use crate::setting::{Document, Field, SectionTables, Setting, read_toml, setting_at};
 use esto_text::Version;
 use std::alloc::Global;
 
@@ -85,39 +82,7 @@ fn read_section(
     Ok(entries)
 }
 
-// Whether the entry is set to documents or keys at this key.
-fn is_no_table(key: &str, entry: &KeyList) -> bool
-    ensures { result ≡ is_no_table key.now entry.now }
-{
-    is_set_to("documents", key, entry.items()) || is_set_to("keys", key, entry.items())
-}
-
-// Whether one of the entries is set to documents or keys at this key.
-fn has_no_table(key: &str, entries: &[KeyList]) -> bool
-    ensures { result ≡ list_any (is_no_table key.now) entries.now }
-{
-    entries.iter().any(|entry| is_no_table(key, entry))
-}
-
-// Whether a dataset is documents or keys, or a fragment is stored so.
-fn needs_more(datasets: &[KeyList], fragments: &[KeyList]) -> bool
-    ensures { result ≡ (list_any (is_no_table (codes "model")) datasets.now
-        || list_any (is_no_table (codes "store")) fragments.now) }
-{
-    has_no_table("model", datasets) || has_no_table("store", fragments)
-}
-
-// No dataset is documents or keys, and no fragment is stored so; else NotBuilt.
-fn is_built(datasets: &[KeyList], fragments: &[KeyList]) -> Result<(), CatalogueError>
-    ensures { Walks (is_built datasets.now fragments.now) result }
-{
-    if needs_more(datasets, fragments) {
-        return Err(CatalogueError::NotBuilt);
-    }
-    Ok(())
-}
-
-/// The rows of the whole file, in order: TOML, unknown keys, the version, each section, and what is not built yet.
+/// The rows of the whole file, in order: TOML, unknown keys, the version, each section.
 #[tactic(auto, using(crate::proofs::RowLemmas::rows))]
 pub fn read_whole(alloc: Global, bytes: &[u8]) -> Result<Sections, CatalogueError>
     ensures whole { Walks (reads_whole bytes.now) result }
@@ -136,9 +101,6 @@ pub fn read_whole(alloc: Global, bytes: &[u8]) -> Result<Sections, CatalogueErro
     let datasets = read_section(alloc, "dataset", datasets)?;
     let fragments = read_section(alloc, "fragment", fragments)?;
     let constraints = read_section(alloc, "constraint", constraints)?;
-    let dataset_entries = datasets.items();
-    let fragment_entries = fragments.items();
-    is_built(dataset_entries, fragment_entries)?;
     Ok(Sections {
         version,
         datasets,

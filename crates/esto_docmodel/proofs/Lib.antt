@@ -12,3 +12,7 @@ pub mod ShapeLemmas
 pub mod EncodeLemmas
 pub mod RisingLemmas
 pub mod FactLemmas
+pub mod LayoutLemmas
+pub mod MentionLemmas
+pub mod MatchLemmas
+pub mod VariableLemmas

@@ -8,3 +8,6 @@ pub mod DocumentFacts
 pub mod Encodings
 pub mod Meanings
 pub mod Putting
+pub mod Layouts
+pub mod Valuations
+pub mod Matching

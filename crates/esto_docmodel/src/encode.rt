@@ -33,7 +33,7 @@ pub struct EncodedAtoms {
 const LAST_BASE: usize = usize::MAX - 4;
 
 /// The number after that one. Want of memory is answered for the greatest, which no count of nodes comes to.
-fn after(number: u64) -> Result<u64, OutOfMemory>
+pub fn after(number: u64) -> Result<u64, OutOfMemory>
     ensures { IfOk result (λ it. it ≡ suc number) }
 {
     match number.checked_add(1) {
@@ -272,7 +272,12 @@ fn put_documents(
 }
 
 /// The facts of documents, numbered from `next` on.
-fn numbered(alloc: Global, base: usize, trees: &Trees, next: u64) -> Result<Encoded, OutOfMemory>
+pub fn numbered(
+    alloc: Global,
+    base: usize,
+    trees: &[Tree],
+    next: u64,
+) -> Result<Encoded, OutOfMemory>
     requires { base + 4 ≤ 18446744073709551615 }
     ensures facts { IfOk result (λ it. it.facts ≡ facts_of base next (documents trees.now)) }
     ensures next { IfOk result (λ it. it.next ≡ next + size (documents trees.now)) }
@@ -280,7 +285,7 @@ fn numbered(alloc: Global, base: usize, trees: &Trees, next: u64) -> Result<Enco
 {
     let mut facts = List::new(alloc);
     let above = Values::new(alloc);
-    let next = put_documents(alloc, &mut facts, base, trees.items(), &above, next)?;
+    let next = put_documents(alloc, &mut facts, base, trees, &above, next)?;
     Ok(Encoded { facts, next })
 }
 
@@ -304,7 +309,7 @@ pub fn encode_documents(
     if base > LAST_BASE {
         return Err(OutOfMemory);
     }
-    let encoded = numbered(alloc, base, trees, next)?;
+    let encoded = numbered(alloc, base, trees.items(), next)?;
     Ok(encoded)
 }
 

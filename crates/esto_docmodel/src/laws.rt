@@ -1,9 +1,13 @@
 //! Laws of documents and patterns.
 ghost use Rattle.std.specs.Prelude.{ℕ, List};
+ghost use Rattle.esto_term.specs.declared.term.Term.{Term};
 ghost use Rattle.esto_constraint.specs.EncodingRules.{document_rules_2};
 ghost use Rattle.esto_constraint.specs.Matches.{AreMet};
+ghost use Rattle.esto_semantics.specs.Maps.{IsConstant};
 ghost use Rattle.esto_docmodel.specs.Encodings.{facts_of};
-ghost use Rattle.esto_docmodel.specs.Meanings.{AreFresh, MeansTheSame, HaveRootsOnTop};
+ghost use Rattle.esto_docmodel.specs.Forests.{Node};
+ghost use Rattle.esto_docmodel.specs.Meanings.{AgreeAfter, AreFresh, MeansTheSame, HaveRootsOnTop};
+ghost use Rattle.esto_docmodel.specs.Patterns.{Entries, Matches, Mentions};
 ghost use Rattle.esto_docmodel.specs.Rising.{AreRising};
 ghost use Rattle.esto_docmodel.specs.Shapes.{documents, entries_of};
 ghost use Rattle.esto_docmodel.specs.declared.pattern.Entry.{Entry};
@@ -26,4 +30,13 @@ pub fn documents_meet_the_rules()
         → AreMet (facts_of base first (documents trees)) (document_rules_2 base) }
     ensures roots { (base first : ℕ) (trees : List Tree)
         → HaveRootsOnTop base (facts_of base first (documents trees)) }
+{}
+
+/// A law: under a map that matches a pattern in a node, each term after `:` goes to a text; and each map that agrees with
+/// it on these terms matches the pattern there too.
+pub fn matches_rest_on_their_terms()
+    ensures texts { (m : Term → Term) (entries : Entries) (start : Node) (term : Term)
+        → Matches m entries start → Mentions entries term → IsConstant (m term) }
+    ensures agree { (m other : Term → Term) (entries : Entries) (start : Node)
+        → AgreeAfter entries m other → Matches m entries start → Matches other entries start }
 {}

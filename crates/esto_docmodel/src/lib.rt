@@ -6,11 +6,15 @@ mod encode;
 mod field;
 mod fields;
 mod laws;
+mod layout;
+mod matches;
 mod pattern;
 mod tree;
 
 pub use encode::{Encoded, EncodedAtoms, encode_documents, encode_pattern};
 pub use field::FieldOf;
-pub use laws::{documents_meet_the_rules, encodings_mean_the_same};
+pub use laws::{documents_meet_the_rules, encodings_mean_the_same, matches_rest_on_their_terms};
+pub use layout::{MAX_LAYOUT_DEPTH, is_layout};
+pub use matches::{Valuations, match_pattern};
 pub use pattern::{Entries, Entry, Path, Pattern, Step};
 pub use tree::{Field, Fields, Tree, Trees};

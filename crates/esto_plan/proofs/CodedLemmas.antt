@@ -200,30 +200,39 @@ text_of-Text text = refl
 are_texts : (row : List (List ℕ)) (value : Value) → Contains (map Text row) value → IsText value
 are_texts row value inside = let found = Contains-map_from Text row value inside in subst IsText found.2 (text_is_text found.0)
 
+-- over any relation that tells which rows a fragment holds
+module _ (views : List ConjunctiveQuery) (database : Database) (query : ConjunctiveQuery) (Held : ℕ → List (List ℕ) → Type 0) (safe : IsSafeQuery query)
+    (are : (fact : Fact Value) (atom : Fact Term) → Contains query.body atom → atom.relation ≡ fact.relation
+    → IsViewRow views database fact ↔ ((row : List (List ℕ)) × Held fact.relation row × (fact.terms ≡ map Text row))) (values : List Value) where
+  all : (answer : IsFragmentAnswer views query database values) (value : Value) → (term : Term) × Contains query.head term × (answer.0 term ≡ value)
+      → IsText value
+  all answer value (term, inside, is) = elim (safe term inside) [
+    | inl constant ↦ subst IsText (sym (answer.1 constant.0) ∙ sym (ap answer.0 constant.1) ∙ is) (text_is_text constant.0)
+    | inr (atom, in_body, in_atom) ↦
+        let found = (are (image answer.0 atom) atom in_body refl).0 (answer.2 atom in_body) in
+        are_texts found.0 value (subst (λ them. Contains them value) found.2
+        (subst (Contains (map answer.0 atom.terms)) is (Contains-map answer.0 atom.terms term in_atom)))
+  ]
+
+  pub answers_over_held : IsFragmentAnswer views query database values
+      ↔ ((row : List (List ℕ)) × (values ≡ map Text row) × IsAnswerInto (λ text. text) query (λ fact. Held fact.relation fact.terms) row)
+  answers_over_held = (
+    λ answer. (
+      map text_of values,
+      texts_back values (λ value inside. all answer value (Contains-map_from answer.0 query.head value (subst (λ them. Contains them value) answer.3 inside))),
+      answers_pushed text_of Text (λ text. text) query (IsViewRow views database) (λ fact. Held fact.relation fact.terms) (λ text stands. text_of-Text text)
+          (λ fact atom inside same holds. let found = (are fact atom inside (sym same)).0 holds in
+          subst (Held fact.relation) (sym (ap (map text_of) found.2 ∙ texts_same found.0)) found.1)
+          values answer,
+    ),
+    λ (row, is, answer). subst (IsFragmentAnswer views query database) (sym is)
+        (answers_pushed Text (λ text. text) Text query (λ fact. Held fact.relation fact.terms) (IsViewRow views database) (λ text stands. refl)
+        (λ fact atom inside same holds. (are (image Text fact) atom inside (sym same)).1 (fact.terms, holds, refl)) row answer),
+  )
+
 pub answers_over_a_database : (views : List ConjunctiveQuery) (database : Database) (query : ConjunctiveQuery) (rows : ℕ → List (List (List ℕ)))
     → IsSafeQuery query → AreViewRows views database query rows
     → (values : List Value) → IsFragmentAnswer views query database values
     ↔ ((row : List (List ℕ)) × (values ≡ map Text row) × IsAnswerInto (λ text. text) query (IsRowOf rows) row)
-answers_over_a_database views database query rows safe are values = (
-  λ answer. (
-    map text_of values,
-    texts_back values (λ value inside. all answer value (Contains-map_from answer.0 query.head value (subst (λ them. Contains them value) answer.3 inside))),
-    answers_pushed text_of Text (λ text. text) query (IsViewRow views database) (IsRowOf rows) (λ text stands. text_of-Text text)
-        (λ fact atom inside same holds. let found = (are fact atom inside (sym same)).0 holds in
-        subst (Contains (rows fact.relation)) (sym (ap (map text_of) found.2 ∙ texts_same found.0)) found.1)
-        values answer,
-  ),
-  λ (row, is, answer). subst (IsFragmentAnswer views query database) (sym is)
-      (answers_pushed Text (λ text. text) Text query (IsRowOf rows) (IsViewRow views database) (λ text stands. refl)
-      (λ fact atom inside same holds. (are (image Text fact) atom inside (sym same)).1 (fact.terms, holds, refl)) row answer),
-)
-  where
-    all : (answer : IsFragmentAnswer views query database values) (value : Value) → (term : Term) × Contains query.head term × (answer.0 term ≡ value)
-        → IsText value
-    all answer value (term, inside, is) = elim (safe term inside) [
-      | inl constant ↦ subst IsText (sym (answer.1 constant.0) ∙ sym (ap answer.0 constant.1) ∙ is) (text_is_text constant.0)
-      | inr (atom, in_body, in_atom) ↦
-          let found = (are (image answer.0 atom) atom in_body refl).0 (answer.2 atom in_body) in
-          are_texts found.0 value (subst (λ them. Contains them value) found.2
-          (subst (Contains (map answer.0 atom.terms)) is (Contains-map answer.0 atom.terms term in_atom)))
-    ]
+answers_over_a_database views database query rows safe are values =
+    answers_over_held views database query (λ fragment row. Contains (rows fragment) row) safe are values

@@ -94,7 +94,7 @@ inputs-append from (x ∷ xs) ys =
     by true rest = ap (λ them. from ∷ them) rest
     by false rest = rest
 
-inputs_more : (pattern : List Bool) (count : ℕ) (input : Bool) → slice_get pattern count ≡ Some input
+pub inputs_more : (pattern : List Bool) (count : ℕ) (input : Bool) → slice_get pattern count ≡ Some input
     → inputs_of (take (count + 1) pattern) ≡ inputs_of (take count pattern) ++ cond input (count ∷ []) []
 inputs_more pattern count input at =
     let below = slice_get_within pattern count input at in let short = length-take count pattern in

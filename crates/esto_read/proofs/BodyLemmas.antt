@@ -15,8 +15,9 @@ use Rattle.esto_text.specs.declared.fault.ReadError.{ReadError}
 use Rattle.esto_text.specs.declared.fault.ReadError.TheVariants.{Fault, OutOfMemory}
 use Rattle.esto_text.specs.declared.fault.TextFault.{TextFault}
 use Rattle.esto_text.specs.declared.tree.ItemSyntax.{ItemSyntax}
-use Rattle.esto_read.specs.Items.{IsFitting, AreFitting, IsFirstItemFault, IsItemOf, AreItems, IsItemError, IsBodyError}
+use Rattle.esto_read.specs.Items.{item_size, IsFitting, AreFitting, IsFirstItemFault, IsItemOf, AreItems, IsItemError, IsBodyError}
 use Rattle.esto_read.specs.declared.words.Word.{Word}
+use Rattle.esto_read.proofs.ItemLemmas.{item_count}
 
 -- an item of a list that is mapped
 pub item_at : (items : List ItemSyntax) (n : ℕ) (x : ItemSyntax) → x ≡ get_or items n x → get_or (map item_of items) n (item_of x) ≡ item_of x
@@ -55,12 +56,11 @@ module _ (words : List Word) (schema bytes : List ℕ) where
 
   pub record BodySoFar (before : List Name) (items : List ItemTree) (n : ℕ) (body : List (Fact Term)) (names : List Name) : Type 0 where
     pub read : AreItems words schema bytes before (take n items) body names
-    pub count : length body ≡ n
-    pub fits : AreFitting words schema bytes n (drop n items) → AreFitting words schema bytes 0 items
-    pub fault : (f : TextFault) → IsFirstItemFault words schema bytes n (drop n items) f → IsFirstItemFault words schema bytes 0 items f
+    pub fits : AreFitting words schema bytes (length body) (drop n items) → AreFitting words schema bytes 0 items
+    pub fault : (f : TextFault) → IsFirstItemFault words schema bytes (length body) (drop n items) f → IsFirstItemFault words schema bytes 0 items f
 
   pub body_begins : (before : List Name) (items : List ItemTree) → BodySoFar before items 0 [] before
-  body_begins before items = record { read = (refl, refl); count = refl; fits = λ h. h; fault = λ f h. h }
+  body_begins before items = record { read = (refl, refl); fits = λ h. h; fault = λ f h. h }
 
   module _ (before : List Name) (items : List ItemTree) (n : ℕ) (body : List (Fact Term)) (names : List Name) (h : BodySoFar before items n body names)
       (lt : n < length items) (item : ItemTree)
@@ -68,26 +68,24 @@ module _ (words : List Word) (schema bytes : List ℕ) where
     here : drop n items ≡ item ∷ drop (n + 1) items
     here = rw (add-one n) (drop-cons items n item lt ∙ ap (λ (i : ItemTree). i ∷ drop (suc n) items) e)
 
-    pub body_more : (atom : Fact Term) (after : List Name) → IsItemOf words schema bytes names item (atom ∷ []) after
-        → IsFitting words schema bytes (length body) item → BodySoFar before items (n + 1) (body ++ atom ∷ []) after
-    body_more atom after own fit =
-        let fit' : IsFitting words schema bytes n item = subst (λ (k : ℕ). IsFitting words schema bytes k item) h.count fit in
+    pub body_more : (own : List (Fact Term)) (after : List Name) → IsItemOf words schema bytes names item own after
+        → IsFitting words schema bytes (length body) item → BodySoFar before items (n + 1) (body ++ own) after
+    body_more own after is fit =
+        let count : length (body ++ own) ≡ length body + item_size item =
+        length-append body own ∙ ap (λ (k : ℕ). length body + k) (item_count words schema bytes names item own after is) in
         record {
-          read = subst (λ (l : List ItemTree). AreItems words schema bytes before l (body ++ atom ∷ []) after)
+          read = subst (λ (l : List ItemTree). AreItems words schema bytes before l (body ++ own) after)
               (sym (take_more items n item lt ∙ ap (λ (i : ItemTree). take n items ++ i ∷ []) e))
-              (items_then before names after (take n items) body item (atom ∷ []) h.read own);
-          count = omega (arith, length-append body (atom ∷ []), h.count);
-          fits = λ g. h.fits (subst (AreFitting words schema bytes n) (sym here)
-              (fit', subst (λ (k : ℕ). AreFitting words schema bytes k (drop (n + 1) items)) (add-one n) g));
-          fault = λ f g. h.fault f (subst (λ (l : List ItemTree). IsFirstItemFault words schema bytes n l f) (sym here)
-              (inr (fit', subst (λ (k : ℕ). IsFirstItemFault words schema bytes k (drop (n + 1) items) f) (add-one n) g)));
+              (items_then before names after (take n items) body item own h.read is);
+          fits = λ g. h.fits (subst (AreFitting words schema bytes (length body)) (sym here)
+              (fit, subst (λ (k : ℕ). AreFitting words schema bytes k (drop (n + 1) items)) count g));
+          fault = λ f g. h.fault f (subst (λ (l : List ItemTree). IsFirstItemFault words schema bytes (length body) l f) (sym here)
+              (inr (fit, subst (λ (k : ℕ). IsFirstItemFault words schema bytes k (drop (n + 1) items) f) count g)));
         }
 
     pub body_fails : (x : ReadError) → IsItemError words schema bytes (length body) item x → IsBodyError words schema bytes items x
     body_fails OutOfMemory g = tt
-    body_fails (Fault f) g =
-        h.fault f (subst (λ (l : List ItemTree). IsFirstItemFault words schema bytes n l f) (sym here)
-        (inl (subst (λ (k : ℕ). IsItemError words schema bytes k item (Fault f)) h.count g)))
+    body_fails (Fault f) g = h.fault f (subst (λ (l : List ItemTree). IsFirstItemFault words schema bytes (length body) l f) (sym here) (inl g))
 
   pub body_done : (before : List Name) (items : List ItemTree) (n : ℕ) (body : List (Fact Term)) (names : List Name) → BodySoFar before items n body names
       → length items ≤ n
@@ -95,5 +93,5 @@ module _ (words : List Word) (schema bytes : List ℕ) where
   body_done before items n body names h le = (
     subst (λ (l : List ItemTree). AreItems words schema bytes before l body names) (take_all n items le) h.read,
     h.fits
-        (subst (AreFitting words schema bytes n) (sym (drop_all n items le)) tt),
+        (subst (AreFitting words schema bytes (length body)) (sym (drop_all n items le)) tt),
   )

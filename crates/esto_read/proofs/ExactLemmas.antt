@@ -1,5 +1,5 @@
 -- A text has one reading and no fault, or one first fault and no reading.
-use Rattle.std.proofs.Common.{◌≡◌, ◌≢◌, ℕ, suc, ◌<◌, ◌≤◌, inl, inr, List, [], ◌∷◌, length, take, Some, refl, sym, ap, subst, ◌∙◌, arith}
+use Rattle.std.proofs.Common.{◌≡◌, ◌≢◌, ℕ, ◌+◌, ◌<◌, ◌≤◌, inl, inr, List, [], ◌∷◌, length, take, Some, refl, sym, ap, subst, ◌∙◌, arith}
 use Rattle.std.specs.Prelude.{Contains, AllPairs, map, slice_get}
 use Rattle.std.proofs.lemmas.Bool.{cases_lt}
 use Rattle.std.proofs.lemmas.List.{get_or-take, length-take-le}
@@ -9,19 +9,20 @@ use Rattle.esto_semantics.specs.declared.fact.Fact.{Fact}
 use Rattle.esto_term.specs.declared.term.Term.{Term}
 use Rattle.esto_text.specs.Faults as text
 use Rattle.esto_text.specs.Tokens.{text_of}
-use Rattle.esto_text.specs.Trees.{ItemTree, Atom, Part, Pattern, QueryTree}
+use Rattle.esto_text.specs.Trees.{ItemTree, QueryTree}
 use Rattle.esto_text.specs.declared.fault.TextFault.{TextFault}
 use Rattle.esto_text.specs.declared.fault.TextKind.{TextKind}
 use Rattle.esto_text.specs.declared.fault.TextKind.TheVariants.{Unknown, Arity, TooLarge}
 use Rattle.esto_text.specs.declared.token.Token.{Token}
 use Rattle.esto_read.specs.Heads.{IsFirstRepeat, IsFirstMissing}
-use Rattle.esto_read.specs.Items.{IsFit, IsMisfit, IsFitting, AreFitting, IsItemFault, IsFirstItemFault, AreItems}
+use Rattle.esto_read.specs.Items.{item_size, IsRelationOf, HasArity, IsMisfit, IsFitting, AreFitting, IsItemFault, IsFirstItemFault, AreItems}
 use Rattle.esto_read.specs.Readings.{IsRead, IsAllowed, IsRefused, IsHeadFit, IsHeadFault, IsReading, IsTreeFault, IsFirstFault, AreSame}
 use Rattle.esto_read.specs.declared.read.Form.{Form}
 use Rattle.esto_read.specs.declared.read.Form.TheVariants.{Query, View}
 use Rattle.esto_read.specs.declared.read.NamedQuery.{NamedQuery}
 use Rattle.esto_read.specs.declared.words.Word.{Word}
-use Rattle.esto_read.proofs.OneLemmas.{terms_one, items_one, table_one, apart_none}
+use Rattle.esto_read.proofs.OneLemmas.{terms_one, items_one, apart_none}
+use Rattle.esto_read.proofs.WordLemmas.{relation_one}
 
 pub fault_same : (f g : TextFault) → f.offset ≡ g.offset → f.kind ≡ g.kind → f ≡ g
 fault_same f g o k = λ i. record { offset = o i; kind = k i }
@@ -81,47 +82,45 @@ module _ (form : Form) (bytes : List ℕ) (variables : List Token) (head : List 
 module _ (words : List Word) (apart : AllPairs ◌≢◌ (map (λ word. word.name) words)) (schema bytes : List ℕ) where
   -- ---- items
 
-  fit_no_misfit : (name : List ℕ) (columns atoms : ℕ) (k : TextKind) → IsFit words schema name columns atoms → ¬ IsMisfit words schema name columns atoms k
-  fit_no_misfit name columns atoms Unknown (r, table, n, lt) h = h r table
-  fit_no_misfit name columns atoms Arity (r, table, n, lt) (s, table', no_fit) =
-      no_fit (ap (slice_get schema) (table_one words apart name s r table' table) ∙ n)
-  fit_no_misfit name columns atoms TooLarge (r, table, n, lt) (s, table', m, le) = omega arith
-  fit_no_misfit name columns atoms _ h g = absurd g
+  module _ (atoms : ℕ) (item : ItemTree) where
+    one : (relation other : ℕ) → IsRelationOf words bytes item relation → IsRelationOf words bytes item other → HasArity schema item other
+        → HasArity schema item relation
+    one relation other named named' columns =
+        subst (HasArity schema item) (relation_one words apart bytes item other relation named' named) columns
 
-  misfit_one : (name : List ℕ) (columns atoms : ℕ) (k l : TextKind) → IsMisfit words schema name columns atoms k → IsMisfit words schema name columns atoms l
-      → k ≡ l
-  misfit_one name columns atoms Unknown Unknown h g = refl
-  misfit_one name columns atoms Unknown Arity h (s, table, n) = absurd (h s table)
-  misfit_one name columns atoms Unknown TooLarge h (s, table, n, le) = absurd (h s table)
-  misfit_one name columns atoms Unknown _ h g = absurd g
-  misfit_one name columns atoms Arity Unknown (r, table, n) g = absurd (g r table)
-  misfit_one name columns atoms Arity Arity h g = refl
-  misfit_one name columns atoms Arity TooLarge (r, table, n) (s, table', m, le) =
-      absurd (n (ap (slice_get schema) (table_one words apart name r s table table') ∙ m))
-  misfit_one name columns atoms Arity _ h g = absurd g
-  misfit_one name columns atoms TooLarge Unknown (r, table, n, le) g = absurd (g r table)
-  misfit_one name columns atoms TooLarge Arity (r, table, n, le) (s, table', m) =
-      absurd (m (ap (slice_get schema) (table_one words apart name s r table' table) ∙ n))
-  misfit_one name columns atoms TooLarge TooLarge h g = refl
-  misfit_one name columns atoms TooLarge _ h g = absurd g
-  misfit_one name columns atoms _ l h g = absurd h
+    fit_no_misfit : (k : TextKind) → IsFitting words schema bytes atoms item → ¬ IsMisfit words schema bytes atoms item k
+    fit_no_misfit Unknown (r, named, n, le) h = h r named
+    fit_no_misfit Arity (r, named, n, le) (s, named', no_fit) = no_fit (one s r named' named n)
+    fit_no_misfit TooLarge (r, named, n, le) (s, named', m, lt) = omega arith
+    fit_no_misfit _ h g = absurd g
+
+    misfit_one : (k l : TextKind) → IsMisfit words schema bytes atoms item k → IsMisfit words schema bytes atoms item l → k ≡ l
+    misfit_one Unknown Unknown h g = refl
+    misfit_one Unknown Arity h (s, named, n) = absurd (h s named)
+    misfit_one Unknown TooLarge h (s, named, n, lt) = absurd (h s named)
+    misfit_one Unknown _ h g = absurd g
+    misfit_one Arity Unknown (r, named, n) g = absurd (g r named)
+    misfit_one Arity Arity h g = refl
+    misfit_one Arity TooLarge (r, named, n) (s, named', m, lt) = absurd (n (one r s named named' m))
+    misfit_one Arity _ h g = absurd g
+    misfit_one TooLarge Unknown (r, named, n, lt) g = absurd (g r named)
+    misfit_one TooLarge Arity (r, named, n, lt) (s, named', m) = absurd (m (one s r named' named n))
+    misfit_one TooLarge TooLarge h g = refl
+    misfit_one TooLarge _ h g = absurd g
+    misfit_one _ l h g = absurd h
 
   fitting_no_fault : (atoms : ℕ) (item : ItemTree) (f : TextFault) → IsFitting words schema bytes atoms item → ¬ IsItemFault words schema bytes atoms item f
-  fitting_no_fault atoms (Atom name ts) f h (o, m) = fit_no_misfit (text_of bytes name) (length ts) atoms f.kind h m
-  fitting_no_fault atoms (Part name part ts) f h g = h
-  fitting_no_fault atoms (Pattern name es) f h g = h
+  fitting_no_fault atoms item f h (o, m) = fit_no_misfit atoms item f.kind h m
 
   item_fault_one : (atoms : ℕ) (item : ItemTree) (f g : TextFault) → IsItemFault words schema bytes atoms item f → IsItemFault words schema bytes atoms item g
       → f ≡ g
-  item_fault_one atoms (Atom name ts) f g (o, m) (o', m') = fault_same f g (o ∙ sym o') (misfit_one (text_of bytes name) (length ts) atoms f.kind g.kind m m')
-  item_fault_one atoms (Part name part ts) f g (o, k) (o', k') = fault_same f g (o ∙ sym o') (k ∙ sym k')
-  item_fault_one atoms (Pattern name es) f g (o, k) (o', k') = fault_same f g (o ∙ sym o') (k ∙ sym k')
+  item_fault_one atoms item f g (o, m) (o', m') = fault_same f g (o ∙ sym o') (misfit_one atoms item f.kind g.kind m m')
 
   pub fitting_or_fault : (atoms : ℕ) (items : List ItemTree) (f : TextFault) → AreFitting words schema bytes atoms items
       → ¬ IsFirstItemFault words schema bytes atoms items f
   fitting_or_fault atoms [] f h g = g
   fitting_or_fault atoms (item ∷ items) f h (inl g) = fitting_no_fault atoms item f h.0 g
-  fitting_or_fault atoms (item ∷ items) f h (inr g) = fitting_or_fault (suc atoms) items f h.1 g.1
+  fitting_or_fault atoms (item ∷ items) f h (inr g) = fitting_or_fault (atoms + item_size item) items f h.1 g.1
 
   pub items_fault_one : (atoms : ℕ) (items : List ItemTree) (f g : TextFault) → IsFirstItemFault words schema bytes atoms items f
       → IsFirstItemFault words schema bytes atoms items g → f ≡ g
@@ -129,7 +128,7 @@ module _ (words : List Word) (apart : AllPairs ◌≢◌ (map (λ word. word.nam
   items_fault_one atoms (item ∷ items) f g (inl h) (inl k) = item_fault_one atoms item f g h k
   items_fault_one atoms (item ∷ items) f g (inl h) (inr k) = absurd (fitting_no_fault atoms item f k.0 h)
   items_fault_one atoms (item ∷ items) f g (inr h) (inl k) = absurd (fitting_no_fault atoms item g h.0 k)
-  items_fault_one atoms (item ∷ items) f g (inr h) (inr k) = items_fault_one (suc atoms) items f g h.1 k.1
+  items_fault_one atoms (item ∷ items) f g (inr h) (inr k) = items_fault_one (atoms + item_size item) items f g h.1 k.1
 
   -- ---- trees
 

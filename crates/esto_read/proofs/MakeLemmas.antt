@@ -1,5 +1,5 @@
 -- Queries and rules of parts in which nothing is wrong are made.
-use Rattle.std.proofs.Common.{◌≡◌, ℕ, suc, ◌+◌, ◌<◌, ◌≤◌, ◌++◌, inl, inr, get_or, List, [], ◌∷◌, length, Ok, Err, sym, ap, subst, ◌∙◌, arith, length-append}
+use Rattle.std.proofs.Common.{◌≡◌, ℕ, ◌<◌, ◌≤◌, ◌++◌, inl, inr, get_or, List, length, Ok, Err, sym, subst, ◌∙◌, arith}
 use Rattle.std.specs.Prelude.{All, Contains}
 use Rattle.std.proofs.lemmas.List.{length-map, get_or_default}
 use Rattle.std.proofs.lemmas.List.Elements.{Contains-append_cases}
@@ -21,10 +21,7 @@ use Rattle.esto_query.specs.declared.query.Name.{Name}
 use Rattle.esto_query.specs.declared.query.Query.{Query}
 use Rattle.esto_query.specs.declared.schema.Relation.{Relation}
 use Rattle.esto_constraint.specs.Making.{MakesTuple, MakesEquality, MakesDenial}
-use Rattle.esto_text.specs.Trees.{ItemTree, Atom, Part, Pattern}
-use Rattle.esto_read.specs.Items.{AreFitting, AreItems}
-use Rattle.esto_read.specs.declared.words.Word.{Word}
-use Rattle.esto_read.proofs.ReadLemmas.{const_no_plain}
+use Rattle.esto_read.proofs.BelowLemmas.{const_no_plain}
 
 -- ---- what the makers ask for
 
@@ -101,15 +98,3 @@ pub query_along : (schema : List ℕ) (head : List Term) (body : List (Fact Term
 query_along schema head body names query P made p =
     subst (λ (l : List Name). P query.head query.body l) (sym made.5)
     (subst (λ (l : List (Fact Term)). P query.head l names) (sym made.4) (subst (λ (l : List Term). P l body names) (sym made.3) p))
-
--- ---- so many atoms
-
-module _ (words : List Word) (schema bytes : List ℕ) where
-  pub items_size : (count : ℕ) (before : List Name) (items : List ItemTree) (atoms : List (Fact Term)) (after : List Name) → count ≤ MAX_ATOMS
-      → AreItems words schema bytes before items atoms after → AreFitting words schema bytes count items → count + length atoms ≤ MAX_ATOMS
-  items_size count before [] atoms after room (none, same) fits = omega (arith, ap length none)
-  items_size count before (Atom name tokens ∷ items) atoms after room (own, rest, between, joined, item, more) fits =
-      let later = items_size (suc count) between items rest after (omega (arith, fits.0.3)) more fits.1 in
-      omega (arith, later, ap length joined, length-append own rest, ap length item.5)
-  items_size count before (Part name part tokens ∷ items) atoms after room h fits = absurd fits.0
-  items_size count before (Pattern name entries ∷ items) atoms after room h fits = absurd fits.0

@@ -1,10 +1,12 @@
 -- The names of a view's columns.
-use Rattle.std.proofs.Common.{◌≡◌, ◌≢◌, ℕ, zero, suc, ◌<◌, List, [], ◌∷◌, map, length, take, get_or, Some, refl, sym, subst, ◌∙◌, arith, inl, inr}
-use Rattle.std.specs.Prelude.{Contains, AllPairs, slice_get}
+use Rattle.std.proofs.Common.{◌≡◌, ◌≢◌, ℕ, zero, suc, ◌<◌, List, [], ◌∷◌, ◌++◌, map, length, take, get_or, Some, refl, sym, subst, ◌∙◌, arith, inl, inr}
+use Rattle.std.specs.Prelude.{Contains, AllPairs, slice_get, replicate}
 use Rattle.std.specs.List.{AllByRecursion, AllZip}
 use Rattle.std.proofs.lemmas.List.{length-map, get_or-map, length-take-le}
 use Rattle.std.proofs.lemmas.Option.{slice_get-get_or}
-use Rattle.esto_term.proofs.ListLemmas.{Contains-cases, Contains-map_from, Contains-nil}
+use Rattle.esto_term.proofs.ListLemmas.{at_left, Contains-cases, Contains-map_from, Contains-nil}
+use Rattle.esto_docmodel.specs.Encodings.{used}
+use Rattle.esto_docmodel.specs.Patterns.{Entries, done, holds, group}
 use Rattle.esto_query.specs.declared.query.Name.{Name}
 use Rattle.esto_query.specs.declared.query.Name.TheVariants.{Given, Hidden}
 use Rattle.esto_semantics.specs.declared.fact.Fact.{Fact}
@@ -12,7 +14,7 @@ use Rattle.esto_term.specs.declared.term.Term.{Term}
 use Rattle.esto_text.specs.Faults.{IsNameIn}
 use Rattle.esto_text.specs.Lexemes.{IsNameText}
 use Rattle.esto_text.specs.Tokens.{text_of, IsToken}
-use Rattle.esto_text.specs.Trees.{ItemTree, Atom, Part, Pattern}
+use Rattle.esto_text.specs.Trees.{EntryTrees, Value, Nested, NoEntry, AndEntry, ItemTree, Atom, Part, Pattern}
 use Rattle.esto_text.specs.declared.token.Token.{Token}
 use Rattle.esto_text.specs.declared.token.TokenKind.{TokenKind}
 use Rattle.esto_text.specs.declared.token.TokenKind.TheVariants as kind
@@ -20,9 +22,11 @@ use Rattle.esto_text.proofs.LeafLemmas.{tree_stands}
 use Rattle.esto_read.specs.Heads.{AreDifferent}
 use Rattle.esto_read.specs.Items.{IsItemOf, AreItems}
 use Rattle.esto_read.specs.Naming.{IsCalled, ViewsNameTheirColumns}
+use Rattle.esto_read.specs.Patterns.{AreEntries, IsPatternOf}
 use Rattle.esto_read.specs.Terms.{IsTermOf, AreTerms}
 use Rattle.esto_read.specs.declared.words.Word.{Word}
-use Rattle.esto_read.proofs.ReadLemmas.{Keeps, IsNumbered, keeps_more, variable_numbered, head_numbered}
+use Rattle.esto_read.proofs.BelowLemmas.{Keeps, keeps_more}
+use Rattle.esto_read.proofs.ReadLemmas.{IsNumbered, variable_numbered, head_numbered}
 
 -- ---- a name that was given stays
 
@@ -44,12 +48,32 @@ terms_kept bytes before (token ∷ tokens) [] after are = absurd are
 terms_kept bytes before (token ∷ tokens) (term ∷ terms) after (between, is, are) = λ n name at.
     terms_kept bytes between tokens terms after are n name (term_kept token.kind (text_of bytes token) before between term is n name at)
 
+-- what stands behind names changes none of them
+append_kept : (before more : List Name) → Keeps before (before ++ more)
+append_kept before more n name at = at_left before more n name at
+
+module _ (bytes : List ℕ) where
+  entries_kept : (before : List Name) (es : EntryTrees) (pattern : Entries) (after : List Name) → AreEntries bytes before es pattern after → Keeps before after
+  entries_kept before NoEntry done after are = same_kept before after are
+  entries_kept before (AndEntry (Value path token) others) (holds steps term rest) after (between, along, is, are) = λ n name at.
+      entries_kept between others rest after are n name (term_kept token.kind (text_of bytes token) before between term is n name at)
+  entries_kept before (AndEntry (Nested path entries) others) (group steps inner rest) after (between, along, is, are) = λ n name at.
+      entries_kept between others rest after are n name (entries_kept before entries inner between is n name at)
+  entries_kept before _ _ after are = absurd are
+
+  pattern_kept : (before : List Name) (base : ℕ) (es : EntryTrees) (own : List (Fact Term)) (after : List Name) → IsPatternOf bytes before base es own after
+      → Keeps before after
+  pattern_kept before base es own after (pattern, between, are, atoms, names) = λ n name at.
+      subst (λ names. slice_get names n ≡ Some name) (sym names)
+      (append_kept between (replicate (used pattern) Hidden) n name
+      (entries_kept (before ++ Hidden ∷ []) es pattern between are n name (append_kept before (Hidden ∷ []) n name at)))
+
 module _ (words : List Word) (schema bytes : List ℕ) where
   item_kept : (item : ItemTree) (before : List Name) (atoms : List (Fact Term)) (after : List Name) → IsItemOf words schema bytes before item atoms after
       → Keeps before after
-  item_kept (Atom name tokens) before atoms after (relation, row, table, columns, are, is) = terms_kept bytes before tokens row after are
-  item_kept (Part name part tokens) before atoms after is = absurd is
-  item_kept (Pattern name entries) before atoms after is = absurd is
+  item_kept (Atom name tokens) before atoms after (relation, named, columns, (row, are, is)) = terms_kept bytes before tokens row after are
+  item_kept (Part name part tokens) before atoms after (relation, named, columns, (row, are, is)) = terms_kept bytes before tokens row after are
+  item_kept (Pattern name entries) before atoms after (base, named, columns, is) = pattern_kept bytes before base entries atoms after is
 
   items_kept : (before : List Name) (items : List ItemTree) (atoms : List (Fact Term)) (after : List Name)
       → AreItems words schema bytes before items atoms after → Keeps before after

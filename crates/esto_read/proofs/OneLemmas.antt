@@ -1,11 +1,14 @@
 -- A text has one reading, or one first fault.
-use Rattle.std.proofs.Common.{◌≡◌, ◌≢◌, ℕ, suc, ◌<◌, ◌⊎◌, inl, inr, true, false, eqb, List, [], ◌∷◌, ◌++◌, length, get_or, Some, refl, sym, ap, subst, ◌∙◌, arith}
-use Rattle.std.specs.Prelude.{Contains, AllPairs, map, slice_get}
-use Rattle.std.specs.List.{flat_map}
-use Rattle.std.proofs.Math.ListN.{get_or-map}
+use Rattle.std.proofs.Common.{◌≡◌, ◌≢◌, ℕ, zero, suc, append_assoc, ◌⊎◌, inl, inr, true, false, eqb, List, [], ◌∷◌, ◌++◌, length, Some, refl, sym, ap, subst, ◌∙◌, arith}
+use Rattle.std.specs.Prelude.{Contains, AllPairs, map, slice_get, replicate}
+use Rattle.std.specs.List.{flat_map, AllZip}
 use Rattle.std.proofs.lemmas.Bool.{cases_lt}
-use Rattle.std.proofs.lemmas.List.{length-append, append_cancel_right, get_or_append_left, get_or_at}
+use Rattle.std.proofs.lemmas.List.{length-append, append-nil, append_cancel_right, get_or_append_left, get_or_at}
 use Rattle.std.proofs.lemmas.Option.{slice_get_within, slice_get-get_or, get_or_from_slice_get}
+use Rattle.esto_docmodel.specs.Encodings.{atoms_of, used}
+use Rattle.esto_docmodel.specs.Patterns.{Entries, done, holds, group}
+use Rattle.esto_docmodel.specs.declared.pattern.Step.{Step}
+use Rattle.esto_docmodel.specs.declared.pattern.Step.TheVariants as step
 use Rattle.esto_query.specs.declared.query.Name.{Name}
 use Rattle.esto_query.specs.declared.query.Name.TheVariants.{Given, Hidden}
 use Rattle.esto_semantics.specs.declared.fact.Fact.{Fact}
@@ -13,14 +16,17 @@ use Rattle.esto_term.specs.declared.term.Term.{Term}
 use Rattle.esto_term.specs.declared.term.Term.TheVariants.{Const, Plain}
 use Rattle.esto_text.specs.Quotes.{written, closed}
 use Rattle.esto_text.specs.Tokens.{text_of}
-use Rattle.esto_text.specs.Trees.{ItemTree, Atom, Part, Pattern}
+use Rattle.esto_text.specs.Trees.{EntryTrees, Value, Nested, NoEntry, AndEntry, ItemTree, Atom, Part, Pattern}
 use Rattle.esto_text.specs.declared.token.Token.{Token}
 use Rattle.esto_text.specs.declared.token.TokenKind.{TokenKind}
 use Rattle.esto_text.specs.declared.token.TokenKind.TheVariants as kind
-use Rattle.esto_read.specs.Items.{IsItemOf, AreItems}
+use Rattle.esto_text.specs.declared.tree.StepSyntax.{StepSyntax}
+use Rattle.esto_text.specs.declared.tree.StepSyntax.TheVariants.{Field, Item, Below}
+use Rattle.esto_read.specs.Items.{IsAtomOf, AreAtomsOf, IsItemOf, AreItems}
+use Rattle.esto_read.specs.Patterns.{IsFieldOf, IsStepOf, AreEntries, IsPatternOf}
 use Rattle.esto_read.specs.Terms.{IsVariableOf, IsTermOf, AreTerms}
-use Rattle.esto_read.specs.Words.{IsTableAt}
 use Rattle.esto_read.specs.declared.words.Word.{Word}
+use Rattle.esto_read.proofs.WordLemmas.{relation_one}
 use Rattle.esto_read.proofs.QuoteLemmas.{written_cases}
 
 -- ---- constants
@@ -76,7 +82,7 @@ content_one text s t e f =
 -- ---- names
 
 -- no two numbers have one name
-abbrev Apart : List Name → Type 0
+abbrev pub Apart : List Name → Type 0
 Apart names = (i j : ℕ) (name : List ℕ) → slice_get names i ≡ Some (Given name) → slice_get names j ≡ Some (Given name) → i ≡ j
 
 last_cases : (names : List Name) (new name : Name) (i : ℕ) → slice_get (names ++ new ∷ []) i ≡ Some name → (slice_get names i ≡ Some name)
@@ -154,51 +160,97 @@ module _ (bytes : List ℕ) where
       let rest = terms_one between ts xs ys after after' first.2 more (subst (λ (l : List Name). AreTerms bytes l ts ys after') (sym first.1) more') in
       (cc (first.0, rest.0), rest.1, rest.2)
 
+-- ---- patterns
+
+field_one : (k : TokenKind) (text one other : List ℕ) → IsFieldOf k text one → IsFieldOf k text other → one ≡ other
+field_one kind.Name text one other h g = h ∙ sym g
+field_one kind.Quoted text one other h g = content_one text one other h g
+field_one _ text one other h g = absurd h
+
+-- no two of the names have one name, and so with more that have none
+apart_more : (count : ℕ) (names : List Name) → Apart names → Apart (names ++ replicate count Hidden)
+apart_more zero names h = subst Apart (sym (append-nil names)) h
+apart_more (suc count) names h =
+    subst Apart (append_assoc names (Hidden ∷ []) (replicate count Hidden)) (apart_more count (names ++ Hidden ∷ []) (apart_hidden names h))
+
+module _ (bytes : List ℕ) where
+  step_one : (s : StepSyntax) (one other : Step) → IsStepOf bytes s one → IsStepOf bytes s other → one ≡ other
+  step_one (Field t) (step.Name one) (step.Name other) h g = ap step.Name (field_one t.kind (text_of bytes t) one other h g)
+  step_one (Field t) (step.Name one) _ h g = absurd g
+  step_one (Field t) _ other h g = absurd h
+  step_one Item step.Item step.Item h g = refl
+  step_one Item step.Item _ h g = absurd g
+  step_one Item _ other h g = absurd h
+  step_one Below step.Below step.Below h g = refl
+  step_one Below step.Below _ h g = absurd g
+  step_one Below _ other h g = absurd h
+
+  path_one : (path : List StepSyntax) (one other : List Step) → AllZip (IsStepOf bytes) path one → AllZip (IsStepOf bytes) path other → one ≡ other
+  path_one [] [] [] h g = refl
+  path_one [] [] (y ∷ other) h g = absurd g
+  path_one [] (x ∷ one) other h g = absurd h
+  path_one (s ∷ path) [] other h g = absurd h
+  path_one (s ∷ path) (x ∷ one) [] h g = absurd g
+  path_one (s ∷ path) (x ∷ one) (y ∷ other) h g = cc (step_one s x y h.0 g.0, path_one path one other h.1 g.1)
+
+  abbrev OneReading : Entries → Entries → List Name → List Name → Type 0
+  OneReading p q after after' = (p ≡ q) × (after ≡ after') × Apart after
+
+  pub entries_one : (before : List Name) (es : EntryTrees) (p q : Entries) (after after' : List Name) → Apart before → AreEntries bytes before es p after
+      → AreEntries bytes before es q after' → OneReading p q after after'
+  entries_one before NoEntry done done after after' h g g' = (refl, g ∙ sym g', apart_same before after g h)
+  entries_one before NoEntry done _ after after' h g g' = absurd g'
+  entries_one before NoEntry _ q after after' h g g' = absurd g
+  entries_one before (AndEntry (Value path t) others) (holds s x rest) (holds s' x' rest') after after' h (between, z, g, more) (between', z', g', more') =
+      let first = term_one t.kind (text_of bytes t) before between between' x x' h g g' in
+      let later = entries_one between others rest rest' after after' first.2 more
+      (subst (λ (l : List Name). AreEntries bytes l others rest' after') (sym first.1) more') in
+      (cc (path_one path s s' z z', first.0, later.0), later.1, later.2)
+  entries_one before (AndEntry (Value path t) others) (holds s x rest) _ after after' h g g' = absurd g'
+  entries_one before (AndEntry (Value path t) others) _ q after after' h g g' = absurd g
+  entries_one before (AndEntry (Nested path es) others) (group s p rest) (group s' p' rest') after after' h (between, z, g, more) (between', z', g', more') =
+      let first = entries_one before es p p' between between' h g g' in
+      let later = entries_one between others rest rest' after after' first.2 more
+      (subst (λ (l : List Name). AreEntries bytes l others rest' after') (sym first.1) more') in
+      (cc (path_one path s s' z z', first.0, later.0), later.1, later.2)
+  entries_one before (AndEntry (Nested path es) others) (group s p rest) _ after after' h g g' = absurd g'
+  entries_one before (AndEntry (Nested path es) others) _ q after after' h g g' = absurd g
+
+  pattern_one : (before : List Name) (base : ℕ) (es : EntryTrees) (own own' : List (Fact Term)) (after after' : List Name) → Apart before
+      → IsPatternOf bytes before base es own after → IsPatternOf bytes before base es own' after' → (own ≡ own') × (after ≡ after') × Apart after
+  pattern_one before base es own own' after after' h (p, between, are, is, names) (p', between', are', is', names') =
+      let same = entries_one (before ++ Hidden ∷ []) es p p' between between' (apart_hidden before h) are are' in (
+        is ∙ ap (λ (q : Entries). atoms_of base q (length before) (length between)) same.0
+            ∙ ap (λ (l : List Name). atoms_of base p' (length before) (length l)) same.1 ∙ sym is',
+        names ∙ ap (λ (q : Entries). between ++ replicate (used q) Hidden) same.0
+            ∙ ap (λ (l : List Name). l ++ replicate (used p') Hidden) same.1 ∙ sym names',
+        subst Apart (sym names) (apart_more (used p) between same.2),
+      )
+
 -- ---- items
 
--- a name is one table's
-pub table_one : (words : List Word) → AllPairs ◌≢◌ (map (λ word. word.name) words) → (name : List ℕ) (r s : ℕ) → IsTableAt words name r → IsTableAt words name s
-    → r ≡ s
-table_one words apart name r s (w, (i, lt, at), n, m, b) (v, (j, lt', at'), n', m', b') =
-    elim (cases_lt i j) [
-      | inl less ↦ absurd (differ i j w v less lt' at at' (n ∙ sym n'))
-      | inr le ↦ elim (cases_lt j i) [
-        | inl less ↦ absurd (differ j i v w less lt at' at (n' ∙ sym n))
-        | inr ge ↦
-            let k : i ≡ j = omega arith in
-            let one : slice_get words i ≡ Some w = slice_get-get_or words i w lt ∙ ap (λ (x : Word). Some x) at in
-            let two : slice_get words j ≡ Some v = slice_get-get_or words j v lt' ∙ ap (λ (x : Word). Some x) at' in
-            let same : Some w ≡ Some v = sym one ∙ ap (slice_get words) k ∙ two in
-            let word : w ≡ v = cc in
-            sym b ∙ ap (λ (x : Word). x.base) word ∙ b'
-      ]
-    ]
-  where
-    length_names : (xs : List Word) → length (map (λ word. word.name) xs) ≡ length xs
-    length_names [] = refl
-    length_names (x ∷ xs) = ap suc (length_names xs)
-
-    differ : (i j : ℕ) (w v : Word) → i < j → j < length words → get_or words i w ≡ w → get_or words j v ≡ v → ¬ (w.name ≡ v.name)
-    differ i j w v less lt at at' e =
-        let one : slice_get words j ≡ Some v = slice_get-get_or words j v lt ∙ ap (λ (x : Word). Some x) at' in
-        let here : get_or words j w ≡ v = get_or_from_slice_get words j v w one in
-        apart i j w.name less (omega (arith, length_names words, lt))
-        (get_or-map (λ word. word.name) words i w ∙ ap (λ (x : Word). x.name) at ∙ e
-        ∙ sym (get_or-map (λ word. word.name) words j w ∙ ap (λ (x : Word). x.name) here))
-
 module _ (words : List Word) (apart : AllPairs ◌≢◌ (map (λ word. word.name) words)) (schema bytes : List ℕ) where
+  abbrev fact : ℕ → List Term → Fact Term
+  fact relation row = record { relation = relation; terms = row }
+
+  atom_one : (before after after' : List Name) (relation : ℕ) (ts : List Token) (own own' : List (Fact Term)) → Apart before
+      → IsAtomOf bytes before relation ts own after → IsAtomOf bytes before relation ts own' after' → (own ≡ own') × (after ≡ after') × Apart after
+  atom_one before after after' relation ts own own' h (row, g, e) (row', g', e') =
+      let s = terms_one bytes before ts row row' after after' h g g' in
+      (e ∙ ap (λ (l : List Term). fact relation l ∷ []) s.0 ∙ sym e', s.1, s.2)
+
+  atoms_one : (item : ItemTree) (before after after' : List Name) (relation : ℕ) (own own' : List (Fact Term)) → Apart before
+      → AreAtomsOf bytes before item relation own after → AreAtomsOf bytes before item relation own' after' → (own ≡ own') × (after ≡ after') × Apart after
+  atoms_one (Atom name ts) before after after' relation own own' h g g' = atom_one before after after' relation ts own own' h g g'
+  atoms_one (Part name part ts) before after after' relation own own' h g g' = atom_one before after after' relation ts own own' h g g'
+  atoms_one (Pattern name es) before after after' base own own' h g g' = pattern_one bytes before base es own own' after after' h g g'
+
   item_one : (item : ItemTree) (before after after' : List Name) (own own' : List (Fact Term)) → Apart before
       → IsItemOf words schema bytes before item own after → IsItemOf words schema bytes before item own' after'
       → (own ≡ own') × (after ≡ after') × Apart after
-  item_one (Atom name ts) before after after' own own' h (r, row, table, columns, g, e) (r', row', table', columns', g', e') =
-      let s = terms_one bytes before ts row row' after after' h g g' in
-      let n : r ≡ r' = table_one words apart (text_of bytes name) r r' table table' in
-      let f : Fact Term = record { relation = r; terms = row } in
-      let f' : Fact Term = record { relation = r'; terms = row' } in
-      let same : f ≡ f' = λ i. record { relation = n i; terms = s.0 i } in
-      (e ∙ ap (λ (x : Fact Term). x ∷ []) same ∙ sym e', s.1, s.2)
-  item_one (Part name part ts) before after after' own own' h g g' = absurd g
-  item_one (Pattern name es) before after after' own own' h g g' = absurd g
+  item_one item before after after' own own' h (relation, named, columns, g) (relation', named', columns', g') =
+      let same = relation_one words apart bytes item relation relation' named named' in
+      atoms_one item before after after' relation own own' h g (subst (λ (r : ℕ). AreAtomsOf bytes before item r own' after') (sym same) g')
 
   pub items_one : (before : List Name) (items : List ItemTree) (atoms atoms' : List (Fact Term)) (after after' : List Name) → Apart before
       → AreItems words schema bytes before items atoms after

@@ -1,22 +1,21 @@
 -- Queries from their parts.
-use Rattle.std.proofs.Common.{IsUtf8, zero, suc, take, get_or, ◌≡◌, ◌≢◌, ℕ, ◌+◌, ◌<◌, ◌≤◌, ◌⊎◌, inl, inr, List, [], ◌∷◌, ◌++◌, length, Some, refl, sym, ap, subst, ◌∙◌, arith}
-use Rattle.std.specs.Prelude.{Contains, AllPairs, slice_get}
+use Rattle.std.proofs.Common.{IsUtf8, zero, suc, take, get_or, ◌≡◌, ◌≢◌, ℕ, ◌<◌, ◌≤◌, inl, inr, List, [], ◌∷◌, length, Some, refl, sym, ap, subst, ◌∙◌, arith}
+use Rattle.std.specs.Prelude.{All, Contains, AllPairs, slice_get}
 use Rattle.std.specs.List.{AllByRecursion, AllZip}
-use Rattle.std.proofs.lemmas.List.{length-append, get_or_append_left, get_or_at, get_or-take, length-take-le}
+use Rattle.std.proofs.lemmas.List.{length-append, get_or-take, length-take-le}
 use Rattle.std.proofs.lemmas.List.Elements.{Contains-append_cases}
-use Rattle.std.proofs.lemmas.Option.{slice_get_within, slice_get-get_or, get_or_from_slice_get}
+use Rattle.std.proofs.lemmas.Option.{slice_get-get_or, get_or_from_slice_get}
 use Rattle.esto_query.specs.declared.query.Name.{Name}
-use Rattle.esto_query.specs.declared.query.Name.TheVariants.{Given, Hidden}
+use Rattle.esto_query.specs.declared.query.Name.TheVariants.{Given}
 use Rattle.esto_query.specs.Soundness.{IsSound}
-use Rattle.esto_semantics.specs.Maps.{IsVariable, IsFlat}
+use Rattle.esto_semantics.specs.Maps.{IsVariable}
 use Rattle.esto_semantics.specs.WellFormed.{IsQueryOver}
 use Rattle.esto_semantics.specs.declared.fact.Fact.{Fact}
-use Rattle.esto_term.specs.declared.term.Term.{Term, out-Term}
-use Rattle.esto_term.specs.declared.term.Term.TheOpen.{Term-F}
-use Rattle.esto_term.specs.declared.term.Term.TheVariants.{Const, Plain, outs-Const, outs-Plain}
+use Rattle.esto_term.specs.declared.term.Term.{Term}
+use Rattle.esto_term.specs.declared.term.Term.TheVariants.{Const, Plain}
 use Rattle.esto_text.specs.Faults.{IsNameIn, IsFieldIn, IsTermIn, StandsAt, IsQueryText}
-use Rattle.esto_text.specs.Grammar.{is_term, IsName, IsRow, IsBody}
-use Rattle.esto_text.specs.Tokens.{text_of, StandsIn}
+use Rattle.esto_text.specs.Grammar.{IsName, IsRow, IsBody}
+use Rattle.esto_text.specs.Tokens.{text_of}
 use Rattle.esto_text.specs.Trees.{ItemTree, Atom, Part, Pattern, QueryTree, EachOfItem}
 use Rattle.esto_text.specs.declared.fault.ReadError.{ReadError}
 use Rattle.esto_text.specs.declared.fault.ReadError.TheVariants.{Fault, OutOfMemory}
@@ -24,102 +23,19 @@ use Rattle.esto_text.specs.declared.token.Token.{Token}
 use Rattle.esto_text.specs.declared.token.TokenKind.{TokenKind}
 use Rattle.esto_text.specs.declared.token.TokenKind.TheVariants as kind
 use Rattle.esto_read.specs.Heads.{AreDifferent, AreMentioned}
-use Rattle.esto_read.specs.Items.{IsItemOf, AreItems, IsBodyError}
+use Rattle.esto_read.specs.Items.{IsAtomOf, IsItemOf, AreItems, IsBodyError}
 use Rattle.esto_read.specs.Readings.{IsAllowed, HasVariables, IsRead, IsReadError}
 use Rattle.esto_read.specs.Terms.{IsVariableOf, IsTermOf, AreTerms}
 use Rattle.esto_read.specs.declared.read.Form.{Form}
 use Rattle.esto_read.specs.declared.read.Form.TheVariants.{Query, View}
+use Rattle.esto_read.specs.Words.{HasRelations}
+use Rattle.esto_read.specs.declared.words.DataModel.TheVariants.{Documents}
 use Rattle.esto_read.specs.declared.words.Word.{Word}
-use Rattle.esto_read.proofs.Utf8Lemmas.{said_utf8, text_inside_utf8, number_token, quoted_token}
 use Rattle.esto_read.proofs.SeenLemmas.{only_item}
-
--- ---- tokens
-
-pub names_are_terms : (bytes : List ℕ) (ts : List Token) → AllByRecursion (IsNameIn bytes) ts → AllByRecursion (IsTermIn bytes) ts
-names_are_terms bytes [] h = tt
-names_are_terms bytes (t ∷ ts) h = ((h.0.0, ap is_term h.0.1), names_are_terms bytes ts h.1)
-
-pub terms_length : (bytes : List ℕ) (before : List Name) (ts : List Token) (xs : List Term) (after : List Name) → AreTerms bytes before ts xs after → length xs
-    ≡ length ts
-terms_length bytes before [] [] after h = refl
-terms_length bytes before [] (x ∷ xs) after h = absurd h
-terms_length bytes before (t ∷ ts) [] after h = absurd h
-terms_length bytes before (t ∷ ts) (x ∷ xs) after (between, h, more) = let n = terms_length bytes between ts xs after more in omega arith
-
--- ---- variables
-
-plain_one : (m n : ℕ) → Plain m ≡ Plain n → m ≡ n
-plain_one m n e = let same : Term-F.Plain m ≡ Term-F.Plain n = sym (outs-Plain m) ∙ ap out-Term e ∙ outs-Plain n in cc
-
-pub const_no_plain : (s : List ℕ) (n : ℕ) → ¬ (Const s ≡ Plain n)
-const_no_plain s n e = let same : Term-F.Const s ≡ Term-F.Plain n = sym (outs-Const s) ∙ ap out-Term e ∙ outs-Plain n in cc
-
-pub const_one : (s t : List ℕ) → Const s ≡ Const t → s ≡ t
-const_one s t e = let same : Term-F.Const s ≡ Term-F.Const t = sym (outs-Const s) ∙ ap out-Term e ∙ outs-Const t in cc
-
--- the term is a constant that is UTF-8, or a variable that is among so many
-abbrev pub Below : ℕ → Term → Type 0
-Below count x = IsFlat x × ((v : ℕ) → x ≡ Plain v → v < count) × ((s : List ℕ) → x ≡ Const s → IsUtf8 s)
-
-pub below_more : (m n : ℕ) (x : Term) → m ≤ n → Below m x → Below n x
-below_more m n x le h = (h.0, λ v e. omega (arith, h.1 v e), h.2)
-
-plain_below : (m n : ℕ) (x : Term) → x ≡ Plain m → m < n → Below n x
-plain_below m n x e lt = (inr (m, e), λ v f. omega (arith, plain_one m v (sym e ∙ f)), λ s f. absurd (const_no_plain s m (sym f ∙ e)))
-
-const_below : (s : List ℕ) (n : ℕ) (x : Term) → x ≡ Const s → IsUtf8 s → Below n x
-const_below s n x e u = (inl (s, e), λ v f. absurd (const_no_plain s v (sym e ∙ f)), λ t f. subst IsUtf8 (const_one s t (sym e ∙ f)) u)
-
-abbrev Grows : List Name → List Name → Term → Type 0
-Grows before after x = (length before ≤ length after) × Below (length after) x
-
-one_more : (before after : List Name) (name : Name) (x : Term) → x ≡ Plain (length before) → after ≡ before ++ name ∷ [] → Grows before after x
-one_more before after name x e p =
-    let n : length after ≡ length before + 1 = ap length p ∙ length-append before (name ∷ []) in
-    (omega (arith, n), plain_below (length before) (length after) x e (omega (arith, n)))
-
-as_before : (before after : List Name) (s : List ℕ) (x : Term) → x ≡ Const s → IsUtf8 s → after ≡ before → Grows before after x
-as_before before after s x e u p = (omega (arith, ap length p), const_below s (length after) x e u)
-
-term_grows : (bytes : List ℕ) → IsUtf8 bytes → (t : Token) → StandsIn bytes t → (k : TokenKind) → t.kind ≡ k → (before after : List Name) (x : Term)
-    → IsTermOf k (text_of bytes t) before x after → Grows before after x
-term_grows bytes u t h kind.Name q before after x (inl (number, here, e, p)) = (
-  omega (arith, ap length p),
-  plain_below number (length after) x e (omega
-      (arith, ap length p, slice_get_within before number (Given (text_of bytes t)) here)),
-)
-term_grows bytes u t h kind.Name q before after x (inr (new, e, p)) = one_more before after (Given (text_of bytes t)) x e p
-term_grows bytes u t h kind.Wildcard q before after x (e, p) = one_more before after Hidden x e p
-term_grows bytes u t h kind.Quoted q before after x (content, w, e, p) =
-    as_before before after content x e (said_utf8 content (text_inside_utf8 (text_of bytes t) content w (quoted_token bytes u t h q))) p
-term_grows bytes u t h kind.Number q before after x (e, p) = as_before before after (text_of bytes t) x e (number_token bytes u t h q) p
-term_grows bytes u t h _ q before after x g = absurd g
-
-cons_cases : {X : Type 0} → (x y : X) (xs : List X) → Contains (x ∷ xs) y → (y ≡ x) ⊎ Contains xs y
-cons_cases x y xs h = elim (Contains-append_cases (x ∷ []) xs y h) [ inl k ↦ inl (only_item x y k) | inr k ↦ inr k ]
-
-abbrev pub AllGrow : List Name → List Name → List Term → Type 0
-AllGrow before after xs = (length before ≤ length after) × ((x : Term) → Contains xs x → Below (length after) x)
-
-no_item : {X : Type 0} → (y : X) → ¬ Contains [] y
-no_item y (k, lt, e) = omega arith
-
-module _ (bytes : List ℕ) (u : IsUtf8 bytes) where
-  pub terms_grow : (before : List Name) (ts : List Token) (xs : List Term) (after : List Name) → AllByRecursion (IsTermIn bytes) ts
-      → AreTerms bytes before ts xs after → AllGrow before after xs
-  terms_grow before [] [] after all h = (omega (arith, ap length h), λ x k. absurd (no_item x k))
-  terms_grow before [] (x ∷ xs) after all h = absurd h
-  terms_grow before (t ∷ ts) [] after all h = absurd h
-  terms_grow before (t ∷ ts) (x ∷ xs) after all (between, h, more) =
-      let first = term_grows bytes u t all.0.0 t.kind refl before between x h in
-      let rest = terms_grow between ts xs after all.1 more in (
-        omega (arith, first.0, rest.0),
-        λ y k. elim (cons_cases x y xs k) [
-          | inl e ↦ subst (Below (length after)) (sym e) (below_more (length between) (length after) x rest.0 first.1)
-          | inr l ↦
-              rest.1 y l
-        ],
-      )
+use Rattle.esto_read.proofs.ItemLemmas.{size_positive, item_count}
+use Rattle.esto_read.proofs.WordLemmas.{base_has}
+use Rattle.esto_read.proofs.EntryLemmas.{pattern_good}
+use Rattle.esto_read.proofs.BelowLemmas.{names_are_terms, terms_length, plain_one, Below, below_more, cons_cases, AllGrow, no_item, terms_grow, Keeps, keeps_more, new_is_last}
 
 -- ---- bodies
 
@@ -134,48 +50,49 @@ module _ (words : List Word) (schema bytes : List ℕ) (u : IsUtf8 bytes) where
   abbrev pub AllGood : List Name → List Name → List (Fact Term) → Type 0
   AllGood before after atoms = (length before ≤ length after) × ((atom : Fact Term) → Contains atoms atom → Good (length after) atom)
 
-  item_good : (item : ItemTree) (before after : List Name) (atoms : List (Fact Term)) → ItemIn item → IsItemOf words schema bytes before item atoms after
-      → AllGood before after atoms × (atoms ≢ [])
-  item_good (Atom name ts) before after atoms in_text (relation, row, table, columns, h, e) =
-      let g = terms_grow bytes u before ts row after in_text.1 h in
+  atom_good : (before after : List Name) (relation : ℕ) (ts : List Token) (own : List (Fact Term)) → AllByRecursion (IsTermIn bytes) ts
+      → slice_get schema relation ≡ Some (length ts) → IsAtomOf bytes before relation ts own after → AllGood before after own
+  atom_good before after relation ts own in_text columns (row, h, e) =
+      let g = terms_grow bytes u before ts row after in_text h in
       let fact : Fact Term = record { relation = relation; terms = row } in
       let n : length row ≡ length ts = terms_length bytes before ts row after h in (
-        (
-          g.0,
-          λ atom k.
-              let is : atom ≡ fact = only_item fact atom (subst (λ (l : List (Fact Term)). Contains l atom) e k) in
-              subst (Good (length after)) (sym is) (columns ∙ ap (λ (i : ℕ). Some i) (sym n), g.1),
-        ),
-        λ none. let f : [] ≡ fact ∷ [] = sym none ∙ e in cc,
-      )
-  item_good (Part name part ts) before after atoms in_text h = absurd h
-  item_good (Pattern name es) before after atoms in_text h = absurd h
-
-  pub items_good : (before : List Name) (items : List ItemTree) (atoms : List (Fact Term)) (after : List Name) → AllByRecursion ItemIn items
-      → AreItems words schema bytes before items atoms after → AllGood before after atoms
-  items_good before [] atoms after in_text (e, f) = (
-    omega (arith, ap length f),
-    λ atom k. absurd
-        (no_item atom (subst (λ (l : List (Fact Term)). Contains l atom) e k)),
-  )
-  items_good before (item ∷ items) atoms after in_text (own, rest, between, e, h, more) =
-      let first = (item_good item before between own in_text.0 h).0 in
-      let later = items_good between items rest after in_text.1 more in (
-        omega (arith, first.0, later.0),
-        λ atom k. elim (Contains-append_cases own rest atom (subst (λ (l : List (Fact Term)). Contains l atom) e k)) [
-          | inl l ↦ let g = first.1 atom l in (g.0, λ x m. below_more (length between) (length after) x later.0 (g.1 x m))
-          | inr l ↦ later.1 atom l
-        ],
+        g.0,
+        λ atom k.
+            let is : atom ≡ fact = only_item fact atom (subst (λ (l : List (Fact Term)). Contains l atom) e k) in
+            subst (Good (length after)) (sym is) (columns ∙ ap (λ (i : ℕ). Some i) (sym n), g.1),
       )
 
-  pub items_some : (before : List Name) (items : List ItemTree) (atoms : List (Fact Term)) (after : List Name) → AllByRecursion ItemIn items
+  module _ (relations : All (λ word. HasRelations schema word.model word.base) words) where
+    item_good : (item : ItemTree) (before after : List Name) (own : List (Fact Term)) → ItemIn item → IsItemOf words schema bytes before item own after
+        → AllGood before after own
+    item_good (Atom name ts) before after own in_text (relation, named, columns, h) = atom_good before after relation ts own in_text.1 columns h
+    item_good (Part name part ts) before after own in_text (relation, named, columns, h) = atom_good before after relation ts own in_text.2 columns h
+    item_good (Pattern name es) before after own in_text (base, named, columns, h) =
+        pattern_good bytes u schema before base es own after (base_has words schema relations (text_of bytes name) Documents base named) in_text.1 h
+
+    pub items_good : (before : List Name) (items : List ItemTree) (atoms : List (Fact Term)) (after : List Name) → AllByRecursion ItemIn items
+        → AreItems words schema bytes before items atoms after → AllGood before after atoms
+    items_good before [] atoms after in_text (e, f) = (
+      omega (arith, ap length f),
+      λ atom k. absurd
+          (no_item atom (subst (λ (l : List (Fact Term)). Contains l atom) e k)),
+    )
+    items_good before (item ∷ items) atoms after in_text (own, rest, between, e, h, more) =
+        let first = item_good item before between own in_text.0 h in
+        let later = items_good between items rest after in_text.1 more in (
+          omega (arith, first.0, later.0),
+          λ atom k. elim (Contains-append_cases own rest atom (subst (λ (l : List (Fact Term)). Contains l atom) e k)) [
+            | inl l ↦ let g = first.1 atom l in (g.0, λ x m. below_more (length between) (length after) x later.0 (g.1 x m))
+            | inr l ↦ later.1 atom l
+          ],
+        )
+
+  pub items_some : (before : List Name) (items : List ItemTree) (atoms : List (Fact Term)) (after : List Name)
       → AreItems words schema bytes before items atoms after → items ≢ [] → atoms ≢ []
-  items_some before [] atoms after in_text h ne = absurd (ne refl)
-  items_some before (item ∷ items) atoms after in_text (own, rest, between, e, h, more) ne = go own e (item_good item before between own in_text.0 h).1
-    where
-      go : (own : List (Fact Term)) → atoms ≡ own ++ rest → own ≢ [] → atoms ≢ []
-      go [] e some none = some refl
-      go (x ∷ xs) e some none = let f : [] ≡ x ∷ (xs ++ rest) = sym none ∙ e in cc
+  items_some before [] atoms after h ne none = absurd (ne refl)
+  items_some before (item ∷ items) atoms after (own, rest, between, e, h, more) ne none =
+      let count = item_count words schema bytes before item own between h in
+      omega (arith, size_positive item, count, ap length e, length-append own rest, ap length none)
 
   some_variables : (tree : QueryTree) → IsQueryText bytes tree → tree.variables ≢ []
   some_variables tree (tokens, h, (paren, head, turnstile, body, e, n, p, row, t, b)) none = subst (λ (l : List Token). IsRow IsName l head) none row
@@ -189,18 +106,18 @@ module _ (words : List Word) (schema bytes : List ℕ) (u : IsUtf8 bytes) where
 
   -- a query of what was read
   module _ (tree : QueryTree) (head : List Term) (body : List (Fact Term)) (names : List Name) (text : IsQueryText bytes tree) (stands : StandsAt bytes tree)
-      (h : IsRead words schema bytes tree head body names) where
+      (h : IsRead words schema bytes tree head body names) (relations : All (λ word. HasRelations schema word.model word.base) words) where
     head_grows : AllGrow [] h.between head
     head_grows = terms_grow bytes u [] tree.variables head h.between (names_are_terms bytes tree.variables stands.1) h.head_terms
 
     body_good : AllGood h.between names body
-    body_good = items_good h.between tree.items body names stands.2 h.body_atoms
+    body_good = items_good relations h.between tree.items body names stands.2 h.body_atoms
 
     pub sound : AreMentioned body head → IsSound head body names
     sound safe = record {
       query = record {
         has_head = some_head [] h.between tree.variables head h.head_terms (some_variables tree text);
-        has_body = items_some h.between tree.items body names stands.2 h.body_atoms (some_items tree text);
+        has_body = items_some h.between tree.items body names h.body_atoms (some_items tree text);
         flat_head = λ x k. (head_grows.1 x k).0;
         flat_body = λ x (atom, k, l). ((body_good.1 atom k).1 x l).0;
         safe = λ x k. inr (safe x k);
@@ -216,21 +133,6 @@ module _ (words : List Word) (schema bytes : List ℕ) (u : IsUtf8 bytes) where
     }
 
 -- ---- variables of a head
-
--- what a name was before it is after
-abbrev pub Keeps : List Name → List Name → Type 0
-Keeps before after = (n : ℕ) (name : Name) → slice_get before n ≡ Some name → slice_get after n ≡ Some name
-
-pub keeps_more : (before : List Name) (new : Name) → Keeps before (before ++ new ∷ [])
-keeps_more before new n name e =
-    let lt : n < length before = slice_get_within before n name e in
-    slice_get-get_or (before ++ new ∷ []) n name (omega (arith, length-append before (new ∷ [])))
-    ∙ ap (λ (x : Name). Some x) (get_or_append_left before (new ∷ []) name n lt ∙ get_or_from_slice_get before n name name e)
-
-new_is_last : (before : List Name) (new : Name) → slice_get (before ++ new ∷ []) (length before) ≡ Some new
-new_is_last before new =
-    slice_get-get_or (before ++ new ∷ []) (length before) new (omega (arith, length-append before (new ∷ [])))
-    ∙ ap (λ (x : Name). Some x) (get_or_at before new [] new (length before) refl)
 
 -- the term is the variable of that name
 abbrev pub IsNumbered : List Name → List ℕ → Term → Type 0

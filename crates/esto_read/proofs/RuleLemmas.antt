@@ -1,17 +1,14 @@
 -- Rules from their parts.
-use Rattle.std.proofs.Common.{IsUtf8, ◌≡◌, ◌≢◌, ℕ, ◌<◌, ◌≤◌, inl, inr, get_or, List, [], ◌∷◌, length, Ok, refl, sym, ap, subst, arith}
+use Rattle.std.proofs.Common.{IsUtf8, ◌≡◌, ◌≢◌, ℕ, ◌≤◌, inl, inr, List, [], ◌∷◌, length, Ok, refl, sym, ap, subst, arith}
 use Rattle.std.specs.Prelude.{Contains, All}
 use Rattle.std.specs.List.{AllByRecursion}
-use Rattle.std.proofs.lemmas.List.{length-map}
 use Rattle.esto_constraint.specs.Constraints.{rule_of}
 use Rattle.esto_constraint.specs.Making.{MakesTuple, MakesEquality, MakesDenial}
 use Rattle.esto_constraint.specs.declared.rule.Constraint.{Constraint}
 use Rattle.esto_constraint.specs.declared.rule.Constraint.TheVariants.{Tuple, Equal, Never}
 use Rattle.esto_constraint.specs.Soundness.{IsSoundTuple, IsSoundEquality, IsSoundDenial}
-use Rattle.esto_query.specs.Schemas.{arities_of}
 use Rattle.esto_query.specs.Soundness.{AreNamed}
 use Rattle.esto_query.specs.declared.make.TheConstants.{MAX_ATOMS}
-use Rattle.esto_query.specs.declared.schema.Relation.{Relation}
 use Rattle.esto_query.specs.declared.query.Name.{Name}
 use Rattle.esto_semantics.specs.Maps.{AreFlat, IsFixedBy}
 use Rattle.esto_semantics.specs.Rules.{tuple, equality, denial}
@@ -32,19 +29,11 @@ use Rattle.esto_read.specs.Constraints.{IsTupleRead, IsEqualityRead, IsDenialRea
 use Rattle.esto_read.specs.Items.{AreFitting, AreItems, IsBodyError}
 use Rattle.esto_read.specs.Parts.{AreTupleParts, AreEqualityParts, AreDenialParts}
 use Rattle.esto_read.specs.Terms.{IsTermOf, AreTerms}
-use Rattle.esto_read.specs.Words.{IsVocabulary, HasRelations, AreTables}
-use Rattle.esto_read.specs.declared.words.DataModel.{DataModel}
+use Rattle.esto_read.specs.Words.{HasRelations}
 use Rattle.esto_read.specs.declared.words.Word.{Word}
-use Rattle.esto_read.proofs.MakeLemmas.{items_size}
-use Rattle.esto_read.proofs.ReadLemmas.{below_more, Good, ItemIn, AllGood, items_good, items_some, AllGrow, terms_grow}
-
--- ---- the words
-
-pub bases : (schema : List Relation) (words : List Word) → IsVocabulary (arities_of schema) words → AreTables words
-    → All (λ word. word.base < length schema) words
-bases schema words vocabulary tables k d lt =
-    let base = subst (λ (model : DataModel). HasRelations (arities_of schema) model (get_or words k d).base) (tables k d lt) (vocabulary.relations k d lt) in
-    omega (arith, length-map schema (λ relation. relation.arity))
+use Rattle.esto_read.proofs.ItemLemmas.{items_size}
+use Rattle.esto_read.proofs.BelowLemmas.{below_more, AllGrow, terms_grow}
+use Rattle.esto_read.proofs.ReadLemmas.{Good, ItemIn, AllGood, items_good, items_some}
 
 -- ---- sides
 
@@ -101,7 +90,7 @@ module _ (words : List Word) (schema bytes : List ℕ) (u : IsUtf8 bytes) where
 -- ---- what a text's constraint keeps
 
 module _ (version : Version) (words : List Word) (schema bytes : List ℕ) (tree : ConstraintTree) (text : IsConstraintText version bytes tree)
-    (stands : ConstraintStandsAt bytes tree) where
+    (stands : ConstraintStandsAt bytes tree) (relations : All (λ word. HasRelations schema word.model word.base) words) where
   u : IsUtf8 bytes
   u = text.1.0
 
@@ -111,17 +100,17 @@ module _ (version : Version) (words : List Word) (schema bytes : List ℕ) (tree
     head_stand = head_stands bytes tree stands (Items items) is
 
     in_head : AllGood words schema bytes u h.between names head
-    in_head = items_good words schema bytes u h.between items head names head_stand h.head_atoms
+    in_head = items_good words schema bytes u relations h.between items head names head_stand h.head_atoms
 
     good_body : AreGood words schema bytes u (length names) body
     good_body = good_more words schema bytes u (length h.between) (length names) body in_head.0
-        (items_good words schema bytes u [] tree.body body h.between stands.0 h.body_atoms).1
+        (items_good words schema bytes u relations [] tree.body body h.between stands.0 h.body_atoms).1
 
     tuple_sound : IsSoundTuple body head names
     tuple_sound = record {
       rule = record {
-        has_body = items_some words schema bytes u [] tree.body body h.between stands.0 h.body_atoms (some_items version bytes tree text);
-        has_head = items_some words schema bytes u h.between items head names head_stand h.head_atoms (some_head version bytes tree text items is);
+        has_body = items_some words schema bytes u [] tree.body body h.between h.body_atoms (some_items version bytes tree text);
+        has_head = items_some words schema bytes u h.between items head names h.head_atoms (some_head version bytes tree text items is);
         flat_body = good_flat words schema bytes u (length names) body good_body;
         flat_head = good_flat words schema bytes u (length names) head in_head.1;
       };
@@ -154,12 +143,12 @@ module _ (version : Version) (words : List Word) (schema bytes : List ℕ) (tree
 
     good_equality : AreGood words schema bytes u (length names) body
     good_equality = good_more words schema bytes u (length h.between) (length names) body in_sides.0
-        (items_good words schema bytes u [] tree.body body h.between stands.0 h.body_atoms).1
+        (items_good words schema bytes u relations [] tree.body body h.between stands.0 h.body_atoms).1
 
     equality_sound : IsFixedBy body left × IsFixedBy body right → IsSoundEquality body left right names
     equality_sound fixed = record {
       rule = record {
-        has_body = items_some words schema bytes u [] tree.body body h.between stands.0 h.body_atoms (some_items version bytes tree text);
+        has_body = items_some words schema bytes u [] tree.body body h.between h.body_atoms (some_items version bytes tree text);
         flat_body = good_flat words schema bytes u (length names) body good_equality;
         left_fixed = fixed.0;
         right_fixed = fixed.1;
@@ -184,12 +173,12 @@ module _ (version : Version) (words : List Word) (schema bytes : List ℕ) (tree
 
   module _ (body : List (Fact Term)) (names : List Name) (h : IsDenialRead words schema bytes tree.body body names) where
     good_denial : AreGood words schema bytes u (length names) body
-    good_denial = (items_good words schema bytes u [] tree.body body names stands.0 h.body_atoms).1
+    good_denial = (items_good words schema bytes u relations [] tree.body body names stands.0 h.body_atoms).1
 
     denial_sound : IsSoundDenial body names
     denial_sound = record {
       rule = record {
-        has_body = items_some words schema bytes u [] tree.body body names stands.0 h.body_atoms (some_items version bytes tree text);
+        has_body = items_some words schema bytes u [] tree.body body names h.body_atoms (some_items version bytes tree text);
         flat_body = good_flat words schema bytes u (length names) body good_denial;
       };
       named = good_named words schema bytes u names body good_denial;

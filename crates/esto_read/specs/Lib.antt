@@ -1,8 +1,10 @@
 pub mod Words
 pub mod Terms
+pub mod Patterns
 pub mod Items
 pub mod Heads
 pub mod Readings
 pub mod Naming
 pub mod Constraints
 pub mod Parts
+pub mod Layouts

@@ -1,15 +1,18 @@
-//! The texts of queries, views and constraints, read.
+//! The texts of queries, views, constraints and layouts, read.
 #![tactic(auto)]
 
 mod body;
 mod constant;
 mod head;
+mod layout;
 mod make;
+mod pattern;
 mod read;
 mod rule;
 mod term;
 mod words;
 
+pub use layout::{layout_readings_are_determined, read_layout};
 pub use read::{
     NamedQuery, read_query, read_view, readings_are_determined, views_name_their_columns,
 };

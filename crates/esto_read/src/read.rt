@@ -6,7 +6,7 @@ ghost use Rattle.esto_semantics.specs.WellFormed.{IsQueryOver};
 ghost use Rattle.esto_query.specs.Schemas.{arities_of};
 ghost use Rattle.esto_text.specs.Faults.{IsNameIn};
 ghost use Rattle.esto_read.specs.declared.read.Form.{Form};
-ghost use Rattle.esto_read.specs.Words.{IsVocabulary, AreTables};
+ghost use Rattle.esto_read.specs.Words.{IsVocabulary};
 ghost use Rattle.esto_read.specs.Naming.{ViewsNameTheirColumns};
 ghost use Rattle.esto_read.specs.Readings.{HasVariables, IsAllowed, IsRefused, IsHeadFit, IsHeadFault, IsReading, IsReadError, HaveOneReading, HaveNoFault, HaveOneFault};
 
@@ -84,7 +84,6 @@ fn read(
     form: Form,
 ) -> Result<NamedQuery, ReadError>
     requires words { IsVocabulary (arities_of schema.now) words.now }
-    requires tables { AreTables words.now }
     ensures reading { IfOk result (λ query. IsReading
         form words.now (arities_of schema.now) bytes.now query) }
     ensures over { IfOk result (λ query. IsQueryOver
@@ -114,7 +113,7 @@ fn read(
     }
 }
 
-/// The query that a text is, over the tables that the words name, with its name; or the text's first fault:
+/// The query that a text is, over the datasets that the words name, with its name; or the text's first fault:
 /// Utf8, Syntax, then for each item in order Unknown, Arity and TooLarge, then Unsafe.
 pub fn read_query(
     alloc: Global,
@@ -123,7 +122,6 @@ pub fn read_query(
     schema: &Schema,
 ) -> Result<NamedQuery, ReadError>
     requires words { IsVocabulary (arities_of schema.now) words.now }
-    requires tables { AreTables words.now }
     // The answer is the text's reading.
     ensures reading { IfOk result (λ query. IsReading
         Form.Query words.now (arities_of schema.now) bytes.now query) }
@@ -139,7 +137,7 @@ pub fn read_query(
     read(alloc, bytes, words, schema, Form::Query)
 }
 
-/// The view that a text is, over the tables that the words name, with its name; or the text's first fault: those
+/// The view that a text is, over the datasets that the words name, with its name; or the text's first fault: those
 /// of a query, where SameVariable comes before Unsafe.
 pub fn read_view(
     alloc: Global,
@@ -148,7 +146,6 @@ pub fn read_view(
     schema: &Schema,
 ) -> Result<NamedQuery, ReadError>
     requires words { IsVocabulary (arities_of schema.now) words.now }
-    requires tables { AreTables words.now }
     // The answer is the text's reading.
     ensures reading { IfOk result (λ query. IsReading
         Form.View words.now (arities_of schema.now) bytes.now query) }

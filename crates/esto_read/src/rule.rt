@@ -4,7 +4,7 @@ ghost use Rattle.esto_constraint.specs.Constraints.{rule_of};
 ghost use Rattle.esto_query.specs.Schemas.{arities_of};
 ghost use Rattle.esto_semantics.specs.Maps.{IsFixedBy};
 ghost use Rattle.esto_semantics.specs.WellFormed.{IsRuleOver};
-ghost use Rattle.esto_read.specs.Words.{IsVocabulary, AreTables};
+ghost use Rattle.esto_read.specs.Words.{IsVocabulary};
 ghost use Rattle.esto_read.specs.Constraints.{IsUnsafeSide, IsConstraintReading, IsConstraintError, HaveOneRule, HaveNoRuleFault, HaveOneRuleFault};
 
 use crate::body::body;
@@ -58,7 +58,6 @@ fn read_rule(
     version: Version,
 ) -> Result<Constraint, ReadError>
     requires words { IsVocabulary (arities_of schema.now) words.now }
-    requires tables { AreTables words.now }
     ensures reading { IfOk result (IsConstraintReading
         version words.now (arities_of schema.now) bytes.now) }
     ensures over { IfOk result (λ rule. IsRuleOver (arities_of schema.now) (rule_of rule)) }
@@ -89,7 +88,7 @@ fn read_rule(
     }
 }
 
-/// The constraint that a text of version 1 is, over the tables that the words name; or the text's first fault: Utf8,
+/// The constraint that a text of version 1 is, over the datasets that the words name; or the text's first fault: Utf8,
 /// Syntax, then for each item in order, the body before the head, Unknown, Arity and TooLarge, then Unsafe. Unsafe comes
 /// for an equality alone, at the first side that is no constant and not in the body.
 pub fn read_constraint(
@@ -99,7 +98,6 @@ pub fn read_constraint(
     schema: &Schema,
 ) -> Result<Constraint, ReadError>
     requires words { IsVocabulary (arities_of schema.now) words.now }
-    requires tables { AreTables words.now }
     // The answer is the text's reading.
     ensures reading { IfOk result (IsConstraintReading
         Version.One words.now (arities_of schema.now) bytes.now) }
@@ -121,7 +119,6 @@ pub fn read_constraint_2(
     schema: &Schema,
 ) -> Result<Constraint, ReadError>
     requires words { IsVocabulary (arities_of schema.now) words.now }
-    requires tables { AreTables words.now }
     // The answer is the text's reading.
     ensures reading { IfOk result (IsConstraintReading
         Version.Two words.now (arities_of schema.now) bytes.now) }

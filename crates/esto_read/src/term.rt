@@ -23,7 +23,7 @@ fn is_given(name: &Name, text: &[u8]) -> bool
 }
 
 /// The number of the variable of that name. None comes exactly where there is none.
-fn number_of(names: &[Name], text: &[u8]) -> Option<usize>
+pub fn number_of(names: &[Name], text: &[u8]) -> Option<usize>
     ensures { MatchOption result (¬ Contains names.now (Given text.now))
         (λ number. slice_get names.now number ≡ Some (Given text.now)) }
 {

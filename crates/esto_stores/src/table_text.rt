@@ -1,5 +1,6 @@
 //! The text of a CSV file.
 ghost use Rattle.std.specs.Prelude.{◌≡◌, ◌≢◌, ◌<◌, ◌++◌, true, map, length, All, AllPairs, IfOk, OnOk, None};
+ghost use Rattle.std.specs.List.{list_all};
 ghost use Rattle.csv.specs.Writing.{default_writer, row_text};
 ghost use Rattle.esto_stores.specs.Rows.{are_texts};
 ghost use Rattle.esto_stores.specs.Table.{table_rows, table_fault};
@@ -38,15 +39,11 @@ fn put_row(alloc: Global, writer: &mut Writer<Vec<u8>>, row: &[Text]) -> Result<
     }
 }
 
-/// The text of a CSV file with these columns and rows. It is opened as the same rows.
-pub fn write_table(alloc: Global, columns: &TextRow, rows: &TextRows) -> Result<Bytes, OutOfMemory>
-    requires some { 0 < length columns.now }
-    requires distinct { AllPairs ◌≢◌ columns.now }
-    requires plain { StartsPlain columns.now }
-    requires lengths { All (λ row. length row ≡ length columns.now) rows.now }
+// Writes the columns and then the rows.
+fn put_rows(alloc: Global, columns: &TextRow, rows: &TextRows) -> Result<Bytes, OutOfMemory>
     ensures text { IfOk result (λ text. text ≡ table_text columns.now rows.now) }
-    ensures rows { IfOk result (λ text. table_rows columns.now text ≡ rows.now) }
-    ensures fault { IfOk result (λ text. table_fault columns.now text ≡ None) }
+    ensures columns { IfOk result (λ _. are_texts columns.now ≡ true) }
+    ensures rows { IfOk result (λ _. list_all are_texts rows.now ≡ true) }
 {
     let mut writer = WriterBuilder::new().from_writer(Vec::new(alloc));
     put_row(alloc, &mut writer, columns.items())?;
@@ -57,4 +54,31 @@ pub fn write_table(alloc: Global, columns: &TextRow, rows: &TextRows) -> Result<
         Ok(text) => Bytes::from_slice(alloc, text.as_slice()),
         Err(_) => Err(OutOfMemory),
     }
+}
+
+/// The text of these columns, whatever they are, and of the rows under them: a CSV record of each.
+pub fn write_records(
+    alloc: Global,
+    columns: &TextRow,
+    rows: &TextRows,
+) -> Result<Bytes, OutOfMemory>
+    requires { All (λ row. length row ≡ length columns.now) rows.now }
+    ensures { IfOk result (λ text. text ≡ table_text columns.now rows.now) }
+{
+    let text = put_rows(alloc, columns, rows)?;
+    Ok(text)
+}
+
+/// The text of a CSV file with these columns and rows. It is opened as the same rows.
+pub fn write_table(alloc: Global, columns: &TextRow, rows: &TextRows) -> Result<Bytes, OutOfMemory>
+    requires some { 0 < length columns.now }
+    requires distinct { AllPairs ◌≢◌ columns.now }
+    requires plain { StartsPlain columns.now }
+    requires lengths { All (λ row. length row ≡ length columns.now) rows.now }
+    ensures text { IfOk result (λ text. text ≡ table_text columns.now rows.now) }
+    ensures rows { IfOk result (λ text. table_rows columns.now text ≡ rows.now) }
+    ensures fault { IfOk result (λ text. table_fault columns.now text ≡ None) }
+{
+    let text = put_rows(alloc, columns, rows)?;
+    Ok(text)
 }

@@ -9,10 +9,10 @@ use Rattle.esto_text.specs.declared.token.TokenKind.TheVariants.{Name, Wildcard,
 use Rattle.esto_text.specs.declared.tree.StepSyntax.{StepSyntax}
 use Rattle.esto_text.specs.declared.tree.StepSyntax.TheVariants.{Field, Item, Below}
 use Rattle.esto_text.specs.Trees.{EntryTree, Value, Nested, EntryTrees, NoEntry, AndEntry, ItemTree, Atom, Part, Pattern, QueryTree, HeadTree, Items, Equality, Never, ConstraintTree}
-use Rattle.esto_text.specs.Grammar.{class_of, step_at, is_term, IsName, IsTerm, IsNext, IsRowEnd, IsLater, IsPathEnd, IsPath, IsEntry, IsGroupEnd, IsGroup, IsItem, IsBodyEnd, IsQuery, IsHead, NoFalse, IsConstraint}
+use Rattle.esto_text.specs.Grammar.{class_of, step_at, is_term, IsName, IsTerm, IsNext, IsRowEnd, IsLater, IsPathEnd, IsPath, IsEntry, IsGroupEnd, IsGroup, IsLayout, IsItem, IsBodyEnd, IsQuery, IsHead, NoFalse, IsConstraint}
 use Rattle.esto_text.specs.Faults.{Leaves, StopsAt}
-use Rattle.esto_text.specs.Machine.{Symbol, AName, ATerm, ANext, AParen, ABracket, ATurnstile, MoreNames, MoreTerms, AnItem, ItemRest, MoreItems, MoreBody, AHead, HeadRest, AnEntry, PathRest, MoreEntries, start, constraint_start, step, is_done, advance, first_fault}
-use Rattle.esto_text.proofs.Runs.{after, query_fits, constraint_fits}
+use Rattle.esto_text.specs.Machine.{Symbol, AName, ATerm, ANext, AParen, ABracket, ATurnstile, MoreNames, MoreTerms, AnItem, ItemRest, MoreItems, MoreBody, AHead, HeadRest, AGroup, AnEntry, PathRest, MoreEntries, start, constraint_start, layout_start, step, is_done, advance, first_fault}
+use Rattle.esto_text.proofs.Runs.{after, query_fits, constraint_fits, layout_fits}
 
 -- the texts of a symbol
 abbrev Lang : Symbol → List Token → Type 0
@@ -30,6 +30,7 @@ Lang MoreItems ts = (is : List ItemTree) × IsBodyEnd is ts
 Lang MoreBody ts = (is : List ItemTree) × (front : List Token) × (arrow : Token) × (ts ≡ front ++ arrow ∷ []) × IsBodyEnd is front × (class_of arrow ≡ Arrow)
 Lang AHead ts = (h : HeadTree) × IsHead NoFalse h ts
 Lang HeadRest ts = (of : Token → HeadTree) × ((n : Token) → IsName n → IsHead NoFalse (of n) (n ∷ ts))
+Lang AGroup ts = (fs : EntryTrees) × IsLayout fs ts
 Lang (AnEntry n) ts = (f : EntryTree) × IsEntry n f ts
 Lang (PathRest n) ts = (of : List StepSyntax → EntryTree) × ((path : List StepSyntax) (front : List Token) → IsPath path front
     → IsEntry n (of path) (front ++ ts))
@@ -253,6 +254,9 @@ step_back HeadRest Dot t new ws p e h =
 step_back HeadRest LeftBrace t new ws p e h =
     let q : AnEntry 1 ∷ MoreEntries 1 ∷ MoreItems ∷ [] ≡ new = cc in items_back LeftBrace t (AnEntry 1 ∷ MoreEntries 1 ∷ []) ws p refl
     (subst (λ (l : List Symbol). Langs l ws) (sym q) h)
+step_back AGroup LeftBrace t new ws p e h =
+    let q : AnEntry 1 ∷ MoreEntries 1 ∷ [] ≡ new = cc in
+    let r = group_parts 1 ws (subst (λ (l : List Symbol). Langs l ws) (sym q) h) in (r.0, (t, ws, refl, p, r.1))
 step_back (AnEntry n) Name t new ws p e h =
     let q : PathRest n ∷ [] ≡ new = cc in first_back n (Field t) t ws (ap (λ (k : TokenKind). step_at k t) p)
     (one (PathRest n) ws (subst (λ (l : List Symbol). Langs l ws) (sym q) h))
@@ -325,6 +329,16 @@ least_end n = (a_token Colon ∷ a_token Wildcard ∷ [], (λ path. Value path (
 least_side : (ts : List Token) × Lang HeadRest ts
 least_side = (a_token Equals ∷ a_token Wildcard ∷ [], (λ n. Equality n (a_token Wildcard), λ n name. (a_token Equals, refl, name, refl, refl)))
 
+least_layout : (ts : List Token) × Lang AGroup ts
+least_layout =
+    let r = least_end 1 in
+    let first = first_back 1 (Field (a_token Name)) (a_token Name) r.0 refl r.1 in
+    let close : List Token = a_token RightBrace ∷ [] in
+    let entry : List Token = a_token Name ∷ r.0 in (
+      a_token LeftBrace ∷ (entry ++ close),
+      (AndEntry first.0 NoEntry, (a_token LeftBrace, entry ++ close, refl, refl, (entry, close, refl, first.1, (a_token RightBrace, refl, refl)))),
+    )
+
 least : (x : Symbol) → (ts : List Token) × Lang x ts
 least AName = (a_token Name ∷ [], (a_token Name, refl, refl))
 least ATerm = (a_token Wildcard ∷ [], (a_token Wildcard, refl, refl))
@@ -340,6 +354,7 @@ least MoreItems = ([], ([], refl))
 least MoreBody = (a_token Arrow ∷ [], ([], [], a_token Arrow, refl, refl, refl))
 least HeadRest = least_side
 least AHead = (a_token Name ∷ least_side.0, (least_side.1.0 (a_token Name), least_side.1.1 (a_token Name) refl))
+least AGroup = least_layout
 least (AnEntry n) = let r = least_end n in (a_token Name ∷ r.0, first_back n (Field (a_token Name)) (a_token Name) r.0 refl r.1)
 least (PathRest n) = least_end n
 least (MoreEntries n) = (a_token RightBrace ∷ [], (NoEntry, (a_token RightBrace, refl, refl)))
@@ -463,3 +478,10 @@ fault_is ts rest e =
 pub constraint_fault_is : (IsFalse : Token → Type 0) (ts rest : List Token) → ((c : ConstraintTree) → ¬ IsConstraint IsFalse c ts)
     → first_fault constraint_start ts ≡ Some rest → StopsAt (IsConstraint IsFalse) ts rest
 constraint_fault_is IsFalse = stops_at (IsConstraint IsFalse) constraint_start (constraint_of IsFalse) (constraint_fits IsFalse)
+
+layout_of : (ts : List Token) → Langs layout_start ts → (fs : EntryTrees) × IsLayout fs ts
+layout_of ts h = one AGroup ts h
+
+pub layout_fault_is : (ts rest : List Token) → first_fault layout_start ts ≡ Some rest → StopsAt IsLayout ts rest
+layout_fault_is ts rest e =
+    stops_at IsLayout layout_start layout_of (λ fs ts rest h f. absurd (layout_fits fs ts rest h f)) ts rest (λ fs h. layout_fits fs ts rest h e) e

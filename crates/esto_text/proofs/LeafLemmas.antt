@@ -8,8 +8,8 @@ use Rattle.esto_text.specs.declared.token.TokenKind.{TokenKind}
 use Rattle.esto_text.specs.declared.token.TokenKind.TheVariants.{Name, Quoted, Stars, Stray}
 use Rattle.esto_text.specs.declared.tree.StepSyntax.{StepSyntax}
 use Rattle.esto_text.specs.declared.tree.StepSyntax.TheVariants.{Field, Item, Below}
-use Rattle.esto_text.specs.Grammar.{fitting, class_of, is_term, step_at, IsName, IsTerm, IsRowEnd, IsRow, IsFirst, IsLater, IsPathEnd, IsPath, IsEntry, IsGroupEnd, IsGroup, IsItem, IsBodyEnd, IsBody, IsQuery, IsHead, IsConstraint}
-use Rattle.esto_text.specs.Faults.{IsNameIn, IsFieldIn, IsTermIn, StandsAt, ConstraintStandsAt}
+use Rattle.esto_text.specs.Grammar.{fitting, class_of, is_term, step_at, IsName, IsTerm, IsRowEnd, IsRow, IsFirst, IsLater, IsPathEnd, IsPath, IsEntry, IsGroupEnd, IsGroup, IsLayout, IsItem, IsBodyEnd, IsBody, IsQuery, IsHead, IsConstraint}
+use Rattle.esto_text.specs.Faults.{IsNameIn, IsFieldIn, IsTermIn, StandsAt, ConstraintStandsAt, LayoutStandsAt}
 use Rattle.esto_text.specs.Limits.{is_close, is_name, in_room, limited_row, limited}
 use Rattle.esto_text.specs.Tokens.{IsToken, Places, Covers, text_of, StandsIn}
 use Rattle.esto_text.specs.Trees.{EntryTree, Value, Nested, EntryTrees, NoEntry, AndEntry, ItemTree, Atom, Part, Pattern, QueryTree, HeadTree, Items, Equality, Never, ConstraintTree, EachOfPath, EachOfEntry, EachOfEntries, EachOfItem, EachOfQuery, EachOfHead, EachOfConstraint}
@@ -98,6 +98,9 @@ module _ (P N F T : Token → Type 0) (name_leaf : (t : Token) → P t → IsNam
   group_each NoEntry n ts h all = absurd h
   group_each (AndEntry first others) n ts (a, b, e, ha, hb) all =
       let here = subst Every e all in (entry_each first n a ha (front_of a b here), entries_each others n b hb (back_of a b here))
+
+  pub layout_each : (fs : EntryTrees) (ts : List Token) → IsLayout fs ts → Every ts → EachOfEntries F T fs
+  layout_each fs ts (brace, more, e, p, h) all = group_each fs 1 more h (subst Every e all).1
 
   item_each : (i : ItemTree) (ts : List Token) → IsItem i ts → Every ts → EachOfItem N F T i
   item_each (Atom name terms) ts (paren, more, e, p, q, r) all =
@@ -236,3 +239,7 @@ module _ (bytes : List ℕ) where
   pub constraint_stands : (W : Token → Type 0) (ts : List Token) (c : ConstraintTree) → Covers 0 bytes ts → IsConstraint W c ts → ConstraintStandsAt bytes c
   constraint_stands W ts c h g =
       constraint_each StandsOrNot (IsNameIn bytes) (IsFieldIn bytes) (IsTermIn bytes) name_in field_in term_in W c ts g (all_stand ts (tokens_stand ts h))
+
+  pub layout_stands : (ts : List Token) (fs : EntryTrees) → Covers 0 bytes ts → IsLayout fs ts → LayoutStandsAt bytes fs
+  layout_stands ts fs h g =
+      layout_each StandsOrNot (IsNameIn bytes) (IsFieldIn bytes) (IsTermIn bytes) name_in field_in term_in fs ts g (all_stand ts (tokens_stand ts h))

@@ -3,6 +3,7 @@ pub mod LexemeLemmas
 pub mod Covering
 pub mod Runs
 pub mod Languages
+pub mod LayoutLemmas
 pub mod Unique
 pub mod RowLemmas
 pub mod PathLemmas

@@ -8,7 +8,7 @@ use Rattle.esto_text.specs.declared.token.Token.{Token}
 use Rattle.esto_text.specs.declared.token.TokenKind.{TokenKind}
 use Rattle.esto_text.specs.declared.token.TokenKind.TheVariants.{Name, Quoted, LeftParen, RightParen, LeftBrace, RightBrace, LeftBracket, RightBracket, Comma, Dot, Colon, Turnstile, Arrow, Stars}
 use Rattle.esto_text.specs.Grammar.{class_of, step_at, is_term, IsName, IsTerm, IsRow}
-use Rattle.esto_text.specs.Machine.{Symbol, AName, ATerm, ANext, AParen, ABracket, ATurnstile, MoreNames, MoreTerms, MoreItems, MoreBody, AnEntry, PathRest, MoreEntries, step, is_done, class_at, first_fault, FaultLeaves, FailsAt, Fails, Takes}
+use Rattle.esto_text.specs.Machine.{Symbol, AName, ATerm, ANext, AParen, ABracket, ATurnstile, MoreNames, MoreTerms, MoreItems, MoreBody, AGroup, AnEntry, PathRest, MoreEntries, step, is_done, class_at, first_fault, FaultLeaves, FailsAt, Fails, Takes}
 use Rattle.esto_text.proofs.Runs.{after, put, seen, term_seen}
 
 -- ---- failures
@@ -33,6 +33,10 @@ not_name _ h = refl
 pub not_paren : (c : TokenKind) → c ≢ LeftParen → step AParen c ≡ None
 not_paren LeftParen h = absurd (h refl)
 not_paren _ h = refl
+
+pub not_group : (c : TokenKind) → c ≢ LeftBrace → step AGroup c ≡ None
+not_group LeftBrace h = absurd (h refl)
+not_group _ h = refl
 
 pub not_turnstile : (c : TokenKind) → c ≢ Turnstile → step ATurnstile c ≡ None
 not_turnstile Turnstile h = absurd (h refl)

@@ -7,8 +7,8 @@ use Rattle.esto_text.specs.declared.token.TokenKind.{TokenKind}
 use Rattle.esto_text.specs.declared.token.TokenKind.TheVariants.{Name, Quoted, LeftParen, RightParen, LeftBrace, RightBrace, LeftBracket, RightBracket, Comma, Dot, Colon, Turnstile, Arrow, Equals, Stars}
 use Rattle.esto_text.specs.declared.tree.StepSyntax.{StepSyntax}
 use Rattle.esto_text.specs.Trees.{EntryTree, Value, Nested, EntryTrees, NoEntry, AndEntry, ItemTree, Atom, Part, Pattern, QueryTree, HeadTree, Items, Equality, Never, ConstraintTree}
-use Rattle.esto_text.specs.Grammar.{class_of, step_at, IsName, IsTerm, IsRowEnd, IsRow, IsFirst, IsLater, IsPathEnd, IsPath, IsEntry, IsGroupEnd, IsGroup, IsItem, IsBodyEnd, IsBody, IsQuery, IsRuleBody, IsHead, NoFalse, IsConstraint}
-use Rattle.esto_text.specs.Machine.{Symbol, AName, ATerm, ANext, AParen, ABracket, MoreNames, MoreTerms, AnItem, ItemRest, MoreItems, MoreBody, AHead, HeadRest, AnEntry, PathRest, MoreEntries, after_head, start, constraint_start, step, class_at, advance, first_fault}
+use Rattle.esto_text.specs.Grammar.{class_of, step_at, IsName, IsTerm, IsRowEnd, IsRow, IsFirst, IsLater, IsPathEnd, IsPath, IsEntry, IsGroupEnd, IsGroup, IsLayout, IsItem, IsBodyEnd, IsBody, IsQuery, IsRuleBody, IsHead, NoFalse, IsConstraint}
+use Rattle.esto_text.specs.Machine.{Symbol, AName, ATerm, ANext, AParen, ABracket, MoreNames, MoreTerms, AnItem, ItemRest, MoreItems, MoreBody, AHead, HeadRest, AnEntry, PathRest, MoreEntries, after_head, start, constraint_start, layout_start, step, class_at, advance, first_fault}
 
 -- ---- one token
 
@@ -154,6 +154,15 @@ query_runs q ts (paren, head, turnstile, body, e, n, p, h, t, b) =
 
 pub query_fits : (q : QueryTree) (ts rest : List Token) → IsQuery q ts → first_fault start ts ≡ Some rest → ⊥
 query_fits q ts rest h e = let none : first_fault start ts ≡ None = query_runs q ts h in cc
+
+-- ---- layouts
+
+pub layout_runs : (fs : EntryTrees) (ts : List Token) → IsLayout fs ts → first_fault layout_start ts ≡ None
+layout_runs fs ts (brace, more, e, p, h) =
+    rw e (seen layout_start brace more LeftBrace p ∙ ap (first_fault (AnEntry 1 ∷ MoreEntries 1 ∷ [])) (sym (append-nil more)) ∙ group_runs fs 1 more [] [] h)
+
+pub layout_fits : (fs : EntryTrees) (ts rest : List Token) → IsLayout fs ts → first_fault layout_start ts ≡ Some rest → ⊥
+layout_fits fs ts rest h e = let none : first_fault layout_start ts ≡ None = layout_runs fs ts h in cc
 
 -- ---- constraints
 

@@ -6,12 +6,12 @@ use Rattle.std.proofs.Math.Seq.{drop-append_seam}
 use Rattle.esto_text.specs.declared.fault.TextKind.TheVariants as kind
 use Rattle.esto_text.specs.declared.stop.Stop.TheVariants.{Syntax}
 use Rattle.esto_text.specs.declared.token.Token.{Token}
-use Rattle.esto_text.specs.Faults.{IsViable, Leaves, StopsAt, place_of, IsTextOf, IsFaultOf, IsOnlyTree, IsGrammarFault, HaveOneTree, HaveNoFault, HaveOneFault}
-use Rattle.esto_text.specs.Grammar.{class_of, IsQuery, IsConstraint}
+use Rattle.esto_text.specs.Faults.{IsViable, Leaves, StopsAt, place_of, IsTextOf, IsFaultOf, IsOnlyTree, IsGrammarFault, IsLayoutGrammarFault, HaveOneTree, HaveNoFault, HaveOneFault}
+use Rattle.esto_text.specs.Grammar.{class_of, IsLayout, IsQuery, IsConstraint}
 use Rattle.esto_text.specs.Limits.{is_close, is_name, in_room, limited_row, limited}
-use Rattle.esto_text.specs.Machine.{Symbol, start, constraint_start, first_fault, FailsAt, ConstraintFails}
+use Rattle.esto_text.specs.Machine.{Symbol, start, constraint_start, layout_start, first_fault, FailsAt, ConstraintFails}
 use Rattle.esto_text.specs.Tokens.{AreTokens}
-use Rattle.esto_text.proofs.Languages.{fault_is, constraint_fault_is}
+use Rattle.esto_text.proofs.Languages.{fault_is, constraint_fault_is, layout_fault_is}
 use Rattle.esto_text.proofs.Covering.{covers_unique}
 
 -- ---- places
@@ -88,20 +88,28 @@ pub syntax_fault : (bytes : List ℕ) (ts : List Token) (left offset : ℕ) → 
     → IsGrammarFault bytes (record { offset = offset; kind = kind.Syntax })
 syntax_fault bytes ts = fault_at limited starts_limited IsQuery start ts (fault_is (limited ts)) bytes
 
-module _ (IsFalse : Token → Type 0) (ts : List Token) (left : ℕ) (fails : ConstraintFails IsFalse ts (Syntax left)) where
-  abbrev all : List Token → List Token
-  all tokens = tokens
+abbrev unmarked : List Token → List Token
+unmarked tokens = tokens
 
+pub layout_left_fits : (ts : List Token) (left : ℕ) → FailsAt layout_start ts (Syntax left) → left ≤ length ts
+layout_left_fits ts = left_is unmarked (λ ts. refl) IsLayout layout_start ts (layout_fault_is ts)
+
+pub layout_syntax_fault : (bytes : List ℕ) (ts : List Token) (left offset : ℕ) → AreTokens bytes ts → FailsAt layout_start ts (Syntax left) → offset
+    ≡ place_of (drop (length ts - left) ts) (length bytes)
+    → IsLayoutGrammarFault bytes (record { offset = offset; kind = kind.Syntax })
+layout_syntax_fault bytes ts = fault_at unmarked (λ ts. refl) IsLayout layout_start ts (layout_fault_is ts) bytes
+
+module _ (IsFalse : Token → Type 0) (ts : List Token) (left : ℕ) (fails : ConstraintFails IsFalse ts (Syntax left)) where
   stops : (rest : List Token) → first_fault constraint_start ts ≡ Some rest → StopsAt (IsConstraint IsFalse) ts rest
   stops rest e = constraint_fault_is IsFalse ts rest fails.0 e
 
   pub constraint_left_fits : left ≤ length ts
-  constraint_left_fits = left_is all (λ ts. refl) (IsConstraint IsFalse) constraint_start ts stops left fails.1
+  constraint_left_fits = left_is unmarked (λ ts. refl) (IsConstraint IsFalse) constraint_start ts stops left fails.1
 
   pub constraint_syntax_fault : (bytes : List ℕ) (offset : ℕ) → AreTokens bytes ts → offset ≡ place_of (drop (length ts - left) ts) (length bytes)
-      → IsFaultOf (IsConstraint IsFalse) all bytes (record { offset = offset; kind = kind.Syntax })
+      → IsFaultOf (IsConstraint IsFalse) unmarked bytes (record { offset = offset; kind = kind.Syntax })
   constraint_syntax_fault bytes offset h p =
-      fault_at all (λ ts. refl) (IsConstraint IsFalse) constraint_start ts stops bytes left offset h fails.1 p
+      fault_at unmarked (λ ts. refl) (IsConstraint IsFalse) constraint_start ts stops bytes left offset h fails.1 p
 
 -- ---- one tree, or one fault
 

@@ -5,7 +5,7 @@ use Rattle.esto_text.specs.declared.token.TokenKind.{TokenKind}
 use Rattle.esto_text.specs.declared.token.TokenKind.TheVariants.{Colon, LeftBrace, LeftBracket, Comma, Equals}
 use Rattle.esto_text.specs.declared.tree.StepSyntax.{StepSyntax}
 use Rattle.esto_text.specs.Trees.{EntryTree, Value, Nested, EntryTrees, NoEntry, AndEntry, ItemTree, Atom, Part, Pattern, QueryTree, HeadTree, Items, Equality, Never, ConstraintTree}
-use Rattle.esto_text.specs.Grammar.{class_of, step_at, IsName, IsTerm, IsNext, IsRowEnd, IsRow, IsFirst, IsLater, IsPathEnd, IsPath, IsEntry, IsGroupEnd, IsGroup, IsItem, IsBodyEnd, IsBody, IsQuery, IsRuleBody, IsHead, IsConstraint}
+use Rattle.esto_text.specs.Grammar.{class_of, step_at, IsName, IsTerm, IsNext, IsRowEnd, IsRow, IsFirst, IsLater, IsPathEnd, IsPath, IsEntry, IsGroupEnd, IsGroup, IsLayout, IsItem, IsBodyEnd, IsBody, IsQuery, IsRuleBody, IsHead, IsConstraint}
 use Rattle.esto_text.specs.Machine.{class_at}
 use Rattle.esto_text.proofs.Runs.{item_begins}
 
@@ -150,6 +150,12 @@ group_one (AndEntry f fs) n ts NoEntry ts' x y e h h' = absurd h'
 group_one (AndEntry f fs) n ts (AndEntry f' fs') ts' x y e (a, b, p, ha, hb) (a', b', p', ha', hb') =
     let s = entry_one f n a f' a' (b ++ x) (b' ++ y) (parts a b a' b' x y (along ts x ts' y (a ++ b) (a' ++ b') e p p')) ha ha' in
     let t = group_end_one fs n b fs' b' x y s.1 hb hb' in (cc (s.0, t.0), t.1)
+
+pub layout_one : (fs fs' : EntryTrees) (ts : List Token) → IsLayout fs ts → IsLayout fs' ts → fs ≡ fs'
+layout_one fs fs' ts (brace, more, e, p, h) (brace', more', e', p', h') =
+    let both : brace ∷ more ≡ brace' ∷ more' = sym e ∙ e' in
+    let rest : more ≡ more' = cc both in
+    (group_one fs 1 more fs' more' [] [] (ap (λ (l : List Token). l ++ []) rest) h h').0
 
 item_one : (i : ItemTree) (ts : List Token) (i' : ItemTree) (ts' x y : List Token) → ts ++ x ≡ ts' ++ y → IsItem i ts → IsItem i' ts' → (i ≡ i') × (x ≡ y)
 item_one (Atom m t) ts (Atom m' t') ts' x y e (c, more, p, q, r, h) (c', more', p', q', r', h') =

@@ -8,10 +8,10 @@ use Rattle.esto_text.specs.declared.token.Token.{Token}
 use Rattle.esto_text.specs.declared.token.TokenKind.TheVariants.{Name, Quoted}
 use Rattle.esto_text.specs.declared.version.Version.{Version}
 use Rattle.esto_text.specs.declared.version.Version.TheVariants.{One, Two}
-use Rattle.esto_text.specs.Grammar.{is_term, IsQuery, IsConstraint}
+use Rattle.esto_text.specs.Grammar.{is_term, IsLayout, IsQuery, IsConstraint}
 use Rattle.esto_text.specs.Limits.{limited}
 use Rattle.esto_text.specs.Tokens.{AreTokens, StandsIn, text_of, utf8_fault}
-use Rattle.esto_text.specs.Trees.{QueryTree, EachOfQuery, ConstraintTree, EachOfConstraint}
+use Rattle.esto_text.specs.Trees.{EntryTrees, EachOfEntries, QueryTree, EachOfQuery, ConstraintTree, EachOfConstraint}
 
 -- The tokens begin a text of the grammar: with some more they are one of its trees.
 abbrev pub IsViable : {T : Type 0} → (T → List Token → Type 0) → List Token → Type 0
@@ -75,6 +75,14 @@ IsConstraintText version bytes constraint = IsTextOf (IsConstraint (IsFalse vers
 abbrev pub IsConstraintGrammarFault : Version → List ℕ → TextFault → Type 0
 IsConstraintGrammarFault version bytes fault = IsFaultOf (IsConstraint (IsFalse version bytes)) (λ tokens. tokens) bytes fault
 
+-- The bytes are a text of a layout, with these entries.
+abbrev pub IsLayoutText : List ℕ → EntryTrees → Type 0
+IsLayoutText bytes entries = IsTextOf IsLayout (λ tokens. tokens) bytes entries
+
+-- The first fault of bytes that are no text of a layout.
+abbrev pub IsLayoutGrammarFault : List ℕ → TextFault → Type 0
+IsLayoutGrammarFault bytes fault = IsFaultOf IsLayout (λ tokens. tokens) bytes fault
+
 -- The token is a name that stands in the bytes.
 abbrev pub IsNameIn : List ℕ → Token → Type 0
 IsNameIn bytes token = StandsIn bytes token × (token.kind ≡ Name)
@@ -94,6 +102,10 @@ StandsAt bytes query = EachOfQuery (IsNameIn bytes) (IsFieldIn bytes) (IsTermIn 
 -- Each token of the tree of a constraint is what it is to be there, and stands in the bytes.
 abbrev pub ConstraintStandsAt : List ℕ → ConstraintTree → Type 0
 ConstraintStandsAt bytes constraint = EachOfConstraint (IsNameIn bytes) (IsFieldIn bytes) (IsTermIn bytes) constraint
+
+-- Each token of the entries of a layout is what it is to be there, and stands in the bytes.
+abbrev pub LayoutStandsAt : List ℕ → EntryTrees → Type 0
+LayoutStandsAt bytes entries = EachOfEntries (IsFieldIn bytes) (IsTermIn bytes) entries
 
 -- A text has at most one tree.
 abbrev pub HaveOneTree : {T : Type 0} → (List ℕ → T → Type 0) → Type 0

@@ -100,6 +100,10 @@ abbrev pub IsGroup : ℕ → EntryTrees → List Token → Type 0
 IsGroup depth NoEntry tokens = ⊥
 IsGroup depth (AndEntry first others) tokens = (a b : List Token) × (tokens ≡ a ++ b) × IsEntry depth first a × IsGroupEnd depth others b
 
+-- layout = group = "{" entry { "," entry } "}"
+abbrev pub IsLayout : EntryTrees → List Token → Type 0
+IsLayout entries tokens = (brace : Token) × (more : List Token) × (tokens ≡ brace ∷ more) × (class_of brace ≡ LeftBrace) × IsGroup 1 entries more
+
 -- item = name "(" terms ")" | name "." name "(" terms ")" | name group
 abbrev pub IsItem : ItemTree → List Token → Type 0
 IsItem (Atom name terms) tokens =

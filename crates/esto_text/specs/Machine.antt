@@ -10,7 +10,7 @@ use Rattle.esto_text.specs.Trees.{ConstraintTree}
 
 -- A part of the grammar that is still to come. An entry and its rest have the number of open braces.
 pub data Symbol : Type 0 where
-  AName ATerm ANext AParen ABracket ATurnstile MoreNames MoreTerms AnItem ItemRest MoreItems MoreBody AHead HeadRest : Symbol
+  AName ATerm ANext AParen ABracket ATurnstile MoreNames MoreTerms AnItem ItemRest MoreItems MoreBody AHead HeadRest AGroup : Symbol
   AnEntry : ℕ → Symbol
   PathRest : ℕ → Symbol
   MoreEntries : ℕ → Symbol
@@ -26,6 +26,10 @@ start = AName ∷ AParen ∷ AName ∷ MoreNames ∷ after_head
 -- A whole constraint.
 abbrev pub constraint_start : List Symbol
 constraint_start = AnItem ∷ MoreBody ∷ AHead ∷ []
+
+-- A whole layout.
+abbrev pub layout_start : List Symbol
+layout_start = AGroup ∷ []
 
 -- What takes the symbol's place when a token of the kind is read.
 abbrev pub step : Symbol → TokenKind → Option (List Symbol)
@@ -53,6 +57,7 @@ step HeadRest Equals = Some (ATerm ∷ [])
 step HeadRest LeftParen = Some (ATerm ∷ MoreTerms ∷ MoreItems ∷ [])
 step HeadRest Dot = Some (AName ∷ AParen ∷ ATerm ∷ MoreTerms ∷ MoreItems ∷ [])
 step HeadRest LeftBrace = Some (AnEntry 1 ∷ MoreEntries 1 ∷ MoreItems ∷ [])
+step AGroup LeftBrace = Some (AnEntry 1 ∷ MoreEntries 1 ∷ [])
 step (AnEntry n) Name = Some (PathRest n ∷ [])
 step (AnEntry n) Quoted = Some (PathRest n ∷ [])
 step (AnEntry n) Stars = Some (PathRest n ∷ [])

@@ -9,7 +9,7 @@ pub enum TextKind {
     Utf8,
     /// The text is outside the grammar.
     Syntax,
-    /// No relation has this name and this form.
+    /// No relation has this name and this form, or no column of a layout this name.
     Unknown,
     /// The relation has another number of columns.
     Arity,

@@ -1,8 +1,9 @@
-//! The texts of queries, views and constraints: their tokens, and the trees of the grammar.
+//! The texts of queries, views, constraints and layouts: their tokens, and the trees of the grammar.
 #![tactic(auto)]
 
 mod fault;
 mod groups;
+mod layout;
 mod lexeme;
 mod parts;
 mod paths;
@@ -18,7 +19,7 @@ mod tree;
 mod version;
 
 pub use fault::{ReadError, TextFault, TextKind};
-pub use syntax::{read_constraint_tree, read_query_tree, trees_are_determined};
+pub use syntax::{read_constraint_tree, read_layout_tree, read_query_tree, trees_are_determined};
 pub use token::{Token, TokenKind, Tokens};
 pub use tokens::{read_tokens, tokens_are_determined};
 pub use tree::{ConstraintSyntax, EntrySyntax, HeadSyntax, ItemSyntax, QuerySyntax, StepSyntax};

@@ -1,16 +1,18 @@
 //! Texts as syntax trees.
 ghost use Rattle.std.specs.Prelude.{◌≡◌, ◌≤◌, ◌-◌, length, drop, IfOk, IfErr};
-ghost use Rattle.esto_text.specs.Faults.{place_of, IsErrorOf, IsOnlyTree, IsQueryText, IsGrammarFault, StandsAt, IsConstraintText, IsConstraintGrammarFault, ConstraintStandsAt, HaveOneTree, HaveNoFault, HaveOneFault};
-ghost use Rattle.esto_text.specs.View.{tree_of, constraint_of};
+ghost use Rattle.esto_text.specs.Faults.{place_of, IsErrorOf, IsOnlyTree, IsQueryText, IsGrammarFault, StandsAt, IsConstraintText, IsConstraintGrammarFault, ConstraintStandsAt, IsLayoutText, IsLayoutGrammarFault, LayoutStandsAt, HaveOneTree, HaveNoFault, HaveOneFault};
+ghost use Rattle.esto_text.specs.View.{entries_of, tree_of, constraint_of};
 
 use crate::fault::{ReadError, TextFault, TextKind};
+use crate::layout::layout;
 use crate::reader::query;
 use crate::rule::constraint;
 use crate::stop::Stop;
 use crate::token::Token;
 use crate::tokens::read_tokens;
-use crate::tree::{ConstraintSyntax, QuerySyntax};
+use crate::tree::{ConstraintSyntax, EntrySyntax, QuerySyntax};
 use crate::version::Version;
+use esto_term::List;
 use std::alloc::Global;
 
 /// The place at which the last `left` tokens begin, in a text of so many bytes.
@@ -89,7 +91,29 @@ pub fn read_constraint_tree(
     }
 }
 
-/// A law: a text of a query or a view, or of a constraint in one version, has at most one tree and at most one fault of
+/// The entries of a layout. The fault Utf8, at offset 0, comes exactly where the bytes are not UTF-8; the fault Syntax
+/// exactly where the text is outside the grammar, at the start of the first token at which the tokens so far stop being
+/// a prefix of a text of the grammar, or at the end of a text that ends too early.
+pub fn read_layout_tree(alloc: Global, bytes: &[u8]) -> Result<List<EntrySyntax>, ReadError>
+    // The text is in the grammar, with these entries.
+    ensures tree { IfOk result (λ entries. IsLayoutText bytes.now (entries_of entries)) }
+    // It is no other entries'.
+    ensures only { IfOk result (λ entries.
+        IsOnlyTree IsLayoutText bytes.now (entries_of entries)) }
+    // Each token of the entries stands in the text.
+    ensures tokens { IfOk result (λ entries. LayoutStandsAt bytes.now (entries_of entries)) }
+    ensures error { IfErr result (λ e. IsErrorOf IsLayoutGrammarFault bytes.now e) }
+{
+    let tokens = read_tokens(alloc, bytes)?;
+    let tokens = tokens.items();
+    match layout(alloc, tokens) {
+        Ok(entries) => Ok(entries),
+        Err(Stop::OutOfMemory) => Err(ReadError::OutOfMemory),
+        Err(Stop::Syntax(left)) => Err(syntax_error(tokens, left, bytes.len())),
+    }
+}
+
+/// A law: a text of a query or a view, of a constraint in one version, or of a layout, has at most one tree and at most one fault of
 /// its grammar, and never both.
 pub fn trees_are_determined()
     ensures tree { HaveOneTree IsQueryText }
@@ -100,4 +124,7 @@ pub fn trees_are_determined()
         HaveNoFault (IsConstraintText version) (IsConstraintGrammarFault version) }
     ensures constraint_fault { (version : Version) →
         HaveOneFault (IsConstraintGrammarFault version) }
+    ensures layout_tree { HaveOneTree IsLayoutText }
+    ensures layout_apart { HaveNoFault IsLayoutText IsLayoutGrammarFault }
+    ensures layout_fault { HaveOneFault IsLayoutGrammarFault }
 {}

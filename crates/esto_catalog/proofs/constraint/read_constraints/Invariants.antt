@@ -8,7 +8,7 @@ use Rattle.esto_catalog.proofs.constraint.read_constraints.Given as goal
 
 abbrev pub invariant-entries : goal.invariant-entries
 invariant-entries l = record {
-  leads : Leads (each (adds_constraint l.version l.tables.datasets) (suc l.index) l.rules (drop l.index l.entries))
-      (reads_constraints l.version l.tables.datasets l.entries);
-  sound : AreSoundRules (arities_of l.tables.schema) l.rules;
+  leads : Leads (each (adds_constraint l.version l.scope.datasets) (suc l.index) l.rules (drop l.index l.entries))
+      (reads_constraints l.version l.scope.datasets l.entries);
+  sound : AreSoundRules (arities_of l.scope.schema) l.rules;
 }

@@ -5,10 +5,10 @@ use Rattle.esto_catalog.proofs.constraint.rule.Goals as goal
 
 pub returns-in_err-text-clause-rule : goal.returns-in_err-text-clause-rule
 returns-in_err-text-clause-rule c =
-    row_exit (rule_row c.args.version c.args.place c.args.tables.now.datasets c.args.entry.now) _ _ c.from_residual.ensures.1
+    row_exit (rule_row c.args.version c.args.place c.args.scope.now.datasets c.args.entry.now) _ _ c.from_residual.ensures.1
     (first_stops _ _ (c.in_err-text.ensures))
 
 pub returns-in_err-rule-clause-rule : goal.returns-in_err-rule-clause-rule
 returns-in_err-rule-clause-rule c =
-    row_exit (rule_row c.args.version c.args.place c.args.tables.now.datasets c.args.entry.now) _ _ c.from_residual-in_err-rule.ensures.1
+    row_exit (rule_row c.args.version c.args.place c.args.scope.now.datasets c.args.entry.now) _ _ c.from_residual-in_err-rule.ensures.1
     (then_stops _ _ _ (c.in_ok-text.ensures) (c.in_err-rule.ensures.rule))

@@ -5,7 +5,8 @@ use Rattle.esto_catalog.proofs.dataset.read_dataset.Goals as goal
 
 pub returns-in_err-knows_keys : goal.returns-in_err-knows_keys
 returns-in_err-knows_keys c =
-    row_exit (reads_dataset c.args.place c.args.earlier.now c.args.entry.now) _ _ c.from_residual.ensures.1 (first_stops _ _ (c.in_err-knows_keys.ensures))
+    row_exit (reads_dataset c.args.place c.args.earlier.now c.args.entry.now) _ _ c.from_residual.ensures.1
+    (first_stops _ _ (c.in_err-knows_keys.ensures))
 
 pub returns-in_err-name : goal.returns-in_err-name
 returns-in_err-name c =
@@ -20,18 +21,17 @@ returns-in_err-model c =
 pub returns-in_err-columns : goal.returns-in_err-columns
 returns-in_err-columns c =
     row_exit (reads_dataset c.args.place c.args.earlier.now c.args.entry.now) _ _ c.from_residual-in_err-columns.ensures.1
-    (then_stops _ _ _ (c.in_ok-knows_keys.ensures) (then_stops _ _ _ (c.in_ok-name.ensures)
-    (then_stops _ _ _ (c.in_ok-model.ensures) (first_stops _ _ (c.in_err-columns.ensures)))))
+    (then_stops _ _ _ (c.in_ok-knows_keys.ensures) (then_stops _ _ _ (c.in_ok-name.ensures) (then_stops _ _ _ (c.in_ok-model.ensures)
+    (first_stops _ _ (c.in_err-columns.ensures)))))
 
-pub returns-in_err-unfit : goal.returns-in_err-unfit
-returns-in_err-unfit c =
-    row_exit (reads_dataset c.args.place c.args.earlier.now c.args.entry.now) _ _ c.from_residual-in_err-unfit.ensures.1
-    (then_stops _ _ _ (c.in_ok-knows_keys.ensures) (then_stops _ _ _ (c.in_ok-name.ensures)
-    (then_stops _ _ _ (c.in_ok-model.ensures) (then_stops _ _ _ (c.in_ok-columns.ensures) (first_stops _ _ (c.in_err-unfit.ensures))))))
+pub returns-in_err-layout : goal.returns-in_err-layout
+returns-in_err-layout c =
+    row_exit (reads_dataset c.args.place c.args.earlier.now c.args.entry.now) _ _ c.from_residual-in_err-layout.ensures.1
+    (then_stops _ _ _ (c.in_ok-knows_keys.ensures) (then_stops _ _ _ (c.in_ok-name.ensures) (then_stops _ _ _ (c.in_ok-model.ensures)
+    (then_stops _ _ _ (c.in_ok-columns.ensures) (first_stops _ _ (c.in_err-layout.ensures))))))
 
 pub returns-in_err-file : goal.returns-in_err-file
 returns-in_err-file c =
     row_exit (reads_dataset c.args.place c.args.earlier.now c.args.entry.now) _ _ c.from_residual-in_err-file.ensures.1
-    (then_stops _ _ _ (c.in_ok-knows_keys.ensures) (then_stops _ _ _ (c.in_ok-name.ensures)
-    (then_stops _ _ _ (c.in_ok-model.ensures) (then_stops _ _ _ (c.in_ok-columns.ensures)
-    (then_stops _ _ _ (c.in_ok-unfit.ensures) (first_stops _ _ (c.in_err-file.ensures)))))))
+    (then_stops _ _ _ (c.in_ok-knows_keys.ensures) (then_stops _ _ _ (c.in_ok-name.ensures) (then_stops _ _ _ (c.in_ok-model.ensures)
+    (then_stops _ _ _ (c.in_ok-columns.ensures) (then_stops _ _ _ (c.in_ok-layout.ensures) (first_stops _ _ (c.in_err-file.ensures)))))))

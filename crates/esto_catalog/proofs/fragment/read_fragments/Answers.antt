@@ -18,7 +18,7 @@ entries-preserved c =
     record {
       leads =
           rw (c.in_ok-push.ensures.ok, c.in_ok-push-2.ensures.ok)
-          (fragment_turn c.args.tables.now.datasets c.args.entries.now _ c.entries.index before c.entries.invariant.leads c.index-entries-index.result
+          (fragment_turn c.args.scope.now.datasets c.args.entries.now _ c.entries.index before c.entries.invariant.leads c.index-entries-index.result
           c.entries-test.true c.index-entries-index.is _ c.entry-place.ensures _ _ c.items-earlier.ensures c.items-fields.ensures c.in_ok-stored.stored
           c.in_ok-stored.ensures.fragment);
       sound = rw (c.in_ok-push.ensures.ok, c.in_ok-push-2.ensures.ok) (fragments_more _ before c.in_ok-stored.stored c.entries.invariant.sound
@@ -29,7 +29,7 @@ pub returns-in_err-stored-clause-fragments : goal.returns-in_err-stored-clause-f
 returns-in_err-stored-clause-fragments c =
     let before : Fragments = record { definitions = c.entries.definitions; stores = c.entries.stores } in
     at_exit _ _ _ c.from_residual.ensures.1
-    (fragment_fails c.args.tables.now.datasets c.args.entries.now _ c.entries.index before c.entries.invariant.leads c.index-entries-index.result
+    (fragment_fails c.args.scope.now.datasets c.args.entries.now _ c.entries.index before c.entries.invariant.leads c.index-entries-index.result
     c.entries-test.true c.index-entries-index.is _ c.entry-place.ensures _ _ c.items-earlier.ensures c.items-fields.ensures _
     c.in_err-stored.ensures.fragment)
 
@@ -37,5 +37,5 @@ pub returns-clause-fragments : goal.returns-clause-fragments
 returns-clause-fragments c =
     let before : Fragments = record { definitions = c.entries.definitions; stores = c.entries.stores } in
     let le : length c.args.entries.now ≤ c.entries.index = omega arith in
-    each_goes (adds_fragment c.args.tables.now.datasets) c.args.entries.now
-    (reads_fragments c.args.tables.now.datasets c.args.entries.now) _ c.entries.index before c.entries.invariant.leads le
+    each_goes (adds_fragment c.args.scope.now.datasets) c.args.entries.now
+    (reads_fragments c.args.scope.now.datasets c.args.entries.now) _ c.entries.index before c.entries.invariant.leads le

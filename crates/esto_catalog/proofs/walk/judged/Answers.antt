@@ -1,38 +1,43 @@
-use Rattle.std.proofs.Common.{ap, inl, length, refl, sym, subst}
+use Rattle.std.proofs.Common.{ap, inl, length, refl, sym, subst, ◌≡◌, ◌≤◌, ◌∙◌}
 use Rattle.esto_acyclic.specs.Graphs.{AreRanks, IsAcyclic}
 use Rattle.esto_acyclic.specs.Relations.{AreNamesOf, IsEdge}
 use Rattle.esto_constraint.specs.Constraints.{rules_of}
+use Rattle.esto_catalog.proofs.EncodingLemmas.{given_most}
 use Rattle.esto_catalog.proofs.RowLemmas.{judges_goes, judges_stops}
-use Rattle.esto_catalog.proofs.WalkLemmas.{rules_within, sound_catalogue}
-use Rattle.esto_catalog.specs.Soundness.{IsSoundCatalogue}
+use Rattle.esto_catalog.proofs.WalkLemmas.{cycle_as, ranks_as, rules_within, sound_catalogue}
+use Rattle.esto_catalog.specs.Reading.{IsCycleOf}
+use Rattle.esto_catalog.specs.Rules.{all_rules}
 use Rattle.esto_catalog.proofs.walk.judged.Goals as goal
 
 pub judge-requires : goal.judge-requires
-judge-requires c = rules_within c.args.tables.schema c.args.rules c.requires.rules
+judge-requires c = rules_within c.args.scope.schema c.in_ok-rules.rules c.in_ok-rules.ensures.over
 
 pub invariant_of-result : goal.invariant_of-result
 invariant_of-result c =
-    let exact : AreRanks (IsEdge (rules_of c.args.rules)) (length c.args.tables.schema) c.in-Left.ranks = rw c.in-Left.is at c.in_ok-ranks.ensures.ranks in
-    let sound = sound_catalogue c.args.tables c.args.fragments c.args.rules c.in-Left.ranks c.requires.tables c.requires.fragments c.requires.rules exact in
+    let exact : AreRanks (IsEdge (rules_of c.in_ok-rules.rules)) (length c.args.scope.schema) c.in-Left.ranks =
+    rw c.in-Left.is at c.in_ok-ranks.ensures.ranks in
+    let most : length c.args.given ≤ length c.in_ok-rules.rules = given_most _ _ _ _ c.in_ok-rules.ensures.rules in
     record {
-      sound = ∣ subst (λ n. IsSoundCatalogue c.args.tables.schema c.args.tables.words c.args.tables.datasets c.args.fragments.definitions
-          c.args.fragments.stores c.args.rules n c.in-Left.ranks) (sym c.len.ensures) sound ∣₁;
+      sound = ∣ sound_catalogue c.args.scope c.args.fragments c.in_ok-rules.rules _ c.in-Left.ranks c.requires.scope c.requires.fragments
+          c.in_ok-rules.ensures.over (subst (λ n. n ≤ length c.in_ok-rules.rules) (sym c.len-count.ensures) most) exact ∣₁;
     }
 
 pub returns-in-Left : goal.returns-in-Left
 returns-in-Left c =
-    let exact : AreRanks (IsEdge (rules_of c.args.rules)) (length c.args.tables.schema) c.in-Left.ranks = rw c.in-Left.is at c.in_ok-ranks.ensures.ranks in
-    let acyclic : IsAcyclic (IsEdge (rules_of c.args.rules)) = rw c.in-Left.is at c.in_ok-ranks.ensures.acyclic in
+    let all = c.in_ok-rules.ensures.rules.all in
+    let exact : AreRanks (IsEdge (rules_of c.in_ok-rules.rules)) (length c.args.scope.schema) c.in-Left.ranks =
+    rw c.in-Left.is at c.in_ok-ranks.ensures.ranks in
+    let acyclic : IsAcyclic (IsEdge (rules_of c.in_ok-rules.rules)) = rw c.in-Left.is at c.in_ok-ranks.ensures.acyclic in
     judges_goes _ _ _ (record {
-      schema = c.requires.tables.schema;
-      words = c.requires.tables.words;
+      schema = c.requires.scope.schema;
+      words = c.requires.scope.words;
       same_datasets = refl;
       definitions = refl;
       stores = refl;
-      same_rules = refl;
-      given = c.len.ensures;
-      acyclic = acyclic;
-      ranks = subst (λ n. AreRanks (IsEdge (rules_of c.args.rules)) n c.in-Left.ranks) (ap length c.requires.tables.schema) exact;
+      rules = c.in_ok-rules.ensures.rules;
+      given_are = c.len-count.ensures;
+      acyclic = subst (λ r. IsAcyclic (IsEdge r)) all acyclic;
+      ranks = ranks_as _ _ _ _ c.in-Left.ranks all c.requires.scope.schema exact;
     })
 
 pub returns-in-Right : goal.returns-in-Right
@@ -40,10 +45,6 @@ returns-in-Right c =
     let found = rw c.in-Right.is at c.in_ok-ranks.ensures.cycle in
     judges_stops _ _ _ _ (λ other same. (
       c.in-Right.cycle,
-      (
-        found.0,
-        subst
-            (λ schema. AreNamesOf schema c.in-Right.cycle.relations c.in-Right.cycle.names) c.requires.tables.schema found.1,
-      ),
+      cycle_as c.args.scope.datasets _ _ c.args.scope.schema c.in-Right.cycle c.in_ok-rules.ensures.rules.all c.requires.scope.schema found,
       same,
     )) (inl refl)

@@ -38,12 +38,3 @@ returns-in_err-constraints-clause-whole c =
     (then_stops _ _ _ ((rw c.items-entry.ensures at c.in_ok-version.ensures))
     (then_stops _ _ _ (c.in_ok-datasets.ensures.section) (then_stops _ _ _ (c.in_ok-fragments.ensures.section)
     (first_stops _ _ (c.in_err-constraints.ensures.section)))))))
-
-pub returns-in_err-is_built-clause-whole : goal.returns-in_err-is_built-clause-whole
-returns-in_err-is_built-clause-whole c =
-    row_exit (reads_whole c.args.bytes.now) _ _ c.from_residual-in_err-is_built.ensures.1
-    (then_stops _ _ _ (c.in_ok-document.ensures) (then_stops _ _ _ ((rw c.items-entry.ensures at c.in_ok-knows_keys.ensures))
-    (then_stops _ _ _ ((rw c.items-entry.ensures at c.in_ok-version.ensures))
-    (then_stops _ _ _ (c.in_ok-datasets.ensures.section) (then_stops _ _ _ (c.in_ok-fragments.ensures.section)
-    (then_stops _ _ _ (c.in_ok-constraints.ensures.section)
-    (first_stops _ _ ((rw (c.items-dataset_entries.ensures, c.items-fragment_entries.ensures) at c.in_err-is_built.ensures)))))))))

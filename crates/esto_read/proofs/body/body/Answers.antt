@@ -8,26 +8,26 @@ use Rattle.esto_text.specs.View.{item_of}
 use Rattle.esto_read.proofs.BodyLemmas.{item_at, length_items, each_item, body_more, body_fails}
 use Rattle.esto_read.proofs.body.body.Goals as goal
 
-pub atom-requires-clause-stands : goal.atom-requires-clause-stands
-atom-requires-clause-stands c =
+pub item-requires-clause-stands : goal.item-requires-clause-stands
+item-requires-clause-stands c =
     let bytes = c.args.bytes.now in
-    each_item (EachOfItem (IsNameIn bytes) (IsFieldIn bytes) (IsTermIn bytes)) c.args.items.now c.items.item-index c.item-item.result c.requires.stand
-    c.items-test.true c.item-item.is
+    each_item (EachOfItem (IsNameIn bytes) (IsFieldIn bytes) (IsTermIn bytes)) c.args.items.now c.items.each-index c.each-item.result c.requires.stand
+    c.items-test.true c.each-item.is
 
-pub returns-in_err-atom-clause-err : goal.returns-in_err-atom-clause-err
-returns-in_err-atom-clause-err c =
+pub returns-in_err-own-clause-err : goal.returns-in_err-own-clause-err
+returns-in_err-own-clause-err c =
     let p = err_from_is_err_and c.from_residual.result c.from_residual.ensures.1 in
     let items = map item_of c.args.items.now in
-    let lt : c.items.item-index < length items = omega (arith, length_items c.args.items.now, c.items-test.true) in
-    rw (p.1, p.2) (body_fails c.args.words.now (arities_of c.args.schema.now) c.args.bytes.now c.args.names.now items c.items.item-index c.items.body
-    c.items.names c.items.invariant lt (item_of c.item-item.result)
-    (item_at c.args.items.now c.items.item-index c.item-item.result c.item-item.is) _ (rw c.len.ensures at c.in_err-atom.ensures.err))
+    let lt : c.items.each-index < length items = omega (arith, length_items c.args.items.now, c.items-test.true) in
+    rw (p.1, p.2) (body_fails c.args.words.now (arities_of c.args.schema.now) c.args.bytes.now c.args.names.now items c.items.each-index c.items.body
+    c.items.names c.items.invariant lt (item_of c.each-item.result)
+    (item_at c.args.items.now c.items.each-index c.each-item.result c.each-item.is) _ (rw c.len.ensures at c.in_err-own.ensures.err))
 
 pub items-preserved : goal.items-preserved
 items-preserved c =
     let items = map item_of c.args.items.now in
-    let lt : c.items.item-index < length items = omega (arith, length_items c.args.items.now, c.items-test.true) in
-    rw c.in_ok-push.ensures.ok (body_more c.args.words.now (arities_of c.args.schema.now) c.args.bytes.now c.args.names.now items c.items.item-index
-    c.items.body c.items.names c.items.invariant lt (item_of c.item-item.result)
-    (item_at c.args.items.now c.items.item-index c.item-item.result c.item-item.is) c.in_ok-atom.atom c.atom.new.names c.in_ok-atom.ensures.ok
-    (rw c.len.ensures at c.in_ok-atom.ensures.fits))
+    let lt : c.items.each-index < length items = omega (arith, length_items c.args.items.now, c.items-test.true) in
+    rw c.in_ok-append.ensures.ok (body_more c.args.words.now (arities_of c.args.schema.now) c.args.bytes.now c.args.names.now items c.items.each-index
+    c.items.body c.items.names c.items.invariant lt (item_of c.each-item.result)
+    (item_at c.args.items.now c.items.each-index c.each-item.result c.each-item.is) c.in_ok-own.own c.item.new.names c.in_ok-own.ensures.ok
+    (rw c.len.ensures at c.in_ok-own.ensures.fits))

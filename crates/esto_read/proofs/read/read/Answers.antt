@@ -4,8 +4,10 @@ use Rattle.esto_query.specs.Schemas.{arities_of}
 use Rattle.esto_text.specs.View.{tree_of}
 use Rattle.esto_semantics.specs.WellFormed.{IsQueryOver}
 use Rattle.esto_read.specs.Readings.{IsRead, IsHeadFit, HasVariables}
-use Rattle.esto_read.proofs.ReadLemmas.{names_are_terms, terms_length, sound, over, head_is, body_error}
-use Rattle.esto_read.proofs.MakeLemmas.{query_along, items_size}
+use Rattle.esto_read.proofs.BelowLemmas.{names_are_terms, terms_length}
+use Rattle.esto_read.proofs.ReadLemmas.{sound, over, head_is, body_error}
+use Rattle.esto_read.proofs.ItemLemmas.{items_size}
+use Rattle.esto_read.proofs.MakeLemmas.{query_along}
 use Rattle.esto_read.proofs.Utf8Lemmas.{name_token}
 use Rattle.esto_read.proofs.read.read.Goals as goal
 
@@ -60,7 +62,7 @@ query-requires-clause-sound c =
       fits = rw (c.items-2.ensures, c.items-words.ensures) at c.in_ok-body.ensures.fits;
     } in
     sound c.args.words.now (arities_of c.args.schema.now) c.args.bytes.now c.in_ok-tree.ensures.tree.1.0 (tree_of c.in_ok-tree.tree) c.in_ok-head.head
-    c.in_ok-body.body c.body.new.names c.in_ok-tree.ensures.tree c.in_ok-tree.ensures.tokens read fit.1
+    c.in_ok-body.body c.body.new.names c.in_ok-tree.ensures.tree c.in_ok-tree.ensures.tokens read c.requires.words.relations fit.1
 
 pub query-requires-clause-over : goal.query-requires-clause-over
 query-requires-clause-over c =
@@ -72,7 +74,7 @@ query-requires-clause-over c =
       fits = rw (c.items-2.ensures, c.items-words.ensures) at c.in_ok-body.ensures.fits;
     } in
     (over c.args.words.now (arities_of c.args.schema.now) c.args.bytes.now c.in_ok-tree.ensures.tree.1.0 (tree_of c.in_ok-tree.tree) c.in_ok-head.head
-    c.in_ok-body.body c.body.new.names c.in_ok-tree.ensures.tree c.in_ok-tree.ensures.tokens read).over
+    c.in_ok-body.body c.body.new.names c.in_ok-tree.ensures.tree c.in_ok-tree.ensures.tokens read c.requires.words.relations).over
 
 pub query-requires-clause-size : goal.query-requires-clause-size
 query-requires-clause-size c =
@@ -121,7 +123,7 @@ returns-clause-over c =
     query_along (arities_of c.args.schema.now) c.in_ok-head.head c.in_ok-body.body c.body.new.names c.query.result
     (λ head body names. IsQueryOver (arities_of c.args.schema.now) (record { head = head; body = body })) c.query.ensures
     (over c.args.words.now (arities_of c.args.schema.now) c.args.bytes.now c.in_ok-tree.ensures.tree.1.0 (tree_of c.in_ok-tree.tree) c.in_ok-head.head
-    c.in_ok-body.body c.body.new.names c.in_ok-tree.ensures.tree c.in_ok-tree.ensures.tokens read)
+    c.in_ok-body.body c.body.new.names c.in_ok-tree.ensures.tree c.in_ok-tree.ensures.tokens read c.requires.words.relations)
 
 pub returns-clause-head : goal.returns-clause-head
 returns-clause-head c =

@@ -3,7 +3,7 @@ use Rattle.std.specs.Prelude.{map}
 use Rattle.std.proofs.lemmas.Result.{err_from_is_err_and}
 use Rattle.esto_query.specs.Schemas.{arities_of}
 use Rattle.esto_text.specs.View.{item_of, head_of, constraint_of}
-use Rattle.esto_read.proofs.RuleLemmas.{bases, sides_are, tuple_parts, equality_parts, denial_parts, tuple_reading, equality_reading, denial_reading, body_error, head_error, side_error}
+use Rattle.esto_read.proofs.RuleLemmas.{sides_are, tuple_parts, equality_parts, denial_parts, tuple_reading, equality_reading, denial_reading, body_error, head_error, side_error}
 use Rattle.esto_read.proofs.rule.read_rule.Goals as goal
 
 -- ---- errors of items
@@ -14,9 +14,6 @@ returns-in_err-atoms-clause-error c =
     rw (p.1, p.2)
     (body_error c.args.version c.args.words.now (arities_of c.args.schema.now) c.args.bytes.now (constraint_of c.in_ok-tree.tree)
     c.in_ok-tree.ensures.tree _ (rw (c.items.ensures, c.items-words.ensures) at c.in_err-atoms.ensures.err))
-
-pub body-requires-in-Items-clause-bases : goal.body-requires-in-Items-clause-bases
-body-requires-in-Items-clause-bases c = rw c.items-words.ensures (bases c.args.schema.now c.args.words.now c.requires.words c.requires.tables)
 
 pub returns-in_err-head-in-Items-clause-error : goal.returns-in_err-head-in-Items-clause-error
 returns-in_err-head-in-Items-clause-error c =
@@ -31,7 +28,7 @@ returns-in_err-head-in-Items-clause-error c =
 pub tuple_rule-requires : goal.tuple_rule-requires
 tuple_rule-requires c =
     tuple_parts c.args.version c.args.words.now (arities_of c.args.schema.now) c.args.bytes.now (constraint_of c.in_ok-tree.tree)
-    c.in_ok-tree.ensures.tree c.in_ok-tree.ensures.tokens (map item_of c.in-Items.items) (ap head_of c.in-Items.is)
+    c.in_ok-tree.ensures.tree c.in_ok-tree.ensures.tokens c.requires.words.relations (map item_of c.in-Items.items) (ap head_of c.in-Items.is)
     c.in_ok-atoms.atoms c.in_ok-head-in-Items.head c.body-in-Items.new.names (record {
       between = c.body.new.names;
       body_atoms = rw (c.new-names.ensures, c.items.ensures, c.items-words.ensures) at c.in_ok-atoms.ensures.ok;
@@ -70,7 +67,7 @@ returns-in-Some-clause-error c =
 pub equal_rule-requires : goal.equal_rule-requires
 equal_rule-requires c =
     equality_parts c.args.version c.args.words.now (arities_of c.args.schema.now) c.args.bytes.now (constraint_of c.in_ok-tree.tree)
-    c.in_ok-tree.ensures.tree c.in_ok-tree.ensures.tokens c.in-Equality.left c.in-Equality.right (ap head_of c.in-Equality.is)
+    c.in_ok-tree.ensures.tree c.in_ok-tree.ensures.tokens c.requires.words.relations c.in-Equality.left c.in-Equality.right (ap head_of c.in-Equality.is)
     c.in_ok-atoms.atoms c.in_ok-left_term-in-Equality.left_term c.in_ok-right_term-in-Equality.right_term c.term-in-Equality.new.names (record {
       between = c.body.new.names;
       body_atoms = rw (c.new-names.ensures, c.items.ensures, c.items-words.ensures) at c.in_ok-atoms.ensures.ok;
@@ -100,7 +97,7 @@ returns-in-Equality-clause-reading c =
 pub denial-requires : goal.denial-requires
 denial-requires c =
     denial_parts c.args.version c.args.words.now (arities_of c.args.schema.now) c.args.bytes.now (constraint_of c.in_ok-tree.tree)
-    c.in_ok-tree.ensures.tree c.in_ok-tree.ensures.tokens c.in_ok-atoms.atoms c.body.new.names (record {
+    c.in_ok-tree.ensures.tree c.in_ok-tree.ensures.tokens c.requires.words.relations c.in_ok-atoms.atoms c.body.new.names (record {
       body_atoms = rw (c.new-names.ensures, c.items.ensures, c.items-words.ensures) at c.in_ok-atoms.ensures.ok;
       body_fits = rw (c.items.ensures, c.items-words.ensures) at c.in_ok-atoms.ensures.fits;
     })

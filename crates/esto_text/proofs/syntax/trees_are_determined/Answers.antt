@@ -1,8 +1,8 @@
 use Rattle.esto_text.specs.Faults.{IsFalse}
-use Rattle.esto_text.specs.Grammar.{IsQuery, IsConstraint}
+use Rattle.esto_text.specs.Grammar.{IsLayout, IsQuery, IsConstraint}
 use Rattle.esto_text.specs.Limits.{limited}
 use Rattle.esto_text.proofs.SyntaxLemmas.{one_tree, no_fault, one_fault}
-use Rattle.esto_text.proofs.Unique.{query_one, constraint_one}
+use Rattle.esto_text.proofs.Unique.{query_one, constraint_one, layout_one}
 use Rattle.esto_text.proofs.syntax.trees_are_determined.Goals as goal
 
 pub returns-clause-tree : goal.returns-clause-tree
@@ -23,3 +23,12 @@ returns-clause-constraint_apart c version bytes = no_fault (IsConstraint (IsFals
 
 pub returns-clause-constraint_fault : goal.returns-clause-constraint_fault
 returns-clause-constraint_fault c version bytes = one_fault (IsConstraint (IsFalse version bytes)) (λ tokens. tokens) bytes
+
+pub returns-clause-layout_tree : goal.returns-clause-layout_tree
+returns-clause-layout_tree c = one_tree IsLayout (λ tokens. tokens) layout_one
+
+pub returns-clause-layout_apart : goal.returns-clause-layout_apart
+returns-clause-layout_apart c = no_fault IsLayout (λ tokens. tokens)
+
+pub returns-clause-layout_fault : goal.returns-clause-layout_fault
+returns-clause-layout_fault c = one_fault IsLayout (λ tokens. tokens)

@@ -1,6 +1,0 @@
-use Rattle.std.proofs.Common.{◌≡◌, take}
-use Rattle.esto_catalog.specs.Datasets.{schema_of}
-use Rattle.esto_catalog.proofs.tables.schema_of.Given as goal
-
-abbrev pub invariant-datasets : goal.invariant-datasets
-invariant-datasets l = l.schema ≡ schema_of (take l.dataset-index l.datasets)

@@ -1,0 +1,229 @@
+//! How the rows of a fragment are stored: columns, layout and pattern.
+ghost use Rattle.std.specs.Prelude.{◌≡◌, ◌↔◌, IsTrue, Some, option_copied, length, map, IfOk};
+ghost use Rattle.esto_query.specs.declared.query.Name.{Name};
+ghost use Rattle.esto_catalog.specs.Datasets.{AreColumns};
+ghost use Rattle.esto_catalog.specs.Rows.{Walks};
+ghost use Rattle.esto_catalog.specs.Shapes.{column_of, head_columns, name_at, AreDistinctNames, store_columns, store_columns_row, reads_pattern, pattern_row, table_row, documents_row, keys_row, shape_row};
+ghost use Rattle.esto_catalog.specs.declared.setting.Setting.TheVariants.{Texts};
+
+use crate::catalogue::Shape;
+use crate::columns::are_columns;
+use crate::fault::{CatalogueError, CatalogueKind, Place, demand, fault};
+use crate::model::{layout, unfit};
+use crate::row::needs_text;
+use crate::setting::{Field, Setting, setting_at};
+use esto_docmodel::{Pattern, is_layout};
+use esto_query::{Name, Names, Query};
+use esto_read::{DataModel, read_layout};
+use esto_term::{List, OutOfMemory, Replicate, Term, Text, TextRow};
+use esto_text::ReadError;
+use std::alloc::Global;
+
+// The text, or the empty text where there is none.
+fn name_at(alloc: Global, name: Option<&Name>) -> Result<Text, OutOfMemory>
+    ensures { IfOk result (λ it. it ≡ name_at (option_copied name.entry)) }
+{
+    match name {
+        Some(Name::Given(name)) => name.copy(alloc),
+        Some(Name::Hidden) => Ok(Text::new(alloc)),
+        None => Ok(Text::new(alloc)),
+    }
+}
+
+// The column that is named as a variable is.
+fn column_of(alloc: Global, names: &[Name], term: &Term) -> Result<Text, OutOfMemory>
+    ensures { IfOk result (λ it. it ≡ column_of names.now term.now) }
+{
+    match term {
+        Term::Plain(number) => name_at(alloc, names.get(*number as usize)),
+        Term::Const(_) => Ok(Text::new(alloc)),
+        Term::Made(_, _, _) => Ok(Text::new(alloc)),
+    }
+}
+
+// The columns that are named as the variables of the view's head are.
+fn head_columns(alloc: Global, view: &Query) -> Result<TextRow, OutOfMemory>
+    ensures { IfOk result (λ it. it ≡ head_columns view.now) }
+{
+    let mut columns = List::new(alloc);
+    'terms: for term in view.head.items() {
+        columns.push(column_of(alloc, view.names.items(), term)?)?;
+    }
+    Ok(columns)
+}
+
+// Whether the texts are columns of a table, as many as the view has.
+fn are_fit(columns: &TextRow, view: &Query) -> bool
+    ensures { IsTrue result ↔ (AreColumns columns.now
+        × (length columns.now ≡ length view.now.head)) }
+{
+    are_columns(columns.items()) && columns.len() == view.head.len()
+}
+
+// The columns that are written are as many as the view has, and columns of a table.
+#[tactic(auto, using(crate::proofs::RowLemmas::rows))]
+fn written_columns(
+    alloc: Global,
+    place: Place,
+    view: &Query,
+    columns: &TextRow,
+) -> Result<TextRow, CatalogueError>
+    ensures { Walks (store_columns place view.now (Some (Texts columns.now))) result }
+{
+    let are_fit = are_fit(columns, view);
+    demand(alloc, are_fit, CatalogueKind::BadColumns, place, "columns")?;
+    Ok(columns.copy(alloc)?)
+}
+
+// The columns: those that are written, or those that are named as the head's variables are.
+#[tactic(auto, using(crate::proofs::RowLemmas::rows))]
+fn columns(
+    alloc: Global,
+    place: Place,
+    view: &Query,
+    entry: &[Field],
+) -> Result<TextRow, CatalogueError>
+    ensures { Walks (store_columns_row place view.now entry.now) result }
+{
+    match setting_at("columns", entry) {
+        None => Ok(head_columns(alloc, view)?),
+        Some(Setting::Texts(columns)) => written_columns(alloc, place, view, columns),
+        Some(Setting::Text(_)) => Err(fault(
+            alloc,
+            CatalogueKind::WrongType,
+            place,
+            "columns",
+            None,
+        )),
+        Some(Setting::Integer(_)) => Err(fault(
+            alloc,
+            CatalogueKind::WrongType,
+            place,
+            "columns",
+            None,
+        )),
+        Some(Setting::Other) => Err(fault(alloc, CatalogueKind::WrongType, place, "columns", None)),
+    }
+}
+
+// The shape of a table.
+#[tactic(auto, using(crate::proofs::RowLemmas::rows))]
+fn table(
+    alloc: Global,
+    place: Place,
+    view: &Query,
+    entry: &[Field],
+) -> Result<Shape, CatalogueError>
+    ensures { Walks (table_row place view.now entry.now) result }
+{
+    let columns = columns(alloc, place, view, entry)?;
+    unfit(alloc, "layout", place, entry)?;
+    unfit(alloc, "pattern", place, entry)?;
+    Ok(Shape::Table(columns))
+}
+
+// The texts as names.
+fn given(alloc: Global, texts: &[Text]) -> Result<Names, OutOfMemory>
+    ensures { IfOk result (λ it. it ≡ map Name.Given texts.now) }
+{
+    let mut names = List::new(alloc);
+    'texts: for text in texts {
+        names.push(Name::Given(text.copy(alloc)?))?;
+    }
+    Ok(names)
+}
+
+// The pattern over the view's columns that the text is, or its first fault.
+fn pattern_of_text(
+    alloc: Global,
+    place: Place,
+    view: &Query,
+    text: &Text,
+) -> Result<Pattern, CatalogueError>
+    requires { AreDistinctNames view.now }
+    ensures { Walks (reads_pattern place view.now text.now) result }
+{
+    let columns = head_columns(alloc, view)?;
+    let names = given(alloc, columns.items())?;
+    match read_layout(alloc, text.bytes(), &names) {
+        Ok(pattern) => Ok(pattern),
+        Err(ReadError::Fault(found)) => Err(fault(
+            alloc,
+            CatalogueKind::BadText,
+            place,
+            "pattern",
+            Some(found),
+        )),
+        Err(ReadError::OutOfMemory) => Err(CatalogueError::OutOfMemory),
+    }
+}
+
+// The pattern, which is a layout for as many columns as the view has.
+#[tactic(auto, using(crate::proofs::RowLemmas::rows))]
+fn pattern(
+    alloc: Global,
+    place: Place,
+    view: &Query,
+    entry: &[Field],
+) -> Result<Pattern, CatalogueError>
+    requires { AreDistinctNames view.now }
+    ensures { Walks (pattern_row place view.now entry.now) result }
+{
+    let text = needs_text(alloc, place, "pattern", entry)?;
+    let pattern = pattern_of_text(alloc, place, view, &text)?;
+    let is_layout = is_layout(&pattern, view.head.len());
+    demand(
+        alloc,
+        is_layout,
+        CatalogueKind::BadPattern,
+        place,
+        "pattern",
+    )?;
+    Ok(pattern)
+}
+
+// The shape of documents.
+#[tactic(auto, using(crate::proofs::RowLemmas::rows))]
+fn documents(
+    alloc: Global,
+    place: Place,
+    view: &Query,
+    entry: &[Field],
+) -> Result<Shape, CatalogueError>
+    requires { AreDistinctNames view.now }
+    ensures { Walks (documents_row place view.now entry.now) result }
+{
+    unfit(alloc, "columns", place, entry)?;
+    let layout = layout(alloc, place, DataModel::Documents, entry)?;
+    let pattern = pattern(alloc, place, view, entry)?;
+    Ok(Shape::Documents(layout, pattern))
+}
+
+// The shape of keys.
+#[tactic(auto, using(crate::proofs::RowLemmas::rows))]
+fn keys(alloc: Global, place: Place, entry: &[Field]) -> Result<Shape, CatalogueError>
+    ensures { Walks (keys_row place entry.now) result }
+{
+    unfit(alloc, "columns", place, entry)?;
+    unfit(alloc, "layout", place, entry)?;
+    unfit(alloc, "pattern", place, entry)?;
+    Ok(Shape::Keys)
+}
+
+/// The shape of a store of this model: the columns of a table, the layout and the pattern of documents.
+pub fn shape(
+    alloc: Global,
+    place: Place,
+    model: DataModel,
+    view: &Query,
+    entry: &[Field],
+) -> Result<Shape, CatalogueError>
+    requires { AreDistinctNames view.now }
+    ensures { Walks (shape_row place model view.now entry.now) result }
+{
+    match model {
+        DataModel::Table => table(alloc, place, view, entry),
+        DataModel::Documents => documents(alloc, place, view, entry),
+        DataModel::Keys => keys(alloc, place, entry),
+    }
+}

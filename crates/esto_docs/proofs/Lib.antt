@@ -1,0 +1,13 @@
+pub mod JsonLemmas
+pub mod TreeLemmas
+pub mod LineLemmas
+pub mod TextLemmas
+pub mod FeedLemmas
+pub mod FileLemmas
+pub mod FieldLemmas
+pub mod PathLemmas
+pub mod MatchLemmas
+pub mod PlainLemmas
+pub mod RowLemmas
+pub mod GroupLemmas
+pub mod WriteLemmas

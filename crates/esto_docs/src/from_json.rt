@@ -1,0 +1,66 @@
+//! The tree of a JSON value.
+ghost use Rattle.std.specs.Prelude.{◌≡◌, IfOk};
+ghost use Rattle.serde_json.specs.View.{view, number_view, items_view, members_view};
+ghost use Rattle.esto_docs.specs.Trees.{number_tree, tree_of, trees_of, fields_of};
+
+use esto_docmodel::{Field, Fields, Tree, Trees};
+use esto_term::{List, OutOfMemory, Text};
+use serde_json::{Map, Number, Value};
+use std::alloc::Global;
+
+// The tree of a number.
+fn number_of(alloc: Global, number: &Number) -> Result<Tree, OutOfMemory>
+    ensures { IfOk result (λ tree. tree ≡ number_tree (number_view number.now)) }
+{
+    if let Some(n) = number.as_u64() {
+        let digits = format!(in alloc; "{n}")?;
+        return Ok(Tree::Value(Text::from_str(alloc, digits.as_str())?));
+    }
+    if let Some(n) = number.as_i64() {
+        let digits = format!(in alloc; "{n}")?;
+        return Ok(Tree::Value(Text::from_str(alloc, digits.as_str())?));
+    }
+    Ok(Tree::Nothing)
+}
+
+/// The tree of a JSON value.
+#[cycle(trees)]
+pub fn tree_of(alloc: Global, value: &Value) -> Result<Tree, OutOfMemory>
+    ensures { IfOk result (λ tree. tree ≡ tree_of (view value.now)) }
+{
+    match value {
+        Value::Null => Ok(Tree::Nothing),
+        Value::Bool(true) => Ok(Tree::Value(Text::from_str(alloc, "true")?)),
+        Value::Bool(false) => Ok(Tree::Value(Text::from_str(alloc, "false")?)),
+        Value::Number(number) => number_of(alloc, number),
+        Value::String(text) => Ok(Tree::Value(Text::from_str(alloc, text.as_str())?)),
+        Value::Array(items) => Ok(Tree::Items(trees_of(alloc, items)?)),
+        Value::Object(members) => Ok(Tree::Fields(fields_of(alloc, members)?)),
+    }
+}
+
+/// The trees of JSON values.
+#[cycle(trees)]
+pub fn trees_of(alloc: Global, items: &Vec<Value>) -> Result<Trees, OutOfMemory>
+    ensures { IfOk result (λ trees. trees ≡ trees_of (items_view items.now.items)) }
+{
+    let mut trees = List::new(alloc);
+    'items: for item in items {
+        trees.push(tree_of(alloc, item)?)?;
+    }
+    Ok(trees)
+}
+
+// The fields of members, whose names rise.
+#[cycle(trees)]
+fn fields_of(alloc: Global, members: &Map<String, Value>) -> Result<Fields, OutOfMemory>
+    ensures { IfOk result (λ fields. fields ≡ fields_of (members_view members.now.entries)) }
+{
+    let mut fields = Fields::new(alloc);
+    'members: for (name, value) in members.iter() {
+        let name = Text::from_str(alloc, name.as_str())?;
+        let tree = tree_of(alloc, value)?;
+        fields.push(Field { name, tree })?;
+    }
+    Ok(fields)
+}

@@ -1,0 +1,40 @@
+//! Bytes as JSON values.
+ghost use Rattle.std.specs.Prelude.{◌≡◌};
+ghost use Rattle.esto_docs.specs.Parsing.{Parses};
+ghost use Rattle.esto_docs.specs.Files.{is_blank};
+
+use serde_json::Value;
+use std::alloc::Global;
+
+/// Why bytes give no value.
+#[derive(Debug, Drop)]
+pub enum ParseError {
+    /// The bytes are no JSON value.
+    BadJson,
+    /// Memory is wanting.
+    OutOfMemory,
+}
+
+/// The JSON value that bytes are.
+pub fn parse(alloc: Global, bytes: &[u8]) -> Result<Value, ParseError>
+    ensures { Parses bytes.now result }
+{
+    match Value::from_slice(alloc, bytes) {
+        Ok(value) => Ok(value),
+        Err(error) => {
+            if error.is_memory() {
+                Err(ParseError::OutOfMemory)
+            } else {
+                Err(ParseError::BadJson)
+            }
+        }
+    }
+}
+
+/// Whether a line has no byte but spaces, tabs and carriage returns.
+pub fn is_blank(line: &[u8]) -> bool
+    ensures { result ≡ is_blank line.now }
+{
+    line.iter()
+        .all(|b| *b == b' ' || *b == b'\t' || *b == b'\r')
+}

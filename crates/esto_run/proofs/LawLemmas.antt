@@ -1,0 +1,33 @@
+-- Laws of runs.
+use Rattle.std.proofs.Common.{◌≡◌}
+use Rattle.std.specs.Cmp.{IsTotalOrder}
+use Rattle.std.specs.Cmp.Lexicographic.{slice_cmp}
+use Rattle.std.specs.Ordering.{nat_cmp}
+use Rattle.std.proofs.lemmas.Cmp.{lists_total, nat_cmp_total}
+use Rattle.esto_plan.proofs.CodedLemmas.{answers_over_held}
+use Rattle.esto_semantics.specs.Listed.{candidate}
+use Rattle.esto_term.proofs.ChoiceLemmas.{one_list}
+use Rattle.esto_run.specs.Laws.{AnswersAreOverFiles, RewritingsAnswerQueries, RisingRowsAreOne}
+use Rattle.esto_catalog.specs.declared.catalogue.Store.{Store}
+use Rattle.esto_run.specs.Stores.{IsRowIn}
+use Rattle.std.proofs.Common.{Some, slice_get}
+
+pub answers_over_files : AnswersAreOverFiles
+answers_over_files stores files numbers opened query are uses row = (
+  (λ (m, keeps, sends, is). (m, keeps, (λ atom inside. (are _ (uses atom inside)).0 (sends atom inside)), is)),
+  (λ (m, keeps, sends, is). (m, keeps, (λ atom inside. (are _ (uses atom inside)).1 (sends atom inside)), is)),
+)
+
+pub rewritings_answer : RewritingsAnswerQueries
+rewritings_answer rules views patterns query plan set stores files database is meets hold values =
+    let over = answers_over_held views database (candidate plan set)
+    (λ fragment row. (store : Store) × (slice_get stores fragment ≡ Some store) × IsRowIn store.shape (files fragment) row) is.safe hold values in (
+      (λ answer. over.0 (is.equivalent.1 database meets values answer)),
+      (λ found. is.equivalent.0 database meets values (over.1 found)),
+    )
+
+rows_total : IsTotalOrder (slice_cmp (slice_cmp nat_cmp))
+rows_total = lists_total (lists_total nat_cmp_total)
+
+pub rising_once : RisingRowsAreOne
+rising_once rows others rises too same = one_list (slice_cmp (slice_cmp nat_cmp)) rows_total rows others rises too same

@@ -1,0 +1,6 @@
+pub mod Stores
+pub mod Opened
+pub mod Used
+pub mod Stored
+pub mod Answers
+pub mod Laws

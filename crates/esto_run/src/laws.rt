@@ -1,0 +1,24 @@
+//! Laws of runs.
+ghost use Rattle.esto_run.specs.Laws.{AnswersAreOverFiles, RewritingsAnswerQueries, UsedAreOne, RisingRowsAreOne};
+
+/// A law: where the rows of the fragments that a query over fragments uses are those of their files, its answers over
+/// the rows are those over the files, whatever the other fragments hold.
+pub fn answers_are_over_files()
+    ensures { AnswersAreOverFiles }
+{}
+
+/// A law: for each database that meets the rules, and of which the files of the fragments that a rewriting's set uses
+/// hold the view rows, the answers of the set's candidate over the files are exactly the query's.
+pub fn rewritings_answer_queries()
+    ensures { RewritingsAnswerQueries }
+{}
+
+/// A law: the fragments that a set uses are one list.
+pub fn used_fragments_are_one()
+    ensures { UsedAreOne }
+{}
+
+/// A law: rows that rise are one list where they are the same rows, so a set of rows has one text.
+pub fn rising_rows_are_one()
+    ensures { RisingRowsAreOne }
+{}

@@ -1,0 +1,20 @@
+//! The run of a rewriting: from the bytes of fragments' files to the text of a query's answers. Start from
+//! `fragments_of_set`, `open_fragment` and `run_text`.
+#![tactic(auto)]
+
+mod answers;
+mod laws;
+mod opened;
+mod run;
+mod store;
+mod stored;
+mod used;
+
+pub use answers::answers_text;
+pub use laws::{
+    answers_are_over_files, rewritings_answer_queries, rising_rows_are_one, used_fragments_are_one,
+};
+pub use opened::{FragmentRows, no_rows, open_fragment};
+pub use run::{rows_of_set, run_text};
+pub use store::open_store;
+pub use used::fragments_of_set;

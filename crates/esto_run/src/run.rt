@@ -1,0 +1,84 @@
+//! The run of a set of a plan's atoms over the rows of fragments.
+ghost use Rattle.std.specs.Prelude.{◌≡◌, ◌↔◌, ℕ, List, Bool, length, Contains, IfOk};
+ghost use Rattle.esto_plan.specs.Planned.{IsSafeOrder};
+ghost use Rattle.esto_plan.specs.Rows.{IsRowOf, held_by};
+ghost use Rattle.esto_semantics.specs.Access.{IsOrder};
+ghost use Rattle.esto_semantics.specs.Listed.{candidate};
+ghost use Rattle.esto_views.specs.Fragments.{patterns_of};
+ghost use Rattle.esto_views.specs.Plans.{plan_query, IsPlanOver};
+ghost use Rattle.esto_run.specs.Answers.{AreRising, IsAnswersText};
+ghost use Rattle.esto_run.specs.Laws.{IsAnswerOver};
+ghost use Rattle.esto_run.specs.Opened.{AreRowsFor};
+
+use crate::answers::answers_text;
+use crate::opened::FragmentRows;
+use crate::stored::stored_fragments;
+use esto_access::Order;
+use esto_columns::{Codes, sorted_texts};
+use esto_exec::{plans_are_runnable, run_plan};
+use esto_plan::{
+    coded_rows_stay_coded, plan_of, results_are_candidate_answers, results_have_texts,
+};
+use esto_query::Query;
+use esto_semantics::chosen_atoms_are_named;
+use esto_term::{Bytes, OutOfMemory, TextRows};
+use esto_views::{FragmentDefs, Plan};
+use std::alloc::Global;
+
+/// The answers of the candidate of a set of the plan's atoms over the rows of the fragments, each once, in rising order,
+/// cell by cell by bytes. The set is given by an order of it, and is safe. They rest on the rows of those fragments alone
+/// that the set uses.
+pub fn rows_of_set(
+    alloc: Global,
+    order: &Order,
+    plan: &Plan,
+    fragments: &FragmentDefs,
+    opened: &FragmentRows,
+) -> Result<TextRows, OutOfMemory>
+    requires over { IsPlanOver plan.now fragments.now }
+    requires order { IsSafeOrder (patterns_of fragments.now) (plan_query plan.now) order.now }
+    requires rows { AreRowsFor fragments.now opened.now }
+    ensures rows { IfOk result (λ it. (set : List Bool)
+        → IsOrder (patterns_of fragments.now) (plan_query plan.now).body set order.now
+        → (row : List (List ℕ)) → Contains it row ↔ IsAnswerOver
+        (IsRowOf (held_by opened.now)) (candidate (plan_query plan.now) set) row) }
+    ensures rising { IfOk result AreRising }
+{
+    plans_are_runnable();
+    results_are_candidate_answers();
+    results_have_texts();
+    coded_rows_stay_coded();
+    chosen_atoms_are_named();
+    let mut codes = Codes::new(alloc);
+    let stored = stored_fragments(alloc, fragments, opened, &mut codes)?;
+    let steps = plan_of(alloc, order, plan, fragments, &mut codes)?;
+    // the count is read so that the texts are known to be distinct
+    let _count = codes.len();
+    let rows = run_plan(alloc, &steps, stored.items())?;
+    let texts = sorted_texts(alloc, &rows, &codes)?;
+    Ok(texts)
+}
+
+/// The text of the answers of the candidate of a set of the plan's atoms over the rows of the fragments, under the names
+/// of the query's head, which is as long as the plan's. The set is given by an order of it, and is safe.
+pub fn run_text(
+    alloc: Global,
+    query: &Query,
+    plan: &Plan,
+    order: &Order,
+    fragments: &FragmentDefs,
+    opened: &FragmentRows,
+) -> Result<Bytes, OutOfMemory>
+    requires same_length { length plan.now.head ≡ length query.now.head }
+    requires over { IsPlanOver plan.now fragments.now }
+    requires order { IsSafeOrder (patterns_of fragments.now) (plan_query plan.now) order.now }
+    requires rows { AreRowsFor fragments.now opened.now }
+    ensures { IfOk result (λ text. (set : List Bool)
+        → IsOrder (patterns_of fragments.now) (plan_query plan.now).body set order.now
+        → IsAnswersText query.now (IsAnswerOver (IsRowOf (held_by opened.now))
+        (candidate (plan_query plan.now) set)) text) }
+{
+    let rows = rows_of_set(alloc, order, plan, fragments, opened)?;
+    let text = answers_text(alloc, query, &rows)?;
+    Ok(text)
+}
