@@ -1,4 +1,4 @@
-use Rattle.std.proofs.Common.{true, false, ◌++◌, length, drop, sym, ap, ◌∙◌, arith}
+use Rattle.std.proofs.Common.{true, false, ◌++◌, length, get_or, drop, sym, ap, ◌∙◌, arith}
 use Rattle.esto_term.proofs.ListLemmas.{Contains-at}
 use Rattle.esto_condchase.specs.Products.{WayGoesOn, SomeEntryGoesOn}
 use Rattle.esto_condchase.specs.Ways.{AreRows}
@@ -90,15 +90,15 @@ visit_fact-visit_all-requires t c =
     let it = c.args.self.now in
     let from = c.args.from.now in
     let fact = c.args.fact.now in
-    let atom = c.index-self-depth.result in
+    let atom = get_or it.body.now c.args.depth c.index-self-depth.result in
     let start = c.in_ok-start.start in
     let ways = c.in_ok-ways.ways in
     let longer = c.append.new.self in (
       omega (arith, c.decreases, c.requires.inside),
       (
         next_visits it.entries.now it.head.now it.body.now it.targets.now c.requires.visit.heads it.count c.args.depth from c.args.way.now
-            c.requires.visit c.args.place c.args.entry.now c.requires.at fact c.requires.states atom c.requires.inside c.index-self-depth.is
-            c.if-fact-atom.false (sym c.len.ensures ∙ c.if-len.false ∙ c.len-else-fact-atom.ensures) start c.in_ok-start.ensures
+            c.requires.visit c.args.place c.args.entry.now c.requires.at fact c.requires.states atom c.requires.inside
+            (ap (get_or it.body.now c.args.depth) c.index-self-depth.is) c.if-fact-atom.false (sym c.len.ensures ∙ c.if-len.false ∙ c.len-else-fact-atom.ensures) start c.in_ok-start.ensures
             ways c.items-3.result.now (rows_of_items it.entries.now from atom.terms c.items.result.now fact.terms c.items-2.result.now start ways
             c.items.ensures c.items-2.ensures c.in_ok-ways.ensures.rows) c.items-3.ensures c.in_ok-ways.ensures.counted longer
             (c.in_ok-append.ensures.ok ∙ (λ i. c.in_ok-longer.ensures i ++ c.in_ok-copy.ensures i)),
@@ -111,13 +111,13 @@ visit_fact-returns-clause-visited t c =
     let it = c.args.self.now in
     let from = c.args.from.now in
     let fact = c.args.fact.now in
-    let atom = c.index-self-depth.result in
+    let atom = get_or it.body.now c.args.depth c.index-self-depth.result in
     let start = c.in_ok-start.start in
     let ways = c.in_ok-ways.ways in
     let longer = c.append.new.self in
     next_goes it.entries.now it.head.now it.body.now it.targets.now c.requires.visit.heads it.count c.args.depth from c.args.way.now
-    c.requires.visit c.args.place c.args.entry.now c.requires.at fact c.requires.states atom c.requires.inside c.index-self-depth.is
-    c.if-fact-atom.false (sym c.len.ensures ∙ c.if-len.false ∙ c.len-else-fact-atom.ensures) start c.in_ok-start.ensures
+    c.requires.visit c.args.place c.args.entry.now c.requires.at fact c.requires.states atom c.requires.inside
+    (ap (get_or it.body.now c.args.depth) c.index-self-depth.is) c.if-fact-atom.false (sym c.len.ensures ∙ c.if-len.false ∙ c.len-else-fact-atom.ensures) start c.in_ok-start.ensures
     ways c.items-3.result.now (rows_of_items it.entries.now from atom.terms c.items.result.now fact.terms c.items-2.result.now start ways
     c.items.ensures c.items-2.ensures c.in_ok-ways.ensures.rows) c.items-3.ensures c.in_ok-ways.ensures.counted longer
     (c.in_ok-append.ensures.ok ∙ (λ i. c.in_ok-longer.ensures i ++ c.in_ok-copy.ensures i)) c.args.found.now.sets c.visit_all.new.found.sets
