@@ -5,7 +5,7 @@ use Rattle.std.proofs.lemmas.Bool.{false≢true}
 use Rattle.std.proofs.lemmas.List.{length-append, length-map, map-append, take_all}
 use Rattle.std.proofs.lemmas.List.Elements.{Contains-append_left, Contains-append_right, Contains-push_cases}
 use Rattle.esto_term.specs.declared.term.Term.{Term}
-use Rattle.esto_term.proofs.ListLemmas.{Contains-cases, Contains-nil, map_agree}
+use Rattle.esto_term.proofs.ListLemmas.{Contains-cases, Contains-head, Contains-nil, map_agree}
 use Rattle.esto_semantics.specs.Facts.{terms_of}
 use Rattle.esto_semantics.specs.Sets.{Within, Covers}
 use Rattle.esto_semantics.specs.declared.fact.Fact.{Fact}
@@ -90,10 +90,10 @@ module _ (entries : List Entry) (head : List Term) (body : List (Fact Term)) (ta
   entry_more some from rest way free place entry earlier middle later within is first second =
       visited_both (SomeEntryGoesOn entries (take place some) from rest way free) (SomeEntryGoesOn entries (entry ∷ []) from rest way free)
       (SomeEntryGoesOn entries (take (place + 1) some) from rest way free) earlier middle later first second
-      (λ set (its, inside, goes). elim (Contains-push_cases (take place some) entry its
+      (λ set (its, inside, turn, goes). elim (Contains-push_cases (take place some) entry its
       (subst (λ it. Contains it its) (take-item some place entry within is) inside)) [
-        | inl before ↦ inl (its, before, goes)
-        | inr same ↦ inr (its, subst (Contains (entry ∷ [])) same (Rattle.esto_term.proofs.ListLemmas.Contains-head entry []), goes)
+        | inl before ↦ inl (its, before, turn, goes)
+        | inr same ↦ inr (its, subst (Contains (entry ∷ [])) same (Contains-head entry []), turn, goes)
       ])
 
   -- ---- an entry
