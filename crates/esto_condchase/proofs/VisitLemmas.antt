@@ -142,7 +142,8 @@ module _ (Holds : Claim → Type 0) (from to : List Term) (lengths : length from
   go_split atom rest (fact ∷ chosen, are, fits) =
       let m : Term → Term = taken ((from ++ atom.terms) ++ terms_of rest) ((to ++ fact.terms) ++ terms_of chosen) in
       let same : AllZip (Touching Holds) (fact.terms ++ terms_of chosen) (map m (atom.terms ++ terms_of rest)) =
-      subst (λ it. AllZip (Touching Holds) (fact.terms ++ terms_of chosen) (map (taken it ((to ++ fact.terms) ++ terms_of chosen)) (atom.terms ++ terms_of rest)))
+      subst (λ it. AllZip (Touching Holds) (fact.terms ++ terms_of chosen)
+      (map (taken it ((to ++ fact.terms) ++ terms_of chosen)) (atom.terms ++ terms_of rest)))
       (sym (append_assoc from atom.terms (terms_of rest)))
       (subst (λ it. AllZip (Touching Holds) (fact.terms ++ terms_of chosen)
       (map (taken (from ++ (atom.terms ++ terms_of rest)) it) (atom.terms ++ terms_of rest))) (sym (append_assoc to fact.terms (terms_of chosen))) fits) in

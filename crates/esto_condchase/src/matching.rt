@@ -171,7 +171,8 @@ impl Matching<'_> {
         ensures count { OnOk result (found.new.count ≡ self.now.count) }
         ensures visited { OnOk result (Visited self.now.entries.now self.now.head.now
             self.now.body.now self.now.targets.now
-            (EntryGoesOn self.now.entries.now from.now (drop depth self.now.body.now) way.now entry.now)
+            (EntryGoesOn self.now.entries.now from.now (drop depth self.now.body.now)
+            way.now entry.now)
             found.old.sets found.new.sets) }
     {
         let atom = &self.body[depth];

@@ -98,7 +98,8 @@ visit_fact-visit_all-requires t c =
       (
         next_visits it.entries.now it.head.now it.body.now it.targets.now c.requires.visit.heads it.count c.args.depth from c.args.way.now
             c.requires.visit c.args.place c.args.entry.now c.requires.at fact c.requires.states atom c.requires.inside
-            (ap (get_or it.body.now c.args.depth) c.index-self-depth.is) c.if-fact-atom.false (sym c.len.ensures ∙ c.if-len.false ∙ c.len-else-fact-atom.ensures) start c.in_ok-start.ensures
+            (ap (get_or it.body.now c.args.depth) c.index-self-depth.is) c.if-fact-atom.false
+            (sym c.len.ensures ∙ c.if-len.false ∙ c.len-else-fact-atom.ensures) start c.in_ok-start.ensures
             ways c.items-3.result.now (rows_of_items it.entries.now from atom.terms c.items.result.now fact.terms c.items-2.result.now start ways
             c.items.ensures c.items-2.ensures c.in_ok-ways.ensures.rows) c.items-3.ensures c.in_ok-ways.ensures.counted longer
             (c.in_ok-append.ensures.ok ∙ (λ i. c.in_ok-longer.ensures i ++ c.in_ok-copy.ensures i)),
@@ -117,7 +118,8 @@ visit_fact-returns-clause-visited t c =
     let longer = c.append.new.self in
     next_goes it.entries.now it.head.now it.body.now it.targets.now c.requires.visit.heads it.count c.args.depth from c.args.way.now
     c.requires.visit c.args.place c.args.entry.now c.requires.at fact c.requires.states atom c.requires.inside
-    (ap (get_or it.body.now c.args.depth) c.index-self-depth.is) c.if-fact-atom.false (sym c.len.ensures ∙ c.if-len.false ∙ c.len-else-fact-atom.ensures) start c.in_ok-start.ensures
+    (ap (get_or it.body.now c.args.depth) c.index-self-depth.is) c.if-fact-atom.false
+    (sym c.len.ensures ∙ c.if-len.false ∙ c.len-else-fact-atom.ensures) start c.in_ok-start.ensures
     ways c.items-3.result.now (rows_of_items it.entries.now from atom.terms c.items.result.now fact.terms c.items-2.result.now start ways
     c.items.ensures c.items-2.ensures c.in_ok-ways.ensures.rows) c.items-3.ensures c.in_ok-ways.ensures.counted longer
     (c.in_ok-append.ensures.ok ∙ (λ i. c.in_ok-longer.ensures i ++ c.in_ok-copy.ensures i)) c.args.found.now.sets c.visit_all.new.found.sets
