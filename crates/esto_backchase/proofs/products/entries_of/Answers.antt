@@ -2,6 +2,7 @@ use Rattle.std.proofs.Common.{◌<◌, sym, subst}
 use Rattle.esto_acyclic.specs.Graphs.{AreRanks, IsWithin}
 use Rattle.esto_acyclic.specs.Relations.{IsEdge}
 use Rattle.esto_constraint.specs.Constraints.{rules_of}
+use Rattle.esto_world_laws.specs.Worlds.{AreOfCount}
 use Rattle.esto_backchase.proofs.products.entries_of.Goals as goal
 
 pub chase_with_products-requires-clause-atoms : goal.chase_with_products-requires-clause-atoms
@@ -25,7 +26,7 @@ returns-clause-entries c = (
   c.in_ok-expanded.ensures.exact,
   c.in_ok-expanded.ensures.expands,
   record {
-    counted = c.in_ok-entries.ensures.counted;
+    counted = subst (λ count. AreOfCount count c.in_ok-entries.entries) c.len.ensures c.in_ok-entries.ensures.counted;
     given = c.in_ok-entries.ensures.given;
     closed = c.in_ok-entries.ensures.closed;
     sound = c.in_ok-entries.ensures.sound;

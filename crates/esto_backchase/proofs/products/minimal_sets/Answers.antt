@@ -35,6 +35,6 @@ returns-clause-complete c other rewriting =
     c.requires.universal c.requires.satisfiable rewriting in (
       onto.0,
       onto.2,
-      minimal-cover (IsRewriting rules views patterns query plan) (length plan.body) (λ set is. is.has_candidate.over) c.in_ok-sets.sets
+      minimal-cover (IsRewriting rules views patterns query plan) (length plan.body) (λ set is. is.has_candidate.over) c.in_ok-sets.sets.sets
           (returns-clause-listed c) onto.0 onto.1,
     )
