@@ -45,7 +45,7 @@ use Rattle.esto_backchase.specs.Candidates as own
 pub rules-are : (constraints : List Constraint) → ((constraint : Constraint) → IsRule (rule_of constraint)) → AreRules (rules_of constraints)
 rules-are constraints each rule inside = let from = Contains-map_from rule_of constraints rule inside in subst IsRule from.2 (each from.0)
 
-named-flat : (plan : Plan) (term : Term) → IsNamed plan.names term → IsFlat term
+pub named-flat : (plan : Plan) (term : Term) → IsNamed plan.names term → IsFlat term
 named-flat plan term (inl constant) = inl constant
 named-flat plan term (inr (number, is, _)) = inr (number, is)
 
@@ -110,10 +110,10 @@ right-says outcome P Q other says is = subst (λ it. MatchEither it P Q) is says
 -- ---- the facts that come from atoms of a set
 
 -- the fact comes from an atom of the set
-abbrev IsFrom : List Bool → List ExpandedFact → Fact Term → Type 0
+abbrev pub IsFrom : List Bool → List ExpandedFact → Fact Term → Type 0
 IsFrom set expanded fact = (part : ExpandedFact) × Contains expanded part × Has set part.atom × (part.fact ≡ fact)
 
-chosen-from : (set : List Bool) (expanded : List ExpandedFact) (fact : Fact Term) → Contains (own.facts_chosen set expanded) fact → IsFrom set expanded fact
+pub chosen-from : (set : List Bool) (expanded : List ExpandedFact) (fact : Fact Term) → Contains (own.facts_chosen set expanded) fact → IsFrom set expanded fact
 chosen-from set [] fact inside = absurd (Contains-nil fact inside)
 chosen-from set (first ∷ rest) fact inside = by (λ later. chosen-from set rest fact later) (slice_index_or set first.atom false) refl inside
   where
@@ -128,7 +128,7 @@ chosen-from set (first ∷ rest) fact inside = by (λ later. chosen-from set res
     ]
     by again false told inside = later (again inside)
 
-from-chosen : (set : List Bool) (expanded : List ExpandedFact) (part : ExpandedFact) → Contains expanded part → Has set part.atom
+pub from-chosen : (set : List Bool) (expanded : List ExpandedFact) (part : ExpandedFact) → Contains expanded part → Has set part.atom
     → Contains (own.facts_chosen set expanded) part.fact
 from-chosen set [] part there has = absurd (Contains-nil part there)
 from-chosen set (first ∷ rest) part there has = by (λ later. from-chosen set rest part later has) (slice_index_or set first.atom false) refl
@@ -150,7 +150,7 @@ module _ (plan : Plan) (fragments : List FragmentDef) (expanded : List ExpandedF
   abbrev pub chosen_start : ConjunctiveQuery
   chosen_start = start_of (record { head = plan.head; body = own.facts_chosen set expanded })
 
-  chosen-in_start : (fact : Fact Term) → Contains chosen_start.body fact ↔ Contains (own.facts_chosen set expanded) fact
+  pub chosen-in_start : (fact : Fact Term) → Contains chosen_start.body fact ↔ Contains (own.facts_chosen set expanded) fact
   chosen-in_start fact = begin (record { head = plan.head; body = own.facts_chosen set expanded }) fact
 
   -- the start has no made term
@@ -191,7 +191,7 @@ module _ (plan : Plan) (fragments : List FragmentDef) (expanded : List ExpandedF
     abbrev IsIn : Type 0
     IsIn = IsContained rules (IsFragmentAnswer (views_of fragments) (candidate (plan_query plan) set)) (IsAnswer query)
 
-    chosen-expands : IsExpansion (views_of fragments) (candidate (plan_query plan) set) chosen_start.body
+    pub chosen-expands : IsExpansion (views_of fragments) (candidate (plan_query plan) set) chosen_start.body
     chosen-expands =
         expand_candidates (views_of fragments) (plan_query plan) (facts_of expanded) expands.of set (over ∙ sym (length-map plan.atoms fact_of))
         chosen_start.body chosen-is_part

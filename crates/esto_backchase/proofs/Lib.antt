@@ -4,3 +4,4 @@ pub mod CandidateLemmas
 pub mod VisitLemmas
 pub mod CompletionLemmas
 pub mod CompleteLemmas
+pub mod TellLemmas

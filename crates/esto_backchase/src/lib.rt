@@ -1,14 +1,16 @@
 //! The listed sets of a plan: the minimal sets of its atoms that are rewritings of the query. Start from
-//! `minimal_sets_plain`, `executable_products` and `complete`.
+//! `minimal_sets`, `minimal_sets_plain`, `executable_products` and `complete`.
 #![tactic(auto)]
 
 mod candidates;
 mod completion;
 mod laws;
 mod listing;
+mod products;
 mod safety;
 mod search;
 
 pub use completion::{complete, executable_products};
 pub use laws::{listed_sets_cover_rewritings, minimal_completions_are_executable};
 pub use listing::minimal_sets_plain;
+pub use products::{Backchase, minimal_sets};

@@ -5,3 +5,4 @@ pub mod NumberLemmas
 pub mod CountLemmas
 pub mod SortLemmas
 pub mod JoinLemmas
+pub mod LaneLemmas

@@ -2,6 +2,7 @@
 #![tactic(auto)]
 
 mod joins;
+pub mod lanes;
 mod products;
 mod row_bits;
 mod words;

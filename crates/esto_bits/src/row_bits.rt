@@ -2,7 +2,8 @@
 ghost use Rattle.std.specs.Prelude.{ℕ, ◌≡◌, ◌↔◌, ◌⊎◌, ◌<◌, false, true, length, replicate, slice_set, All, Contains, IsTrue, IfOk};
 ghost use Rattle.esto_semantics.specs.Sets.{Has, Within, numbers, set_cmp, united};
 
-use crate::words::{add_bits, bits_in, row_within};
+use crate::lanes::row_within;
+use crate::words::{add_bits, bits_in};
 use esto_term::{OutOfMemory, Places, Replicate, Values};
 use std::alloc::Global;
 use std::cmp::Ordering;

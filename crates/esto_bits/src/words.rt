@@ -1,20 +1,6 @@
 //! Plain loops over 64-bit words.
-ghost use Rattle.std.specs.Prelude.{ℕ, ◌≡◌, ◌↔◌, ◌<◌, ◌^◌, count_ones, length, min, slice_index_or, sum_by, IsTrue};
-ghost use Rattle.esto_bits.specs.Words.{LackNoBit, HaveBitsOf};
-
-/// Whether no word of `small` has a bit that the same word of `large` lacks.
-pub fn row_within(small: &[u64], large: &[u64]) -> bool
-    requires { length small.now ≡ length large.now }
-    ensures fits { (place : ℕ) → slice_index_or small.now place 0 < 2 ^ 64 }
-    ensures within { IsTrue result ↔ LackNoBit small.now large.now }
-{
-    'words: for place in 0..small.len() {
-        if small[place] & large[place] != small[place] {
-            return false;
-        }
-    }
-    true
-}
+ghost use Rattle.std.specs.Prelude.{ℕ, ◌≡◌, ◌<◌, ◌^◌, count_ones, length, min, slice_index_or, sum_by};
+ghost use Rattle.esto_bits.specs.Words.{HaveBitsOf};
 
 /// Adds the bits of each word of `other` to the same word of `words`.
 pub fn add_bits(words: &mut Vec<u64>, other: &[u64])

@@ -3,3 +3,5 @@ pub mod CoverLemmas
 pub mod WayLemmas
 pub mod RoundLemmas
 pub mod LoopLemmas
+pub mod VisitLemmas
+pub mod MatchingLemmas

@@ -77,7 +77,7 @@ last_more facts links place other = (
   ]),
 )
 
-fact_more : (facts links : List ℕ) (place other : ℕ) → Contains ((facts ++ place ∷ []) ++ links) other ↔ (Contains (facts ++ links) other ⊎ (place ≡ other))
+pub fact_more : (facts links : List ℕ) (place other : ℕ) → Contains ((facts ++ place ∷ []) ++ links) other ↔ (Contains (facts ++ links) other ⊎ (place ≡ other))
 fact_more facts links place other = (
   (λ inside. elim (Contains-append_cases (facts ++ place ∷ []) links other inside) [
     | inl in_facts ↦ elim (Contains-push_cases facts place other in_facts) [
@@ -95,7 +95,7 @@ fact_more facts links place other = (
   ]),
 )
 
-within_united : (one other atoms : List Bool) → Within one atoms → Within other atoms → Within (united one other) atoms
+pub within_united : (one other atoms : List Bool) → Within one atoms → Within other atoms → Within (united one other) atoms
 within_united one other atoms left right number has = elim ((has_united one other number).0 has) [
   | inl here ↦ left number here
   | inr there ↦ right number there

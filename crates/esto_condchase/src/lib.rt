@@ -1,10 +1,14 @@
-//! The conditional chase: one chase of a plan's expanded facts for the worlds of all sets of its atoms.
+//! The conditional chase: one chase of a plan's expanded facts for the worlds of all sets of its atoms, and the products
+//! of a query's matches in these worlds.
 #![tactic(auto)]
 
 mod chase;
 mod covering;
+mod matching;
+mod products;
 mod rounds;
 mod taking;
 mod ways;
 
 pub use chase::chase_with_products;
+pub use products::products_of_matches;

@@ -222,41 +222,46 @@ fn answer_rules(
     Ok(more)
 }
 
+/// An equality, by its entry and the entry's place, read from one of its sides to the other.
+#[derive(Clone, Copy)]
+struct Link<'a> {
+    place: usize,
+    entry: &'a Entry,
+    from: &'a Term,
+    to: &'a Term,
+}
+
 /// Adds the link of two that meet in one term.
 fn join_ends(
     alloc: Global,
     entries: &[Entry],
-    first: usize,
-    first_entry: &Entry,
-    second: usize,
-    second_entry: &Entry,
-    term: &Term,
-    next: &Term,
-    other_next: &Term,
-    other: &Term,
+    first: &Link,
+    second: &Link,
     count: usize,
     more: &mut List<Entry>,
 ) -> Result<(), OutOfMemory>
-    requires first { LinksAt entries.now first first_entry.now term.now next.now }
-    requires second { LinksAt entries.now second second_entry.now other_next.now other.now }
+    requires first { LinksAt entries.now first.now.place first.now.entry.now
+        first.now.from.now first.now.to.now }
+    requires second { LinksAt entries.now second.now.place second.now.entry.now
+        second.now.from.now second.now.to.now }
     requires counts { AreOfCount count entries.now }
     requires more_counts { AreOfCount count more.old }
     ensures grows { OnOk result
         ((rules : List Rule) → Grows rules count entries.now more.old more.new) }
     ensures joined { OnOk result
-        (next.now ≡ other_next.now
-        → IsThere (entries.now ++ more.new) (Same term.now other.now)
-        (united first_entry.now.product second_entry.now.product)) }
+        (first.now.to.now ≡ second.now.from.now
+        → IsThere (entries.now ++ more.new) (Same first.now.from.now second.now.to.now)
+        (united first.now.entry.now.product second.now.entry.now.product)) }
 {
-    if !next.equal(other_next) {
+    if !first.to.equal(second.from) {
         return Ok(());
     }
-    let mut product = first_entry.product.copy(alloc)?;
-    product.union(&second_entry.product);
+    let mut product = first.entry.product.copy(alloc)?;
+    product.union(&second.entry.product);
     let mut places = Values::new(alloc);
-    places.push(first)?;
-    places.push(second)?;
-    let claim = Claim::Same(term.copy(alloc)?, other.copy(alloc)?);
+    places.push(first.place)?;
+    places.push(second.place)?;
+    let claim = Claim::Same(first.from.copy(alloc)?, second.to.copy(alloc)?);
     add(alloc, entries, more, claim, &product, Reason::Equal(places))?;
     Ok(())
 }
@@ -286,62 +291,34 @@ fn join_pair(
         Claim::Same(left, right) => match &second_entry.claim {
             Claim::Fact(_) => Ok(()),
             Claim::Same(other_left, other_right) => {
-                join_ends(
-                    alloc,
-                    entries,
-                    first,
-                    first_entry,
-                    second,
-                    second_entry,
-                    left,
-                    right,
-                    other_left,
-                    other_right,
-                    count,
-                    more,
-                )?;
-                join_ends(
-                    alloc,
-                    entries,
-                    first,
-                    first_entry,
-                    second,
-                    second_entry,
-                    left,
-                    right,
-                    other_right,
-                    other_left,
-                    count,
-                    more,
-                )?;
-                join_ends(
-                    alloc,
-                    entries,
-                    first,
-                    first_entry,
-                    second,
-                    second_entry,
-                    right,
-                    left,
-                    other_left,
-                    other_right,
-                    count,
-                    more,
-                )?;
-                join_ends(
-                    alloc,
-                    entries,
-                    first,
-                    first_entry,
-                    second,
-                    second_entry,
-                    right,
-                    left,
-                    other_right,
-                    other_left,
-                    count,
-                    more,
-                )?;
+                let along = Link {
+                    place: first,
+                    entry: first_entry,
+                    from: left,
+                    to: right,
+                };
+                let back = Link {
+                    place: first,
+                    entry: first_entry,
+                    from: right,
+                    to: left,
+                };
+                let other_along = Link {
+                    place: second,
+                    entry: second_entry,
+                    from: other_left,
+                    to: other_right,
+                };
+                let other_back = Link {
+                    place: second,
+                    entry: second_entry,
+                    from: other_right,
+                    to: other_left,
+                };
+                join_ends(alloc, entries, &along, &other_along, count, more)?;
+                join_ends(alloc, entries, &along, &other_back, count, more)?;
+                join_ends(alloc, entries, &back, &other_along, count, more)?;
+                join_ends(alloc, entries, &back, &other_back, count, more)?;
                 Ok(())
             }
         },

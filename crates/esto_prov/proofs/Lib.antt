@@ -1,3 +1,4 @@
 pub mod LeafLemmas
 pub mod WhyLemmas
 pub mod ProductLemmas
+pub mod DeriveLemmas

@@ -3,7 +3,7 @@ ghost use Rattle.std.specs.Prelude.{◌≡◌, ◌↔◌, ◌<◌, ℕ, [], ◌�
 ghost use Rattle.esto_semantics.specs.Sets.{Has, IsMinimal};
 ghost use Rattle.esto_world_laws.specs.Laws.{AreReasoned};
 ghost use Rattle.esto_world_laws.specs.declared.entry.Entry.{Entry};
-ghost use Rattle.esto_prov.specs.Derivations.{IsWhy, leaves_of};
+ghost use Rattle.esto_prov.specs.Derivations.{IsWhy, DerivationsDerive, leaves_of};
 ghost use Rattle.esto_prov.specs.Products.{count_of, IsProductOf, AddsProduct};
 
 use crate::why::{Why, why_of};
@@ -169,3 +169,9 @@ pub fn entries_are_reasoned(entries: &Entries)
 {
     let _entries = entries.entries.items();
 }
+
+/// A law: the derivation of an entry that is derived from expanded facts by rules is a derivation of its claim from these
+/// facts by these rules. It names no entry.
+pub fn derivations_derive()
+    ensures { DerivationsDerive }
+{}

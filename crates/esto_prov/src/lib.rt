@@ -4,6 +4,6 @@
 mod entries;
 mod why;
 
-pub use entries::{Entries, entries_are_reasoned};
+pub use entries::{Entries, derivations_derive, entries_are_reasoned};
 pub use esto_world_laws::{Chain, Claim, Entry, Reason};
 pub use why::{Why, Whys};

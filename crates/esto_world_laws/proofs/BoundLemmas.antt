@@ -37,7 +37,7 @@ use Rattle.esto_world_laws.proofs.LinkLemmas.{zip_right}
 use Rattle.esto_world_laws.proofs.TakenLemmas.{taken-Const, taken_in}
 use Rattle.esto_world_laws.proofs.InductionLemmas.{all_derived}
 
-lengths : (Holds : Claim → Type 0) (body chosen : List (Fact Term)) → AreChosen Holds body chosen → length (terms_of body) ≡ length (terms_of chosen)
+pub lengths : (Holds : Claim → Type 0) (body chosen : List (Fact Term)) → AreChosen Holds body chosen → length (terms_of body) ≡ length (terms_of chosen)
 lengths Holds [] [] are = refl
 lengths Holds [] (fact ∷ chosen) are = absurd are
 lengths Holds (atom ∷ body) [] are = absurd are

@@ -72,7 +72,7 @@ module _ (Holds : Claim → Type 0) (val : Term → Term) (keeps : Keeps Const v
       row ss ts (λ term c. inside term (Contains-rest s ss term c)) a.1,
     )
 
-    Fits-linked : Fits (Linked Holds) from to
+    pub Fits-linked : Fits (Linked Holds) from to
     Fits-linked = row from to (λ term c. c) z
 
   module _ (joined : (s t u : Term) → Touching Holds s t → Touching Holds t u → Touching Holds s u) where

@@ -118,11 +118,11 @@ module _ (Holds : Claim → Type 0) (facts : List (Fact Term)) (listed : (f : Fa
     (from : (f : Fact Term) → Contains facts f → Holds (Stated f))
     (rep : Term → Term) (linked_rep : (t : Term) → Linked Holds t (rep t)) (one_rep : (s t : Term) → Linked Holds s t → rep s ≡ rep t)
     (const_rep : (c : List ℕ) → rep (Const c) ≡ Const c) where
-  abbrev reps : List (Fact Term)
+  abbrev pub reps : List (Fact Term)
   reps = map (image rep) facts
 
   -- a fact under names is reached
-  reached : (fact : Fact Term) → Contains reps fact → Reaches Holds fact
+  pub reached : (fact : Fact Term) → Contains reps fact → Reaches Holds fact
   reached fact inside =
       let found = Contains-map_from (image rep) facts fact inside in
       (found.0, from found.0 found.1, subst (AreOne Holds found.0) found.2 (refl, row found.0.terms))
@@ -152,7 +152,7 @@ module _ (Holds : Claim → Type 0) (facts : List (Fact Term)) (listed : (f : Fa
     own_fixed term (inl constant) = ap rep (ap m constant.1 ∙ keeps constant.0) ∙ const_rep constant.0 ∙ sym (ap m constant.1 ∙ keeps constant.0)
     own_fixed term (inr inside) = own term inside
 
-  finished : (rule : Rule) → IsRule rule → IsMetBy Holds rule → MeetsInto Const ◌≡◌ (Contains reps) rule
+  pub finished : (rule : Rule) → IsRule rule → IsMetBy Holds rule → MeetsInto Const ◌≡◌ (Contains reps) rule
   finished (tuple body head) is_rule met = λ m keeps sends.
       let more = met m keeps (λ atom inside. reached (image m atom) (sends atom inside)) in (
         (λ term. rep (more.0 term)),
@@ -167,7 +167,7 @@ module _ (Holds : Claim → Type 0) (facts : List (Fact Term)) (listed : (f : Fa
   finished (denial body) is_rule met = λ m keeps sends. met m keeps (λ atom inside. reached (image m atom) (sends atom inside))
 
   -- a world that is closed, and in which no denial's body has a match, meets each rule
-  met_by : (rules : List Rule) → IsClosed rules Holds → ¬ (IsDenied rules Holds) → (rule : Rule) → Contains rules rule → IsMetBy Holds rule
+  pub met_by : (rules : List Rule) → IsClosed rules Holds → ¬ (IsDenied rules Holds) → (rule : Rule) → Contains rules rule → IsMetBy Holds rule
   met_by rules closed undenied (tuple body head) inside = closed (tuple body head) inside tt
   met_by rules closed undenied (equality body left right) inside = closed (equality body left right) inside tt
   met_by rules closed undenied (denial body) inside = λ m keeps sends. absurd (undenied (body, inside, (m, keeps, sends)))
@@ -252,13 +252,13 @@ from_picked of atoms (d ∷ ds) x c = elim (Contains-append_cases (picked_by (de
 ]
 
 module _ (entries : List Entry) (atoms : List Bool) where
-  world_facts : List (Fact Term)
+  pub world_facts : List (Fact Term)
   world_facts = picked facts_of atoms entries
 
   world_pairs : List Pair
   world_pairs = picked pairs_of atoms entries
 
-  listed_fact : (f : Fact Term) → InWorld entries atoms (Stated f) → Contains world_facts f
+  pub listed_fact : (f : Fact Term) → InWorld entries atoms (Stated f) → Contains world_facts f
   unfolding world_facts
   listed_fact f (e, c, w, is) = in_picked facts_of atoms entries e f c w (subst (λ (d : Claim). Contains (facts_of d) f) (sym is) (Contains-head f []))
 
@@ -275,7 +275,7 @@ module _ (entries : List Entry) (atoms : List Bool) where
   pair_claim p (Stated g) c = absurd (Contains-nil p c)
   pair_claim p (Same s t) c = elim (Contains-cases _ [] p c) [ inl e ↦ ap (λ (q : Pair). Same q.left q.right) e | inr i ↦ absurd (Contains-nil p i) ]
 
-  fact_in_world : (f : Fact Term) → Contains world_facts f → InWorld entries atoms (Stated f)
+  pub fact_in_world : (f : Fact Term) → Contains world_facts f → InWorld entries atoms (Stated f)
   unfolding world_facts
   fact_in_world f c = let r = from_picked facts_of atoms entries f c in (r.0, r.1, r.2, fact_claim f r.0.claim r.3)
 
@@ -283,14 +283,14 @@ module _ (entries : List Entry) (atoms : List Bool) where
   unfolding world_pairs
   pair_in_world p c = let r = from_picked pairs_of atoms entries p c in (r.0, r.1, r.2, pair_claim p r.0.claim r.3)
 
-  rep_of : Term → Term
+  pub rep_of : Term → Term
   rep_of = name world_pairs
 
-  rep_linked : (t : Term) → Linked (InWorld entries atoms) t (rep_of t)
+  pub rep_linked : (t : Term) → Linked (InWorld entries atoms) t (rep_of t)
   unfolding rep_of
   rep_linked t = name_linked world_pairs pair_in_world t
 
-  rep_one : (s t : Term) → Linked (InWorld entries atoms) s t → rep_of s ≡ rep_of t
+  pub rep_one : (s t : Term) → Linked (InWorld entries atoms) s t → rep_of s ≡ rep_of t
   unfolding rep_of
   rep_one s t l = Linked-respects (name world_pairs) (λ a b k. name_pair world_pairs (record { left = a; right = b }) (listed_pair a b k)) s t l
 
@@ -298,7 +298,7 @@ module _ (entries : List Entry) (atoms : List Bool) where
   unfolding rep_of
   rep_named c = name_const world_pairs c
 
-  rep_const : (IsBroken (InWorld entries atoms) → ⊥) → (c : List ℕ) → rep_of (Const c) ≡ Const c
+  pub rep_const : (IsBroken (InWorld entries atoms) → ⊥) → (c : List ℕ) → rep_of (Const c) ≡ Const c
   rep_const whole c =
       let d : (d : List ℕ) × (Const d ≡ rep_of (Const c)) = rep_named c in
       let l : Linked (InWorld entries atoms) (Const c) (Const d.0) = subst (λ (t : Term). Linked (InWorld entries atoms) (Const c) t) (sym d.1)

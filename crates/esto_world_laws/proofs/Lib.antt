@@ -9,3 +9,5 @@ pub mod DatabaseLemmas
 pub mod ExtensionLemmas
 pub mod SoundLemmas
 pub mod MatchLemmas
+pub mod ContainLemmas
+pub mod RestLemmas

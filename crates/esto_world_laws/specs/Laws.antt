@@ -3,10 +3,12 @@ use Rattle.std.specs.Prelude.{◌≡◌, ◌⊎◌, ◌↔◌, ℕ, ◌<◌, ◌
 use Rattle.std.specs.List.{AllZip}
 use Rattle.esto_term.specs.Nesting.{nesting, greatest_u64}
 use Rattle.esto_term.specs.declared.term.Term.{Term}
-use Rattle.esto_term.specs.declared.term.Term.TheVariants.{Const}
+use Rattle.esto_term.specs.declared.term.Term.TheVariants.{Const, Plain}
 use Rattle.esto_semantics.specs.Facts.{Database, image}
-use Rattle.esto_semantics.specs.Followed.{IsFollowedBy}
+use Rattle.esto_semantics.specs.Containment.{IsContained}
+use Rattle.esto_semantics.specs.Followed.{IsFollowedBy, IsGiven}
 use Rattle.esto_semantics.specs.Maps.{AreFlat, IsFixedBy, Keeps, Sends, SendsInto}
+use Rattle.esto_semantics.specs.Queries.{ConjunctiveQuery, IsAnswer}
 use Rattle.esto_semantics.specs.Rules.{Rule, Meets, AreRules}
 use Rattle.esto_semantics.specs.Sets.{Has}
 use Rattle.esto_semantics.specs.declared.fact.Fact.{Fact}
@@ -23,7 +25,7 @@ use Rattle.esto_world_laws.specs.Derived.{AreDerived, IsUnion}
 use Rattle.esto_world_laws.specs.declared.entry.Reason.{Reason}
 use Rattle.esto_world_laws.specs.declared.entry.Reason.TheVariants.{Expanded, Step, Equal}
 use Rattle.esto_world_laws.specs.declared.entry.Claim.{Claim}
-use Rattle.esto_world_laws.specs.declared.entry.Claim.TheVariants.{Fact as Stated}
+use Rattle.esto_world_laws.specs.declared.entry.Claim.TheVariants.{Fact as Stated, Same}
 use Rattle.esto_world_laws.specs.declared.entry.Entry.{Entry}
 
 -- ---- what is given
@@ -116,6 +118,46 @@ MatchesAreDirect =
     (entries : List Entry) (atoms : List Bool) (head : List Term) (body : List (Fact Term)) (targets : List Term) → AreJoined entries entries
     → ((term : Term) → Contains head term → IsFixedBy body term)
     → HasDirectMatch (InWorld entries atoms) head body targets ↔ HasMatch (InWorld entries atoms) head body targets
+
+-- Each term of the start's head is a constant, a variable, or in its facts.
+abbrev pub HasGivenHead : ConjunctiveQuery → Type 0
+HasGivenHead start = (term : Term) → Contains start.head term → IsGiven start.body term
+
+-- Let a start's facts be the expanded facts of the atoms. A sound world that has a match of a query's body whose head is, place by place, one with the start's
+-- head shows that the start is contained in the query.
+abbrev pub MatchesShowContainment : Type 0
+MatchesShowContainment =
+    (expanded : List ExpandedFact) (rules : List Rule) (entries : List Entry) (atoms : List Bool) (start query : ConjunctiveQuery)
+    → AreFactsOf expanded atoms start.body → HasGivenHead start → IsSound expanded rules entries atoms
+    → HasMatch (InWorld entries atoms) query.head query.body start.head → IsContained rules (IsAnswer start) (IsAnswer query)
+
+-- A world that is closed too, has the start's facts, makes no two different constants one and has no match of a denial's body has such a match where the start
+-- is contained in the query.
+abbrev pub ContainmentShowsMatches : Type 0
+ContainmentShowsMatches =
+    (expanded : List ExpandedFact) (rules : List Rule) (entries : List Entry) (atoms : List Bool) (start query : ConjunctiveQuery)
+    → AreRules rules → AreFactsOf expanded atoms start.body → HasGivenHead start → AreGiven expanded entries → IsSound expanded rules entries atoms
+    → IsClosed rules (InWorld entries atoms) → ¬ (IsBroken (InWorld entries atoms)) → ¬ (IsDenied rules (InWorld entries atoms))
+    → IsContained rules (IsAnswer start) (IsAnswer query) → HasMatch (InWorld entries atoms) query.head query.body start.head
+
+-- ---- what claims rest on
+
+-- The claim is about the term: it stands in the fact, or is a side of the equality.
+abbrev pub IsAbout : Claim → Term → Type 0
+IsAbout (Stated fact) term = Contains fact.terms term
+IsAbout (Same left right) term = (left ≡ term) ⊎ (right ≡ term)
+
+-- The claim rests on the atoms: there is one, and each variable that the claim is about stands in an expanded fact of one of them.
+pub record RestsOn (expanded : List ExpandedFact) (claim : Claim) (atoms : List Bool) : Type 0 where
+  pub some : (number : ℕ) × Has atoms number
+  pub variables : (variable : ℕ) → IsAbout claim (Plain variable)
+      → (fact : ExpandedFact) × Contains expanded fact × Has atoms fact.atom × Contains fact.fact.terms (Plain variable)
+
+-- Each derived claim rests on the atoms of its product.
+abbrev pub DerivedClaimsRestOnAtoms : Type 0
+DerivedClaimsRestOnAtoms =
+    (expanded : List ExpandedFact) (rules : List Rule) (entries : List Entry) → AreRules rules → AreDerived expanded rules entries
+    → (entry : Entry) → Contains entries entry → RestsOn expanded entry.claim entry.product
 
 -- ---- bounds
 

@@ -1,6 +1,11 @@
 //! Laws of entries and of their worlds.
 ghost use Rattle.esto_world_laws.specs.Laws.{DerivedEntriesAreSound, BrokenWorldsAreReceivedNowhere, CompleteEntriesAreClosed, ClosedWorldsAreDatabases};
 ghost use Rattle.esto_world_laws.specs.Laws.{MatchesAreDirect, DerivedFactsNestWithinRanks, DerivedEntriesAreFew, DerivedEntriesAreReasoned};
+ghost use Rattle.esto_world_laws.specs.Laws.{MatchesShowContainment, ContainmentShowsMatches, DerivedClaimsRestOnAtoms};
+
+use esto_semantics::{
+    universal_instances_decide_containment, what_follows_the_facts_follows_the_query,
+};
 
 /// A law: derived entries hold in every database that meets the rules. Each valuation that sends the expanded facts of a
 /// set of atoms into such a database is followed by one that sends the facts of the set's world into it and gives linked
@@ -27,6 +32,23 @@ pub fn closed_worlds_are_databases()
 /// one equality at each place.
 pub fn matches_are_direct()
     ensures { MatchesAreDirect }
+{}
+
+/// A law: the expanded facts of some atoms, with a head, are contained in a query under the rules where the world of the
+/// atoms has a match of the query's body whose head is, place by place, one with that head. Where the world makes no two
+/// different constants one and has no match of a denial's body, it has such a match exactly there.
+pub fn matches_decide_containment()
+    ensures shown { MatchesShowContainment }
+    ensures found { ContainmentShowsMatches }
+{
+    universal_instances_decide_containment();
+    what_follows_the_facts_follows_the_query();
+}
+
+/// A law: each derived claim rests on an atom at least, and each variable that it is about stands in an expanded fact of
+/// one of its atoms.
+pub fn derived_claims_rest_on_atoms()
+    ensures { DerivedClaimsRestOnAtoms }
 {}
 
 /// A law: under ranks that rise, the terms of derived facts nest no deeper than the ranks of their relations, and derived

@@ -5,44 +5,58 @@ use Rattle.esto_condchase.proofs.RoundLemmas.{joined_Grows, joined_IsThere, join
 use Rattle.esto_condchase.proofs.rounds.join_ends.Goals as goal
 
 pub union-requires : goal.union-requires
-union-requires c = ap length c.in_ok-product.ensures ∙ (joined_count c.args.entries.now c.args.count c.args.first c.args.second c.args.first_entry.now
-    c.args.second_entry.now c.requires.counts c.requires.first.0 c.requires.second.0).0
+union-requires c =
+    let first = c.args.first.now in
+    let second = c.args.second.now in
+    ap length c.in_ok-product.ensures
+    ∙ (joined_count c.args.entries.now c.args.count first.place second.place first.entry.now
+    second.entry.now c.requires.counts c.requires.first.0 c.requires.second.0).0
 
 pub add-requires-clause-counts : goal.add-requires-clause-counts
 add-requires-clause-counts c entry inside =
+    let first = c.args.first.now in
+    let second = c.args.second.now in
     c.requires.counts entry inside
-    ∙ sym (ap length (c.union.ensures.value ∙ ap (λ it. united it c.args.second_entry.now.product) c.in_ok-product.ensures)
-    ∙ (joined_count c.args.entries.now c.args.count c.args.first c.args.second c.args.first_entry.now c.args.second_entry.now c.requires.counts
+    ∙ sym (ap length (c.union.ensures.value ∙ ap (λ it. united it second.entry.now.product) c.in_ok-product.ensures)
+    ∙ (joined_count c.args.entries.now c.args.count first.place second.place first.entry.now second.entry.now c.requires.counts
     c.requires.first.0 c.requires.second.0).1)
 
 pub add-requires-clause-more_counts : goal.add-requires-clause-more_counts
 add-requires-clause-more_counts c entry inside =
+    let first = c.args.first.now in
+    let second = c.args.second.now in
     c.requires.more_counts entry inside
-    ∙ sym (ap length (c.union.ensures.value ∙ ap (λ it. united it c.args.second_entry.now.product) c.in_ok-product.ensures)
-    ∙ (joined_count c.args.entries.now c.args.count c.args.first c.args.second c.args.first_entry.now c.args.second_entry.now c.requires.counts
+    ∙ sym (ap length (c.union.ensures.value ∙ ap (λ it. united it second.entry.now.product) c.in_ok-product.ensures)
+    ∙ (joined_count c.args.entries.now c.args.count first.place second.place first.entry.now second.entry.now c.requires.counts
     c.requires.first.0 c.requires.second.0).1)
 
 pub returns-clause-grows : goal.returns-clause-grows
 returns-clause-grows c =
-    let meet : c.args.next.now ≡ c.args.other_next.now = c.equal.ensures.0 c.if-not-equal.false in
-    joined_Grows c.args.entries.now c.args.first c.args.second c.args.first_entry.now c.args.second_entry.now c.args.term.now c.args.next.now c.args.other.now
+    let first = c.args.first.now in
+    let second = c.args.second.now in
+    let meet : first.to.now ≡ second.from.now = c.equal.ensures.0 c.if-not-equal.false in
+    joined_Grows c.args.entries.now first.place second.place first.entry.now second.entry.now first.from.now first.to.now second.to.now
     c.requires.first
-    (subst (λ it. LinksAt c.args.entries.now c.args.second c.args.second_entry.now it c.args.other.now) (sym meet) c.requires.second) c.args.more.now
+    (subst (λ it. LinksAt c.args.entries.now second.place second.entry.now it second.to.now) (sym meet) c.requires.second) c.args.more.now
     c.add.new.more c.args.count
-    (joined_count c.args.entries.now c.args.count c.args.first c.args.second c.args.first_entry.now c.args.second_entry.now c.requires.counts c.requires.first.0
+    (joined_count c.args.entries.now c.args.count first.place second.place first.entry.now second.entry.now c.requires.counts c.requires.first.0
     c.requires.second.0).1
-    _ _ _ _ c.in_ok-copy.ensures c.in_ok-copy-2.ensures (c.union.ensures.value ∙ ap (λ it. united it c.args.second_entry.now.product) c.in_ok-product.ensures)
-    (c.in_ok-push-2.ensures.ok ∙ ap (λ it. it ++ c.args.second ∷ []) (c.in_ok-push.ensures.ok ∙ ap (λ it. it ++ c.args.first ∷ []) c.new-places.ensures))
+    _ _ _ _ c.in_ok-copy.ensures c.in_ok-copy-2.ensures (c.union.ensures.value ∙ ap (λ it. united it second.entry.now.product) c.in_ok-product.ensures)
+    (c.in_ok-push-2.ensures.ok ∙ ap (λ it. it ++ second.place ∷ [])
+    (c.in_ok-push.ensures.ok ∙ ap (λ it. it ++ first.place ∷ []) c.new-places.ensures))
     c.in_ok-add.ensures
 
 pub returns-clause-joined : goal.returns-clause-joined
 returns-clause-joined c meet =
-    joined_IsThere c.args.entries.now c.args.first c.args.second c.args.first_entry.now c.args.second_entry.now c.args.term.now c.args.next.now c.args.other.now
+    let first = c.args.first.now in
+    let second = c.args.second.now in
+    joined_IsThere c.args.entries.now first.place second.place first.entry.now second.entry.now first.from.now first.to.now second.to.now
     c.requires.first
-    (subst (λ it. LinksAt c.args.entries.now c.args.second c.args.second_entry.now it c.args.other.now) (sym meet) c.requires.second) c.args.more.now
+    (subst (λ it. LinksAt c.args.entries.now second.place second.entry.now it second.to.now) (sym meet) c.requires.second) c.args.more.now
     c.add.new.more c.args.count
-    (joined_count c.args.entries.now c.args.count c.args.first c.args.second c.args.first_entry.now c.args.second_entry.now c.requires.counts c.requires.first.0
+    (joined_count c.args.entries.now c.args.count first.place second.place first.entry.now second.entry.now c.requires.counts c.requires.first.0
     c.requires.second.0).1
-    _ _ _ _ c.in_ok-copy.ensures c.in_ok-copy-2.ensures (c.union.ensures.value ∙ ap (λ it. united it c.args.second_entry.now.product) c.in_ok-product.ensures)
-    (c.in_ok-push-2.ensures.ok ∙ ap (λ it. it ++ c.args.second ∷ []) (c.in_ok-push.ensures.ok ∙ ap (λ it. it ++ c.args.first ∷ []) c.new-places.ensures))
+    _ _ _ _ c.in_ok-copy.ensures c.in_ok-copy-2.ensures (c.union.ensures.value ∙ ap (λ it. united it second.entry.now.product) c.in_ok-product.ensures)
+    (c.in_ok-push-2.ensures.ok ∙ ap (λ it. it ++ second.place ∷ [])
+    (c.in_ok-push.ensures.ok ∙ ap (λ it. it ++ first.place ∷ []) c.new-places.ensures))
     c.in_ok-add.ensures

@@ -1,0 +1,38 @@
+use Rattle.std.proofs.Common.{◌<◌, sym, subst}
+use Rattle.esto_acyclic.specs.Graphs.{AreRanks, IsWithin}
+use Rattle.esto_acyclic.specs.Relations.{IsEdge}
+use Rattle.esto_constraint.specs.Constraints.{rules_of}
+use Rattle.esto_world_laws.specs.Worlds.{AreOfCount}
+use Rattle.esto_backchase.proofs.products.entries_of.Goals as goal
+
+pub chase_with_products-requires-clause-atoms : goal.chase_with_products-requires-clause-atoms
+chase_with_products-requires-clause-atoms c = λ fact inside.
+    subst (λ count. fact.atom < count) (sym c.len.ensures) ((c.in_ok-expanded.ensures.expands.exact fact).0 inside).0
+
+pub chase_with_products-requires-clause-within : goal.chase_with_products-requires-clause-within
+chase_with_products-requires-clause-within c =
+    let sound = c.catalogues_are_sound.ensures c.args.catalogue.now in
+    subst (λ count. IsWithin count (IsEdge (rules_of c.args.catalogue.now.rules))) (sym sound.ranks_are.for_each) sound.within
+
+pub chase_with_products-requires-clause-ranks : goal.chase_with_products-requires-clause-ranks
+chase_with_products-requires-clause-ranks c =
+    let sound = c.catalogues_are_sound.ensures c.args.catalogue.now in
+    subst (λ count. AreRanks (IsEdge (rules_of c.args.catalogue.now.rules)) count c.args.catalogue.now.ranks)
+    (sym sound.ranks_are.for_each) sound.ranks_are
+
+pub returns-clause-entries : goal.returns-clause-entries
+returns-clause-entries c = (
+  c.in_ok-expanded.expanded,
+  c.in_ok-expanded.ensures.exact,
+  c.in_ok-expanded.ensures.expands,
+  record {
+    counted = subst (λ count. AreOfCount count c.in_ok-entries.entries) c.len.ensures c.in_ok-entries.ensures.counted;
+    given = c.in_ok-entries.ensures.given;
+    closed = c.in_ok-entries.ensures.closed;
+    sound = c.in_ok-entries.ensures.sound;
+    database = c.in_ok-entries.ensures.database;
+    nowhere = c.in_ok-entries.ensures.nowhere;
+    bounded = c.in_ok-entries.ensures.bounded;
+    derived = c.in_ok-entries.ensures.derived;
+  },
+)

@@ -1,0 +1,40 @@
+use Rattle.std.proofs.Common.{length, subst, sym}
+use Rattle.std.proofs.lemmas.List.{length-map}
+use Rattle.esto_semantics.specs.Listed.{IsRewriting, AnswersQuery}
+use Rattle.esto_semantics.specs.Sets.{TellHolds}
+use Rattle.esto_semantics.proofs.CoverLemmas.{minimal-cover}
+use Rattle.esto_constraint.specs.Constraints.{rules_of}
+use Rattle.esto_query.specs.Making.{query_of}
+use Rattle.esto_views.specs.Fragments.{views_of, patterns_of}
+use Rattle.esto_views.specs.Plans.{fact_of, plan_query}
+use Rattle.esto_backchase.proofs.CandidateLemmas.{plan-flat}
+use Rattle.esto_backchase.proofs.products.minimal_sets.Goals as goal
+
+pub returns-clause-listed : goal.returns-clause-listed
+returns-clause-listed c set =
+    let query = query_of c.args.query.now in
+    let plan = plan_query c.args.plan.now in
+    let rules = rules_of c.args.catalogue.now.rules in
+    let views = views_of c.args.catalogue.now.fragments in
+    let told : TellHolds (length plan.body) (AnswersQuery rules views query plan) c.in_ok-answering.answering.sets =
+    subst (λ count. TellHolds count (AnswersQuery rules views query plan) c.in_ok-answering.answering.sets)
+    (sym (length-map c.args.plan.now.atoms fact_of)) c.in_ok-answering.ensures.tell in
+    let listed = c.listed_sets_are_executable.ensures.executable rules views (patterns_of c.args.catalogue.now.fragments) query plan
+    c.in_ok-answering.answering.sets told set in
+    let found = c.in_ok-sets.ensures.minimal set in
+    (λ inside. listed.1 (found.0 inside), λ is_listed. found.1 (listed.0 is_listed))
+
+pub returns-clause-complete : goal.returns-clause-complete
+returns-clause-complete c other rewriting =
+    let query = query_of c.args.query.now in
+    let plan = plan_query c.args.plan.now in
+    let rules = rules_of c.args.catalogue.now.rules in
+    let views = views_of c.args.catalogue.now.fragments in
+    let patterns = patterns_of c.args.catalogue.now.fragments in
+    let onto = c.rewritings_map_onto_sets.ensures rules views patterns query plan other (plan-flat c.args.plan.now (c.plans_are_sound.ensures c.args.plan.now))
+    c.requires.universal c.requires.satisfiable rewriting in (
+      onto.0,
+      onto.2,
+      minimal-cover (IsRewriting rules views patterns query plan) (length plan.body) (λ set is. is.has_candidate.over) c.in_ok-sets.sets.sets
+          (returns-clause-listed c) onto.0 onto.1,
+    )

@@ -1,0 +1,133 @@
+//! The listed sets of a plan, from the products of one conditional chase.
+ghost use Rattle.std.specs.Prelude.{◌≡◌, ◌↔◌, List, Bool, Contains, IfOk, length};
+ghost use Rattle.esto_semantics.specs.Containment.{IsSatisfiable};
+ghost use Rattle.esto_semantics.specs.Listed.{IsListed, IsExecutableRewriting};
+ghost use Rattle.esto_semantics.specs.Plans.{IsUniversalPlan};
+ghost use Rattle.esto_semantics.specs.Queries.{ConjunctiveQuery};
+ghost use Rattle.esto_semantics.specs.Sets.{TellHolds};
+ghost use Rattle.esto_constraint.specs.Constraints.{rules_of};
+ghost use Rattle.esto_query.specs.Making.{query_of};
+ghost use Rattle.esto_views.specs.Fragments.{views_of, patterns_of};
+ghost use Rattle.esto_views.specs.Plans.{plan_query, IsPlanOver};
+ghost use Rattle.esto_world_laws.specs.Steps.{AreJoined};
+ghost use Rattle.esto_backchase.specs.Candidates.{Answers};
+ghost use Rattle.esto_backchase.specs.Evidence.{AreEntriesOf};
+ghost use Rattle.esto_backchase.specs.Listing.{MapsOntoOne};
+
+use crate::completion::executable_products;
+use esto_bits::Products;
+use esto_catalog::{Catalogue, catalogues_are_sound};
+use esto_chase_laws::queries_have_starts;
+use esto_condchase::{chase_with_products, products_of_matches};
+use esto_constraint::rules_are_sound;
+use esto_prov::Entries;
+use esto_query::{Query, queries_are_sound};
+use esto_semantics::{
+    an_expansion_means_the_same, an_expansion_of_a_plan_expands_its_candidates,
+    candidates_contain_the_query, chosen_atoms_are_named, listed_sets_are_executable,
+    rewritings_map_onto_sets,
+};
+use esto_term::{List, OutOfMemory};
+use esto_views::{Plan, expand, plans_are_sound};
+use esto_world_laws::{derived_claims_rest_on_atoms, matches_decide_containment};
+use std::alloc::Global;
+
+/// The listed sets of a plan, with the entries that they come from.
+#[derive(Debug, Drop)]
+pub struct Backchase {
+    pub entries: Entries,
+    pub sets: Products,
+}
+
+/// The entries of the conditional chase of the plan's expansion, under the catalogue's rules.
+fn entries_of(alloc: Global, plan: &Plan, catalogue: &Catalogue) -> Result<Entries, OutOfMemory>
+    requires { IsPlanOver plan.now catalogue.now.fragments }
+    ensures entries { IfOk result (AreEntriesOf catalogue.now plan.now) }
+    ensures joined { IfOk result (λ entries. AreJoined entries entries) }
+{
+    catalogues_are_sound();
+    let expanded = expand(alloc, plan, &catalogue.fragments)?;
+    let entries = chase_with_products(
+        alloc,
+        &expanded,
+        plan.atoms.len(),
+        &catalogue.rules,
+        &catalogue.ranks,
+    )?;
+    Ok(entries)
+}
+
+/// Sets of the plan's atoms that tell which of them answer the query: the products of the query's matches among the
+/// entries, head to head with the plan's head.
+fn answering_products(
+    alloc: Global,
+    plan: &Plan,
+    query: &Query,
+    catalogue: &Catalogue,
+    entries: &Entries,
+) -> Result<Products, OutOfMemory>
+    requires same_length { length plan.now.head ≡ length query.now.head }
+    requires universal { IsUniversalPlan (rules_of catalogue.now.rules)
+        (views_of catalogue.now.fragments) (query_of query.now) (plan_query plan.now) }
+    requires satisfiable { IsSatisfiable (rules_of catalogue.now.rules) (query_of query.now) }
+    requires entries { AreEntriesOf catalogue.now plan.now entries.now }
+    requires joined { AreJoined entries.now entries.now }
+    ensures count { IfOk result (λ it. it.count ≡ length plan.now.atoms) }
+    ensures tell { IfOk result (λ it. TellHolds (length plan.now.atoms)
+        (Answers catalogue.now query.now plan.now) it.sets) }
+{
+    plans_are_sound();
+    rules_are_sound();
+    queries_are_sound();
+    queries_have_starts();
+    matches_decide_containment();
+    derived_claims_rest_on_atoms();
+    chosen_atoms_are_named();
+    candidates_contain_the_query();
+    an_expansion_means_the_same();
+    an_expansion_of_a_plan_expands_its_candidates();
+    let found = products_of_matches(
+        alloc,
+        entries.items(),
+        &query.head,
+        query.body.items(),
+        plan.head.items(),
+        plan.atoms.len(),
+    )?;
+    Ok(found)
+}
+
+/// The listed sets of the plan under the catalogue's rules: the minimal sets of its atoms that are executable, and whose
+/// candidate is safe and equivalent to the query. Each query over fragments that is an executable rewriting maps onto a
+/// superset of one of them. The entries are those of the conditional chase of the plan's expansion: they say of each set
+/// of the plan's atoms what the catalogue's rules make of its part of the expansion. Source: the backchase with provenance
+/// (Ileana, Cautis, Deutsch and Katsis 2014).
+pub fn minimal_sets(
+    alloc: Global,
+    plan: &Plan,
+    query: &Query,
+    catalogue: &Catalogue,
+) -> Result<Backchase, OutOfMemory>
+    requires over { IsPlanOver plan.now catalogue.now.fragments }
+    requires same_length { length plan.now.head ≡ length query.now.head }
+    requires universal { IsUniversalPlan (rules_of catalogue.now.rules)
+        (views_of catalogue.now.fragments) (query_of query.now) (plan_query plan.now) }
+    requires satisfiable { IsSatisfiable (rules_of catalogue.now.rules) (query_of query.now) }
+    ensures entries { IfOk result (λ it. AreEntriesOf catalogue.now plan.now it.entries) }
+    ensures count { IfOk result (λ it. it.sets.count ≡ length plan.now.atoms) }
+    ensures listed { IfOk result (λ it. (set : List Bool) → Contains it.sets.sets set
+        ↔ IsListed (rules_of catalogue.now.rules) (views_of catalogue.now.fragments)
+        (patterns_of catalogue.now.fragments) (query_of query.now) (plan_query plan.now) set) }
+    ensures complete { IfOk result (λ it. (other : ConjunctiveQuery)
+        → IsExecutableRewriting (rules_of catalogue.now.rules) (views_of catalogue.now.fragments)
+        (patterns_of catalogue.now.fragments) (query_of query.now) other
+        → MapsOntoOne other (plan_query plan.now) it.sets.sets) }
+{
+    plans_are_sound();
+    listed_sets_are_executable();
+    rewritings_map_onto_sets();
+    let entries = entries_of(alloc, plan, catalogue)?;
+    let answering = answering_products(alloc, plan, query, catalogue, &entries)?;
+    let sets = executable_products(alloc, plan, &catalogue.fragments, &answering)?;
+    Ok(Backchase { entries, sets })
+}
