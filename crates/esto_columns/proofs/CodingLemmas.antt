@@ -1,7 +1,7 @@
 -- Rows of texts as rows of codes.
-use Rattle.std.proofs.Common.{◌≡◌, ◌⊎◌, inl, inr, ℕ, zero, suc, ◌+◌, ◌<◌, List, [], ◌∷◌, ◌++◌, map, length, get_or, take, Some, slice_get, refl, sym, ap, ◌∙◌}
-use Rattle.std.proofs.lemmas.List.{append-nil, append_assoc, map_push, take_more, length-map}
-use Rattle.std.proofs.lemmas.Option.{none-some}
+use Rattle.std.proofs.Common.{◌≡◌, ◌⊎◌, inl, inr, ℕ, zero, suc, ◌+◌, ◌<◌, ◌≤◌, List, [], ◌∷◌, ◌++◌, map, length, get_or, set, take, Some, slice_get, Contains, refl, sym, ap, ◌∙◌, arith}
+use Rattle.std.proofs.lemmas.List.{append-nil, append_assoc, map_push, take_more, length-map, get_or_default, get_or-set_other}
+use Rattle.std.proofs.lemmas.Option.{none-some, get_or_from_slice_get}
 use Rattle.esto_term.proofs.ListLemmas.{at_left}
 use Rattle.esto_columns.specs.Interned.{Grows, AreCodesOf, AreCodedRows}
 
@@ -48,3 +48,19 @@ row_turn old new items coded count codes given row grown below is same are own =
 
 pub codes_long : (texts : List (List ℕ)) (codes : List ℕ) (row : List (List ℕ)) → AreCodesOf texts codes row → length codes ≡ length row
 codes_long texts codes row are = sym (length-map codes (slice_get texts)) ∙ ap length are ∙ length-map row Some
+
+-- ---- rows that are emptied once they are coded
+
+pub left_row : (rows left : List (List (List ℕ))) (at : ℕ) (row : List (List ℕ)) → at < length rows → slice_get left at ≡ Some row
+    → get_or left at [] ≡ get_or rows at [] → row ≡ get_or rows at row
+left_row rows left at row below is same = sym (get_or_from_slice_get left at row [] is) ∙ same ∙ get_or_default rows at [] row below
+
+pub left_inside : (rows left : List (List (List ℕ))) (at : ℕ) (row : List (List ℕ)) → at < length rows → slice_get left at ≡ Some row
+    → get_or left at [] ≡ get_or rows at [] → Contains rows row
+left_inside rows left at row below is same = (at, below, sym (left_row rows left at row below is same))
+
+pub left_after : (rows left new : List (List (List ℕ))) (at : ℕ) → new ≡ set left at []
+    → ((place : ℕ) → at ≤ place → get_or left place [] ≡ get_or rows place [])
+    → (place : ℕ) → at + 1 ≤ place → get_or new place [] ≡ get_or rows place []
+left_after rows left new at is same place past =
+    ap (λ them. get_or them place []) is ∙ get_or-set_other left at place [] [] (λ here. omega (arith, here, past)) ∙ same place (omega (arith, past))

@@ -5,3 +5,4 @@ pub mod Picked
 pub mod Indexed
 pub mod Interned
 pub mod RowIndexes
+pub mod Lent

@@ -4,7 +4,7 @@ ghost use Rattle.esto_columns.specs.Interned.{Grows, AreCodesOf, AreCodedRows};
 
 use crate::codes::Codes;
 use crate::rows::Rows;
-use esto_term::{OutOfMemory, TextRow, TextRows, Values};
+use esto_term::{List, OutOfMemory, TextRow, TextRows, Values};
 use std::alloc::Global;
 
 /// The codes of a row of texts. New texts get codes.
@@ -40,4 +40,42 @@ pub fn code_rows(
         coded.add(code.items())?;
     }
     Ok(coded)
+}
+
+/// The rows of texts as rows of codes, in order. Each row is emptied as soon as it has its codes.
+fn code_each(
+    alloc: Global,
+    rows: &mut TextRows,
+    arity: usize,
+    codes: &mut Codes,
+) -> Result<Rows, OutOfMemory>
+    requires { (row : List (List ℕ)) → Contains rows.old row → length row ≡ arity }
+    ensures arity { IfOk result (λ it. it.arity ≡ arity) }
+    ensures coded { IfOk result (λ it. AreCodedRows codes.new it.rows rows.old) }
+    ensures grown { Grows codes.old codes.new }
+{
+    let mut coded = Rows::new(alloc, arity)?;
+    'rows: for at in 0..rows.len() {
+        let code = code_row(alloc, rows.item(at), codes)?;
+        coded.add(code.items())?;
+        rows.set(at, List::new(alloc));
+    }
+    Ok(coded)
+}
+
+/// The same rows of codes as those of `code_rows`, for rows of texts that are not wanted any more: each is let go as soon
+/// as it has its codes, so that texts and codes of a long list don't stand beside one another.
+pub fn code_taken_rows(
+    alloc: Global,
+    rows: TextRows,
+    arity: usize,
+    codes: &mut Codes,
+) -> Result<Rows, OutOfMemory>
+    requires { (row : List (List ℕ)) → Contains rows row → length row ≡ arity }
+    ensures arity { IfOk result (λ it. it.arity ≡ arity) }
+    ensures coded { IfOk result (λ it. AreCodedRows codes.new it.rows rows) }
+    ensures grown { Grows codes.old codes.new }
+{
+    let mut rows = rows;
+    code_each(alloc, &mut rows, arity, codes)
 }

@@ -1,5 +1,5 @@
 //! Indexes of keys, which find the places of a key without a look at the others.
-ghost use Rattle.std.specs.Prelude.{◌≡◌, ◌++◌, ◌∷◌, [], List, ℕ, OnOk};
+ghost use Rattle.std.specs.Prelude.{◌≡◌, ◌++◌, ◌∷◌, [], List, ℕ, IfOk, OnOk};
 ghost use Rattle.esto_columns.specs.Indexed.{IsIndexOf, group_of, places_of_key, with_place};
 
 use crate::keys::Keys;
@@ -62,18 +62,28 @@ impl Index {
         }
     }
 
-    /// Gives the key the next place.
-    pub fn add(&mut self, alloc: Global, key: &[u64]) -> Result<(), OutOfMemory>
-        ensures { OnOk result ((listed : List (List ℕ))
-            → IsIndexOf self.old listed → IsIndexOf self.new (listed ++ key.now ∷ [])) }
+    /// The index with the key at the next place. Where memory is wanting, the index is gone.
+    pub fn add(self, alloc: Global, key: &[u64]) -> Result<Index, OutOfMemory>
+        ensures { IfOk result (λ it. (listed : List (List ℕ))
+            → IsIndexOf self listed → IsIndexOf it (listed ++ key.now ∷ [])) }
     {
-        if self.count == usize::MAX {
+        let Index {
+            keys,
+            groups,
+            count,
+        } = self;
+        if count == usize::MAX {
             return Err(OutOfMemory);
         }
-        let number = self.keys.number(alloc, key)?;
-        put_in_group(alloc, &mut self.groups, number, self.count)?;
-        self.count += 1;
-        Ok(())
+        let mut keys = keys;
+        let mut groups = groups;
+        let number = keys.number(alloc, key)?;
+        put_in_group(alloc, &mut groups, number, count)?;
+        Ok(Index {
+            keys,
+            groups,
+            count: count + 1,
+        })
     }
 
     /// The places of the key, in rising order.

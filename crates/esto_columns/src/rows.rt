@@ -58,7 +58,7 @@ fn indexed(alloc: Global, table: &Table, columns: &[usize]) -> Result<Index, Out
     'rows: for at in 0..table.len() {
         let row = table.row(alloc, at)?;
         let key = key_of(alloc, columns, row.items())?;
-        index.add(alloc, key.items())?;
+        index = index.add(alloc, key.items())?;
     }
     Ok(index)
 }

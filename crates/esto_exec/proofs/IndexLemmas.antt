@@ -1,5 +1,5 @@
 -- Indexes of rows, row by row.
-use Rattle.std.proofs.Common.{◌≡◌, inl, inr, ℕ, zero, suc, ◌+◌, ◌<◌, ◌≤◌, Bool, true, false, cond, List, [], ◌∷◌, ◌++◌, length, get_or, take, Some, slice_get, Contains, refl, sym, ap, ◌∙◌, subst, arith}
+use Rattle.std.proofs.Common.{◌≡◌, inl, inr, ℕ, zero, suc, ◌+◌, ◌<◌, ◌≤◌, Bool, true, false, cond, List, [], ◌∷◌, ◌++◌, map, length, get_or, take, Some, slice_get, Contains, refl, sym, ap, ◌∙◌, subst, arith}
 use Rattle.std.proofs.lemmas.List.{length-append, take_more, take_all}
 use Rattle.std.proofs.lemmas.Option.{none-some}
 use Rattle.std.proofs.lemmas.Slice.Eq.{bytes_eq-Decides}
@@ -8,9 +8,14 @@ use Rattle.esto_term.proofs.ListLemmas.{Contains-head, Contains-rest, at_left, a
 use Rattle.esto_columns.specs.Indexed.{Index, IsIndexOf, places_of_key}
 use Rattle.esto_columns.specs.Picked.{places_where}
 use Rattle.esto_plan.specs.declared.steps.Source.{Source}
-use Rattle.esto_plan.proofs.MeaningLemmas.{same_some}
 use Rattle.esto_exec.specs.Named.{NamesCodes}
 use Rattle.esto_exec.specs.Indexed.{AreKeysOf, FindsRows}
+
+same_some : (row other : List ℕ) → map Some row ≡ map Some other → row ≡ other
+same_some [] [] e = refl
+same_some [] (x ∷ other) e = absurd (cc)
+same_some (x ∷ row) [] e = absurd (cc)
+same_some (x ∷ row) (y ∷ other) e = let first : x ≡ y = cc in let rest = same_some row other (cc) in λ i. first i ∷ rest i
 
 pub one_key : (row : List ℕ) (columns : List Source) (key other : List ℕ) → NamesCodes row columns key → NamesCodes row columns other → key ≡ other
 one_key row columns key other named also = same_some key other (sym named ∙ also)

@@ -31,7 +31,7 @@ pub(crate) fn index_of(
     let mut index = Index::new(alloc);
     'rows: for row in rows.items() {
         let key = key_of(alloc, row.items(), columns)?;
-        index.add(alloc, key.items())?;
+        index = index.add(alloc, key.items())?;
     }
     Ok(index)
 }

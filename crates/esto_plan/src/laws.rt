@@ -1,6 +1,6 @@
 //! What steps mean is what the candidate means.
 ghost use Rattle.std.specs.Prelude.{◌≡◌, ◌≢◌, ◌↔◌, ◌<◌, ℕ, List, map, length, Contains, AllPairs};
-ghost use Rattle.esto_columns.specs.Interned.{AreCodesOf, AreCodedRows, Grows};
+ghost use Rattle.esto_columns.specs.Interned.{AreCodesOf};
 ghost use Rattle.esto_semantics.specs.Access.{Patterns};
 ghost use Rattle.esto_semantics.specs.Facts.{Database};
 ghost use Rattle.esto_semantics.specs.Listed.{candidate};
@@ -89,10 +89,4 @@ pub fn results_have_texts()
         → (code : ℕ) → Contains row code → code < length texts)
         → (row : List ℕ) → IsResult (IsRowOf coded) steps row
         → (code : ℕ) → Contains row code → code < length texts }
-{}
-
-/// A law: rows that are coded stay coded where texts come after the old ones.
-pub fn coded_rows_stay_coded()
-    ensures { (old new coded : List (List ℕ)) (rows : List (List (List ℕ))) → Grows old new
-        → AreCodedRows old coded rows → AreCodedRows new coded rows }
 {}

@@ -1,6 +1,6 @@
 pub mod StoreLemmas
+pub mod HeldLemmas
 pub mod OpenedLemmas
 pub mod UsedLemmas
-pub mod StoredLemmas
 pub mod RunLemmas
 pub mod LawLemmas

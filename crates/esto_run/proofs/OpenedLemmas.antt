@@ -1,37 +1,41 @@
 -- Rows of fragments, opened one by one.
-use Rattle.std.proofs.Common.{◌≡◌, ◌↔◌, ◌⊎◌, inl, inr, ℕ, zero, suc, ◌+◌, ◌<◌, List, [], ◌∷◌, ◌++◌, length, replicate, set, Some, slice_get, Contains, refl, sym, ap, ◌∙◌, subst, arith}
+use Rattle.std.proofs.Common.{◌≡◌, ◌↔◌, ◌⊎◌, inl, inr, ℕ, zero, suc, ◌+◌, ◌<◌, List, [], ◌∷◌, ◌++◌, length, map, set, Some, slice_get, Contains, refl, sym, ap, ◌∙◌, subst, arith}
 use Rattle.std.proofs.lemmas.Bool.{cases_order}
-use Rattle.std.proofs.lemmas.List.{get_or-set_other, get_or-set_same, length-set, length-replicate, replicate_more}
+use Rattle.std.proofs.lemmas.List.{get_or-set_other, get_or-set_same, length-map, map-set}
 use Rattle.std.proofs.lemmas.List.Elements.{Contains-push_cases}
-use Rattle.std.proofs.lemmas.Option.{same_Some}
+use Rattle.std.proofs.lemmas.Option.{same_Some, slice_get_within}
 use Rattle.esto_catalog.specs.declared.catalogue.Store.{Store}
 use Rattle.esto_plan.specs.Rows.{held_by}
 use Rattle.esto_stores.specs.Rows.{Row}
-use Rattle.esto_term.proofs.ListLemmas.{Contains-nil}
+use Rattle.esto_term.proofs.ListLemmas.{Contains-nil, map_at, map_then}
 use Rattle.esto_views.specs.declared.fragments.FragmentDef.{FragmentDef}
-use Rattle.esto_run.specs.Opened.{HaveWidth, AreRowsFor, AreOpened}
+use Rattle.esto_run.specs.Opened.{Held, HaveWidth, AreRowsFor, AreOpened, rows_held, shape_of, unopened}
 use Rattle.esto_run.specs.Stores.{IsRowIn, IsFileRow}
 
 -- ---- no rows
 
-pub none_more : (count : ℕ) (old new : List (List Row)) (given : List Row) → old ≡ replicate count [] → given ≡ [] → new ≡ old ++ given ∷ []
-    → new ≡ replicate (count + 1) []
-none_more count old new given are empty is =
-    is ∙ ap (λ them. them ++ given ∷ []) are ∙ ap (λ one. replicate count [] ++ one ∷ []) empty ∙ replicate_more count []
+none_held : (fragments : List FragmentDef) (number : ℕ) → held_by (rows_held (map unopened fragments)) number ≡ []
+none_held [] number = refl
+none_held (first ∷ rest) zero = refl
+none_held (first ∷ rest) (suc number) = none_held rest number
 
-none_held : (count number : ℕ) → held_by {V = List ℕ} (replicate count []) number ≡ []
-none_held zero number = refl
-none_held (suc count) zero = refl
-none_held (suc count) (suc number) = none_held count number
-
-pub rows_for_none : (fragments : List FragmentDef) (opened : List (List Row)) → opened ≡ replicate (length fragments) [] → AreRowsFor fragments opened
+pub rows_for_none : (fragments : List FragmentDef) (opened : List Held) → opened ≡ map unopened fragments → AreRowsFor fragments opened
 rows_for_none fragments opened are = record {
-  many = ap length are ∙ length-replicate (length fragments) [];
+  shapes = ap (map (λ held. held.shape)) are ∙ map_then unopened (λ held. held.shape) fragments;
   wide = λ number fragment at row inside. absurd (Contains-nil row (subst (λ them. Contains them row)
-      (ap (λ them. held_by them number) are ∙ none_held (length fragments) number) inside));
+      (ap (λ them. held_by (rows_held them) number) are ∙ none_held fragments number) inside));
 }
 
 -- ---- the rows of one fragment more
+
+-- what is there already is put in its place
+set_same : {X : Type 0} (xs : List X) (place : ℕ) (x : X) → slice_get xs place ≡ Some x → set xs place x ≡ xs
+set_same [] place x at = refl
+set_same (first ∷ rest) zero x at = let is : first ≡ x = cc in ap (λ it. it ∷ rest) (sym is)
+set_same (first ∷ rest) (suc place) x at = ap (λ them. first ∷ them) (set_same rest place x at)
+
+pub held_many : (fragments : List FragmentDef) (opened : List Held) → AreRowsFor fragments opened → length opened ≡ length fragments
+held_many fragments opened are = sym (length-map opened (λ held. held.shape)) ∙ ap length are.shapes ∙ length-map fragments shape_of
 
 module _ (old new : List (List Row)) (number : ℕ) (rows : List Row) (below : number < length old) (is : new ≡ set old number rows) where
   here : held_by new number ≡ rows
@@ -40,22 +44,20 @@ module _ (old new : List (List Row)) (number : ℕ) (rows : List Row) (below : n
   pub elsewhere : (other : ℕ) → (other ≡ number → ⊥) → held_by new other ≡ held_by old other
   elsewhere other apart = ap (λ them. held_by them other) is ∙ get_or-set_other old number other rows [] apart
 
-  pub rows_set : (fragments : List FragmentDef) (fragment : FragmentDef) → slice_get fragments number ≡ Some fragment
-      → HaveWidth (length fragment.view.head) rows → AreRowsFor fragments old → AreRowsFor fragments new
-  rows_set fragments fragment at own are = record {
-    many = ap length is ∙ length-set old number rows ∙ are.many;
-    wide = λ other its found. elim (cases_order other number) [
-      | inl same ↦
-          let one : fragment ≡ its = same_Some fragment its (sym at ∙ ap (slice_get fragments) (sym same) ∙ found) in
-          subst (λ (it : FragmentDef). HaveWidth (length it.view.head) (held_by new other)) one
-          (subst (HaveWidth (length fragment.view.head)) (sym here ∙ ap (held_by new) (sym same)) own)
-      | inr apart ↦ subst (HaveWidth (length its.view.head)) (sym (elsewhere other (away other apart))) (are.wide other its found)
-    ];
-  }
+  wide_set : (fragments : List FragmentDef) (fragment : FragmentDef) → slice_get fragments number ≡ Some fragment → HaveWidth (length fragment.view.head) rows
+      → ((other : ℕ) (its : FragmentDef) → slice_get fragments other ≡ Some its → HaveWidth (length its.view.head) (held_by old other))
+      → (other : ℕ) (its : FragmentDef) → slice_get fragments other ≡ Some its → HaveWidth (length its.view.head) (held_by new other)
+  wide_set fragments fragment at own wide other its found = elim (cases_order other number) [
+    | inl same ↦
+        let one : fragment ≡ its = same_Some fragment its (sym at ∙ ap (slice_get fragments) (sym same) ∙ found) in
+        subst (λ (it : FragmentDef). HaveWidth (length it.view.head) (held_by new other)) one
+        (subst (HaveWidth (length fragment.view.head)) (sym here ∙ ap (held_by new) (sym same)) own)
+    | inr apart ↦ subst (HaveWidth (length its.view.head)) (sym (elsewhere other (away apart))) (wide other its found)
+  ]
     where
-      away : (other : ℕ) → (other < number) ⊎ (number < other) → other ≡ number → ⊥
-      away other (inl less) same = omega (arith, less, same)
-      away other (inr more) same = omega (arith, more, same)
+      away : (other < number) ⊎ (number < other) → other ≡ number → ⊥
+      away (inl less) same = omega (arith, less, same)
+      away (inr more) same = omega (arith, more, same)
 
   module _ (stores : List Store) (files : ℕ → List ℕ) (store : Store) (stored : slice_get stores number ≡ Some store)
       (exact : (row : Row) → Contains rows row ↔ IsRowIn store.shape (files number) row) where
@@ -80,3 +82,20 @@ module _ (old new : List (List Row)) (number : ℕ) (rows : List Row) (below : n
         away : (fact.relation < number) ⊎ (number < fact.relation) → fact.relation ≡ number → ⊥
         away (inl less) same = omega (arith, less, same)
         away (inr more) same = omega (arith, more, same)
+
+-- the rows of one fragment are put in their place
+module _ (fragments : List FragmentDef) (old new : List Held) (number : ℕ) (fragment : FragmentDef) (rows : List Row)
+    (is : new ≡ set old number (record { shape = shape_of fragment; rows = rows })) where
+  pub rows_are_set : rows_held new ≡ set (rows_held old) number rows
+  rows_are_set = ap rows_held is ∙ map-set (λ held. held.rows) old number (record { shape = shape_of fragment; rows = rows })
+
+  pub rows_put : slice_get fragments number ≡ Some fragment → HaveWidth (length fragment.view.head) rows → AreRowsFor fragments old → AreRowsFor fragments new
+  rows_put at own are = record {
+    shapes = ap (map (λ held. held.shape)) is ∙ map-set (λ held. held.shape) old number (record { shape = shape_of fragment; rows = rows })
+        ∙ ap (λ them. set them number (shape_of fragment)) are.shapes
+        ∙ set_same (map shape_of fragments) number (shape_of fragment) (map_at shape_of fragments number fragment at);
+    wide = wide_set (rows_held old) (rows_held new) number rows
+        (let within = slice_get_within fragments number fragment at in let many = held_many fragments old are in
+        let long = length-map old (λ held. held.rows) in omega (arith, within, many, long))
+        rows_are_set fragments fragment at own are.wide;
+  }

@@ -17,85 +17,48 @@ use Rattle.esto_semantics.specs.ListedLaws.{ChosenAreNamed}
 use Rattle.esto_semantics.specs.Queries.{ConjunctiveQuery}
 use Rattle.esto_semantics.specs.declared.fact.Fact.{Fact}
 use Rattle.esto_stores.specs.Rows.{Row}
-use Rattle.esto_term.proofs.ListLemmas.{Contains-nil, Contains-at, Contains-cases, Contains-map, Contains-map_from, thing_at, map_at}
+use Rattle.esto_term.proofs.ListLemmas.{Contains-nil, Contains-at, Contains-cases, Contains-map, Contains-map_from, map_at, map_then}
 use Rattle.esto_views.specs.Fragments.{patterns_of}
 use Rattle.esto_views.specs.Plans.{fact_of, plan_query, IsPlanOver}
 use Rattle.esto_views.specs.declared.fragments.FragmentDef.{FragmentDef}
 use Rattle.esto_views.specs.declared.plan.Plan.{Plan}
 use Rattle.esto_run.specs.Laws.{IsAnswerOver}
-use Rattle.esto_run.specs.Opened.{AreRowsFor}
-use Rattle.esto_run.specs.Stored.{IsStored, AreStored}
-use Rattle.esto_run.proofs.StoredLemmas.{StayCoded, stored_on}
+use Rattle.esto_run.specs.Opened.{Held, HaveTexts, AreRowsFor, held_of, rows_held, shape_of}
+use Rattle.esto_run.proofs.HeldLemmas.{text_of_codes, codes_long, code_below, coded_held}
 
 -- what an executor sees of stored rows
-abbrev pub shape_of : StoredRows → Shape
-shape_of it = record { arity = it.rows.arity; ways = it.ways }
+abbrev pub shape_seen : StoredRows → Shape
+shape_seen it = record { arity = it.rows.arity; ways = it.ways }
 
 abbrev pub codes_of : StoredRows → List (List ℕ)
 codes_of it = it.rows.rows
 
--- ---- coded rows
-
-text_of_codes : (texts coded : List (List ℕ)) (rows : List Row) → AreCodedRows texts coded rows → (codes : List ℕ) → Contains coded codes
-    → (row : Row) × Contains rows row × AreCodesOf texts codes row
-text_of_codes texts coded rows are codes inside =
-    let found = Contains-map_from (map Some) rows (map (slice_get texts) codes)
-    (subst (λ them. Contains them (map (slice_get texts) codes)) are (Contains-map (map (slice_get texts)) coded codes inside)) in
-    (found.0, found.1, sym found.2)
-
-codes_long : (texts : List (List ℕ)) (codes : List ℕ) (row : Row) → AreCodesOf texts codes row → length codes ≡ length row
-codes_long texts codes row are = sym (length-map codes (slice_get texts)) ∙ ap length are ∙ length-map row Some
-
-code_below : (texts : List (List ℕ)) (codes : List ℕ) (row : Row) → AreCodesOf texts codes row → (code : ℕ) → Contains codes code → code < length texts
-code_below texts codes row are code inside =
-    let found = Contains-map_from Some row (slice_get texts code)
-    (subst (λ them. Contains them (slice_get texts code)) are (Contains-map (slice_get texts) codes code inside)) in
-    slice_get_within texts code found.0 (sym found.2)
-
 -- ---- the rows of all fragments
 
-module _ (texts : List (List ℕ)) (fragments : List FragmentDef) (opened : List (List Row)) (stored : List StoredRows)
-    (rows_are : AreRowsFor fragments opened) (are : AreStored texts fragments opened (length fragments) stored) where
-  held_past : {X : Type 0} (lists : List (List X)) (number : ℕ) → length lists ≤ number → get_or lists number [] ≡ []
-  held_past [] number past = refl
-  held_past (first ∷ lists) zero past = absurd (omega (arith, past))
-  held_past (first ∷ lists) (suc number) past = held_past lists number (omega (arith, past))
+-- the stored rows are what is held, where these are the texts of the codes
+pub record AreHeld (texts : List (List ℕ)) (opened : List Held) (stored : List StoredRows) : Type 0 where
+  pub shapes : map shape_seen stored ≡ map (λ held. held.shape) opened
+  pub coded : AreCoded texts (held_by (map codes_of stored)) (held_by (rows_held opened))
 
-  own_of : (number : ℕ) (fragment : FragmentDef) → slice_get fragments number ≡ Some fragment
-      → (own : StoredRows) × (slice_get stored number ≡ Some own) × IsStored texts fragment (held_by opened number) own
-  own_of number fragment at =
-      let within = slice_get_within fragments number fragment at in
-      let many = are.many in
-      let own = thing_at stored number (omega (arith, within, many)) in
-      (own.0, own.1, are.each number fragment own.0 at own.1)
+pub held_so : (old new : List (List ℕ)) (opened : List Held) (stored items : List StoredRows) → Grows old new → items ≡ stored → HaveTexts old stored
+    → map (held_of old) stored ≡ opened → AreHeld new opened items
+held_so old new opened stored items grown same have are = subst (λ them. AreHeld new them items) are (subst (AreHeld new (map (held_of old) stored)) (sym same) (record {
+  shapes = sym (map_then (held_of old) (λ held. held.shape) stored);
+  coded = coded_held old new grown stored have;
+}))
 
-  held_own : (number : ℕ) (own : StoredRows) → slice_get stored number ≡ Some own → held_by (map codes_of stored) number ≡ own.rows.rows
-  held_own number own at = get_or_from_slice_get (map codes_of stored) number own.rows.rows [] (map_at codes_of stored number own at)
-
-  pub all_coded : AreCoded texts (held_by (map codes_of stored)) (held_by opened)
-  all_coded number = elim (slice_get_cases fragments number).1 [
-    | inl (fragment, within, at, is) ↦
-        let own = own_of number fragment at in
-        subst (λ them. AreCodedRows texts them (held_by opened number)) (sym (held_own number own.0 own.1)) own.2.coded
-    | inr (past, none) ↦ both
-        (held_past (map codes_of stored) number (let long = length-map stored codes_of in let many = are.many in omega (arith, long, many, past)))
-        (held_past opened number (let many = rows_are.many in omega (arith, many, past)))
-  ]
-    where
-      both : held_by (map codes_of stored) number ≡ [] → held_by opened number ≡ []
-          → AreCodedRows texts (held_by (map codes_of stored) number) (held_by opened number)
-      both left right = subst (λ them. AreCodedRows texts them (held_by opened number)) (sym left) (subst (AreCodedRows texts []) (sym right) refl)
-
-  pub codes_wide : (number : ℕ) (fragment : FragmentDef) → slice_get fragments number ≡ Some fragment → (codes : List ℕ)
+module _ (texts : List (List ℕ)) (fragments : List FragmentDef) (opened : List Held) (stored : List StoredRows)
+    (rows_are : AreRowsFor fragments opened) (are : AreHeld texts opened stored) where
+  codes_wide : (number : ℕ) (fragment : FragmentDef) → slice_get fragments number ≡ Some fragment → (codes : List ℕ)
       → Contains (held_by (map codes_of stored) number) codes → length codes ≡ length fragment.view.head
   codes_wide number fragment at codes inside =
-      let found = text_of_codes texts (held_by (map codes_of stored) number) (held_by opened number) (all_coded number) codes inside in
+      let found = text_of_codes texts (held_by (map codes_of stored) number) (held_by (rows_held opened) number) (are.coded number) codes inside in
       codes_long texts codes found.0 found.2 ∙ rows_are.wide number fragment at found.0 found.1
 
   pub codes_have_texts : (number : ℕ) (codes : List ℕ) → Contains (held_by (map codes_of stored) number) codes
       → (code : ℕ) → Contains codes code → code < length texts
   codes_have_texts number codes inside =
-      let found = text_of_codes texts (held_by (map codes_of stored) number) (held_by opened number) (all_coded number) codes inside in
+      let found = text_of_codes texts (held_by (map codes_of stored) number) (held_by (rows_held opened) number) (are.coded number) codes inside in
       code_below texts codes found.0 found.2
 
   module _ (plan : Plan) (over : IsPlanOver plan fragments) where
@@ -110,14 +73,13 @@ module _ (texts : List (List ℕ)) (fragments : List FragmentDef) (opened : List
         )
 
     pub shapes : (atoms : List (Fact Term)) → ((atom : Fact Term) → Contains atoms atom → Contains (plan_query plan).body atom)
-        → HaveShapes (patterns_of fragments) atoms (map shape_of stored)
+        → HaveShapes (patterns_of fragments) atoms (map shape_seen stored)
     shapes atoms among atom inside =
-        let its = fragment_of atom (among atom inside) in
-        let own = own_of atom.relation its.0 its.1 in (
-          shape_of own.0,
-          map_at shape_of stored atom.relation own.0 own.1,
-          own.2.columns ∙ sym its.2,
-          own.2.ways ∙ ap (map inputs_of)
+        let its = fragment_of atom (among atom inside) in (
+          shape_of its.0,
+          ap (λ them. slice_get them atom.relation) (are.shapes ∙ rows_are.shapes) ∙ map_at shape_of fragments atom.relation its.0 its.1,
+          sym its.2,
+          ap (map inputs_of)
               (sym (get_or_from_slice_get (patterns_of fragments) atom.relation its.0.access []
               (map_at (λ (it : FragmentDef). it.access) fragments atom.relation its.0 its.1))),
         )
@@ -127,14 +89,6 @@ module _ (texts : List (List ℕ)) (fragments : List FragmentDef) (opened : List
     fits atoms among atom fact inside holds same =
         let its = fragment_of atom (among atom inside) in
         its.2 ∙ sym (codes_wide fact.relation its.0 (ap (slice_get fragments) same ∙ its.1) fact.terms holds)
-
--- stored rows stay so as texts come
-pub stored_in : StayCoded → (old new : List (List ℕ)) (fragments : List FragmentDef) (opened : List (List Row)) (stored items : List StoredRows)
-    → Grows old new → items ≡ stored → AreStored old fragments opened (length fragments) stored → AreStored new fragments opened (length fragments) items
-stored_in stay old new fragments opened stored items grown same are = subst (AreStored new fragments opened (length fragments)) (sym same) (record {
-  many = are.many;
-  each = λ number fragment own at there. stored_on stay old new fragment (held_by opened number) own grown (are.each number fragment own at there);
-})
 
 -- ---- the sets of an order
 

@@ -1,8 +1,8 @@
 -- The fragments that a set uses.
-use Rattle.std.proofs.Common.{◌≡◌, ◌↔◌, inl, inr, ℕ, suc, ◌+◌, ◌<◌, ◌≤◌, Bool, false, List, [], ◌∷◌, ◌++◌, length, get_or, Some, slice_get, Contains, refl, sym, ap, ◌∙◌, subst, arith}
+use Rattle.std.proofs.Common.{◌≡◌, ◌≢◌, ◌↔◌, inl, inr, ℕ, suc, ◌+◌, ◌<◌, ◌≤◌, Bool, false, List, [], ◌∷◌, ◌++◌, length, get_or, Some, slice_get, Contains, refl, sym, ap, ◌∙◌, subst, arith}
 use Rattle.std.specs.Prelude.{AllPairs}
 use Rattle.std.proofs.lemmas.Bool.{cases_order, cases_Bool}
-use Rattle.std.proofs.lemmas.List.Elements.{Contains-push_cases, Contains-append_left, Contains-append_right}
+use Rattle.std.proofs.lemmas.List.Elements.{Contains-get_or, Contains-push_cases, Contains-append_left, Contains-append_right}
 use Rattle.std.proofs.lemmas.Option.{same_Some, none-some, slice_get_within, slice_get_cases}
 use Rattle.esto_term.specs.declared.term.Term.{Term}
 use Rattle.esto_semantics.specs.Sets.{Has}
@@ -94,6 +94,14 @@ module _ (atoms : List (Fact Term)) (set : List Bool) where
         (λ inside. (too.exact fragment).1 ((are.exact fragment).0 inside)),
         (λ inside. (are.exact fragment).1 ((too.exact fragment).0 inside)),
       ))
+
+  -- each of them comes once
+  pub used_distinct : (fragments : List ℕ) → AreUsed atoms set fragments → AllPairs ◌≢◌ fragments
+  used_distinct fragments are = λ i j d less within same.
+      let found = (are.exact (get_or fragments i d)).0 (Contains-get_or fragments i d (omega (arith, less, within))) in
+      let first = first_use (get_or fragments i d) found.0 found.1 in
+      let below = are.rising i j d less within first.0 first.0 first.2 (subst (λ it. UsesFirst atoms set it first.0) same first.2) in
+      omega (arith, below)
 
   -- ---- atom by atom
 

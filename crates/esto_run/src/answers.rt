@@ -1,10 +1,11 @@
 //! The text of a query's answers.
 ghost use Rattle.std.specs.Prelude.{◌≡◌, length, All, IfOk, slice_get};
 ghost use Rattle.esto_term.specs.declared.term.Term.{out-Term};
+ghost use Rattle.esto_columns.specs.Lent.{lent_rows};
 ghost use Rattle.esto_run.specs.Answers.{level_name, head_names, rows_text};
 
 use esto_query::{Name, Names, Query};
-use esto_stores::write_records;
+use esto_stores::{write_lent_records, write_records};
 use esto_term::{Bytes, List, OutOfMemory, Replicate, Term, Text, TextRow, TextRows};
 use std::alloc::Global;
 
@@ -44,5 +45,19 @@ pub fn answers_text(alloc: Global, query: &Query, rows: &TextRows) -> Result<Byt
 {
     let names = head_names(alloc, query)?;
     let text = write_records(alloc, &names, rows)?;
+    Ok(text)
+}
+
+/// The text of rows of answers of the query, whose cells are lent.
+pub(crate) fn lent_answers_text(
+    alloc: Global,
+    query: &Query,
+    rows: &[Vec<&[u8]>],
+) -> Result<Bytes, OutOfMemory>
+    requires { All (λ row. length row ≡ length query.now.head) (lent_rows rows.now) }
+    ensures { IfOk result (λ it. it ≡ rows_text query.now (lent_rows rows.now)) }
+{
+    let names = head_names(alloc, query)?;
+    let text = write_lent_records(alloc, &names, rows)?;
     Ok(text)
 }

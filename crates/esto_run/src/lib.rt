@@ -3,6 +3,7 @@
 #![tactic(auto)]
 
 mod answers;
+mod held;
 mod laws;
 mod opened;
 mod run;
@@ -11,10 +12,11 @@ mod stored;
 mod used;
 
 pub use answers::answers_text;
+pub use held::FragmentRows;
 pub use laws::{
     answers_are_over_files, rewritings_answer_queries, rising_rows_are_one, used_fragments_are_one,
 };
-pub use opened::{FragmentRows, no_rows, open_fragment};
+pub use opened::{no_rows, open_fragment};
 pub use run::{rows_of_set, run_text};
 pub use store::open_store;
 pub use used::fragments_of_set;

@@ -1,33 +1,35 @@
 //! The rows of all fragments, opened one by one.
-ghost use Rattle.std.specs.Prelude.{◌≡◌, ◌≢◌, ℕ, List, [], ◌∷◌, ◌++◌, ◌<◌, length, replicate, slice_get, IfOk, IfSome, OnOk, OnErr};
+ghost use Rattle.std.specs.Prelude.{◌≡◌, ◌≢◌, ℕ, List, [], ◌∷◌, ◌++◌, ◌<◌, length, map, slice_get, IfOk, IfSome, OnOk, OnErr};
 ghost use Rattle.esto_catalog.specs.declared.catalogue.Store.{Store};
 ghost use Rattle.esto_lines.specs.Faults.{Gives};
 ghost use Rattle.esto_plan.specs.Rows.{held_by};
-ghost use Rattle.esto_run.specs.Opened.{AreRowsFor, AreOpened};
+ghost use Rattle.esto_run.specs.Opened.{AreRowsFor, AreOpened, rows_held, unopened};
 ghost use Rattle.esto_run.specs.Stores.{first_fault_in};
+ghost use Rattle.esto_run.specs.Stored.{stored_none};
 
+use crate::held::FragmentRows;
 use crate::store::open_store;
+use crate::stored::stored_rows;
 use esto_catalog::{Catalogue, catalogues_are_sound};
+use esto_columns::Rows;
 use esto_ports::FileError;
-use esto_term::{List, OutOfMemory, TextRows};
+use esto_term::{List, OutOfMemory};
 use esto_views::FragmentDefs;
 use std::alloc::Global;
 
-/// The rows of fragments, a list for each; it is empty where the fragment's file is not opened.
-pub type FragmentRows = List<TextRows>;
-
 /// No rows for each of the fragments.
 pub fn no_rows(alloc: Global, fragments: &FragmentDefs) -> Result<FragmentRows, OutOfMemory>
-    ensures none { IfOk result (λ it. it ≡ replicate (length fragments.now) []) }
+    ensures none { IfOk result (λ it. it ≡ map unopened fragments.now) }
     ensures rows { IfOk result (AreRowsFor fragments.now) }
     ensures opened { IfOk result
-        (λ it. (stores : List Store) (files : ℕ → List ℕ) → AreOpened stores files [] it) }
+        (λ it. (stores : List Store) (files : ℕ → List ℕ) → AreOpened stores files [] (rows_held it)) }
 {
-    let mut opened = List::new(alloc);
-    'fragments: for _number in 0..fragments.len() {
-        opened.push(List::new(alloc))?;
+    let mut stored = List::new(alloc);
+    'fragments: for fragment in fragments.items() {
+        let rows = Rows::new(alloc, fragment.view.head.len())?;
+        stored.push(stored_rows(alloc, fragment, rows)?)?;
     }
-    Ok(opened)
+    Ok(FragmentRows::of_none(alloc, stored))
 }
 
 /// Puts the rows of the fragment's file, in the shape of its store, in place of what the fragment had; or the file has
@@ -43,11 +45,12 @@ pub fn open_fragment(
     requires rows { AreRowsFor catalogue.now.fragments opened.old }
     ensures rows { AreRowsFor catalogue.now.fragments opened.new }
     ensures others { (other : ℕ) → other ≢ number
-        → held_by opened.new other ≡ held_by opened.old other }
+        → held_by (rows_held opened.new) other ≡ held_by (rows_held opened.old) other }
     ensures kept { OnErr result (opened.new ≡ opened.old) }
     ensures opened { OnOk result ((files : ℕ → List ℕ) (numbers : List ℕ)
-        → files number ≡ bytes.now → AreOpened catalogue.now.stores files numbers opened.old
-        → AreOpened catalogue.now.stores files (numbers ++ number ∷ []) opened.new) }
+        → files number ≡ bytes.now
+        → AreOpened catalogue.now.stores files numbers (rows_held opened.old)
+        → AreOpened catalogue.now.stores files (numbers ++ number ∷ []) (rows_held opened.new)) }
     ensures fault { IfSome (slice_get catalogue.now.fragments number) (λ fragment.
         IfSome (slice_get catalogue.now.stores number) (λ store.
         Gives tt (first_fault_in store.shape (length fragment.view.head) bytes.now) result)) }
@@ -56,6 +59,6 @@ pub fn open_fragment(
     let fragment = catalogue.fragments.item(number);
     let store = catalogue.stores.item(number);
     let rows = open_store(alloc, store, fragment, bytes)?;
-    opened.set(number, rows);
+    opened.put(alloc, number, fragment, rows)?;
     Ok(())
 }

@@ -1,5 +1,6 @@
 //! The run of a set of a plan's atoms over the rows of fragments.
-ghost use Rattle.std.specs.Prelude.{◌≡◌, ◌↔◌, ℕ, List, Bool, length, Contains, IfOk};
+ghost use Rattle.std.specs.Prelude.{◌≡◌, ◌↔◌, ◌<◌, ℕ, List, Bool, length, Contains, IfOk};
+ghost use Rattle.esto_columns.specs.Interned.{AreCodesOf};
 ghost use Rattle.esto_plan.specs.Planned.{IsSafeOrder};
 ghost use Rattle.esto_plan.specs.Rows.{IsRowOf, held_by};
 ghost use Rattle.esto_semantics.specs.Access.{IsOrder};
@@ -8,22 +9,60 @@ ghost use Rattle.esto_views.specs.Fragments.{patterns_of};
 ghost use Rattle.esto_views.specs.Plans.{plan_query, IsPlanOver};
 ghost use Rattle.esto_run.specs.Answers.{AreRising, IsAnswersText};
 ghost use Rattle.esto_run.specs.Laws.{IsAnswerOver};
-ghost use Rattle.esto_run.specs.Opened.{AreRowsFor};
+ghost use Rattle.esto_run.specs.Opened.{AreRowsFor, rows_held};
 
-use crate::answers::answers_text;
-use crate::opened::FragmentRows;
-use crate::stored::stored_fragments;
+use crate::answers::lent_answers_text;
+use crate::held::FragmentRows;
 use esto_access::Order;
-use esto_columns::{Codes, sorted_texts};
+use esto_columns::{Codes, Rows, coded_rows_stay_coded, sorted_rows, sorted_texts};
 use esto_exec::{plans_are_runnable, run_plan};
-use esto_plan::{
-    coded_rows_stay_coded, plan_of, results_are_candidate_answers, results_have_texts,
-};
+use esto_plan::{plan_of, results_are_candidate_answers, results_have_texts};
 use esto_query::Query;
 use esto_semantics::chosen_atoms_are_named;
 use esto_term::{Bytes, OutOfMemory, TextRows};
 use esto_views::{FragmentDefs, Plan};
 use std::alloc::Global;
+
+/// Rows of codes, with the texts of the codes.
+#[derive(Drop)]
+struct CodedAnswers {
+    codes: Codes,
+    rows: Rows,
+}
+
+/// The answers of the candidate of a set of the plan's atoms over the rows of the fragments, as rows of codes.
+fn answers_of_set(
+    alloc: Global,
+    order: &Order,
+    plan: &Plan,
+    fragments: &FragmentDefs,
+    opened: FragmentRows,
+) -> Result<CodedAnswers, OutOfMemory>
+    requires over { IsPlanOver plan.now fragments.now }
+    requires order { IsSafeOrder (patterns_of fragments.now) (plan_query plan.now) order.now }
+    requires rows { AreRowsFor fragments.now opened }
+    ensures texts { IfOk result (λ it. (row : List ℕ) → Contains it.rows.rows row
+        → (code : ℕ) → Contains row code → code < length it.codes) }
+    ensures answers { IfOk result (λ it. (set : List Bool)
+        → IsOrder (patterns_of fragments.now) (plan_query plan.now).body set order.now
+        → (row : List (List ℕ))
+        → ((own : List ℕ) × Contains it.rows.rows own × AreCodesOf it.codes own row)
+        ↔ IsAnswerOver (IsRowOf (held_by (rows_held opened)))
+        (candidate (plan_query plan.now) set) row) }
+{
+    plans_are_runnable();
+    results_are_candidate_answers();
+    results_have_texts();
+    coded_rows_stay_coded();
+    chosen_atoms_are_named();
+    let (codes, stored) = opened.into_parts();
+    let mut codes = codes;
+    let steps = plan_of(alloc, order, plan, fragments, &mut codes)?;
+    // the count is read so that the texts are known to be distinct
+    let _count = codes.len();
+    let rows = run_plan(alloc, &steps, stored.items())?;
+    Ok(CodedAnswers { codes, rows })
+}
 
 /// The answers of the candidate of a set of the plan's atoms over the rows of the fragments, each once, in rising order,
 /// cell by cell by bytes. The set is given by an order of it, and is safe. They rest on the rows of those fragments alone
@@ -33,29 +72,19 @@ pub fn rows_of_set(
     order: &Order,
     plan: &Plan,
     fragments: &FragmentDefs,
-    opened: &FragmentRows,
+    opened: FragmentRows,
 ) -> Result<TextRows, OutOfMemory>
     requires over { IsPlanOver plan.now fragments.now }
     requires order { IsSafeOrder (patterns_of fragments.now) (plan_query plan.now) order.now }
-    requires rows { AreRowsFor fragments.now opened.now }
+    requires rows { AreRowsFor fragments.now opened }
     ensures rows { IfOk result (λ it. (set : List Bool)
         → IsOrder (patterns_of fragments.now) (plan_query plan.now).body set order.now
         → (row : List (List ℕ)) → Contains it row ↔ IsAnswerOver
-        (IsRowOf (held_by opened.now)) (candidate (plan_query plan.now) set) row) }
+        (IsRowOf (held_by (rows_held opened))) (candidate (plan_query plan.now) set) row) }
     ensures rising { IfOk result AreRising }
 {
-    plans_are_runnable();
-    results_are_candidate_answers();
-    results_have_texts();
-    coded_rows_stay_coded();
-    chosen_atoms_are_named();
-    let mut codes = Codes::new(alloc);
-    let stored = stored_fragments(alloc, fragments, opened, &mut codes)?;
-    let steps = plan_of(alloc, order, plan, fragments, &mut codes)?;
-    // the count is read so that the texts are known to be distinct
-    let _count = codes.len();
-    let rows = run_plan(alloc, &steps, stored.items())?;
-    let texts = sorted_texts(alloc, &rows, &codes)?;
+    let answers = answers_of_set(alloc, order, plan, fragments, opened)?;
+    let texts = sorted_texts(alloc, &answers.rows, &answers.codes)?;
     Ok(texts)
 }
 
@@ -67,18 +96,19 @@ pub fn run_text(
     plan: &Plan,
     order: &Order,
     fragments: &FragmentDefs,
-    opened: &FragmentRows,
+    opened: FragmentRows,
 ) -> Result<Bytes, OutOfMemory>
     requires same_length { length plan.now.head ≡ length query.now.head }
     requires over { IsPlanOver plan.now fragments.now }
     requires order { IsSafeOrder (patterns_of fragments.now) (plan_query plan.now) order.now }
-    requires rows { AreRowsFor fragments.now opened.now }
+    requires rows { AreRowsFor fragments.now opened }
     ensures { IfOk result (λ text. (set : List Bool)
         → IsOrder (patterns_of fragments.now) (plan_query plan.now).body set order.now
-        → IsAnswersText query.now (IsAnswerOver (IsRowOf (held_by opened.now))
+        → IsAnswersText query.now (IsAnswerOver (IsRowOf (held_by (rows_held opened)))
         (candidate (plan_query plan.now) set)) text) }
 {
-    let rows = rows_of_set(alloc, order, plan, fragments, opened)?;
-    let text = answers_text(alloc, query, &rows)?;
+    let answers = answers_of_set(alloc, order, plan, fragments, opened)?;
+    let rows = sorted_rows(alloc, &answers.rows, &answers.codes)?;
+    let text = lent_answers_text(alloc, query, rows.as_slice())?;
     Ok(text)
 }

@@ -1,5 +1,5 @@
 //! The fragments that a set of a plan's atoms uses.
-ghost use Rattle.std.specs.Prelude.{◌↔◌, IfOk, OnOk, IsTrue, Contains};
+ghost use Rattle.std.specs.Prelude.{◌≢◌, ◌↔◌, IfOk, OnOk, IsTrue, Contains, AllPairs};
 ghost use Rattle.esto_views.specs.Plans.{plan_query};
 ghost use Rattle.esto_run.specs.Used.{AreUsed, AddsUse};
 
@@ -36,7 +36,8 @@ fn add_use(
 /// The numbers of the fragments that the set of the plan's atoms uses, each once, in rising order of the least number
 /// of their atoms in the set.
 pub fn fragments_of_set(alloc: Global, set: &RowBits, plan: &Plan) -> Result<Places, OutOfMemory>
-    ensures { IfOk result (AreUsed (plan_query plan.now).body set.now) }
+    ensures used { IfOk result (AreUsed (plan_query plan.now).body set.now) }
+    ensures distinct { IfOk result (AllPairs ◌≢◌) }
 {
     let mut fragments = Values::new(alloc);
     'atoms: for (number, atom) in plan.atoms.items().iter().enumerate() {

@@ -1,9 +1,9 @@
 -- The text of a CSV file is read back as the same rows.
 use Rattle.std.proofs.Common.{◌≡◌, ◌≢◌, ◌<◌, ◌≤◌, ◌+◌, ◌∙◌, ◌==◌, ◌&&◌, ◌++◌, ℕ, zero, suc, List, [], ◌∷◌, cond, Bool, true, false, None, length, map, get_or, take, drop, refl, ap, sym, subst, arith, inl, inr, append_assoc, if◌then◌else◌}
-use Rattle.std.specs.Prelude.{All, AllPairs, bytes_eq}
+use Rattle.std.specs.Prelude.{All, AllPairs, bytes_eq, Bor, Vec}
 use Rattle.std.specs.List.{list_any, list_all}
 use Rattle.std.proofs.lemmas.Bool.{cases_Bool}
-use Rattle.std.proofs.lemmas.List.{append-nil, get_or-map, length-map, same_lists, take_all, take_more, flat_map_more, at_drop_all, at_drop_more, get_or_default}
+use Rattle.std.proofs.lemmas.List.{append-nil, get_or-map, length-map, same_lists, take_all, take_more, map_push, flat_map_more, at_drop_all, at_drop_more, get_or_default}
 use Rattle.std.proofs.lemmas.List.Elements.{All-head, All-tail}
 use Rattle.std.proofs.lemmas.List.Sums.{sum_by-cons}
 use Rattle.std.proofs.lemmas.Slice.Eq.{bytes_eq-Decides}
@@ -18,7 +18,7 @@ use Rattle.esto_stores.specs.Left.{records_at}
 use Rattle.esto_stores.specs.Table.{records_of, times_in, place_in, declared, header_fault, fault_of_records, rows_of_records, table_fault, table_rows}
 use Rattle.esto_stores.specs.TableText.{records_text, table_text, HasNoMark, StartsPlain}
 use Rattle.esto_stores.proofs.RecordLemmas.{records_none, records_some}
-use Rattle.esto_stores.proofs.RowLemmas.{fault_goes}
+use Rattle.esto_stores.proofs.RowLemmas.{fault_goes, lent}
 use Rattle.esto_stores.proofs.TableLemmas.{no_mark}
 use Rattle.esto_stores.proofs.KeyTextLemmas.{both_left, both_right}
 
@@ -214,3 +214,19 @@ pub put_end : (columns : Row) (rows : List Row) (i : ℕ) (text : List ℕ) → 
     → (text ≡ table_text columns rows) × (are_texts columns ≡ true) × (list_all are_texts rows ≡ true)
 put_end columns rows i text h past =
     (h.0 ∙ ap (table_text columns) (take_all i rows past), h.1, h.2 ∙ at_drop_all (list_all are_texts) rows i past)
+
+-- ---- rows whose cells are lent
+
+abbrev pub lent_rows : {Z : Type 0} → List (Vec (Bor (List ℕ)) Z) → List Row
+lent_rows rows = map (λ row. lent row.items) rows
+
+pub lent_goes : {Z : Type 0} (columns : Row) (rows : List (Vec (Bor (List ℕ)) Z)) (i : ℕ) (text new : List ℕ) (row : Vec (Bor (List ℕ)) Z)
+    (cells : List (Bor (List ℕ))) → text ≡ table_text columns (lent_rows (take i rows)) → i < length rows → row ≡ get_or rows i row → cells ≡ row.items
+    → new ≡ text ++ row_text default_writer (lent cells) → new ≡ table_text columns (lent_rows (take (i + 1) rows))
+lent_goes columns rows i text new row cells is within at same more =
+    more ∙ ap (λ (t : List ℕ). t ++ row_text default_writer (lent cells)) is
+    ∙ ap (λ (cs : List (Bor (List ℕ))). table_text columns (lent_rows (take i rows)) ++ row_text default_writer (lent cs)) same
+    ∙ flat_map_more (row_text default_writer) [] (columns ∷ lent_rows (take i rows)) (lent row.items)
+    ∙ ap (λ (rs : List Row). records_text (columns ∷ rs))
+    (sym (map_push (λ it. lent it.items) (take i rows) row)
+    ∙ ap lent_rows (ap (λ it. take i rows ++ it ∷ []) at ∙ sym (take_more rows i row within)))

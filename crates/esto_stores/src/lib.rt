@@ -14,4 +14,4 @@ mod table_text;
 pub use key_text::write_keys;
 pub use keys::open_keys;
 pub use table::open_table;
-pub use table_text::{write_records, write_table};
+pub use table_text::{write_lent_records, write_records, write_table};

@@ -25,6 +25,19 @@ fn lend_cells<'a>(alloc: Global, row: &'a [Text]) -> Result<Vec<&'a [u8]>, OutOf
 }
 
 // Writes one record. A writer over memory and rows of equal length leave no error but want of memory.
+fn put_cells(writer: &mut Writer<Vec<u8>>, cells: &[&[u8]]) -> Result<(), OutOfMemory>
+    requires { Writes writer.old }
+    ensures writes { OnOk result (Writes writer.new) }
+    ensures text { OnOk result (written writer.new
+        ≡ written writer.old ++ row_text default_writer (map (λ cell. cell.now) cells.now)) }
+{
+    match writer.write_fields(cells) {
+        Ok(()) => Ok(()),
+        Err(_) => Err(OutOfMemory),
+    }
+}
+
+// Writes the record of a row.
 fn put_row(alloc: Global, writer: &mut Writer<Vec<u8>>, row: &[Text]) -> Result<(), OutOfMemory>
     requires { Writes writer.old }
     ensures writes { OnOk result (Writes writer.new) }
@@ -33,10 +46,30 @@ fn put_row(alloc: Global, writer: &mut Writer<Vec<u8>>, row: &[Text]) -> Result<
     ensures texts { OnOk result (are_texts row.now ≡ true) }
 {
     let cells = lend_cells(alloc, row)?;
-    match writer.write_fields(cells.as_slice()) {
-        Ok(()) => Ok(()),
+    put_cells(writer, cells.as_slice())
+}
+
+// The bytes that the writer has written.
+fn ended(alloc: Global, writer: Writer<Vec<u8>>) -> Result<Bytes, OutOfMemory>
+    requires { Writes writer }
+    ensures { IfOk result (λ text. text ≡ written writer) }
+{
+    match writer.into_inner() {
+        Ok(text) => Bytes::from_slice(alloc, text.as_slice()),
         Err(_) => Err(OutOfMemory),
     }
+}
+
+// A writer that has written the columns.
+fn started(alloc: Global, columns: &TextRow) -> Result<Writer<Vec<u8>>, OutOfMemory>
+    ensures writes { IfOk result Writes }
+    ensures text { IfOk result
+        (λ writer. written writer ≡ row_text default_writer columns.now) }
+    ensures columns { IfOk result (λ _. are_texts columns.now ≡ true) }
+{
+    let mut writer = WriterBuilder::new().from_writer(Vec::new(alloc));
+    put_row(alloc, &mut writer, columns.items())?;
+    Ok(writer)
 }
 
 // Writes the columns and then the rows.
@@ -45,15 +78,28 @@ fn put_rows(alloc: Global, columns: &TextRow, rows: &TextRows) -> Result<Bytes, 
     ensures columns { IfOk result (λ _. are_texts columns.now ≡ true) }
     ensures rows { IfOk result (λ _. list_all are_texts rows.now ≡ true) }
 {
-    let mut writer = WriterBuilder::new().from_writer(Vec::new(alloc));
-    put_row(alloc, &mut writer, columns.items())?;
+    let mut writer = started(alloc, columns)?;
     'rows: for row in rows.items() {
         put_row(alloc, &mut writer, row.items())?;
     }
-    match writer.into_inner() {
-        Ok(text) => Bytes::from_slice(alloc, text.as_slice()),
-        Err(_) => Err(OutOfMemory),
+    ended(alloc, writer)
+}
+
+/// The text of these columns, whatever they are, and of the rows under them, whose cells are lent: a CSV record of each.
+pub fn write_lent_records(
+    alloc: Global,
+    columns: &TextRow,
+    rows: &[Vec<&[u8]>],
+) -> Result<Bytes, OutOfMemory>
+    requires { All (λ row. length row.items ≡ length columns.now) rows.now }
+    ensures { IfOk result (λ text. text
+        ≡ table_text columns.now (map (λ row. map (λ cell. cell.now) row.items) rows.now)) }
+{
+    let mut writer = started(alloc, columns)?;
+    'rows: for row in rows {
+        put_cells(&mut writer, row.as_slice())?;
     }
+    ended(alloc, writer)
 }
 
 /// The text of these columns, whatever they are, and of the rows under them: a CSV record of each.

@@ -19,7 +19,7 @@ use Rattle.esto_ports.specs.declared.file_fault.FileError.{FileError}
 use Rattle.esto_ports.specs.declared.file_fault.FileError.TheVariants.{Fault}
 use Rattle.esto_ports.specs.declared.file_fault.FileFault.{FileFault}
 use Rattle.esto_plan.specs.Rows.{IsRowOf, held_by}
-use Rattle.esto_run.specs.Opened.{AreOpened, AreRowsFor}
+use Rattle.esto_run.specs.Opened.{Held, AreOpened, AreRowsFor, rows_held}
 use Rattle.esto_run.specs.Stores.{IsFileRow, IsRowIn, first_fault_in}
 use Rattle.esto_semantics.specs.declared.fact.Fact.{Fact}
 use Rattle.esto_stores.specs.Rows.{Row}
@@ -176,14 +176,15 @@ module _ (files : Option Files) (catalogue : Catalogue) (numbers : List ℕ) whe
       opening_stops stops = each_stops (opens_next files catalogue) numbers (opens_fragments files catalogue numbers) so_far.counter index so_far.contents
           so_far.leads number below is (first_stops _ _ stops)
 
-    -- no file is left
-    pub opening_ends : length numbers ≤ index → AreRowsFor catalogue.fragments opened → (rose : Type 0) → OpensAll files catalogue numbers rose (Ok opened)
-    opening_ends le rows rose = (
-      so_far.contents,
-      each_goes (opens_next files catalogue) numbers (opens_fragments files catalogue numbers) so_far.counter index so_far.contents so_far.leads le,
-      subst (λ (it : List ℕ). AreOpened catalogue.stores so_far.contents it opened) (take_all index numbers le) so_far.are,
-      rows,
-    )
+  -- no file is left
+  pub opening_ends : (index : ℕ) (opened : List Held) → SoFar files catalogue numbers index (rows_held opened) → length numbers ≤ index
+      → AreRowsFor catalogue.fragments opened → (rose : Type 0) → OpensAll files catalogue numbers rose (Ok opened)
+  opening_ends index opened so_far le rows rose = (
+    so_far.contents,
+    each_goes (opens_next files catalogue) numbers (opens_fragments files catalogue numbers) so_far.counter index so_far.contents so_far.leads le,
+    subst (λ (it : List ℕ). AreOpened catalogue.stores so_far.contents it (rows_held opened)) (take_all index numbers le) so_far.are,
+    rows,
+  )
 
 -- the number at a place of the list, as it is read off a slice of it
 pub number_inside : (numbers items : List ℕ) (index : ℕ) → items ≡ numbers → index < length items → Contains numbers (get_or items index 0)
@@ -195,7 +196,7 @@ number_read numbers items index is below =
     get_or_default items index 0 (get_or items index 0) below ∙ ap (λ (it : List ℕ). get_or it index (get_or items index 0)) is
 
 -- the error of one file that `?` hands on
-pub opening_exit : {rose : Type 0} (files : Option Files) (catalogue : Catalogue) (numbers : List ℕ) (error : Status) (result : Result (List (List Row)) Status)
+pub opening_exit : {rose : Type 0} (files : Option Files) (catalogue : Catalogue) (numbers : List ℕ) (error : Status) (result : Result (List Held) Status)
     → IsErrAnd result (λ handed. handed ≡ error) → Stops IsWant (IsCaused rose) (opens_fragments files catalogue numbers) error
     → OpensAll files catalogue numbers rose result
 opening_exit files catalogue numbers error (Ok _) handed stops = absurd handed

@@ -18,8 +18,7 @@ use Rattle.esto_run.specs.Answers.{IsAnswersText, rows_text}
 use Rattle.esto_run.specs.Laws.{AnswersAreOverFiles, IsAnswerOver, UsesOnly}
 use Rattle.esto_run.specs.Opened.{AreOpened}
 use Rattle.esto_run.specs.Stores.{IsFileRow}
-use Rattle.esto_run.specs.Used.{AreUsed, UsesFirst}
-use Rattle.esto_run.proofs.UsedLemmas.{first_use}
+use Rattle.esto_run.specs.Used.{AreUsed}
 use Rattle.esto_plan.specs.Planned.{IsSafeOrder}
 use Rattle.esto_plan.specs.Rows.{IsRowOf, held_by}
 use Rattle.esto_semantics.specs.Access.{IsOrder, IsStatedOrder}
@@ -106,14 +105,6 @@ used_are_there plan fragments set numbers over used number inside =
     let found = over own.0 own.1 in
     let fragment : own.0.fragment ≡ number = ap (λ (it : Fact Term). it.relation) own.2 ∙ place.1.1.2 in
     subst (λ (it : ℕ). it < length fragments) fragment (slice_get_within fragments own.0.fragment found.0 found.1)
-
--- each of them once
-pub used_once : (atoms : List (Fact Term)) (set : List Bool) (numbers : List ℕ) → AreUsed atoms set numbers → AllPairs ◌≢◌ numbers
-used_once atoms set numbers used = λ i j d less within same.
-    let use_of = (used.exact (get_or numbers i d)).0 (Contains-get_or numbers i d (omega (arith, less, within))) in
-    let first = first_use atoms set (get_or numbers i d) use_of.0 use_of.1 in
-    let below = used.rising i j d less within first.0 first.0 first.2 (subst (λ (it : ℕ). UsesFirst atoms set it first.0) same first.2) in
-    omega (arith, below)
 
 -- and they are all that its candidate uses
 pub uses_only : ChosenAreNamed → (plan : Plan) (set : List Bool) (numbers : List ℕ) → AreUsed (plan_query plan).body set numbers

@@ -5,7 +5,7 @@ use Rattle.esto_catalog.specs.declared.fragment.Stored.{Stored}
 use Rattle.esto_course.specs.Course.{Course, Stops, judges, gives, and_then, each}
 use Rattle.esto_ports.specs.Files.{Files}
 use Rattle.esto_ports.specs.declared.file_fault.FileFault.{FileFault}
-use Rattle.esto_run.specs.Opened.{AreOpened, AreRowsFor}
+use Rattle.esto_run.specs.Opened.{Held, AreOpened, AreRowsFor, rows_held}
 use Rattle.esto_run.specs.Stores.{first_fault_in}
 use Rattle.esto_stores.specs.Rows.{Row}
 use Rattle.esto_top.specs.Answers.{IsWant, IsCaused}
@@ -73,8 +73,8 @@ OpensNext files catalogue number old new rose (Ok _) =
 OpensNext files catalogue number old new rose (Err refusal) = Stops IsWant (IsCaused rose) (opens_fragment files catalogue number) refusal
 
 -- The rows are those of the files of the fragments of the numbers, all of which were opened; or the course stops.
-abbrev pub OpensAll : Option Files → Catalogue → List ℕ → Type 0 → Result (List (List Row)) Status → Type 0
+abbrev pub OpensAll : Option Files → Catalogue → List ℕ → Type 0 → Result (List Held) Status → Type 0
 OpensAll files catalogue numbers rose (Ok opened) =
-    (contents : ℕ → List ℕ) × (opens_fragments files catalogue numbers).goes contents × AreOpened catalogue.stores contents numbers opened
+    (contents : ℕ → List ℕ) × (opens_fragments files catalogue numbers).goes contents × AreOpened catalogue.stores contents numbers (rows_held opened)
     × AreRowsFor catalogue.fragments opened
 OpensAll files catalogue numbers rose (Err refusal) = Stops IsWant (IsCaused rose) (opens_fragments files catalogue numbers) refusal

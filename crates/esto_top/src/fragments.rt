@@ -2,7 +2,7 @@
 ghost use Rattle.std.specs.Prelude.{◌≡◌, ◌≢◌, ◌<◌, ◌≤◌, ℕ, length, Contains, AllPairs};
 ghost use Rattle.esto_catalog.specs.declared.fragment.Stored.{Stored};
 ghost use Rattle.esto_ports.specs.Faults.{Rises};
-ghost use Rattle.esto_run.specs.Opened.{AreRowsFor};
+ghost use Rattle.esto_run.specs.Opened.{AreRowsFor, rows_held};
 ghost use Rattle.esto_top.specs.Answers.{Answers};
 ghost use Rattle.esto_top.specs.Fragments.{IsStoredAt, OpensAll, OpensNext, Reads};
 
@@ -30,7 +30,8 @@ fn read_content(
     requires rows { AreRowsFor catalogue.now.fragments opened.old }
     ensures rows { AreRowsFor catalogue.now.fragments opened.new }
     ensures answer { (stored : Stored) → IsStoredAt catalogue.now number stored
-        → Reads catalogue.now number stored bytes.now opened.old opened.new result }
+        → Reads catalogue.now number stored bytes.now (rows_held opened.old) (rows_held opened.new)
+        result }
 {
     match open_fragment(alloc, catalogue, number, bytes.bytes(), opened) {
         Ok(()) => Ok(()),
@@ -53,8 +54,8 @@ fn open_next<S: Shelf>(
     requires there { number < length catalogue.now.fragments }
     requires rows { AreRowsFor catalogue.now.fragments opened.old }
     ensures rows { AreRowsFor catalogue.now.fragments opened.new }
-    ensures answer { OpensNext (S.files shelf.old) catalogue.now number opened.old opened.new
-        (Rises S.faults shelf.old shelf.new) result }
+    ensures answer { OpensNext (S.files shelf.old) catalogue.now number (rows_held opened.old)
+        (rows_held opened.new) (Rises S.faults shelf.old shelf.new) result }
     ensures files { S.files shelf.new ≡ S.files shelf.old }
     ensures later { S.faults shelf.old ≤ S.faults shelf.new }
 {

@@ -77,7 +77,7 @@ fn run_item<S: Shelf>(
     let numbers = fragments_of_set(alloc, &item.set, plan)?;
     let opened = open_fragments(alloc, shelf, catalogue, &numbers)?;
     let fragments = &catalogue.fragments;
-    let text = run_text(alloc, query, plan, &item.order, fragments, &opened)?;
+    let text = run_text(alloc, query, plan, &item.order, fragments, opened)?;
     Ok(Reply::Done(text))
 }
 

@@ -1,27 +1,19 @@
-use Rattle.std.proofs.Common.{◌≡◌, ◌≤◌, ◌+◌, [], length, replicate, ap, ◌∙◌, arith}
-use Rattle.esto_run.proofs.OpenedLemmas.{none_more, rows_for_none}
+use Rattle.std.proofs.Common.{ap, ◌∙◌, map}
+use Rattle.std.proofs.lemmas.List.{take_all}
+use Rattle.esto_run.specs.Stored.{stored_none}
+use Rattle.esto_run.proofs.HeldLemmas.{none_are_empty, none_are_unopened}
+use Rattle.esto_run.proofs.OpenedLemmas.{rows_for_none}
 use Rattle.esto_run.proofs.opened.no_rows.Goals as goal
 
-pub fragments-preserved : goal.fragments-preserved
-fragments-preserved c = (
-  none_more c.fragments._number c.fragments.opened c.push.new.self c.new.result c.fragments.invariant.0 c.new.ensures c.in_ok-push.ensures.ok,
-  let below = c.fragments-test.true in
-      let long = c.len-number-end.ensures in
-      let next : c.fragments._number + 1 ≤ length c.args.fragments.now = omega (arith, below, long) in next,
-)
+pub of_none-requires : goal.of_none-requires
+of_none-requires c = none_are_empty c.args.fragments.now c.fragments.stored
+    (c.fragments.invariant ∙ ap (map stored_none) (take_all c.fragments.fragment-index c.items-fragment-items.result.now c.fragments-test.false
+    ∙ c.items-fragment-items.ensures))
 
 pub returns-clause-none : goal.returns-clause-none
-returns-clause-none c =
-    let past = c.fragments-test.false in
-    let long = c.len-number-end.ensures in
-    let within = c.fragments.invariant.1 in
-    let all : c.fragments._number ≡ length c.args.fragments.now = omega (arith, past, long, within) in
-    c.fragments.invariant.0 ∙ ap (λ n. replicate n []) all
+returns-clause-none c = c.of_none.ensures ∙ none_are_unopened c.args.fragments.now c.fragments.stored
+    (c.fragments.invariant ∙ ap (map stored_none) (take_all c.fragments.fragment-index c.items-fragment-items.result.now c.fragments-test.false
+    ∙ c.items-fragment-items.ensures))
 
 pub returns-clause-rows : goal.returns-clause-rows
-returns-clause-rows c =
-    let past = c.fragments-test.false in
-    let long = c.len-number-end.ensures in
-    let within = c.fragments.invariant.1 in
-    let all : c.fragments._number ≡ length c.args.fragments.now = omega (arith, past, long, within) in
-    rows_for_none c.args.fragments.now c.fragments.opened (c.fragments.invariant.0 ∙ ap (λ n. replicate n []) all)
+returns-clause-rows c = rows_for_none c.args.fragments.now c.of_none.result (returns-clause-none c)

@@ -1,5 +1,6 @@
-use Rattle.std.proofs.Common.{◌≡◌, ◌≤◌, [], length, replicate}
+use Rattle.std.proofs.Common.{◌≡◌, map, take}
+use Rattle.esto_run.specs.Stored.{stored_none}
 use Rattle.esto_run.proofs.opened.no_rows.Given as goal
 
 abbrev pub invariant-fragments : goal.invariant-fragments
-invariant-fragments l = (l.opened ≡ replicate l._number []) × (l._number ≤ length l.fragments)
+invariant-fragments l = l.stored ≡ map stored_none (take l.fragment-index l.fragment-items)

@@ -1,5 +1,6 @@
 use Rattle.std.proofs.Common.{◌≤◌, ◌<◌, length, get_or, refl, ap, ◌∙◌, arith}
 use Rattle.esto_ports.specs.Faults.{Rises}
+use Rattle.esto_run.specs.Opened.{rows_held}
 use Rattle.esto_top.specs.Fragments.{no_contents}
 use Rattle.esto_top.proofs.FragmentLemmas.{number_inside, number_read, opening_ends, opening_exit, opening_goes, opening_starts, opening_stops}
 use Rattle.esto_top.proofs.Steps.{end_stops}
@@ -10,7 +11,7 @@ numbers-init g c = (
   refl,
   omega arith,
   c.in_ok-opened.ensures.rows,
-  opening_starts (g.S.Shelf.files c.args.shelf.now) c.args.catalogue.now c.args.numbers.now c.in_ok-opened.opened
+  opening_starts (g.S.Shelf.files c.args.shelf.now) c.args.catalogue.now c.args.numbers.now (rows_held c.in_ok-opened.opened)
       (c.in_ok-opened.ensures.opened c.args.catalogue.now.stores no_contents),
 )
 
@@ -28,7 +29,7 @@ returns-in_err-open_next-clause-answer g c =
     c.from_residual-in_err-open_next.ensures.1
     (end_stops (g.S.Shelf.faults c.args.shelf.now) (g.S.Shelf.faults c.numbers.shelf) (g.S.Shelf.faults c.open_next.new.shelf)
     (g.S.Shelf.faults c.open_next.new.shelf)
-    (opening_stops (g.S.Shelf.files c.args.shelf.now) c.args.catalogue.now c.args.numbers.now c.numbers.number-index c.numbers.opened
+    (opening_stops (g.S.Shelf.files c.args.shelf.now) c.args.catalogue.now c.args.numbers.now c.numbers.number-index (rows_held c.numbers.opened)
     c.numbers.invariant.3 (get_or items c.numbers.number-index 0) below
     (number_read c.args.numbers.now items c.numbers.number-index c.items-number-items.ensures c.numbers-test.true) stops)
     c.numbers.invariant.1 c.in_err-open_next.ensures.later (omega arith))
@@ -41,10 +42,10 @@ numbers-preserved g c =
       c.in_ok-open_next.ensures.files ∙ c.numbers.invariant.0,
       omega (arith, c.numbers.invariant.1, c.in_ok-open_next.ensures.later),
       c.open_next.ensures.rows,
-      opening_goes (g.S.Shelf.files c.args.shelf.now) c.args.catalogue.now c.args.numbers.now c.numbers.number-index c.numbers.opened
+      opening_goes (g.S.Shelf.files c.args.shelf.now) c.args.catalogue.now c.args.numbers.now c.numbers.number-index (rows_held c.numbers.opened)
           c.numbers.invariant.3 (get_or items c.numbers.number-index 0) below
           (number_read c.args.numbers.now items c.numbers.number-index c.items-number-items.ensures c.numbers-test.true)
-          c.open_next.new.opened opens.0 c.requires.distinct opens.1 opens.2,
+          (rows_held c.open_next.new.opened) opens.0 c.requires.distinct opens.1 opens.2,
     )
 
 pub returns-clause-answer : goal.returns-clause-answer

@@ -1,3 +1,4 @@
+use Rattle.esto_run.specs.Opened.{rows_held}
 use Rattle.esto_top.proofs.FragmentLemmas.{next_exit, opens_next_by, stored_at}
 use Rattle.esto_top.proofs.fragments.open_next.Goals as goal
 
@@ -11,4 +12,4 @@ pub returns-clause-answer : goal.returns-clause-answer
 returns-clause-answer g c =
     let stored = stored_at c.args.catalogue.now c.args.number c.item-store.result.now c.requires.there c.item-store.ensures in
     opens_next_by (g.S.Shelf.files c.args.shelf.now) c.args.catalogue.now c.args.number _ stored.1 c.in_ok-bytes.bytes c.in_ok-bytes.ensures.answer
-    c.args.opened.now c.read_content.new.opened _ c.read_content.result (c.read_content.ensures.answer _ stored.1)
+    (rows_held c.args.opened.now) (rows_held c.read_content.new.opened) _ c.read_content.result (c.read_content.ensures.answer _ stored.1)

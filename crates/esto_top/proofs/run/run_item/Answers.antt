@@ -1,11 +1,12 @@
 use Rattle.esto_constraint.specs.Constraints.{rules_of}
 use Rattle.esto_query.specs.Making.{query_of}
+use Rattle.esto_run.specs.Opened.{rows_held}
 use Rattle.esto_views.specs.Fragments.{views_of}
 use Rattle.esto_views.specs.Plans.{plan_query}
 use Rattle.esto_course.proofs.Steps.{at_exit}
 use Rattle.esto_top.proofs.FormLemmas.{plan_form}
 use Rattle.esto_top.proofs.RuleLemmas.{are_rules}
-use Rattle.esto_top.proofs.RunLemmas.{item_goes, item_stops, text_over_files, used_are_there, used_once}
+use Rattle.esto_top.proofs.RunLemmas.{item_goes, item_stops, text_over_files, used_are_there}
 use Rattle.esto_top.proofs.run.run_item.Goals as goal
 
 pub open_fragments-requires-clause-there : goal.open_fragments-requires-clause-there
@@ -13,17 +14,13 @@ open_fragments-requires-clause-there g c =
     let catalogue = c.args.catalogue.now in
     let over = c.plans_of_runs_are_over_fragments.ensures.over (rules_of catalogue.rules) catalogue.fragments c.args.query.now.names
     (query_of c.args.query.now) c.args.plan.now (c.catalogues_are_sound.ensures catalogue).fragments_are c.requires.planned in
-    used_are_there c.args.plan.now catalogue.fragments c.args.item.now.set c.in_ok-numbers.numbers over c.in_ok-numbers.ensures
-
-pub open_fragments-requires-clause-distinct : goal.open_fragments-requires-clause-distinct
-open_fragments-requires-clause-distinct g c =
-    used_once (plan_query c.args.plan.now).body c.args.item.now.set c.in_ok-numbers.numbers c.in_ok-numbers.ensures
+    used_are_there c.args.plan.now catalogue.fragments c.args.item.now.set c.in_ok-numbers.numbers over c.in_ok-numbers.ensures.used
 
 pub returns-in_err-opened-clause-answer : goal.returns-in_err-opened-clause-answer
 returns-in_err-opened-clause-answer g c =
     at_exit _ _ c.from_residual-in_err-opened.result c.from_residual-in_err-opened.ensures.1
     (item_stops (g.S.Shelf.files c.args.shelf.now) c.args.catalogue.now c.args.query.now c.args.plan.now c.args.item.now c.in_ok-numbers.numbers
-    c.in_ok-numbers.ensures c.in_err-opened.ensures.answer)
+    c.in_ok-numbers.ensures.used c.in_err-opened.ensures.answer)
 
 pub run_text-requires-clause-same_length : goal.run_text-requires-clause-same_length
 run_text-requires-clause-same_length g c =
@@ -48,7 +45,7 @@ pub returns-clause-answer : goal.returns-clause-answer
 returns-clause-answer g c =
     let opened = c.in_ok-opened.ensures.answer in
     item_goes (g.S.Shelf.files c.args.shelf.now) c.args.catalogue.now c.args.query.now c.args.plan.now c.args.item.now c.in_ok-numbers.numbers
-    c.in_ok-numbers.ensures opened.0 c.in_ok-text.text opened.1
+    c.in_ok-numbers.ensures.used opened.0 c.in_ok-text.text opened.1
     (text_over_files c.answers_are_over_files.ensures c.chosen_atoms_are_named.ensures c.args.catalogue.now c.args.query.now c.args.plan.now
-    c.args.item.now.set c.in_ok-numbers.numbers opened.0 c.in_ok-opened.opened c.in_ok-text.text c.in_ok-numbers.ensures opened.2
+    c.args.item.now.set c.in_ok-numbers.numbers opened.0 (rows_held c.in_ok-opened.opened) c.in_ok-text.text c.in_ok-numbers.ensures.used opened.2
     (c.in_ok-text.ensures c.args.item.now.set c.requires.item.order.is_order))

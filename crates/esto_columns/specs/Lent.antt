@@ -1,0 +1,17 @@
+-- Rows of texts that are lent, as contracts see them.
+use Rattle.std.specs.Prelude.{◌≡◌, ℕ, List, map, AllPairs, Vec, Bor}
+use Rattle.std.specs.Cmp.Lexicographic.{slice_cmp}
+use Rattle.std.specs.Ordering.{nat_cmp}
+use Rattle.std.specs.declared.cmp.Ordering.TheVariants.{Less}
+
+-- The texts of a row that are lent.
+abbrev pub lent_row : {Z : Type 0} → Vec (Bor (List ℕ)) Z → List (List ℕ)
+lent_row row = map (λ text. text.now) row.items
+
+-- The rows of the texts that are lent.
+abbrev pub lent_rows : {Z : Type 0} → List (Vec (Bor (List ℕ)) Z) → List (List (List ℕ))
+lent_rows rows = map lent_row rows
+
+-- Each row of texts comes before each later one, cell by cell by bytes.
+abbrev pub Ascend : List (List (List ℕ)) → Type 0
+Ascend rows = AllPairs (λ row other. slice_cmp (slice_cmp nat_cmp) row other ≡ Less) rows
