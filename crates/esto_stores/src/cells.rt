@@ -1,12 +1,12 @@
 //! The cells of a record as texts.
-ghost use Rattle.std.specs.Prelude.{◌≡◌, [], slice_index_or};
+ghost use Rattle.std.specs.Prelude.{◌≡◌, [], slice_index_or, IfOk};
 ghost use Rattle.std.specs.Str.{is_utf8};
 ghost use Rattle.csv.specs.Records.{fields_of};
 ghost use Rattle.esto_stores.specs.Rows.{are_texts, PutsCell, ReadsRow};
 ghost use Rattle.esto_stores.specs.Table.{cells_at};
 
 use csv::ByteRecord;
-use esto_term::{List, Text, TextError, TextRow};
+use esto_term::{List, OutOfMemory, Text, TextError, TextRow};
 use std::alloc::Global;
 use std::str;
 
@@ -39,6 +39,16 @@ pub fn all_are_texts(cells: &ByteRecord) -> bool
     true
 }
 
+/// A row of no cells, with room for so many.
+pub fn row_with_room(alloc: Global, cells: usize) -> Result<TextRow, OutOfMemory>
+    ensures { IfOk result (λ row. row ≡ []) }
+{
+    match Vec::with_capacity(alloc, cells) {
+        Ok(cells) => Ok(List::from_vec(cells)),
+        Err(_) => Err(OutOfMemory),
+    }
+}
+
 /// Puts a cell at the end of a row, if it is a text.
 pub fn push_cell(alloc: Global, row: &mut TextRow, cell: &[u8]) -> Result<(), TextError>
     ensures { PutsCell row.old cell.now row.new result }
@@ -56,7 +66,9 @@ pub fn push_cell(alloc: Global, row: &mut TextRow, cell: &[u8]) -> Result<(), Te
 pub fn text_row(alloc: Global, cells: &ByteRecord, places: &[usize]) -> Result<TextRow, TextError>
     ensures { ReadsRow (cells_at places.now (fields_of cells.now)) result }
 {
-    let mut row = List::new(alloc);
+    let Ok(mut row) = row_with_room(alloc, places.len()) else {
+        return Err(TextError::OutOfMemory);
+    };
     'places: for place in places {
         push_cell(alloc, &mut row, cell_at(cells, *place))?;
     }
