@@ -1,5 +1,6 @@
 -- Rows of texts that are lent, as contracts see them.
-use Rattle.std.specs.Prelude.{◌≡◌, ℕ, List, map, AllPairs, Vec, Bor}
+use Rattle.std.specs.Prelude.{◌≡◌, ℕ, List, map, AllPairs, Vec}
+use Rattle.std.specs.Borrow.{Bor}
 use Rattle.std.specs.Cmp.Lexicographic.{slice_cmp}
 use Rattle.std.specs.Ordering.{nat_cmp}
 use Rattle.std.specs.declared.cmp.Ordering.TheVariants.{Less}

@@ -1,6 +1,6 @@
 -- The text of a CSV file is read back as the same rows.
-use Rattle.std.proofs.Common.{◌≡◌, ◌≢◌, ◌<◌, ◌≤◌, ◌+◌, ◌∙◌, ◌==◌, ◌&&◌, ◌++◌, ℕ, zero, suc, List, [], ◌∷◌, cond, Bool, true, false, None, length, map, get_or, take, drop, refl, ap, sym, subst, arith, inl, inr, append_assoc, if◌then◌else◌}
-use Rattle.std.specs.Prelude.{All, AllPairs, bytes_eq, Bor, Vec}
+use Rattle.std.proofs.Common.{Bor, ◌≡◌, ◌≢◌, ◌<◌, ◌≤◌, ◌+◌, ◌∙◌, ◌==◌, ◌&&◌, ◌++◌, ℕ, zero, suc, List, [], ◌∷◌, cond, Bool, true, false, None, length, map, get_or, take, drop, refl, ap, sym, subst, arith, inl, inr, append_assoc, if◌then◌else◌}
+use Rattle.std.specs.Prelude.{All, AllPairs, bytes_eq, Vec}
 use Rattle.std.specs.List.{list_any, list_all}
 use Rattle.std.proofs.lemmas.Bool.{cases_Bool}
 use Rattle.std.proofs.lemmas.List.{append-nil, get_or-map, length-map, same_lists, take_all, take_more, map_push, flat_map_more, at_drop_all, at_drop_more, get_or_default}

@@ -1,4 +1,4 @@
-use Rattle.std.proofs.Common.{◌≡◌, ◌≤◌, ◌<◌, ◌+◌, take, Contains, length, sym, subst, ap, ◌∙◌, arith}
+use Rattle.std.proofs.Common.{◌<◌, ◌+◌, set, take, length, sym, subst, ap, ◌∙◌, arith}
 use Rattle.std.proofs.lemmas.List.{length-set, take_all}
 use Rattle.esto_columns.specs.CodedRows.{CodedRows}
 use Rattle.esto_columns.specs.Interned.{AreCodedRows}
@@ -33,7 +33,8 @@ rows-preserved c =
           c.item.result.now c.code_row.ensures.grown below
           (left_row c.args.rows.now c.rows.rows c.rows.at c.item.result.now below c.item.ensures (c.rows.invariant.left c.rows.at (omega arith)))
           c.items.ensures c.rows.invariant.coded c.in_ok-code.ensures.coded);
-      left = left_after c.args.rows.now c.rows.rows c.set.new.self c.rows.at c.set.ensures c.rows.invariant.left;
+      left = left_after c.args.rows.now c.rows.rows c.set.new.self c.rows.at (c.set.ensures ∙ ap (set c.rows.rows c.rows.at) c.new-in-rows.ensures)
+          c.rows.invariant.left;
       long = ap length c.set.ensures ∙ length-set c.rows.rows c.rows.at _ ∙ c.rows.invariant.long;
       within = omega (arith, below);
       grown = grows_on c.args.codes.now c.rows.codes c.code_row.new.codes c.rows.invariant.grown c.code_row.ensures.grown;

@@ -1,4 +1,4 @@
-use Rattle.std.proofs.Common.{◌++◌, ◌∷◌, [], length, sym, ap, ◌∙◌, arith}
+use Rattle.std.proofs.Common.{◌∙◌, arith}
 use Rattle.std.proofs.lemmas.Result.{on_ok_weaker}
 use Rattle.esto_columns.proofs.IndexLemmas.{with_set, with_pushed}
 use Rattle.esto_columns.proofs.index.put_in_group.Goals as goal

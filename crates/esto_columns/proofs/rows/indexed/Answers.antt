@@ -1,4 +1,4 @@
-use Rattle.std.proofs.Common.{map, take, ◌+◌, ◌<◌, ◌∙◌, subst}
+use Rattle.std.proofs.Common.{map, take, ◌<◌, subst}
 use Rattle.esto_columns.specs.Indexed.{IsIndexOf, key_at}
 use Rattle.esto_columns.proofs.RowIndexLemmas.{keys_more}
 use Rattle.esto_columns.proofs.rows.indexed.Goals as goal

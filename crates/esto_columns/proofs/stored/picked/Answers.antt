@@ -1,4 +1,4 @@
-use Rattle.std.proofs.Common.{◌++◌, eqb, get_or, ap, sym, ◌∙◌}
+use Rattle.std.proofs.Common.{◌++◌, eqb, get_or, ap, ◌∙◌}
 use Rattle.esto_columns.specs.Picked.{places_of}
 use Rattle.esto_columns.proofs.StoredLemmas.{found_within, found_all, holds_one}
 use Rattle.esto_columns.proofs.stored.picked.Goals as goal

@@ -1,4 +1,4 @@
-use Rattle.std.proofs.Common.{length, ◌≤◌, ◌<◌, Contains, sym, ◌∙◌, subst, arith}
+use Rattle.std.proofs.Common.{Contains, sym, ◌∙◌, subst, arith}
 use Rattle.std.proofs.lemmas.Option.{MatchOption-at_none, MatchOption-at_some}
 use Rattle.esto_columns.specs.Indexed.{IsIndexOf, IsNumberOf}
 use Rattle.esto_columns.proofs.IndexLemmas.{found_places, no_places, no_group}
