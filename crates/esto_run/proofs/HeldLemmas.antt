@@ -1,6 +1,6 @@
 -- Rows that are kept as codes of their texts.
 use Rattle.std.proofs.Common.{◌≡◌, inl, inr, ℕ, zero, suc, ◌+◌, ◌<◌, List, [], ◌∷◌, map, length, get_or, set, All, Some, slice_get, Contains, refl, sym, ap, ◌∙◌, subst, arith}
-use Rattle.std.proofs.lemmas.List.{get_or-append, length-append, length-map, map-set}
+use Rattle.std.proofs.lemmas.List.{get_or_append_left, length-append, length-map, map-set}
 use Rattle.std.proofs.lemmas.List.Elements.{All-set, Contains-get_or}
 use Rattle.std.proofs.lemmas.Option.{get_or_from_slice_get, slice_get_within}
 use Rattle.esto_columns.specs.Asked.{Shape}
@@ -57,7 +57,7 @@ module _ (old new : List (List ℕ)) (grown : Grows old new) where
   still_below code below = let long = ap length grown.1 ∙ length-append old grown.0 in omega (arith, below, long)
 
   kept_text : (code : ℕ) → code < length old → get_or new code [] ≡ get_or old code []
-  kept_text code below = ap (λ them. get_or them code []) grown.1 ∙ get_or-append old grown.0 [] code below
+  kept_text code below = ap (λ them. get_or them code []) grown.1 ∙ get_or_append_left old grown.0 [] code below
 
   -- the codes of rows are those of their texts
   codes_back : (codes : List ℕ) → ((code : ℕ) → Contains codes code → code < length old) → AreCodesOf new codes (texts_of old codes)
