@@ -1,5 +1,6 @@
 -- Rows that are kept as codes of their texts.
 use Rattle.std.proofs.Common.{◌≡◌, inl, inr, ℕ, zero, suc, ◌+◌, ◌<◌, List, [], ◌∷◌, map, length, get_or, set, All, Some, slice_get, Contains, refl, sym, ap, ◌∙◌, subst, arith}
+use Rattle.std.specs.Prelude.{Result, Ok, Err, OnErr}
 use Rattle.std.proofs.lemmas.List.{get_or_append_left, length-append, length-map, map-set}
 use Rattle.std.proofs.lemmas.List.Elements.{All-set, Contains-get_or}
 use Rattle.std.proofs.lemmas.Option.{get_or_from_slice_get, slice_get_within}
@@ -14,6 +15,11 @@ use Rattle.esto_term.proofs.ListLemmas.{Contains-nil, Contains-head, Contains-re
 use Rattle.esto_views.specs.declared.fragments.FragmentDef.{FragmentDef}
 use Rattle.esto_run.specs.Opened.{Held, HaveTexts, held_of, rows_held, shape_of, texts_of, unopened}
 use Rattle.esto_run.specs.Stored.{AreEmpty, stored_none}
+
+-- what holds, holds at an error
+pub at_error : {A E P : Type 0} (result : Result A E) → P → OnErr result P
+at_error (Ok value) holds = tt
+at_error (Err error) holds = holds
 
 -- ---- coded rows and their texts
 

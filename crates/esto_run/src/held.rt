@@ -1,5 +1,5 @@
 //! Rows of fragments, kept as codes of their texts.
-ghost use Rattle.std.specs.Prelude.{◌≡◌, ◌<◌, length, map, slice_set, OnOk, OnErr};
+ghost use Rattle.std.specs.Prelude.{◌≡◌, ◌<◌, [], length, map, slice_set, OnOk, OnErr};
 ghost use Rattle.esto_run.specs.Opened.{HaveTexts, HaveWidth, held_of, shape_of};
 ghost use Rattle.esto_run.specs.Stored.{AreEmpty};
 

@@ -16,8 +16,8 @@ run_plan-requires c =
     c.plans_are_runnable.ensures texts (patterns_of fragments) (ordered plan c.args.order.now) c.in_ok-steps.steps
     (map shape_seen c.items.result.now) c.in_ok-steps.ensures.steps
     (shapes texts fragments c.args.opened c.items.result.now c.requires.rows
-    (held_so c.into_parts.result.0 texts c.args.opened c.into_parts.result.1 c.items.result.now c.plan_of.ensures.grown c.items.ensures
-    c.into_parts.ensures.texts c.into_parts.ensures.held)
+    (held_so c.into_parts-codes.result.0 texts c.args.opened c.into_parts-codes.result.1 c.items.result.now c.plan_of.ensures.grown c.items.ensures
+    c.into_parts-codes.ensures.texts c.into_parts-codes.ensures.held)
     c.args.plan.now c.requires.over (atoms_of plan.body c.args.order.now) (atoms_among plan.body c.args.order.now))
 
 pub returns-clause-texts : goal.returns-clause-texts
@@ -28,8 +28,8 @@ returns-clause-texts c = λ row inside.
     c.results_have_texts.ensures texts (patterns_of fragments) (ordered (plan_query c.args.plan.now) c.args.order.now) c.in_ok-steps.steps
     (held_by (map codes_of stored)) c.in_ok-steps.ensures.steps
     (codes_have_texts texts fragments c.args.opened stored c.requires.rows
-    (held_so c.into_parts.result.0 texts c.args.opened c.into_parts.result.1 stored c.plan_of.ensures.grown c.items.ensures
-    c.into_parts.ensures.texts c.into_parts.ensures.held))
+    (held_so c.into_parts-codes.result.0 texts c.args.opened c.into_parts-codes.result.1 stored c.plan_of.ensures.grown c.items.ensures
+    c.into_parts-codes.ensures.texts c.into_parts-codes.ensures.held))
     row ((c.in_ok-rows.ensures.rows row).0 inside)
 
 pub returns-clause-answers : goal.returns-clause-answers
@@ -41,8 +41,8 @@ returns-clause-answers c = λ set is_order row.
     let texts = c.plan_of.new.codes in
     let stored = c.items.result.now in
     let own = c.requires.order in
-    let are = held_so c.into_parts.result.0 texts opened c.into_parts.result.1 stored c.plan_of.ensures.grown c.items.ensures c.into_parts.ensures.texts
-    c.into_parts.ensures.held in
+    let are = held_so c.into_parts-codes.result.0 texts opened c.into_parts-codes.result.1 stored c.plan_of.ensures.grown c.items.ensures c.into_parts-codes.ensures.texts
+    c.into_parts-codes.ensures.held in
     let law = c.results_are_candidate_answers.ensures texts patterns plan c.args.order.now own c.in_ok-steps.steps
     (held_by (map codes_of stored)) (held_by (rows_held opened))
     c.len-count.ensures.distinct are.coded c.in_ok-steps.ensures.steps

@@ -1,4 +1,4 @@
-use Rattle.std.proofs.Common.{All, length, ap, sym, subst, ◌∙◌}
+use Rattle.std.proofs.Common.{◌≡◌, All, length, ap, sym, subst, ◌∙◌}
 use Rattle.esto_columns.specs.Lent.{lent_rows}
 use Rattle.esto_plan.specs.Rows.{IsRowOf, held_by}
 use Rattle.esto_semantics.specs.Listed.{candidate}

@@ -1,0 +1,33 @@
+use Rattle.std.proofs.Common.{map, set, sym, subst, ap, ◌∙◌}
+use Rattle.esto_run.specs.Opened.{HaveTexts, shape_of, held_of}
+use Rattle.esto_run.proofs.HeldLemmas.{at_error, texts_kept, held_kept, texts_put, held_put}
+use Rattle.esto_run.proofs.held.FragmentRows.put.Goals as goal
+
+pub invariant_of-self : goal.invariant_of-self
+invariant_of-self c =
+    texts_kept c.self.inside.codes c.code_taken_rows.new.codes c.code_taken_rows.ensures.grown c.self.inside.stored c.self.invariant
+
+pub returns-in_err-coded-clause-err : goal.returns-in_err-coded-clause-err
+returns-in_err-coded-clause-err c = at_error _
+    (held_kept c.self.inside.codes c.code_taken_rows.new.codes c.code_taken_rows.ensures.grown c.self.inside.stored c.self.invariant ∙ c.self.view_is)
+
+pub invariant_of-self-in_err-stored : goal.invariant_of-self-in_err-stored
+invariant_of-self-in_err-stored c =
+    texts_kept c.self.inside.codes c.code_taken_rows.new.codes c.code_taken_rows.ensures.grown c.self.inside.stored c.self.invariant
+
+pub returns-in_err-stored-clause-err : goal.returns-in_err-stored-clause-err
+returns-in_err-stored-clause-err c = at_error _
+    (held_kept c.self.inside.codes c.code_taken_rows.new.codes c.code_taken_rows.ensures.grown c.self.inside.stored c.self.invariant ∙ c.self.view_is)
+
+pub invariant_of-self-2 : goal.invariant_of-self-2
+invariant_of-self-2 c = subst (HaveTexts c.code_taken_rows.new.codes) (sym c.set.ensures)
+    (texts_put c.self.inside.codes c.code_taken_rows.new.codes c.code_taken_rows.ensures.grown c.self.inside.stored c.self.invariant c.args.number
+    c.args.fragment.now c.args.rows c.in_ok-coded.coded c.in_ok-stored.stored (c.in_ok-coded.ensures.arity ∙ c.len-columns.ensures)
+    c.in_ok-coded.ensures.coded c.in_ok-stored.ensures)
+
+pub returns-clause-ok : goal.returns-clause-ok
+returns-clause-ok c = ap (map (held_of c.code_taken_rows.new.codes)) c.set.ensures
+    ∙ held_put c.self.inside.codes c.code_taken_rows.new.codes c.code_taken_rows.ensures.grown c.self.inside.stored c.self.invariant c.args.number
+    c.args.fragment.now c.args.rows c.in_ok-coded.coded c.in_ok-stored.stored (c.in_ok-coded.ensures.arity ∙ c.len-columns.ensures)
+    c.in_ok-coded.ensures.coded c.in_ok-stored.ensures
+    ∙ ap (λ them. set them c.args.number (record { shape = shape_of c.args.fragment.now; rows = c.args.rows })) c.self.view_is
