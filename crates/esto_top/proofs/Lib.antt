@@ -18,4 +18,5 @@ pub mod SayLemmas
 pub mod HeadlineLemmas
 pub mod RunsLemmas
 pub mod AgreeLemmas
+pub mod BenchLemmas
 pub mod DeterminedLemmas

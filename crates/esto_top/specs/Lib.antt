@@ -7,6 +7,7 @@ pub mod Listing
 pub mod List
 pub mod Fragments
 pub mod Run
+pub mod Bench
 pub mod Grammar
 pub mod Outcome
 pub mod Headline
