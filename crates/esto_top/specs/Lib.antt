@@ -12,4 +12,5 @@ pub mod Grammar
 pub mod Outcome
 pub mod Headline
 pub mod Runs
+pub mod Benches
 pub mod Determined
