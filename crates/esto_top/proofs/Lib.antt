@@ -1,5 +1,6 @@
 pub mod Steps
 pub mod ValueLemmas
+pub mod SizeLemmas
 pub mod FragmentLemmas
 pub mod RunLemmas
 pub mod ListCourseLemmas

@@ -1,9 +1,9 @@
 //! The words of the command line.
-ghost use Rattle.std.specs.Prelude.{◌≡◌, ◌≤◌, ◌<◌, ◌+◌, length, true, false, None, Some, IfSome, MatchOption};
+ghost use Rattle.std.specs.Prelude.{◌≡◌, ◌≤◌, ◌<◌, ◌+◌, length, true, None, Some, IfSome, MatchOption};
 ghost use Rattle.std.specs.List.{list_all};
 ghost use Rattle.esto_ports.specs.Faults.{Rises};
 ghost use Rattle.esto_top.specs.Answers.{Answers};
-ghost use Rattle.esto_top.specs.Grammar.{Request, is_word, is_digit, is_leading_digit, is_list_number, is_made_size, value_of, request_of_one, request_of_two, request_of_three, request_of, asked, IsSized, course_of_request};
+ghost use Rattle.esto_top.specs.Grammar.{is_word, is_digit, is_leading_digit, is_list_number, is_made_size, value_of, request_of_one, request_of_two, request_of_three, request_of, asked, IsSized, course_of_request};
 
 use crate::bench::bench;
 use crate::check::check;
@@ -82,32 +82,24 @@ fn value_of(digits: &[u8]) -> u64
     value
 }
 
-// The size of the made case that the word writes: 1 to 14 in decimal.
-fn made_size(word: &[u8]) -> Option<usize>
-    ensures size { MatchOption result (is_made_size word.now ≡ false)
-        (λ size. (is_made_size word.now ≡ true) × (size ≡ value_of word.now)) }
-    ensures range { IfSome result (λ size. (0 < size) × (size ≤ MAX_SIZE)) }
+// Whether the word is 1 to 14 in decimal.
+fn is_made_size(word: &[u8]) -> bool
+    ensures { result ≡ is_made_size word.now }
 {
     match word {
-        [digit] if is_leading_digit(*digit) => Some((*digit - b'0') as usize),
-        [first, second] if *first == b'1' && *second >= b'0' && *second <= b'4' => {
-            Some(10 + (*second - b'0') as usize)
-        }
-        _ => None,
+        [digit] => is_leading_digit(*digit),
+        [first, second] => *first == b'1' && *second >= b'0' && *second <= b'4',
+        _ => false,
     }
 }
 
-// The command `bench` of a word.
-fn bench_of<'a>(word: &[u8]) -> Option<Command<'a>>
-    ensures command { MatchOption result (is_made_size word.now ≡ false)
-        (λ command. (is_made_size word.now ≡ true)
-        × (asked command ≡ Request.BenchOf (value_of word.now))) }
-    ensures sized { IfSome result IsSized }
+// The size of the made case that the word writes.
+fn made_size(word: &[u8]) -> usize
+    requires { is_made_size word.now ≡ true }
+    ensures value { result ≡ value_of word.now }
+    ensures range { (0 < result) × (result ≤ MAX_SIZE) }
 {
-    match made_size(word) {
-        Some(size) => Some(Command::Bench(size)),
-        None => None,
-    }
+    value_of(word) as usize
 }
 
 // The command of one word after the verb.
@@ -117,15 +109,14 @@ fn command_of_one<'a>(verb: &Text, word: &'a Text) -> Option<Command<'a>>
     ensures sized { IfSome result IsSized }
 {
     if is_word(verb, b"check") {
-        return Some(Command::Check(word));
+        Some(Command::Check(word))
+    } else if is_word(verb, b"audit") {
+        Some(Command::Unbuilt)
+    } else if is_word(verb, b"bench") && is_made_size(word.bytes()) {
+        Some(Command::Bench(made_size(word.bytes())))
+    } else {
+        None
     }
-    if is_word(verb, b"audit") {
-        return Some(Command::Unbuilt);
-    }
-    if is_word(verb, b"bench") {
-        return bench_of(word.bytes());
-    }
-    None
 }
 
 // The command of two words after the verb.
