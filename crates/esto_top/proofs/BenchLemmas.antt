@@ -44,7 +44,7 @@ unfolding judges
 unfolding gives
 says_bench size rose said text (replies reply (summary, is, done) said_is text_is) =
     (said_is ∙ ap reply_status done, summary, is, text_is ∙ ap reply_text done)
-says_bench size rose said text (refuses caused stops text_is) = elim stops [ inl never ↦ absurd never | inr later ↦ absurd later.2.1 ]
+says_bench size rose said text (refuses caused stops text_is) = elim stops [ inl never ↦ absurd never | inr later ↦ absurd later.2 ]
 
 pub benches_always : (words : List (List ℕ)) (files : Option Files) (rose sink_rose : Type 0) (old new : Option (List ℕ)) (result : Status)
     → Mediates (course_of words files) rose old new sink_rose result → BenchesAlways words sink_rose old new result

@@ -29,9 +29,9 @@ sized (digit ∷ []) is =
 sized (first ∷ second ∷ []) is =
     let bytes = two_digits first second is in (
       and_from (is_digit first) (is_digit second && true) (digit_of first (omega (arith, bytes.0)) (omega (arith, bytes.0)))
-          (and_from (is_digit second) true (digit_of second bytes.1.0 (omega (arith, bytes.1.1))) refl),
+          (and_from (is_digit second) true (digit_of second bytes.1 (omega (arith, bytes.2))) refl),
       omega arith,
-      omega (arith, bytes.0, bytes.1.0, bytes.1.1),
-      omega (arith, bytes.0, bytes.1.0, bytes.1.1),
+      omega (arith, bytes.0, bytes.1, bytes.2),
+      omega (arith, bytes.0, bytes.1, bytes.2),
     )
 sized (first ∷ second ∷ third ∷ rest) is = let none : false ≡ true = is in absurd (cc)

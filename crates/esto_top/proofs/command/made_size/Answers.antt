@@ -6,9 +6,9 @@ pub value_of-requires-clause-digits : goal.value_of-requires-clause-digits
 value_of-requires-clause-digits c = (sized c.args.word.now c.requires).0
 
 pub value_of-requires-clause-few : goal.value_of-requires-clause-few
-value_of-requires-clause-few c = (sized c.args.word.now c.requires).1.0
+value_of-requires-clause-few c = (sized c.args.word.now c.requires).1
 
 pub returns-clause-range : goal.returns-clause-range
 returns-clause-range c =
-    let size = (sized c.args.word.now c.requires).1.1 in
-    (omega (arith, c.value_of.ensures, size.0), omega (arith, c.value_of.ensures, size.1))
+    let size = sized c.args.word.now c.requires in
+    (omega (arith, c.value_of.ensures, size.2), omega (arith, c.value_of.ensures, size.3))
