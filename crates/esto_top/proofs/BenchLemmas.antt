@@ -2,7 +2,8 @@
 use Rattle.std.proofs.Common.{◌≡◌, ℕ, Bool, true, false, List, [], ◌∷◌, Option, refl, sym, ap, subst, ◌∙◌, inl, inr}
 use Rattle.std.specs.Prelude.{codes}
 use Rattle.esto_bench.specs.Case.{made_database, made_names, made_patterns, made_query, made_views, made_weights}
-use Rattle.esto_bench.specs.Summary.{SummariesAreOne, summary_text}
+use Rattle.esto_bench.specs.Summary.{IsSummaryOfCase, SummariesAreOne, summary_text}
+use Rattle.esto_bench.specs.declared.summary.Summary.{Summary}
 use Rattle.esto_course.specs.Course.{and_then, judges, gives}
 use Rattle.esto_course.proofs.Determined.{then_agree, gives_agree, judges_agree}
 use Rattle.esto_semantics.specs.Rules.{AreRules}
@@ -30,6 +31,12 @@ benches-agree one size =
     (λ said other caused other_caused here there. absurd here) (λ value said caused here there. there) (λ value said caused here there. there))
     (λ summary other goes same. gives_agree _ (Done (summary_text summary)) (Done (summary_text other)) (ap (λ it. Done (summary_text it)) same))
 
+-- a summary and its lines are how it goes
+pub bench_goes : (size : ℕ) (summary : Summary) (text : List ℕ) → IsSummaryOfCase size summary → text ≡ summary_text summary
+    → (bench_course size).goes (Done text)
+unfolding and_then judges gives
+bench_goes size summary text is text_is = (summary, is, ap Done text_is)
+
 bench_words : (words : List (List ℕ)) (files : Option Files) (word : List ℕ) → is_made_size word ≡ true → words ≡ codes "bench" ∷ word ∷ []
     → course_of words files ≡ bench_course (value_of word)
 bench_words words files word sized is = ap (λ (it : List (List ℕ)). course_of it files) is ∙ by_test (is_made_size word) refl
@@ -39,9 +46,7 @@ bench_words words files word sized is = ap (λ (it : List (List ℕ)). course_of
     by_test false test = let h : false ≡ true = sym test ∙ sized in absurd (cc)
 
 says_bench : (size : ℕ) (rose : Type 0) (said : Status) (text : List ℕ) → Says (bench_course size) rose said text → IsExactBench size said text
-unfolding and_then
-unfolding judges
-unfolding gives
+unfolding and_then judges gives
 says_bench size rose said text (replies reply (summary, is, done) said_is text_is) =
     (said_is ∙ ap reply_status done, summary, is, text_is ∙ ap reply_text done)
 says_bench size rose said text (refuses caused stops text_is) = elim stops [ inl never ↦ absurd never | inr later ↦ absurd later.2 ]
