@@ -6,10 +6,10 @@ use Rattle.esto_bench.specs.Summary.{IsSummaryOfCase, SummariesAreOne, summary_t
 use Rattle.esto_bench.specs.declared.summary.Summary.{Summary}
 use Rattle.esto_course.specs.Course.{and_then, judges, gives}
 use Rattle.esto_course.proofs.Determined.{then_agree, gives_agree, judges_agree}
+use Rattle.esto_ports.specs.Files.{Files}
 use Rattle.esto_semantics.specs.Rules.{AreRules}
 use Rattle.esto_term.proofs.ListLemmas.{Contains-nil}
 use Rattle.esto_top.specs.Bench.{bench_course}
-use Rattle.esto_ports.specs.Files.{Files}
 use Rattle.esto_top.specs.Benches.{BenchesAlways, IsExactBench}
 use Rattle.esto_top.specs.Grammar.{course_of, is_made_size, value_of}
 use Rattle.esto_top.specs.Outcome.{Mediates, Says, reply_status, reply_text}
