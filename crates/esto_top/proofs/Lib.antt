@@ -1,5 +1,6 @@
 pub mod Steps
 pub mod ValueLemmas
+pub mod SizeLemmas
 pub mod FragmentLemmas
 pub mod RunLemmas
 pub mod ListCourseLemmas
@@ -18,4 +19,5 @@ pub mod SayLemmas
 pub mod HeadlineLemmas
 pub mod RunsLemmas
 pub mod AgreeLemmas
+pub mod BenchLemmas
 pub mod DeterminedLemmas

@@ -1,9 +1,9 @@
 -- How a command's answer follows from the answers of its steps.
-use Rattle.std.proofs.Common.{◌≡◌, ◌≤◌, ◌<◌, ◌≡◌, ◌⊎◌, ℕ, List, inl, inr, subst, arith}
+use Rattle.std.proofs.Common.{◌≡◌, ◌≤◌, ◌<◌, ◌⊎◌, ℕ, List, Result, Ok, Err, inl, inr, subst, arith}
 use Rattle.esto_course.specs.Course.{Course, Stops, and_then}
 use Rattle.esto_course.proofs.Steps.{caused_more, first_stops, then_stops, then_goes, gives_goes, at_exit}
 use Rattle.esto_ports.specs.Faults.{Rose}
-use Rattle.esto_top.specs.Answers.{IsWant, Cause, IsCaused}
+use Rattle.esto_top.specs.Answers.{Answers, IsWant, Cause, IsCaused}
 use Rattle.esto_top.specs.declared.status.Status.{Status}
 use Rattle.esto_top.specs.declared.status.Status.TheVariants.{OutOfMemory, ReadFault, WriteFault}
 
@@ -66,6 +66,11 @@ pub end_stops : {A : Type 0} {course : Course Status A} (before before' now' now
     → Stops IsWant (IsCaused (Rose before now)) course status
 end_stops {course = course} before before' now' now stops early inner late =
     caused_more course _ (caused_weaker (rose_within before before' now' now early inner late)) stops
+
+-- a command that fetches nothing
+pub answers_still : {A : Type 0} (course : Course Status A) (rose : Type 0) (result : Result A Status) → Answers course ⊥ result → Answers course rose result
+answers_still course rose (Ok value) goes = goes
+answers_still course rose (Err status) stops = last_stops stops
 
 -- the steps of a command, for the search
 pub ruleset steps = (at_exit, rose_stops, still_stops, last_stops, later_stops, then_goes, gives_goes)

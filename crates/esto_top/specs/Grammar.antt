@@ -1,8 +1,10 @@
 -- The command line: its grammar, and the course of each command.
-use Rattle.std.specs.Prelude.{ℕ, ◌+◌, ◌-◌, ◌*◌, ◌==◌, nat_le, nat_lt, List, [], ◌∷◌, length, Bool, false, ◌&&◌, ◌||◌, Option, Some, None, if◌then◌else◌, codes, nat_eq}
+use Rattle.std.specs.Prelude.{ℕ, ◌+◌, ◌-◌, ◌*◌, ◌==◌, ◌<◌, ◌≤◌, nat_le, nat_lt, List, [], ◌∷◌, length, Bool, false, ◌&&◌, ◌||◌, Option, Some, None, if◌then◌else◌, codes, nat_eq}
 use Rattle.std.specs.Cmp.Lexicographic.{pointwise}
 use Rattle.std.specs.List.{list_all}
 use Rattle.esto_ports.specs.Files.{Files}
+use Rattle.esto_bench.specs.declared.case.TheConstants.{MAX_SIZE}
+use Rattle.esto_top.specs.Bench.{bench_course}
 use Rattle.esto_top.specs.Check.{check_course}
 use Rattle.esto_course.specs.Course.{Course, refuses}
 use Rattle.esto_top.specs.List.{list_course}
@@ -15,11 +17,12 @@ use Rattle.esto_top.specs.declared.command.TheConstants.{MAX_DIGITS}
 use Rattle.esto_top.specs.declared.status.Status.{Status}
 
 -- What words of the grammar ask for: the check of a catalogue's file; the list for a catalogue's and a query's file; the run for them of the pick, or of the
--- set of a number of the list; or what is not built yet.
+-- set of a number of the list; the summary of the made case of a size; or what is not built yet.
 pub data Request : Type 0 where
   CheckOf : List ℕ → Request
   ListFor : List ℕ → List ℕ → Request
   RunFor : List ℕ → List ℕ → Option ℕ → Request
+  BenchOf : ℕ → Request
   Unbuilt : Request
 
 -- The word has these bytes.
@@ -58,7 +61,8 @@ is_made_size _ = false
 abbrev pub request_of_one : List ℕ → List ℕ → Option Request
 request_of_one verb word =
     if is_word verb (codes "check") then Some (Request.CheckOf word)
-    else if is_word verb (codes "audit") || (is_word verb (codes "bench") && is_made_size word) then Some Request.Unbuilt
+    else if is_word verb (codes "audit") then Some Request.Unbuilt
+    else if is_word verb (codes "bench") && is_made_size word then Some (Request.BenchOf (value_of word))
     else None
 
 -- The commands of two words: list C Q, run C Q, fill C F, answer C Q.
@@ -86,13 +90,23 @@ abbrev pub asked : Command → Request
 asked (command.Check catalogue) = Request.CheckOf catalogue.now
 asked (command.List catalogue query) = Request.ListFor catalogue.now query.now
 asked (command.Run catalogue query number) = Request.RunFor catalogue.now query.now number
+asked (command.Bench size) = Request.BenchOf size
 asked command.Unbuilt = Request.Unbuilt
+
+-- The size of `bench` is one of the made case.
+abbrev pub IsSized : Command → Type 0
+IsSized (command.Check catalogue) = Unit {0}
+IsSized (command.List catalogue query) = Unit {0}
+IsSized (command.Run catalogue query number) = Unit {0}
+IsSized (command.Bench size) = (0 < size) × (size ≤ MAX_SIZE)
+IsSized command.Unbuilt = Unit {0}
 
 -- The course of what is asked for.
 abbrev pub course_of_request : Option Files → Request → Course Status Reply
 course_of_request files (Request.CheckOf catalogue) = check_course files catalogue
 course_of_request files (Request.ListFor catalogue query) = list_course files catalogue query
 course_of_request files (Request.RunFor catalogue query number) = run_course files catalogue query number
+course_of_request files (Request.BenchOf size) = bench_course size
 course_of_request files Request.Unbuilt = refuses NotBuilt
 
 -- The course of the words that ask for something, and the refusal of words outside the grammar.

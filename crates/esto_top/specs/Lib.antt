@@ -7,8 +7,10 @@ pub mod Listing
 pub mod List
 pub mod Fragments
 pub mod Run
+pub mod Bench
 pub mod Grammar
 pub mod Outcome
 pub mod Headline
 pub mod Runs
+pub mod Benches
 pub mod Determined

@@ -1,15 +1,17 @@
 //! The words of the command line.
-ghost use Rattle.std.specs.Prelude.{◌≡◌, ◌≤◌, ◌+◌, length, true, None, Some, MatchOption};
+ghost use Rattle.std.specs.Prelude.{◌≡◌, ◌≤◌, ◌<◌, ◌+◌, length, true, None, Some, IfSome, MatchOption};
 ghost use Rattle.std.specs.List.{list_all};
 ghost use Rattle.esto_ports.specs.Faults.{Rises};
 ghost use Rattle.esto_top.specs.Answers.{Answers};
-ghost use Rattle.esto_top.specs.Grammar.{is_word, is_digit, is_leading_digit, is_list_number, is_made_size, value_of, request_of_one, request_of_two, request_of_three, request_of, asked, course_of_request};
+ghost use Rattle.esto_top.specs.Grammar.{is_word, is_digit, is_leading_digit, is_list_number, is_made_size, value_of, request_of_one, request_of_two, request_of_three, request_of, asked, IsSized, course_of_request};
 
+use crate::bench::bench;
 use crate::check::check;
 use crate::ending::Reply;
 use crate::list::list;
 use crate::run::run;
 use crate::status::Status;
+use esto_bench::MAX_SIZE;
 use esto_ports::Shelf;
 use esto_term::Text;
 use std::alloc::Global;
@@ -27,7 +29,9 @@ pub enum Command<'a> {
     /// `run C Q` or `run C Q N`: the rows by the pick, or by the set of that number of the list, counted from 1, for a
     /// catalogue's file and a query's file.
     Run(&'a Text, &'a Text, Option<u64>),
-    /// A command that is not built yet: `fill C F`, `answer C Q`, `audit C` or `bench N`.
+    /// `bench N`: the summary of the made case of this size, 1 to `MAX_SIZE`.
+    Bench(usize),
+    /// A command that is not built yet: `fill C F`, `answer C Q` or `audit C`.
     Unbuilt,
 }
 
@@ -89,15 +93,27 @@ fn is_made_size(word: &[u8]) -> bool
     }
 }
 
+// The size of the made case that the word writes.
+fn made_size(word: &[u8]) -> usize
+    requires { is_made_size word.now ≡ true }
+    ensures value { result ≡ value_of word.now }
+    ensures range { (0 < result) × (result ≤ MAX_SIZE) }
+{
+    value_of(word) as usize
+}
+
 // The command of one word after the verb.
 fn command_of_one<'a>(verb: &Text, word: &'a Text) -> Option<Command<'a>>
-    ensures { MatchOption result (request_of_one verb.now word.now ≡ None)
+    ensures command { MatchOption result (request_of_one verb.now word.now ≡ None)
         (λ command. request_of_one verb.now word.now ≡ Some (asked command)) }
+    ensures sized { IfSome result IsSized }
 {
     if is_word(verb, b"check") {
         Some(Command::Check(word))
-    } else if is_word(verb, b"audit") || is_word(verb, b"bench") && is_made_size(word.bytes()) {
+    } else if is_word(verb, b"audit") {
         Some(Command::Unbuilt)
+    } else if is_word(verb, b"bench") && is_made_size(word.bytes()) {
+        Some(Command::Bench(made_size(word.bytes())))
     } else {
         None
     }
@@ -105,8 +121,9 @@ fn command_of_one<'a>(verb: &Text, word: &'a Text) -> Option<Command<'a>>
 
 // The command of two words after the verb.
 fn command_of_two<'a>(verb: &Text, first: &'a Text, second: &'a Text) -> Option<Command<'a>>
-    ensures { MatchOption result (request_of_two verb.now first.now second.now ≡ None)
+    ensures command { MatchOption result (request_of_two verb.now first.now second.now ≡ None)
         (λ command. request_of_two verb.now first.now second.now ≡ Some (asked command)) }
+    ensures sized { IfSome result IsSized }
 {
     if is_word(verb, b"list") {
         Some(Command::List(first, second))
@@ -126,10 +143,11 @@ fn command_of_three<'a>(
     second: &'a Text,
     number: &Text,
 ) -> Option<Command<'a>>
-    ensures { MatchOption result
+    ensures command { MatchOption result
         (request_of_three verb.now first.now second.now number.now ≡ None)
         (λ command. request_of_three verb.now first.now second.now number.now
         ≡ Some (asked command)) }
+    ensures sized { IfSome result IsSized }
 {
     if is_word(verb, b"run") && is_list_number(number.bytes()) {
         let number = value_of(number.bytes());
@@ -141,8 +159,9 @@ fn command_of_three<'a>(
 
 /// The command that the words ask for, or nothing where they are outside the grammar.
 pub fn command_of<'a>(words: &'a [Text]) -> Option<Command<'a>>
-    ensures { MatchOption result (request_of words.now ≡ None)
+    ensures command { MatchOption result (request_of words.now ≡ None)
         (λ command. request_of words.now ≡ Some (asked command)) }
+    ensures sized { IfSome result IsSized }
 {
     match words {
         [verb, word] => command_of_one(verb, word),
@@ -154,6 +173,7 @@ pub fn command_of<'a>(words: &'a [Text]) -> Option<Command<'a>>
 
 /// Does what a command asks for.
 pub fn obey<S: Shelf>(alloc: Global, shelf: &mut S, command: Command<'_>) -> Result<Reply, Status>
+    requires { IsSized command }
     ensures answer { Answers (course_of_request (S.files shelf.old) (asked command.entry))
         (Rises S.faults shelf.old shelf.new) result }
     ensures files { S.files shelf.new ≡ S.files shelf.old }
@@ -163,6 +183,7 @@ pub fn obey<S: Shelf>(alloc: Global, shelf: &mut S, command: Command<'_>) -> Res
         Command::Check(catalogue) => check(alloc, shelf, catalogue),
         Command::List(catalogue, query) => list(alloc, shelf, catalogue, query),
         Command::Run(catalogue, query, number) => run(alloc, shelf, catalogue, query, number),
+        Command::Bench(size) => bench(alloc, size),
         Command::Unbuilt => Err(Status::NotBuilt),
     }
 }

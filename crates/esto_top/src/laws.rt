@@ -4,6 +4,7 @@ ghost use Rattle.esto_top.specs.Headline.{OutcomesAreLists, OutcomesAreRefusals}
 ghost use Rattle.esto_top.specs.Runs.{OutcomesAreRuns};
 
 use esto_backchase::listed_sets_cover_rewritings;
+use esto_bench::summaries_are_one;
 use esto_catalog::{catalogues_are_determined, catalogues_are_sound};
 use esto_constraint::rules_are_sound;
 use esto_query::queries_are_sound;
@@ -81,4 +82,5 @@ pub fn outcomes_are_determined()
     picks_exist();
     used_fragments_are_one();
     rising_rows_are_one();
+    summaries_are_one();
 }

@@ -1,6 +1,7 @@
 //! The top call: from the words of a command line, over a shelf and a sink, to a status and one text.
 #![tactic(auto)]
 
+mod bench;
 mod cell;
 mod check;
 mod command;

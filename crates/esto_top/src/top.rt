@@ -2,6 +2,7 @@
 ghost use Rattle.std.specs.Prelude.{◌≡◌, ◌≤◌};
 ghost use Rattle.esto_ports.specs.Faults.{Rises};
 ghost use Rattle.esto_top.specs.Answers.{Answers};
+ghost use Rattle.esto_top.specs.Benches.{BenchesAlways};
 ghost use Rattle.esto_top.specs.Determined.{ExactWhereTold};
 ghost use Rattle.esto_top.specs.Grammar.{course_of};
 ghost use Rattle.esto_top.specs.Headline.{ListsWhereTold, RefusesWhereTold};
@@ -73,6 +74,10 @@ pub fn mediate<S: Shelf, O: Sink>(
     // rules gives the query an answer; else it is NoRewriting exactly where the query has no executable rewriting.
     ensures run { RunsWhereTold words.now (S.files shelf.old)
         (Rises S.faults shelf.old shelf.new) (Rises O.faults out.old out.new) (O.written out.old)
+        (O.written out.new) result }
+
+    // The summary of `bench` is exact, over every shelf.
+    ensures bench { BenchesAlways words.now (Rises O.faults out.old out.new) (O.written out.old)
         (O.written out.new) result }
 
     // A fault has its cause.

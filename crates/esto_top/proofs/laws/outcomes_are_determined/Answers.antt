@@ -18,3 +18,4 @@ returns c =
       used = c.used_fragments_are_one.ensures;
       rising = c.rising_rows_are_one.ensures;
     })
+    c.summaries_are_one.ensures

@@ -1,3 +1,4 @@
+use Rattle.esto_top.proofs.BenchLemmas.{benches_always}
 use Rattle.esto_top.proofs.DeterminedLemmas.{exact}
 use Rattle.esto_top.proofs.HeadlineLemmas.{holds_of_lists}
 use Rattle.esto_top.proofs.RunsLemmas.{runs_where_told}
@@ -35,3 +36,6 @@ pub returns-clause-run : goal.returns-clause-run
 returns-clause-run g c =
     runs_where_told c.runs_are_exact.ensures c.args.words.now _ _ _ _ _ _
     (complete c.args.words.now _ _ _ _ _ _ (mediates _ _ _ _ _ _ _ c.answer-answer.ensures.answer c.finish.ensures.put))
+
+pub returns-clause-bench : goal.returns-clause-bench
+returns-clause-bench g c = benches_always c.args.words.now _ _ _ _ _ _ (mediates _ _ _ _ _ _ _ c.answer-answer.ensures.answer c.finish.ensures.put)

@@ -1,0 +1,49 @@
+-- The form of a plan that receives unions for a satisfiable query.
+use Rattle.std.proofs.Common.{◌≡◌, List, [], ◌∷◌, map, Contains, length, inl, inr, sym, ap, subst, ◌∙◌}
+use Rattle.std.proofs.lemmas.List.{length-map}
+use Rattle.esto_term.specs.declared.term.Term.{Term}
+use Rattle.esto_semantics.specs.Containment.{IsSatisfiable}
+use Rattle.esto_semantics.specs.Instances.{MapsTo}
+use Rattle.esto_semantics.specs.Maps.{AreFlat}
+use Rattle.esto_semantics.specs.Queries.{ConjunctiveQuery}
+use Rattle.esto_semantics.specs.Rewritings.{IsPlanFor}
+use Rattle.esto_semantics.specs.Rules.{Rule}
+use Rattle.esto_semantics.specs.Unions.{ReceivesUnions}
+use Rattle.esto_semantics.specs.declared.fact.Fact.{Fact}
+use Rattle.esto_semantics.specs.declared.fact.Value.{Value}
+use Rattle.esto_views.specs.Plans.{fact_of, plan_query}
+use Rattle.esto_views.specs.Soundness.{IsSoundPlan}
+use Rattle.esto_views.specs.declared.plan.Plan.{Plan}
+use Rattle.esto_term.proofs.ListLemmas.{Contains-cases, Contains-head, Contains-map_from, Contains-nil}
+
+only_one : {A : Type 0} (one other : A) → Contains (one ∷ []) other → one ≡ other
+only_one one other inside = elim (Contains-cases one [] other inside) [ inl is ↦ is | inr later ↦ absurd (Contains-nil other later) ]
+
+-- two rows that one row is made of are of one length
+one_length : (one other : Term → Value) (head other_head : List Term) (row : List Value) → row ≡ map one head → row ≡ map other other_head
+    → length head ≡ length other_head
+one_length one other head other_head row is is_other =
+    sym (length-map head one) ∙ sym (ap length is) ∙ ap length is_other ∙ length-map other_head other
+
+-- a plan's atoms are over constants and variables
+flat_atoms : (plan : Plan) → IsSoundPlan plan.atoms plan.head plan.names → AreFlat (plan_query plan).body
+flat_atoms plan sound term (fact, there, inside) =
+    let atom = Contains-map_from fact_of plan.atoms fact there in
+    elim (sound.named_atoms atom.0 atom.1 term (subst (λ (it : Fact Term). Contains it.terms term) (sym atom.2) inside)) [
+      | inl constant ↦ inl constant
+      | inr variable ↦ inr (variable.0, variable.1)
+    ]
+
+-- its head is as long as that of the query, since it answers what the query answers
+pub plan_form : ((query : ConjunctiveQuery) → MapsTo query query) → (rules : List Rule) (views : List ConjunctiveQuery) (query : ConjunctiveQuery) (plan : Plan)
+    → IsSoundPlan plan.atoms plan.head plan.names → ReceivesUnions rules views query (plan_query plan) → IsSatisfiable rules query
+    → IsPlanFor query (plan_query plan)
+plan_form own rules views query plan sound receives (database, meets, (row, answer)) =
+    let contained = (receives (plan_query plan ∷ [])).1 (plan_query plan, Contains-head (plan_query plan) [], own (plan_query plan)) in
+    let (other, inside, found) = contained database meets row answer in
+    record {
+      same_length = ap (λ (it : ConjunctiveQuery). length it.head) (only_one (plan_query plan) other inside)
+          ∙ one_length found.0 answer.0 other.head query.head row found.3 answer.3;
+      has_head = sound.has_head;
+      flat_body = flat_atoms plan sound;
+    }

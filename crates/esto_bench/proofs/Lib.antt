@@ -1,0 +1,9 @@
+pub mod BothLemmas
+pub mod SummaryLemmas
+pub mod FragmentLemmas
+pub mod CaseLemmas
+pub mod CatalogueLemmas
+pub mod ViewLemmas
+pub mod FormLemmas
+pub mod PlanLemmas
+pub mod RunLemmas

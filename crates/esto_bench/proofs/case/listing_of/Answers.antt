@@ -1,0 +1,48 @@
+use Rattle.std.proofs.Common.{All, sym, subst}
+use Rattle.esto_list.specs.declared.listing.Listed.{Listed}
+use Rattle.esto_semantics.specs.Access.{IsStatedOrder}
+use Rattle.esto_semantics.specs.Listed.{chosen, IsWeight}
+use Rattle.esto_views.specs.Plans.{plan_query}
+use Rattle.esto_constraint.specs.Constraints.{rules_of}
+use Rattle.esto_query.specs.Making.{query_of}
+use Rattle.esto_views.specs.Fragments.{views_of}
+use Rattle.esto_bench.proofs.PlanLemmas.{list_of_case, none_are_rules, planned_by}
+use Rattle.esto_bench.proofs.case.listing_of.Goals as goal
+
+pub minimal_sets-requires-clause-over : goal.minimal_sets-requires-clause-over
+minimal_sets-requires-clause-over c =
+    let catalogue = c.args.catalogue.now in
+    c.plans_of_runs_are_over_fragments.ensures.over (rules_of catalogue.rules) catalogue.fragments c.args.query.now.names (query_of c.args.query.now)
+    c.args.plan.now (c.catalogues_are_sound.ensures catalogue).fragments_are
+    (planned_by c.args.size catalogue c.requires.catalogue c.args.query.now c.requires.query c.args.plan.now c.requires.planned)
+
+pub minimal_sets-requires-clause-universal : goal.minimal_sets-requires-clause-universal
+minimal_sets-requires-clause-universal c =
+    let catalogue = c.args.catalogue.now in
+    c.plans_of_runs_are_universal.ensures.universal (rules_of catalogue.rules) (views_of catalogue.fragments) c.args.query.now.names
+    (query_of c.args.query.now) c.args.plan.now (none_are_rules catalogue c.requires.catalogue.rules) (c.queries_are_sound.ensures c.args.query.now).query
+    (planned_by c.args.size catalogue c.requires.catalogue c.args.query.now c.requires.query c.args.plan.now c.requires.planned)
+
+pub minimal_sets-requires-clause-satisfiable : goal.minimal_sets-requires-clause-satisfiable
+minimal_sets-requires-clause-satisfiable c =
+    let catalogue = c.args.catalogue.now in
+    c.plans_tell_satisfiable_queries.ensures.plan (rules_of catalogue.rules) (views_of catalogue.fragments) c.args.query.now.names
+    (query_of c.args.query.now) c.args.plan.now (none_are_rules catalogue c.requires.catalogue.rules) (c.queries_are_sound.ensures c.args.query.now).query
+    (planned_by c.args.size catalogue c.requires.catalogue c.args.query.now c.requires.query c.args.plan.now c.requires.planned)
+
+pub returns : goal.returns
+returns c =
+    let catalogue = c.args.catalogue.now in
+    let made = c.requires.catalogue in
+    let plan = c.args.plan.now in
+    let listing = c.in_ok-listing.listing in
+    let is = c.in_ok-listing.ensures in
+    let apart = c.plans_of_runs_are_over_fragments.ensures.distinct (rules_of catalogue.rules) (views_of catalogue.fragments) c.args.query.now.names
+    (query_of c.args.query.now) plan (planned_by c.args.size catalogue made c.args.query.now c.requires.query plan c.requires.planned) in
+    record {
+      listed = list_of_case c.args.size catalogue made c.args.query.now c.requires.query plan c.in_ok-found.found.sets.sets c.in_ok-found.ensures.listed
+          listing is.members is.in_order;
+      orders = subst (λ patterns. All (λ (item : Listed). IsStatedOrder patterns (plan_query plan).body item.set item.order) listing) made.patterns is.orders;
+      weighed = subst (λ weights. All (λ (item : Listed). IsWeight weights (chosen item.set (plan_query plan).body) item.weight) listing) made.weights
+          (is.weights apart);
+    }

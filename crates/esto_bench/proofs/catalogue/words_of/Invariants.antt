@@ -1,0 +1,6 @@
+use Rattle.std.proofs.Common.{◌≡◌, take}
+use Rattle.esto_catalog.specs.Datasets.{words_of}
+use Rattle.esto_bench.proofs.catalogue.words_of.Given as goal
+
+abbrev pub invariant-datasets : goal.invariant-datasets
+invariant-datasets l = l.words ≡ words_of (take l.dataset-index l.datasets)

@@ -1,0 +1,124 @@
+//! The catalogue of the made case.
+ghost use Rattle.std.specs.Prelude.{◌≡◌, ◌<◌, ◌≤◌, ◌++◌, ◌∷◌, [], map, length, codes, Contains, IfOk, OnOk};
+ghost use Rattle.esto_catalog.specs.Datasets.{words_of};
+ghost use Rattle.esto_query.specs.Schemas.{names_of};
+ghost use Rattle.esto_bench.specs.Case.{IsMadeCatalogue, below, made_dataset, made_datasets, made_relation, made_schema, numbered};
+
+use crate::case::MAX_SIZE;
+use crate::fragments::{made_columns, made_fragments, made_stores, numbered};
+use either::{Left, Right};
+use esto_acyclic::judge;
+use esto_catalog::{Catalogue, Dataset, Datasets};
+use esto_docs::Layout;
+use esto_query::{MAX_RELATIONS, Schema, SchemaError};
+use esto_read::{DataModel, Vocabulary, Word};
+use esto_term::{List, OutOfMemory, Replicate, Text};
+use std::alloc::Global;
+
+// Adds a relation of two columns, whose name is new.
+fn add_relation(schema: &mut Schema, name: Text) -> Result<(), OutOfMemory>
+    requires new { ¬ (Contains (names_of schema.old) name) }
+    requires room { length schema.old < MAX_RELATIONS }
+    ensures { OnOk result (schema.new ≡ schema.old ++ record { name = name; arity = 2 } ∷ []) }
+{
+    match schema.add(name, 2) {
+        Ok(_) => Ok(()),
+        Err(SchemaError::OutOfMemory) => Err(OutOfMemory),
+        Err(_) => unreachable!(),
+    }
+}
+
+// The relations.
+fn made_schema(alloc: Global, size: usize) -> Result<Schema, OutOfMemory>
+    requires { size ≤ MAX_SIZE }
+    ensures { IfOk result (λ it. it ≡ made_schema size) }
+{
+    let mut schema = Schema::new(alloc);
+    'relations: for relation in 0..size {
+        let name = numbered(alloc, "R", relation)?;
+        add_relation(&mut schema, name)?;
+    }
+    Ok(schema)
+}
+
+// The dataset of the relation.
+fn dataset_of(alloc: Global, relation: usize) -> Result<Dataset, OutOfMemory>
+    ensures { IfOk result (λ it. it ≡ made_dataset relation) }
+{
+    let name = numbered(alloc, "R", relation)?;
+    let columns = made_columns(alloc)?;
+    Ok(Dataset {
+        name,
+        model: DataModel::Table,
+        base: relation,
+        columns,
+        layout: Layout::Lines,
+        file: None,
+    })
+}
+
+// The datasets.
+#[tactic(auto, using(crate::proofs::BothLemmas::mapped_more))]
+fn made_datasets(alloc: Global, size: usize) -> Result<Datasets, OutOfMemory>
+    ensures { IfOk result (λ it. it ≡ made_datasets size) }
+{
+    let mut datasets = List::new(alloc);
+    'relations: for relation in 0..size {
+        datasets.push(dataset_of(alloc, relation)?)?;
+    }
+    Ok(datasets)
+}
+
+// The word that names the dataset.
+fn word_of(alloc: Global, dataset: &Dataset) -> Result<Word, OutOfMemory>
+    ensures { IfOk result (λ it. it ≡ record {
+      name = dataset.now.name;
+      model = dataset.now.model;
+      base = dataset.now.base;
+    }) }
+{
+    Ok(Word {
+        name: dataset.name.copy(alloc)?,
+        model: dataset.model,
+        base: dataset.base,
+    })
+}
+
+// The words that name the datasets.
+fn words_of(alloc: Global, datasets: &[Dataset]) -> Result<Vocabulary, OutOfMemory>
+    ensures { IfOk result (λ it. it ≡ words_of datasets.now) }
+{
+    let mut words = List::new(alloc);
+    'datasets: for dataset in datasets {
+        words.push(word_of(alloc, dataset)?)?;
+    }
+    Ok(words)
+}
+
+/// The catalogue of the made case of this size, at most `MAX_SIZE`.
+pub fn made_catalogue(alloc: Global, size: usize) -> Result<Catalogue, OutOfMemory>
+    requires { size ≤ MAX_SIZE }
+    ensures { IfOk result (IsMadeCatalogue size) }
+{
+    let schema = made_schema(alloc, size)?;
+    let datasets = made_datasets(alloc, size)?;
+    let words = words_of(alloc, datasets.items())?;
+    let fragments = made_fragments(alloc, size)?;
+    let stores = made_stores(alloc, size)?;
+    let rules = List::new(alloc);
+    // the count is read so that the relations are known to be those of a schema
+    let _count = schema.len();
+    match judge(alloc, &schema, &rules)? {
+        Left(ranks) => Ok(Catalogue {
+            schema,
+            words,
+            datasets,
+            fragments,
+            stores,
+            rules,
+            given: 0,
+            ranks,
+        }),
+        Right(_) => unreachable!(),
+    }
+}

@@ -1,0 +1,175 @@
+//! The fragments of the made case, and where they are stored.
+ghost use Rattle.std.specs.Prelude.{◌≡◌, ◌++◌, ◌∷◌, [], ℕ, codes, IfOk, OnOk};
+ghost use Rattle.esto_query.specs.Making.{query_of};
+ghost use Rattle.esto_term.specs.declared.term.Term.TheVariants.{Plain};
+ghost use Rattle.esto_bench.specs.Case.{made_columns, made_store, made_stores, made_view, numbered, without_inputs};
+ghost use Rattle.esto_bench.specs.Made.{AddsBoth, AreMadeFragments, IsMadeFragment};
+
+use esto_catalog::{Shape, Store, Stores};
+use esto_query::{Name, Names, Query};
+use esto_semantics::{Atom, Atoms, Fact};
+use esto_term::{List, OutOfMemory, Term, Terms, Text, TextRow, Values};
+use esto_views::{AccessList, FragmentDef, FragmentDefs};
+use std::alloc::Global;
+
+/// The name that is the letter and the number, counted from 1.
+pub fn numbered(alloc: Global, letter: &str, number: usize) -> Result<Text, OutOfMemory>
+    ensures { IfOk result (λ it. it ≡ numbered letter.now number) }
+{
+    let next = number as u128 + 1;
+    let name = format!(in alloc; "{letter}{next}")?;
+    Text::from_str(alloc, name.as_str())
+}
+
+/// The columns of each table.
+pub fn made_columns(alloc: Global) -> Result<TextRow, OutOfMemory>
+    ensures { IfOk result (λ it. it ≡ made_columns) }
+{
+    let mut columns = List::new(alloc);
+    columns.push(Text::from_str(alloc, "x")?)?;
+    columns.push(Text::from_str(alloc, "y")?)?;
+    Ok(columns)
+}
+
+/// Two variables.
+pub fn two_variables(alloc: Global, first: u64, second: u64) -> Result<Terms, OutOfMemory>
+    ensures { IfOk result (λ it. it ≡ Plain first ∷ Plain second ∷ []) }
+{
+    let mut terms = List::new(alloc);
+    terms.push(Term::Plain(first))?;
+    terms.push(Term::Plain(second))?;
+    Ok(terms)
+}
+
+/// An atom over the relation and two variables.
+pub fn atom_of(
+    alloc: Global,
+    relation: usize,
+    first: u64,
+    second: u64,
+) -> Result<Atom, OutOfMemory>
+    ensures { IfOk result (λ it. it
+        ≡ record { relation = relation; terms = Plain first ∷ Plain second ∷ [] }) }
+{
+    let terms = two_variables(alloc, first, second)?;
+    Ok(Fact { relation, terms })
+}
+
+// The names of the view's variables.
+fn view_names(alloc: Global) -> Result<Names, OutOfMemory>
+    ensures { IfOk result (λ it. it ≡ Name.Given (codes "x") ∷ Name.Given (codes "y") ∷ []) }
+{
+    let mut names = List::new(alloc);
+    names.push(Name::Given(Text::from_str(alloc, "x")?))?;
+    names.push(Name::Given(Text::from_str(alloc, "y")?))?;
+    Ok(names)
+}
+
+// The one atom of the view of the relation.
+fn view_body(alloc: Global, relation: usize) -> Result<Atoms, OutOfMemory>
+    ensures { IfOk result (λ it. it ≡ (made_view relation).body) }
+{
+    let mut body = List::new(alloc);
+    body.push(atom_of(alloc, relation, 0, 1)?)?;
+    Ok(body)
+}
+
+// The view of both fragments of the relation.
+fn view_of(alloc: Global, relation: usize) -> Result<Query, OutOfMemory>
+    ensures { IfOk result (λ it. query_of it ≡ made_view relation) }
+{
+    let head = two_variables(alloc, 0, 1)?;
+    let body = view_body(alloc, relation)?;
+    let names = view_names(alloc)?;
+    Ok(Query { head, body, names })
+}
+
+// The one binding pattern, without inputs.
+fn without_inputs(alloc: Global) -> Result<AccessList, OutOfMemory>
+    ensures { IfOk result (λ it. (relation : ℕ) → it ≡ without_inputs relation) }
+{
+    let mut access = List::new(alloc);
+    access.push(Values::from_slice(alloc, &[false, false])?)?;
+    Ok(access)
+}
+
+// The fragment of the letter over the relation.
+fn fragment_of(
+    alloc: Global,
+    letter: &str,
+    relation: usize,
+    weight: u64,
+) -> Result<FragmentDef, OutOfMemory>
+    ensures { IfOk result (IsMadeFragment letter.now relation weight) }
+{
+    let name = numbered(alloc, letter, relation)?;
+    let view = view_of(alloc, relation)?;
+    let access = without_inputs(alloc)?;
+    Ok(FragmentDef {
+        name,
+        view,
+        access,
+        weight,
+    })
+}
+
+// Puts both fragments of the relation at the end.
+fn add_both(
+    alloc: Global,
+    fragments: &mut FragmentDefs,
+    relation: usize,
+) -> Result<(), OutOfMemory>
+    ensures { OnOk result (AddsBoth relation fragments.old fragments.new) }
+{
+    let first = fragment_of(alloc, "A", relation, 1)?;
+    let second = fragment_of(alloc, "B", relation, 2)?;
+    fragments.push(first)?;
+    fragments.push(second)?;
+    Ok(())
+}
+
+/// The fragments over so many relations.
+pub fn made_fragments(alloc: Global, size: usize) -> Result<FragmentDefs, OutOfMemory>
+    ensures { IfOk result (AreMadeFragments size) }
+{
+    let mut fragments = List::new(alloc);
+    'relations: for relation in 0..size {
+        add_both(alloc, &mut fragments, relation)?;
+    }
+    Ok(fragments)
+}
+
+// Where the fragment of the letter over the relation is stored.
+fn store_of(alloc: Global, letter: &str, relation: usize) -> Result<Store, OutOfMemory>
+    ensures { IfOk result (λ it. it ≡ made_store letter.now relation) }
+{
+    let columns = made_columns(alloc)?;
+    let file = numbered(alloc, letter, relation)?;
+    Ok(Store {
+        shape: Shape::Table(columns),
+        file,
+    })
+}
+
+// Puts the stores of both fragments of the relation at the end.
+fn add_stores(alloc: Global, stores: &mut Stores, relation: usize) -> Result<(), OutOfMemory>
+    ensures { OnOk result (stores.new ≡ stores.old
+        ++ made_store (codes "A") relation ∷ made_store (codes "B") relation ∷ []) }
+{
+    let first = store_of(alloc, "A", relation)?;
+    let second = store_of(alloc, "B", relation)?;
+    stores.push(first)?;
+    stores.push(second)
+}
+
+/// The stores of the fragments over so many relations.
+#[tactic(auto, using(crate::proofs::BothLemmas::both_more))]
+pub fn made_stores(alloc: Global, size: usize) -> Result<Stores, OutOfMemory>
+    ensures { IfOk result (λ it. it ≡ made_stores size) }
+{
+    let mut stores = List::new(alloc);
+    'relations: for relation in 0..size {
+        add_stores(alloc, &mut stores, relation)?;
+    }
+    Ok(stores)
+}

@@ -1,0 +1,17 @@
+-- What is said of an outcome of `bench`.
+use Rattle.std.specs.Prelude.{◌≡◌, ℕ, Bool, true, List, [], ◌∷◌, Option, codes}
+use Rattle.esto_bench.specs.Summary.{IsSummaryOfCase, summary_text}
+use Rattle.esto_bench.specs.declared.summary.Summary.{Summary}
+use Rattle.esto_top.specs.Grammar.{is_made_size, value_of}
+use Rattle.esto_top.specs.Headline.{HoldsOfPut}
+use Rattle.esto_top.specs.declared.status.Status.{Status}
+use Rattle.esto_top.specs.declared.status.Status.TheVariants as status
+
+-- The status is Done, and the text the summary of the made case of the size.
+abbrev pub IsExactBench : ℕ → Status → List ℕ → Type 0
+IsExactBench size said text = (said ≡ status.Done) × (summary : Summary) × IsSummaryOfCase size summary × (text ≡ summary_text summary)
+
+-- So it is over every shelf, where the sink's count did not rise.
+abbrev pub BenchesAlways : List (List ℕ) → Type 0 → Option (List ℕ) → Option (List ℕ) → Status → Type 0
+BenchesAlways words sink_rose old new result =
+    ¬ sink_rose → (word : List ℕ) → is_made_size word ≡ true → words ≡ codes "bench" ∷ word ∷ [] → HoldsOfPut (IsExactBench (value_of word)) old new result
