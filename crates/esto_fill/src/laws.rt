@@ -1,0 +1,38 @@
+//! Laws of the facts of datasets and the rows of fragments.
+ghost use Rattle.esto_fill.specs.Laws.{LoadedAreFlat, FactsStand, FactsAreOne, FaultsAreOne, ReadableHaveNone, AnswersAreOne, JudgementsAreOne, FillsAreOne, AuditsAreOne, AuditsAreOverFiles, AgreeingAnswersAreTexts, AgreeingAnswersAreOne};
+
+/// A law: what is loaded keeps what its description says.
+pub fn loaded_facts_are_flat()
+    ensures { LoadedAreFlat }
+{}
+
+/// A law: facts over constants and plain terms, as databases stand for facts, are stood for by the database in which a
+/// constant is its text and a plain term the unnamed value of its number. So what rules, queries and views say of the
+/// facts, read over terms, they say of this database.
+pub fn facts_stand_as_databases()
+    ensures { FactsStand }
+{}
+
+/// A law: where memory is not wanting, files give one list of facts or one first fault, a query's answers, a judgement of
+/// views and a filled file are one, and an audit of files comes to one end.
+pub fn outcomes_are_one()
+    ensures facts { FactsAreOne }
+    ensures faults { FaultsAreOne }
+    ensures readable { ReadableHaveNone }
+    ensures answers { AnswersAreOne }
+    ensures judgements { JudgementsAreOne }
+    ensures fills { FillsAreOne }
+    ensures audits { AuditsAreOne }
+{}
+
+/// A law: an audit of fragments' rows is one of the files of which they are the rows.
+pub fn audits_are_over_files()
+    ensures { AuditsAreOverFiles }
+{}
+
+/// A law: where a database meets the rules and the files of fragments hold exactly their views' rows, a query that has a
+/// rewriting has answers of texts alone, and these are exactly the answers of each rewriting's candidate over the files.
+pub fn agreeing_answers_are_one()
+    ensures texts { AgreeingAnswersAreTexts }
+    ensures rows { AgreeingAnswersAreOne }
+{}

@@ -1,0 +1,1 @@
+//! The match of a rule as a record.
