@@ -59,9 +59,9 @@ pub record IsFirstBroken (rules : List Rule) (names : List (List Name)) (facts :
 abbrev pub IsOfView : List ConjunctiveQuery → Database → ℕ → Row → Type 0
 IsOfView views database number row = IsViewRow views database (record { relation = number; terms = map Text row })
 
--- The row is in one of the two sets and not in the other.
-abbrev pub IsInOne : (Row → Type 0) → (Row → Type 0) → Row → Type 0
-IsInOne One Other row = (One row × ¬ (Other row)) ⊎ (Other row × ¬ (One row))
+-- The thing is in one of the two sets and not in the other.
+abbrev pub IsInOne : {A : Type 0} → (A → Type 0) → (A → Type 0) → A → Type 0
+IsInOne One Other thing = (One thing × ¬ (Other thing)) ⊎ (Other thing × ¬ (One thing))
 
 -- The row is in the first set and not in the second, and none that is in one alone comes before it, cell by cell by bytes.
 pub record IsLeastApart (One Other : Row → Type 0) (row : Row) : Type 0 where
@@ -69,9 +69,9 @@ pub record IsLeastApart (One Other : Row → Type 0) (row : Row) : Type 0 where
   pub outside : ¬ (Other row)
   pub least : (other : Row) → IsInOne One Other other → slice_cmp (slice_cmp nat_cmp) row other ≢ Greater
 
--- The two sets have the same rows.
-abbrev pub AreOne : (Row → Type 0) → (Row → Type 0) → Type 0
-AreOne One Other = (row : Row) → One row ↔ Other row
+-- The two sets have the same things.
+abbrev pub AreOne : {A : Type 0} → (A → Type 0) → (A → Type 0) → Type 0
+AreOne {A} One Other = (thing : A) → One thing ↔ Other thing
 
 -- The fragment of that name has a row that its view lacks or the other way round, where `First` and `Second` tell which rows are in the one and in the other,
 -- and the row is the least; each fragment before it has its view's rows.

@@ -2,6 +2,7 @@
 use Rattle.std.specs.Prelude.{◌≡◌, ℕ, ◌+◌, ◌<◌, List, [], ◌∷◌, ◌++◌, slice_get, Option, Some, None, Result, Ok, Err}
 use Rattle.esto_catalog.specs.declared.dataset.Dataset.{Dataset}
 use Rattle.esto_docmodel.specs.Encodings.{facts_of, size}
+use Rattle.esto_docmodel.specs.declared.encode.Encoded.{Encoded}
 use Rattle.esto_docmodel.specs.Shapes.{documents}
 use Rattle.esto_docs.specs.Files.{file_trees, trees_fault}
 use Rattle.esto_ports.specs.declared.file_fault.FileError.{FileError}
@@ -10,6 +11,7 @@ use Rattle.esto_ports.specs.declared.file_fault.FileFault.{FileFault}
 use Rattle.esto_read.specs.declared.words.DataModel.{DataModel}
 use Rattle.esto_read.specs.declared.words.DataModel.TheVariants.{Table, Documents, Keys}
 use Rattle.esto_relmodel.specs.RowFacts.{AreRowFacts}
+use Rattle.esto_semantics.specs.Maps.{AreFlat}
 use Rattle.esto_semantics.specs.declared.fact.Fact.{Fact}
 use Rattle.esto_stores.specs.Keys.{key_rows, key_fault}
 use Rattle.esto_stores.specs.Table.{table_rows, table_fault}
@@ -94,3 +96,23 @@ abbrev pub LoadsFacts : List Dataset → List DatasetBytes → Result Loaded Loa
 LoadsFacts datasets files (Ok loaded) = AreReadable datasets files × IsLoadedFrom datasets files loaded
 LoadsFacts datasets files (Err (Fault number fault)) = IsFirstFault datasets files number fault
 LoadsFacts datasets files (Err OutOfMemory) = Unit {0}
+
+-- ---- for private clauses
+
+-- The facts of the file of a dataset of this model, which are over constants and plain terms, and the first number that is no node's; or the file's first
+-- fault; or memory is wanting.
+abbrev pub GivesFacts : DataModel → Dataset → List ℕ → ℕ → Result Encoded FileError → Type 0
+GivesFacts model dataset bytes first (Ok encoded) =
+    (fault_by_model model dataset bytes ≡ None) × AreFactsByModel model dataset bytes first encoded.facts
+    × (encoded.next ≡ first + nodes_by_model model dataset bytes) × AreFlat encoded.facts
+GivesFacts model dataset bytes first (Err (content.Fault found)) = fault_by_model model dataset bytes ≡ Some found
+GivesFacts model dataset bytes first (Err content.OutOfMemory) = Unit {0}
+
+-- The facts of the file come after those that were loaded; or the file has a fault, and this is the first; or memory is wanting.
+abbrev pub AddsFile : List Dataset → DatasetBytes → Loaded → Result Loaded LoadError → Type 0
+AddsFile datasets file old (Ok new) =
+    ((files : List DatasetBytes) → IsLoadedFrom datasets files old → IsLoadedFrom datasets (files ++ file ∷ []) new)
+    × ((dataset : Dataset) → slice_get datasets file.dataset ≡ Some dataset → dataset_fault dataset file.bytes ≡ None)
+AddsFile datasets file old (Err (Fault number fault)) =
+    (number ≡ file.dataset) × ((dataset : Dataset) × (slice_get datasets file.dataset ≡ Some dataset) × (dataset_fault dataset file.bytes ≡ Some fault))
+AddsFile datasets file old (Err OutOfMemory) = Unit {0}

@@ -12,7 +12,9 @@ use Rattle.esto_semantics.specs.declared.fact.Value.TheVariants.{Text}
 use Rattle.esto_stores.specs.KeyText.{row_fault, keys_text}
 use Rattle.esto_stores.specs.Rows.{Row}
 use Rattle.esto_stores.specs.TableText.{table_text}
-use Rattle.esto_fill.specs.Texts.{AreListed, IsFirstNodeColumn}
+use Rattle.esto_fill.specs.Texts.{AreTextsOf, IsFirstNodeColumn}
+use Rattle.esto_fill.specs.declared.rows.AnswerError.{AnswerError}
+use Rattle.esto_fill.specs.declared.rows.AnswerError.TheVariants as answer
 use Rattle.esto_fill.specs.declared.filled.FillError.{FillError}
 use Rattle.esto_fill.specs.declared.filled.FillError.TheVariants.{NodeInRow, KeyText, OutOfMemory}
 
@@ -46,15 +48,25 @@ pub record IsFirstUnfit (rows : List Row) (cell : List ℕ) : Type 0 where
   pub is : slice_get row column ≡ Some cell
   pub before : (earlier : ℕ) (other : Row) → earlier < place → slice_get rows earlier ≡ Some other → row_fault other ≡ None
 
+-- The same refusal of a query's answers as one of filling a file.
+abbrev pub refusal_of : AnswerError → FillError
+refusal_of (answer.NodeInRow column) = NodeInRow column
+refusal_of answer.OutOfMemory = OutOfMemory
+
 -- What comes of filling a file in this shape with the rows: their text, each row once, in rising order; or one of them holds an unnamed value, and this is the
 -- least column that has one; or the file is one of keys, and this is the first cell that it can't hold; or memory is wanting.
 abbrev pub Fills : Shape → (List Value → Type 0) → Result (List ℕ) FillError → Type 0
-Fills shape Rows (Ok text) = (rows : List Row) × AreListed Rows rows × CanHold shape rows × (text ≡ with_mark (text_in shape rows))
+Fills shape Rows (Ok text) = (rows : List Row) × AreTextsOf Rows rows × CanHold shape rows × (text ≡ with_mark (text_in shape rows))
 Fills shape Rows (Err (NodeInRow column)) = IsFirstNodeColumn Rows column
-Fills shape Rows (Err (KeyText cell)) = (shape ≡ Keys) × ((rows : List Row) × AreListed Rows rows × IsFirstUnfit rows cell)
+Fills shape Rows (Err (KeyText cell)) = (shape ≡ Keys) × ((rows : List Row) × AreTextsOf Rows rows × IsFirstUnfit rows cell)
 Fills shape Rows (Err OutOfMemory) = Unit {0}
 
 -- The bytes of a file in this shape, whose rows have that many cells, have no fault, and say exactly the rows.
 pub record IsOpenedAs (shape : Shape) (width : ℕ) (Rows : List Value → Type 0) (bytes : List ℕ) : Type 0 where
   pub no_fault : first_fault_in shape width bytes ≡ None
   pub rows : (row : Row) → IsRowIn shape bytes row ↔ Rows (map Text row)
+
+-- They have no fault, and say exactly these rows.
+pub record SaysRows (shape : Shape) (width : ℕ) (rows : List Row) (bytes : List ℕ) : Type 0 where
+  pub no_fault : first_fault_in shape width bytes ≡ None
+  pub rows_are : (row : Row) → IsRowIn shape bytes row ↔ Contains rows row

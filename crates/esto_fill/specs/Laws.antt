@@ -23,7 +23,7 @@ use Rattle.esto_fill.specs.Databases.{value_of, database_of}
 use Rattle.esto_fill.specs.Differences.{Agree, Audits}
 use Rattle.esto_fill.specs.Files.{AreReadable, IsFirstFault, AreFactsFrom}
 use Rattle.esto_fill.specs.Filled.{Fills}
-use Rattle.esto_fill.specs.Texts.{AreListed, GivesTexts, HaveTextsOnly, JudgesViews}
+use Rattle.esto_fill.specs.Texts.{AreTextsOf, GivesTexts, HaveTextsOnly, JudgesViews}
 use Rattle.esto_fill.specs.declared.audit.Difference.{Difference}
 use Rattle.esto_fill.specs.declared.datasets.DatasetBytes.{DatasetBytes}
 use Rattle.esto_fill.specs.declared.filled.FillError.{FillError}
@@ -118,5 +118,5 @@ AgreeingAnswersAreOne =
     (rules : List Rule) (views : List ConjunctiveQuery) (patterns : Patterns) (query plan : ConjunctiveQuery) (set : List Bool) (stores : List Store)
     (files : ℕ → List ℕ) (database : Database) (rows : List Row)
     → IsRewriting rules views patterns query plan set → Agree rules views database (IsFileRow stores files)
-    → AreListed (IsAnswer query database) rows
+    → AreTextsOf (IsAnswer query database) rows
     ↔ (((row : Row) → Contains rows row ↔ IsAnswerOver (IsFileRow stores files) (candidate plan set) row) × AreRising rows)

@@ -4,4 +4,6 @@ pub mod Files
 pub mod Filled
 pub mod Records
 pub mod Differences
+pub mod Placing
+pub mod Judging
 pub mod Laws

@@ -22,7 +22,7 @@ abbrev pub AreExactly : (List Value → Type 0) → List Row → Type 0
 AreExactly Rows rows = (values : List Value) → Rows values ↔ ((row : Row) × Contains rows row × (values ≡ map Text row))
 
 -- They are exactly these rows of texts, each once, in rising order, cell by cell by bytes.
-pub record AreListed (Rows : List Value → Type 0) (rows : List Row) : Type 0 where
+pub record AreTextsOf (Rows : List Value → Type 0) (rows : List Row) : Type 0 where
   pub exact : AreExactly Rows rows
   pub rising : AreRising rows
 
@@ -40,9 +40,15 @@ pub record IsFirstNodeColumn (Rows : List Value → Type 0) (column : ℕ) : Typ
 -- The answer is the list of the rows, which are of texts alone; or one of them holds an unnamed value, and this is the least column that has one; or memory is
 -- wanting.
 abbrev pub GivesTexts : (List Value → Type 0) → Result (List Row) AnswerError → Type 0
-GivesTexts Rows (Ok rows) = AreListed Rows rows
+GivesTexts Rows (Ok rows) = AreTextsOf Rows rows
 GivesTexts Rows (Err (NodeInRow column)) = IsFirstNodeColumn Rows column
 GivesTexts Rows (Err OutOfMemory) = Unit {0}
+
+-- The rows are of texts alone; or one of them holds an unnamed value, and this is the least column that has one; or memory is wanting.
+abbrev pub JudgesRows : (List Value → Type 0) → Result (Unit {0}) AnswerError → Type 0
+JudgesRows Rows (Ok _) = HaveTextsOnly Rows
+JudgesRows Rows (Err (NodeInRow column)) = IsFirstNodeColumn Rows column
+JudgesRows Rows (Err OutOfMemory) = Unit {0}
 
 -- Each row of each of the views is a row of texts.
 abbrev pub AreTextViews : List ConjunctiveQuery → Database → Type 0

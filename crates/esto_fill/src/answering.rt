@@ -4,9 +4,11 @@ ghost use Rattle.esto_semantics.specs.Queries.{IsAnswer};
 ghost use Rattle.esto_fill.specs.Databases.{database_of};
 ghost use Rattle.esto_fill.specs.Texts.{GivesTexts};
 
+use crate::laws::{facts_stand_as_databases, loaded_facts_are_flat};
 use crate::loaded::Loaded;
-use crate::rows::AnswerError;
-use esto_query::Query;
+use crate::rows::{AnswerError, texts_of};
+use esto_query::{Query, answers, queries_are_sound};
+use esto_semantics::databases_stand_for_facts;
 use esto_term::TextRows;
 use std::alloc::Global;
 
@@ -15,5 +17,11 @@ use std::alloc::Global;
 pub fn answer(alloc: Global, query: &Query, loaded: &Loaded) -> Result<TextRows, AnswerError>
     ensures { GivesTexts (IsAnswer (query_of query.now) (database_of loaded.now.facts)) result }
 {
-    Err(AnswerError::OutOfMemory)
+    databases_stand_for_facts();
+    facts_stand_as_databases();
+    loaded_facts_are_flat();
+    queries_are_sound();
+    let rows = answers(alloc, query, &loaded.facts)?;
+    let texts = texts_of(alloc, &rows)?;
+    Ok(texts)
 }

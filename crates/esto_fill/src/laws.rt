@@ -1,6 +1,9 @@
 //! Laws of the facts of datasets and the rows of fragments.
 ghost use Rattle.esto_fill.specs.Laws.{LoadedAreFlat, FactsStand, FactsAreOne, FaultsAreOne, ReadableHaveNone, AnswersAreOne, JudgementsAreOne, FillsAreOne, AuditsAreOne, AuditsAreOverFiles, AgreeingAnswersAreTexts, AgreeingAnswersAreOne};
 
+use esto_run::{rewritings_answer_queries, rising_rows_are_one};
+use esto_semantics::databases_stand_for_facts;
+
 /// A law: what is loaded keeps what its description says.
 pub fn loaded_facts_are_flat()
     ensures { LoadedAreFlat }
@@ -23,7 +26,10 @@ pub fn outcomes_are_one()
     ensures judgements { JudgementsAreOne }
     ensures fills { FillsAreOne }
     ensures audits { AuditsAreOne }
-{}
+{
+    rising_rows_are_one();
+    databases_stand_for_facts();
+}
 
 /// A law: an audit of fragments' rows is one of the files of which they are the rows.
 pub fn audits_are_over_files()
@@ -35,4 +41,6 @@ pub fn audits_are_over_files()
 pub fn agreeing_answers_are_one()
     ensures texts { AgreeingAnswersAreTexts }
     ensures rows { AgreeingAnswersAreOne }
-{}
+{
+    rewritings_answer_queries();
+}

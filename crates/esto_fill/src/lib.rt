@@ -4,6 +4,7 @@
 #![tactic(auto)]
 
 mod answering;
+mod apart;
 mod audit;
 mod datasets;
 mod filled;
