@@ -1,5 +1,6 @@
 -- The facts of datasets' files, or the first fault of one.
-use Rattle.std.specs.Prelude.{◌≡◌, ℕ, ◌+◌, ◌<◌, List, [], ◌∷◌, ◌++◌, slice_get, Option, Some, None, Result, Ok, Err}
+use Rattle.std.specs.Prelude.{◌≡◌, ◌≢◌, ℕ, ◌+◌, ◌<◌, List, [], ◌∷◌, ◌++◌, slice_get, AllPairs, Option, Some, None, Result, Ok, Err}
+use Rattle.esto_catalog.specs.Datasets.{relation_count}
 use Rattle.esto_catalog.specs.declared.dataset.Dataset.{Dataset}
 use Rattle.esto_docmodel.specs.Encodings.{facts_of, size}
 use Rattle.esto_docmodel.specs.declared.encode.Encoded.{Encoded}
@@ -96,6 +97,17 @@ abbrev pub LoadsFacts : List Dataset → List DatasetBytes → Result Loaded Loa
 LoadsFacts datasets files (Ok loaded) = AreReadable datasets files × IsLoadedFrom datasets files loaded
 LoadsFacts datasets files (Err (Fault number fault)) = IsFirstFault datasets files number fault
 LoadsFacts datasets files (Err OutOfMemory) = Unit {0}
+
+-- ---- the relations of a dataset
+
+-- The relation is one of the dataset of that number: it has so many relations as its model wants, from its base on.
+abbrev pub HasRelation : List Dataset → ℕ → ℕ → Type 0
+HasRelation datasets number relation =
+    (dataset : Dataset) × (place : ℕ) × (slice_get datasets number ≡ Some dataset) × (place < relation_count dataset.model) × (relation ≡ dataset.base + place)
+
+-- No two files are of one dataset.
+abbrev pub AreApart : List DatasetBytes → Type 0
+AreApart files = AllPairs (λ file other. file.dataset ≢ other.dataset) files
 
 -- ---- for private clauses
 

@@ -1,5 +1,5 @@
 -- What laws on datasets' facts and fragments' rows say.
-use Rattle.std.specs.Prelude.{◌≡◌, ◌≢◌, ◌↔◌, ℕ, Bool, List, Contains, Option, Result, Ok, Err}
+use Rattle.std.specs.Prelude.{◌≡◌, ◌≢◌, ◌↔◌, ℕ, Bool, List, map, Contains, Option, Result, Ok, Err}
 use Rattle.esto_catalog.specs.declared.catalogue.Shape.{Shape}
 use Rattle.esto_catalog.specs.declared.catalogue.Store.{Store}
 use Rattle.esto_catalog.specs.declared.dataset.Dataset.{Dataset}
@@ -17,11 +17,12 @@ use Rattle.esto_semantics.specs.Queries.{ConjunctiveQuery, IsAnswer}
 use Rattle.esto_semantics.specs.Rules.{Rule, AreRules}
 use Rattle.esto_semantics.specs.Standing.{Stands}
 use Rattle.esto_semantics.specs.declared.fact.Fact.{Fact}
+use Rattle.esto_semantics.specs.declared.fact.Value.TheVariants.{Text}
 use Rattle.esto_stores.specs.Rows.{Row}
 use Rattle.esto_term.specs.declared.term.Term.{Term}
 use Rattle.esto_fill.specs.Databases.{value_of, database_of}
 use Rattle.esto_fill.specs.Differences.{Agree, Audits}
-use Rattle.esto_fill.specs.Files.{AreReadable, IsFirstFault, AreFactsFrom}
+use Rattle.esto_fill.specs.Files.{AreApart, AreFactsFrom, AreReadable, HasRelation, IsFirstFault}
 use Rattle.esto_fill.specs.Filled.{Fills}
 use Rattle.esto_fill.specs.Texts.{AreTextsOf, GivesTexts, HaveTextsOnly, JudgesViews}
 use Rattle.esto_fill.specs.declared.audit.Difference.{Difference}
@@ -92,6 +93,20 @@ AuditsAreOne =
     → AreRules rules → AreFlat facts → Audits rules names fragments views facts (IsFileRow stores files) result
     → Audits rules names fragments views facts (IsFileRow stores files) other
     → result ≡ other
+
+-- ---- which datasets count
+
+-- Over the facts of some of the files, among which is each whose dataset has a relation of the query, the query has the answers of texts that it has over the
+-- facts of all, although their nodes have other numbers; and where over all it has no other answers, it has none there.
+abbrev pub AnswersRestOnDatasets : Type 0
+AnswersRestOnDatasets =
+    (datasets : List Dataset) (all some : List DatasetBytes) (facts others : List (Fact Term)) (next other : ℕ) (query : ConjunctiveQuery)
+    → AreApart all → AreApart some → ((file : DatasetBytes) → Contains some file → Contains all file)
+    → ((atom : Fact Term) (file : DatasetBytes) → Contains query.body atom → Contains all file → HasRelation datasets file.dataset atom.relation
+    → Contains some file)
+    → AreFactsFrom datasets 0 all facts next → AreFactsFrom datasets 0 some others other
+    → ((row : Row) → IsAnswer query (database_of facts) (map Text row) ↔ IsAnswer query (database_of others) (map Text row))
+    × (HaveTextsOnly (IsAnswer query (database_of facts)) → HaveTextsOnly (IsAnswer query (database_of others)))
 
 -- ---- rows and files
 

@@ -1,5 +1,5 @@
 //! Laws of the facts of datasets and the rows of fragments.
-ghost use Rattle.esto_fill.specs.Laws.{LoadedAreFlat, FactsStand, FactsAreOne, FaultsAreOne, ReadableHaveNone, AnswersAreOne, JudgementsAreOne, FillsAreOne, AuditsAreOne, AuditsAreOverFiles, AgreeingAnswersAreTexts, AgreeingAnswersAreOne};
+ghost use Rattle.esto_fill.specs.Laws.{AnswersRestOnDatasets, LoadedAreFlat, FactsStand, FactsAreOne, FaultsAreOne, ReadableHaveNone, AnswersAreOne, JudgementsAreOne, FillsAreOne, AuditsAreOne, AuditsAreOverFiles, AgreeingAnswersAreTexts, AgreeingAnswersAreOne};
 
 use esto_run::{rewritings_answer_queries, rising_rows_are_one};
 use esto_semantics::databases_stand_for_facts;
@@ -30,6 +30,13 @@ pub fn outcomes_are_one()
     rising_rows_are_one();
     databases_stand_for_facts();
 }
+
+/// A law: a query has the same answers of texts over the facts of all files as over those of some of them, among which is
+/// the file of each dataset of which the query names a relation, although nodes have other numbers there; and where it has
+/// no other answers over the facts of all, it has none over the others.
+pub fn answers_rest_on_their_datasets()
+    ensures { AnswersRestOnDatasets }
+{}
 
 /// A law: an audit of fragments' rows is one of the files of which they are the rows.
 pub fn audits_are_over_files()

@@ -19,8 +19,8 @@ pub use audit::{Difference, TextRowsList, audit};
 pub use datasets::{DatasetBytes, LoadError, LoadList, dataset_facts, load_dataset};
 pub use filled::{FillError, fill};
 pub use laws::{
-    agreeing_answers_are_one, audits_are_over_files, facts_stand_as_databases,
-    loaded_facts_are_flat, outcomes_are_one,
+    agreeing_answers_are_one, answers_rest_on_their_datasets, audits_are_over_files,
+    facts_stand_as_databases, loaded_facts_are_flat, outcomes_are_one,
 };
 pub use loaded::{Loaded, nothing_loaded};
 pub use rows::AnswerError;
