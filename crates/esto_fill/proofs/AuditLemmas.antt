@@ -1,5 +1,5 @@
 -- An audit comes to one end, and it rests on the sets of rows alone.
-use Rattle.std.proofs.Common.{◌≡◌, ◌≢◌, ◌↔◌, ◌⊎◌, inl, inr, ℕ, zero, suc, ◌<◌, List, [], ◌∷◌, take, map, Option, None, Some, slice_get, Contains, refl, sym, ap, ◌∙◌, subst, arith}
+use Rattle.std.proofs.Common.{◌≡◌, ◌≢◌, ◌↔◌, inl, inr, ℕ, zero, suc, ◌<◌, List, [], ◌∷◌, take, map, Option, None, Some, slice_get, Contains, refl, sym, ap, ◌∙◌, subst, arith}
 use Rattle.std.specs.Prelude.{filter}
 use Rattle.std.specs.Cmp.Lexicographic.{slice_cmp}
 use Rattle.std.specs.Ordering.{nat_cmp}
@@ -8,7 +8,6 @@ use Rattle.std.specs.declared.cmp.Ordering.TheVariants.{Greater}
 use Rattle.std.proofs.lemmas.Bool.{cases_order}
 use Rattle.std.proofs.lemmas.Cmp.{nat_list_cmp_total}
 use Rattle.std.proofs.lemmas.Option.{same_Some}
-use Rattle.esto_catalog.specs.declared.catalogue.Store.{Store}
 use Rattle.esto_constraint.specs.Matches.{AreMet}
 use Rattle.esto_plan.specs.Rows.{IsRowOf, held_by}
 use Rattle.esto_query.proofs.MatchLemmas.{Sends-match, images_same}
@@ -26,11 +25,11 @@ use Rattle.esto_stores.specs.Rows.{Row}
 use Rattle.esto_term.specs.declared.term.Term.{Term}
 use Rattle.esto_term.proofs.ListLemmas.{Contains-at, Contains-head, Contains-rest, Contains-flat_from, Contains-filter_from, agree-from_map, map_agree}
 use Rattle.esto_fill.specs.Databases.{database_of}
-use Rattle.esto_fill.specs.Differences.{Agree, AreOne, Audits, HoldViewRows, IsFirstApart, IsFirstBroken, IsFirstDifference, IsInOne, IsLeastApart, IsOfView, at}
+use Rattle.esto_fill.specs.Differences.{AreOne, Audits, HoldViewRows, IsFirstApart, IsFirstBroken, IsInOne, IsOfView, at}
 use Rattle.esto_fill.specs.Laws.{AuditsAreOne, AuditsAreOverFiles}
-use Rattle.esto_fill.specs.Records.{IsRecordOf, AreNamedVariables, cell_of, is_named, one_at_least}
-use Rattle.esto_fill.specs.declared.audit.Difference.{Difference}
-use Rattle.esto_fill.specs.declared.audit.Difference.TheVariants.{Rule as Broken, Missing, Extra}
+use Rattle.esto_fill.specs.Records.{IsRecordOf, cell_of, is_named, one_at_least}
+use Rattle.esto_fill.specs.declared.auditing.Difference.{Difference}
+use Rattle.esto_fill.specs.declared.auditing.Difference.TheVariants.{Rule as Broken, Missing, Extra}
 use Rattle.esto_fill.proofs.DifferenceLemmas.{apart_same, first_rules, meets_met}
 use Rattle.esto_fill.proofs.FilledLemmas.{same_texts}
 use Rattle.esto_fill.proofs.LawLemmas.{once_one}
@@ -175,6 +174,7 @@ module _ (stand : RulesStand) (rules : List Rule) (names : List (List Name)) (fr
 
   pub end_one : (result other : Option Difference) → Audits rules names fragments views facts Holds result
       → Audits rules names fragments views facts Holds other → result ≡ other
+  unfolding end_first end_second
   end_one None None one two = refl
   end_one None (Some (Broken number cells)) one two = absurd (broken_unmet rules names facts number cells (met one.meets) two)
   end_one None (Some (Missing name row)) one (meets, apart) =

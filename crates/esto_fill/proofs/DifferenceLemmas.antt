@@ -1,11 +1,9 @@
 -- An audit: the rules, the rows of one fragment, and those of all.
-use Rattle.std.proofs.Common.{◌≡◌, ◌≢◌, ◌↔◌, ◌⊎◌, inl, inr, ℕ, zero, suc, ◌≤◌, ◌<◌, ◌+◌, List, [], ◌∷◌, length, take, map, get_or, Option, None, Some, slice_get, Contains, refl, sym, ap, ◌∙◌, subst, arith}
-use Rattle.std.specs.Cmp.Lexicographic.{slice_cmp}
-use Rattle.std.specs.Ordering.{nat_cmp}
-use Rattle.std.specs.declared.cmp.Ordering.TheVariants.{Greater}
+use Rattle.std.proofs.Common.{◌≡◌, ◌↔◌, inl, inr, ℕ, zero, suc, ◌≤◌, ◌<◌, ◌+◌, List, [], ◌∷◌, length, take, map, Option, None, Some, true, false, slice_get, Contains, refl, sym, ap, ◌∙◌, subst, arith}
+use Rattle.std.specs.Option.{is_some}
 use Rattle.std.proofs.lemmas.Bool.{cases_order}
 use Rattle.std.proofs.lemmas.List.{get_or_past, length-map}
-use Rattle.std.proofs.lemmas.Option.{get_or_from_slice_get, none-some, same_Some, slice_get_cases, slice_get_within}
+use Rattle.std.proofs.lemmas.Option.{get_or_from_slice_get, same_Some, slice_get_cases, slice_get_within}
 use Rattle.esto_constraint.specs.Constraints.{rule_of, rules_of}
 use Rattle.esto_constraint.specs.EncodingRules.{written}
 use Rattle.esto_constraint.specs.Matches.{AreMet, IsFirstBroken as IsFirstUnmet, LeastActiveIsLeast}
@@ -30,13 +28,14 @@ use Rattle.esto_term.proofs.ListLemmas.{Contains-at, Contains-cases, Contains-he
 use Rattle.esto_views.specs.Fragments.{views_of}
 use Rattle.esto_views.specs.declared.fragments.FragmentDef.{FragmentDef}
 use Rattle.esto_fill.specs.Databases.{value_of, database_of}
-use Rattle.esto_fill.specs.Differences.{Agree, AreOne, Audits, HoldViewRows, IsFirstApart, IsFirstBroken, IsInOne, IsLeastApart, IsOfView, at}
+use Rattle.esto_fill.specs.Differences.{AreOne, Audits, HoldViewRows, IsFirstBroken, IsInOne, IsLeastApart, IsOfView, at}
 use Rattle.esto_fill.specs.Judging.{IsText, JudgesFragment, JudgesFragments, JudgesRules}
-use Rattle.esto_fill.specs.Placing.{IsApart, IsImageOf, text_of}
+use Rattle.esto_fill.specs.Placing.{IsApart, IsApartAt, IsImageOf, text_of}
 use Rattle.esto_fill.specs.Records.{IsRecordOf}
 use Rattle.esto_fill.specs.Texts.{AreTextViews, HaveTextsOnly}
-use Rattle.esto_fill.specs.declared.audit.Difference.{Difference}
-use Rattle.esto_fill.specs.declared.audit.Difference.TheVariants.{Rule as Broken, Missing, Extra}
+use Rattle.esto_fill.specs.declared.apart.Apart.TheVariants as apart
+use Rattle.esto_fill.specs.declared.auditing.Difference.{Difference}
+use Rattle.esto_fill.specs.declared.auditing.Difference.TheVariants.{Rule as Broken, Missing, Extra}
 use Rattle.esto_fill.proofs.OrderLemmas.{ordered_as_texts}
 use Rattle.esto_fill.proofs.TextLemmas.{row_of_texts}
 use Rattle.esto_fill.proofs.ValueLemmas.{map_text, map_value}
@@ -144,6 +143,26 @@ module _ (rows : List Row) (held : List (List Term)) (same : (row : List Term) �
       let from = Contains-map_from (map Const) rows row ((same row).0 inside) in
       sym from.2 ∙ ap (map Const) (sym (map_text from.0) ∙ ap (map text_of) from.2)
 
+-- ---- the least row, by its place
+
+module _ (Rows : List Value → Type 0) (own : List (List Term)) (images : (values : List Value) → IsImageOf own values ↔ Rows values)
+    (texts : HaveTextsOnly Rows) (rows : List Row) (held : List (List Term))
+    (same : (row : List Term) → Contains held row ↔ Contains (map (map Const) rows) row) (place : ℕ) (row : List Term) (cells : Row)
+    (is : cells ≡ map text_of row) where
+  pub missing_least : slice_get own place ≡ Some row → IsApartAt own held (apart.Missing place) → IsLeastApart (IsText Rows) (Contains rows) cells
+  missing_least there (found, at_place, is_apart) =
+      let one : found ≡ row = same_Some found row (sym at_place ∙ there) in
+      subst (IsLeastApart (IsText Rows) (Contains rows)) (sym is)
+      (least_texts (IsText Rows) (Contains rows) own held (in_view Rows own images) (in_file rows held same) row (map text_of row)
+      (view_texts Rows own images texts row (Contains-at own place row there)) (subst (IsApart own held) one is_apart))
+
+  pub extra_least : slice_get held place ≡ Some row → IsApartAt own held (apart.Extra place) → IsLeastApart (Contains rows) (IsText Rows) cells
+  extra_least there (found, at_place, is_apart) =
+      let one : found ≡ row = same_Some found row (sym at_place ∙ there) in
+      subst (IsLeastApart (Contains rows) (IsText Rows)) (sym is)
+      (least_texts (Contains rows) (IsText Rows) held own (in_file rows held same) (in_view Rows own images) row (map text_of row)
+      (file_texts rows held same row (Contains-at held place row there)) (subst (IsApart held own) one is_apart))
+
 -- ---- sets that are the same
 
 module _ (One Other Ones Others : Row → Type 0) (same : AreOne One Ones) (too : AreOne Other Others) where
@@ -161,14 +180,14 @@ module _ (One Other Ones Others : Row → Type 0) (same : AreOne One Ones) (too 
 -- ---- all fragments
 
 module _ (fragments : List FragmentDef) (database : Database) (rows : List (List Row)) where
-  abbrev views : List ConjunctiveQuery
-  views = views_of fragments
+  abbrev its_views : List ConjunctiveQuery
+  its_views = views_of fragments
 
-  abbrev names : List (List ℕ)
-  names = map (λ (fragment : FragmentDef). fragment.name) fragments
+  abbrev its_names : List (List ℕ)
+  its_names = map (λ (fragment : FragmentDef). fragment.name) fragments
 
   abbrev OfView : ℕ → Row → Type 0
-  OfView = IsOfView views database
+  OfView = IsOfView its_views database
 
   abbrev OfFile : ℕ → Row → Type 0
   OfFile number row = IsRowOf (held_by rows) (at number row)
@@ -185,7 +204,7 @@ module _ (fragments : List FragmentDef) (database : Database) (rows : List (List
     abbrev OwnRows : List Value → Type 0
     OwnRows = IsAnswer (query_of fragment.view) database
 
-    view_at : slice_get views number ≡ Some (query_of fragment.view)
+    view_at : slice_get its_views number ≡ Some (query_of fragment.view)
     view_at = map_at (λ (its : FragmentDef). query_of its.view) fragments number fragment there
 
     of_view : AreOne (IsText OwnRows) (OfView number)
@@ -211,11 +230,11 @@ module _ (fragments : List FragmentDef) (database : Database) (rows : List (List
       | inr (inr more) ↦ absurd (omega (arith, more, below))
     ]
 
-    named : (name : List ℕ) → name ≡ fragment.name → slice_get names number ≡ Some name
+    named : (name : List ℕ) → name ≡ fragment.name → slice_get its_names number ≡ Some name
     named name is = map_at (λ (its : FragmentDef). its.name) fragments number fragment there ∙ ap Some (sym is)
 
     pub first_apart : (difference : Difference) → JudgesFragment fragment.name OwnRows held (Some difference) → AreOneBelow number
-        → JudgesFragments names views database rows (Some difference)
+        → JudgesFragments its_names its_views database rows (Some difference)
     first_apart (Broken _ _) judged before = absurd judged
     first_apart (Missing name row) (is, apart) before = record {
       number = number;
@@ -230,19 +249,29 @@ module _ (fragments : List FragmentDef) (database : Database) (rows : List (List
       before = λ earlier less row. ((before earlier less row).1, (before earlier less row).0);
     }
 
-  pub all_one : length rows ≡ length fragments → AreTextViews views database → (count : ℕ) → length fragments ≤ count → AreOneBelow count
-      → HoldViewRows views database (IsRowOf (held_by rows))
+    pub apart_option : (outcome : Option Difference) → is_some outcome ≡ true → JudgesFragment fragment.name OwnRows held outcome → AreOneBelow number
+        → JudgesFragments its_names its_views database rows outcome
+    apart_option None some judged before = absurd (cc)
+    apart_option (Some difference) some judged before = first_apart difference judged before
+
+    pub one_option : (outcome : Option Difference) → is_some outcome ≡ false → JudgesFragment fragment.name OwnRows held outcome → AreOneBelow number
+        → AreOneBelow (number + 1)
+    one_option None none judged before = one_more judged before
+    one_option (Some difference) none judged before = absurd (cc)
+
+  pub all_one : length rows ≡ length fragments → AreTextViews its_views database → (count : ℕ) → length fragments ≤ count → AreOneBelow count
+      → HoldViewRows its_views database (IsRowOf (held_by rows))
   all_one many texts count past before fact = (there, back)
     where
-      there : IsViewRow views database fact → (row : Row) × IsRowOf (held_by rows) (at fact.relation row) × (fact.terms ≡ map Text row)
+      there : IsViewRow its_views database fact → (row : Row) × IsRowOf (held_by rows) (at fact.relation row) × (fact.terms ≡ map Text row)
       there (view, is, answer) =
-          let found = texts view (Contains-at views fact.relation view is) fact.terms answer in
-          let within = slice_get_within views fact.relation view is in
+          let found = texts view (Contains-at its_views fact.relation view is) fact.terms answer in
+          let within = slice_get_within its_views fact.relation view is in
           let long = length-map fragments (λ (its : FragmentDef). query_of its.view) in
           let below : fact.relation < count = omega (arith, within, long, past) in
           (found.0, (before fact.relation below found.0).0 (view, is, subst (IsAnswer view database) found.1 answer), found.1)
 
-      back : (row : Row) × IsRowOf (held_by rows) (at fact.relation row) × (fact.terms ≡ map Text row) → IsViewRow views database fact
+      back : (row : Row) × IsRowOf (held_by rows) (at fact.relation row) × (fact.terms ≡ map Text row) → IsViewRow its_views database fact
       back (row, inside, is) = elim (slice_get_cases rows fact.relation).1 [
         | inl (held, within, found, read) ↦
             let below : fact.relation < count = omega (arith, within, many, past) in

@@ -1,11 +1,19 @@
 -- The facts of datasets' files.
-use Rattle.std.proofs.Common.{◌≡◌, inl, inr, ℕ, suc, ◌≤◌, ◌<◌, ◌+◌, List, [], ◌∷◌, ◌++◌, length, take, map, get_or, Option, None, Some, slice_get, Contains, refl, sym, ap, ◌∙◌, subst, append_assoc, append-nil, arith}
+use Rattle.std.proofs.Common.{◌≡◌, inl, inr, ℕ, suc, ◌≤◌, ◌<◌, ◌+◌, List, [], ◌∷◌, ◌++◌, length, take, get_or, Option, None, Some, slice_get, Contains, refl, sym, ap, ◌∙◌, subst, append_assoc, append-nil, arith}
 use Rattle.std.proofs.lemmas.List.{take_more, take_all}
 use Rattle.std.proofs.lemmas.List.Elements.{Contains-append_cases}
-use Rattle.std.proofs.lemmas.Option.{none-some, same_Some}
+use Rattle.std.specs.Prelude.{Ok}
+use Rattle.std.proofs.lemmas.Option.{slice_get_within}
 use Rattle.esto_catalog.specs.declared.dataset.Dataset.{Dataset}
-use Rattle.esto_docmodel.specs.DocumentFacts.{DocFact, root, field, item, value, below, row_of, flat}
+use Rattle.esto_docmodel.specs.DocumentFacts.{DocFact, value, below, row_of, flat}
 use Rattle.esto_docmodel.specs.Encodings.{size, entering, belows, holding, facts_from, facts_of}
+use Rattle.esto_docmodel.specs.Shapes.{documents}
+use Rattle.esto_docmodel.specs.declared.encode.Encoded.{Encoded}
+use Rattle.esto_docmodel.specs.declared.tree.Tree.{Tree}
+use Rattle.esto_docs.specs.Files.{file_trees, trees_fault}
+use Rattle.esto_read.specs.declared.words.DataModel.{DataModel}
+use Rattle.esto_stores.specs.Keys.{key_rows, key_fault}
+use Rattle.esto_stores.specs.Table.{table_rows, table_fault}
 use Rattle.esto_docmodel.specs.Forests.{Label, name, place, Forest, none, kid}
 use Rattle.esto_relmodel.specs.RowFacts.{row_fact, AreRowFacts}
 use Rattle.esto_semantics.specs.Maps.{AreFlat}
@@ -14,8 +22,9 @@ use Rattle.esto_semantics.proofs.FactLemmas.{Mentions-append}
 use Rattle.esto_term.specs.Kinds.{IsFlat}
 use Rattle.esto_term.specs.declared.term.Term.{Term}
 use Rattle.esto_term.specs.declared.term.Term.TheVariants.{Const, Plain}
-use Rattle.esto_term.proofs.ListLemmas.{Contains-nil, Contains-cases, Contains-map_from}
-use Rattle.esto_fill.specs.Files.{nodes_in, AreFactsOf, AreFactsFrom}
+use Rattle.esto_term.proofs.ListLemmas.{Contains-nil, Contains-cases, Contains-map_from, HoldsBelow}
+use Rattle.esto_fill.specs.Files.{dataset_fault, nodes_in, AreFactsOf, AreFactsFrom, AreReadable, GivesFacts, IsLoadedFrom}
+use Rattle.esto_fill.specs.declared.loaded.Loaded.{Loaded}
 use Rattle.esto_fill.specs.declared.datasets.DatasetBytes.{DatasetBytes}
 
 -- ---- facts of rows are over constants
@@ -120,3 +129,71 @@ file_more datasets first (head ∷ files) facts own next file dataset (its, some
   file_more datasets (first + nodes_in its head.bytes) files others own next file dataset rest there are,
   ap (λ those. those ++ own) whole ∙ append_assoc some others own,
 )
+
+-- ---- what the readers give
+
+pub table_gives : (dataset : Dataset) (bytes : List ℕ) (first : ℕ) (rows : List (List (List ℕ))) (facts : List (Fact Term))
+    → (table_fault dataset.columns bytes ≡ None) × (rows ≡ table_rows dataset.columns bytes) → AreRowFacts dataset.base rows facts
+    → GivesFacts DataModel.Table dataset bytes first (Ok (record { facts = facts; next = first }))
+table_gives dataset bytes first rows facts (clear, read) are = (
+  clear,
+  subst (λ those. AreRowFacts dataset.base those facts) read are,
+  omega arith,
+  rows_flat dataset.base rows facts are,
+)
+
+pub keys_give : (dataset : Dataset) (bytes : List ℕ) (first : ℕ) (rows : List (List (List ℕ))) (facts : List (Fact Term))
+    → (key_fault 3 bytes ≡ None) × (rows ≡ key_rows bytes) → AreRowFacts dataset.base rows facts
+    → GivesFacts DataModel.Keys dataset bytes first (Ok (record { facts = facts; next = first }))
+keys_give dataset bytes first rows facts (clear, read) are = (
+  clear,
+  subst (λ those. AreRowFacts dataset.base those facts) read are,
+  omega arith,
+  rows_flat dataset.base rows facts are,
+)
+
+pub documents_give : (dataset : Dataset) (bytes : List ℕ) (first : ℕ) (trees : List Tree) (encoded : Encoded)
+    → (trees_fault dataset.layout bytes ≡ None) × (trees ≡ file_trees dataset.layout bytes) → encoded.facts ≡ facts_of dataset.base first (documents trees)
+    → encoded.next ≡ first + size (documents trees) → GivesFacts DataModel.Documents dataset bytes first (Ok encoded)
+documents_give dataset bytes first trees encoded (clear, read) facts next = (
+  clear,
+  facts ∙ ap (λ those. facts_of dataset.base first (documents those)) read,
+  next ∙ ap (λ those. first + size (documents those)) read,
+  subst AreFlat (sym facts) (documents_flat dataset.base first (documents trees)),
+)
+
+-- ---- all files
+
+module _ (datasets : List Dataset) (files : List DatasetBytes) where
+  -- none of the files so far has a fault
+  abbrev pub AreReadableBelow : ℕ → Type 0
+  AreReadableBelow count = HoldsBelow (λ _ (file : DatasetBytes). (dataset : Dataset) → slice_get datasets file.dataset ≡ Some dataset
+      → dataset_fault dataset file.bytes ≡ None) files count
+
+  pub loaded_more : (count : ℕ) (file : DatasetBytes) (old new : Loaded) → count < length files → file ≡ get_or files count file
+      → IsLoadedFrom datasets (take count files) old
+      → ((those : List DatasetBytes) → IsLoadedFrom datasets those old → IsLoadedFrom datasets (those ++ file ∷ []) new)
+      → IsLoadedFrom datasets (take (count + 1) files) new
+  loaded_more count file old new within read before step =
+      subst (λ those. IsLoadedFrom datasets those new) (sym (take_more files count file within ∙ ap (λ last. take count files ++ last ∷ []) (sym read)))
+      (step (take count files) before)
+
+  pub all_readable : (count : ℕ) → length files ≤ count → AreReadableBelow count → AreReadable datasets files
+  all_readable count past fine at file dataset there = fine at file
+      (let within = slice_get_within files at file there in omega (arith, within, past)) there dataset
+
+-- all files are loaded, where the loop goes over a list that is theirs
+pub all_loaded : (datasets : List Dataset) (files items : List DatasetBytes) (count : ℕ) (loaded : Loaded) → items ≡ files → length items ≤ count
+    → IsLoadedFrom datasets (take count items) loaded → AreReadableBelow datasets items count → AreReadable datasets files × IsLoadedFrom datasets files loaded
+all_loaded datasets files items count loaded same past are fine =
+    subst (λ those. AreReadable datasets those × IsLoadedFrom datasets those loaded) same
+    (all_readable datasets items count past fine, subst (λ those. IsLoadedFrom datasets those loaded) (take_all count items past) are)
+
+pub load_more : (datasets : List Dataset) (files : List DatasetBytes) (number : ℕ) (bytes : List ℕ) (dataset : Dataset) (old : Loaded)
+    (own facts : List (Fact Term)) (next : ℕ) → IsLoadedFrom datasets files old → slice_get datasets number ≡ Some dataset
+    → AreFactsOf dataset bytes old.next own → facts ≡ old.facts ++ own → next ≡ old.next + nodes_in dataset bytes
+    → AreFactsFrom datasets 0 (files ++ record { dataset = number; bytes = bytes } ∷ []) facts next
+load_more datasets files number bytes dataset old own facts next before there are whole ends =
+    subst (λ those. AreFactsFrom datasets 0 (files ++ record { dataset = number; bytes = bytes } ∷ []) those next) (sym whole)
+    (subst (AreFactsFrom datasets 0 (files ++ record { dataset = number; bytes = bytes } ∷ []) (old.facts ++ own)) (sym ends)
+    (file_more datasets 0 files old.facts own old.next (record { dataset = number; bytes = bytes }) dataset before there are))

@@ -1,14 +1,9 @@
 -- The text of a fragment's file, and what it says when it is read.
-use Rattle.std.proofs.Common.{◌≡◌, ◌↔◌, ◌==◌, ◌&&◌, inl, inr, ℕ, ◌≤◌, ◌<◌, Bool, true, false, if◌then◌else◌, List, [], ◌∷◌, ◌++◌, length, map, get_or, Option, None, Some, slice_get, Contains, refl, sym, ap, ◌∙◌, subst, arith}
-use Rattle.std.specs.Prelude.{All, Result, Ok, Err, nat_eq, slice_index}
+use Rattle.std.proofs.Common.{◌≡◌, ◌↔◌, ℕ, Bool, true, false, if◌then◌else◌, List, [], ◌∷◌, ◌++◌, length, map, get_or, Option, None, Some, Contains, refl, sym, ap, ◌∙◌, subst}
+use Rattle.std.specs.Prelude.{All, IfSome, Ok, Err, drop, nat_eq}
 use Rattle.std.specs.List.{starts_with}
-use Rattle.std.proofs.lemmas.Bool.{false≢true, eqb-true}
 use Rattle.std.proofs.lemmas.List.{length-map}
 use Rattle.std.proofs.lemmas.List.Elements.{Contains-get_or}
-use Rattle.std.proofs.lemmas.Option.{none-some}
-use Rattle.csv.specs.Reading.{is_bom}
-use Rattle.esto_catalog.specs.Datasets.{begins_plain}
-use Rattle.esto_catalog.specs.Soundness.{IsShapeFor}
 use Rattle.esto_catalog.specs.declared.catalogue.Shape.{Shape}
 use Rattle.esto_catalog.specs.declared.catalogue.Shape.TheVariants.{Table, Documents, Keys}
 use Rattle.esto_catalog.specs.declared.columns.TheConstants.{MARK}
@@ -19,19 +14,16 @@ use Rattle.esto_docs.specs.Files.{file_trees, trees_fault}
 use Rattle.esto_docs.specs.Rows.{IsRowOf}
 use Rattle.esto_docs.specs.declared.layout.Layout.{Layout}
 use Rattle.esto_run.proofs.StoreLemmas.{documents_give}
-use Rattle.esto_run.specs.Stores.{IsRowIn, first_fault_in}
 use Rattle.esto_semantics.specs.Facts.{Database}
 use Rattle.esto_semantics.specs.Queries.{ConjunctiveQuery, IsAnswer}
 use Rattle.esto_semantics.specs.declared.fact.Value.{Value}
 use Rattle.esto_semantics.specs.declared.fact.Value.TheVariants.{Text}
-use Rattle.esto_stores.specs.KeyText.{row_fault}
 use Rattle.esto_stores.specs.Keys.{key_rows, key_fault}
 use Rattle.esto_stores.specs.Rows.{Row}
 use Rattle.esto_stores.specs.Table.{table_rows, table_fault}
-use Rattle.esto_stores.specs.TableText.{HasNoMark, StartsPlain}
-use Rattle.esto_fill.specs.Filled.{CanHold, Fills, IsFirstUnfit, IsOpenedAs, SaysRows, refusal_of, text_in, with_mark, without_mark}
+use Rattle.esto_fill.specs.Filled.{Fills, IsOpenedAs, SaysRows, refusal_of, with_mark, without_mark}
 use Rattle.esto_fill.specs.Placing.{WritesRows}
-use Rattle.esto_fill.specs.Texts.{AreTextsOf, AreExactly, GivesTexts, IsFirstNodeColumn}
+use Rattle.esto_fill.specs.Texts.{AreTextsOf, AreExactly, GivesTexts}
 use Rattle.esto_fill.specs.declared.filled.FillError.{FillError}
 use Rattle.esto_fill.specs.declared.filled.FillError.TheVariants.{NodeInRow, KeyText, OutOfMemory}
 use Rattle.esto_fill.specs.declared.rows.AnswerError.{AnswerError}
@@ -44,18 +36,7 @@ mark_dropped text = by (starts_with nat_eq text MARK) refl
   where
     by : (begins : Bool) → starts_with nat_eq text MARK ≡ begins → without_mark (if begins then MARK ++ text else text) ≡ text
     by true told = refl
-    by false told = ap (λ b. if b then _ else text) told
-
--- names that begin without a mark begin plainly
-no_mark : (name : List ℕ) → starts_with nat_eq name MARK ≡ false → HasNoMark name
-no_mark [] told = refl
-no_mark (a ∷ []) told = ?
-no_mark (a ∷ b ∷ []) told = ?
-no_mark (a ∷ b ∷ c ∷ rest) told = ?
-
-pub starts_plain : (names : Row) → begins_plain names → StartsPlain names
-starts_plain [] plain = tt
-starts_plain (name ∷ names) plain = no_mark name plain
+    by false told = ap (λ b. if b then drop (length MARK) text else text) told
 
 -- ---- rows
 
@@ -104,6 +85,11 @@ pub documents_say : (width : ℕ) (layout : Layout) (pattern : Pattern) (rows : 
 documents_say width layout pattern rows text is read none =
     let given = documents_give width layout pattern text (Ok rows) is (none, λ row. ((read row).1, (read row).0)) in
     record { no_fault = given.0; rows_are = λ row. ((given.1 row).1, (given.1 row).0) }
+
+pub both_there : {A B : Type 0} (P : A → B → Type 0) (one : Option A) (two : Option B) (a : A) (b : B) → one ≡ Some a → two ≡ Some b → P a b
+    → IfSome one (λ x. IfSome two (λ y. P x y))
+both_there P one two a b there too holds =
+    subst (λ it. IfSome it (λ x. IfSome two (λ y. P x y))) (sym there) (subst (λ it. IfSome it (λ y. P a y)) (sym too) holds)
 
 -- ---- what a file is filled with
 

@@ -1,20 +1,12 @@
 -- What files, answers, views and filled files come to is one, and agreement.
-use Rattle.std.proofs.Common.{◌≡◌, ◌≢◌, ◌↔◌, ◌⊎◌, inl, inr, ℕ, suc, ◌≤◌, ◌<◌, ◌+◌, List, [], ◌∷◌, ◌++◌, length, take, map, filter, get_or, Option, None, Some, slice_get, Contains, refl, sym, ap, ◌∙◌, subst, arith}
-use Rattle.std.specs.Prelude.{AllPairs, Result, Ok, Err}
-use Rattle.std.specs.Cmp.{IsTotalOrder}
-use Rattle.std.specs.Cmp.Lexicographic.{slice_cmp}
-use Rattle.std.specs.Ordering.{nat_cmp}
-use Rattle.std.specs.declared.cmp.Ordering.{Ordering}
-use Rattle.std.specs.declared.cmp.Ordering.TheVariants.{Less, Equal, Greater}
+use Rattle.std.proofs.Common.{◌≡◌, ◌≢◌, ◌↔◌, inl, inr, ℕ, ◌+◌, List, [], ◌∷◌, ◌++◌, map, None, Some, slice_get, Contains, refl, sym, ap, ◌∙◌, subst, arith}
+use Rattle.std.specs.Prelude.{Result, Ok, Err}
 use Rattle.std.proofs.lemmas.Bool.{cases_order}
-use Rattle.std.proofs.lemmas.Cmp.{lists_total, nat_cmp_total}
 use Rattle.std.proofs.lemmas.Option.{get_or_from_slice_get, none-some, same_Some, slice_get_within}
 use Rattle.esto_catalog.specs.declared.catalogue.Shape.{Shape}
-use Rattle.esto_catalog.specs.declared.catalogue.Shape.TheVariants.{Table, Documents, Keys}
+use Rattle.esto_catalog.specs.declared.catalogue.Shape.TheVariants.{Keys}
 use Rattle.esto_catalog.specs.declared.catalogue.Store.{Store}
 use Rattle.esto_catalog.specs.declared.dataset.Dataset.{Dataset}
-use Rattle.esto_plan.specs.Rows.{IsRowOf, held_by}
-use Rattle.esto_query.specs.declared.query.Name.{Name}
 use Rattle.esto_read.specs.declared.words.DataModel.{DataModel}
 use Rattle.esto_relmodel.specs.Once.{StandsBefore, AreEachOnce}
 use Rattle.esto_relmodel.specs.RowFacts.{row_fact, AreRowFacts}
@@ -25,23 +17,21 @@ use Rattle.esto_run.specs.Stores.{IsFileRow}
 use Rattle.esto_semantics.specs.Facts.{Database}
 use Rattle.esto_semantics.specs.Listed.{candidate}
 use Rattle.esto_semantics.specs.Queries.{ConjunctiveQuery, IsAnswer}
-use Rattle.esto_semantics.specs.Standing.{RulesStand}
 use Rattle.esto_semantics.specs.declared.fact.Fact.{Fact}
 use Rattle.esto_semantics.specs.declared.fact.Value.{Value}
 use Rattle.esto_semantics.specs.declared.fact.Value.TheVariants.{Text, Node}
 use Rattle.esto_stores.specs.KeyText.{row_fault}
 use Rattle.esto_stores.specs.Rows.{Row}
 use Rattle.esto_term.specs.declared.term.Term.{Term}
-use Rattle.esto_term.proofs.ListLemmas.{Contains-at, place-from_Contains, map_at-from}
-use Rattle.esto_fill.specs.Differences.{Agree, HoldViewRows}
-use Rattle.esto_fill.specs.Files.{nodes_in, AreReadable, IsFirstFault, AreFactsByModel, AreFactsOf, AreFactsFrom, dataset_fault}
+use Rattle.esto_term.proofs.ListLemmas.{Contains-at, map_at-from}
+use Rattle.esto_fill.specs.Differences.{HoldViewRows}
+use Rattle.esto_fill.specs.Files.{nodes_in, AreFactsByModel, AreFactsOf, AreFactsFrom, dataset_fault}
 use Rattle.esto_fill.specs.Filled.{CanHold, Fills, IsFirstUnfit, text_in, with_mark}
 use Rattle.esto_fill.specs.Laws.{FactsAreOne, FaultsAreOne, ReadableHaveNone, AnswersAreOne, JudgementsAreOne, FillsAreOne, AgreeingAnswersAreTexts, AgreeingAnswersAreOne}
-use Rattle.esto_fill.specs.Texts.{AreExactly, AreTextsOf, AreTextViews, GivesTexts, HasNodeIn, HaveTextsOnly, IsFirstNodeColumn, IsFirstNodeView, IsTextRow, JudgesViews}
+use Rattle.esto_fill.specs.Texts.{AreExactly, AreTextsOf, AreTextViews, HasNodeIn, HaveTextsOnly, IsFirstNodeColumn, IsFirstNodeView, IsTextRow}
 use Rattle.esto_fill.specs.declared.datasets.DatasetBytes.{DatasetBytes}
 use Rattle.esto_fill.specs.declared.filled.FillError.{FillError}
 use Rattle.esto_fill.specs.declared.filled.FillError.TheVariants as filled
-use Rattle.esto_fill.specs.declared.rows.AnswerError.{AnswerError}
 use Rattle.esto_fill.specs.declared.rows.AnswerError.TheVariants as answer
 use Rattle.esto_fill.proofs.FilledLemmas.{in_rows, same_texts}
 
@@ -60,7 +50,7 @@ once_one things kept others once too =
     one_list (StandsBefore things) kept others (λ x inside. before_itself things x) (λ x y inside there. before_both things x y) once.in_order too.in_order
     (λ z. ((λ inside. (too.same z).1 ((once.same z).0 inside)), (λ inside. (once.same z).1 ((too.same z).0 inside))))
 
-row_facts_one : (relation : ℕ) (rows : List Row) (facts others : List (Fact Term)) → AreRowFacts relation rows facts → AreRowFacts relation rows others
+pub row_facts_one : (relation : ℕ) (rows : List Row) (facts others : List (Fact Term)) → AreRowFacts relation rows facts → AreRowFacts relation rows others
     → facts ≡ others
 row_facts_one relation rows facts others (kept, once, is) (its, too, are) = is ∙ ap (map (row_fact relation)) (once_one rows kept its once too) ∙ sym are
 

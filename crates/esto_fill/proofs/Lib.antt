@@ -8,3 +8,4 @@ pub mod FilledLemmas
 pub mod DifferenceLemmas
 pub mod LawLemmas
 pub mod AuditLemmas
+pub mod MovedLemmas

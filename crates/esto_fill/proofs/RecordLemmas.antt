@@ -1,7 +1,8 @@
 -- The named variables of a body, each once.
-use Rattle.std.proofs.Common.{◌≡◌, ℕ, ◌≤◌, ◌<◌, ◌+◌, Bool, true, false, cond, List, [], ◌∷◌, ◌++◌, length, take, get_or, Contains, refl, sym, ap, ◌∙◌, subst, append_assoc, append-nil}
+use Rattle.std.proofs.Common.{◌≡◌, ℕ, ◌≤◌, ◌<◌, ◌+◌, Bool, true, false, cond, List, [], ◌∷◌, ◌++◌, length, take, get_or, Contains, refl, sym, ap, ◌∙◌, subst, append_assoc, append-nil, inl, inr, arith}
 use Rattle.std.specs.Prelude.{filter}
 use Rattle.std.proofs.lemmas.List.{take_more, take_all}
+use Rattle.std.proofs.lemmas.Option.{slice_get_cases}
 use Rattle.std.proofs.lemmas.List.Concat.{flat_map-append}
 use Rattle.std.proofs.lemmas.List.Elements.{filter-append}
 use Rattle.esto_query.specs.declared.query.Name.{Name}
@@ -10,10 +11,19 @@ use Rattle.esto_relmodel.proofs.OnceLemmas.{one_more}
 use Rattle.esto_semantics.specs.Facts.{terms_of}
 use Rattle.esto_semantics.specs.declared.fact.Fact.{Fact}
 use Rattle.esto_term.specs.declared.term.Term.{Term}
+use Rattle.esto_term.specs.declared.term.Term.TheVariants.{Plain, outs-Plain}
 use Rattle.esto_fill.specs.Placing.{AddsNamed}
-use Rattle.esto_fill.specs.Records.{is_named, AreNamedVariables}
+use Rattle.esto_fill.specs.Records.{is_given, is_named, is_named_kind, AreNamedVariables}
 
 module _ (names : List Name) where
+  -- ---- whether a term is named
+
+  pub unnamed_past : (term : Term) (variable : ℕ) → term ≡ Plain variable → length names ≤ variable → is_named names term ≡ false
+  unnamed_past term variable is past = ap (is_named names) is ∙ ap (is_named_kind names) (outs-Plain variable) ∙ elim (slice_get_cases names variable).1 [
+    | inl (name, within, there, read) ↦ absurd (omega (arith, within, past))
+    | inr (beyond, none) ↦ ap is_given none
+  ]
+
   -- ---- one term more
 
   adds_by : (term : Term) (named : Bool) (old new : List Term) → is_named names term ≡ named

@@ -1,14 +1,20 @@
 -- Rows of terms as rows of texts.
 use Rattle.std.proofs.Common.{◌≡◌, ◌↔◌, ◌⊎◌, inl, inr, ℕ, suc, ◌≤◌, ◌<◌, ◌+◌, min, List, [], ◌∷◌, ◌++◌, length, take, map, get_or, Option, Some, None, slice_get, Contains, refl, sym, ap, ◌∙◌, subst, arith}
-use Rattle.std.specs.Prelude.{AllPairs, Result, Ok, Err}
+use Rattle.std.specs.Prelude.{Result, Ok, Err}
 use Rattle.std.specs.Cmp.Lexicographic.{slice_cmp}
 use Rattle.std.specs.Ordering.{nat_cmp}
 use Rattle.std.specs.declared.cmp.Ordering.TheVariants.{Less}
 use Rattle.std.proofs.lemmas.List.{take_more, take_all}
 use Rattle.std.proofs.lemmas.List.Elements.{Contains-push_cases, Contains-append_left, Contains-append_right}
 use Rattle.std.proofs.lemmas.Bool.{cases_order}
+use Rattle.std.proofs.lemmas.Option.{slice_get_within}
 use Rattle.esto_query.specs.Rows.{IsAscending, row_cmp}
 use Rattle.esto_run.specs.Answers.{AreRising}
+use Rattle.esto_query.specs.Making.{query_of}
+use Rattle.esto_semantics.specs.Facts.{Database}
+use Rattle.esto_views.specs.Fragments.{views_of}
+use Rattle.esto_views.specs.declared.fragments.FragmentDef.{FragmentDef}
+use Rattle.esto_semantics.specs.Queries.{ConjunctiveQuery, IsAnswer}
 use Rattle.esto_semantics.specs.Standing.{RowsStand}
 use Rattle.esto_semantics.specs.declared.fact.Value.{Value}
 use Rattle.esto_semantics.specs.declared.fact.Value.TheVariants.{Text, Node}
@@ -17,10 +23,10 @@ use Rattle.esto_term.specs.Kinds.{IsConstant}
 use Rattle.esto_term.specs.declared.term.Term.{Term}
 use Rattle.esto_term.specs.declared.term.Term.TheVariants.{Const}
 use Rattle.esto_term.proofs.ChoiceLemmas.{pairs_cons, pairs_head, pairs_tail}
-use Rattle.esto_term.proofs.ListLemmas.{Contains-nil, Contains-cases, Contains-head, Contains-at, Contains-map, Contains-map_from, map_at, map_at-from, map_agree, map_itself, map_then}
+use Rattle.esto_term.proofs.ListLemmas.{Contains-head, Contains-at, Contains-map, Contains-map_from, map_at, map_at-from, map_agree, map_itself, map_then, place-from_Contains, HoldsBelow}
 use Rattle.esto_fill.specs.Databases.{value_of}
-use Rattle.esto_fill.specs.Placing.{text_of, IsImageOf, AreConstant, IsOpenAt, LeastOpen, lesser}
-use Rattle.esto_fill.specs.Texts.{IsTextRow, HaveTextsOnly, AreTextsOf, HasNodeIn, IsFirstNodeColumn, GivesTexts, JudgesRows}
+use Rattle.esto_fill.specs.Placing.{text_of, IsImageOf, AreConstant, IsOpenAt, LeastOpen, NamesColumn, lesser}
+use Rattle.esto_fill.specs.Texts.{HaveTextsOnly, AreTextsOf, IsFirstNodeColumn, AreTextViews, GivesTexts, JudgesRows, JudgesViews}
 use Rattle.esto_fill.specs.declared.rows.AnswerError.{AnswerError}
 use Rattle.esto_fill.specs.declared.rows.AnswerError.TheVariants.{NodeInRow, OutOfMemory}
 use Rattle.esto_fill.proofs.OrderLemmas.{ordered_as_texts}
@@ -87,6 +93,15 @@ open_more rows row (Some place) (Some other) before own = (
     least (inr (inl less)) = first (omega (arith, less))
     least (inr (inr more)) = second (omega (arith, more))
 
+pub open_next : (rows : List (List Term)) (count : ℕ) (row : List Term) (place other new : Option ℕ) → count < length rows → row ≡ get_or rows count row
+    → LeastOpen (take count rows) place → LeastOpen (row ∷ []) other → new ≡ lesser place other → LeastOpen (take (count + 1) rows) new
+open_next rows count row place other new within read before own is =
+    subst (λ those. LeastOpen those new) (sym (take_more rows count row within ∙ ap (λ last. take count rows ++ last ∷ []) (sym read)))
+    (subst (LeastOpen (take count rows ++ row ∷ [])) (sym is) (open_more (take count rows) row place other before own))
+
+pub open_all : (rows : List (List Term)) (count : ℕ) (place : Option ℕ) → length rows ≤ count → LeastOpen (take count rows) place → LeastOpen rows place
+open_all rows count place past = subst (λ those. LeastOpen those place) (take_all count rows past)
+
 -- ---- rows of constants
 
 constant_row : (row : List Term) → ((term : Term) → Contains row term → IsConstant term) → row ≡ map Const (map text_of row)
@@ -130,7 +145,7 @@ module _ (rows : List (List Term)) (constant : AreConstant rows) where
 
 -- rows of constants that ascend are texts that rise
 risen : (texts : List Row) → IsAscending (map (map Const) texts) → AreRising texts
-risen [] ascends i j d l m = absurd (omega (arith, m))
+risen [] ascends = λ i j d l m. absurd (omega (arith, m))
 risen (cells ∷ texts) ascends =
     pairs_cons (λ row other. slice_cmp (slice_cmp nat_cmp) row other ≡ Less) cells texts
     (λ other inside. sym (ordered_as_texts cells other)
@@ -198,3 +213,51 @@ images_are rows Rows Others stand same values = (
   (λ (row, inside, is). subst Others (sym is) (stand.there row ((same row).0 inside))),
   (λ other. let from = stand.back values other in (from.0, (same from.0).1 from.1, sym from.2)),
 )
+
+-- ---- what is answered
+
+pub refused : (rows : List (List Term)) (place : ℕ) (error : AnswerError) → NamesColumn place error → LeastOpen rows (Some place)
+    → GivesTexts (IsImageOf rows) (Err error)
+refused rows place (NodeInRow column) counted open_ = first_node rows place column counted open_
+refused rows place OutOfMemory counted open_ = tt
+
+pub unjudged : (rows : List (List Term)) (place : ℕ) (error : AnswerError) → NamesColumn place error → LeastOpen rows (Some place)
+    → JudgesRows (IsImageOf rows) (Err error)
+unjudged rows place (NodeInRow column) counted open_ = first_node rows place column counted open_
+unjudged rows place OutOfMemory counted open_ = tt
+
+-- the views so far are of texts alone, and at this one a row holds a node
+pub first_view : (views : List ConjunctiveQuery) (database : Database) (number : ℕ) (view : ConjunctiveQuery) (error : AnswerError)
+    → slice_get views number ≡ Some view → JudgesRows (IsAnswer view database) (Err error)
+    → ((earlier : ℕ) (other : ConjunctiveQuery) → earlier < number → slice_get views earlier ≡ Some other → HaveTextsOnly (IsAnswer other database))
+    → JudgesViews views database (Err error)
+first_view views database number view (NodeInRow column) there first before =
+    record { number = number; view = view; there = there; first = first; before = before }
+first_view views database number view OutOfMemory there first before = tt
+
+-- a place that is not there is none
+pub none_is : (rows : List (List Term)) (place : Option ℕ) → ((it : ℕ) → place ≡ Some it → ⊥) → LeastOpen rows place → LeastOpen rows None
+none_is rows None apart open_ = open_
+none_is rows (Some place) apart open_ = absurd (apart place refl)
+
+-- ---- all views
+
+module _ (fragments items : List FragmentDef) (database : Database) (listed_ : items ≡ fragments) where
+  -- the rows of the views of the first few fragments are of texts alone
+  abbrev pub AreTextsBelow : ℕ → Type 0
+  AreTextsBelow count = HoldsBelow (λ _ (fragment : FragmentDef). HaveTextsOnly (IsAnswer (query_of fragment.view) database)) items count
+
+  pub views_before : (count : ℕ) → AreTextsBelow count → (earlier : ℕ) (view : ConjunctiveQuery) → earlier < count
+      → slice_get (views_of fragments) earlier ≡ Some view → HaveTextsOnly (IsAnswer view database)
+  views_before count below earlier view less there =
+      let from = map_at-from (λ (its : FragmentDef). query_of its.view) fragments earlier view there in
+      subst (λ it. HaveTextsOnly (IsAnswer it database)) from.2 (below earlier from.0 less (ap (λ those. slice_get those earlier) listed_ ∙ from.1))
+
+  pub all_texts : (count : ℕ) → length items ≤ count → AreTextsBelow count → AreTextViews (views_of fragments) database
+  all_texts count past below view inside =
+      let from = Contains-map_from (λ (its : FragmentDef). query_of its.view) fragments view inside in
+      let at = place-from_Contains fragments from.0 from.1 in
+      let within = slice_get_within fragments at.0 from.0 at.1 in
+      let same = ap length listed_ in
+      subst (λ it. HaveTextsOnly (IsAnswer it database)) from.2
+      (below at.0 from.0 (omega (arith, within, same, past)) (ap (λ those. slice_get those at.0) listed_ ∙ at.1))

@@ -1,18 +1,15 @@
 -- The values of terms and the texts of constants, and databases that stand for facts over constants and plain terms.
-use Rattle.std.proofs.Common.{◌≡◌, ◌⊎◌, inl, inr, ℕ, List, [], ◌∷◌, map, refl, sym, ap, ◌∙◌}
+use Rattle.std.proofs.Common.{◌≡◌, ◌⊎◌, inl, inr, ℕ, List, map, refl, sym, ap, ◌∙◌}
 use Rattle.std.proofs.Math.Logic.{∥∥₁_elim}
-use Rattle.esto_semantics.specs.Facts.{Mentions}
 use Rattle.esto_semantics.specs.Maps.{AreFlat}
-use Rattle.esto_semantics.specs.Standing.{Stands}
 use Rattle.esto_semantics.specs.declared.fact.Fact.{Fact}
-use Rattle.esto_semantics.specs.declared.fact.Value.{Value}
 use Rattle.esto_semantics.specs.declared.fact.Value.TheVariants.{Text, Node}
 use Rattle.esto_semantics.proofs.TermLemmas.{term_cases, flat-apart-Made, Const-apart-Plain, Const-apart-Made}
 use Rattle.esto_term.specs.Kinds.{IsConstant, IsFlat}
 use Rattle.esto_term.specs.declared.term.Term.{Term}
 use Rattle.esto_term.specs.declared.term.Term.TheVariants.{Const, Plain, Made, outs-Const, outs-Plain, outs-Made}
-use Rattle.esto_term.proofs.ListLemmas.{Contains-head, Contains-rest, map_then, map_agree, map_itself}
-use Rattle.esto_fill.specs.Databases.{value_by_kind, value_of, database_of}
+use Rattle.esto_term.proofs.ListLemmas.{map_then, map_agree, map_itself}
+use Rattle.esto_fill.specs.Databases.{value_by_kind, value_of}
 use Rattle.esto_fill.specs.Laws.{FactsStand}
 use Rattle.esto_fill.specs.Placing.{text_by_kind, text_of}
 

@@ -1,5 +1,5 @@
 -- What laws on datasets' facts and fragments' rows say.
-use Rattle.std.specs.Prelude.{◌≡◌, ◌≢◌, ◌↔◌, ℕ, Bool, List, map, Contains, Option, Result, Ok, Err}
+use Rattle.std.specs.Prelude.{◌≡◌, ◌≢◌, ◌↔◌, ℕ, Bool, List, map, Contains, Option, Result, Err}
 use Rattle.esto_catalog.specs.declared.catalogue.Shape.{Shape}
 use Rattle.esto_catalog.specs.declared.catalogue.Store.{Store}
 use Rattle.esto_catalog.specs.declared.dataset.Dataset.{Dataset}
@@ -25,7 +25,7 @@ use Rattle.esto_fill.specs.Differences.{Agree, Audits}
 use Rattle.esto_fill.specs.Files.{AreApart, AreFactsFrom, AreReadable, HasRelation, IsFirstFault}
 use Rattle.esto_fill.specs.Filled.{Fills}
 use Rattle.esto_fill.specs.Texts.{AreTextsOf, GivesTexts, HaveTextsOnly, JudgesViews}
-use Rattle.esto_fill.specs.declared.audit.Difference.{Difference}
+use Rattle.esto_fill.specs.declared.auditing.Difference.{Difference}
 use Rattle.esto_fill.specs.declared.datasets.DatasetBytes.{DatasetBytes}
 use Rattle.esto_fill.specs.declared.filled.FillError.{FillError}
 use Rattle.esto_fill.specs.declared.filled.FillError.TheVariants as filled

@@ -1,5 +1,5 @@
 -- For private clauses: rows of terms that become rows of texts, and lists of rows that are compared.
-use Rattle.std.specs.Prelude.{◌≡◌, ◌≢◌, ℕ, ◌≤◌, min, List, [], ◌∷◌, ◌++◌, filter, map, slice_get, Contains, Option, Some, None, Result, Ok, Err}
+use Rattle.std.specs.Prelude.{◌≡◌, ◌≢◌, ℕ, ◌+◌, ◌≤◌, min, List, [], ◌++◌, filter, map, slice_get, Contains, Option, Some, None, Result, Ok, Err}
 use Rattle.std.specs.declared.cmp.Ordering.TheVariants.{Greater}
 use Rattle.esto_catalog.specs.declared.catalogue.Shape.{Shape}
 use Rattle.esto_catalog.specs.declared.catalogue.Shape.TheVariants.{Keys}
@@ -11,13 +11,14 @@ use Rattle.esto_stores.specs.Rows.{Row}
 use Rattle.esto_term.specs.Kinds.{IsConstant}
 use Rattle.esto_term.specs.declared.term.Term.{Term, out-Term}
 use Rattle.esto_term.specs.declared.term.Term.TheOpen.{Term-F}
-use Rattle.esto_term.specs.declared.term.Term.TheVariants.{Const}
 use Rattle.esto_fill.specs.Databases.{value_of}
 use Rattle.esto_fill.specs.Differences.{IsInOne}
 use Rattle.esto_fill.specs.Filled.{CanHold, IsFirstUnfit, text_in}
 use Rattle.esto_fill.specs.Records.{is_named}
 use Rattle.esto_fill.specs.declared.apart.Apart.{Apart}
 use Rattle.esto_fill.specs.declared.apart.Apart.TheVariants.{Missing, Extra}
+use Rattle.esto_fill.specs.declared.rows.AnswerError.{AnswerError}
+use Rattle.esto_fill.specs.declared.rows.AnswerError.TheVariants as answer
 use Rattle.esto_fill.specs.declared.filled.FillError.{FillError}
 use Rattle.esto_fill.specs.declared.filled.FillError.TheVariants.{NodeInRow, KeyText, OutOfMemory}
 
@@ -55,6 +56,11 @@ abbrev pub lesser : Option ℕ → Option ℕ → Option ℕ
 lesser None other = other
 lesser (Some place) None = Some place
 lesser (Some place) (Some other) = Some (min place other)
+
+-- The error names the column of the place, counted from 1; or memory is wanting.
+abbrev pub NamesColumn : ℕ → AnswerError → Type 0
+NamesColumn place (answer.NodeInRow column) = column ≡ place + 1
+NamesColumn place answer.OutOfMemory = Unit {0}
 
 -- ---- the text of rows
 

@@ -22,6 +22,5 @@ pub fn answer(alloc: Global, query: &Query, loaded: &Loaded) -> Result<TextRows,
     loaded_facts_are_flat();
     queries_are_sound();
     let rows = answers(alloc, query, &loaded.facts)?;
-    let texts = texts_of(alloc, &rows)?;
-    Ok(texts)
+    texts_of(alloc, &rows)
 }

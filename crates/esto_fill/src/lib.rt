@@ -5,7 +5,7 @@
 
 mod answering;
 mod apart;
-mod audit;
+mod auditing;
 mod datasets;
 mod filled;
 mod laws;
@@ -15,7 +15,7 @@ mod rows;
 mod views;
 
 pub use answering::answer;
-pub use audit::{Difference, TextRowsList, audit};
+pub use auditing::{Difference, TextRowsList, audit};
 pub use datasets::{DatasetBytes, LoadError, LoadList, dataset_facts, load_dataset};
 pub use filled::{FillError, fill};
 pub use laws::{

@@ -67,7 +67,9 @@ fn put_variable(
     if has_term(variables.items(), term) {
         return Ok(());
     }
-    variables.push(term.copy(alloc)?)
+    let own = term.copy(alloc)?;
+    variables.push(own)?;
+    Ok(())
 }
 
 // Puts the variables among the terms that have a given name at the end, each that isn't there, once.

@@ -1,7 +1,7 @@
 //! Rows of terms as rows of texts.
-ghost use Rattle.std.specs.Prelude.{◌≡◌, [], ◌∷◌, map, IfOk};
+ghost use Rattle.std.specs.Prelude.{◌≡◌, ◌+◌, [], ◌∷◌, map, IfOk};
 ghost use Rattle.esto_query.specs.Rows.{IsAscending};
-ghost use Rattle.esto_fill.specs.Placing.{text_of, IsImageOf, LeastOpen, lesser};
+ghost use Rattle.esto_fill.specs.Placing.{text_of, IsImageOf, LeastOpen, NamesColumn, lesser};
 ghost use Rattle.esto_fill.specs.Texts.{GivesTexts};
 ghost use Rattle.esto_fill.specs.declared.rows.AnswerError.TheVariants as answer;
 
@@ -93,13 +93,34 @@ fn text_rows(alloc: Global, rows: &[Terms]) -> Result<TextRows, OutOfMemory>
     Ok(texts)
 }
 
+/// The number, counted from 1, of what stands at the place, counted from 0. Want of memory is answered for the greatest
+/// place, at which nothing stands.
+pub fn counted(place: usize) -> Result<u64, OutOfMemory>
+    ensures { IfOk result (λ it. it ≡ place + 1) }
+{
+    match (place as u64).checked_add(1) {
+        Some(it) => Ok(it),
+        None => Err(OutOfMemory),
+    }
+}
+
+/// The refusal of rows of which one has another term than a constant in that place, counted from 0.
+pub fn node_at(place: usize) -> AnswerError
+    ensures { NamesColumn place result }
+{
+    match counted(place) {
+        Ok(column) => AnswerError::NodeInRow(column),
+        Err(_) => AnswerError::OutOfMemory,
+    }
+}
+
 /// The rows of terms as texts, in order, or the least column in which one of them has another term than a constant.
 pub fn texts_of(alloc: Global, rows: &TermRows) -> Result<TextRows, AnswerError>
     requires { IsAscending rows.now }
     ensures { GivesTexts (IsImageOf rows.now) result }
 {
     if let Some(place) = least_open(rows.items()) {
-        return Err(AnswerError::NodeInRow(place as u64 + 1));
+        return Err(node_at(place));
     }
     let texts = text_rows(alloc, rows.items())?;
     Ok(texts)

@@ -8,7 +8,7 @@ ghost use Rattle.esto_fill.specs.Texts.{JudgesRows, JudgesViews};
 
 use crate::laws::{facts_stand_as_databases, loaded_facts_are_flat};
 use crate::loaded::Loaded;
-use crate::rows::{AnswerError, least_open};
+use crate::rows::{AnswerError, least_open, node_at};
 use esto_catalog::Catalogue;
 use esto_query::{IndexedFacts, Query, queries_are_sound};
 use esto_semantics::databases_stand_for_facts;
@@ -24,7 +24,7 @@ fn judge_view(alloc: Global, view: &Query, facts: &IndexedFacts) -> Result<(), A
     queries_are_sound();
     let rows = facts.answers(alloc, view)?;
     match least_open(rows.items()) {
-        Some(place) => Err(AnswerError::NodeInRow(place as u64 + 1)),
+        Some(place) => Err(node_at(place)),
         None => Ok(()),
     }
 }
@@ -38,7 +38,10 @@ pub fn audit_views(alloc: Global, catalogue: &Catalogue, loaded: &Loaded) -> Res
     loaded_facts_are_flat();
     let facts = IndexedFacts::of(alloc, &loaded.facts)?;
     'fragments: for fragment in catalogue.fragments.items() {
-        judge_view(alloc, &fragment.view, &facts)?;
+        match judge_view(alloc, &fragment.view, &facts) {
+            Ok(()) => {}
+            Err(error) => return Err(error),
+        }
     }
     Ok(())
 }

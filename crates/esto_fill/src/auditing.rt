@@ -16,7 +16,7 @@ use crate::apart::{Apart, first_apart, ordered_rows};
 use crate::laws::{facts_stand_as_databases, loaded_facts_are_flat};
 use crate::loaded::Loaded;
 use crate::record::record_of;
-use crate::rows::text_row;
+use crate::rows::{counted, text_row};
 use esto_catalog::Catalogue;
 use esto_constraint::{Broken, Rules, least_active_matches_are_least, meets, rules_are_sound};
 use esto_query::{Facts, IndexedFacts, queries_are_sound};
@@ -74,7 +74,8 @@ fn broken_rule(
     };
     let rule = rules.item(broken.rule);
     let cells = record_of(alloc, rule, &broken.found.valuation)?;
-    Ok(Some(Difference::Rule(broken.rule as u64 + 1, cells)))
+    let number = counted(broken.rule)?;
+    Ok(Some(Difference::Rule(number, cells)))
 }
 
 // The least row that is in the view's rows or in the fragment's and not in both. None comes exactly where they are the same.
