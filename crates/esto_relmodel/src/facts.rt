@@ -16,8 +16,8 @@ fn constant(alloc: Global, cell: &Text) -> Result<Term, OutOfMemory>
     Ok(Term::Const(cell.copy(alloc)?))
 }
 
-/// The constants of the cells.
-fn constants(alloc: Global, cells: &[Text]) -> Result<Terms, OutOfMemory>
+/// The constants of the cells, in order.
+pub fn constants(alloc: Global, cells: &[Text]) -> Result<Terms, OutOfMemory>
     ensures { IfOk result (λ it. it ≡ map Const cells.now) }
 {
     let mut terms = List::new(alloc);

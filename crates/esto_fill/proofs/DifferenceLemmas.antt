@@ -1,0 +1,298 @@
+-- An audit: the rules, the rows of one fragment, and those of all.
+use Rattle.std.proofs.Common.{◌≡◌, ◌↔◌, inl, inr, ℕ, zero, suc, ◌≤◌, ◌<◌, ◌+◌, List, [], ◌∷◌, length, take, map, Option, None, Some, true, false, slice_get, Contains, refl, sym, ap, ◌∙◌, subst, arith}
+use Rattle.std.specs.Option.{is_some}
+use Rattle.std.proofs.lemmas.Bool.{cases_order}
+use Rattle.std.proofs.lemmas.List.{get_or_past, length-map}
+use Rattle.std.proofs.lemmas.Option.{get_or_from_slice_get, same_Some, slice_get_cases, slice_get_within}
+use Rattle.esto_constraint.specs.Constraints.{rule_of, rules_of}
+use Rattle.esto_constraint.specs.EncodingRules.{written}
+use Rattle.esto_constraint.specs.Matches.{AreMet, IsFirstBroken as IsFirstUnmet, LeastActiveIsLeast}
+use Rattle.esto_constraint.specs.declared.rule.Constraint.{Constraint}
+use Rattle.esto_plan.specs.Rows.{IsRowOf, held_by}
+use Rattle.esto_query.specs.Making.{query_of}
+use Rattle.esto_query.specs.Rows.{row_cmp}
+use Rattle.esto_query.specs.Valuations.{Assignment, map_of}
+use Rattle.esto_query.specs.declared.query.Name.{Name}
+use Rattle.esto_semantics.specs.Facts.{Database}
+use Rattle.esto_semantics.specs.Queries.{ConjunctiveQuery, IsAnswer}
+use Rattle.esto_semantics.specs.Rules.{Rule, IsRule, AreRules, body_of, Meets}
+use Rattle.esto_semantics.specs.Standing.{Stands, RulesStand}
+use Rattle.esto_semantics.specs.Views.{IsViewRow}
+use Rattle.esto_semantics.specs.declared.fact.Fact.{Fact}
+use Rattle.esto_semantics.specs.declared.fact.Value.{Value}
+use Rattle.esto_semantics.specs.declared.fact.Value.TheVariants.{Text}
+use Rattle.esto_stores.specs.Rows.{Row}
+use Rattle.esto_term.specs.declared.term.Term.{Term}
+use Rattle.esto_term.specs.declared.term.Term.TheVariants.{Const}
+use Rattle.esto_term.proofs.ListLemmas.{Contains-at, Contains-cases, Contains-head, Contains-map, Contains-map_from, Contains-nil, Contains-rest, map_at}
+use Rattle.esto_views.specs.Fragments.{views_of}
+use Rattle.esto_views.specs.declared.fragments.FragmentDef.{FragmentDef}
+use Rattle.esto_fill.specs.Databases.{value_of, database_of}
+use Rattle.esto_fill.specs.Differences.{AreOne, Audits, HoldViewRows, IsFirstBroken, IsInOne, IsLeastApart, IsOfView, at}
+use Rattle.esto_fill.specs.Judging.{IsText, JudgesFragment, JudgesFragments, JudgesRules}
+use Rattle.esto_fill.specs.Placing.{IsApart, IsApartAt, IsImageOf, text_of}
+use Rattle.esto_fill.specs.Records.{IsRecordOf}
+use Rattle.esto_fill.specs.Texts.{AreTextViews, HaveTextsOnly}
+use Rattle.esto_fill.specs.declared.apart.Apart.TheVariants as apart
+use Rattle.esto_fill.specs.declared.auditing.Difference.{Difference}
+use Rattle.esto_fill.specs.declared.auditing.Difference.TheVariants.{Rule as Broken, Missing, Extra}
+use Rattle.esto_fill.proofs.OrderLemmas.{ordered_as_texts}
+use Rattle.esto_fill.proofs.TextLemmas.{row_of_texts}
+use Rattle.esto_fill.proofs.ValueLemmas.{map_text, map_value}
+
+-- ---- the rules
+
+module _ (stand : RulesStand) (facts : List (Fact Term)) (stands : Stands facts value_of (database_of facts)) where
+  -- what the facts meet, the database meets
+  pub met_meets : (rules : List Rule) → AreRules rules → AreMet facts rules → Meets rules (database_of facts)
+  met_meets rules are met rule inside = (stand facts value_of (database_of facts) rule stands (are rule inside)).0 (met rule inside)
+
+  pub meets_met : (rules : List Rule) → AreRules rules → Meets rules (database_of facts) → AreMet facts rules
+  meets_met rules are meets rule inside = (stand facts value_of (database_of facts) rule stands (are rule inside)).1 (meets rule inside)
+
+-- each rule of a catalogue is one
+pub are_rules : (each : (constraint : Constraint) → IsRule (rule_of constraint)) (rules : List Constraint) → AreRules (rules_of rules)
+are_rules each rules rule inside = let from = Contains-map_from rule_of rules rule inside in subst IsRule from.2 (each from.0)
+
+Contains-take : {X : Type 0} (xs : List X) (count : ℕ) (x : X) → Contains (take count xs) x → Contains xs x
+Contains-take [] zero x inside = inside
+Contains-take [] (suc count) x inside = inside
+Contains-take (first ∷ xs) zero x inside = absurd (Contains-nil x inside)
+Contains-take (first ∷ xs) (suc count) x inside = elim (Contains-cases first (take count xs) x inside) [
+  | inl is ↦ subst (Contains (first ∷ xs)) is (Contains-head first xs)
+  | inr later ↦ Contains-rest first xs x (Contains-take xs count x later)
+]
+
+pub first_rules : (rules : List Rule) (count : ℕ) → AreRules rules → AreRules (take count rules)
+first_rules rules count are rule inside = are rule (Contains-take rules count rule inside)
+
+pub rule_broken : (stand : RulesStand) (least : LeastActiveIsLeast) (facts : List (Fact Term)) (stands : Stands facts value_of (database_of facts))
+    (rules : List Constraint) (are : AreRules (rules_of rules)) (place number : ℕ) (constraint : Constraint) (valuation : Assignment) (places : List ℕ)
+    (cells : Row) → number ≡ place + 1 → slice_get rules place ≡ Some constraint → IsFirstUnmet (rules_of rules) facts place valuation places
+    → IsRecordOf (written constraint) (body_of (rule_of constraint)) (map_of valuation) cells
+    → IsFirstBroken (rules_of rules) (map written rules) facts number cells
+rule_broken stand least facts stands rules are place number constraint valuation places cells counted there broken shown =
+    let same : rule_of constraint ≡ broken.rule = same_Some (rule_of constraint) broken.rule (sym (map_at rule_of rules place constraint there) ∙ broken.there) in
+    let active = least broken.rule facts valuation places broken.active in
+    record {
+      place = place;
+      counted = omega (arith, counted);
+      rule = broken.rule;
+      there = broken.there;
+      own = written constraint;
+      named = map_at written rules place constraint there;
+      m = map_of valuation;
+      places = places;
+      active = active.0;
+      least = active.1;
+      before = met_meets stand facts stands (take place (rules_of rules)) (first_rules (rules_of rules) place are) broken.before;
+      shown = subst (λ rule. IsRecordOf (written constraint) (body_of rule) (map_of valuation) cells) same shown;
+    }
+
+-- ---- two sets of rows of texts, by lists of rows of constants
+
+-- rows of constants are the same where their texts are
+constants_same : (cells others : Row) → map Const cells ≡ map Const others → cells ≡ others
+constants_same cells others same = sym (map_text cells) ∙ ap (map text_of) same ∙ map_text others
+
+module _ (One Other : Row → Type 0) (ones others : List (List Term)) (in_one : (cells : Row) → One cells ↔ Contains ones (map Const cells))
+    (in_other : (cells : Row) → Other cells ↔ Contains others (map Const cells)) where
+  pub same_sets : AreOne (Contains ones) (Contains others) → AreOne One Other
+  same_sets same cells = (
+    (λ inside. (in_other cells).1 ((same (map Const cells)).0 ((in_one cells).0 inside))),
+    (λ inside. (in_one cells).1 ((same (map Const cells)).1 ((in_other cells).0 inside))),
+  )
+
+  in_either : (cells : Row) → IsInOne One Other cells → IsInOne (Contains ones) (Contains others) (map Const cells)
+  in_either cells (inl (inside, apart)) = inl ((in_one cells).0 inside, λ there. apart ((in_other cells).1 there))
+  in_either cells (inr (inside, apart)) = inr ((in_other cells).0 inside, λ there. apart ((in_one cells).1 there))
+
+  pub least_texts : (row : List Term) (cells : Row) → row ≡ map Const cells → IsApart ones others row → IsLeastApart One Other cells
+  least_texts row cells is apart = record {
+    inside = (in_one cells).1 (subst (Contains ones) is apart.inside);
+    outside = λ inside. apart.outside (subst (Contains others) (sym is) ((in_other cells).0 inside));
+    least = λ other differs more. apart.least (map Const other) (in_either other differs)
+        (ap (λ it. row_cmp it (map Const other)) is ∙ ordered_as_texts cells other ∙ more);
+  }
+
+-- ---- one fragment
+
+module _ (Rows : List Value → Type 0) (own : List (List Term)) (images : (values : List Value) → IsImageOf own values ↔ Rows values) where
+  pub in_view : (cells : Row) → IsText Rows cells ↔ Contains own (map Const cells)
+  in_view cells = (
+    (λ there. let from = (images (map Text cells)).1 there in subst (Contains own) (row_of_texts from.0 cells (sym from.2)) from.1),
+    (λ inside. subst Rows (map_value cells) ((images (map value_of (map Const cells))).0 (map Const cells, inside, refl))),
+  )
+
+  pub view_texts : HaveTextsOnly Rows → (row : List Term) → Contains own row → row ≡ map Const (map text_of row)
+  view_texts texts row inside =
+      let found = texts (map value_of row) ((images (map value_of row)).0 (row, inside, refl)) in
+      let is = row_of_texts row found.0 found.1 in
+      is ∙ ap (map Const) (sym (map_text found.0) ∙ ap (map text_of) (sym is))
+
+module _ (rows : List Row) (held : List (List Term)) (same : (row : List Term) → Contains held row ↔ Contains (map (map Const) rows) row) where
+  pub in_file : (cells : Row) → Contains rows cells ↔ Contains held (map Const cells)
+  in_file cells = (
+    (λ inside. (same (map Const cells)).1 (Contains-map (map Const) rows cells inside)),
+    (λ inside. let from = Contains-map_from (map Const) rows (map Const cells) ((same (map Const cells)).0 inside) in
+        subst (Contains rows) (constants_same from.0 cells from.2) from.1),
+  )
+
+  pub file_texts : (row : List Term) → Contains held row → row ≡ map Const (map text_of row)
+  file_texts row inside =
+      let from = Contains-map_from (map Const) rows row ((same row).0 inside) in
+      sym from.2 ∙ ap (map Const) (sym (map_text from.0) ∙ ap (map text_of) from.2)
+
+-- ---- the least row, by its place
+
+module _ (Rows : List Value → Type 0) (own : List (List Term)) (images : (values : List Value) → IsImageOf own values ↔ Rows values)
+    (texts : HaveTextsOnly Rows) (rows : List Row) (held : List (List Term))
+    (same : (row : List Term) → Contains held row ↔ Contains (map (map Const) rows) row) (place : ℕ) (row : List Term) (cells : Row)
+    (is : cells ≡ map text_of row) where
+  pub missing_least : slice_get own place ≡ Some row → IsApartAt own held (apart.Missing place) → IsLeastApart (IsText Rows) (Contains rows) cells
+  missing_least there (found, at_place, is_apart) =
+      let one : found ≡ row = same_Some found row (sym at_place ∙ there) in
+      subst (IsLeastApart (IsText Rows) (Contains rows)) (sym is)
+      (least_texts (IsText Rows) (Contains rows) own held (in_view Rows own images) (in_file rows held same) row (map text_of row)
+      (view_texts Rows own images texts row (Contains-at own place row there)) (subst (IsApart own held) one is_apart))
+
+  pub extra_least : slice_get held place ≡ Some row → IsApartAt own held (apart.Extra place) → IsLeastApart (Contains rows) (IsText Rows) cells
+  extra_least there (found, at_place, is_apart) =
+      let one : found ≡ row = same_Some found row (sym at_place ∙ there) in
+      subst (IsLeastApart (Contains rows) (IsText Rows)) (sym is)
+      (least_texts (Contains rows) (IsText Rows) held own (in_file rows held same) (in_view Rows own images) row (map text_of row)
+      (file_texts rows held same row (Contains-at held place row there)) (subst (IsApart held own) one is_apart))
+
+-- ---- sets that are the same
+
+module _ (One Other Ones Others : Row → Type 0) (same : AreOne One Ones) (too : AreOne Other Others) where
+  either_same : (row : Row) → IsInOne Ones Others row → IsInOne One Other row
+  either_same row (inl (inside, apart)) = inl ((same row).1 inside, λ there. apart ((too row).0 there))
+  either_same row (inr (inside, apart)) = inr ((too row).1 inside, λ there. apart ((same row).0 there))
+
+  pub apart_same : (row : Row) → IsLeastApart One Other row → IsLeastApart Ones Others row
+  apart_same row apart = record {
+    inside = (same row).0 apart.inside;
+    outside = λ there. apart.outside ((too row).1 there);
+    least = λ other differs. apart.least other (either_same other differs);
+  }
+
+-- ---- all fragments
+
+module _ (fragments : List FragmentDef) (database : Database) (rows : List (List Row)) where
+  abbrev its_views : List ConjunctiveQuery
+  its_views = views_of fragments
+
+  abbrev its_names : List (List ℕ)
+  its_names = map (λ (fragment : FragmentDef). fragment.name) fragments
+
+  abbrev OfView : ℕ → Row → Type 0
+  OfView = IsOfView its_views database
+
+  abbrev OfFile : ℕ → Row → Type 0
+  OfFile number row = IsRowOf (held_by rows) (at number row)
+
+  -- each fragment before the number has the rows of its view
+  abbrev pub AreOneBelow : ℕ → Type 0
+  AreOneBelow count = (number : ℕ) → number < count → AreOne (OfView number) (OfFile number)
+
+  pub none_below : AreOneBelow 0
+  none_below number below = absurd (omega (arith, below))
+
+  module _ (number : ℕ) (fragment : FragmentDef) (held : List Row) (there : slice_get fragments number ≡ Some fragment)
+      (rows_there : slice_get rows number ≡ Some held) where
+    abbrev OwnRows : List Value → Type 0
+    OwnRows = IsAnswer (query_of fragment.view) database
+
+    view_at : slice_get its_views number ≡ Some (query_of fragment.view)
+    view_at = map_at (λ (its : FragmentDef). query_of its.view) fragments number fragment there
+
+    of_view : AreOne (IsText OwnRows) (OfView number)
+    of_view row = (
+      (λ answer. (query_of fragment.view, view_at, answer)),
+      (λ (view, is, answer). subst (λ it. IsAnswer it database (map Text row)) (same_Some view (query_of fragment.view) (sym is ∙ view_at)) answer),
+    )
+
+    of_file : AreOne (Contains held) (OfFile number)
+    of_file row =
+        let is = get_or_from_slice_get rows number held [] rows_there in (
+          (λ inside. subst (λ those. Contains those row) (sym is) inside),
+          (λ inside. subst (λ those. Contains those row) is inside),
+        )
+
+    pub one_more : JudgesFragment fragment.name OwnRows held None → AreOneBelow number → AreOneBelow (number + 1)
+    one_more same before other below = elim (cases_order other number) [
+      | inl is ↦ subst (λ n. AreOne (OfView n) (OfFile n)) (sym is) (λ row. (
+        (λ inside. (of_file row).0 ((same row).0 ((of_view row).1 inside))),
+        (λ inside. (of_view row).0 ((same row).1 ((of_file row).1 inside))),
+      ))
+      | inr (inl less) ↦ before other less
+      | inr (inr more) ↦ absurd (omega (arith, more, below))
+    ]
+
+    named : (name : List ℕ) → name ≡ fragment.name → slice_get its_names number ≡ Some name
+    named name is = map_at (λ (its : FragmentDef). its.name) fragments number fragment there ∙ ap Some (sym is)
+
+    pub first_apart : (difference : Difference) → JudgesFragment fragment.name OwnRows held (Some difference) → AreOneBelow number
+        → JudgesFragments its_names its_views database rows (Some difference)
+    first_apart (Broken _ _) judged before = absurd judged
+    first_apart (Missing name row) (is, apart) before = record {
+      number = number;
+      named = named name is;
+      apart = apart_same (IsText OwnRows) (Contains held) (OfView number) (OfFile number) of_view of_file row apart;
+      before = before;
+    }
+    first_apart (Extra name row) (is, apart) before = record {
+      number = number;
+      named = named name is;
+      apart = apart_same (Contains held) (IsText OwnRows) (OfFile number) (OfView number) of_file of_view row apart;
+      before = λ earlier less row. ((before earlier less row).1, (before earlier less row).0);
+    }
+
+    pub apart_option : (outcome : Option Difference) → is_some outcome ≡ true → JudgesFragment fragment.name OwnRows held outcome → AreOneBelow number
+        → JudgesFragments its_names its_views database rows outcome
+    apart_option None some judged before = absurd (cc)
+    apart_option (Some difference) some judged before = first_apart difference judged before
+
+    pub one_option : (outcome : Option Difference) → is_some outcome ≡ false → JudgesFragment fragment.name OwnRows held outcome → AreOneBelow number
+        → AreOneBelow (number + 1)
+    one_option None none judged before = one_more judged before
+    one_option (Some difference) none judged before = absurd (cc)
+
+  pub all_one : length rows ≡ length fragments → AreTextViews its_views database → (count : ℕ) → length fragments ≤ count → AreOneBelow count
+      → HoldViewRows its_views database (IsRowOf (held_by rows))
+  all_one many texts count past before fact = (there, back)
+    where
+      there : IsViewRow its_views database fact → (row : Row) × IsRowOf (held_by rows) (at fact.relation row) × (fact.terms ≡ map Text row)
+      there (view, is, answer) =
+          let found = texts view (Contains-at its_views fact.relation view is) fact.terms answer in
+          let within = slice_get_within its_views fact.relation view is in
+          let long = length-map fragments (λ (its : FragmentDef). query_of its.view) in
+          let below : fact.relation < count = omega (arith, within, long, past) in
+          (found.0, (before fact.relation below found.0).0 (view, is, subst (IsAnswer view database) found.1 answer), found.1)
+
+      back : (row : Row) × IsRowOf (held_by rows) (at fact.relation row) × (fact.terms ≡ map Text row) → IsViewRow its_views database fact
+      back (row, inside, is) = elim (slice_get_cases rows fact.relation).1 [
+        | inl (held, within, found, read) ↦
+            let below : fact.relation < count = omega (arith, within, many, past) in
+            let own = (before fact.relation below row).1 inside in
+            (own.0, own.1, subst (IsAnswer own.0 database) (sym is) own.2)
+        | inr (beyond, none) ↦ absurd (Contains-nil row (subst (λ those. Contains those row) (get_or_past rows fact.relation [] beyond) inside))
+      ]
+
+-- ---- the audit
+
+pub audited_rule : (rules : List Rule) (own : List (List Name)) (names : List (List ℕ)) (views : List ConjunctiveQuery) (facts : List (Fact Term))
+    (Holds : Fact (List ℕ) → Type 0) (difference : Difference) → JudgesRules rules own facts (Some difference)
+    → Audits rules own names views facts Holds (Some difference)
+audited_rule rules own names views facts Holds (Broken number cells) judged = judged
+audited_rule rules own names views facts Holds (Missing name row) judged = absurd judged
+audited_rule rules own names views facts Holds (Extra name row) judged = absurd judged
+
+pub audited : (rules : List Rule) (own : List (List Name)) (names : List (List ℕ)) (views : List ConjunctiveQuery) (facts : List (Fact Term))
+    (rows : List (List Row)) (outcome : Option Difference) → JudgesRules rules own facts None → JudgesFragments names views (database_of facts) rows outcome
+    → Audits rules own names views facts (IsRowOf (held_by rows)) outcome
+audited rules own names views facts rows None meets judged = record { meets = meets; rows = judged }
+audited rules own names views facts rows (Some (Broken number cells)) meets judged = absurd judged
+audited rules own names views facts rows (Some (Missing name row)) meets judged = (meets, judged)
+audited rules own names views facts rows (Some (Extra name row)) meets judged = (meets, judged)

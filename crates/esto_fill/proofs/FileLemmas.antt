@@ -1,0 +1,199 @@
+-- The facts of datasets' files.
+use Rattle.std.proofs.Common.{◌≡◌, inl, inr, ℕ, suc, ◌≤◌, ◌<◌, ◌+◌, List, [], ◌∷◌, ◌++◌, length, take, get_or, Option, None, Some, slice_get, Contains, refl, sym, ap, ◌∙◌, subst, append_assoc, append-nil, arith}
+use Rattle.std.proofs.lemmas.List.{take_more, take_all}
+use Rattle.std.proofs.lemmas.List.Elements.{Contains-append_cases}
+use Rattle.std.specs.Prelude.{Ok}
+use Rattle.std.proofs.lemmas.Option.{slice_get_within}
+use Rattle.esto_catalog.specs.declared.dataset.Dataset.{Dataset}
+use Rattle.esto_docmodel.specs.DocumentFacts.{DocFact, value, below, row_of, flat}
+use Rattle.esto_docmodel.specs.Encodings.{size, entering, belows, holding, facts_from, facts_of}
+use Rattle.esto_docmodel.specs.Shapes.{documents}
+use Rattle.esto_docmodel.specs.declared.encode.Encoded.{Encoded}
+use Rattle.esto_docmodel.specs.declared.tree.Tree.{Tree}
+use Rattle.esto_docs.specs.Files.{file_trees, trees_fault}
+use Rattle.esto_read.specs.declared.words.DataModel.{DataModel}
+use Rattle.esto_stores.specs.Keys.{key_rows, key_fault}
+use Rattle.esto_stores.specs.Table.{table_rows, table_fault}
+use Rattle.esto_docmodel.specs.Forests.{Label, name, place, Forest, none, kid}
+use Rattle.esto_relmodel.specs.RowFacts.{row_fact, AreRowFacts}
+use Rattle.esto_semantics.specs.Maps.{AreFlat}
+use Rattle.esto_semantics.specs.declared.fact.Fact.{Fact}
+use Rattle.esto_semantics.proofs.FactLemmas.{Mentions-append}
+use Rattle.esto_term.specs.Kinds.{IsFlat}
+use Rattle.esto_term.specs.declared.term.Term.{Term}
+use Rattle.esto_term.specs.declared.term.Term.TheVariants.{Const, Plain}
+use Rattle.esto_term.proofs.ListLemmas.{Contains-nil, Contains-cases, Contains-map_from, HoldsBelow}
+use Rattle.esto_fill.specs.Files.{dataset_fault, nodes_in, AreFactsOf, AreFactsFrom, AreReadable, GivesFacts, IsLoadedFrom}
+use Rattle.esto_fill.specs.declared.loaded.Loaded.{Loaded}
+use Rattle.esto_fill.specs.declared.datasets.DatasetBytes.{DatasetBytes}
+
+-- ---- facts of rows are over constants
+
+pub rows_flat : (relation : ℕ) (rows : List (List (List ℕ))) (facts : List (Fact Term)) → AreRowFacts relation rows facts → AreFlat facts
+rows_flat relation rows facts (kept, once, is) term (fact, inside, in_fact) =
+    let from = Contains-map_from (row_fact relation) kept fact (subst (λ those. Contains those fact) is inside) in
+    let cell = Contains-map_from Const from.0 term (subst (λ (it : Fact Term). Contains it.terms term) (sym from.2) in_fact) in
+    inl (cell.0, sym cell.2)
+
+-- ---- facts of documents are over constants and plain terms
+
+abbrev HasFlat : DocFact Term → Type 0
+HasFlat fact = (term : Term) → Contains (row_of fact) term → IsFlat term
+
+no_term : (term : Term) → Contains [] term → IsFlat term
+no_term term inside = absurd (Contains-nil term inside)
+
+one_term : (first : Term) (rest : List Term) → IsFlat first → ((term : Term) → Contains rest term → IsFlat term) → (term : Term) → Contains (first ∷ rest) term
+    → IsFlat term
+one_term first rest own others term inside = elim (Contains-cases first rest term inside) [
+  | inl is ↦ subst IsFlat is own
+  | inr later ↦ others term later
+]
+
+number : (n : ℕ) → IsFlat (Plain n)
+number n = inr (n, refl)
+
+text : (bytes : List ℕ) → IsFlat (Const bytes)
+text bytes = inl (bytes, refl)
+
+entering_flat : (above : List ℕ) (label : Label) (n : ℕ) → HasFlat (entering above label n)
+entering_flat [] label n = one_term (Plain n) [] (number n) no_term
+entering_flat (parent ∷ above) (name k) n =
+    one_term (Plain parent) (Const k ∷ Plain n ∷ []) (number parent) (one_term (Const k) (Plain n ∷ []) (text k) (one_term (Plain n) [] (number n) no_term))
+entering_flat (parent ∷ above) place n = one_term (Plain parent) (Plain n ∷ []) (number parent) (one_term (Plain n) [] (number n) no_term)
+
+belows_flat : (above : List ℕ) (n : ℕ) (fact : DocFact Term) → Contains (belows above n) fact → HasFlat fact
+belows_flat [] n fact inside = absurd (Contains-nil fact inside)
+belows_flat (parent ∷ above) n fact inside = elim (Contains-append_cases (belows above n) (below (Plain parent) (Plain n) ∷ []) fact inside) [
+  | inl there ↦ belows_flat above n fact there
+  | inr last ↦ elim (Contains-cases (below (Plain parent) (Plain n)) [] fact last) [
+    | inl is ↦ subst HasFlat is (one_term (Plain parent) (Plain n ∷ []) (number parent) (one_term (Plain n) [] (number n) no_term))
+    | inr later ↦ absurd (Contains-nil fact later)
+  ]
+]
+
+holding_flat : (content : Option (List ℕ)) (n : ℕ) (fact : DocFact Term) → Contains (holding content n) fact → HasFlat fact
+holding_flat None n fact inside = absurd (Contains-nil fact inside)
+holding_flat (Some bytes) n fact inside = elim (Contains-cases (value (Plain n) (Const bytes)) [] fact inside) [
+  | inl is ↦ subst HasFlat is (one_term (Plain n) (Const bytes ∷ []) (number n) (one_term (Const bytes) [] (text bytes) no_term))
+  | inr later ↦ absurd (Contains-nil fact later)
+]
+
+forest_flat : (above : List ℕ) (n : ℕ) (forest : Forest) (fact : DocFact Term) → Contains (facts_from above n forest) fact → HasFlat fact
+forest_flat above n none fact inside = absurd (Contains-nil fact inside)
+forest_flat above n (kid label content inside_it rest) fact inside = elim (Contains-cases (entering above label n)
+    (belows above n ++ (holding content n ++ (facts_from (n ∷ above) (suc n) inside_it ++ facts_from above (suc n + size inside_it) rest))) fact inside) [
+      | inl is ↦ subst HasFlat is (entering_flat above label n)
+      | inr later ↦ elim (Contains-append_cases (belows above n)
+          (holding content n ++ (facts_from (n ∷ above) (suc n) inside_it ++ facts_from above (suc n + size inside_it) rest)) fact later) [
+            | inl there ↦ belows_flat above n fact there
+            | inr after ↦ elim (Contains-append_cases (holding content n)
+                (facts_from (n ∷ above) (suc n) inside_it ++ facts_from above (suc n + size inside_it) rest) fact after) [
+                  | inl there ↦ holding_flat content n fact there
+                  | inr others ↦ elim (Contains-append_cases (facts_from (n ∷ above) (suc n) inside_it) (facts_from above (suc n + size inside_it) rest) fact others) [
+                    | inl there ↦ forest_flat (n ∷ above) (suc n) inside_it fact there
+                    | inr there ↦ forest_flat above (suc n + size inside_it) rest fact there
+                  ]
+                ]
+          ]
+    ]
+
+pub documents_flat : (base first : ℕ) (forest : Forest) → AreFlat (facts_of base first forest)
+documents_flat base first forest term (fact, inside, in_fact) =
+    let from = Contains-map_from (flat base) (facts_from [] first forest) fact inside in
+    forest_flat [] first forest from.0 from.1 term (subst (λ (it : Fact Term). Contains it.terms term) (sym from.2) in_fact)
+
+pub append_flat : (facts others : List (Fact Term)) → AreFlat facts → AreFlat others → AreFlat (facts ++ others)
+append_flat facts others one other term mentioned = elim (Mentions-append facts others term mentioned) [ inl there ↦ one term there | inr there ↦ other term there ]
+
+-- ---- one file more
+
+pub file_more : (datasets : List Dataset) (first : ℕ) (files : List DatasetBytes) (facts own : List (Fact Term)) (next : ℕ) (file : DatasetBytes)
+    (dataset : Dataset) → AreFactsFrom datasets first files facts next → slice_get datasets file.dataset ≡ Some dataset
+    → AreFactsOf dataset file.bytes next own → AreFactsFrom datasets first (files ++ file ∷ []) (facts ++ own) (next + nodes_in dataset file.bytes)
+file_more datasets first [] facts own next file dataset (empty, same) there are = (
+  dataset,
+  own,
+  [],
+  there,
+  subst (λ n. AreFactsOf dataset file.bytes n own) same are,
+  (refl, ap (λ n. n + nodes_in dataset file.bytes) same),
+  ap (λ those. those ++ own) empty ∙ sym (append-nil own),
+)
+file_more datasets first (head ∷ files) facts own next file dataset (its, some, others, at, is, rest, whole) there are = (
+  its,
+  some,
+  others ++ own,
+  at,
+  is,
+  file_more datasets (first + nodes_in its head.bytes) files others own next file dataset rest there are,
+  ap (λ those. those ++ own) whole ∙ append_assoc some others own,
+)
+
+-- ---- what the readers give
+
+pub table_gives : (dataset : Dataset) (bytes : List ℕ) (first : ℕ) (rows : List (List (List ℕ))) (facts : List (Fact Term))
+    → (table_fault dataset.columns bytes ≡ None) × (rows ≡ table_rows dataset.columns bytes) → AreRowFacts dataset.base rows facts
+    → GivesFacts DataModel.Table dataset bytes first (Ok (record { facts = facts; next = first }))
+table_gives dataset bytes first rows facts (clear, read) are = (
+  clear,
+  subst (λ those. AreRowFacts dataset.base those facts) read are,
+  omega arith,
+  rows_flat dataset.base rows facts are,
+)
+
+pub keys_give : (dataset : Dataset) (bytes : List ℕ) (first : ℕ) (rows : List (List (List ℕ))) (facts : List (Fact Term))
+    → (key_fault 3 bytes ≡ None) × (rows ≡ key_rows bytes) → AreRowFacts dataset.base rows facts
+    → GivesFacts DataModel.Keys dataset bytes first (Ok (record { facts = facts; next = first }))
+keys_give dataset bytes first rows facts (clear, read) are = (
+  clear,
+  subst (λ those. AreRowFacts dataset.base those facts) read are,
+  omega arith,
+  rows_flat dataset.base rows facts are,
+)
+
+pub documents_give : (dataset : Dataset) (bytes : List ℕ) (first : ℕ) (trees : List Tree) (encoded : Encoded)
+    → (trees_fault dataset.layout bytes ≡ None) × (trees ≡ file_trees dataset.layout bytes) → encoded.facts ≡ facts_of dataset.base first (documents trees)
+    → encoded.next ≡ first + size (documents trees) → GivesFacts DataModel.Documents dataset bytes first (Ok encoded)
+documents_give dataset bytes first trees encoded (clear, read) facts next = (
+  clear,
+  facts ∙ ap (λ those. facts_of dataset.base first (documents those)) read,
+  next ∙ ap (λ those. first + size (documents those)) read,
+  subst AreFlat (sym facts) (documents_flat dataset.base first (documents trees)),
+)
+
+-- ---- all files
+
+module _ (datasets : List Dataset) (files : List DatasetBytes) where
+  -- none of the files so far has a fault
+  abbrev pub AreReadableBelow : ℕ → Type 0
+  AreReadableBelow count = HoldsBelow (λ _ (file : DatasetBytes). (dataset : Dataset) → slice_get datasets file.dataset ≡ Some dataset
+      → dataset_fault dataset file.bytes ≡ None) files count
+
+  pub loaded_more : (count : ℕ) (file : DatasetBytes) (old new : Loaded) → count < length files → file ≡ get_or files count file
+      → IsLoadedFrom datasets (take count files) old
+      → ((those : List DatasetBytes) → IsLoadedFrom datasets those old → IsLoadedFrom datasets (those ++ file ∷ []) new)
+      → IsLoadedFrom datasets (take (count + 1) files) new
+  loaded_more count file old new within read before step =
+      subst (λ those. IsLoadedFrom datasets those new) (sym (take_more files count file within ∙ ap (λ last. take count files ++ last ∷ []) (sym read)))
+      (step (take count files) before)
+
+  pub all_readable : (count : ℕ) → length files ≤ count → AreReadableBelow count → AreReadable datasets files
+  all_readable count past fine at file dataset there = fine at file
+      (let within = slice_get_within files at file there in omega (arith, within, past)) there dataset
+
+-- all files are loaded, where the loop goes over a list that is theirs
+pub all_loaded : (datasets : List Dataset) (files items : List DatasetBytes) (count : ℕ) (loaded : Loaded) → items ≡ files → length items ≤ count
+    → IsLoadedFrom datasets (take count items) loaded → AreReadableBelow datasets items count → AreReadable datasets files × IsLoadedFrom datasets files loaded
+all_loaded datasets files items count loaded same past are fine =
+    subst (λ those. AreReadable datasets those × IsLoadedFrom datasets those loaded) same
+    (all_readable datasets items count past fine, subst (λ those. IsLoadedFrom datasets those loaded) (take_all count items past) are)
+
+pub load_more : (datasets : List Dataset) (files : List DatasetBytes) (number : ℕ) (bytes : List ℕ) (dataset : Dataset) (old : Loaded)
+    (own facts : List (Fact Term)) (next : ℕ) → IsLoadedFrom datasets files old → slice_get datasets number ≡ Some dataset
+    → AreFactsOf dataset bytes old.next own → facts ≡ old.facts ++ own → next ≡ old.next + nodes_in dataset bytes
+    → AreFactsFrom datasets 0 (files ++ record { dataset = number; bytes = bytes } ∷ []) facts next
+load_more datasets files number bytes dataset old own facts next before there are whole ends =
+    subst (λ those. AreFactsFrom datasets 0 (files ++ record { dataset = number; bytes = bytes } ∷ []) those next) (sym whole)
+    (subst (AreFactsFrom datasets 0 (files ++ record { dataset = number; bytes = bytes } ∷ []) (old.facts ++ own)) (sym ends)
+    (file_more datasets 0 files old.facts own old.next (record { dataset = number; bytes = bytes }) dataset before there are))

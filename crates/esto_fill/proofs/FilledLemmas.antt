@@ -1,0 +1,119 @@
+-- The text of a fragment's file, and what it says when it is read.
+use Rattle.std.proofs.Common.{◌≡◌, ◌↔◌, ℕ, Bool, true, false, if◌then◌else◌, List, [], ◌∷◌, ◌++◌, length, map, get_or, Option, None, Some, Contains, refl, sym, ap, ◌∙◌, subst}
+use Rattle.std.specs.Prelude.{All, IfSome, Ok, Err, drop, nat_eq}
+use Rattle.std.specs.List.{starts_with}
+use Rattle.std.proofs.lemmas.List.{length-map}
+use Rattle.std.proofs.lemmas.List.Elements.{Contains-get_or}
+use Rattle.esto_catalog.specs.declared.catalogue.Shape.{Shape}
+use Rattle.esto_catalog.specs.declared.catalogue.Shape.TheVariants.{Table, Documents, Keys}
+use Rattle.esto_catalog.specs.declared.columns.TheConstants.{MARK}
+use Rattle.esto_docmodel.specs.Layouts.{IsLayout}
+use Rattle.esto_docmodel.specs.Shapes.{entries_of}
+use Rattle.esto_docmodel.specs.declared.pattern.Pattern.{Pattern}
+use Rattle.esto_docs.specs.Files.{file_trees, trees_fault}
+use Rattle.esto_docs.specs.Rows.{IsRowOf}
+use Rattle.esto_docs.specs.declared.layout.Layout.{Layout}
+use Rattle.esto_run.proofs.StoreLemmas.{documents_give}
+use Rattle.esto_semantics.specs.Facts.{Database}
+use Rattle.esto_semantics.specs.Queries.{ConjunctiveQuery, IsAnswer}
+use Rattle.esto_semantics.specs.declared.fact.Value.{Value}
+use Rattle.esto_semantics.specs.declared.fact.Value.TheVariants.{Text}
+use Rattle.esto_stores.specs.Keys.{key_rows, key_fault}
+use Rattle.esto_stores.specs.Rows.{Row}
+use Rattle.esto_stores.specs.Table.{table_rows, table_fault}
+use Rattle.esto_fill.specs.Filled.{Fills, IsOpenedAs, SaysRows, refusal_of, with_mark, without_mark}
+use Rattle.esto_fill.specs.Placing.{WritesRows}
+use Rattle.esto_fill.specs.Texts.{AreTextsOf, AreExactly, GivesTexts}
+use Rattle.esto_fill.specs.declared.filled.FillError.{FillError}
+use Rattle.esto_fill.specs.declared.filled.FillError.TheVariants.{NodeInRow, KeyText, OutOfMemory}
+use Rattle.esto_fill.specs.declared.rows.AnswerError.{AnswerError}
+use Rattle.esto_fill.specs.declared.rows.AnswerError.TheVariants as answer
+
+-- ---- marks
+
+pub mark_dropped : (text : List ℕ) → without_mark (with_mark text) ≡ text
+mark_dropped text = by (starts_with nat_eq text MARK) refl
+  where
+    by : (begins : Bool) → starts_with nat_eq text MARK ≡ begins → without_mark (if begins then MARK ++ text else text) ≡ text
+    by true told = refl
+    by false told = ap (λ b. if b then drop (length MARK) text else text) told
+
+-- ---- rows
+
+-- rows of texts are the same where their values are
+pub same_texts : (row other : Row) → map Text row ≡ map Text other → row ≡ other
+same_texts [] [] same = refl
+same_texts [] (cell ∷ other) same = absurd (cc)
+same_texts (cell ∷ row) [] same = absurd (cc)
+same_texts (cell ∷ row) (its ∷ other) same =
+    let values : Text cell ≡ Text its = cc in
+    let first : cell ≡ its = cc in
+    let rest = same_texts row other cc in
+    λ i. first i ∷ rest i
+
+pub in_rows : (Rows : List Value → Type 0) (rows : List Row) → AreExactly Rows rows → (row : Row) → Contains rows row ↔ Rows (map Text row)
+in_rows Rows rows exact row = (
+  (λ inside. (exact (map Text row)).1 (row, inside, refl)),
+  (λ there. let found = (exact (map Text row)).0 there in subst (Contains rows) (sym (same_texts row found.0 found.2)) found.1),
+)
+
+-- the rows have as many cells as the query's head has terms
+pub rows_wide : (query : ConjunctiveQuery) (database : Database) (rows : List Row) → AreExactly (IsAnswer query database) rows
+    → All (λ row. length row ≡ length query.head) rows
+rows_wide query database rows exact k d below =
+    let (m, keeps, sends, is) = ((in_rows (IsAnswer query database) rows exact (get_or rows k d)).0 (Contains-get_or rows k d below)) in
+    sym (length-map (get_or rows k d) Text) ∙ ap length is ∙ length-map query.head m
+
+-- ---- what a text says
+
+pub table_says : (columns : Row) (width : ℕ) (rows : List Row) (text : List ℕ) → table_rows columns text ≡ rows → table_fault columns text ≡ None
+    → SaysRows (Table columns) width rows text
+table_says columns width rows text read none = record {
+  no_fault = none;
+  rows_are = λ row. ((λ inside. subst (λ those. Contains those row) read inside), (λ inside. subst (λ those. Contains those row) (sym read) inside));
+}
+
+pub keys_say : (width : ℕ) (rows : List Row) (text : List ℕ) → key_rows text ≡ rows → key_fault width text ≡ None → SaysRows Keys width rows text
+keys_say width rows text read none = record {
+  no_fault = none;
+  rows_are = λ row. ((λ inside. subst (λ those. Contains those row) read inside), (λ inside. subst (λ those. Contains those row) (sym read) inside));
+}
+
+pub documents_say : (width : ℕ) (layout : Layout) (pattern : Pattern) (rows : List Row) (text : List ℕ) → IsLayout width (entries_of pattern.entries)
+    → ((row : Row) → IsRowOf width (entries_of pattern.entries) (file_trees layout text) row ↔ Contains rows row) → trees_fault layout text ≡ None
+    → SaysRows (Documents layout pattern) width rows text
+documents_say width layout pattern rows text is read none =
+    let given = documents_give width layout pattern text (Ok rows) is (none, λ row. ((read row).1, (read row).0)) in
+    record { no_fault = given.0; rows_are = λ row. ((given.1 row).1, (given.1 row).0) }
+
+pub both_there : {A B : Type 0} (P : A → B → Type 0) (one : Option A) (two : Option B) (a : A) (b : B) → one ≡ Some a → two ≡ Some b → P a b
+    → IfSome one (λ x. IfSome two (λ y. P x y))
+both_there P one two a b there too holds =
+    subst (λ it. IfSome it (λ x. IfSome two (λ y. P x y))) (sym there) (subst (λ it. IfSome it (λ y. P a y)) (sym too) holds)
+
+-- ---- what a file is filled with
+
+pub opened_as : (shape : Shape) (width : ℕ) (Rows : List Value → Type 0) (rows : List Row) (text file : List ℕ) → AreExactly Rows rows
+    → SaysRows shape width rows text → file ≡ with_mark text → IsOpenedAs shape width Rows (without_mark file)
+opened_as shape width Rows rows text file exact says is = subst (IsOpenedAs shape width Rows) (sym (ap without_mark is ∙ mark_dropped text)) (record {
+  no_fault = says.no_fault;
+  rows = λ row. (
+    (λ there. (in_rows Rows rows exact row).0 ((says.rows_are row).0 there)),
+    (λ there. (says.rows_are row).1 ((in_rows Rows rows exact row).1 there)),
+  );
+})
+
+pub filled : (shape : Shape) (Rows : List Value → Type 0) (rows : List Row) (text file : List ℕ) → AreTextsOf Rows rows → WritesRows shape rows (Ok text)
+    → file ≡ with_mark text → Fills shape Rows (Ok file)
+filled shape Rows rows text file are written is = (rows, are, written.0, is ∙ ap with_mark written.1)
+
+pub unfilled : (shape : Shape) (Rows : List Value → Type 0) (rows : List Row) (error : FillError) → AreTextsOf Rows rows → WritesRows shape rows (Err error)
+    → Fills shape Rows (Err error)
+unfilled shape Rows rows (NodeInRow column) are written = absurd written
+unfilled shape Rows rows (KeyText cell) are written = (written.0, (rows, are, written.1))
+unfilled shape Rows rows OutOfMemory are written = tt
+
+pub refused : (shape : Shape) (Rows : List Value → Type 0) (error : AnswerError) (refusal : FillError) → GivesTexts Rows (Err error)
+    → refusal ≡ refusal_of error → Fills shape Rows (Err refusal)
+refused shape Rows (answer.NodeInRow column) refusal given is = subst (λ it. Fills shape Rows (Err it)) (sym is) given
+refused shape Rows answer.OutOfMemory refusal given is = subst (λ it. Fills shape Rows (Err it)) (sym is) tt

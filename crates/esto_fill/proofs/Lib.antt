@@ -1,0 +1,11 @@
+pub mod ValueLemmas
+pub mod OrderLemmas
+pub mod TextLemmas
+pub mod ApartLemmas
+pub mod RecordLemmas
+pub mod FileLemmas
+pub mod FilledLemmas
+pub mod DifferenceLemmas
+pub mod LawLemmas
+pub mod AuditLemmas
+pub mod MovedLemmas

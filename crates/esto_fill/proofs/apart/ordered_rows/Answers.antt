@@ -1,0 +1,11 @@
+use Rattle.std.proofs.Common.{List, map, Contains, sym, ap, ◌∙◌, subst}
+use Rattle.esto_term.specs.declared.term.Term.{Term}
+use Rattle.esto_term.specs.declared.term.Term.TheVariants.{Const}
+use Rattle.esto_fill.proofs.apart.ordered_rows.Goals as goal
+
+pub returns-clause-rows : goal.returns-clause-rows
+returns-clause-rows c row =
+    let same = c.in_ok-terms.ensures ∙ ap (map (map Const)) c.items.ensures in (
+      (λ inside. subst (λ (those : List (List Term)). Contains those row) same ((c.in_ok-ordered.ensures.rows row).0 inside)),
+      (λ inside. (c.in_ok-ordered.ensures.rows row).1 (subst (λ (those : List (List Term)). Contains those row) (sym same) inside)),
+    )

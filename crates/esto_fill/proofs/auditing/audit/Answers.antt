@@ -1,0 +1,7 @@
+use Rattle.esto_fill.proofs.auditing.audit.Goals as goal
+
+pub broken_rule-requires : goal.broken_rule-requires
+broken_rule-requires c = c.loaded_facts_are_flat.ensures c.args.loaded.now
+
+pub apart_fragment-requires-clause-flat : goal.apart_fragment-requires-clause-flat
+apart_fragment-requires-clause-flat c = c.loaded_facts_are_flat.ensures c.args.loaded.now

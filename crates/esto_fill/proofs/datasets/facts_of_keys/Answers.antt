@@ -1,0 +1,5 @@
+use Rattle.esto_fill.proofs.FileLemmas.{keys_give}
+use Rattle.esto_fill.proofs.datasets.facts_of_keys.Goals as goal
+
+pub returns : goal.returns
+returns c = keys_give c.args.dataset.now c.args.bytes.now c.args.first c.in_ok-rows.rows c.in_ok-facts.facts c.in_ok-rows.ensures c.in_ok-facts.ensures

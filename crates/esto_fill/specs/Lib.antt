@@ -1,0 +1,9 @@
+pub mod Databases
+pub mod Texts
+pub mod Files
+pub mod Filled
+pub mod Records
+pub mod Differences
+pub mod Placing
+pub mod Judging
+pub mod Laws

@@ -1,0 +1,162 @@
+//! Whether the facts of datasets and the rows of fragments agree, and the first difference.
+ghost use Rattle.std.specs.Prelude.{◌≡◌, length, map, IfOk};
+ghost use Rattle.esto_constraint.specs.Constraints.{rules_of};
+ghost use Rattle.esto_constraint.specs.EncodingRules.{written};
+ghost use Rattle.esto_plan.specs.Rows.{IsRowOf, held_by};
+ghost use Rattle.esto_query.specs.Making.{query_of};
+ghost use Rattle.esto_semantics.specs.Maps.{AreFlat};
+ghost use Rattle.esto_semantics.specs.Queries.{IsAnswer};
+ghost use Rattle.esto_views.specs.Fragments.{views_of};
+ghost use Rattle.esto_fill.specs.Databases.{database_of};
+ghost use Rattle.esto_fill.specs.Differences.{Audits};
+ghost use Rattle.esto_fill.specs.Judging.{JudgesRules, JudgesFragment, JudgesFragments};
+ghost use Rattle.esto_fill.specs.Texts.{AreTextViews, HaveTextsOnly};
+
+use crate::apart::{Apart, first_apart, ordered_rows};
+use crate::laws::{facts_stand_as_databases, loaded_facts_are_flat};
+use crate::loaded::Loaded;
+use crate::record::record_of;
+use crate::rows::{counted, text_row};
+use esto_catalog::Catalogue;
+use esto_constraint::{Broken, Rules, least_active_matches_are_least, meets, rules_are_sound};
+use esto_query::{Facts, IndexedFacts, queries_are_sound};
+use esto_semantics::databases_stand_for_facts;
+use esto_term::{List, OutOfMemory, Replicate, Text, TextRow, TextRows};
+use esto_views::{FragmentDef, FragmentDefs};
+use std::alloc::Global;
+
+/// The rows of fragments, a list for each, in order.
+pub type TextRowsList = List<TextRows>;
+
+/// A difference between the facts of datasets and the rules, or the rows of fragments.
+#[derive(Debug, Drop)]
+pub enum Difference {
+    /// The facts do not meet the rule of this number, counted from 1 over all rules of the catalogue. The record has the
+    /// values of its named variables in a match that shows it, in order of first occurrence in its body: a node as `#` and
+    /// its number; and one empty cell where the rule has no such variable.
+    Rule(u64, TextRow),
+    /// The fragment of this name lacks this row of its view.
+    Missing(Text, TextRow),
+    /// The fragment of this name holds this row, which its view has not.
+    Extra(Text, TextRow),
+}
+
+impl Replicate for Difference {
+    fn copy(&self, alloc: Global) -> Result<Difference, OutOfMemory> {
+        match self {
+            Difference::Rule(number, cells) => { Ok(Difference::Rule(*number, cells.copy(alloc)?)) }
+            Difference::Missing(name, row) => {
+                Ok(Difference::Missing(name.copy(alloc)?, row.copy(alloc)?))
+            }
+            Difference::Extra(name, row) => {
+                Ok(Difference::Extra(name.copy(alloc)?, row.copy(alloc)?))
+            }
+        }
+    }
+}
+
+// The first rule that the facts do not meet, with the record of its least active match. None comes exactly where they meet
+// each rule.
+fn broken_rule(
+    alloc: Global,
+    rules: &Rules,
+    facts: &Facts,
+) -> Result<Option<Difference>, OutOfMemory>
+    requires { AreFlat facts.now }
+    ensures { IfOk result (JudgesRules (rules_of rules.now) (map written rules.now) facts.now) }
+{
+    databases_stand_for_facts();
+    facts_stand_as_databases();
+    rules_are_sound();
+    least_active_matches_are_least();
+    let Some(broken) = meets(alloc, rules, facts)? else {
+        return Ok(None);
+    };
+    let rule = rules.item(broken.rule);
+    let cells = record_of(alloc, rule, &broken.found.valuation)?;
+    let number = counted(broken.rule)?;
+    Ok(Some(Difference::Rule(number, cells)))
+}
+
+// The least row that is in the view's rows or in the fragment's and not in both. None comes exactly where they are the same.
+fn apart_of(
+    alloc: Global,
+    fragment: &FragmentDef,
+    facts: &IndexedFacts,
+    rows: &TextRows,
+) -> Result<Option<Difference>, OutOfMemory>
+    requires flat { AreFlat facts.now }
+    requires texts { HaveTextsOnly (IsAnswer (query_of fragment.now.view)
+        (database_of facts.now)) }
+    ensures { IfOk result (JudgesFragment fragment.now.name
+        (IsAnswer (query_of fragment.now.view) (database_of facts.now)) rows.now) }
+{
+    databases_stand_for_facts();
+    facts_stand_as_databases();
+    queries_are_sound();
+    let own = facts.answers(alloc, &fragment.view)?;
+    let held = ordered_rows(alloc, rows)?;
+    match first_apart(own.items(), held.items()) {
+        Some(Apart::Missing(place)) => {
+            let row = text_row(alloc, own.item(place).items())?;
+            Ok(Some(Difference::Missing(fragment.name.copy(alloc)?, row)))
+        }
+        Some(Apart::Extra(place)) => {
+            let row = text_row(alloc, held.item(place).items())?;
+            Ok(Some(Difference::Extra(fragment.name.copy(alloc)?, row)))
+        }
+        None => Ok(None),
+    }
+}
+
+// The first fragment whose rows are not its view's, with the least row that is in one of the two alone. None comes exactly
+// where each fragment has its view's rows.
+fn apart_fragment(
+    alloc: Global,
+    fragments: &FragmentDefs,
+    facts: &Facts,
+    rows: &TextRowsList,
+) -> Result<Option<Difference>, OutOfMemory>
+    requires many { length rows.now ≡ length fragments.now }
+    requires flat { AreFlat facts.now }
+    requires texts { AreTextViews (views_of fragments.now) (database_of facts.now) }
+    ensures { IfOk result (JudgesFragments (map (λ fragment. fragment.name) fragments.now)
+        (views_of fragments.now) (database_of facts.now) rows.now) }
+{
+    let indexed = IndexedFacts::of(alloc, facts)?;
+    'fragments: for number in 0..fragments.len() {
+        let fragment = fragments.item(number);
+        let outcome = apart_of(alloc, fragment, &indexed, rows.item(number))?;
+        if outcome.is_some() {
+            return Ok(outcome);
+        }
+    }
+    Ok(None)
+}
+
+/// Whether the database of the facts meets each rule of the catalogue, and the rows of each fragment are, as a set, those
+/// of its view over it: None comes exactly there. Else the first difference. Of the rules by number it is the first that is
+/// not met, with its least active match by the places of the facts; where all are met, of the fragments in order the first
+/// that has other rows, with the least row, cell by cell by bytes, that is in one of the two sets alone.
+pub fn audit(
+    alloc: Global,
+    catalogue: &Catalogue,
+    loaded: &Loaded,
+    rows: &TextRowsList,
+) -> Result<Option<Difference>, OutOfMemory>
+    requires many { length rows.now ≡ length catalogue.now.fragments }
+    requires texts { AreTextViews (views_of catalogue.now.fragments)
+        (database_of loaded.now.facts) }
+    ensures { IfOk result (λ outcome. Audits (rules_of catalogue.now.rules)
+        (map written catalogue.now.rules)
+        (map (λ fragment. fragment.name) catalogue.now.fragments)
+        (views_of catalogue.now.fragments) loaded.now.facts (IsRowOf (held_by rows.now)) outcome) }
+{
+    loaded_facts_are_flat();
+    let broken = broken_rule(alloc, &catalogue.rules, &loaded.facts)?;
+    if broken.is_some() {
+        return Ok(broken);
+    }
+    let apart = apart_fragment(alloc, &catalogue.fragments, &loaded.facts, rows)?;
+    Ok(apart)
+}

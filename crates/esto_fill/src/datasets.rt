@@ -1,0 +1,167 @@
+//! The facts of datasets' files.
+ghost use Rattle.std.specs.Prelude.{◌≡◌, [], ◌∷◌, ◌++◌, ◌<◌, List, All, length, slice_get, IfOk, IfSome};
+ghost use Rattle.esto_read.specs.declared.words.DataModel.{DataModel};
+ghost use Rattle.esto_fill.specs.Files.{AddsFile, GivesFacts, dataset_fault, FindsFault, IsLoadedFrom, LoadsFacts};
+ghost use Rattle.esto_fill.specs.declared.datasets.DatasetBytes.{DatasetBytes};
+ghost use Rattle.esto_fill.specs.declared.datasets.LoadError.TheVariants as load;
+
+use crate::loaded::{Loaded, nothing_loaded};
+use esto_catalog::{Catalogue, Dataset};
+use esto_docmodel::{Encoded, encode_documents};
+use esto_docs::read_trees;
+use esto_ports::{FileError, FileFault};
+use esto_read::DataModel;
+use esto_relmodel::table_facts;
+use esto_stores::{open_keys, open_table};
+use esto_term::{Bytes, List, OutOfMemory};
+use std::alloc::Global;
+
+/// How many cells a line of a dataset of keys has: a key, a field and a value.
+const KEY_CELLS: usize = 3;
+
+/// The bytes of a dataset's file, by the number of the dataset in the catalogue.
+#[derive(Debug, Drop)]
+pub struct DatasetBytes {
+    pub dataset: usize,
+    pub bytes: Bytes,
+}
+
+/// The files of some of a catalogue's datasets.
+pub type LoadList = List<DatasetBytes>;
+
+/// Why the facts of datasets' files are not loaded.
+#[derive(Debug, Drop)]
+pub enum LoadError {
+    /// The file of the dataset of that number has a fault, and this is its first; no file before has one.
+    Fault(usize, FileFault),
+    OutOfMemory,
+}
+
+impl From<OutOfMemory> for LoadError {
+    ghost from_gives = { λ _ e. e ≡ load.OutOfMemory };
+
+    fn from(_: OutOfMemory) -> LoadError {
+        LoadError::OutOfMemory
+    }
+}
+
+// The facts of the rows of a table's file.
+fn facts_of_table(
+    alloc: Global,
+    dataset: &Dataset,
+    bytes: &[u8],
+    first: u64,
+) -> Result<Encoded, FileError>
+    ensures { GivesFacts DataModel.Table dataset.now bytes.now first result }
+{
+    let rows = open_table(alloc, bytes, &dataset.columns)?;
+    let facts = table_facts(alloc, dataset.base, &rows)?;
+    Ok(Encoded { facts, next: first })
+}
+
+// The facts of the documents of a file, whose nodes are numbered from `first` on.
+fn facts_of_documents(
+    alloc: Global,
+    dataset: &Dataset,
+    bytes: &[u8],
+    first: u64,
+) -> Result<Encoded, FileError>
+    ensures { GivesFacts DataModel.Documents dataset.now bytes.now first result }
+{
+    let trees = read_trees(alloc, bytes, &dataset.layout)?;
+    let encoded = encode_documents(alloc, dataset.base, &trees, first)?;
+    Ok(encoded)
+}
+
+// The facts of the lines of a key file.
+fn facts_of_keys(
+    alloc: Global,
+    dataset: &Dataset,
+    bytes: &[u8],
+    first: u64,
+) -> Result<Encoded, FileError>
+    ensures { GivesFacts DataModel.Keys dataset.now bytes.now first result }
+{
+    let rows = open_keys(alloc, bytes, KEY_CELLS)?;
+    let facts = table_facts(alloc, dataset.base, &rows)?;
+    Ok(Encoded { facts, next: first })
+}
+
+// The facts of the file of a dataset, whose nodes are numbered from `first` on, and the first number that is no node's.
+fn facts_of(
+    alloc: Global,
+    dataset: &Dataset,
+    bytes: &[u8],
+    first: u64,
+) -> Result<Encoded, FileError>
+    ensures { GivesFacts dataset.now.model dataset.now bytes.now first result }
+{
+    match dataset.model {
+        DataModel::Table => facts_of_table(alloc, dataset, bytes, first),
+        DataModel::Documents => facts_of_documents(alloc, dataset, bytes, first),
+        DataModel::Keys => facts_of_keys(alloc, dataset, bytes, first),
+    }
+}
+
+// What was loaded, and after it the facts of the file.
+fn add_file(
+    alloc: Global,
+    catalogue: &Catalogue,
+    file: &DatasetBytes,
+    loaded: Loaded,
+) -> Result<Loaded, LoadError>
+    requires { file.now.dataset < length catalogue.now.datasets }
+    ensures { AddsFile catalogue.now.datasets file.now loaded result }
+{
+    match load_dataset(alloc, catalogue, file.dataset, &file.bytes, loaded) {
+        Ok(more) => Ok(more),
+        Err(FileError::Fault(fault)) => Err(LoadError::Fault(file.dataset, fault)),
+        Err(FileError::OutOfMemory) => Err(LoadError::OutOfMemory),
+    }
+}
+
+/// What was loaded, and after it the facts of the file of the dataset of that number, whose nodes are numbered from
+/// `next` on; or the file has a fault, and this is the first. OutOfMemory comes too where a node has no number of 64 bits.
+pub fn load_dataset(
+    alloc: Global,
+    catalogue: &Catalogue,
+    number: usize,
+    bytes: &Bytes,
+    loaded: Loaded,
+) -> Result<Loaded, FileError>
+    requires { number < length catalogue.now.datasets }
+    ensures loaded { IfOk result (λ it. (files : List DatasetBytes)
+        → IsLoadedFrom catalogue.now.datasets files loaded
+        → IsLoadedFrom catalogue.now.datasets
+        (files ++ record { dataset = number; bytes = bytes.now } ∷ []) it) }
+    ensures fault { IfSome (slice_get catalogue.now.datasets number) (λ dataset.
+        FindsFault (dataset_fault dataset bytes.now) result) }
+{
+    let dataset = catalogue.datasets.item(number);
+    let own = facts_of(alloc, dataset, bytes.bytes(), loaded.next)?;
+    let mut facts = loaded.facts;
+    facts.append(own.facts)?;
+    Ok(Loaded {
+        facts,
+        next: own.next,
+    })
+}
+
+/// The facts of the files of datasets, in the order in which they are given: of a table and of keys the rows in order of
+/// first occurrence, each row once; of documents those of their nodes, which are numbered over all files, the first 0.
+/// Fault comes exactly where a file has a fault, with that of the first such file. OutOfMemory comes too where a node has
+/// no number of 64 bits.
+pub fn dataset_facts(
+    alloc: Global,
+    catalogue: &Catalogue,
+    files: &LoadList,
+) -> Result<Loaded, LoadError>
+    requires { All (λ file. file.dataset < length catalogue.now.datasets) files.now }
+    ensures { LoadsFacts catalogue.now.datasets files.now result }
+{
+    let mut loaded = nothing_loaded(alloc);
+    'files: for file in files.items() {
+        loaded = add_file(alloc, catalogue, file, loaded)?;
+    }
+    Ok(loaded)
+}

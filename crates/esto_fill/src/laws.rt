@@ -1,0 +1,53 @@
+//! Laws of the facts of datasets and the rows of fragments.
+ghost use Rattle.esto_fill.specs.Laws.{AnswersRestOnDatasets, LoadedAreFlat, FactsStand, FactsAreOne, FaultsAreOne, ReadableHaveNone, AnswersAreOne, JudgementsAreOne, FillsAreOne, AuditsAreOne, AuditsAreOverFiles, AgreeingAnswersAreTexts, AgreeingAnswersAreOne};
+
+use esto_run::{rewritings_answer_queries, rising_rows_are_one};
+use esto_semantics::databases_stand_for_facts;
+
+/// A law: what is loaded keeps what its description says.
+pub fn loaded_facts_are_flat()
+    ensures { LoadedAreFlat }
+{}
+
+/// A law: facts over constants and plain terms, as databases stand for facts, are stood for by the database in which a
+/// constant is its text and a plain term the unnamed value of its number. So what rules, queries and views say of the
+/// facts, read over terms, they say of this database.
+pub fn facts_stand_as_databases()
+    ensures { FactsStand }
+{}
+
+/// A law: where memory is not wanting, files give one list of facts or one first fault, a query's answers, a judgement of
+/// views and a filled file are one, and an audit of files comes to one end.
+pub fn outcomes_are_one()
+    ensures facts { FactsAreOne }
+    ensures faults { FaultsAreOne }
+    ensures readable { ReadableHaveNone }
+    ensures answers { AnswersAreOne }
+    ensures judgements { JudgementsAreOne }
+    ensures fills { FillsAreOne }
+    ensures audits { AuditsAreOne }
+{
+    rising_rows_are_one();
+    databases_stand_for_facts();
+}
+
+/// A law: a query has the same answers of texts over the facts of all files as over those of some of them, among which is
+/// the file of each dataset of which the query names a relation, although nodes have other numbers there; and where it has
+/// no other answers over the facts of all, it has none over the others.
+pub fn answers_rest_on_their_datasets()
+    ensures { AnswersRestOnDatasets }
+{}
+
+/// A law: an audit of fragments' rows is one of the files of which they are the rows.
+pub fn audits_are_over_files()
+    ensures { AuditsAreOverFiles }
+{}
+
+/// A law: where a database meets the rules and the files of fragments hold exactly their views' rows, a query that has a
+/// rewriting has answers of texts alone, and these are exactly the answers of each rewriting's candidate over the files.
+pub fn agreeing_answers_are_one()
+    ensures texts { AgreeingAnswersAreTexts }
+    ensures rows { AgreeingAnswersAreOne }
+{
+    rewritings_answer_queries();
+}

@@ -1,0 +1,27 @@
+//! Datasets' files as facts, and what is asked of them: a fragment's file filled with its view's rows, a query's answers,
+//! and whether the facts meet the rules and the fragments hold their views' rows. Start from `dataset_facts`, `fill`,
+//! `answer` and `audit`.
+#![tactic(auto)]
+
+mod answering;
+mod apart;
+mod auditing;
+mod datasets;
+mod filled;
+mod laws;
+mod loaded;
+mod record;
+mod rows;
+mod views;
+
+pub use answering::answer;
+pub use auditing::{Difference, TextRowsList, audit};
+pub use datasets::{DatasetBytes, LoadError, LoadList, dataset_facts, load_dataset};
+pub use filled::{FillError, fill};
+pub use laws::{
+    agreeing_answers_are_one, answers_rest_on_their_datasets, audits_are_over_files,
+    facts_stand_as_databases, loaded_facts_are_flat, outcomes_are_one,
+};
+pub use loaded::{Loaded, nothing_loaded};
+pub use rows::AnswerError;
+pub use views::audit_views;

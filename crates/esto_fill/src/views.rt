@@ -1,0 +1,47 @@
+//! Whether the rows of views are rows of texts.
+ghost use Rattle.esto_query.specs.Making.{query_of};
+ghost use Rattle.esto_semantics.specs.Maps.{AreFlat};
+ghost use Rattle.esto_semantics.specs.Queries.{IsAnswer};
+ghost use Rattle.esto_views.specs.Fragments.{views_of};
+ghost use Rattle.esto_fill.specs.Databases.{database_of};
+ghost use Rattle.esto_fill.specs.Texts.{JudgesRows, JudgesViews};
+
+use crate::laws::{facts_stand_as_databases, loaded_facts_are_flat};
+use crate::loaded::Loaded;
+use crate::rows::{AnswerError, least_open, node_at};
+use esto_catalog::Catalogue;
+use esto_query::{IndexedFacts, Query, queries_are_sound};
+use esto_semantics::databases_stand_for_facts;
+use std::alloc::Global;
+
+// Whether no row of the view over the database of the facts holds a node.
+fn judge_view(alloc: Global, view: &Query, facts: &IndexedFacts) -> Result<(), AnswerError>
+    requires { AreFlat facts.now }
+    ensures { JudgesRows (IsAnswer (query_of view.now) (database_of facts.now)) result }
+{
+    databases_stand_for_facts();
+    facts_stand_as_databases();
+    queries_are_sound();
+    let rows = facts.answers(alloc, view)?;
+    match least_open(rows.items()) {
+        Some(place) => Err(node_at(place)),
+        None => Ok(()),
+    }
+}
+
+/// Whether no row of a fragment's view over the database of the facts holds a node. NodeInRow comes exactly where one
+/// does, with the least column that has one in the rows of the first such fragment, counted from 1.
+pub fn audit_views(alloc: Global, catalogue: &Catalogue, loaded: &Loaded) -> Result<(), AnswerError>
+    ensures { JudgesViews (views_of catalogue.now.fragments)
+        (database_of loaded.now.facts) result }
+{
+    loaded_facts_are_flat();
+    let facts = IndexedFacts::of(alloc, &loaded.facts)?;
+    'fragments: for fragment in catalogue.fragments.items() {
+        match judge_view(alloc, &fragment.view, &facts) {
+            Ok(()) => {}
+            Err(error) => return Err(error),
+        }
+    }
+    Ok(())
+}
