@@ -22,7 +22,7 @@ use Rattle.esto_ports.specs.declared.file_fault.FileError.TheVariants.{Fault}
 use Rattle.esto_ports.specs.declared.file_fault.FileFault.{FileFault}
 use Rattle.esto_run.specs.Answers.{AreRising}
 use Rattle.esto_run.specs.Laws.{AnswersAreOverFiles, FilesHoldViewRows, IsAnswerOver, RewritingsAnswerQueries}
-use Rattle.esto_run.specs.Opened.{AreOpened, AreRowsFor}
+use Rattle.esto_run.specs.Opened.{AreOpened, AreRowsFor, Held, rows_held}
 use Rattle.esto_run.specs.Stores.{IsFileRow, IsRowIn, first_fault_in}
 use Rattle.esto_semantics.specs.Listed.{candidate, chosen, IsListed}
 use Rattle.esto_semantics.specs.ListedLaws.{ChosenAreNamed}
@@ -97,14 +97,14 @@ module _ (size : ℕ) (catalogue : Catalogue) (made : IsMadeCatalogue size catal
       clash same = cc
 
   -- one content more
-  pub opened_more : (number : ℕ) (bytes : List ℕ) (old new : List (List Row)) → bytes ≡ made_content number
+  pub opened_more : (number : ℕ) (bytes : List ℕ) (old new : List Held) → bytes ≡ made_content number
       → table_rows made_columns bytes ≡ made_rows (number / 2) → AreOpenedBelow catalogue number old → AreRowsFor catalogue.fragments new
-      → ((files : ℕ → List ℕ) (numbers : List ℕ) → files number ≡ bytes → AreOpened catalogue.stores files numbers old
-      → AreOpened catalogue.stores files (numbers ++ number ∷ []) new)
+      → ((files : ℕ → List ℕ) (numbers : List ℕ) → files number ≡ bytes → AreOpened catalogue.stores files numbers (rows_held old)
+      → AreOpened catalogue.stores files (numbers ++ number ∷ []) (rows_held new))
       → AreOpenedBelow catalogue (number + 1) new
   opened_more number bytes old new is say before rows opens = record {
     rows = rows;
-    of_contents = subst (λ it. AreOpened catalogue.stores made_content it new) (sym (below_more number))
+    of_contents = subst (λ it. AreOpened catalogue.stores made_content it (rows_held new)) (sym (below_more number))
         (opens made_content (below number) (sym is) before.of_contents);
     say = λ fragment within. elim (earlier_or_last fragment number within) [
       | inl earlier ↦ before.say fragment earlier
@@ -141,7 +141,7 @@ values_apart (cell ∷ cells) (other ∷ others) same =
 
 module _ (over_files : AnswersAreOverFiles) (answers : RewritingsAnswerQueries) (named : ChosenAreNamed) (size : ℕ) (catalogue : Catalogue)
     (made : IsMadeCatalogue size catalogue) (plan : Plan) (over : IsPlanOver plan catalogue.fragments) (item : Listed)
-    (is_item : IsItemOfCase size plan item) (opened : List (List Row)) (are : AreOpenedBelow catalogue (2 * size) opened) where
+    (is_item : IsItemOfCase size plan item) (opened : List Held) (are : AreOpenedBelow catalogue (2 * size) opened) where
   relation_below : (atom : Fact Term) → Contains (candidate (plan_query plan) item.set).body atom → atom.relation < 2 * size
   relation_below atom inside =
       let chosen_at = (named item.set (plan_query plan).body atom).0 inside in
@@ -173,7 +173,7 @@ module _ (over_files : AnswersAreOverFiles) (answers : RewritingsAnswerQueries) 
 
   -- the rows that the candidate gives are counted as the query's answers
   pub counted : (rows : List Row)
-      → ((row : Row) → Contains rows row ↔ IsAnswerOver (IsRowOf (held_by opened)) (candidate (plan_query plan) item.set) row)
+      → ((row : Row) → Contains rows row ↔ IsAnswerOver (IsRowOf (held_by (rows_held opened))) (candidate (plan_query plan) item.set) row)
       → AllPairs ◌≢◌ rows → CountsAnswers size (length rows)
   counted rows exact once = (
     map (map Text) rows,
@@ -195,7 +195,7 @@ module _ (over_files : AnswersAreOverFiles) (answers : RewritingsAnswerQueries) 
           answers [] (made_views size) (made_patterns size) (made_query size) (plan_query plan) item.set catalogue.stores made_content (made_database size)
           is_item.set.0 (λ rule inside. absurd (Contains-nil rule inside)) hold values
 
-      files : (row : Row) → IsAnswerOver (IsRowOf (held_by opened)) (candidate (plan_query plan) item.set) row
+      files : (row : Row) → IsAnswerOver (IsRowOf (held_by (rows_held opened))) (candidate (plan_query plan) item.set) row
           ↔ IsAnswerOver (IsFileRow catalogue.stores made_content) (candidate (plan_query plan) item.set) row
-      files row = over_files catalogue.stores made_content (below (2 * size)) opened (candidate (plan_query plan) item.set) are.of_contents
+      files row = over_files catalogue.stores made_content (below (2 * size)) (rows_held opened) (candidate (plan_query plan) item.set) are.of_contents
           (λ atom inside. below_there (2 * size) atom.relation (relation_below atom inside)) row

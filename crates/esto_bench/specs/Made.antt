@@ -2,7 +2,7 @@
 use Rattle.std.specs.Prelude.{◌≡◌, ◌≢◌, ◌↔◌, ℕ, ◌<◌, ◌/◌, List, [], ◌∷◌, ◌++◌, map, codes, length, All, AllPairs, Contains}
 use Rattle.esto_catalog.specs.declared.catalogue.Catalogue.{Catalogue}
 use Rattle.esto_query.specs.Making.{query_of}
-use Rattle.esto_run.specs.Opened.{AreOpened, AreRowsFor}
+use Rattle.esto_run.specs.Opened.{AreOpened, AreRowsFor, Held, rows_held}
 use Rattle.esto_list.specs.Items.{sets_of}
 use Rattle.esto_list.specs.declared.listing.Listed.{Listed}
 use Rattle.esto_semantics.specs.Access.{IsStatedOrder}
@@ -12,7 +12,6 @@ use Rattle.esto_semantics.specs.declared.fact.Value.{Value}
 use Rattle.esto_universal.specs.Planned.{IsPlanOfRun}
 use Rattle.esto_views.specs.Plans.{plan_query}
 use Rattle.esto_views.specs.declared.plan.Plan.{Plan}
-use Rattle.esto_stores.specs.Rows.{Row}
 use Rattle.esto_stores.specs.Table.{table_rows}
 use Rattle.esto_stores.specs.TableText.{table_text}
 use Rattle.esto_views.specs.Fragments.{views_of, patterns_of, weights_of}
@@ -46,9 +45,9 @@ abbrev pub made_content : ℕ → List ℕ
 made_content fragment = table_text made_columns (made_rows (fragment / 2))
 
 -- The rows are those of the contents of the first fragments, so many, which say the made rows.
-pub record AreOpenedBelow (catalogue : Catalogue) (count : ℕ) (opened : List (List Row)) : Type 0 where
+pub record AreOpenedBelow (catalogue : Catalogue) (count : ℕ) (opened : List Held) : Type 0 where
   pub rows : AreRowsFor catalogue.fragments opened
-  pub of_contents : AreOpened catalogue.stores made_content (below count) opened
+  pub of_contents : AreOpened catalogue.stores made_content (below count) (rows_held opened)
   pub say : (fragment : ℕ) → fragment < count → table_rows made_columns (made_content fragment) ≡ made_rows (fragment / 2)
 
 -- The number is that of the query's distinct answers over the made database.

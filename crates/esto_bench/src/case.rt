@@ -56,7 +56,7 @@ fn count_rows(
     rewritings_answer_queries();
     chosen_atoms_are_named();
     let opened = made_opened(alloc, catalogue, size)?;
-    let rows = rows_of_set(alloc, &item.order, plan, &catalogue.fragments, &opened)?;
+    let rows = rows_of_set(alloc, &item.order, plan, &catalogue.fragments, opened)?;
     Ok(rows.len())
 }
 
