@@ -55,11 +55,14 @@ module _ {X : Type 0} (of_a of_b : ℕ → X) where
   pub both_from : (size : ℕ) (thing : X) → Contains (of_both of_a of_b size) thing
       → (relation : ℕ) × (relation < size) × ((thing ≡ of_a relation) ⊎ (thing ≡ of_b relation))
   both_from size thing inside =
-      let found = Contains-flat_from pair (below size) thing inside in
-      (found.0, below_bound size found.0 found.1, elim (Contains-cases (of_a found.0) (of_b found.0 ∷ []) thing found.2) [
-        | inl is ↦ inl (sym is)
-        | inr later ↦ elim (Contains-cases (of_b found.0) [] thing later) [ inl is ↦ inr (sym is) | inr none ↦ absurd (Contains-nil thing none) ]
-      ])
+      let found = Contains-flat_from pair (below size) thing inside in (
+        found.0,
+        below_bound size found.0 found.1,
+        elim (Contains-cases (of_a found.0) (of_b found.0 ∷ []) thing found.2) [
+          | inl is ↦ inl (sym is)
+          | inr later ↦ elim (Contains-cases (of_b found.0) [] thing later) [ inl is ↦ inr (sym is) | inr none ↦ absurd (Contains-nil thing none) ]
+        ],
+      )
 
   -- two things more, of a list that a function makes so of another
   pub both_pushed : {Y : Type 0} (f : Y → X) (relation : ℕ) (old new : List Y) (first second : Y) → new ≡ old ++ first ∷ second ∷ []

@@ -155,8 +155,11 @@ module _ (relation_of : ℕ → ℕ) (size : ℕ) (some : 0 < size) where
 
   query_safe : IsSafe query.head query.body
   query_safe term inside = elim (two (Plain 0) (Plain size) term inside) [
-    | inl is ↦ inr (chain_atom relation_of 0, atom_there 0 some,
-        subst (Contains (Plain 0 ∷ Plain (0 + 1) ∷ [])) is (Contains-head (Plain 0) (Plain (0 + 1) ∷ [])))
+    | inl is ↦ inr (
+      chain_atom relation_of 0,
+      atom_there 0 some,
+      subst (Contains (Plain 0 ∷ Plain (0 + 1) ∷ [])) is (Contains-head (Plain 0) (Plain (0 + 1) ∷ [])),
+    )
     | inr is ↦ inr (last_there term is)
   ]
 

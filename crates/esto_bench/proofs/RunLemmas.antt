@@ -158,9 +158,12 @@ module _ (over_files : AnswersAreOverFiles) (answers : RewritingsAnswerQueries) 
     (λ (store, there, inside). subst (λ it. Contains it row) (are.say fragment within)
         (subst (λ it. IsRowIn it (made_content fragment) row) (shape_is size catalogue made fragment store there) inside)),
     (λ inside. let long = stores_long size catalogue made in
-        let store = thing_at catalogue.stores fragment (omega (arith, within, long)) in
-        (store.0, store.1, subst (λ it. IsRowIn it (made_content fragment) row) (sym (shape_is size catalogue made fragment store.0 store.1))
-        (subst (λ it. Contains it row) (sym (are.say fragment within)) inside))),
+        let store = thing_at catalogue.stores fragment (omega (arith, within, long)) in (
+          store.0,
+          store.1,
+          subst (λ it. IsRowIn it (made_content fragment) row) (sym (shape_is size catalogue made fragment store.0 store.1))
+              (subst (λ it. Contains it row) (sym (are.say fragment within)) inside),
+        )),
   )
 
   hold : FilesHoldViewRows (made_views size) (made_database size) (candidate (plan_query plan) item.set) catalogue.stores made_content
@@ -179,12 +182,12 @@ module _ (over_files : AnswersAreOverFiles) (answers : RewritingsAnswerQueries) 
     map (map Text) rows,
     distinct_map (map Text) rows (λ row other inside other_inside same. values_apart row other same) once,
     (λ values. (
-        (λ inside. let found = Contains-map_from (map Text) rows values inside in
-            (law values).1 (found.0, sym found.2, (files found.0).0 ((exact found.0).0 found.1))),
-        (λ answer. let found = (law values).0 answer in
-            subst (Contains (map (map Text) rows)) (sym found.1)
-            (Contains-map (map Text) rows found.0 ((exact found.0).1 ((files found.0).1 found.2)))),
-      )),
+      (λ inside. let found = Contains-map_from (map Text) rows values inside in
+          (law values).1 (found.0, sym found.2, (files found.0).0 ((exact found.0).0 found.1))),
+      (λ answer. let found = (law values).0 answer in
+          subst (Contains (map (map Text) rows)) (sym found.1)
+          (Contains-map (map Text) rows found.0 ((exact found.0).1 ((files found.0).1 found.2)))),
+    )),
     sym (length-map rows (map Text)),
   )
     where

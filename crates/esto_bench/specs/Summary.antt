@@ -31,11 +31,11 @@ pub record SumsUp (rules : List Rule) (views : List ConjunctiveQuery) (patterns 
   pub exact : (row : List Value) → Contains answers row ↔ IsAnswer query database row
   pub once : AllPairs ◌≢◌ answers
   pub told : summary ≡ record {
-      plan = length plan.atoms;
-      rewritings = length items;
-      weight = slice_index_or (totals_of items) pick 0;
-      rows = length answers;
-    }
+    plan = length plan.atoms;
+    rewritings = length items;
+    weight = slice_index_or (totals_of items) pick 0;
+    rows = length answers;
+  }
 
 -- It is the summary of the made case of the size, which has no rules.
 abbrev pub IsSummaryOfCase : ℕ → Summary → Type 0

@@ -42,12 +42,7 @@ pub fn two_variables(alloc: Global, first: u64, second: u64) -> Result<Terms, Ou
 }
 
 /// An atom over the relation and two variables.
-pub fn atom_of(
-    alloc: Global,
-    relation: usize,
-    first: u64,
-    second: u64,
-) -> Result<Atom, OutOfMemory>
+pub fn atom_of(alloc: Global, relation: usize, first: u64, second: u64) -> Result<Atom, OutOfMemory>
     ensures { IfOk result (λ it. it
         ≡ record { relation = relation; terms = Plain first ∷ Plain second ∷ [] }) }
 {
@@ -114,11 +109,7 @@ fn fragment_of(
 }
 
 // Puts both fragments of the relation at the end.
-fn add_both(
-    alloc: Global,
-    fragments: &mut FragmentDefs,
-    relation: usize,
-) -> Result<(), OutOfMemory>
+fn add_both(alloc: Global, fragments: &mut FragmentDefs, relation: usize) -> Result<(), OutOfMemory>
     ensures { OnOk result (AddsBoth relation fragments.old fragments.new) }
 {
     let first = fragment_of(alloc, "A", relation, 1)?;
