@@ -4,14 +4,14 @@ ghost use Rattle.esto_query.specs.declared.query.Name.{Name};
 ghost use Rattle.esto_catalog.specs.Datasets.{AreColumns};
 ghost use Rattle.esto_catalog.specs.Rows.{Walks};
 ghost use Rattle.esto_catalog.specs.Shapes.{column_of, head_columns, name_at, AreDistinctNames, store_columns, store_columns_row, reads_pattern, pattern_row, table_row, documents_row, keys_row, shape_row};
-ghost use Rattle.esto_catalog.specs.declared.setting.Setting.TheVariants.{Texts};
+ghost use Rattle.esto_settings.specs.declared.setting.Setting.TheVariants.{Texts};
 
 use crate::catalogue::Shape;
 use crate::columns::are_columns;
 use crate::fault::{CatalogueError, CatalogueKind, Place, demand, fault};
 use crate::model::{layout, unfit};
 use crate::row::needs_text;
-use crate::setting::{Field, Setting, setting_at};
+use esto_settings::{Field, Setting, setting_at};
 use esto_docmodel::{Pattern, is_layout};
 use esto_query::{Name, Names, Query};
 use esto_read::{DataModel, read_layout};

@@ -212,13 +212,13 @@ module _ (files : Files) (catalogue other : Catalogue) (alike : AreSame catalogu
         → IsSameEnd end other_end
     unfolding judges
     one_end (Left plan) (Left other_plan) here there =
-        laws.plan (rules_of catalogue.rules) (views_of catalogue.fragments) query.names (query_of query) plan other_plan rules_are here
+        laws.plan catalogue.core (rules_of catalogue.rules) (views_of catalogue.fragments) query.names (query_of query) plan other_plan rules_are here
         (planned_moved catalogue other alike query other_query same other_plan there)
     one_end (Left plan) (Right clash) here there =
-        laws.apart (rules_of catalogue.rules) (views_of catalogue.fragments) query.names (query_of query) plan clash rules_are here
+        laws.apart catalogue.core (rules_of catalogue.rules) (views_of catalogue.fragments) query.names (query_of query) plan clash rules_are here
         (clash_moved catalogue other alike query other_query same clash there)
     one_end (Right clash) (Left plan) here there =
-        laws.apart (rules_of catalogue.rules) (views_of catalogue.fragments) query.names (query_of query) plan clash rules_are
+        laws.apart catalogue.core (rules_of catalogue.rules) (views_of catalogue.fragments) query.names (query_of query) plan clash rules_are
         (planned_moved catalogue other alike query other_query same plan there) here
     one_end (Right clash) (Right other_clash) here there =
         laws.clash (rules_of catalogue.rules) (query_of query) clash other_clash rules_are here

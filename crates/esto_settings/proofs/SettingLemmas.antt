@@ -1,15 +1,15 @@
 -- What turns of the loops over TOML's values give.
-use Rattle.std.proofs.Common.{◌≡◌, ◌<◌, ◌+◌, ℕ, ℤ, List, [], ◌∷◌, ◌++◌, Option, Some, None, Bor, option_map, String, Global, nat_cmp, length, drop, get_or, string_bytes, refl, sym, ap, ◌∙◌, append_assoc}
+use Rattle.std.proofs.Common.{◌≡◌, ◌<◌, ◌+◌, ℕ, ℤ, List, [], ◌∷◌, ◌++◌, Option, Some, None, Bor, false, option_map, String, Global, nat_cmp, length, drop, get_or, string_bytes, refl, sym, ap, ◌∙◌, append_assoc}
 use Rattle.std.specs.BTreeMap.{is_at}
 use Rattle.std.specs.Cmp.Lexicographic.{slice_cmp}
 use Rattle.std.specs.Map.{lookup}
 use Rattle.toml.proofs.Views.{Entry as Pair, items_view-drop, table_get}
-use Rattle.toml.specs.Data.{Data, Items, item, string, integer, float, boolean, datetime, array, table, Members, get_member, as_str, as_integer, as_array, as_table}
+use Rattle.toml.specs.Data.{Data, Items, item, string, integer, float, boolean, datetime, array, table, Members, get_member, as_str, as_integer, as_bool, as_array, as_table}
 use Rattle.toml.specs.View.{view, items_view, members_view}
 use Rattle.toml.specs.declared.value.Value.{Value}
-use Rattle.esto_catalog.specs.Settings.{texts_of, array_setting, setting_of, entry_of, entries_of, section_of}
-use Rattle.esto_catalog.specs.declared.setting.Field.{Field}
-use Rattle.esto_catalog.specs.declared.setting.Setting.TheVariants.{Text, Integer, Other}
+use Rattle.esto_settings.specs.Settings.{texts_of, array_setting, setting_of, entry_of, switch_of, entries_of, section_of}
+use Rattle.esto_settings.specs.declared.setting.Field.{Field}
+use Rattle.esto_settings.specs.declared.setting.Setting.TheVariants.{Text, Integer, Other}
 
 -- what is done, and then what is left
 abbrev pub after : {A : Type 0} → List A → Option (List A) → Option (List A)
@@ -153,6 +153,15 @@ section_none (datetime n) is = refl
 section_none (array n) is = cc
 section_none (table n) is = refl
 
+switch_value : (datum : Data) → as_bool datum ≡ switch_of (Some datum)
+switch_value (string n) = refl
+switch_value (integer n) = refl
+switch_value (float n) = refl
+switch_value (boolean n) = refl
+switch_value (datetime n) = refl
+switch_value (array n) = refl
+switch_value (table n) = refl
+
 -- a turn of the loop over the pairs of a table
 pub entry_next : (all entry : List Field) (key : String Global) (value : Value) (left : List Pair)
     → all ≡ entry ++ entry_of (members_view ((key, value) ∷ left))
@@ -164,6 +173,10 @@ entry_next all entry key value left is = is ∙ sym (append_assoc entry (record 
 
 module _ (found : Option (Bor Value)) (key : List ℕ) (pairs : List Pair)
     (gets : option_map (λ x. x.now) found ≡ lookup (is_at (λ x. slice_cmp nat_cmp key (string_bytes x))) pairs) where
+  -- the key of a switch is absent
+  pub switch_absent : found ≡ None → Some false ≡ switch_of (get_member key (members_view pairs))
+  switch_absent is = ap switch_of (sym (sym (table_get found key pairs gets) ∙ ap (option_map (λ x. view x.now)) is))
+
   -- the key is absent
   pub section_absent : (entries : List (List Field)) → found ≡ None → entries ≡ [] → Some entries ≡ section_of (get_member key (members_view pairs))
   section_absent entries is none =
@@ -173,6 +186,10 @@ module _ (found : Option (Bor Value)) (key : List ℕ) (pairs : List Pair)
   module _ (value : Bor Value) (is : found ≡ Some value) where
     at_value : get_member key (members_view pairs) ≡ Some (view value.now)
     at_value = sym (table_get found key pairs gets) ∙ ap (option_map (λ x. view x.now)) is
+
+    -- a truth value is there, or something else
+    pub switch_there : as_bool (view value.now) ≡ switch_of (get_member key (members_view pairs))
+    switch_there = switch_value (view value.now) ∙ ap switch_of (sym at_value)
 
     -- an array is there
     pub section_entries : (items : Items) → Some items ≡ as_array (view value.now) → entries_of items ≡ section_of (get_member key (members_view pairs))

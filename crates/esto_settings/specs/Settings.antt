@@ -1,13 +1,15 @@
 -- What is written in a catalogue, without the form in which TOML keeps it.
-use Rattle.std.specs.Prelude.{◌≡◌, ℕ, List, [], ◌∷◌, Option, Some, None, Bool, option_map, if◌then◌else◌, nat_eq, IsUtf8, codes}
+use Rattle.std.specs.Prelude.{◌≡◌, ℕ, List, [], ◌∷◌, Option, Some, None, Bool, false, option_map, if◌then◌else◌, nat_eq, IsUtf8, codes}
 use Rattle.std.specs.List.{list_any}
 use Rattle.std.specs.Cmp.Lexicographic.{pointwise}
-use Rattle.toml.specs.Data.{Data, string, integer, array, table, Items, no_items, item, Members, no_members, member, get_member}
+use Rattle.toml.specs.Data.{Data, string, integer, boolean, array, table, Items, no_items, item, Members, no_members, member, get_member}
 use Rattle.toml.specs.Parse.{parse_document}
-use Rattle.esto_catalog.specs.declared.setting.Document.{Document}
-use Rattle.esto_catalog.specs.declared.setting.Field.{Field}
-use Rattle.esto_catalog.specs.declared.setting.Setting.{Setting}
-use Rattle.esto_catalog.specs.declared.setting.Setting.TheVariants.{Text, Integer, Texts, Other}
+use Rattle.esto_settings.specs.declared.setting.Document.{Document}
+use Rattle.esto_settings.specs.declared.setting.Field.{Field}
+use Rattle.esto_settings.specs.declared.setting.Setting.{Setting}
+use Rattle.esto_settings.specs.declared.setting.Setting.TheVariants.{Text, Integer, Texts, Other}
+use Rattle.esto_settings.specs.declared.setting.TomlError.{TomlError}
+use Rattle.esto_settings.specs.declared.setting.TomlError.TheVariants.{Refused, OutOfMemory}
 
 -- The texts of an array that has nothing else.
 abbrev pub texts_of : Items → Option (List (List ℕ))
@@ -44,10 +46,17 @@ section_of None = Some []
 section_of (Some (array items)) = entries_of items
 section_of (Some _) = None
 
+-- A switch: an absent one is false, and what is no truth value is no switch.
+abbrev pub switch_of : Option Data → Option Bool
+switch_of None = Some false
+switch_of (Some (boolean value)) = Some value
+switch_of (Some _) = None
+
 -- What the top table of a catalogue says.
 abbrev pub document_of : Members → Document
 document_of members = record {
   fields = entry_of members;
+  core = switch_of (get_member (codes "core") members);
   datasets = section_of (get_member (codes "dataset") members);
   fragments = section_of (get_member (codes "fragment") members);
   constraints = section_of (get_member (codes "constraint") members);
@@ -56,6 +65,19 @@ document_of members = record {
 -- The bytes are UTF-8, and TOML of this table.
 abbrev pub IsTable : List ℕ → Members → Type 0
 IsTable bytes members = IsUtf8 bytes × (parse_document bytes ≡ Some members)
+
+-- The bytes are UTF-8 and TOML, and this is what their table says.
+abbrev pub IsDocument : List ℕ → Document → Type 0
+IsDocument bytes document = (members : Members) × IsTable bytes members × (document ≡ document_of members)
+
+-- The bytes are not UTF-8, or no TOML.
+abbrev pub HasNoTable : List ℕ → Type 0
+HasNoTable bytes = (members : Members) → ¬ IsTable bytes members
+
+-- Why the bytes have no document: they have no table, or memory is wanting.
+abbrev pub IsTomlError : List ℕ → TomlError → Type 0
+IsTomlError bytes Refused = HasNoTable bytes
+IsTomlError bytes OutOfMemory = Unit {0}
 
 -- Two texts are the same.
 abbrev pub is_same : List ℕ → List ℕ → Bool

@@ -1,9 +1,9 @@
 use Rattle.std.proofs.Common.{ap, ◌∙◌}
 use Rattle.std.proofs.lemmas.Result.{IfOk-weaker}
 use Rattle.toml.specs.View.{items_view}
-use Rattle.esto_catalog.specs.Settings.{entries_of}
-use Rattle.esto_catalog.proofs.SettingLemmas.{section_absent, section_entries, section_other}
-use Rattle.esto_catalog.proofs.setting.section_of.Goals as goal
+use Rattle.esto_settings.specs.Settings.{entries_of}
+use Rattle.esto_settings.proofs.SettingLemmas.{section_absent, section_entries, section_other}
+use Rattle.esto_settings.proofs.setting.section_of.Goals as goal
 
 pub returns-in_default : goal.returns-in_default
 returns-in_default c = section_absent c.get.result c.args.key.now c.args.table.now.entries c.get.ensures.value c.new.result c.in_default.is c.new.ensures

@@ -1,12 +1,9 @@
 //! What is written in a catalogue, in plain data: after this file nothing knows TOML.
-ghost use Rattle.std.specs.Prelude.{◌≡◌, ◌↔◌, None, Some, IfOk, IsTrue, MatchOption};
+ghost use Rattle.std.specs.Prelude.{◌≡◌, ◌↔◌, None, Some, IfOk, IfErr, IsTrue, MatchOption};
 ghost use Rattle.toml.specs.Data.{get_member};
 ghost use Rattle.toml.specs.View.{view, items_view, table_view};
-ghost use Rattle.esto_catalog.specs.Rows.{Walks};
-ghost use Rattle.esto_catalog.specs.Settings.{is_same, has_key, setting_at, texts_of, array_setting, setting_of, entry_of, entries_of, section_of, document_of};
-ghost use Rattle.esto_catalog.specs.Whole.{reads_toml};
+ghost use Rattle.esto_settings.specs.Settings.{is_same, has_key, setting_at, texts_of, array_setting, setting_of, entry_of, switch_of, entries_of, section_of, document_of, IsDocument, IsTomlError};
 
-use crate::fault::{CatalogueError, CatalogueKind, TOP, fault};
 use esto_term::{List, OutOfMemory, Text, TextRow};
 use std::alloc::Global;
 use toml::{Table, Value};
@@ -35,13 +32,34 @@ pub type KeyList = List<Field>;
 /// The entries of a section, in order.
 pub type SectionTables = List<KeyList>;
 
-/// A catalogue's file: its top keys, and its sections, each None where it is no array of tables.
+/// A catalogue's file: its top keys; its switch `core`, which is false where it is absent, and None where it is no truth
+/// value; and its sections, each None where it is no array of tables.
 #[derive(Drop)]
 pub struct Document {
     pub fields: KeyList,
+    pub core: Option<bool>,
     pub datasets: Option<SectionTables>,
     pub fragments: Option<SectionTables>,
     pub constraints: Option<SectionTables>,
+}
+
+/// Why bytes have no document.
+#[derive(Clone, Copy, Debug, PartialEq, Eq)]
+pub enum TomlError {
+    /// They are no TOML.
+    Refused,
+    OutOfMemory,
+}
+
+impl From<OutOfMemory> for TomlError {
+    ghost use Rattle.std.specs.Prelude.{◌≡◌};
+    ghost use Rattle.esto_settings.specs.declared.setting.TomlError.{TomlError};
+
+    ghost from_gives = { λ _ e. e ≡ TomlError.OutOfMemory };
+
+    fn from(_: OutOfMemory) -> TomlError {
+        TomlError::OutOfMemory
+    }
 }
 
 // The texts of an array, or None where it has something else.
@@ -121,29 +139,42 @@ fn section_of(alloc: Global, table: &Table, key: &str) -> Result<Option<SectionT
     }
 }
 
+// The truth value at the key, false where it is absent; or None where it is something else.
+fn switch_of(table: &Table, key: &str) -> Option<bool>
+    ensures { result ≡ switch_of (get_member key.now (table_view table.now)) }
+{
+    match table.get(key) {
+        Some(value) => value.as_bool(),
+        None => Some(false),
+    }
+}
+
 fn document_of(alloc: Global, table: &Table) -> Result<Document, OutOfMemory>
     ensures { IfOk result (λ it. it ≡ document_of (table_view table.now)) }
 {
     let fields = entry_of(alloc, table)?;
+    let core = switch_of(table, "core");
     let datasets = section_of(alloc, table, "dataset")?;
     let fragments = section_of(alloc, table, "fragment")?;
     let constraints = section_of(alloc, table, "constraint")?;
     Ok(Document {
         fields,
+        core,
         datasets,
         fragments,
         constraints,
     })
 }
 
-/// The file that the bytes are as TOML, or its fault.
-pub fn read_toml(alloc: Global, bytes: &[u8]) -> Result<Document, CatalogueError>
-    ensures { Walks (reads_toml bytes.now) result }
+/// The document that the bytes are, as UTF-8 and TOML; or why they are none.
+pub fn read_toml(alloc: Global, bytes: &[u8]) -> Result<Document, TomlError>
+    ensures document { IfOk result (IsDocument bytes.now) }
+    ensures error { IfErr result (IsTomlError bytes.now) }
 {
     match toml::table_from_slice(alloc, bytes) {
         Ok(table) => Ok(document_of(alloc, &table)?),
-        Err(error) if error.is_memory() => Err(CatalogueError::OutOfMemory),
-        Err(_) => Err(fault(alloc, CatalogueKind::Toml, TOP, "-", None)),
+        Err(error) if error.is_memory() => Err(TomlError::OutOfMemory),
+        Err(_) => Err(TomlError::Refused),
     }
 }
 
