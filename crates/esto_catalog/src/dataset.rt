@@ -8,9 +8,9 @@ use crate::columns::{are_columns, is_name};
 use crate::fault::{CatalogueError, CatalogueKind, Place, Section, demand};
 use crate::model::{layout, needs_model, unfit};
 use crate::row::{Keys, allows_text, knows_keys, needs_text, needs_texts};
-use esto_settings::{Field, KeyList, is_same};
 use esto_docs::Layout;
 use esto_read::DataModel;
+use esto_settings::{Field, KeyList, is_same};
 use esto_term::{List, Text, TextRow};
 use std::alloc::Global;
 

@@ -14,9 +14,9 @@ use crate::fault::{CatalogueError, CatalogueKind, Place, Section, demand, fault}
 use crate::model::needs_model;
 use crate::row::{Keys, knows_keys, needs_text};
 use crate::scope::Scope;
-use esto_settings::{Field, KeyList, is_same};
 use crate::shape::shape;
 use esto_read::{NamedQuery, read_view, views_name_their_columns};
+use esto_settings::{Field, KeyList, is_same};
 use esto_term::{List, Text};
 use esto_text::ReadError;
 use esto_views::{AccessList, FragmentDef, FragmentDefs};

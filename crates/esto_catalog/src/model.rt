@@ -8,9 +8,9 @@ ghost use Rattle.esto_settings.specs.Settings.{setting_at};
 
 use crate::fault::{CatalogueError, CatalogueKind, Place, demand, fault};
 use crate::row::needs_text;
-use esto_settings::{Field, Setting, has_key, is_same, setting_at};
 use esto_docs::Layout;
 use esto_read::DataModel;
+use esto_settings::{Field, Setting, has_key, is_same, setting_at};
 use esto_term::Text;
 use std::alloc::Global;
 

@@ -7,9 +7,7 @@ ghost use Rattle.esto_catalog.specs.Whole.{is_two, top_keys, number_of, reads_to
 
 use crate::fault::{CatalogueError, CatalogueKind, TOP, fault};
 use crate::row::{Keys, knows_keys};
-use esto_settings::{
-    Document, Field, SectionTables, Setting, TomlError, read_toml, setting_at,
-};
+use esto_settings::{Document, Field, SectionTables, Setting, TomlError, read_toml, setting_at};
 use esto_text::Version;
 use std::alloc::Global;
 
