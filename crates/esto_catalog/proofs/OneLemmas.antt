@@ -56,8 +56,8 @@ use Rattle.esto_catalog.specs.Shapes.{AreDistinctNames, documents_row, head_colu
 use Rattle.esto_catalog.specs.Fragments.{reads_view, view_row, stored_fragment, reads_fragment, adds_fragment, reads_fragments, no_fragments, with_fragment}
 use Rattle.esto_catalog.specs.Reading.{IsCatalogueError, IsCycleOf, IsMadeOf, is_acyclic, reads_catalogue}
 use Rattle.esto_catalog.specs.Rows.{IsWant, IsAny, fault_at, text_fault_at, IsLeastUnknown, knows_keys, needs_text, needs_texts, allows_text, top}
-use Rattle.esto_settings.specs.Settings.{document_of}
-use Rattle.esto_catalog.specs.Whole.{number_of, reads_toml, reads_version, reads_core, reads_section, reads_whole}
+use Rattle.esto_settings.specs.Settings.{document_of, setting_at}
+use Rattle.esto_catalog.specs.Whole.{number_of, top_keys, reads_toml, reads_version, reads_core, reads_section, reads_whole}
 use Rattle.esto_catalog.specs.declared.catalogue.Catalogue.{Catalogue}
 use Rattle.esto_catalog.specs.declared.catalogue.Shape.{Shape}
 use Rattle.esto_catalog.specs.declared.catalogue.Shape.TheVariants.{Documents as FromDocuments}
@@ -68,7 +68,8 @@ use Rattle.esto_catalog.specs.declared.fault.CatalogueKind.{CatalogueKind}
 use Rattle.esto_catalog.specs.declared.fault.CatalogueKind.TheVariants.{BadPattern, UnknownKey}
 use Rattle.esto_catalog.specs.declared.fault.Place.{Place}
 use Rattle.esto_catalog.specs.declared.fault.Section.TheVariants as section
-use Rattle.esto_catalog.specs.declared.row.Keys.{Keys}
+use Rattle.esto_catalog.specs.declared.row.Keys.{Keys as KeySet}
+use Rattle.esto_catalog.specs.declared.row.Keys.TheVariants as keys
 use Rattle.esto_catalog.specs.declared.fragment.Fragments.{Fragments}
 use Rattle.esto_catalog.specs.declared.fragment.Stored.{Stored}
 use Rattle.esto_settings.specs.declared.setting.Field.{Field}
@@ -124,11 +125,11 @@ tie Less Greater is up down = absurd (down refl)
 tie Equal second is up down = refl
 tie Greater second is up down = absurd (up refl)
 
-least_one : (keys : Keys) (entry : List Field) (key other : List ℕ) → IsLeastUnknown keys entry key → IsLeastUnknown keys entry other → key ≡ other
+least_one : (keys : KeySet) (entry : List Field) (key other : List ℕ) → IsLeastUnknown keys entry key → IsLeastUnknown keys entry other → key ≡ other
 least_one keys entry key other (unknown, least) (unknown', least') =
     exact_bytes key other (tie _ _ (nat_list_cmp_total.antisymm key other) (least other unknown') (least' key unknown))
 
-keys_determined : (place : Place) (keys : Keys) (entry : List Field) → IsDetermined (knows_keys place keys entry)
+keys_determined : (place : Place) (keys : KeySet) (entry : List Field) → IsDetermined (knows_keys place keys entry)
 keys_determined place keys entry = judges_determined ◌≡◌ _ _
     (λ unit other known known'. refl)
     (λ error other (key, least, is) (key', least', is'). is ∙ (ap (fault_at UnknownKey place) (least_one keys entry key key' least least') ∙ sym is'))
@@ -186,7 +187,7 @@ core_determined (Some core) = gives_determined _ _
 whole_determined : (bytes : List ℕ) → IsDetermined (reads_whole bytes)
 whole_determined bytes =
     then_determined ◌≡◌ _ _ (toml_determined bytes) (λ document goes.
-    then_determined ◌≡◌ _ _ (keys_determined top _ document.fields) (λ unit known.
+    then_determined ◌≡◌ _ _ (keys_determined top (top_keys (setting_at (codes "version") document.fields)) document.fields) (λ unit known.
     then_determined ◌≡◌ _ _ (version_determined _) (λ version goes0.
     then_determined ◌≡◌ _ _ (core_determined document.core) (λ core goes4.
     then_determined ◌≡◌ _ _ (section_determined _ document.datasets) (λ datasets goes1.
@@ -246,7 +247,7 @@ columns_determined place Keys entry = then_determined ◌≡◌ _ _ (free_determ
 
 dataset_determined : (place : Place) (earlier : List Dataset) (entry : List Field) → IsDetermined (reads_dataset place earlier entry)
 dataset_determined place earlier entry =
-    then_determined ◌≡◌ _ _ (keys_determined place _ entry) (λ unit known.
+    then_determined ◌≡◌ _ _ (keys_determined place keys.Dataset entry) (λ unit known.
     then_determined ◌≡◌ _ _ name (λ name goes.
     then_determined ◌≡◌ _ _ (model_determined _ place _ entry) (λ model goes1.
     then_determined ◌≡◌ _ _ (columns_determined place model entry) (λ columns goes2.
@@ -424,7 +425,7 @@ module _ (one : HaveOneReading) (no_fault : HaveNoFault) (one_fault : HaveOneFau
   fragment_determined : (place : Place) (earlier : List FragmentDef) (entry : List Field)
       → IsDeterminedUpTo AreSameStored (reads_fragment place datasets earlier entry)
   fragment_determined place earlier entry =
-      then_determined AreSameStored _ _ (keys_determined place _ entry) (λ unit known.
+      then_determined AreSameStored _ _ (keys_determined place keys.Fragment entry) (λ unit known.
       then_determined AreSameStored _ _ (view_row_determined place earlier entry) (λ view goes.
       then_determined AreSameStored _ _ (model_determined _ place _ entry) (λ model goes1.
       then_determined AreSameStored _ _ (text_determined place _ _) (λ file goes2.
@@ -471,7 +472,7 @@ module _ (one : HaveOneRule) (no_fault : HaveNoRuleFault) (one_fault : HaveOneRu
 
   constraint_determined : (version : Version) (place : Place) (entry : List Field) → IsDetermined (reads_constraint version place datasets entry)
   constraint_determined version place entry =
-      then_determined ◌≡◌ _ _ (keys_determined place _ entry) (λ unit known. then_determined ◌≡◌ _ _ (text_determined place _ _)
+      then_determined ◌≡◌ _ _ (keys_determined place keys.Constraint entry) (λ unit known. then_determined ◌≡◌ _ _ (text_determined place _ _)
       (λ text goes. rule_determined version place text))
 
   pub constraints_determined : (version : Version) (entries : List (List Field)) → IsDetermined (reads_constraints version datasets entries)
