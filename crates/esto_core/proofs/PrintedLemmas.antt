@@ -1,5 +1,6 @@
 -- The printed plan: it is one, and what cored plans keep of a plan it keeps too.
 use Rattle.std.proofs.Common.{◌≡◌, ◌≢◌, Bool, true, false, IsTrue, List, [], sym, ap, subst, ◌∙◌}
+use Rattle.std.proofs.lemmas.Bool.{false≢true}
 use Rattle.std.specs.Prelude.{AllPairs}
 use Rattle.esto_semantics.specs.Queries.{ConjunctiveQuery}
 use Rattle.esto_semantics.specs.Rules.{Rule, AreRules}
@@ -24,7 +25,7 @@ printed-keeps P true plan printed keeps is_cored holds = keeps printed is_cored 
 -- where the core is asked for, what is printed retracts into no part of itself
 pub printed-no_retract : CoredHasNoRetract → (core : Bool) (plan printed : Plan) → IsTrue core → IsPrintedOf core plan printed
     → HasNoRetract (plan_query printed)
-printed-no_retract none false plan printed asked is = absurd asked
+printed-no_retract none false plan printed asked is = absurd (false≢true asked)
 printed-no_retract none true plan printed asked is_cored = none plan printed is_cored
 
 -- the atoms of a core are distinct
