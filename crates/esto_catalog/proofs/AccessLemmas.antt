@@ -11,8 +11,8 @@ use Rattle.esto_read.specs.declared.words.DataModel.{DataModel}
 use Rattle.esto_catalog.specs.Access.{is_usual_input, letter_of, usual_pattern, written_pattern, IsPattern, ArePatterns, IsWeight, allows_access, allows_weight}
 use Rattle.esto_catalog.specs.declared.access.TheConstants.{MAX_PATTERNS, MAX_WEIGHT}
 use Rattle.esto_catalog.specs.declared.fault.Place.{Place}
-use Rattle.esto_catalog.specs.declared.setting.Setting.{Setting}
-use Rattle.esto_catalog.specs.declared.setting.Setting.TheVariants.{Text, Integer, Texts, Other}
+use Rattle.esto_settings.specs.declared.setting.Setting.{Setting}
+use Rattle.esto_settings.specs.declared.setting.Setting.TheVariants.{Text, Integer, Texts, Other}
 
 -- ---- a text is that of at most one pattern
 

@@ -18,12 +18,12 @@ use Rattle.esto_catalog.proofs.NameLemmas.{any_free, name_of}
 use Rattle.esto_catalog.specs.Datasets.{AreDatasets, FitModel, IsDataset, StandFrom, adds_dataset, columns_row, has_dataset, is_name, model_relations, reads_dataset, reads_datasets, relation_count, relations_of, schema_of}
 use Rattle.esto_catalog.specs.Models.{layout_row}
 use Rattle.esto_catalog.specs.Rows.{IsWant, IsAny}
-use Rattle.esto_catalog.specs.Settings.{is_same}
+use Rattle.esto_settings.specs.Settings.{is_same}
 use Rattle.esto_catalog.specs.declared.dataset.Dataset.{Dataset}
 use Rattle.esto_catalog.specs.declared.fault.CatalogueError.{CatalogueError}
 use Rattle.esto_catalog.specs.declared.fault.Place.{Place}
 use Rattle.esto_catalog.specs.declared.fault.Section.TheVariants as section
-use Rattle.esto_catalog.specs.declared.setting.Field.{Field}
+use Rattle.esto_settings.specs.declared.setting.Field.{Field}
 use Rattle.esto_catalog.specs.declared.whole.TheConstants.{MAX_ENTRIES}
 
 -- ---- relations of more datasets

@@ -8,8 +8,8 @@ use Rattle.std.proofs.lemmas.Bool.{false≢true}
 use Rattle.std.proofs.lemmas.List.{take_more, take_all}
 use Rattle.std.proofs.lemmas.List.Elements.{Contains-append_left, Contains-push, Contains-push_cases}
 use Rattle.esto_catalog.specs.Rows.{is_known, IsUnknown, IsLeastUnknown, IsLesserOf}
-use Rattle.esto_catalog.specs.declared.fault.Section.{Section}
-use Rattle.esto_catalog.specs.declared.setting.Field.{Field}
+use Rattle.esto_catalog.specs.declared.row.Keys.{Keys}
+use Rattle.esto_settings.specs.declared.setting.Field.{Field}
 use Rattle.esto_term.proofs.ListLemmas.{Contains-nil}
 
 -- the key comes at or before the other, by bytes
@@ -51,42 +51,42 @@ pub lesser_old : (key other : List ℕ) → is_lt (slice_cmp nat_cmp key other) 
 lesser_old key other not = (inl refl, itself other, back _ _ not (nat_list_cmp_total.antisymm other key))
 
 -- what the least unknown key of some fields is
-abbrev pub IsLeastOf : Section → List Field → Option (List ℕ) → Type 0
-IsLeastOf section fields least = MatchOption least ((key : List ℕ) → ¬ IsUnknown section fields key) (IsLeastUnknown section fields)
+abbrev pub IsLeastOf : Keys → List Field → Option (List ℕ) → Type 0
+IsLeastOf keys fields least = MatchOption least ((key : List ℕ) → ¬ IsUnknown keys fields key) (IsLeastUnknown keys fields)
 
-pub none_unknown : (section : Section) → IsLeastOf section [] None
-none_unknown section key (field, inside, same, unknown) = Contains-nil field inside
+pub none_unknown : (keys : Keys) → IsLeastOf keys [] None
+none_unknown keys key (field, inside, same, unknown) = Contains-nil field inside
 
-module _ (section : Section) (fields : List Field) (field : Field) where
-  later : (key : List ℕ) → IsUnknown section fields key → IsUnknown section (fields ++ field ∷ []) key
+module _ (keys : Keys) (fields : List Field) (field : Field) where
+  later : (key : List ℕ) → IsUnknown keys fields key → IsUnknown keys (fields ++ field ∷ []) key
   later key (other, inside, same, unknown) = (other, Contains-append_left fields (field ∷ []) other inside, same, unknown)
 
-  split : (key : List ℕ) → IsUnknown section (fields ++ field ∷ []) key → IsUnknown section fields key ⊎ ((field.key ≡ key) × (is_known section key ≡ false))
+  split : (key : List ℕ) → IsUnknown keys (fields ++ field ∷ []) key → IsUnknown keys fields key ⊎ ((field.key ≡ key) × (is_known keys key ≡ false))
   split key (other, inside, same, unknown) = elim (Contains-push_cases fields field other inside) [
     | inl before ↦ inl (other, before, same, unknown)
     | inr last ↦ inr (ap (λ (f : Field). f.key) last ∙ same, unknown)
   ]
 
   -- a known key changes nothing
-  pub known_next : (least : Option (List ℕ)) → is_known section field.key ≡ true → IsLeastOf section fields least
-      → IsLeastOf section (fields ++ field ∷ []) least
+  pub known_next : (least : Option (List ℕ)) → is_known keys field.key ≡ true → IsLeastOf keys fields least
+      → IsLeastOf keys (fields ++ field ∷ []) least
   known_next least known before = by least before where
-    old : (key : List ℕ) → IsUnknown section (fields ++ field ∷ []) key → IsUnknown section fields key
+    old : (key : List ℕ) → IsUnknown keys (fields ++ field ∷ []) key → IsUnknown keys fields key
     old key unknown = elim (split key unknown) [
       | inl before ↦ before
-      | inr last ↦ absurd (false≢true (sym last.1 ∙ (ap (is_known section) (sym last.0) ∙ known)))
+      | inr last ↦ absurd (false≢true (sym last.1 ∙ (ap (is_known keys) (sym last.0) ∙ known)))
     ]
 
-    by : (least : Option (List ℕ)) → IsLeastOf section fields least → IsLeastOf section (fields ++ field ∷ []) least
+    by : (least : Option (List ℕ)) → IsLeastOf keys fields least → IsLeastOf keys (fields ++ field ∷ []) least
     by None none = λ key unknown. none key (old key unknown)
     by (Some least) (unknown, first) = (later least unknown, λ other is. first other (old other is))
 
   -- the lesser of the least key so far and an unknown one
-  pub unknown_next : (least : Option (List ℕ)) (lesser : List ℕ) → is_known section field.key ≡ false → IsLesserOf least field.key lesser
-      → IsLeastOf section fields least
-      → IsLeastOf section (fields ++ field ∷ []) (Some lesser)
+  pub unknown_next : (least : Option (List ℕ)) (lesser : List ℕ) → is_known keys field.key ≡ false → IsLesserOf least field.key lesser
+      → IsLeastOf keys fields least
+      → IsLeastOf keys (fields ++ field ∷ []) (Some lesser)
   unknown_next None lesser unknown is none = (
-    (field, Contains-push fields field, sym is, ap (is_known section) is ∙ unknown),
+    (field, Contains-push fields field, sym is, ap (is_known keys) is ∙ unknown),
     λ other found. elim (split other found) [
       | inl before ↦ absurd (none other before)
       | inr last ↦ subst (IsUpTo lesser) (is ∙ last.0) (itself lesser)
@@ -94,8 +94,8 @@ module _ (section : Section) (fields : List Field) (field : Field) where
   )
   unknown_next (Some least) lesser unknown (which, up_old, up_new) (least_is, first) = (
     elim which [
-      | inl old ↦ later lesser (subst (IsUnknown section fields) (sym old) least_is)
-      | inr new ↦ (field, Contains-push fields field, sym new, ap (is_known section) new ∙ unknown)
+      | inl old ↦ later lesser (subst (IsUnknown keys fields) (sym old) least_is)
+      | inr new ↦ (field, Contains-push fields field, sym new, ap (is_known keys) new ∙ unknown)
     ],
     λ other found. elim (split other found) [
       | inl before ↦ across lesser least other up_old (first other before)
@@ -115,21 +115,21 @@ copied_match None P Q holds = holds
 copied_match (Some it) P Q holds = holds
 
 -- all fields were seen
-pub all_fields : (section : Section) (fields : List Field) (place : ℕ) (least : Option (List ℕ)) → length fields ≤ place
-    → IsLeastOf section (take place fields) least → IsLeastOf section fields least
-all_fields section fields place least le seen = subst (λ (f : List Field). IsLeastOf section f least) (take_all place fields le) seen
+pub all_fields : (keys : Keys) (fields : List Field) (place : ℕ) (least : Option (List ℕ)) → length fields ≤ place
+    → IsLeastOf keys (take place fields) least → IsLeastOf keys fields least
+all_fields keys fields place least le seen = subst (λ (f : List Field). IsLeastOf keys f least) (take_all place fields le) seen
 
-pub known_turn : (section : Section) (fields : List Field) (place : ℕ) (field : Field) (old new : Option (List ℕ)) → place < length fields
-    → field ≡ get_or fields place field → new ≡ old → is_known section field.key ≡ true
-    → IsLeastOf section (take place fields) old → IsLeastOf section (take (place + 1) fields) new
-known_turn section fields place field old new below is same known seen =
-    subst (λ (f : List Field). IsLeastOf section f new) (sym (fields_more fields place field below is))
-    (subst (IsLeastOf section (take place fields ++ field ∷ [])) (sym same) (known_next section (take place fields) field old known seen))
+pub known_turn : (keys : Keys) (fields : List Field) (place : ℕ) (field : Field) (old new : Option (List ℕ)) → place < length fields
+    → field ≡ get_or fields place field → new ≡ old → is_known keys field.key ≡ true
+    → IsLeastOf keys (take place fields) old → IsLeastOf keys (take (place + 1) fields) new
+known_turn keys fields place field old new below is same known seen =
+    subst (λ (f : List Field). IsLeastOf keys f new) (sym (fields_more fields place field below is))
+    (subst (IsLeastOf keys (take place fields ++ field ∷ [])) (sym same) (known_next keys (take place fields) field old known seen))
 
-pub unknown_turn : (section : Section) (fields : List Field) (place : ℕ) (field : Field) (old new : Option (List ℕ)) (lesser : List ℕ)
+pub unknown_turn : (keys : Keys) (fields : List Field) (place : ℕ) (field : Field) (old new : Option (List ℕ)) (lesser : List ℕ)
     → place < length fields → field ≡ get_or fields place field → new ≡ Some lesser
-    → is_known section field.key ≡ false → IsLesserOf old field.key lesser → IsLeastOf section (take place fields) old
-    → IsLeastOf section (take (place + 1) fields) new
-unknown_turn section fields place field old new lesser below is same unknown lesser_is seen =
-    subst (λ (f : List Field). IsLeastOf section f new) (sym (fields_more fields place field below is))
-    (subst (IsLeastOf section (take place fields ++ field ∷ [])) (sym same) (unknown_next section (take place fields) field old lesser unknown lesser_is seen))
+    → is_known keys field.key ≡ false → IsLesserOf old field.key lesser → IsLeastOf keys (take place fields) old
+    → IsLeastOf keys (take (place + 1) fields) new
+unknown_turn keys fields place field old new lesser below is same unknown lesser_is seen =
+    subst (λ (f : List Field). IsLeastOf keys f new) (sym (fields_more fields place field below is))
+    (subst (IsLeastOf keys (take place fields ++ field ∷ [])) (sym same) (unknown_next keys (take place fields) field old lesser unknown lesser_is seen))

@@ -1,4 +1,3 @@
-pub mod SettingLemmas
 pub mod RowLemmas
 pub mod NameLemmas
 pub mod LeastLemmas

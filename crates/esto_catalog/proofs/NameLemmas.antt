@@ -14,7 +14,7 @@ use Rattle.esto_read.specs.declared.words.DataModel.TheVariants.{Table, Document
 use Rattle.esto_term.proofs.ChoiceLemmas.{pairs_append, pairs_cons, pairs_head, pairs_map, pairs_tail}
 use Rattle.esto_term.proofs.ListLemmas.{Contains-cases, Contains-head, Contains-map_from, Contains-nil, Contains-rest}
 use Rattle.esto_catalog.specs.Datasets.{is_letter, is_name, is_name_byte, model_relations, part_name, relations_of, schema_of}
-use Rattle.esto_catalog.specs.Settings.{is_same}
+use Rattle.esto_settings.specs.Settings.{is_same}
 use Rattle.esto_catalog.specs.declared.dataset.Dataset.{Dataset}
 
 pub or_false : (a b : Bool) → (a || b) ≡ false → (a ≡ false) × (b ≡ false)

@@ -6,7 +6,7 @@ use Rattle.std.proofs.Math.Logic.{∥∥₁_prop}
 use Rattle.std.proofs.lemmas.Cmp.{nat_list_cmp_total}
 use Rattle.std.proofs.lemmas.List.{map-append}
 use Rattle.std.proofs.lemmas.Map.Lookups.{exact_bytes}
-use Rattle.toml.specs.Data.{Members}
+use Rattle.std.proofs.lemmas.Option.{same_Some}
 use Rattle.esto_acyclic.specs.Graphs.{AreRanks, IsLeastCycle}
 use Rattle.esto_acyclic.specs.Relations.{IsEdge}
 use Rattle.esto_acyclic.specs.declared.relations.Cycle.{Cycle}
@@ -56,8 +56,8 @@ use Rattle.esto_catalog.specs.Shapes.{AreDistinctNames, documents_row, head_colu
 use Rattle.esto_catalog.specs.Fragments.{reads_view, view_row, stored_fragment, reads_fragment, adds_fragment, reads_fragments, no_fragments, with_fragment}
 use Rattle.esto_catalog.specs.Reading.{IsCatalogueError, IsCycleOf, IsMadeOf, is_acyclic, reads_catalogue}
 use Rattle.esto_catalog.specs.Rows.{IsWant, IsAny, fault_at, text_fault_at, IsLeastUnknown, knows_keys, needs_text, needs_texts, allows_text, top}
-use Rattle.esto_catalog.specs.Settings.{document_of}
-use Rattle.esto_catalog.specs.Whole.{number_of, reads_toml, reads_version, reads_section, reads_whole}
+use Rattle.esto_settings.specs.Settings.{document_of, setting_at}
+use Rattle.esto_catalog.specs.Whole.{number_of, top_keys, reads_toml, reads_version, reads_core, reads_section, reads_whole}
 use Rattle.esto_catalog.specs.declared.catalogue.Catalogue.{Catalogue}
 use Rattle.esto_catalog.specs.declared.catalogue.Shape.{Shape}
 use Rattle.esto_catalog.specs.declared.catalogue.Shape.TheVariants.{Documents as FromDocuments}
@@ -68,11 +68,13 @@ use Rattle.esto_catalog.specs.declared.fault.CatalogueKind.{CatalogueKind}
 use Rattle.esto_catalog.specs.declared.fault.CatalogueKind.TheVariants.{BadPattern, UnknownKey}
 use Rattle.esto_catalog.specs.declared.fault.Place.{Place}
 use Rattle.esto_catalog.specs.declared.fault.Section.TheVariants as section
+use Rattle.esto_catalog.specs.declared.row.Keys.{Keys as KeySet}
+use Rattle.esto_catalog.specs.declared.row.Keys.TheVariants as keys
 use Rattle.esto_catalog.specs.declared.fragment.Fragments.{Fragments}
 use Rattle.esto_catalog.specs.declared.fragment.Stored.{Stored}
-use Rattle.esto_catalog.specs.declared.setting.Field.{Field}
-use Rattle.esto_catalog.specs.declared.setting.Setting.{Setting}
-use Rattle.esto_catalog.specs.declared.setting.Setting.TheVariants.{Text, Integer, Texts, Other}
+use Rattle.esto_settings.specs.declared.setting.Field.{Field}
+use Rattle.esto_settings.specs.declared.setting.Setting.{Setting}
+use Rattle.esto_settings.specs.declared.setting.Setting.TheVariants.{Text, Integer, Texts, Other}
 
 -- ---- records with a truncated fact are the same where the rest is
 
@@ -123,15 +125,14 @@ tie Less Greater is up down = absurd (down refl)
 tie Equal second is up down = refl
 tie Greater second is up down = absurd (up refl)
 
-least_one : (place : Place) (entry : List Field) (key other : List ℕ) → IsLeastUnknown place.section entry key → IsLeastUnknown place.section entry other
-    → key ≡ other
-least_one place entry key other (unknown, least) (unknown', least') =
+least_one : (keys : KeySet) (entry : List Field) (key other : List ℕ) → IsLeastUnknown keys entry key → IsLeastUnknown keys entry other → key ≡ other
+least_one keys entry key other (unknown, least) (unknown', least') =
     exact_bytes key other (tie _ _ (nat_list_cmp_total.antisymm key other) (least other unknown') (least' key unknown))
 
-keys_determined : (place : Place) (entry : List Field) → IsDetermined (knows_keys place entry)
-keys_determined place entry = judges_determined ◌≡◌ _ _
+keys_determined : (place : Place) (keys : KeySet) (entry : List Field) → IsDetermined (knows_keys place keys entry)
+keys_determined place keys entry = judges_determined ◌≡◌ _ _
     (λ unit other known known'. refl)
-    (λ error other (key, least, is) (key', least', is'). is ∙ (ap (fault_at UnknownKey place) (least_one place entry key key' least least') ∙ sym is'))
+    (λ error other (key, least, is) (key', least', is'). is ∙ (ap (fault_at UnknownKey place) (least_one keys entry key key' least least') ∙ sym is'))
     (λ unit error known (key, least, is). known key least.0)
 
 text_determined : (place : Place) (key : List ℕ) (setting : Option Setting) → IsDetermined (needs_text place key setting)
@@ -158,11 +159,9 @@ allowed_determined place key (Some Other) = refuses_determined _ _
 toml_determined : (bytes : List ℕ) → IsDetermined (reads_toml bytes)
 toml_determined bytes = judges_determined ◌≡◌ _ _
     (λ document other (pairs, table, is) (pairs', table', is').
-    let same : pairs ≡ pairs' = some_same pairs pairs' (sym table.1 ∙ table'.1) in is ∙ (ap document_of same ∙ sym is'))
+    let same : pairs ≡ pairs' = same_Some pairs pairs' (sym table.1 ∙ table'.1) in is ∙ (ap document_of same ∙ sym is'))
     (λ error other (none, is) (none', is'). is ∙ sym is')
-    (λ document error (pairs, table, is) (none, is'). none pairs table) where
-      some_same : (pairs other : Members) → Some pairs ≡ Some other → pairs ≡ other
-      some_same pairs other is = cc
+    (λ document error (pairs, table, is) (none, is'). none pairs table)
 
 section_determined : (key : List ℕ) (section : Option (List (List Field))) → IsDetermined (reads_section key section)
 section_determined key None = refuses_determined _ _
@@ -181,14 +180,19 @@ version_determined setting = judges_determined ◌≡◌ _ _
     (λ error other (none, is) (none', is'). is ∙ sym is')
     (λ version error is (none, is'). none version is)
 
+core_determined : (core : Option Bool) → IsDetermined (reads_core core)
+core_determined None = refuses_determined _ _
+core_determined (Some core) = gives_determined _ _
+
 whole_determined : (bytes : List ℕ) → IsDetermined (reads_whole bytes)
 whole_determined bytes =
     then_determined ◌≡◌ _ _ (toml_determined bytes) (λ document goes.
-    then_determined ◌≡◌ _ _ (keys_determined top document.fields) (λ unit known.
+    then_determined ◌≡◌ _ _ (keys_determined top (top_keys (setting_at (codes "version") document.fields)) document.fields) (λ unit known.
     then_determined ◌≡◌ _ _ (version_determined _) (λ version goes0.
+    then_determined ◌≡◌ _ _ (core_determined document.core) (λ core goes4.
     then_determined ◌≡◌ _ _ (section_determined _ document.datasets) (λ datasets goes1.
     then_determined ◌≡◌ _ _ (section_determined _ document.fragments) (λ fragments goes2.
-    then_determined ◌≡◌ _ _ (section_determined _ document.constraints) (λ constraints goes3. gives_determined _ _))))))
+    then_determined ◌≡◌ _ _ (section_determined _ document.constraints) (λ constraints goes3. gives_determined _ _)))))))
 
 -- ---- models and layouts
 
@@ -243,7 +247,7 @@ columns_determined place Keys entry = then_determined ◌≡◌ _ _ (free_determ
 
 dataset_determined : (place : Place) (earlier : List Dataset) (entry : List Field) → IsDetermined (reads_dataset place earlier entry)
 dataset_determined place earlier entry =
-    then_determined ◌≡◌ _ _ (keys_determined place entry) (λ unit known.
+    then_determined ◌≡◌ _ _ (keys_determined place keys.Dataset entry) (λ unit known.
     then_determined ◌≡◌ _ _ name (λ name goes.
     then_determined ◌≡◌ _ _ (model_determined _ place _ entry) (λ model goes1.
     then_determined ◌≡◌ _ _ (columns_determined place model entry) (λ columns goes2.
@@ -421,7 +425,7 @@ module _ (one : HaveOneReading) (no_fault : HaveNoFault) (one_fault : HaveOneFau
   fragment_determined : (place : Place) (earlier : List FragmentDef) (entry : List Field)
       → IsDeterminedUpTo AreSameStored (reads_fragment place datasets earlier entry)
   fragment_determined place earlier entry =
-      then_determined AreSameStored _ _ (keys_determined place entry) (λ unit known.
+      then_determined AreSameStored _ _ (keys_determined place keys.Fragment entry) (λ unit known.
       then_determined AreSameStored _ _ (view_row_determined place earlier entry) (λ view goes.
       then_determined AreSameStored _ _ (model_determined _ place _ entry) (λ model goes1.
       then_determined AreSameStored _ _ (text_determined place _ _) (λ file goes2.
@@ -468,7 +472,7 @@ module _ (one : HaveOneRule) (no_fault : HaveNoRuleFault) (one_fault : HaveOneRu
 
   constraint_determined : (version : Version) (place : Place) (entry : List Field) → IsDetermined (reads_constraint version place datasets entry)
   constraint_determined version place entry =
-      then_determined ◌≡◌ _ _ (keys_determined place entry) (λ unit known. then_determined ◌≡◌ _ _ (text_determined place _ _)
+      then_determined ◌≡◌ _ _ (keys_determined place keys.Constraint entry) (λ unit known. then_determined ◌≡◌ _ _ (text_determined place _ _)
       (λ text goes. rule_determined version place text))
 
   pub constraints_determined : (version : Version) (entries : List (List Field)) → IsDetermined (reads_constraints version datasets entries)
@@ -508,9 +512,9 @@ HaveOneRanks = (rules : List Rule) (count : ℕ) (ranks others : List ℕ) → A
 abbrev pub HaveOneCycle : Type 0
 HaveOneCycle = (rules : List Rule) (relations others : List ℕ) → IsLeastCycle (IsEdge rules) relations → IsLeastCycle (IsEdge rules) others → relations ≡ others
 
-module _ (one_ranks : HaveOneRanks) (one_cycle : HaveOneCycle) (version : Version) (datasets : List Dataset) (given : List Constraint) where
+module _ (one_ranks : HaveOneRanks) (one_cycle : HaveOneCycle) (version : Version) (core : Bool) (datasets : List Dataset) (given : List Constraint) where
   same_catalogue : (fragments others : Fragments) (catalogue other : Catalogue) → AreSameFragments fragments others
-      → IsMadeOf version datasets fragments given catalogue → IsMadeOf version datasets others given other
+      → IsMadeOf version core datasets fragments given catalogue → IsMadeOf version core datasets others given other
       → AreSameCatalogue catalogue other
   same_catalogue fragments others catalogue other (definitions, alike) made made' =
       let same : catalogue.fragments ≡ other.fragments = made.definitions ∙ definitions ∙ sym made'.definitions in
@@ -524,8 +528,10 @@ module _ (one_ranks : HaveOneRanks) (one_cycle : HaveOneCycle) (version : Versio
         weights = ap weights_of same;
         stores = ap (map stored_as) made.stores ∙ alike ∙ sym (ap (map stored_as) made'.stores);
         rules = made.rules.all ∙ sym made'.rules.all;
+        rule_names = made.rules.names ∙ sym made'.rules.names;
         given = made.given_are ∙ sym made'.given_are;
         ranks = one_ranks (all_rules version datasets given) _ _ _ made.ranks made'.ranks;
+        core = made.core_is ∙ sym made'.core_is;
       }
 
   same_cycle : (cycle other : Cycle) → IsCycleOf datasets (all_rules version datasets given) cycle → IsCycleOf datasets (all_rules version datasets given) other
@@ -536,7 +542,7 @@ module _ (one_ranks : HaveOneRanks) (one_cycle : HaveOneCycle) (version : Versio
       λ i. record { relations = relations i; names = all i }
 
   acyclic_agree : (fragments others : Fragments) → AreSameFragments fragments others
-      → Agree (λ _. Unit {0}) AreSameCatalogue (is_acyclic version datasets fragments given) (is_acyclic version datasets others given)
+      → Agree (λ _. Unit {0}) AreSameCatalogue (is_acyclic version core datasets fragments given) (is_acyclic version core datasets others given)
   acyclic_agree fragments others alike = judges_agree (λ _. Unit {0}) AreSameCatalogue _ _ _ _
       (λ catalogue other made made'. same_catalogue fragments others catalogue other alike made made')
       (λ error other because because' (cycle, is_cycle, is) (cycle', is_cycle', is').
@@ -556,9 +562,9 @@ module _ (one : HaveOneReading) (no_fault : HaveNoFault) (one_fault : HaveOneFau
       sections.fragments) (λ fragments others goes1 alike.
       then_agree (λ _. Unit {0}) ◌≡◌ AreSameCatalogue _ _ _ _ (constraints_determined one_rule no_rule_fault one_rule_fault datasets
       (named sections.datasets datasets read) sections.version sections.constraints) (λ given given' goes2 same.
-      subst (λ (g : List Constraint). Agree (λ _. Unit {0}) AreSameCatalogue (is_acyclic sections.version datasets fragments given)
-      (is_acyclic sections.version datasets others g)) same
-      (acyclic_agree one_ranks one_cycle sections.version datasets given fragments others alike))))) where
+      subst (λ (g : List Constraint). Agree (λ _. Unit {0}) AreSameCatalogue (is_acyclic sections.version sections.core datasets fragments
+      given) (is_acyclic sections.version sections.core datasets others g)) same
+      (acyclic_agree one_ranks one_cycle sections.version sections.core datasets given fragments others alike))))) where
         named : (entries : List (List Field)) (datasets : List Dataset) → (reads_datasets entries).goes datasets
             → IsVocabulary (arities_of (schema_of datasets)) (words_of datasets)
         named entries datasets read = set_words datasets (read_set entries datasets read).0

@@ -9,8 +9,8 @@ use Rattle.esto_course.specs.Course.Stops.{is_free, refused}
 use Rattle.esto_catalog.specs.Rows.{IsWant, IsAny, IsFault, Walks, fault_at, top}
 use Rattle.esto_catalog.specs.Whole.{reads_section}
 use Rattle.esto_catalog.specs.declared.fault.CatalogueKind.TheVariants.{TooMany}
-use Rattle.esto_catalog.specs.declared.setting.Field.{Field}
-use Rattle.esto_catalog.specs.declared.setting.Setting.{Setting}
+use Rattle.esto_settings.specs.declared.setting.Field.{Field}
+use Rattle.esto_settings.specs.declared.setting.Setting.{Setting}
 use Rattle.esto_catalog.specs.declared.fault.CatalogueError.{CatalogueError}
 use Rattle.esto_catalog.specs.declared.fault.CatalogueError.TheVariants.{OutOfMemory}
 use Rattle.esto_catalog.specs.declared.whole.TheConstants.{MAX_ENTRIES}

@@ -28,15 +28,15 @@ use Rattle.esto_text.specs.Lexemes.{IsNameText}
 use Rattle.esto_views.specs.declared.fragments.FragmentDef.{FragmentDef}
 use Rattle.esto_catalog.specs.Datasets.{begins_plain, schema_of, words_of}
 use Rattle.esto_catalog.specs.Fragments.{view_row}
-use Rattle.esto_catalog.specs.Settings.{setting_at}
+use Rattle.esto_settings.specs.Settings.{setting_at}
 use Rattle.esto_catalog.specs.Shapes.{column_of, head_columns, name_at, shape_row, store_columns}
 use Rattle.esto_catalog.specs.Soundness.{FitView, IsShapeFor}
 use Rattle.esto_catalog.specs.declared.catalogue.Shape.{Shape}
 use Rattle.esto_catalog.specs.declared.dataset.Dataset.{Dataset}
 use Rattle.esto_catalog.specs.declared.fault.Place.{Place}
-use Rattle.esto_catalog.specs.declared.setting.Field.{Field}
-use Rattle.esto_catalog.specs.declared.setting.Setting.{Setting}
-use Rattle.esto_catalog.specs.declared.setting.Setting.TheVariants.{Text, Integer, Texts, Other}
+use Rattle.esto_settings.specs.declared.setting.Field.{Field}
+use Rattle.esto_settings.specs.declared.setting.Setting.{Setting}
+use Rattle.esto_settings.specs.declared.setting.Setting.TheVariants.{Text, Integer, Texts, Other}
 use Rattle.esto_catalog.specs.declared.columns.TheConstants.{MARK}
 
 -- the columns that are called as a head's variables are

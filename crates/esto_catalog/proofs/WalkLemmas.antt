@@ -35,7 +35,7 @@ use Rattle.esto_catalog.specs.declared.fault.Place.{Place}
 use Rattle.esto_catalog.specs.declared.fault.Section.TheVariants as section
 use Rattle.esto_catalog.specs.declared.fragment.Fragments.{Fragments}
 use Rattle.esto_catalog.specs.declared.fragment.Stored.{Stored}
-use Rattle.esto_catalog.specs.declared.setting.Field.{Field}
+use Rattle.esto_settings.specs.declared.setting.Field.{Field}
 use Rattle.esto_read.specs.Constraints.{IsConstraintReading, IsConstraintFault}
 use Rattle.esto_read.specs.Readings.{IsReading, IsFirstFault}
 use Rattle.esto_read.specs.declared.read.Form.TheVariants.{View}
@@ -262,14 +262,14 @@ pub rules_same_stops : (version : Version) (others datasets : List Dataset) (see
 rules_same_stops version others datasets seen entries error =
     over_same (λ d e. Stops IsWant IsAny (reads_constraints version d e) error) others datasets seen entries
 
-pub acyclic_same : (version : Version) (seen datasets : List Dataset) (fragments : Fragments) (given : List Constraint) (catalogue : Catalogue)
+pub acyclic_same : (version : Version) (core : Bool) (seen datasets : List Dataset) (fragments : Fragments) (given : List Constraint) (catalogue : Catalogue)
     → seen ≡ datasets
-    → (is_acyclic version seen fragments given).goes catalogue → (is_acyclic version datasets fragments given).goes catalogue
-acyclic_same version seen datasets fragments given catalogue same goes =
-    subst (λ (d : List Dataset). (is_acyclic version d fragments given).goes catalogue) same goes
+    → (is_acyclic version core seen fragments given).goes catalogue → (is_acyclic version core datasets fragments given).goes catalogue
+acyclic_same version core seen datasets fragments given catalogue same goes =
+    subst (λ (d : List Dataset). (is_acyclic version core d fragments given).goes catalogue) same goes
 
-pub acyclic_same_stops : (version : Version) (seen datasets : List Dataset) (fragments : Fragments) (given : List Constraint) (error : CatalogueError)
-    → seen ≡ datasets → Stops IsWant IsAny (is_acyclic version seen fragments given) error
-    → Stops IsWant IsAny (is_acyclic version datasets fragments given) error
-acyclic_same_stops version seen datasets fragments given error same stops =
-    subst (λ (d : List Dataset). Stops IsWant IsAny (is_acyclic version d fragments given) error) same stops
+pub acyclic_same_stops : (version : Version) (core : Bool) (seen datasets : List Dataset) (fragments : Fragments) (given : List Constraint) (error : CatalogueError)
+    → seen ≡ datasets → Stops IsWant IsAny (is_acyclic version core seen fragments given) error
+    → Stops IsWant IsAny (is_acyclic version core datasets fragments given) error
+acyclic_same_stops version core seen datasets fragments given error same stops =
+    subst (λ (d : List Dataset). Stops IsWant IsAny (is_acyclic version core d fragments given) error) same stops

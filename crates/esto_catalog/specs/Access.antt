@@ -6,14 +6,14 @@ use Rattle.esto_query.specs.declared.query.Query.{Query}
 use Rattle.esto_read.specs.declared.words.DataModel.{DataModel}
 use Rattle.esto_read.specs.declared.words.DataModel.TheVariants.{Table, Documents, Keys}
 use Rattle.esto_catalog.specs.Rows.{fault_at}
-use Rattle.esto_catalog.specs.Settings.{setting_at}
+use Rattle.esto_settings.specs.Settings.{setting_at}
 use Rattle.esto_catalog.specs.declared.access.TheConstants.{MAX_PATTERNS, MAX_WEIGHT}
 use Rattle.esto_catalog.specs.declared.fault.CatalogueError.{CatalogueError}
 use Rattle.esto_catalog.specs.declared.fault.CatalogueKind.TheVariants.{WrongType, BadAccess, BadWeight}
 use Rattle.esto_catalog.specs.declared.fault.Place.{Place}
-use Rattle.esto_catalog.specs.declared.setting.Field.{Field}
-use Rattle.esto_catalog.specs.declared.setting.Setting.{Setting}
-use Rattle.esto_catalog.specs.declared.setting.Setting.TheVariants.{Text, Integer, Texts}
+use Rattle.esto_settings.specs.declared.setting.Field.{Field}
+use Rattle.esto_settings.specs.declared.setting.Setting.{Setting}
+use Rattle.esto_settings.specs.declared.setting.Setting.TheVariants.{Text, Integer, Texts}
 
 -- The letter of a column: `i` where it is an input, and `o` where it is not.
 abbrev pub letter_of : Bool → ℕ

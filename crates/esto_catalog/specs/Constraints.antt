@@ -8,12 +8,13 @@ use Rattle.esto_text.specs.declared.fault.TextFault.{TextFault}
 use Rattle.esto_text.specs.declared.version.Version.{Version}
 use Rattle.esto_catalog.specs.Datasets.{schema_of, words_of}
 use Rattle.esto_catalog.specs.Rows.{text_fault_at, knows_keys, needs_text}
-use Rattle.esto_catalog.specs.Settings.{setting_at}
+use Rattle.esto_settings.specs.Settings.{setting_at}
 use Rattle.esto_catalog.specs.declared.dataset.Dataset.{Dataset}
 use Rattle.esto_catalog.specs.declared.fault.CatalogueError.{CatalogueError}
 use Rattle.esto_catalog.specs.declared.fault.Place.{Place}
 use Rattle.esto_catalog.specs.declared.fault.Section.TheVariants as section
-use Rattle.esto_catalog.specs.declared.setting.Field.{Field}
+use Rattle.esto_settings.specs.declared.setting.Field.{Field}
+use Rattle.esto_catalog.specs.declared.row.Keys.TheVariants as keys
 
 -- The text is a constraint of this version over the datasets' relations; else BadText with the text's first fault.
 abbrev pub reads_rule : Version → Place → List Dataset → List ℕ → Course CatalogueError Constraint
@@ -29,7 +30,7 @@ rule_row version place datasets entry =
 
 -- The rows of a constraint, in order: unknown keys, rule.
 abbrev pub reads_constraint : Version → Place → List Dataset → List Field → Course CatalogueError Constraint
-reads_constraint version place datasets entry = and_then (knows_keys place entry) (λ _. rule_row version place datasets entry)
+reads_constraint version place datasets entry = and_then (knows_keys place keys.Constraint entry) (λ _. rule_row version place datasets entry)
 
 -- One constraint more.
 abbrev pub adds_constraint : Version → List Dataset → ℕ → List Constraint → List Field → Course CatalogueError (List Constraint)

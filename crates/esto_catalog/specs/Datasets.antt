@@ -9,16 +9,17 @@ use Rattle.esto_read.specs.declared.words.DataModel.TheVariants.{Table, Document
 use Rattle.esto_read.specs.declared.words.Word.{Word}
 use Rattle.esto_catalog.specs.Models.{layout_row, needs_model, unfit_row}
 use Rattle.esto_catalog.specs.Rows.{fault_at, knows_keys, needs_text, needs_texts, allows_text}
-use Rattle.esto_catalog.specs.Settings.{is_same, setting_at}
+use Rattle.esto_settings.specs.Settings.{is_same, setting_at}
 use Rattle.esto_catalog.specs.declared.dataset.Dataset.{Dataset}
 use Rattle.esto_catalog.specs.declared.fault.CatalogueError.{CatalogueError}
 use Rattle.esto_catalog.specs.declared.fault.CatalogueKind.TheVariants.{BadName, SameName, BadModel, BadColumns}
 use Rattle.esto_catalog.specs.declared.fault.Place.{Place}
 use Rattle.esto_catalog.specs.declared.fault.Section.TheVariants as section
-use Rattle.esto_catalog.specs.declared.setting.Field.{Field}
+use Rattle.esto_settings.specs.declared.setting.Field.{Field}
 use Rattle.esto_query.specs.declared.schema.TheConstants.{MAX_COLUMNS}
 use Rattle.esto_catalog.specs.declared.columns.TheConstants.{MARK, MAX_NAME}
 use Rattle.esto_catalog.specs.declared.whole.TheConstants.{MAX_ENTRIES}
+use Rattle.esto_catalog.specs.declared.row.Keys.TheVariants as keys
 
 -- The byte is an ASCII letter.
 abbrev pub is_letter : ℕ → Bool
@@ -111,7 +112,7 @@ schema_of (dataset ∷ datasets) = relations_of dataset ++ schema_of datasets
 -- The rows of a dataset, in order: unknown keys, name, model, columns, layout, file. Its first relation comes after those of the datasets before.
 abbrev pub reads_dataset : Place → List Dataset → List Field → Course CatalogueError Dataset
 reads_dataset place earlier entry =
-    and_then (knows_keys place entry) (λ _.
+    and_then (knows_keys place keys.Dataset entry) (λ _.
     and_then (name_row place earlier entry) (λ name.
     and_then (needs_model BadModel place (codes "model") entry) (λ model.
     and_then (columns_row place model entry) (λ columns.

@@ -9,6 +9,7 @@ use Rattle.esto_catalog.specs.declared.catalogue.Store.{Store}
 use Rattle.esto_catalog.specs.declared.fault.CatalogueError.{CatalogueError}
 use Rattle.esto_catalog.specs.declared.fault.CatalogueError.TheVariants as error
 use Rattle.esto_constraint.specs.Constraints.{rules_of}
+use Rattle.esto_constraint.specs.EncodingRules.{written}
 use Rattle.esto_docmodel.specs.Patterns.{Entries}
 use Rattle.esto_docmodel.specs.Shapes.{entries_of}
 use Rattle.esto_docs.specs.declared.layout.Layout.{Layout}
@@ -43,8 +44,10 @@ pub record AreSame (catalogue other : Catalogue) : Type 0 where
   pub weights : weights_of catalogue.fragments ≡ weights_of other.fragments
   pub stores : map stored_as catalogue.stores ≡ map stored_as other.stores
   pub rules : rules_of catalogue.rules ≡ rules_of other.rules
+  pub rule_names : map written catalogue.rules ≡ map written other.rules
   pub given : catalogue.given ≡ other.given
   pub ranks : catalogue.ranks ≡ other.ranks
+  pub core : catalogue.core ≡ other.core
 
 -- Bytes say at most one catalogue.
 abbrev pub HaveOneCatalogue : Type 0

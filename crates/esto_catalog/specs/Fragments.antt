@@ -12,7 +12,7 @@ use Rattle.esto_catalog.specs.Access.{access_row, weight_row}
 use Rattle.esto_catalog.specs.Datasets.{has_dataset, schema_of, words_of}
 use Rattle.esto_catalog.specs.Models.{needs_model}
 use Rattle.esto_catalog.specs.Rows.{fault_at, text_fault_at, knows_keys, needs_text}
-use Rattle.esto_catalog.specs.Settings.{is_same, setting_at}
+use Rattle.esto_settings.specs.Settings.{is_same, setting_at}
 use Rattle.esto_catalog.specs.Shapes.{shape_row}
 use Rattle.esto_catalog.specs.declared.catalogue.Shape.{Shape}
 use Rattle.esto_catalog.specs.declared.dataset.Dataset.{Dataset}
@@ -22,7 +22,8 @@ use Rattle.esto_catalog.specs.declared.fault.Place.{Place}
 use Rattle.esto_catalog.specs.declared.fault.Section.TheVariants as section
 use Rattle.esto_catalog.specs.declared.fragment.Fragments.{Fragments}
 use Rattle.esto_catalog.specs.declared.fragment.Stored.{Stored}
-use Rattle.esto_catalog.specs.declared.setting.Field.{Field}
+use Rattle.esto_settings.specs.declared.setting.Field.{Field}
+use Rattle.esto_catalog.specs.declared.row.Keys.TheVariants as keys
 
 -- A fragment has the name.
 abbrev pub has_fragment : List ℕ → List FragmentDef → Bool
@@ -57,7 +58,7 @@ stored_fragment view file shape access weight = record {
 -- The rows of a fragment, in order: unknown keys, view, store, file, columns, layout, pattern, access, weight.
 abbrev pub reads_fragment : Place → List Dataset → List FragmentDef → List Field → Course CatalogueError Stored
 reads_fragment place datasets earlier entry =
-    and_then (knows_keys place entry) (λ _.
+    and_then (knows_keys place keys.Fragment entry) (λ _.
     and_then (view_row place datasets earlier entry) (λ view.
     and_then (needs_model BadStore place (codes "store") entry) (λ model.
     and_then (file_row place entry) (λ file.

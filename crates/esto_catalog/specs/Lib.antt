@@ -1,4 +1,3 @@
-pub mod Settings
 pub mod Rows
 pub mod Whole
 pub mod Models
@@ -12,3 +11,4 @@ pub mod Rules
 pub mod Soundness
 pub mod Reading
 pub mod Determined
+pub mod Encodings

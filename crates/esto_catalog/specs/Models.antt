@@ -6,14 +6,14 @@ use Rattle.esto_docs.specs.declared.layout.Layout.TheVariants.{Array, Lines}
 use Rattle.esto_read.specs.declared.words.DataModel.{DataModel}
 use Rattle.esto_read.specs.declared.words.DataModel.TheVariants.{Table, Documents, Keys}
 use Rattle.esto_catalog.specs.Rows.{fault_at, needs_text}
-use Rattle.esto_catalog.specs.Settings.{has_key, setting_at}
+use Rattle.esto_settings.specs.Settings.{has_key, setting_at}
 use Rattle.esto_catalog.specs.declared.fault.CatalogueError.{CatalogueError}
 use Rattle.esto_catalog.specs.declared.fault.CatalogueKind.{CatalogueKind}
 use Rattle.esto_catalog.specs.declared.fault.CatalogueKind.TheVariants.{BadLayout, Unfit, WrongType}
 use Rattle.esto_catalog.specs.declared.fault.Place.{Place}
-use Rattle.esto_catalog.specs.declared.setting.Field.{Field}
-use Rattle.esto_catalog.specs.declared.setting.Setting.{Setting}
-use Rattle.esto_catalog.specs.declared.setting.Setting.TheVariants.{Text}
+use Rattle.esto_settings.specs.declared.setting.Field.{Field}
+use Rattle.esto_settings.specs.declared.setting.Setting.{Setting}
+use Rattle.esto_settings.specs.declared.setting.Setting.TheVariants.{Text}
 
 -- The word for a model.
 abbrev pub model_word : DataModel → List ℕ

@@ -1,5 +1,5 @@
 -- What the bytes of a catalogue say, and what is wrong with them.
-use Rattle.std.specs.Prelude.{◌≡◌, ℕ, List, length}
+use Rattle.std.specs.Prelude.{◌≡◌, ℕ, Bool, List, length}
 use Rattle.esto_acyclic.specs.Graphs.{IsAcyclic, AreRanks, IsLeastCycle}
 use Rattle.esto_acyclic.specs.Relations.{IsEdge, AreNamesOf}
 use Rattle.esto_acyclic.specs.declared.relations.Cycle.{Cycle}
@@ -18,9 +18,11 @@ use Rattle.esto_catalog.specs.declared.fault.CatalogueError.{CatalogueError}
 use Rattle.esto_catalog.specs.declared.fault.CatalogueError.TheVariants.{NotAcyclic, OutOfMemory}
 use Rattle.esto_catalog.specs.declared.fragment.Fragments.{Fragments}
 
--- The catalogue of this version, of these datasets, fragments and constraints: its relations and words are the datasets', its rules are the constraints and
--- then those of the encodings, no relation leads back to itself by them, and its ranks are those of the relations by them.
-pub record IsMadeOf (version : Version) (datasets : List Dataset) (fragments : Fragments) (given : List Constraint) (catalogue : Catalogue) : Type 0 where
+-- The catalogue of this version, that asks for the core of the plan or not, of these datasets, fragments and constraints: its relations and words are the
+-- datasets', its rules are the constraints and then those of the encodings, no relation leads back to itself by them, and its ranks are those of the relations
+-- by them.
+pub record IsMadeOf (version : Version) (core : Bool) (datasets : List Dataset) (fragments : Fragments) (given : List Constraint) (catalogue : Catalogue)
+    : Type 0 where
   pub schema : catalogue.schema ≡ schema_of datasets
   pub words : catalogue.words ≡ words_of datasets
   pub same_datasets : catalogue.datasets ≡ datasets
@@ -30,15 +32,16 @@ pub record IsMadeOf (version : Version) (datasets : List Dataset) (fragments : F
   pub given_are : catalogue.given ≡ length given
   pub acyclic : IsAcyclic (IsEdge (all_rules version datasets given))
   pub ranks : AreRanks (IsEdge (all_rules version datasets given)) (length (schema_of datasets)) catalogue.ranks
+  pub core_is : catalogue.core ≡ core
 
 -- It is the least cycle of the graph of the rules, with the names of its relations.
 abbrev pub IsCycleOf : List Dataset → List Rule → Cycle → Type 0
 IsCycleOf datasets rules cycle = IsLeastCycle (IsEdge rules) cycle.relations × AreNamesOf (schema_of datasets) cycle.relations cycle.names
 
 -- No relation leads back to itself by the rules; else NotAcyclic with the least cycle.
-abbrev pub is_acyclic : Version → List Dataset → Fragments → List Constraint → Course CatalogueError Catalogue
-is_acyclic version datasets fragments given =
-    judges (IsMadeOf version datasets fragments given)
+abbrev pub is_acyclic : Version → Bool → List Dataset → Fragments → List Constraint → Course CatalogueError Catalogue
+is_acyclic version core datasets fragments given =
+    judges (IsMadeOf version core datasets fragments given)
     (λ error. (cycle : Cycle) × IsCycleOf datasets (all_rules version datasets given) cycle × (error ≡ NotAcyclic cycle))
 
 -- The walk over the rows: the whole file, the datasets, the fragments and the constraints; then the graph of the rules.
@@ -48,7 +51,7 @@ reads_catalogue bytes =
     and_then (reads_datasets sections.datasets) (λ datasets.
     and_then (reads_fragments datasets sections.fragments) (λ fragments.
     and_then (reads_constraints sections.version datasets sections.constraints) (λ given.
-    is_acyclic sections.version datasets fragments given))))
+    is_acyclic sections.version sections.core datasets fragments given))))
 
 -- The bytes say this catalogue: with it the walk ends.
 abbrev pub IsCatalogueOf : List ℕ → Catalogue → Type 0

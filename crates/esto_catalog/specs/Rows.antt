@@ -6,17 +6,18 @@ use Rattle.std.specs.List.{list_any}
 use Rattle.std.specs.declared.cmp.Ordering.TheVariants.{Greater}
 use Rattle.esto_course.specs.Course.{Course, judges, gives, refuses, Runs}
 use Rattle.esto_text.specs.declared.fault.TextFault.{TextFault}
-use Rattle.esto_catalog.specs.Settings.{is_same}
+use Rattle.esto_settings.specs.Settings.{is_same}
 use Rattle.esto_catalog.specs.declared.fault.CatalogueError.{CatalogueError}
 use Rattle.esto_catalog.specs.declared.fault.CatalogueError.TheVariants.{Fault, OutOfMemory}
 use Rattle.esto_catalog.specs.declared.fault.CatalogueKind.{CatalogueKind}
 use Rattle.esto_catalog.specs.declared.fault.CatalogueKind.TheVariants.{UnknownKey, WrongType, Missing, BadText}
 use Rattle.esto_catalog.specs.declared.fault.Place.{Place}
-use Rattle.esto_catalog.specs.declared.fault.Section.{Section}
-use Rattle.esto_catalog.specs.declared.fault.Section.TheVariants.{Top, Dataset, Fragment, Constraint}
-use Rattle.esto_catalog.specs.declared.setting.Field.{Field}
-use Rattle.esto_catalog.specs.declared.setting.Setting.{Setting}
-use Rattle.esto_catalog.specs.declared.setting.Setting.TheVariants.{Text, Texts}
+use Rattle.esto_catalog.specs.declared.fault.Section.TheVariants.{Top as AtTop}
+use Rattle.esto_catalog.specs.declared.row.Keys.{Keys}
+use Rattle.esto_catalog.specs.declared.row.Keys.TheVariants.{Top, TopOfTwo, Dataset, Fragment, Constraint}
+use Rattle.esto_settings.specs.declared.setting.Field.{Field}
+use Rattle.esto_settings.specs.declared.setting.Setting.{Setting}
+use Rattle.esto_settings.specs.declared.setting.Setting.TheVariants.{Text, Texts}
 
 -- A fault of this kind at the key of the entry at the place, with that of a text where it is one's.
 abbrev pub fault_with : CatalogueKind → Place → List ℕ → Option TextFault → CatalogueError
@@ -32,7 +33,7 @@ text_fault_at fault place key = fault_with BadText place key (Some fault)
 
 -- The top of the file.
 abbrev pub top : Place
-top = record { section = Top; number = 0 }
+top = record { section = AtTop; number = 0 }
 
 -- Want of memory, the one free answer.
 abbrev pub IsWant : CatalogueError → Type 0
@@ -50,32 +51,33 @@ IsFault fault error = (error ≡ fault) ⊎ (error ≡ OutOfMemory)
 abbrev pub Walks : {A : Type 0} → Course CatalogueError A → Result A CatalogueError → Type 0
 Walks course result = Runs IsWant IsAny course result
 
--- The keys that a section knows, in the order in which they are read.
-abbrev pub known_keys : Section → List (List ℕ)
+-- The keys that a table may have, in the order in which they are read. The top of version 2 has one more.
+abbrev pub known_keys : Keys → List (List ℕ)
 known_keys Top = codes "version" ∷ codes "dataset" ∷ codes "fragment" ∷ codes "constraint" ∷ []
+known_keys TopOfTwo = codes "version" ∷ codes "core" ∷ codes "dataset" ∷ codes "fragment" ∷ codes "constraint" ∷ []
 known_keys Dataset = codes "name" ∷ codes "model" ∷ codes "columns" ∷ codes "layout" ∷ codes "file" ∷ []
 known_keys Fragment =
     codes "view" ∷ codes "store" ∷ codes "file" ∷ codes "columns" ∷ codes "layout" ∷ codes "pattern" ∷ codes "access" ∷ codes "weight" ∷ []
 known_keys Constraint = codes "rule" ∷ []
 
--- The section knows the key.
-abbrev pub is_known : Section → List ℕ → Bool
-is_known section key = list_any (is_same key) (known_keys section)
+-- The key is one of these.
+abbrev pub is_known : Keys → List ℕ → Bool
+is_known keys key = list_any (is_same key) (known_keys keys)
 
--- The entry has the key, and its section does not know it.
-abbrev pub IsUnknown : Section → List Field → List ℕ → Type 0
-IsUnknown section entry key = (field : Field) × Contains entry field × (field.key ≡ key) × (is_known section key ≡ false)
+-- The entry has the key, and it is none of these.
+abbrev pub IsUnknown : Keys → List Field → List ℕ → Type 0
+IsUnknown keys entry key = (field : Field) × Contains entry field × (field.key ≡ key) × (is_known keys key ≡ false)
 
 -- It is the least of the unknown keys, by bytes.
-abbrev pub IsLeastUnknown : Section → List Field → List ℕ → Type 0
-IsLeastUnknown section entry key =
-    IsUnknown section entry key × ((other : List ℕ) → IsUnknown section entry other → slice_cmp nat_cmp key other ≢ Greater)
+abbrev pub IsLeastUnknown : Keys → List Field → List ℕ → Type 0
+IsLeastUnknown keys entry key =
+    IsUnknown keys entry key × ((other : List ℕ) → IsUnknown keys entry other → slice_cmp nat_cmp key other ≢ Greater)
 
--- Each key is known; else UnknownKey at the least unknown one.
-abbrev pub knows_keys : Place → List Field → Course CatalogueError (Unit {0})
-knows_keys place entry =
-    judges (λ _. (key : List ℕ) → ¬ IsUnknown place.section entry key)
-    (λ error. (key : List ℕ) × IsLeastUnknown place.section entry key × (error ≡ fault_at UnknownKey place key))
+-- Each key is one of these; else UnknownKey at the least that is not.
+abbrev pub knows_keys : Place → Keys → List Field → Course CatalogueError (Unit {0})
+knows_keys place keys entry =
+    judges (λ _. (key : List ℕ) → ¬ IsUnknown keys entry key)
+    (λ error. (key : List ℕ) × IsLeastUnknown keys entry key × (error ≡ fault_at UnknownKey place key))
 
 -- A text that is needed: Missing where the key is absent, WrongType where it is set to something else.
 abbrev pub needs_text : Place → List ℕ → Option Setting → Course CatalogueError (List ℕ)

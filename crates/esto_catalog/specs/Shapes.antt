@@ -16,15 +16,15 @@ use Rattle.esto_text.specs.declared.fault.TextFault.{TextFault}
 use Rattle.esto_catalog.specs.Datasets.{AreColumns}
 use Rattle.esto_catalog.specs.Models.{layout_row, unfit_row}
 use Rattle.esto_catalog.specs.Rows.{fault_at, text_fault_at, needs_text}
-use Rattle.esto_catalog.specs.Settings.{setting_at}
+use Rattle.esto_settings.specs.Settings.{setting_at}
 use Rattle.esto_catalog.specs.declared.catalogue.Shape.{Shape}
 use Rattle.esto_catalog.specs.declared.catalogue.Shape.TheVariants.{Table as FromTable, Documents as FromDocuments, Keys as FromKeys}
 use Rattle.esto_catalog.specs.declared.fault.CatalogueError.{CatalogueError}
 use Rattle.esto_catalog.specs.declared.fault.CatalogueKind.TheVariants.{BadColumns, BadPattern, WrongType}
 use Rattle.esto_catalog.specs.declared.fault.Place.{Place}
-use Rattle.esto_catalog.specs.declared.setting.Field.{Field}
-use Rattle.esto_catalog.specs.declared.setting.Setting.{Setting}
-use Rattle.esto_catalog.specs.declared.setting.Setting.TheVariants.{Texts}
+use Rattle.esto_settings.specs.declared.setting.Field.{Field}
+use Rattle.esto_settings.specs.declared.setting.Setting.{Setting}
+use Rattle.esto_settings.specs.declared.setting.Setting.TheVariants.{Texts}
 
 -- The name that is written for a variable. The variables of a view's head have one.
 abbrev pub name_at : Option Name → List ℕ

@@ -1,25 +1,34 @@
 -- The rows of the whole file, before its entries.
-use Rattle.std.specs.Prelude.{◌≡◌, ℕ, ◌≤◌, pos, List, Option, Some, None, length, codes}
-use Rattle.toml.specs.Data.{Members}
+use Rattle.std.specs.Prelude.{◌≡◌, ℕ, ◌≤◌, pos, Bool, false, if◌then◌else◌, List, Option, Some, None, length, codes}
+use Rattle.std.specs.Ordering.{int_eq}
 use Rattle.esto_course.specs.Course.{Course, judges, gives, refuses, demands, and_then}
 use Rattle.esto_text.specs.declared.version.Version.{Version}
 use Rattle.esto_text.specs.declared.version.Version.TheVariants.{One, Two}
 use Rattle.esto_catalog.specs.Rows.{fault_at, top, knows_keys}
-use Rattle.esto_catalog.specs.Settings.{IsTable, document_of, setting_at}
+use Rattle.esto_settings.specs.Settings.{IsDocument, HasNoTable, setting_at}
 use Rattle.esto_catalog.specs.declared.fault.CatalogueError.{CatalogueError}
 use Rattle.esto_catalog.specs.declared.fault.CatalogueKind.TheVariants.{Toml, Version as NoVersion, WrongType, TooMany}
-use Rattle.esto_catalog.specs.declared.setting.Document.{Document}
-use Rattle.esto_catalog.specs.declared.setting.Field.{Field}
-use Rattle.esto_catalog.specs.declared.setting.Setting.{Setting}
-use Rattle.esto_catalog.specs.declared.setting.Setting.TheVariants.{Integer}
+use Rattle.esto_settings.specs.declared.setting.Document.{Document}
+use Rattle.esto_settings.specs.declared.setting.Field.{Field}
+use Rattle.esto_settings.specs.declared.setting.Setting.{Setting}
+use Rattle.esto_settings.specs.declared.setting.Setting.TheVariants.{Integer}
+use Rattle.esto_catalog.specs.declared.row.Keys.{Keys}
+use Rattle.esto_catalog.specs.declared.row.Keys.TheVariants.{Top, TopOfTwo}
 use Rattle.esto_catalog.specs.declared.whole.Sections.{Sections}
 use Rattle.esto_catalog.specs.declared.whole.TheConstants.{MAX_ENTRIES}
 
 -- The bytes are UTF-8, and TOML; else Toml.
 abbrev pub reads_toml : List ℕ → Course CatalogueError Document
-reads_toml bytes =
-    judges (λ document. (members : Members) × IsTable bytes members × (document ≡ document_of members))
-    (λ error. ((members : Members) → ¬ IsTable bytes members) × (error ≡ fault_at Toml top (codes "-")))
+reads_toml bytes = judges (IsDocument bytes) (λ error. HasNoTable bytes × (error ≡ fault_at Toml top (codes "-")))
+
+-- The version is set to the integer 2.
+abbrev pub is_two : Option Setting → Bool
+is_two (Some (Integer number)) = int_eq number (pos 2)
+is_two _ = false
+
+-- The keys of the top, where the version is set so: `core` is one of version 2.
+abbrev pub top_keys : Option Setting → Keys
+top_keys setting = if is_two setting then TopOfTwo else Top
 
 -- The number of a version.
 abbrev pub number_of : Version → ℕ
@@ -32,18 +41,24 @@ reads_version setting =
     judges (λ version. setting ≡ Some (Integer (pos (number_of version))))
     (λ error. ((version : Version) → ¬ (setting ≡ Some (Integer (pos (number_of version))))) × (error ≡ fault_at NoVersion top (codes "version")))
 
+-- The core of the plan is asked for or not; else WrongType.
+abbrev pub reads_core : Option Bool → Course CatalogueError Bool
+reads_core None = refuses (fault_at WrongType top (codes "core"))
+reads_core (Some core) = gives core
+
 -- A section is an array of tables; else WrongType. It has no more entries than a section may have; else TooMany.
 abbrev pub reads_section : List ℕ → Option (List (List Field)) → Course CatalogueError (List (List Field))
 reads_section key None = refuses (fault_at WrongType top key)
 reads_section key (Some entries) = and_then (demands (length entries ≤ MAX_ENTRIES) (fault_at TooMany top key)) (λ _. gives entries)
 
--- The rows of the whole file, in order: TOML, unknown keys, the version, each section.
+-- The rows of the whole file, in order: TOML, unknown keys, the version, whether the core is asked for, each section.
 abbrev pub reads_whole : List ℕ → Course CatalogueError Sections
 reads_whole bytes =
     and_then (reads_toml bytes) (λ document.
-    and_then (knows_keys top document.fields) (λ _.
+    and_then (knows_keys top (top_keys (setting_at (codes "version") document.fields)) document.fields) (λ _.
     and_then (reads_version (setting_at (codes "version") document.fields)) (λ version.
+    and_then (reads_core document.core) (λ core.
     and_then (reads_section (codes "dataset") document.datasets) (λ datasets.
     and_then (reads_section (codes "fragment") document.fragments) (λ fragments.
     and_then (reads_section (codes "constraint") document.constraints) (λ constraints.
-    gives (record { version = version; datasets = datasets; fragments = fragments; constraints = constraints })))))))
+    gives (record { version = version; core = core; datasets = datasets; fragments = fragments; constraints = constraints }))))))))

@@ -5,9 +5,9 @@ ghost use Rattle.esto_catalog.specs.Rows.{Walks};
 
 use crate::columns::are_distinct;
 use crate::fault::{CatalogueError, CatalogueKind, Place, fault};
-use crate::setting::{Field, Setting, setting_at};
 use esto_query::Query;
 use esto_read::DataModel;
+use esto_settings::{Field, Setting, setting_at};
 use esto_term::{List, OutOfMemory, Text, Values};
 use esto_views::{Access, AccessList};
 use std::alloc::Global;

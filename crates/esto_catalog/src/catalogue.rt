@@ -34,7 +34,8 @@ pub struct Store {
 pub type Stores = List<Store>;
 
 /// What a catalogue says: the relations of its datasets, the names that texts may use, the datasets, the fragments
-/// and where each is stored, and the rules, with the ranks of the relations by them. The first `given` rules are the
+/// and where each is stored, the rules, with the ranks of the relations by them, and whether plans are printed as their
+/// cores. The first `given` rules are the
 /// catalogue's own constraints; those that the encodings of documents and keys bring follow, in order of dataset. Words,
 /// views and rules are over the schema, in which each dataset's relations stand from its base on; the fragments are well
 /// made; and no relation leads back to itself by the rules. A fragment has at most `MAX_PATTERNS` binding patterns, all
@@ -50,6 +51,7 @@ pub struct Catalogue {
     pub rules: Rules,
     pub given: usize,
     pub ranks: Ranks,
+    pub core: bool,
     pub ghost sound: { ∥ IsSoundCatalogue
         schema words datasets fragments stores rules given ranks ∥₁ },
 }

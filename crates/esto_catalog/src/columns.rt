@@ -3,8 +3,8 @@ ghost use Rattle.std.specs.Prelude.{◌≡◌, ◌≢◌, ◌↔◌, IsTrue, Con
 ghost use Rattle.std.specs.List.{list_all};
 ghost use Rattle.esto_catalog.specs.Datasets.{is_letter, is_name_byte, is_name, AreColumns, begins_plain};
 
-use crate::setting::is_same;
 use esto_query::MAX_COLUMNS;
+use esto_settings::is_same;
 use esto_term::Text;
 
 /// The greatest number of bytes of a name.

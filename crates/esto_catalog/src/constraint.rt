@@ -10,11 +10,11 @@ ghost use Rattle.esto_catalog.specs.Soundness.{AreSoundRules};
 ghost use Rattle.esto_catalog.specs.Scope.{IsScope};
 
 use crate::fault::{CatalogueError, CatalogueKind, Place, Section, fault};
-use crate::row::{knows_keys, needs_text};
+use crate::row::{Keys, knows_keys, needs_text};
 use crate::scope::Scope;
-use crate::setting::{Field, KeyList};
 use esto_constraint::{Constraint, Rules};
 use esto_read::{read_constraint, read_constraint_2};
+use esto_settings::{Field, KeyList};
 use esto_term::{List, Text};
 use esto_text::{ReadError, Version};
 use std::alloc::Global;
@@ -96,7 +96,7 @@ fn read_entry(
         (reads_constraint version place scope.now.datasets entry.now) result }
     ensures over { IfOk result (λ rule. IsRuleOver (arities_of scope.now.schema) (rule_of rule)) }
 {
-    knows_keys(alloc, place, entry)?;
+    knows_keys(alloc, place, Keys::Constraint, entry)?;
     let rule = rule(alloc, version, place, scope, entry)?;
     Ok(rule)
 }

@@ -7,10 +7,10 @@ ghost use Rattle.esto_catalog.specs.declared.whole.TheConstants.{MAX_ENTRIES};
 use crate::columns::{are_columns, is_name};
 use crate::fault::{CatalogueError, CatalogueKind, Place, Section, demand};
 use crate::model::{layout, needs_model, unfit};
-use crate::row::{allows_text, knows_keys, needs_text, needs_texts};
-use crate::setting::{Field, KeyList, is_same};
+use crate::row::{Keys, allows_text, knows_keys, needs_text, needs_texts};
 use esto_docs::Layout;
 use esto_read::DataModel;
+use esto_settings::{Field, KeyList, is_same};
 use esto_term::{List, Text, TextRow};
 use std::alloc::Global;
 
@@ -132,7 +132,7 @@ fn read_dataset(
     requires { base ≡ length (schema_of earlier.now) }
     ensures { Walks (reads_dataset place earlier.now entry.now) result }
 {
-    knows_keys(alloc, place, entry)?;
+    knows_keys(alloc, place, Keys::Dataset, entry)?;
     let name = name(alloc, place, earlier, entry)?;
     let model = needs_model(alloc, CatalogueKind::BadModel, place, "model", entry)?;
     let columns = columns(alloc, place, model, entry)?;

@@ -12,11 +12,11 @@ use crate::catalogue::{Shape, Store, Stores};
 use crate::dataset::has_dataset;
 use crate::fault::{CatalogueError, CatalogueKind, Place, Section, demand, fault};
 use crate::model::needs_model;
-use crate::row::{knows_keys, needs_text};
+use crate::row::{Keys, knows_keys, needs_text};
 use crate::scope::Scope;
-use crate::setting::{Field, KeyList, is_same};
 use crate::shape::shape;
 use esto_read::{NamedQuery, read_view, views_name_their_columns};
+use esto_settings::{Field, KeyList, is_same};
 use esto_term::{List, Text};
 use esto_text::ReadError;
 use esto_views::{AccessList, FragmentDef, FragmentDefs};
@@ -142,7 +142,7 @@ fn read_fragment(
     ensures sound { IfOk result (IsSoundStored (arities_of scope.now.schema)) }
 {
     views_name_their_columns();
-    knows_keys(alloc, place, entry)?;
+    knows_keys(alloc, place, Keys::Fragment, entry)?;
     let view = view(alloc, place, scope, earlier, entry)?;
     let model = needs_model(alloc, CatalogueKind::BadStore, place, "store", entry)?;
     let file = file(alloc, place, entry)?;

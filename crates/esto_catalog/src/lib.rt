@@ -12,7 +12,6 @@ mod model;
 mod row;
 mod rules;
 mod scope;
-mod setting;
 mod shape;
 mod walk;
 mod whole;
@@ -23,6 +22,7 @@ pub use columns::{MARK, MAX_NAME};
 pub use dataset::{Dataset, Datasets};
 pub use fault::{CatalogueError, CatalogueFault, CatalogueKind, Section};
 pub use walk::{
-    catalogues_are_determined, catalogues_are_sound, catalogues_rank_their_rules, read_catalogue,
+    catalogues_are_determined, catalogues_are_sound, catalogues_have_encodings,
+    catalogues_rank_their_rules, read_catalogue,
 };
 pub use whole::MAX_ENTRIES;

@@ -4,13 +4,13 @@ ghost use Rattle.esto_docs.specs.declared.layout.Layout.{Layout};
 ghost use Rattle.esto_read.specs.declared.words.DataModel.{DataModel};
 ghost use Rattle.esto_catalog.specs.Models.{model_word, layout_word, reads_model, needs_model, reads_layout, allows_layout, unfit_row, no_layout, layout_row};
 ghost use Rattle.esto_catalog.specs.Rows.{Walks};
-ghost use Rattle.esto_catalog.specs.Settings.{setting_at};
+ghost use Rattle.esto_settings.specs.Settings.{setting_at};
 
 use crate::fault::{CatalogueError, CatalogueKind, Place, demand, fault};
 use crate::row::needs_text;
-use crate::setting::{Field, Setting, has_key, is_same, setting_at};
 use esto_docs::Layout;
 use esto_read::DataModel;
+use esto_settings::{Field, Setting, has_key, is_same, setting_at};
 use esto_term::Text;
 use std::alloc::Global;
 

@@ -1,32 +1,51 @@
 //! What rows of the catalogue's table have in common.
 ghost use Rattle.std.specs.Prelude.{◌≡◌, ℕ, List, codes, Contains, MatchOption, option_copied};
 ghost use Rattle.esto_catalog.specs.Rows.{Walks, is_known, IsUnknown, IsLeastUnknown, IsLesserOf, knows_keys, needs_text, allows_text, needs_texts};
-ghost use Rattle.esto_catalog.specs.Settings.{setting_at};
+ghost use Rattle.esto_settings.specs.Settings.{setting_at};
 
-use crate::fault::{CatalogueError, CatalogueKind, Place, Section, fault};
-use crate::setting::{Field, Setting, is_same, setting_at};
+use crate::fault::{CatalogueError, CatalogueKind, Place, fault};
+use esto_settings::{Field, Setting, is_same, setting_at};
 use esto_term::{Replicate, Text, TextRow};
 use std::alloc::Global;
 
-// Whether the section knows the key.
-fn is_known(section: Section, key: &Text) -> bool
-    ensures { result ≡ is_known section key.now }
+/// The keys that a table of a catalogue may have, by what it is.
+#[derive(Clone, Copy)]
+pub enum Keys {
+    /// The top of the file, where the version is not 2.
+    Top,
+    /// The top of the file, where the version is 2.
+    TopOfTwo,
+    Dataset,
+    Fragment,
+    Constraint,
+}
+
+// Whether the key is one of these.
+fn is_known(keys: Keys, key: &Text) -> bool
+    ensures { result ≡ is_known keys key.now }
 {
-    match section {
-        Section::Top => {
+    match keys {
+        Keys::Top => {
             is_same(key, "version")
                 || is_same(key, "dataset")
                 || is_same(key, "fragment")
                 || is_same(key, "constraint")
         }
-        Section::Dataset => {
+        Keys::TopOfTwo => {
+            is_same(key, "version")
+                || is_same(key, "core")
+                || is_same(key, "dataset")
+                || is_same(key, "fragment")
+                || is_same(key, "constraint")
+        }
+        Keys::Dataset => {
             is_same(key, "name")
                 || is_same(key, "model")
                 || is_same(key, "columns")
                 || is_same(key, "layout")
                 || is_same(key, "file")
         }
-        Section::Fragment => {
+        Keys::Fragment => {
             is_same(key, "view")
                 || is_same(key, "store")
                 || is_same(key, "file")
@@ -36,7 +55,7 @@ fn is_known(section: Section, key: &Text) -> bool
                 || is_same(key, "access")
                 || is_same(key, "weight")
         }
-        Section::Constraint => is_same(key, "rule"),
+        Keys::Constraint => is_same(key, "rule"),
     }
 }
 
@@ -57,24 +76,29 @@ fn lesser<'a>(least: Option<&'a Text>, key: &'a Text) -> &'a Text
 }
 
 // The least unknown key of the entry, by bytes.
-fn least_unknown<'a>(section: Section, entry: &'a [Field]) -> Option<&'a Text>
-    ensures { MatchOption result ((key : List ℕ) → ¬ IsUnknown section entry.now key) (λ key.
-        IsLeastUnknown section entry.now key.now) }
+fn least_unknown<'a>(keys: Keys, entry: &'a [Field]) -> Option<&'a Text>
+    ensures { MatchOption result ((key : List ℕ) → ¬ IsUnknown keys entry.now key) (λ key.
+        IsLeastUnknown keys entry.now key.now) }
 {
     let mut least: Option<&'a Text> = None;
     'fields: for field in entry {
-        if !is_known(section, &field.key) {
+        if !is_known(keys, &field.key) {
             least = Some(lesser(least, &field.key));
         }
     }
     least
 }
 
-/// Each key of the entry is known; else UnknownKey at the least unknown one.
-pub fn knows_keys(alloc: Global, place: Place, entry: &[Field]) -> Result<(), CatalogueError>
-    ensures { Walks (knows_keys place entry.now) result }
+/// Each key of the entry is one of these; else UnknownKey at the least one that is not.
+pub fn knows_keys(
+    alloc: Global,
+    place: Place,
+    keys: Keys,
+    entry: &[Field],
+) -> Result<(), CatalogueError>
+    ensures { Walks (knows_keys place keys entry.now) result }
 {
-    match least_unknown(place.section, entry) {
+    match least_unknown(keys, entry) {
         Some(key) => Err(fault(alloc, CatalogueKind::UnknownKey, place, key.as_str(), None)),
         None => Ok(()),
     }

@@ -5,6 +5,7 @@ ghost use Rattle.esto_acyclic.specs.Relations.{IsEdge};
 ghost use Rattle.esto_constraint.specs.Constraints.{rules_of};
 ghost use Rattle.esto_query.specs.Schemas.{arities_of};
 ghost use Rattle.esto_catalog.specs.Determined.{CataloguesAreSound, HaveOneCatalogue, HaveNoError, HaveOneError};
+ghost use Rattle.esto_catalog.specs.Encodings.{ReadingsHaveEncodings};
 ghost use Rattle.esto_catalog.specs.Reading.{IsCatalogueOf, IsCatalogueError, is_acyclic, reads_catalogue};
 ghost use Rattle.esto_catalog.specs.Rows.{Walks};
 ghost use Rattle.esto_catalog.specs.Soundness.{AreSoundFragments, AreSoundRules};
@@ -28,11 +29,12 @@ use esto_read::{
 use esto_text::Version;
 use std::alloc::Global;
 
-// The catalogue of datasets, fragments, its own constraints and the rules of the encodings; or the least cycle of the
-// rules' graph of relations.
+// The catalogue of this version, that asks for the core of the plan or not, of datasets, fragments, its own constraints
+// and the rules of the encodings; or the least cycle of the rules' graph of relations.
 fn judged(
     alloc: Global,
     version: Version,
+    core: bool,
     scope: Scope,
     fragments: Fragments,
     given: Rules,
@@ -40,7 +42,7 @@ fn judged(
     requires scope { IsScope scope }
     requires fragments { AreSoundFragments (arities_of scope.schema) fragments }
     requires rules { AreSoundRules (arities_of scope.schema) given }
-    ensures { Walks (is_acyclic version scope.datasets fragments given) result }
+    ensures { Walks (is_acyclic version core scope.datasets fragments given) result }
 {
     let count = given.len();
     let rules = with_encodings(alloc, version, &scope, given)?;
@@ -63,6 +65,7 @@ fn judged(
             rules,
             given: count,
             ranks,
+            core,
         }),
         Right(cycle) => Err(CatalogueError::NotAcyclic(cycle)),
     }
@@ -81,7 +84,8 @@ fn walk(alloc: Global, bytes: &[u8]) -> Result<Catalogue, CatalogueError>
     let fragments = read_fragments(alloc, &scope, fragment_entries)?;
     let constraint_entries = sections.constraints.items();
     let given = read_constraints(alloc, sections.version, &scope, constraint_entries)?;
-    let catalogue = judged(alloc, sections.version, scope, fragments, given)?;
+    let version = sections.version;
+    let catalogue = judged(alloc, version, sections.core, scope, fragments, given)?;
     Ok(catalogue)
 }
 
@@ -106,6 +110,12 @@ pub fn catalogues_rank_their_rules()
     ensures within { (it : Catalogue) → IsWithin (length it.ranks) (IsEdge (rules_of it.rules)) }
     ensures ranks { (it : Catalogue) →
         AreRanks (IsEdge (rules_of it.rules)) (length it.ranks) it.ranks }
+{}
+
+/// A law: a catalogue that is read keeps its own constraints first, as many as it counts, and then the rules of the
+/// encodings of its datasets, with the names of their variables.
+pub fn catalogues_have_encodings()
+    ensures { ReadingsHaveEncodings }
 {}
 
 /// A law: bytes say at most one catalogue, up to what its views, patterns and rules mean, or have at most one first fault,

@@ -1,26 +1,62 @@
 //! The rows of the whole file, before its entries.
 ghost use Rattle.std.specs.Prelude.{◌≡◌, ◌≢◌, ◌≤◌, Some, codes, pos, option_copied, length, IfOk, MatchOption};
 ghost use Rattle.esto_catalog.specs.Rows.{Walks};
-ghost use Rattle.esto_catalog.specs.Settings.{setting_at};
-ghost use Rattle.esto_catalog.specs.declared.setting.Setting.TheVariants.{Integer};
-ghost use Rattle.esto_catalog.specs.Whole.{number_of, reads_version, reads_section, reads_whole};
+ghost use Rattle.esto_settings.specs.Settings.{setting_at};
+ghost use Rattle.esto_settings.specs.declared.setting.Setting.TheVariants.{Integer};
+ghost use Rattle.esto_catalog.specs.Whole.{is_two, top_keys, number_of, reads_toml, reads_version, reads_core, reads_section, reads_whole};
 
 use crate::fault::{CatalogueError, CatalogueKind, TOP, fault};
-use crate::row::knows_keys;
-use crate::setting::{Document, Field, SectionTables, Setting, read_toml, setting_at};
+use crate::row::{Keys, knows_keys};
+use esto_settings::{Document, Field, SectionTables, Setting, TomlError, read_toml, setting_at};
 use esto_text::Version;
 use std::alloc::Global;
 
 /// The greatest number of entries of a section.
 pub const MAX_ENTRIES: usize = 256;
 
-/// The version, and the entries of the three sections.
+/// The version, whether the core of the plan is asked for, and the entries of the three sections.
 #[derive(Drop)]
 pub struct Sections {
     pub version: Version,
+    pub core: bool,
     pub datasets: SectionTables,
     pub fragments: SectionTables,
     pub constraints: SectionTables,
+}
+
+// The document that the bytes are; else Toml.
+fn document_of(alloc: Global, bytes: &[u8]) -> Result<Document, CatalogueError>
+    ensures { Walks (reads_toml bytes.now) result }
+{
+    match read_toml(alloc, bytes) {
+        Ok(document) => Ok(document),
+        Err(TomlError::Refused) => Err(fault(alloc, CatalogueKind::Toml, TOP, "-", None)),
+        Err(TomlError::OutOfMemory) => Err(CatalogueError::OutOfMemory),
+    }
+}
+
+// Whether the version is set to the integer 2.
+fn is_two(setting: Option<&Setting>) -> bool
+    ensures { result ≡ is_two (option_copied setting.entry) }
+{
+    match setting {
+        Some(Setting::Integer(number)) => *number == 2,
+        Some(Setting::Text(_)) => false,
+        Some(Setting::Texts(_)) => false,
+        Some(Setting::Other) => false,
+        None => false,
+    }
+}
+
+// The keys of the top: `core` is one of version 2.
+fn top_keys(entry: &[Field]) -> Keys
+    ensures { result ≡ top_keys (setting_at (codes "version") entry.now) }
+{
+    if is_two(setting_at("version", entry)) {
+        Keys::TopOfTwo
+    } else {
+        Keys::Top
+    }
 }
 
 // The version of this number, where there is one.
@@ -62,6 +98,17 @@ fn read_version(alloc: Global, entry: &[Field]) -> Result<Version, CatalogueErro
     }
 }
 
+// Whether the core of the plan is asked for, where the document says so; else WrongType.
+#[tactic(auto, using(crate::proofs::RowLemmas::rows))]
+fn read_core(alloc: Global, core: Option<bool>) -> Result<bool, CatalogueError>
+    ensures { Walks (reads_core core) result }
+{
+    match core {
+        Some(core) => Ok(core),
+        None => Err(fault(alloc, CatalogueKind::WrongType, TOP, "core", None)),
+    }
+}
+
 // The entries of a section: WrongType where it is no array of tables, TooMany where it has
 // more than `MAX_ENTRIES`.
 #[tactic(auto, using(crate::proofs::RowLemmas::rows))]
@@ -82,27 +129,31 @@ fn read_section(
     Ok(entries)
 }
 
-/// The rows of the whole file, in order: TOML, unknown keys, the version, each section.
+/// The rows of the whole file, in order: TOML, unknown keys, the version, whether the core is asked for, each section.
 #[tactic(auto, using(crate::proofs::RowLemmas::rows))]
 pub fn read_whole(alloc: Global, bytes: &[u8]) -> Result<Sections, CatalogueError>
     ensures whole { Walks (reads_whole bytes.now) result }
     ensures few { IfOk result (λ sections. length sections.datasets ≤ MAX_ENTRIES) }
 {
-    let document = read_toml(alloc, bytes)?;
+    let document = document_of(alloc, bytes)?;
     let Document {
         fields,
+        core,
         datasets,
         fragments,
         constraints,
     } = document;
     let entry = fields.items();
-    knows_keys(alloc, TOP, entry)?;
+    let keys = top_keys(entry);
+    knows_keys(alloc, TOP, keys, entry)?;
     let version = read_version(alloc, entry)?;
+    let core = read_core(alloc, core)?;
     let datasets = read_section(alloc, "dataset", datasets)?;
     let fragments = read_section(alloc, "fragment", fragments)?;
     let constraints = read_section(alloc, "constraint", constraints)?;
     Ok(Sections {
         version,
+        core,
         datasets,
         fragments,
         constraints,

@@ -1,3 +1,4 @@
 pub mod FixingLemmas
 pub mod LeftLemmas
 pub mod CoredLemmas
+pub mod PrintedLemmas

@@ -1,3 +1,5 @@
 pub mod Left
 pub mod Cored
 pub mod CoredLaws
+pub mod Printed
+pub mod PrintedLaws

@@ -6,6 +6,7 @@ use Rattle.esto_chase.specs.Chased.{RunClashes}
 use Rattle.esto_chase_laws.specs.Runs.{start_of}
 use Rattle.esto_chase_laws.specs.declared.clash.Clash.{Clash}
 use Rattle.esto_constraint.specs.Constraints.{rules_of}
+use Rattle.esto_core.specs.Printed.{IsPrintedPlan}
 use Rattle.esto_list.specs.Items.{sets_of}
 use Rattle.esto_list.specs.declared.listing.Listed.{Listed}
 use Rattle.esto_query.specs.Making.{query_of}
@@ -17,7 +18,6 @@ use Rattle.esto_read.specs.declared.read.NamedQuery.{NamedQuery}
 use Rattle.esto_read.specs.declared.words.Word.{Word}
 use Rattle.esto_semantics.specs.Access.{Patterns, IsStatedOrder}
 use Rattle.esto_semantics.specs.Listed.{AreListed, IsWeight, chosen}
-use Rattle.esto_universal.specs.Planned.{IsPlanOfRun}
 use Rattle.esto_views.specs.Fragments.{views_of, patterns_of}
 use Rattle.esto_views.specs.Plans.{plan_query}
 use Rattle.esto_views.specs.declared.plan.Plan.{Plan}
@@ -52,10 +52,13 @@ module _ (catalogue other : Catalogue) (alike : AreSame catalogue other) (query 
   -- a plan and a clash over the other catalogue are ones over this
   pub planned_moved : (plan : Plan) → IsPlanned other other_query plan → IsPlanned catalogue query plan
   planned_moved plan planned =
-      subst (λ names. IsPlanOfRun (rules_of catalogue.rules) (views_of catalogue.fragments) names (query_of query) plan) (sym same.names)
-      (subst (λ it. IsPlanOfRun (rules_of catalogue.rules) (views_of catalogue.fragments) other_query.names it plan) (sym (same_query query other_query same))
-      (subst (λ views. IsPlanOfRun (rules_of catalogue.rules) views other_query.names (query_of other_query) plan) (sym alike.views)
-      (subst (λ rules. IsPlanOfRun rules (views_of other.fragments) other_query.names (query_of other_query) plan) (sym alike.rules) planned)))
+      subst (λ names. IsPrintedPlan catalogue.core (rules_of catalogue.rules) (views_of catalogue.fragments) names (query_of query) plan) (sym same.names)
+      (subst (λ it. IsPrintedPlan catalogue.core (rules_of catalogue.rules) (views_of catalogue.fragments) other_query.names it plan)
+      (sym (same_query query other_query same))
+      (subst (λ views. IsPrintedPlan catalogue.core (rules_of catalogue.rules) views other_query.names (query_of other_query) plan) (sym alike.views)
+      (subst (λ rules. IsPrintedPlan catalogue.core rules (views_of other.fragments) other_query.names (query_of other_query) plan) (sym alike.rules)
+      (subst (λ core. IsPrintedPlan core (rules_of other.rules) (views_of other.fragments) other_query.names (query_of other_query) plan)
+      (sym alike.core) planned))))
 
   pub clash_moved : (clash : Clash) → IsClash other other_query clash → IsClash catalogue query clash
   clash_moved clash clashes =

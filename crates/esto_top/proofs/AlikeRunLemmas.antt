@@ -6,7 +6,6 @@ use Rattle.esto_catalog.specs.declared.catalogue.Shape.{Shape}
 use Rattle.esto_catalog.specs.declared.catalogue.Shape.TheVariants.{Table, Documents, Keys}
 use Rattle.esto_catalog.specs.declared.catalogue.Catalogue.{Catalogue}
 use Rattle.esto_catalog.specs.declared.catalogue.Store.{Store}
-use Rattle.esto_catalog.specs.declared.fragment.Stored.{Stored}
 use Rattle.esto_docmodel.specs.Layouts.{IsLayout}
 use Rattle.esto_docs.specs.Files.{file_trees, trees_fault}
 use Rattle.esto_docs.specs.Rows.{IsRowOf}
@@ -29,7 +28,7 @@ use Rattle.esto_term.proofs.ListLemmas.{map_at, map_at-from}
 use Rattle.esto_views.specs.Plans.{plan_query}
 use Rattle.esto_views.specs.declared.fragments.FragmentDef.{FragmentDef}
 use Rattle.esto_views.specs.declared.plan.Plan.{Plan}
-use Rattle.esto_top.specs.Fragments.{IsStoredAt, content_fault}
+use Rattle.esto_top.specs.Fragments.{Stored, IsStoredAt, content_fault}
 use Rattle.esto_top.specs.Run.{IsRunText}
 use Rattle.esto_top.proofs.AlikeLemmas.{IsSameQuery}
 use Rattle.esto_top.proofs.SameListLemmas.{IsSamePlan}

@@ -9,7 +9,6 @@ use Rattle.std.proofs.lemmas.List.Elements.{Contains-append_left, Contains-get_o
 use Rattle.std.proofs.lemmas.Option.{same_Some}
 use Rattle.esto_catalog.specs.declared.catalogue.Catalogue.{Catalogue}
 use Rattle.esto_catalog.specs.declared.catalogue.Store.{Store}
-use Rattle.esto_catalog.specs.declared.fragment.Stored.{Stored}
 use Rattle.esto_course.specs.Course.{Course, Stops, judges, gives, and_then, each}
 use Rattle.esto_course.specs.Course.Stops.{is_free, refused}
 use Rattle.esto_course.proofs.Steps.{Leads, first_stops, then_stops, then_goes, gives_goes, caused_more, each_next, each_stops, each_goes}
@@ -28,7 +27,7 @@ use Rattle.esto_term.proofs.ListLemmas.{thing_at}
 use Rattle.esto_views.specs.declared.fragments.FragmentDef.{FragmentDef}
 use Rattle.esto_top.specs.Answers.{IsWant, IsCaused, Answers}
 use Rattle.esto_top.specs.Fetch.{fetches}
-use Rattle.esto_top.specs.Fragments.{IsStoredAt, content_fault, reads_content, opens_stored, opens_fragment, no_contents, with_content, opens_next, opens_fragments, Takes, Reads, OpensNext, OpensAll}
+use Rattle.esto_top.specs.Fragments.{Stored, IsStoredAt, content_fault, reads_content, opens_stored, opens_fragment, no_contents, with_content, opens_next, opens_fragments, Takes, Reads, OpensNext, OpensAll}
 use Rattle.esto_top.specs.declared.fragments.TheConstants.{FRAGMENT_LIMIT}
 use Rattle.esto_top.specs.declared.status.Status.{Status}
 use Rattle.esto_top.specs.declared.status.Status.TheVariants.{BadFragment, OutOfMemory}

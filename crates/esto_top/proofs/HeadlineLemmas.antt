@@ -23,7 +23,8 @@ use Rattle.esto_semantics.specs.Plans.{IsUniversalPlan}
 use Rattle.esto_semantics.specs.Queries.{ConjunctiveQuery}
 use Rattle.esto_semantics.specs.Rewritings.{IsPlanFor}
 use Rattle.esto_semantics.specs.Rules.{AreRules, IsRule}
-use Rattle.esto_universal.specs.PlannedLaws.{PlannedIsSatisfiable, ClashedIsUnsatisfiable, PlanOfRunReceivesUnions, PlanOfRunIsUniversal}
+use Rattle.esto_core.specs.PrintedLaws.{PrintedIsSatisfiable, PrintedPlanReceivesUnions, PrintedPlanIsUniversal, PrintedCoreHasNoRetract}
+use Rattle.esto_universal.specs.PlannedLaws.{ClashedIsUnsatisfiable}
 use Rattle.esto_views.specs.Fragments.{views_of, patterns_of, weights_of}
 use Rattle.esto_views.specs.Plans.{plan_query}
 use Rattle.esto_views.specs.Soundness.{IsSoundPlan}
@@ -64,12 +65,13 @@ no_item (item ∷ items) none = absurd (cc)
 pub record ListingLaws : Type 0 where
   pub queries : (query : Query) → IsSound query.head query.body query.names
   pub rules : (constraint : Constraint) → IsRule (rule_of constraint)
-  pub satisfiable : PlannedIsSatisfiable
+  pub satisfiable : PrintedIsSatisfiable
   pub unsatisfiable : ClashedIsUnsatisfiable
   pub sound : (plan : Plan) → IsSoundPlan plan.atoms plan.head plan.names
   pub own : (query : ConjunctiveQuery) → IsUniversalFor [] query query
-  pub unions : PlanOfRunReceivesUnions
-  pub universal : PlanOfRunIsUniversal
+  pub unions : PrintedPlanReceivesUnions
+  pub universal : PrintedPlanIsUniversal
+  pub core : PrintedCoreHasNoRetract
   pub covers : ListedCoverRewritings
   pub none : NoRewritingExists
   pub lightest : PickWeighsLeastOfAll
@@ -86,18 +88,18 @@ module _ (laws : ListingLaws) (catalogue : Catalogue) (query : Query) where
     -- a plan tells that there are answers
     pub plan_tells : HasAnswers catalogue query
     plan_tells =
-        laws.satisfiable (rules_of catalogue.rules) (views_of catalogue.fragments) query.names (query_of query) plan rules_are
+        laws.satisfiable catalogue.core (rules_of catalogue.rules) (views_of catalogue.fragments) query.names (query_of query) plan rules_are
         (laws.queries query).query planned
 
     is_for : IsPlanFor (query_of query) (plan_query plan)
     is_for =
         plan_form (λ it. (laws.own it).maps) (rules_of catalogue.rules) (views_of catalogue.fragments) (query_of query) plan (laws.sound plan)
-        (laws.unions (rules_of catalogue.rules) (views_of catalogue.fragments) query.names (query_of query) plan rules_are (laws.queries query).query planned)
+        (laws.unions catalogue.core (rules_of catalogue.rules) (views_of catalogue.fragments) query.names (query_of query) plan rules_are (laws.queries query).query planned)
         plan_tells
 
     universal : IsUniversalPlan (rules_of catalogue.rules) (views_of catalogue.fragments) (query_of query) (plan_query plan)
     universal =
-        laws.universal (rules_of catalogue.rules) (views_of catalogue.fragments) query.names (query_of query) plan rules_are (laws.queries query).query planned
+        laws.universal catalogue.core (rules_of catalogue.rules) (views_of catalogue.fragments) query.names (query_of query) plan rules_are (laws.queries query).query planned
 
     -- the list is empty exactly where there is no executable rewriting
     pub empty-without : (items : List Listed) → IsListOf catalogue query plan items → IsEmptyWithoutRewriting catalogue query items
@@ -120,6 +122,8 @@ module _ (laws : ListingLaws) (catalogue : Catalogue) (query : Query) where
             list = listing.list;
             printed = listing.printed;
             universal = universal;
+            core = λ asked.
+                laws.core catalogue.core (rules_of catalogue.rules) (views_of catalogue.fragments) query.names (query_of query) plan asked planned;
             complete = λ other rewriting.
                 laws.covers (rules_of catalogue.rules) (views_of catalogue.fragments) (patterns_of catalogue.fragments) (query_of query) (plan_query plan)
                 other (sets_of listing.items) is_for.flat_body universal plan_tells listing.list.sets rewriting;

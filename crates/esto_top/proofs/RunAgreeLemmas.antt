@@ -6,7 +6,6 @@ use Rattle.either.specs.declared.Either.{Either}
 use Rattle.either.specs.declared.Either.TheVariants.{Left, Right}
 use Rattle.esto_catalog.specs.Determined.{AreSame}
 use Rattle.esto_catalog.specs.declared.catalogue.Catalogue.{Catalogue}
-use Rattle.esto_catalog.specs.declared.fragment.Stored.{Stored}
 use Rattle.esto_chase_laws.specs.declared.clash.Clash.{Clash}
 use Rattle.esto_constraint.specs.Constraints.{rules_of}
 use Rattle.esto_course.specs.Course.{Course, each, gives, judges, and_then}
@@ -29,7 +28,7 @@ use Rattle.esto_views.specs.Fragments.{views_of}
 use Rattle.esto_views.specs.Plans.{plan_query}
 use Rattle.esto_views.specs.declared.plan.Plan.{Plan}
 use Rattle.esto_top.specs.Fetch.{fetches}
-use Rattle.esto_top.specs.Fragments.{IsStoredAt, content_fault, reads_content, opens_stored, opens_fragment, opens_next, opens_fragments, with_content, no_contents}
+use Rattle.esto_top.specs.Fragments.{Stored, IsStoredAt, content_fault, reads_content, opens_stored, opens_fragment, opens_next, opens_fragments, with_content, no_contents}
 use Rattle.esto_top.specs.Run.{IsPlace, HasNoPlace, IsRunText, ends_query, lists_plan, chooses, runs_item, runs_plan, runs_end, runs_query}
 use Rattle.esto_top.specs.Run.HasNoPlace.{is_empty, is_above}
 use Rattle.esto_top.specs.declared.ending.Reply.TheVariants.{Done, Unsatisfiable}
@@ -212,13 +211,13 @@ module _ (files : Files) (catalogue other : Catalogue) (alike : AreSame catalogu
         → IsSameEnd end other_end
     unfolding judges
     one_end (Left plan) (Left other_plan) here there =
-        laws.plan (rules_of catalogue.rules) (views_of catalogue.fragments) query.names (query_of query) plan other_plan rules_are here
+        laws.plan catalogue.core (rules_of catalogue.rules) (views_of catalogue.fragments) query.names (query_of query) plan other_plan rules_are here
         (planned_moved catalogue other alike query other_query same other_plan there)
     one_end (Left plan) (Right clash) here there =
-        laws.apart (rules_of catalogue.rules) (views_of catalogue.fragments) query.names (query_of query) plan clash rules_are here
+        laws.apart catalogue.core (rules_of catalogue.rules) (views_of catalogue.fragments) query.names (query_of query) plan clash rules_are here
         (clash_moved catalogue other alike query other_query same clash there)
     one_end (Right clash) (Left plan) here there =
-        laws.apart (rules_of catalogue.rules) (views_of catalogue.fragments) query.names (query_of query) plan clash rules_are
+        laws.apart catalogue.core (rules_of catalogue.rules) (views_of catalogue.fragments) query.names (query_of query) plan clash rules_are
         (planned_moved catalogue other alike query other_query same plan there) here
     one_end (Right clash) (Right other_clash) here there =
         laws.clash (rules_of catalogue.rules) (query_of query) clash other_clash rules_are here

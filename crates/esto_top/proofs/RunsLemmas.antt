@@ -373,7 +373,7 @@ module _ (sound : CataloguesAreSound) (one : HaveOneCatalogue) (apart : HaveNoEr
 
         module _ (items : List Listed) (list : IsListOf other read plan items) (can : CanRun files catalogue query number) where
           plans : IsSamePlan can.plan plan
-          plans = list_laws.plan (rules_of catalogue.rules) (views_of catalogue.fragments) query.names (query_of query) can.plan plan
+          plans = list_laws.plan catalogue.core (rules_of catalogue.rules) (views_of catalogue.fragments) query.names (query_of query) can.plan plan
               (are_rules list_laws.rules catalogue.rules) can.planned planned_here
 
           same_list : can.items ≡ items

@@ -14,7 +14,8 @@ use Rattle.esto_semantics.specs.Listed.{AreListed}
 use Rattle.esto_semantics.specs.ListedLaws.{ListedIsOne, PickIsOne, WeightIsOne}
 use Rattle.esto_semantics.specs.Queries.{ConjunctiveQuery}
 use Rattle.esto_semantics.specs.Rules.{IsRule}
-use Rattle.esto_universal.specs.PlannedLaws.{PlanOfRunIsOne, ClashOfRunIsOne, PlanExcludesClash}
+use Rattle.esto_core.specs.PrintedLaws.{PrintedPlanIsOne, PrintedPlanExcludesClash}
+use Rattle.esto_universal.specs.PlannedLaws.{ClashOfRunIsOne}
 use Rattle.esto_views.specs.Fragments.{views_of, patterns_of, weights_of}
 use Rattle.esto_views.specs.Plans.{plan_query}
 use Rattle.esto_views.specs.declared.plan.Plan.{Plan}
@@ -24,9 +25,9 @@ use Rattle.esto_top.proofs.OneListLemmas.{HasOrder, HasWeight, same_items, same_
 -- the laws by which lists and runs are determined
 pub record ListLaws : Type 0 where
   pub rules : (constraint : Constraint) → IsRule (rule_of constraint)
-  pub plan : PlanOfRunIsOne
+  pub plan : PrintedPlanIsOne
   pub clash : ClashOfRunIsOne
-  pub apart : PlanExcludesClash
+  pub apart : PrintedPlanExcludesClash
   pub sets : ListedIsOne
   pub orders : StatedOrderIsOne
   pub weights : WeightIsOne

@@ -1,18 +1,24 @@
 -- The files of the fragments that a set uses, as steps: each is fetched, and its content read, before the next is fetched.
 use Rattle.std.specs.Prelude.{◌≡◌, ℕ, ◌==◌, if◌then◌else◌, List, [], ◌∷◌, ◌++◌, length, slice_get, Option, Some, None, Result, Ok, Err}
 use Rattle.esto_catalog.specs.declared.catalogue.Catalogue.{Catalogue}
-use Rattle.esto_catalog.specs.declared.fragment.Stored.{Stored}
+use Rattle.esto_catalog.specs.declared.catalogue.Store.{Store}
 use Rattle.esto_course.specs.Course.{Course, Stops, judges, gives, and_then, each}
 use Rattle.esto_ports.specs.Files.{Files}
 use Rattle.esto_ports.specs.declared.file_fault.FileFault.{FileFault}
 use Rattle.esto_run.specs.Opened.{Held, AreOpened, AreRowsFor, rows_held}
 use Rattle.esto_run.specs.Stores.{first_fault_in}
 use Rattle.esto_stores.specs.Rows.{Row}
+use Rattle.esto_views.specs.declared.fragments.FragmentDef.{FragmentDef}
 use Rattle.esto_top.specs.Answers.{IsWant, IsCaused}
 use Rattle.esto_top.specs.Fetch.{fetches}
 use Rattle.esto_top.specs.declared.fragments.TheConstants.{FRAGMENT_LIMIT}
 use Rattle.esto_top.specs.declared.status.Status.{Status}
 use Rattle.esto_top.specs.declared.status.Status.TheVariants.{BadFragment}
+
+-- A fragment, and where it is stored.
+pub record Stored : Type 0 where
+  pub definition : FragmentDef
+  pub store : Store
 
 -- It is the catalogue's fragment of the number, with its store.
 pub record IsStoredAt (catalogue : Catalogue) (number : ℕ) (stored : Stored) : Type 0 where

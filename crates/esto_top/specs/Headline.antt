@@ -1,5 +1,5 @@
 -- What `list` answers where nothing is wrong with the files.
-use Rattle.std.specs.Prelude.{◌≡◌, ◌⊎◌, ◌↔◌, ℕ, ◌≤◌, Bool, List, [], ◌∷◌, length, slice_index_or, Option, Some, None, codes}
+use Rattle.std.specs.Prelude.{◌≡◌, ◌⊎◌, ◌↔◌, ℕ, ◌≤◌, Bool, IsTrue, List, [], ◌∷◌, length, slice_index_or, Option, Some, None, codes}
 use Rattle.std.specs.FinMap.{get}
 use Rattle.std.specs.Io.KnownBytes.{Appends, Keeps}
 use Rattle.esto_catalog.specs.Reading.{IsCatalogueOf}
@@ -9,6 +9,7 @@ use Rattle.esto_constraint.specs.Constraints.{rules_of}
 use Rattle.esto_list.specs.Items.{sets_of, totals_of}
 use Rattle.esto_list.specs.Text.{IsListText}
 use Rattle.esto_list.specs.declared.listing.Listed.{Listed}
+use Rattle.esto_plan_laws.specs.Cores.{HasNoRetract}
 use Rattle.esto_ports.specs.Files.{Files}
 use Rattle.esto_query.specs.Making.{query_of}
 use Rattle.esto_query.specs.Schemas.{arities_of}
@@ -77,8 +78,8 @@ PicksLightest catalogue query items =
 abbrev pub IsEmptyWithoutRewriting : Catalogue → Query → List Listed → Type 0
 IsEmptyWithoutRewriting catalogue query items = (items ≡ []) ↔ ((other : ConjunctiveQuery) → ¬ (Rewrites catalogue query other))
 
--- The text is that of the plan of the query's run, and of its list. The plan is universal; its listed sets cover the executable rewritings, of which none
--- weighs less than the pick, and there are none where no set is listed.
+-- The text is that of the printed plan and of its list. The plan is universal, and where the catalogue asks for the core it retracts into no proper sublist of
+-- itself; its listed sets cover the executable rewritings, of which none weighs less than the pick, and there are none where no set is listed.
 pub record PrintsExactly (catalogue : Catalogue) (query : Query) (text : List ℕ) : Type 0 where
   pub plan : Plan
   pub items : List Listed
@@ -86,6 +87,7 @@ pub record PrintsExactly (catalogue : Catalogue) (query : Query) (text : List �
   pub list : IsListOf catalogue query plan items
   pub printed : IsListText catalogue.fragments plan items text
   pub universal : IsUniversalPlan (rules_of catalogue.rules) (views_of catalogue.fragments) (query_of query) (plan_query plan)
+  pub core : IsTrue catalogue.core → HasNoRetract (plan_query plan)
   pub complete : CoversRewritings catalogue query plan items
   pub lightest : PicksLightest catalogue query items
   pub empty : IsEmptyWithoutRewriting catalogue query items

@@ -13,7 +13,7 @@ use Rattle.esto_top.specs.declared.ending.Reply.TheVariants.{Done}
 use Rattle.esto_top.specs.declared.status.Status.TheVariants.{Unsatisfiable}
 use Rattle.esto_top.specs.declared.status.Status.{Status}
 
--- The query's run has a plan, or it ends with a clash.
+-- The query has a printed plan, or its run ends with a clash.
 abbrev pub plans_query : Catalogue → Query → Course Status Plan
 plans_query catalogue query =
     judges (IsPlanned catalogue query) (λ refusal. (clash : Clash) × IsClash catalogue query clash × (refusal ≡ Unsatisfiable clash))

@@ -5,20 +5,21 @@ use Rattle.esto_chase.specs.Chased.{RunClashes}
 use Rattle.esto_chase_laws.specs.Runs.{start_of}
 use Rattle.esto_chase_laws.specs.declared.clash.Clash.{Clash}
 use Rattle.esto_constraint.specs.Constraints.{rules_of}
+use Rattle.esto_core.specs.Printed.{IsPrintedPlan}
 use Rattle.esto_list.specs.Items.{HaveOrders, HaveWeights, sets_of}
 use Rattle.esto_list.specs.Text.{IsListText}
 use Rattle.esto_list.specs.declared.listing.Listed.{Listed}
 use Rattle.esto_query.specs.Making.{query_of}
 use Rattle.esto_query.specs.declared.query.Query.{Query}
 use Rattle.esto_semantics.specs.Listed.{AreListed}
-use Rattle.esto_universal.specs.Planned.{IsPlanOfRun}
 use Rattle.esto_views.specs.Fragments.{views_of, patterns_of}
 use Rattle.esto_views.specs.Plans.{plan_query}
 use Rattle.esto_views.specs.declared.plan.Plan.{Plan}
 
--- The plan is that of the query's run under the catalogue's rules.
+-- The plan is the printed one: that of the query's run under the catalogue's rules, or its cored plan where the catalogue asks for the core.
 abbrev pub IsPlanned : Catalogue → Query → Plan → Type 0
-IsPlanned catalogue query plan = IsPlanOfRun (rules_of catalogue.rules) (views_of catalogue.fragments) query.names (query_of query) plan
+IsPlanned catalogue query plan =
+    IsPrintedPlan catalogue.core (rules_of catalogue.rules) (views_of catalogue.fragments) query.names (query_of query) plan
 
 -- The query's run under the catalogue's rules ends with the clash.
 abbrev pub IsClash : Catalogue → Query → Clash → Type 0

@@ -54,7 +54,7 @@ IsRunText catalogue query plan set contents text =
 
 -- ---- the steps
 
--- The query's run has a plan, or it ends with a clash.
+-- The query has a printed plan, or its run ends with a clash.
 abbrev pub ends_query : Catalogue → Query → Course Status (Either Plan Clash)
 ends_query catalogue query = judges (λ end. MatchEither end (IsPlanned catalogue query) (IsClash catalogue query)) (λ _. ⊥)
 

@@ -1,7 +1,6 @@
 -- What `run` answers where nothing is wrong with the files.
 use Rattle.std.specs.Prelude.{◌≡◌, ◌⊎◌, ◌↔◌, ℕ, Bool, IsTrue, List, [], ◌∷◌, map, slice_get, Contains, Option, Some, None, codes}
 use Rattle.esto_catalog.specs.declared.catalogue.Catalogue.{Catalogue}
-use Rattle.esto_catalog.specs.declared.fragment.Stored.{Stored}
 use Rattle.esto_chase_laws.specs.declared.clash.Clash.{Clash}
 use Rattle.esto_constraint.specs.Constraints.{rules_of}
 use Rattle.esto_list.specs.declared.listing.Listed.{Listed}
@@ -22,7 +21,7 @@ use Rattle.esto_term.specs.declared.term.Term.{Term}
 use Rattle.esto_views.specs.Fragments.{views_of}
 use Rattle.esto_views.specs.Plans.{plan_query}
 use Rattle.esto_views.specs.declared.plan.Plan.{Plan}
-use Rattle.esto_top.specs.Fragments.{IsStoredAt, content_fault}
+use Rattle.esto_top.specs.Fragments.{Stored, IsStoredAt, content_fault}
 use Rattle.esto_top.specs.Grammar.{is_list_number, value_of}
 use Rattle.esto_top.specs.Headline.{FilesSay, HasAnswers, HasWithin, HoldsOfPut, Rewrites}
 use Rattle.esto_top.specs.Listing.{IsClash, IsListOf, IsPlanned}

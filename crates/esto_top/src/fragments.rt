@@ -1,10 +1,9 @@
 //! The files of the fragments that a set uses: each is fetched, and its content read, before the next is fetched.
 ghost use Rattle.std.specs.Prelude.{◌≡◌, ◌≢◌, ◌<◌, ◌≤◌, ℕ, length, Contains, AllPairs};
-ghost use Rattle.esto_catalog.specs.declared.fragment.Stored.{Stored};
 ghost use Rattle.esto_ports.specs.Faults.{Rises};
 ghost use Rattle.esto_run.specs.Opened.{AreRowsFor, rows_held};
 ghost use Rattle.esto_top.specs.Answers.{Answers};
-ghost use Rattle.esto_top.specs.Fragments.{IsStoredAt, OpensAll, OpensNext, Reads};
+ghost use Rattle.esto_top.specs.Fragments.{Stored, IsStoredAt, OpensAll, OpensNext, Reads};
 
 use crate::ending::fetch;
 use crate::status::Status;

@@ -7,6 +7,9 @@ use esto_backchase::listed_sets_cover_rewritings;
 use esto_bench::summaries_are_one;
 use esto_catalog::{catalogues_are_determined, catalogues_are_sound};
 use esto_constraint::rules_are_sound;
+use esto_core::{
+    printed_plans_are_one, printed_plans_are_universal, printed_plans_tell_satisfiable_queries,
+};
 use esto_query::queries_are_sound;
 use esto_read::readings_are_determined;
 use esto_run::{rewritings_answer_queries, rising_rows_are_one, used_fragments_are_one};
@@ -14,9 +17,7 @@ use esto_semantics::{
     chosen_atoms_are_named, listed_sets_are_minimal, picks_exist, queries_are_their_own_instances,
     stated_orders_exist, weights_exist,
 };
-use esto_universal::{
-    plans_of_runs_are_universal, plans_tell_satisfiable_queries, runs_have_one_outcome,
-};
+use esto_universal::{plans_tell_satisfiable_queries, runs_have_one_outcome};
 use esto_views::plans_are_sound;
 
 /// A law: where the files say a catalogue and a query over it, each outcome of `list` prints a universal plan of the query
@@ -32,7 +33,8 @@ pub(crate) fn lists_are_exact()
     rules_are_sound();
     readings_are_determined();
     plans_tell_satisfiable_queries();
-    plans_of_runs_are_universal();
+    printed_plans_tell_satisfiable_queries();
+    printed_plans_are_universal();
     plans_are_sound();
     queries_are_their_own_instances();
     listed_sets_cover_rewritings();
@@ -52,7 +54,8 @@ pub(crate) fn runs_are_exact()
     rules_are_sound();
     readings_are_determined();
     plans_tell_satisfiable_queries();
-    plans_of_runs_are_universal();
+    printed_plans_tell_satisfiable_queries();
+    printed_plans_are_universal();
     plans_are_sound();
     queries_are_their_own_instances();
     listed_sets_cover_rewritings();
@@ -61,6 +64,7 @@ pub(crate) fn runs_are_exact()
     weights_exist();
     picks_exist();
     runs_have_one_outcome();
+    printed_plans_are_one();
     used_fragments_are_one();
     rising_rows_are_one();
     rewritings_answer_queries();
@@ -76,6 +80,7 @@ pub fn outcomes_are_determined()
     rules_are_sound();
     readings_are_determined();
     runs_have_one_outcome();
+    printed_plans_are_one();
     listed_sets_are_minimal();
     stated_orders_exist();
     weights_exist();

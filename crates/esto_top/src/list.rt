@@ -12,24 +12,24 @@ use either::{Left, Right};
 use esto_backchase::minimal_sets_plain;
 use esto_catalog::{Catalogue, catalogues_are_sound};
 use esto_constraint::rules_are_sound;
+use esto_core::{
+    printed_plan, printed_plans_are_over_fragments, printed_plans_are_universal,
+    printed_plans_tell_satisfiable_queries,
+};
 use esto_list::Listing;
 use esto_ports::Shelf;
 use esto_query::{Query, queries_are_sound};
 use esto_semantics::queries_are_their_own_instances;
 use esto_term::{Bytes, OutOfMemory, Text};
-use esto_universal::{
-    plans_of_runs_are_over_fragments, plans_of_runs_are_universal, plans_tell_satisfiable_queries,
-    universal,
-};
 use esto_views::{Plan, plans_are_sound};
 use std::alloc::Global;
 
-// The plan of the query's run, or the status of the clash at which the run ends.
+// The printed plan of the query, or the status of the clash at which its run ends.
 fn plan_of(alloc: Global, query: &Query, catalogue: &Catalogue) -> Result<Plan, Status>
     ensures course { Answers (plans_query catalogue.now query.now) ⊥ result }
     ensures planned { IfOk result (IsPlanned catalogue.now query.now) }
 {
-    match universal(alloc, query, catalogue)? {
+    match printed_plan(alloc, query, catalogue)? {
         Left(plan) => Ok(plan),
         Right(clash) => Err(Status::Unsatisfiable(clash)),
     }
@@ -48,9 +48,9 @@ pub fn listing_of(
     catalogues_are_sound();
     queries_are_sound();
     rules_are_sound();
-    plans_of_runs_are_over_fragments();
-    plans_of_runs_are_universal();
-    plans_tell_satisfiable_queries();
+    printed_plans_are_over_fragments();
+    printed_plans_are_universal();
+    printed_plans_tell_satisfiable_queries();
     plans_are_sound();
     queries_are_their_own_instances();
     let sets = minimal_sets_plain(alloc, plan, query, catalogue)?;
@@ -97,7 +97,7 @@ fn listed(alloc: Global, query: &Query, catalogue: &Catalogue) -> Result<Bytes, 
     Ok(text)
 }
 
-/// Fetches and reads the catalogue, then the query, makes the query's plan, and prints the plan and the list.
+/// Fetches and reads the catalogue, then the query, makes the query's printed plan, and prints the plan and the list.
 #[tactic(auto, using(crate::proofs::Steps::steps))]
 pub fn list<S: Shelf>(
     alloc: Global,

@@ -17,16 +17,16 @@ use either::{Left, Right};
 use esto_catalog::{Catalogue, catalogues_are_sound};
 use esto_chase::Clash;
 use esto_constraint::rules_are_sound;
+use esto_core::{
+    printed_plan, printed_plans_are_over_fragments, printed_plans_are_universal,
+    printed_plans_tell_satisfiable_queries,
+};
 use esto_list::{Listed, Listing};
 use esto_ports::Shelf;
 use esto_query::{Query, queries_are_sound};
 use esto_run::{answers_are_over_files, answers_text, fragments_of_set, run_text};
 use esto_semantics::{chosen_atoms_are_named, queries_are_their_own_instances};
 use esto_term::{List, OutOfMemory, Text};
-use esto_universal::{
-    plans_of_runs_are_over_fragments, plans_of_runs_are_universal, plans_tell_satisfiable_queries,
-    universal,
-};
 use esto_views::{Plan, plans_are_sound};
 use std::alloc::Global;
 
@@ -67,9 +67,9 @@ fn run_item<S: Shelf>(
     catalogues_are_sound();
     queries_are_sound();
     rules_are_sound();
-    plans_of_runs_are_over_fragments();
-    plans_of_runs_are_universal();
-    plans_tell_satisfiable_queries();
+    printed_plans_are_over_fragments();
+    printed_plans_are_universal();
+    printed_plans_tell_satisfiable_queries();
     plans_are_sound();
     queries_are_their_own_instances();
     answers_are_over_files();
@@ -124,7 +124,7 @@ fn run_query<S: Shelf>(
     ensures files { S.files shelf.new ≡ S.files shelf.old }
     ensures later { S.faults shelf.old ≤ S.faults shelf.new }
 {
-    match universal(alloc, query, catalogue)? {
+    match printed_plan(alloc, query, catalogue)? {
         Left(plan) => {
             let reply = run_plan(alloc, shelf, query, catalogue, &plan, number)?;
             Ok(reply)

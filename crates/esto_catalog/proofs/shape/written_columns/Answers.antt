@@ -2,7 +2,7 @@ use Rattle.std.proofs.Common.{Some}
 use Rattle.esto_course.proofs.Steps.{first_stops, then_goes, gives_goes}
 use Rattle.esto_catalog.proofs.RowLemmas.{row_exit, same_goes, same_stops}
 use Rattle.esto_catalog.specs.Shapes.{store_columns}
-use Rattle.esto_catalog.specs.declared.setting.Setting.TheVariants.{Texts}
+use Rattle.esto_settings.specs.declared.setting.Setting.TheVariants.{Texts}
 use Rattle.esto_catalog.proofs.shape.written_columns.Goals as goal
 
 pub returns-in_err-demand : goal.returns-in_err-demand

@@ -36,6 +36,7 @@ returns-in-Left c =
       given_are = c.len-count.ensures;
       acyclic = subst (λ r. IsAcyclic (IsEdge r)) all acyclic;
       ranks = ranks_as _ _ _ _ c.in-Left.ranks all c.requires.scope.schema exact;
+      core_is = refl;
     })
 
 pub returns-in-Right : goal.returns-in-Right

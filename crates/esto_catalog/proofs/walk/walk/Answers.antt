@@ -37,7 +37,7 @@ returns-in_err-catalogue c =
     (then_stops _ _ _ (rw c.items-dataset_entries.ensures at c.in_ok-datasets.ensures.datasets)
     (then_stops _ _ _ (fragments_same _ _ _ _ _ c.in_ok-scope.ensures.same c.items-fragment_entries.ensures c.in_ok-fragments.ensures.fragments)
     (then_stops _ _ _ (rules_same _ _ _ _ _ _ c.in_ok-scope.ensures.same c.items-constraint_entries.ensures c.in_ok-given.ensures.rules)
-    (acyclic_same_stops _ _ _ _ _ _ c.in_ok-scope.ensures.same c.in_err-catalogue.ensures)))))
+    (acyclic_same_stops _ _ _ _ _ _ _ c.in_ok-scope.ensures.same c.in_err-catalogue.ensures)))))
 
 pub returns : goal.returns
 returns c =
@@ -45,4 +45,4 @@ returns c =
     (then_goes _ _ _ _ (rw c.items-dataset_entries.ensures at c.in_ok-datasets.ensures.datasets)
     (then_goes _ _ _ _ (fragments_same _ _ _ _ _ c.in_ok-scope.ensures.same c.items-fragment_entries.ensures c.in_ok-fragments.ensures.fragments)
     (then_goes _ _ _ _ (rules_same _ _ _ _ _ _ c.in_ok-scope.ensures.same c.items-constraint_entries.ensures c.in_ok-given.ensures.rules)
-    (acyclic_same _ _ _ _ _ _ c.in_ok-scope.ensures.same c.in_ok-catalogue.ensures))))
+    (acyclic_same _ _ _ _ _ _ _ c.in_ok-scope.ensures.same c.in_ok-catalogue.ensures))))

@@ -8,9 +8,9 @@ returns c =
     c.readings_are_determined.ensures.reading c.readings_are_determined.ensures.apart c.readings_are_determined.ensures.fault
     (record {
       rules = c.rules_are_sound.ensures.rules;
-      plan = c.runs_have_one_outcome.ensures.plan;
+      plan = c.printed_plans_are_one.ensures.plan;
       clash = c.runs_have_one_outcome.ensures.clash;
-      apart = c.runs_have_one_outcome.ensures.apart;
+      apart = c.printed_plans_are_one.ensures.apart;
       sets = c.listed_sets_are_minimal.ensures.one;
       orders = c.stated_orders_exist.ensures.one;
       weights = c.weights_exist.ensures.one;

@@ -8,21 +8,22 @@ returns c =
     (record {
       queries = c.queries_are_sound.ensures;
       rules = c.rules_are_sound.ensures.rules;
-      satisfiable = c.plans_tell_satisfiable_queries.ensures.plan;
+      satisfiable = c.printed_plans_tell_satisfiable_queries.ensures;
       unsatisfiable = c.plans_tell_satisfiable_queries.ensures.clash;
       sound = c.plans_are_sound.ensures;
       own = c.queries_are_their_own_instances.ensures.universal;
-      unions = c.plans_of_runs_are_universal.ensures.unions;
-      universal = c.plans_of_runs_are_universal.ensures.universal;
+      unions = c.printed_plans_are_universal.ensures.unions;
+      universal = c.printed_plans_are_universal.ensures.universal;
+      core = c.printed_plans_are_universal.ensures.core;
       covers = c.listed_sets_cover_rewritings.ensures;
       none = c.listed_sets_are_minimal.ensures.no_rewriting;
       lightest = c.picks_exist.ensures.least_of_all;
     })
     (record {
       rules = c.rules_are_sound.ensures.rules;
-      plan = c.runs_have_one_outcome.ensures.plan;
+      plan = c.printed_plans_are_one.ensures.plan;
       clash = c.runs_have_one_outcome.ensures.clash;
-      apart = c.runs_have_one_outcome.ensures.apart;
+      apart = c.printed_plans_are_one.ensures.apart;
       sets = c.listed_sets_are_minimal.ensures.one;
       orders = c.stated_orders_exist.ensures.one;
       weights = c.weights_exist.ensures.one;

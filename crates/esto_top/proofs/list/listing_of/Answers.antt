@@ -9,20 +9,20 @@ pub minimal_sets_plain-requires-clause-over : goal.minimal_sets_plain-requires-c
 minimal_sets_plain-requires-clause-over c =
     let catalogue = c.args.catalogue.now in
     let sound = c.catalogues_are_sound.ensures catalogue in
-    c.plans_of_runs_are_over_fragments.ensures.over (rules_of catalogue.rules) catalogue.fragments c.args.query.now.names (query_of c.args.query.now)
+    c.printed_plans_are_over_fragments.ensures.over catalogue.core (rules_of catalogue.rules) catalogue.fragments c.args.query.now.names (query_of c.args.query.now)
     c.args.plan.now sound.fragments_are c.requires
 
 pub minimal_sets_plain-requires-clause-satisfiable : goal.minimal_sets_plain-requires-clause-satisfiable
 minimal_sets_plain-requires-clause-satisfiable c =
     let catalogue = c.args.catalogue.now in
-    c.plans_tell_satisfiable_queries.ensures.plan (rules_of catalogue.rules) (views_of catalogue.fragments) c.args.query.now.names
+    c.printed_plans_tell_satisfiable_queries.ensures catalogue.core (rules_of catalogue.rules) (views_of catalogue.fragments) c.args.query.now.names
     (query_of c.args.query.now) c.args.plan.now (are_rules c.rules_are_sound.ensures.rules catalogue.rules)
     (c.queries_are_sound.ensures c.args.query.now).query c.requires
 
 pub minimal_sets_plain-requires-clause-universal : goal.minimal_sets_plain-requires-clause-universal
 minimal_sets_plain-requires-clause-universal c =
     let catalogue = c.args.catalogue.now in
-    c.plans_of_runs_are_universal.ensures.universal (rules_of catalogue.rules) (views_of catalogue.fragments) c.args.query.now.names
+    c.printed_plans_are_universal.ensures.universal catalogue.core (rules_of catalogue.rules) (views_of catalogue.fragments) c.args.query.now.names
     (query_of c.args.query.now) c.args.plan.now (are_rules c.rules_are_sound.ensures.rules catalogue.rules)
     (c.queries_are_sound.ensures c.args.query.now).query c.requires
 
@@ -33,9 +33,9 @@ minimal_sets_plain-requires-clause-same_length c =
     let is_query = (c.queries_are_sound.ensures c.args.query.now).query in
     let form = plan_form (λ it. (c.queries_are_their_own_instances.ensures.universal it).maps) (rules_of catalogue.rules) (views_of catalogue.fragments)
     (query_of c.args.query.now) c.args.plan.now (c.plans_are_sound.ensures c.args.plan.now)
-    (c.plans_of_runs_are_universal.ensures.unions (rules_of catalogue.rules) (views_of catalogue.fragments) c.args.query.now.names
+    (c.printed_plans_are_universal.ensures.unions catalogue.core (rules_of catalogue.rules) (views_of catalogue.fragments) c.args.query.now.names
     (query_of c.args.query.now) c.args.plan.now rules is_query c.requires)
-    (c.plans_tell_satisfiable_queries.ensures.plan (rules_of catalogue.rules) (views_of catalogue.fragments) c.args.query.now.names
+    (c.printed_plans_tell_satisfiable_queries.ensures catalogue.core (rules_of catalogue.rules) (views_of catalogue.fragments) c.args.query.now.names
     (query_of c.args.query.now) c.args.plan.now rules is_query c.requires) in
     form.same_length
 
@@ -49,5 +49,5 @@ returns c =
         ordered = c.in_ok-listing.ensures.in_order;
       };
       orders = c.in_ok-listing.ensures.orders;
-      weights = c.in_ok-listing.ensures.weights (c.plans_of_runs_are_over_fragments.ensures.distinct _ _ _ _ c.args.plan.now c.requires);
+      weights = c.in_ok-listing.ensures.weights (c.printed_plans_are_over_fragments.ensures.distinct _ _ _ _ _ c.args.plan.now c.requires);
     }

@@ -12,7 +12,7 @@ use Rattle.esto_top.proofs.run.run_item.Goals as goal
 pub open_fragments-requires-clause-there : goal.open_fragments-requires-clause-there
 open_fragments-requires-clause-there g c =
     let catalogue = c.args.catalogue.now in
-    let over = c.plans_of_runs_are_over_fragments.ensures.over (rules_of catalogue.rules) catalogue.fragments c.args.query.now.names
+    let over = c.printed_plans_are_over_fragments.ensures.over catalogue.core (rules_of catalogue.rules) catalogue.fragments c.args.query.now.names
     (query_of c.args.query.now) c.args.plan.now (c.catalogues_are_sound.ensures catalogue).fragments_are c.requires.planned in
     used_are_there c.args.plan.now catalogue.fragments c.args.item.now.set c.in_ok-numbers.numbers over c.in_ok-numbers.ensures.used
 
@@ -29,16 +29,16 @@ run_text-requires-clause-same_length g c =
     let is_query = (c.queries_are_sound.ensures c.args.query.now).query in
     let form = plan_form (λ it. (c.queries_are_their_own_instances.ensures.universal it).maps) (rules_of catalogue.rules) (views_of catalogue.fragments)
     (query_of c.args.query.now) c.args.plan.now (c.plans_are_sound.ensures c.args.plan.now)
-    (c.plans_of_runs_are_universal.ensures.unions (rules_of catalogue.rules) (views_of catalogue.fragments) c.args.query.now.names
+    (c.printed_plans_are_universal.ensures.unions catalogue.core (rules_of catalogue.rules) (views_of catalogue.fragments) c.args.query.now.names
     (query_of c.args.query.now) c.args.plan.now rules is_query c.requires.planned)
-    (c.plans_tell_satisfiable_queries.ensures.plan (rules_of catalogue.rules) (views_of catalogue.fragments) c.args.query.now.names
+    (c.printed_plans_tell_satisfiable_queries.ensures catalogue.core (rules_of catalogue.rules) (views_of catalogue.fragments) c.args.query.now.names
     (query_of c.args.query.now) c.args.plan.now rules is_query c.requires.planned) in
     form.same_length
 
 pub run_text-requires-clause-over : goal.run_text-requires-clause-over
 run_text-requires-clause-over g c =
     let catalogue = c.args.catalogue.now in
-    c.plans_of_runs_are_over_fragments.ensures.over (rules_of catalogue.rules) catalogue.fragments c.args.query.now.names (query_of c.args.query.now)
+    c.printed_plans_are_over_fragments.ensures.over catalogue.core (rules_of catalogue.rules) catalogue.fragments c.args.query.now.names (query_of c.args.query.now)
     c.args.plan.now (c.catalogues_are_sound.ensures catalogue).fragments_are c.requires.planned
 
 pub returns-clause-answer : goal.returns-clause-answer

@@ -1,6 +1,0 @@
-use Rattle.std.proofs.Common.{◌≡◌, drop}
-use Rattle.esto_catalog.specs.Settings.{setting_at}
-use Rattle.esto_catalog.proofs.setting.setting_at.Given as goal
-
-abbrev pub invariant-fields : goal.invariant-fields
-invariant-fields l = setting_at l.key l.entry ≡ setting_at l.key (drop l.field-index l.entry)

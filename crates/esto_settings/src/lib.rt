@@ -1,0 +1,9 @@
+//! What is written in a catalogue's file, in plain data: above this crate nothing knows TOML.
+#![tactic(auto)]
+
+mod setting;
+
+pub use setting::{
+    Document, Field, KeyList, SectionTables, Setting, TomlError, has_key, is_same, read_toml,
+    setting_at,
+};
