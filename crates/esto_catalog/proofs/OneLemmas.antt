@@ -6,7 +6,7 @@ use Rattle.std.proofs.Math.Logic.{∥∥₁_prop}
 use Rattle.std.proofs.lemmas.Cmp.{nat_list_cmp_total}
 use Rattle.std.proofs.lemmas.List.{map-append}
 use Rattle.std.proofs.lemmas.Map.Lookups.{exact_bytes}
-use Rattle.toml.specs.Data.{Members}
+use Rattle.std.proofs.lemmas.Option.{same_Some}
 use Rattle.esto_acyclic.specs.Graphs.{AreRanks, IsLeastCycle}
 use Rattle.esto_acyclic.specs.Relations.{IsEdge}
 use Rattle.esto_acyclic.specs.declared.relations.Cycle.{Cycle}
@@ -158,11 +158,9 @@ allowed_determined place key (Some Other) = refuses_determined _ _
 toml_determined : (bytes : List ℕ) → IsDetermined (reads_toml bytes)
 toml_determined bytes = judges_determined ◌≡◌ _ _
     (λ document other (pairs, table, is) (pairs', table', is').
-    let same : pairs ≡ pairs' = some_same pairs pairs' (sym table.1 ∙ table'.1) in is ∙ (ap document_of same ∙ sym is'))
+    let same : pairs ≡ pairs' = same_Some pairs pairs' (sym table.1 ∙ table'.1) in is ∙ (ap document_of same ∙ sym is'))
     (λ error other (none, is) (none', is'). is ∙ sym is')
-    (λ document error (pairs, table, is) (none, is'). none pairs table) where
-      some_same : (pairs other : Members) → Some pairs ≡ Some other → pairs ≡ other
-      some_same pairs other is = cc
+    (λ document error (pairs, table, is) (none, is'). none pairs table)
 
 section_determined : (key : List ℕ) (section : Option (List (List Field))) → IsDetermined (reads_section key section)
 section_determined key None = refuses_determined _ _
