@@ -15,7 +15,7 @@ use Rattle.esto_read.specs.declared.words.DataModel.{DataModel}
 use Rattle.esto_read.specs.declared.words.DataModel.TheVariants.{Table, Documents, Keys}
 use Rattle.esto_term.proofs.ListLemmas.{at_left, at_right, Contains-map_from, Contains-nil}
 use Rattle.esto_catalog.proofs.NameLemmas.{any_free, name_of}
-use Rattle.esto_catalog.specs.Datasets.{AreDatasets, FitModel, IsDataset, StandFrom, adds_dataset, columns_row, has_dataset, is_name, model_relations, reads_dataset, reads_datasets, relation_count, relations_of, schema_of}
+use Rattle.esto_catalog.specs.Datasets.{AreBased, AreDatasets, FitModel, IsDataset, StandFrom, adds_dataset, columns_row, has_dataset, is_name, model_relations, reads_dataset, reads_datasets, relation_count, relations_of, schema_of}
 use Rattle.esto_catalog.specs.Models.{layout_row}
 use Rattle.esto_catalog.specs.Rows.{IsWant, IsAny}
 use Rattle.esto_settings.specs.Settings.{is_same}
@@ -165,6 +165,25 @@ set_each (entry ∷ entries) number earlier datasets set (next, (dataset, read, 
     let (all, count) = set_each entries (suc number) next datasets more rest in
     let one : length next ≡ length earlier + 1 = ap length added ∙ length-append earlier (dataset ∷ []) in
     (all, omega (arith, count, one))
+
+-- each dataset stands where those before it end
+based_more : (earlier : List Dataset) (dataset : Dataset) (base : ℕ) → AreBased base earlier → dataset.base ≡ base + length (schema_of earlier)
+    → AreBased base (earlier ++ dataset ∷ [])
+based_more [] dataset base based is = (is ∙ omega arith, tt)
+based_more (first ∷ earlier) dataset base (here, rest) is =
+    let more = length-append (relations_of first) (schema_of earlier) in
+    (here, based_more earlier dataset (base + length (relations_of first)) rest (omega (arith, is, more)))
+
+each_based : (entries : List (List Field)) (number : ℕ) (earlier datasets : List Dataset) → AreBased 0 earlier
+    → (each adds_dataset number earlier entries).goes datasets → AreBased 0 datasets
+unfolding and_then gives
+each_based [] number earlier datasets based is = subst (AreBased 0) (sym is) based
+each_based (entry ∷ entries) number earlier datasets based (next, (dataset, read, added), rest) =
+    let base : dataset.base ≡ 0 + length (schema_of earlier) = omega (arith, (read_next _ earlier entry dataset read).base) in
+    each_based entries (suc number) next datasets (subst (AreBased 0) (sym added) (based_more earlier dataset 0 based base)) rest
+
+pub read_based : (entries : List (List Field)) (datasets : List Dataset) → (reads_datasets entries).goes datasets → AreBased 0 datasets
+read_based entries datasets read = each_based entries 1 [] datasets tt read
 
 no_set : AreSet []
 no_set = record { distinct = λ i j d before below. absurd (omega arith); sound = λ dataset inside. absurd (Contains-nil dataset inside) }

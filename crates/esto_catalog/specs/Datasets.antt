@@ -109,6 +109,11 @@ abbrev pub schema_of : List Dataset → List Relation
 schema_of [] = []
 schema_of (dataset ∷ datasets) = relations_of dataset ++ schema_of datasets
 
+-- The relations of the first dataset stand from the base on, and those of each later one from where those before it end.
+abbrev pub AreBased : ℕ → List Dataset → Type 0
+AreBased base [] = Unit {0}
+AreBased base (dataset ∷ datasets) = (dataset.base ≡ base) × AreBased (base + length (relations_of dataset)) datasets
+
 -- The rows of a dataset, in order: unknown keys, name, model, columns, layout, file. Its first relation comes after those of the datasets before.
 abbrev pub reads_dataset : Place → List Dataset → List Field → Course CatalogueError Dataset
 reads_dataset place earlier entry =

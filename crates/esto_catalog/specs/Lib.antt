@@ -11,4 +11,4 @@ pub mod Rules
 pub mod Soundness
 pub mod Reading
 pub mod Determined
-pub mod Encodings
+pub mod Kept

@@ -22,7 +22,7 @@ pub use columns::{MARK, MAX_NAME};
 pub use dataset::{Dataset, Datasets};
 pub use fault::{CatalogueError, CatalogueFault, CatalogueKind, Section};
 pub use walk::{
-    catalogues_are_determined, catalogues_are_sound, catalogues_have_encodings,
+    catalogues_are_determined, catalogues_are_sound, catalogues_keep_their_datasets,
     catalogues_rank_their_rules, read_catalogue,
 };
 pub use whole::MAX_ENTRIES;

@@ -5,7 +5,7 @@ ghost use Rattle.esto_acyclic.specs.Relations.{IsEdge};
 ghost use Rattle.esto_constraint.specs.Constraints.{rules_of};
 ghost use Rattle.esto_query.specs.Schemas.{arities_of};
 ghost use Rattle.esto_catalog.specs.Determined.{CataloguesAreSound, HaveOneCatalogue, HaveNoError, HaveOneError};
-ghost use Rattle.esto_catalog.specs.Encodings.{ReadingsHaveEncodings};
+ghost use Rattle.esto_catalog.specs.Kept.{ReadingsHaveRelations, ReadingsHaveEncodings};
 ghost use Rattle.esto_catalog.specs.Reading.{IsCatalogueOf, IsCatalogueError, is_acyclic, reads_catalogue};
 ghost use Rattle.esto_catalog.specs.Rows.{Walks};
 ghost use Rattle.esto_catalog.specs.Soundness.{AreSoundFragments, AreSoundRules};
@@ -112,10 +112,12 @@ pub fn catalogues_rank_their_rules()
         AreRanks (IsEdge (rules_of it.rules)) (length it.ranks) it.ranks }
 {}
 
-/// A law: a catalogue that is read keeps its own constraints first, as many as it counts, and then the rules of the
-/// encodings of its datasets, with the names of their variables.
-pub fn catalogues_have_encodings()
-    ensures { ReadingsHaveEncodings }
+/// A law: a catalogue that is read has the relations of its datasets, one dataset after another; and it keeps its own
+/// constraints first, as many as it counts, and then the rules of the encodings of its datasets, with the names of their
+/// variables.
+pub fn catalogues_keep_their_datasets()
+    ensures relations { ReadingsHaveRelations }
+    ensures encodings { ReadingsHaveEncodings }
 {}
 
 /// A law: bytes say at most one catalogue, up to what its views, patterns and rules mean, or have at most one first fault,

@@ -132,7 +132,7 @@ module _ (words : List Word) (apart : AllPairs ◌≢◌ (map (λ word. word.nam
 
   -- ---- trees
 
-  read_one : (tree : QueryTree) (head head' : List Term) (body body' : List (Fact Term)) (names names' : List Name)
+  pub read_one : (tree : QueryTree) (head head' : List Term) (body body' : List (Fact Term)) (names names' : List Name)
       → IsRead words schema bytes tree head body names → IsRead words schema bytes tree head' body' names'
       → (head ≡ head') × (body ≡ body') × (names ≡ names')
   read_one tree head head' body body' names names' h g =
@@ -150,14 +150,14 @@ module _ (words : List Word) (apart : AllPairs ◌≢◌ (map (λ word. word.nam
         subst (λ (l : List Term). IsHeadFault form bytes tree.variables l body f) (sym s.0)
         (subst (λ (l : List (Fact Term)). IsHeadFault form bytes tree.variables head' l f) (sym s.1) k)
 
-    tree_fault_one : (f g : TextFault) → IsTreeFault form words schema bytes tree f → IsTreeFault form words schema bytes tree g → f ≡ g
+    pub tree_fault_one : (f g : TextFault) → IsTreeFault form words schema bytes tree f → IsTreeFault form words schema bytes tree g → f ≡ g
     tree_fault_one f g (inl h) (inl k) = items_fault_one 0 tree.items f g h k
     tree_fault_one f g (inl h) (inr (head, body, names, r, k)) = absurd (fitting_or_fault 0 tree.items f r.fits h)
     tree_fault_one f g (inr (head, body, names, r, h)) (inl k) = absurd (fitting_or_fault 0 tree.items g r.fits k)
     tree_fault_one f g (inr (head, body, names, r, h)) (inr (head', body', names', r', k)) =
         head_fault_one form bytes tree.variables head body f g h (head_moves head head' body body' names names' g r r' k)
 
-    read_or_fault : (head : List Term) (body : List (Fact Term)) (names : List Name) (f : TextFault) → IsRead words schema bytes tree head body names
+    pub read_or_fault : (head : List Term) (body : List (Fact Term)) (names : List Name) (f : TextFault) → IsRead words schema bytes tree head body names
         → IsHeadFit form bytes tree.variables head body → ¬ IsTreeFault form words schema bytes tree f
     read_or_fault head body names f r fit (inl h) = fitting_or_fault 0 tree.items f r.fits h
     read_or_fault head body names f r fit (inr (head', body', names', r', h)) =
@@ -171,10 +171,10 @@ module _ (trees : text.HaveOneTree text.IsQueryText) where
       → AreSame query other
   one_reading form words apart schema bytes query other (tree, h) (tree', g) =
       let same : tree' ≡ tree = trees bytes tree' g.text tree h.text in
-      let r = subst (λ (t : QueryTree). IsRead words schema bytes t other.query.head other.query.body other.query.names) same g.read in
+      let r = subst (λ (t : QueryTree). IsRead words schema bytes t other.query.head other.query.body other.query.names) same g.said.read in
       let s = read_one words apart schema bytes tree query.query.head other.query.head query.query.body other.query.body query.query.names other.query.names
-      h.read r in
-      (h.name ∙ ap (λ (t : QueryTree). text_of bytes t.name) (sym same) ∙ sym g.name, s.0, s.1, s.2)
+      h.said.read r in
+      (h.said.name ∙ ap (λ (t : QueryTree). text_of bytes t.name) (sym same) ∙ sym g.said.name, s.0, s.1, s.2)
 
   module _ (clean : text.HaveNoFault text.IsQueryText text.IsGrammarFault) where
     pub no_fault : (form : Form) (words : List Word) → AllPairs ◌≢◌ (map (λ word. word.name) words)
@@ -183,7 +183,7 @@ module _ (trees : text.HaveOneTree text.IsQueryText) where
     no_fault form words apart schema bytes query fault (tree, h) (inl g) = clean bytes tree fault h.text g
     no_fault form words apart schema bytes query fault (tree, h) (inr (tree', text', g)) =
         let same : tree' ≡ tree = trees bytes tree' text' tree h.text in
-        read_or_fault words apart schema bytes form tree query.query.head query.query.body query.query.names fault h.read h.fit
+        read_or_fault words apart schema bytes form tree query.query.head query.query.body query.query.names fault h.said.read h.said.fit
         (subst (λ (t : QueryTree). IsTreeFault form words schema bytes t fault) same g)
 
     pub one_fault : (grammar : text.HaveOneFault text.IsGrammarFault) (form : Form) (words : List Word) → AllPairs ◌≢◌ (map (λ word. word.name) words)

@@ -17,3 +17,4 @@ pub mod ExactLemmas
 pub mod LayoutLemmas
 pub mod RuleLemmas
 pub mod RuleExact
+pub mod UnionLemmas

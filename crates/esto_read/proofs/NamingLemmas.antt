@@ -128,12 +128,12 @@ module _ (bytes : List ℕ) where
 pub views_named : ViewsNameTheirColumns
 views_named words schema bytes view (tree, meaning) =
     let stands = tree_stands bytes meaning.text.0 tree meaning.text.1.1 meaning.text.2 in
-    let kept = items_kept words schema bytes meaning.read.between tree.items view.query.body view.query.names meaning.read.body_atoms in
-    let numbered = head_numbered bytes [] tree.variables view.query.head meaning.read.between stands.1 meaning.read.head_terms in (
+    let kept = items_kept words schema bytes meaning.said.read.between tree.items view.query.body view.query.names meaning.said.read.body_atoms in
+    let numbered = head_numbered bytes [] tree.variables view.query.head meaning.said.read.between stands.1 meaning.said.read.head_terms in (
       map (text_of bytes) tree.variables,
       record {
-        called = called bytes meaning.read.between view.query.names kept tree.variables view.query.head numbered.1;
-        distinct = names_distinct bytes tree.variables meaning.fit.0;
+        called = called bytes meaning.said.read.between view.query.names kept tree.variables view.query.head numbered.1;
+        distinct = names_distinct bytes tree.variables meaning.said.fit.0;
         written = λ text inside.
             let found = Contains-map_from (text_of bytes) tree.variables text inside in
             subst IsNameText found.2 (name_text bytes found.0 (each_name bytes tree.variables stands.1 found.0 found.1));

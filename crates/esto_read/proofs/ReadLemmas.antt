@@ -14,7 +14,7 @@ use Rattle.esto_semantics.specs.declared.fact.Fact.{Fact}
 use Rattle.esto_term.specs.declared.term.Term.{Term}
 use Rattle.esto_term.specs.declared.term.Term.TheVariants.{Const, Plain}
 use Rattle.esto_text.specs.Faults.{IsNameIn, IsFieldIn, IsTermIn, StandsAt, IsQueryText}
-use Rattle.esto_text.specs.Grammar.{IsName, IsRow, IsBody}
+use Rattle.esto_text.specs.Grammar.{IsName, IsRow, IsBody, IsQuery}
 use Rattle.esto_text.specs.Tokens.{text_of}
 use Rattle.esto_text.specs.Trees.{ItemTree, Atom, Part, Pattern, QueryTree, EachOfItem}
 use Rattle.esto_text.specs.declared.fault.ReadError.{ReadError}
@@ -24,7 +24,7 @@ use Rattle.esto_text.specs.declared.token.TokenKind.{TokenKind}
 use Rattle.esto_text.specs.declared.token.TokenKind.TheVariants as kind
 use Rattle.esto_read.specs.Heads.{AreDifferent, AreMentioned}
 use Rattle.esto_read.specs.Items.{IsAtomOf, IsItemOf, AreItems, IsBodyError}
-use Rattle.esto_read.specs.Readings.{IsAllowed, HasVariables, IsRead, IsReadError}
+use Rattle.esto_read.specs.Readings.{IsAllowed, HasVariables, HasParts, IsRead, IsTreeError, IsReadError}
 use Rattle.esto_read.specs.Terms.{IsVariableOf, IsTermOf, AreTerms}
 use Rattle.esto_read.specs.declared.read.Form.{Form}
 use Rattle.esto_read.specs.declared.read.Form.TheVariants.{Query, View}
@@ -36,6 +36,12 @@ use Rattle.esto_read.proofs.ItemLemmas.{size_positive, item_count}
 use Rattle.esto_read.proofs.WordLemmas.{base_has}
 use Rattle.esto_read.proofs.EntryLemmas.{pattern_good}
 use Rattle.esto_read.proofs.BelowLemmas.{names_are_terms, terms_length, plain_one, Below, below_more, cons_cases, AllGrow, no_item, terms_grow, Keeps, keeps_more, new_is_last}
+
+-- ---- the parts of a query
+
+pub query_parts : (tree : QueryTree) (tokens : List Token) → IsQuery tree tokens → HasParts tree
+query_parts tree tokens (paren, head, turnstile, body, e, n, p, row, t, b) =
+    (λ none. subst (λ (l : List Token). IsRow IsName l head) none row, λ none. subst (λ (l : List ItemTree). IsBody l body) none b)
 
 -- ---- bodies
 
@@ -94,18 +100,12 @@ module _ (words : List Word) (schema bytes : List ℕ) (u : IsUtf8 bytes) where
       let count = item_count words schema bytes before item own between h in
       omega (arith, size_positive item, count, ap length e, length-append own rest, ap length none)
 
-  some_variables : (tree : QueryTree) → IsQueryText bytes tree → tree.variables ≢ []
-  some_variables tree (tokens, h, (paren, head, turnstile, body, e, n, p, row, t, b)) none = subst (λ (l : List Token). IsRow IsName l head) none row
-
-  some_items : (tree : QueryTree) → IsQueryText bytes tree → tree.items ≢ []
-  some_items tree (tokens, h, (paren, head, turnstile, body, e, n, p, row, t, b)) none = subst (λ (l : List ItemTree). IsBody l body) none b
-
   some_head : (before after : List Name) (ts : List Token) (xs : List Term) → AreTerms bytes before ts xs after → ts ≢ [] → xs ≢ []
   some_head before after [] xs h ne none = absurd (ne refl)
   some_head before after (t ∷ ts) xs h ne none = let n = terms_length bytes before (t ∷ ts) xs after h in omega (arith, n, ap length none)
 
   -- a query of what was read
-  module _ (tree : QueryTree) (head : List Term) (body : List (Fact Term)) (names : List Name) (text : IsQueryText bytes tree) (stands : StandsAt bytes tree)
+  module _ (tree : QueryTree) (head : List Term) (body : List (Fact Term)) (names : List Name) (parts : HasParts tree) (stands : StandsAt bytes tree)
       (h : IsRead words schema bytes tree head body names) (relations : All (λ word. HasRelations schema word.model word.base) words) where
     head_grows : AllGrow [] h.between head
     head_grows = terms_grow bytes u [] tree.variables head h.between (names_are_terms bytes tree.variables stands.1) h.head_terms
@@ -116,8 +116,8 @@ module _ (words : List Word) (schema bytes : List ℕ) (u : IsUtf8 bytes) where
     pub sound : AreMentioned body head → IsSound head body names
     sound safe = record {
       query = record {
-        has_head = some_head [] h.between tree.variables head h.head_terms (some_variables tree text);
-        has_body = items_some h.between tree.items body names h.body_atoms (some_items tree text);
+        has_head = some_head [] h.between tree.variables head h.head_terms parts.0;
+        has_body = items_some h.between tree.items body names h.body_atoms parts.1;
         flat_head = λ x k. (head_grows.1 x k).0;
         flat_body = λ x (atom, k, l). ((body_good.1 atom k).1 x l).0;
         safe = λ x k. inr (safe x k);
@@ -210,7 +210,12 @@ module _ (bytes : List ℕ) (variables : List Token) (head : List Term) (names :
 
 -- ---- errors
 
-pub body_error : (form : Form) (words : List Word) (schema bytes : List ℕ) (tree : QueryTree) (e : ReadError) → IsQueryText bytes tree
-    → IsBodyError words schema bytes tree.items e → IsReadError form words schema bytes e
-body_error form words schema bytes tree OutOfMemory text h = text.1.0
-body_error form words schema bytes tree (Fault f) text h = inr (tree, text, inl h)
+pub body_error : (form : Form) (words : List Word) (schema bytes : List ℕ) (tree : QueryTree) (e : ReadError) → IsBodyError words schema bytes tree.items e
+    → IsTreeError form words schema bytes tree e
+body_error form words schema bytes tree OutOfMemory h = tt
+body_error form words schema bytes tree (Fault f) h = inl h
+
+pub read_error : (form : Form) (words : List Word) (schema bytes : List ℕ) (tree : QueryTree) (e : ReadError) → IsQueryText bytes tree
+    → IsTreeError form words schema bytes tree e → IsReadError form words schema bytes e
+read_error form words schema bytes tree OutOfMemory text h = text.1.0
+read_error form words schema bytes tree (Fault f) text h = inr (tree, text, h)

@@ -8,3 +8,4 @@ pub mod Naming
 pub mod Constraints
 pub mod Parts
 pub mod Layouts
+pub mod Unions

@@ -55,12 +55,16 @@ IsHeadFault form bytes variables head body fault =
     ⊎ ((fault.kind ≡ Unsafe) × IsAllowed form bytes variables × (place : ℕ) × (token : Token) × IsFirstMissing body head place
     × (slice_get variables place ≡ Some token) × (fault.offset ≡ token.start))
 
--- The query is what the text means.
-pub record IsMeaning (form : Form) (words : List Word) (schema bytes : List ℕ) (tree : QueryTree) (query : NamedQuery) : Type 0 where
-  pub text : IsQueryText bytes tree
+-- The query is what the tree says.
+pub record IsSaid (form : Form) (words : List Word) (schema bytes : List ℕ) (tree : QueryTree) (query : NamedQuery) : Type 0 where
   pub name : query.name ≡ text_of bytes tree.name
   pub read : IsRead words schema bytes tree query.query.head query.query.body query.query.names
   pub fit : IsHeadFit form bytes tree.variables query.query.head query.query.body
+
+-- The query is what the text means: the text has this tree, and the query is what it says.
+pub record IsMeaning (form : Form) (words : List Word) (schema bytes : List ℕ) (tree : QueryTree) (query : NamedQuery) : Type 0 where
+  pub text : IsQueryText bytes tree
+  pub said : IsSaid form words schema bytes tree query
 
 -- The text is in the grammar, and the query is what its tree means.
 abbrev pub IsReading : Form → List Word → List ℕ → List ℕ → NamedQuery → Type 0
@@ -72,6 +76,15 @@ IsTreeFault form words schema bytes tree fault =
     IsFirstItemFault words schema bytes 0 tree.items fault
     ⊎ ((head : List Term) × (body : List (Fact Term)) × (names : List Name) × IsRead words schema bytes tree head body names
     × IsHeadFault form bytes tree.variables head body fault)
+
+-- Why no query is made of a tree: its first fault, or want of memory.
+abbrev pub IsTreeError : Form → List Word → List ℕ → List ℕ → QueryTree → ReadError → Type 0
+IsTreeError form words schema bytes tree (Fault fault) = IsTreeFault form words schema bytes tree fault
+IsTreeError form words schema bytes tree OutOfMemory = Unit {0}
+
+-- The tree has a variable in its head, and an item in its body.
+abbrev pub HasParts : QueryTree → Type 0
+HasParts tree = (tree.variables ≢ []) × (tree.items ≢ [])
 
 -- The first fault of a text: that of its bytes or its grammar, or else that of its tree.
 abbrev pub IsFirstFault : Form → List Word → List ℕ → List ℕ → TextFault → Type 0

@@ -10,6 +10,7 @@ mod pattern;
 mod read;
 mod rule;
 mod term;
+mod unions;
 mod words;
 
 pub use layout::{layout_readings_are_determined, read_layout};
@@ -17,4 +18,7 @@ pub use read::{
     NamedQuery, read_query, read_view, readings_are_determined, views_name_their_columns,
 };
 pub use rule::{constraint_readings_are_determined, read_constraint, read_constraint_2};
+pub use unions::{
+    NamedQueries, read_union, union_readings_are_determined, unions_of_one_are_queries,
+};
 pub use words::{DataModel, Vocabulary, Word};

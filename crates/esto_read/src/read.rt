@@ -4,11 +4,12 @@ ghost use Rattle.std.specs.List.{AllByRecursion};
 ghost use Rattle.esto_query.specs.Making.{query_of};
 ghost use Rattle.esto_semantics.specs.WellFormed.{IsQueryOver};
 ghost use Rattle.esto_query.specs.Schemas.{arities_of};
-ghost use Rattle.esto_text.specs.Faults.{IsNameIn};
+ghost use Rattle.esto_text.specs.Faults.{IsNameIn, StandsAt};
+ghost use Rattle.esto_text.specs.View.{tree_of};
 ghost use Rattle.esto_read.specs.declared.read.Form.{Form};
 ghost use Rattle.esto_read.specs.Words.{IsVocabulary};
 ghost use Rattle.esto_read.specs.Naming.{ViewsNameTheirColumns};
-ghost use Rattle.esto_read.specs.Readings.{HasVariables, IsAllowed, IsRefused, IsHeadFit, IsHeadFault, IsReading, IsReadError, HaveOneReading, HaveNoFault, HaveOneFault};
+ghost use Rattle.esto_read.specs.Readings.{HasVariables, IsAllowed, IsRefused, IsHeadFit, IsHeadFault, IsSaid, IsReading, IsTreeError, HasParts, IsReadError, HaveOneReading, HaveNoFault, HaveOneFault};
 
 use crate::body::body;
 use crate::constant::{bytes_of, plain};
@@ -19,7 +20,9 @@ use crate::words::Vocabulary;
 use esto_query::{Query, Schema};
 use esto_semantics::Atom;
 use esto_term::{List, Term, Text};
-use esto_text::{ReadError, TextFault, TextKind, Token, read_query_tree, trees_are_determined};
+use esto_text::{
+    QuerySyntax, ReadError, TextFault, TextKind, Token, read_query_tree, trees_are_determined,
+};
 use std::alloc::Global;
 
 /// A query or a view, and the name of its head.
@@ -75,25 +78,28 @@ fn repeat(form: Form, bytes: &[u8], variables: &[Token]) -> Option<u64>
     }
 }
 
-/// The query or view that a text is.
-fn read(
+/// The query or view that a tree of the text says.
+pub fn said(
     alloc: Global,
     bytes: &[u8],
+    tree: &QuerySyntax,
     words: &Vocabulary,
     schema: &Schema,
     form: Form,
 ) -> Result<NamedQuery, ReadError>
     requires words { IsVocabulary (arities_of schema.now) words.now }
-    ensures reading { IfOk result (λ query. IsReading
-        form words.now (arities_of schema.now) bytes.now query) }
+    requires utf8 { IsUtf8 bytes.now }
+    requires parts { HasParts (tree_of tree.now) }
+    requires stands { StandsAt bytes.now (tree_of tree.now) }
+    ensures said { IfOk result (IsSaid
+        form words.now (arities_of schema.now) bytes.now (tree_of tree.now)) }
     ensures over { IfOk result (λ query. IsQueryOver
         (arities_of schema.now) (query_of query.query)) }
     ensures head { IfOk result (λ query. HasVariables form query.query.head) }
-    ensures error { IfErr result (λ e. IsReadError
-        form words.now (arities_of schema.now) bytes.now e) }
+    ensures error { IfErr result (IsTreeError
+        form words.now (arities_of schema.now) bytes.now (tree_of tree.now)) }
 {
     let words = words.items();
-    let tree = read_query_tree(alloc, bytes)?;
     let name = plain(alloc, bytes_of(bytes, tree.name))?;
     let mut names = List::new(alloc);
     let head = terms(alloc, bytes, tree.variables.items(), &mut names)?;
@@ -111,6 +117,28 @@ fn read(
             query: query(alloc, schema, head, body, names),
         }),
     }
+}
+
+/// The query or view that a text is.
+fn read(
+    alloc: Global,
+    bytes: &[u8],
+    words: &Vocabulary,
+    schema: &Schema,
+    form: Form,
+) -> Result<NamedQuery, ReadError>
+    requires words { IsVocabulary (arities_of schema.now) words.now }
+    ensures reading { IfOk result (λ query. IsReading
+        form words.now (arities_of schema.now) bytes.now query) }
+    ensures over { IfOk result (λ query. IsQueryOver
+        (arities_of schema.now) (query_of query.query)) }
+    ensures head { IfOk result (λ query. HasVariables form query.query.head) }
+    ensures error { IfErr result (λ e. IsReadError
+        form words.now (arities_of schema.now) bytes.now e) }
+{
+    let tree = read_query_tree(alloc, bytes)?;
+    let query = said(alloc, bytes, &tree, words, schema, form)?;
+    Ok(query)
 }
 
 /// The query that a text is, over the datasets that the words name, with its name; or the text's first fault:

@@ -8,9 +8,9 @@ use Rattle.esto_text.specs.declared.token.TokenKind.{TokenKind}
 use Rattle.esto_text.specs.declared.token.TokenKind.TheVariants.{Name, Quoted, Stars, Stray}
 use Rattle.esto_text.specs.declared.tree.StepSyntax.{StepSyntax}
 use Rattle.esto_text.specs.declared.tree.StepSyntax.TheVariants.{Field, Item, Below}
-use Rattle.esto_text.specs.Grammar.{fitting, class_of, is_term, step_at, IsName, IsTerm, IsRowEnd, IsRow, IsFirst, IsLater, IsPathEnd, IsPath, IsEntry, IsGroupEnd, IsGroup, IsLayout, IsItem, IsBodyEnd, IsBody, IsQuery, IsHead, IsConstraint}
-use Rattle.esto_text.specs.Faults.{IsNameIn, IsFieldIn, IsTermIn, StandsAt, ConstraintStandsAt, LayoutStandsAt}
-use Rattle.esto_text.specs.Limits.{is_close, is_name, in_room, limited_row, limited}
+use Rattle.esto_text.specs.Grammar.{fitting, class_of, is_term, step_at, IsName, IsTerm, IsRowEnd, IsRow, IsFirst, IsLater, IsPathEnd, IsPath, IsEntry, IsGroupEnd, IsGroup, IsLayout, IsItem, IsBodyEnd, IsBody, IsQuery, IsHead, IsConstraint, IsUnionEnd, IsUnionFrom, IsUnion}
+use Rattle.esto_text.specs.Faults.{IsNameIn, IsFieldIn, IsTermIn, StandsAt, ConstraintStandsAt, LayoutStandsAt, UnionStandsAt}
+use Rattle.esto_text.specs.Limits.{is_close, is_name, in_room, limited_row, limited, Reached, Nothing, Part, Head, reached_then, limited_token, limited_after, limited_union}
 use Rattle.esto_text.specs.Tokens.{IsToken, Places, Covers, text_of, StandsIn}
 use Rattle.esto_text.specs.Trees.{EntryTree, Value, Nested, EntryTrees, NoEntry, AndEntry, ItemTree, Atom, Part, Pattern, QueryTree, HeadTree, Items, Equality, Never, ConstraintTree, EachOfPath, EachOfEntry, EachOfEntries, EachOfItem, EachOfQuery, EachOfHead, EachOfConstraint}
 
@@ -130,6 +130,16 @@ module _ (P N F T : Token → Type 0) (name_leaf : (t : Token) → P t → IsNam
             (back_of head (turnstile ∷ body) behind).1,
       )
 
+  union_end_each : (qs : List QueryTree) (count : ℕ) (ts : List Token) → IsUnionEnd count qs ts → Every ts → AllByRecursion (EachOfQuery N F T) qs
+  union_end_each [] count ts h all = tt
+  union_end_each (q ∷ qs) count ts (semicolon, a, b, e, is, less, query, end) all =
+      let inside = (subst Every e all).1 in (query_each q a query (front_of a b inside), union_end_each qs (suc count) b end (back_of a b inside))
+
+  pub union_each : (qs : List QueryTree) (count : ℕ) (ts : List Token) → IsUnionFrom count qs ts → Every ts → AllByRecursion (EachOfQuery N F T) qs
+  union_each [] count ts h all = absurd h
+  union_each (q ∷ qs) count ts (a, b, e, query, end) all =
+      let here = subst Every e all in (query_each q a query (front_of a b here), union_end_each qs (suc count) b end (back_of a b here))
+
   head_each : (W : Token → Type 0) (h : HeadTree) (ts : List Token) → IsHead W h ts → Every ts → EachOfHead N F T h
   head_each W (Items items) ts h all = body_each items ts h all
   head_each W (Equality left right) ts (sign, e, n, c, t) all = let here = subst Every e all in (name_leaf left here.0 n, term_leaf right here.1.1.0 t)
@@ -197,6 +207,24 @@ module _ (bytes : List ℕ) where
   limited_stands [] h = tt
   limited_stands (t ∷ ts) h = (inr h.0, row_stands 32 ts h.1)
 
+  room_stands : (room : ℕ) (t : Token) → StandsIn bytes t → StandsOrNot (in_room room t)
+  room_stands zero t h = inl refl
+  room_stands (suc room) t h = inr h
+
+  token_stands : (reached : Reached) (t : Token) → StandsIn bytes t → StandsOrNot (limited_token reached t)
+  token_stands Nothing t h = inr h
+  token_stands Head t h = inr h
+  token_stands (Part room) t h = go (is_close (class_of t)) (is_name (class_of t))
+    where
+      go : (close name : Bool) → StandsOrNot (cond close t (cond name (in_room room t) t))
+      go true name = inr h
+      go false true = room_stands room t h
+      go false false = inr h
+
+  after_stands : (reached : Reached) (ts : List Token) → AllByRecursion (StandsIn bytes) ts → AllByRecursion StandsOrNot (limited_after reached ts)
+  after_stands reached [] h = tt
+  after_stands reached (t ∷ ts) h = (token_stands reached t h.0, after_stands (reached_then reached (class_of t)) ts h.1)
+
   fits_stands : (t : Token) → StandsOrNot t → class_of t ≢ Stray → StandsIn bytes t
   fits_stands t (inl e) n = absurd (n e)
   fits_stands t (inr h) n = h
@@ -232,6 +260,11 @@ module _ (bytes : List ℕ) where
   tree_stands ts q h g =
       query_each StandsOrNot (IsNameIn bytes) (IsFieldIn bytes) (IsTermIn bytes) name_in field_in term_in q (limited ts) g
       (limited_stands ts (stand_all 0 ts (omega arith) h))
+
+  pub union_stands : (ts : List Token) (qs : List QueryTree) → Covers 0 bytes ts → IsUnion qs (limited_union ts) → UnionStandsAt bytes qs
+  union_stands ts qs h g =
+      union_each StandsOrNot (IsNameIn bytes) (IsFieldIn bytes) (IsTermIn bytes) name_in field_in term_in qs 0 (limited_union ts) g
+      (after_stands Nothing ts (stand_all 0 ts (omega arith) h))
 
   pub tokens_stand : (ts : List Token) → Covers 0 bytes ts → AllByRecursion (StandsIn bytes) ts
   tokens_stand ts h = stand_all 0 ts (omega arith) h

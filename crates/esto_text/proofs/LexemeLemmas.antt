@@ -8,7 +8,7 @@ use Rattle.std.proofs.lemmas.Bool.{le-leb, cases_lt}
 use Rattle.esto_text.specs.declared.scan.Class.{Class}
 use Rattle.esto_text.specs.declared.scan.Class.TheVariants.{Digit, Word}
 use Rattle.esto_text.specs.declared.token.TokenKind.{TokenKind}
-use Rattle.esto_text.specs.declared.token.TokenKind.TheVariants.{Name, Wildcard, Quoted, Number, LeftParen, RightParen, LeftBrace, RightBrace, LeftBracket, RightBracket, Comma, Dot, Colon, Turnstile, Arrow, Equals, Stars, Stray}
+use Rattle.esto_text.specs.declared.token.TokenKind.TheVariants.{Name, Wildcard, Quoted, Number, LeftParen, RightParen, LeftBrace, RightBrace, LeftBracket, RightBracket, Comma, Dot, Colon, Turnstile, Arrow, Equals, Stars, Semicolon, Stray}
 use Rattle.esto_text.specs.Gaps.{IsLetter, IsDigit, IsIn}
 use Rattle.esto_text.specs.Quotes.{IsClosed, LongestClosed}
 use Rattle.esto_text.specs.Lexemes.{IsNameText, IsNumberText, IsLexeme, Lexes}
@@ -51,7 +51,7 @@ sign_kind b u =
     if b == 95 then Wildcard else (if b == 39 then Quoted else (if b == 45 then after_minus u else (if b == 58 then after_colon u else (if b == 42 then Stars
     else (if b == 40 then LeftParen else (if b == 41 then RightParen else (if b == 123 then LeftBrace else (if b == 125 then RightBrace
     else (if b == 91 then LeftBracket else (if b == 93 then RightBracket else
-    (if b == 44 then Comma else (if b == 46 then Dot else (if b == 61 then Equals else Stray)))))))))))))
+    (if b == 44 then Comma else (if b == 46 then Dot else (if b == 61 then Equals else (if b == 59 then Semicolon else Stray))))))))))))))
 
 -- a token's text tells its kind
 abbrev pub kind_of : List ℕ → TokenKind

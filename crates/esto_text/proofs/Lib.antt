@@ -13,3 +13,5 @@ pub mod ItemLemmas
 pub mod RuleLemmas
 pub mod LeafLemmas
 pub mod SyntaxLemmas
+pub mod UnionLemmas
+pub mod UnionReading

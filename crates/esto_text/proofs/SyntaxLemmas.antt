@@ -6,10 +6,10 @@ use Rattle.std.proofs.Math.Seq.{drop-append_seam}
 use Rattle.esto_text.specs.declared.fault.TextKind.TheVariants as kind
 use Rattle.esto_text.specs.declared.stop.Stop.TheVariants.{Syntax}
 use Rattle.esto_text.specs.declared.token.Token.{Token}
-use Rattle.esto_text.specs.Faults.{IsViable, Leaves, StopsAt, place_of, IsTextOf, IsFaultOf, IsOnlyTree, IsGrammarFault, IsLayoutGrammarFault, HaveOneTree, HaveNoFault, HaveOneFault}
+use Rattle.esto_text.specs.Faults.{IsViable, Leaves, StopsAt, place_of, IsTextOf, IsFaultOf, IsOnlyTree, IsGrammarFault, IsLayoutGrammarFault, IsUnionGrammarFault, HaveOneTree, HaveNoFault, HaveOneFault}
 use Rattle.esto_text.specs.Grammar.{class_of, IsLayout, IsQuery, IsConstraint}
-use Rattle.esto_text.specs.Limits.{is_close, is_name, in_room, limited_row, limited}
-use Rattle.esto_text.specs.Machine.{Symbol, start, constraint_start, layout_start, first_fault, FailsAt, ConstraintFails}
+use Rattle.esto_text.specs.Limits.{is_close, is_name, in_room, limited_row, limited, Reached, Nothing, Part, Head, reached_then, limited_token, limited_after, limited_union}
+use Rattle.esto_text.specs.Machine.{Symbol, start, constraint_start, layout_start, first_fault, FailsAt, ConstraintFails, UnionFails}
 use Rattle.esto_text.specs.Tokens.{AreTokens}
 use Rattle.esto_text.proofs.Languages.{fault_is, constraint_fault_is, layout_fault_is}
 use Rattle.esto_text.proofs.Covering.{covers_unique}
@@ -45,6 +45,25 @@ starts_limited_row room (t ∷ ts) = go (is_close (class_of t)) (is_name (class_
 starts_limited : (ts : List Token) → starts (limited ts) ≡ starts ts
 starts_limited [] = refl
 starts_limited (t ∷ ts) = ap (λ (l : List ℕ). t.start ∷ l) (starts_limited_row 32 ts)
+
+room_start : (room : ℕ) (t : Token) → (in_room room t).start ≡ t.start
+room_start zero t = refl
+room_start (suc room) t = refl
+
+token_start : (reached : Reached) (t : Token) → (limited_token reached t).start ≡ t.start
+token_start Nothing t = refl
+token_start Head t = refl
+token_start (Part room) t = go (is_close (class_of t)) (is_name (class_of t))
+  where
+    go : (close name : Bool) → (cond close t (cond name (in_room room t) t)).start ≡ t.start
+    go true name = refl
+    go false true = room_start room t
+    go false false = refl
+
+starts_after : (reached : Reached) (ts : List Token) → starts (limited_after reached ts) ≡ starts ts
+starts_after reached [] = refl
+starts_after reached (t ∷ ts) =
+    let first = token_start reached t in let rest = starts_after (reached_then reached (class_of t)) ts in λ i. first i ∷ rest i
 
 length_starts : (ts : List Token) → length (starts ts) ≡ length ts
 length_starts [] = refl
@@ -110,6 +129,16 @@ module _ (IsFalse : Token → Type 0) (ts : List Token) (left : ℕ) (fails : Co
       → IsFaultOf (IsConstraint IsFalse) unmarked bytes (record { offset = offset; kind = kind.Syntax })
   constraint_syntax_fault bytes offset h p =
       fault_at unmarked (λ ts. refl) (IsConstraint IsFalse) constraint_start ts stops bytes left offset h fails.1 p
+
+pub union_left_fits : (ts : List Token) (left : ℕ) → UnionFails ts (Syntax left) → left ≤ length ts
+union_left_fits ts left (rest, (front, e, viable, leaves), n) = omega (arith, n, lengths limited_union (starts_after Nothing) ts front rest e)
+
+pub union_syntax_fault : (bytes : List ℕ) (ts : List Token) (left offset : ℕ) → AreTokens bytes ts → UnionFails ts (Syntax left)
+    → offset ≡ place_of (drop (length ts - left) ts) (length bytes) → IsUnionGrammarFault bytes (record { offset = offset; kind = kind.Syntax })
+union_syntax_fault bytes ts left offset h (rest, (front, e, viable, leaves), n) p =
+    let q : offset ≡ place_of rest (length bytes) = p ∙ ap (λ (i : ℕ). place_of (drop (length ts - i) ts) (length bytes)) n
+    ∙ sym (place_same limited_union (starts_after Nothing) ts front rest e (length bytes)) in
+    inr (ts, rest, h, (front, e, viable, leaves), ap (λ (i : ℕ). record { offset = i; kind = kind.Syntax }) q)
 
 -- ---- one tree, or one fault
 

@@ -1,5 +1,6 @@
 -- The texts of the grammar, and the first place at which a text leaves it.
-use Rattle.std.specs.Prelude.{◌≡◌, ◌⊎◌, ℕ, true, List, [], ◌∷◌, ◌++◌, length, codes, IsUtf8}
+use Rattle.std.specs.Prelude.{◌≡◌, ◌⊎◌, ◌↔◌, ℕ, true, List, [], ◌∷◌, ◌++◌, length, codes, IsUtf8}
+use Rattle.std.specs.List.{AllByRecursion}
 use Rattle.esto_text.specs.declared.fault.ReadError.{ReadError}
 use Rattle.esto_text.specs.declared.fault.ReadError.TheVariants.{Fault, OutOfMemory}
 use Rattle.esto_text.specs.declared.fault.TextFault.{TextFault}
@@ -8,8 +9,8 @@ use Rattle.esto_text.specs.declared.token.Token.{Token}
 use Rattle.esto_text.specs.declared.token.TokenKind.TheVariants.{Name, Quoted}
 use Rattle.esto_text.specs.declared.version.Version.{Version}
 use Rattle.esto_text.specs.declared.version.Version.TheVariants.{One, Two}
-use Rattle.esto_text.specs.Grammar.{is_term, IsLayout, IsQuery, IsConstraint}
-use Rattle.esto_text.specs.Limits.{limited}
+use Rattle.esto_text.specs.Grammar.{is_term, IsLayout, IsQuery, IsUnion, IsConstraint}
+use Rattle.esto_text.specs.Limits.{limited, limited_union}
 use Rattle.esto_text.specs.Tokens.{AreTokens, StandsIn, text_of, utf8_fault}
 use Rattle.esto_text.specs.Trees.{EntryTrees, EachOfEntries, QueryTree, EachOfQuery, ConstraintTree, EachOfConstraint}
 
@@ -62,6 +63,14 @@ IsQueryText bytes query = IsTextOf IsQuery limited bytes query
 abbrev pub IsGrammarFault : List ℕ → TextFault → Type 0
 IsGrammarFault bytes fault = IsFaultOf IsQuery limited bytes fault
 
+-- The bytes are a text of a union of queries, with these trees.
+abbrev pub IsUnionText : List ℕ → List QueryTree → Type 0
+IsUnionText bytes queries = IsTextOf IsUnion limited_union bytes queries
+
+-- The first fault of bytes that are no text of a union of queries.
+abbrev pub IsUnionGrammarFault : List ℕ → TextFault → Type 0
+IsUnionGrammarFault bytes fault = IsFaultOf IsUnion limited_union bytes fault
+
 -- The token is the word `false`, which version 2 has and version 1 has not.
 abbrev pub IsFalse : Version → List ℕ → Token → Type 0
 IsFalse One bytes token = ⊥
@@ -99,6 +108,10 @@ IsTermIn bytes token = StandsIn bytes token × (is_term token.kind ≡ true)
 abbrev pub StandsAt : List ℕ → QueryTree → Type 0
 StandsAt bytes query = EachOfQuery (IsNameIn bytes) (IsFieldIn bytes) (IsTermIn bytes) query
 
+-- Each token of the trees of a union is what it is to be there, and stands in the bytes.
+abbrev pub UnionStandsAt : List ℕ → List QueryTree → Type 0
+UnionStandsAt bytes queries = AllByRecursion (StandsAt bytes) queries
+
 -- Each token of the tree of a constraint is what it is to be there, and stands in the bytes.
 abbrev pub ConstraintStandsAt : List ℕ → ConstraintTree → Type 0
 ConstraintStandsAt bytes constraint = EachOfConstraint (IsNameIn bytes) (IsFieldIn bytes) (IsTermIn bytes) constraint
@@ -110,6 +123,10 @@ LayoutStandsAt bytes entries = EachOfEntries (IsFieldIn bytes) (IsTermIn bytes) 
 -- A text has at most one tree.
 abbrev pub HaveOneTree : {T : Type 0} → (List ℕ → T → Type 0) → Type 0
 HaveOneTree {T} IsText = (bytes : List ℕ) (tree : T) → IsText bytes tree → IsOnlyTree IsText bytes tree
+
+-- A text is a union of one query exactly where it is a text of that query.
+abbrev pub UnionOfOneIsQueryText : Type 0
+UnionOfOneIsQueryText = (bytes : List ℕ) (tree : QueryTree) → IsUnionText bytes (tree ∷ []) ↔ IsQueryText bytes tree
 
 -- A text that has a tree has no fault.
 abbrev pub HaveNoFault : {T : Type 0} → (List ℕ → T → Type 0) → (List ℕ → TextFault → Type 0) → Type 0

@@ -2,9 +2,10 @@
 use Rattle.std.specs.Prelude.{◌≡◌, ◌⊎◌, ℕ, suc, ◌-◌, ◌<◌, Bool, true, false, nat_lt, if◌then◌else◌, List, [], ◌∷◌, ◌++◌, Option, Some, None}
 use Rattle.esto_text.specs.declared.token.Token.{Token}
 use Rattle.esto_text.specs.declared.token.TokenKind.{TokenKind}
-use Rattle.esto_text.specs.declared.token.TokenKind.TheVariants.{Name, Wildcard, Quoted, Number, LeftParen, RightParen, LeftBrace, RightBrace, LeftBracket, RightBracket, Comma, Dot, Colon, Turnstile, Arrow, Equals, Stars, Stray}
+use Rattle.esto_text.specs.declared.token.TokenKind.TheVariants.{Name, Wildcard, Quoted, Number, LeftParen, RightParen, LeftBrace, RightBrace, LeftBracket, RightBracket, Comma, Dot, Colon, Turnstile, Arrow, Equals, Stars, Semicolon, Stray}
 use Rattle.esto_text.specs.declared.tree.StepSyntax.{StepSyntax}
 use Rattle.esto_text.specs.declared.tree.StepSyntax.TheVariants.{Field, Item, Below}
+use Rattle.esto_text.specs.declared.unions.TheConstants.{MAX_QUERIES}
 use Rattle.esto_text.specs.Trees.{EntryTree, Value, Nested, EntryTrees, NoEntry, AndEntry, ItemTree, Atom, Part, Pattern, QueryTree, HeadTree, Items, Equality, Never, ConstraintTree}
 
 -- What a token of so many bytes is to the grammar: a name of more than 64 bytes fits nowhere.
@@ -130,6 +131,22 @@ abbrev pub IsQuery : QueryTree → List Token → Type 0
 IsQuery query tokens =
     (paren : Token) × (head : List Token) × (turnstile : Token) × (body : List Token) × (tokens ≡ query.name ∷ paren ∷ (head ++ turnstile ∷ body))
     × IsName query.name × (class_of paren ≡ LeftParen) × IsRow IsName query.variables head × (class_of turnstile ≡ Turnstile) × IsBody query.items body
+
+-- { ";" query }, where so many queries stand before; at most 16 may stand in all
+abbrev pub IsUnionEnd : ℕ → List QueryTree → List Token → Type 0
+IsUnionEnd count [] tokens = tokens ≡ []
+IsUnionEnd count (query ∷ queries) tokens =
+    (semicolon : Token) × (a b : List Token) × (tokens ≡ semicolon ∷ (a ++ b)) × (class_of semicolon ≡ Semicolon) × (count < MAX_QUERIES) × IsQuery query a
+    × IsUnionEnd (suc count) queries b
+
+-- query { ";" query }, where so many queries stand before
+abbrev pub IsUnionFrom : ℕ → List QueryTree → List Token → Type 0
+IsUnionFrom count [] tokens = ⊥
+IsUnionFrom count (query ∷ queries) tokens = (a b : List Token) × (tokens ≡ a ++ b) × IsQuery query a × IsUnionEnd (suc count) queries b
+
+-- union = query { ";" query }
+abbrev pub IsUnion : List QueryTree → List Token → Type 0
+IsUnion queries tokens = IsUnionFrom 0 queries tokens
 
 -- items "->"
 abbrev pub IsRuleBody : List ItemTree → List Token → Type 0

@@ -3,7 +3,7 @@ use Rattle.std.specs.Prelude.{◌≡◌, ℕ, ◌≤◌, ◌⊎◌, List, [], �
 use Rattle.std.specs.List.{AllByRecursion}
 use Rattle.esto_text.specs.declared.scan.Class.TheVariants.{Word}
 use Rattle.esto_text.specs.declared.token.TokenKind.{TokenKind}
-use Rattle.esto_text.specs.declared.token.TokenKind.TheVariants.{Name, Wildcard, Quoted, Number, LeftParen, RightParen, LeftBrace, RightBrace, LeftBracket, RightBracket, Comma, Dot, Colon, Turnstile, Arrow, Equals, Stars, Stray}
+use Rattle.esto_text.specs.declared.token.TokenKind.TheVariants.{Name, Wildcard, Quoted, Number, LeftParen, RightParen, LeftBrace, RightBrace, LeftBracket, RightBracket, Comma, Dot, Colon, Turnstile, Arrow, Equals, Stars, Semicolon, Stray}
 use Rattle.esto_text.specs.Gaps.{IsLetter, IsDigit, IsIn, BeginsWithout}
 use Rattle.esto_text.specs.Quotes.{IsClosed}
 
@@ -42,6 +42,7 @@ IsLexeme Turnstile text after = text ≡ 58 ∷ 45 ∷ []
 IsLexeme Arrow text after = text ≡ 45 ∷ 62 ∷ []
 IsLexeme Equals text after = text ≡ 61 ∷ []
 IsLexeme Stars text after = text ≡ 42 ∷ 42 ∷ []
+IsLexeme Semicolon text after = text ≡ 59 ∷ []
 IsLexeme Stray text after = ⊥
 
 -- The text is a token of the kind, and no longer token stands at its place.

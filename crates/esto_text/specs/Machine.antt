@@ -1,12 +1,14 @@
 -- What may come next, by the first token alone. Only the private contracts of the readers speak of it.
-use Rattle.std.specs.Prelude.{◌≡◌, ◌≢◌, ℕ, suc, Bool, true, false, nat_lt, if◌then◌else◌, List, [], ◌∷◌, ◌++◌, length, Option, Some, None}
+use Rattle.std.specs.Prelude.{◌≡◌, ◌≢◌, ℕ, suc, ◌+◌, Bool, true, false, nat_lt, if◌then◌else◌, List, [], ◌∷◌, ◌++◌, length, Option, Some, None}
 use Rattle.esto_text.specs.declared.stop.Stop.{Stop}
 use Rattle.esto_text.specs.declared.stop.Stop.TheVariants.{Syntax, OutOfMemory}
 use Rattle.esto_text.specs.declared.token.Token.{Token}
 use Rattle.esto_text.specs.declared.token.TokenKind.{TokenKind}
-use Rattle.esto_text.specs.declared.token.TokenKind.TheVariants.{Name, Quoted, LeftParen, RightParen, LeftBrace, RightBrace, LeftBracket, RightBracket, Comma, Dot, Colon, Turnstile, Arrow, Equals, Stars, Stray}
-use Rattle.esto_text.specs.Grammar.{class_of, is_term, IsConstraint}
-use Rattle.esto_text.specs.Trees.{ConstraintTree}
+use Rattle.esto_text.specs.declared.token.TokenKind.TheVariants.{Name, Quoted, LeftParen, RightParen, LeftBrace, RightBrace, LeftBracket, RightBracket, Comma, Dot, Colon, Turnstile, Arrow, Equals, Stars, Semicolon, Stray}
+use Rattle.esto_text.specs.Faults.{StopsAt}
+use Rattle.esto_text.specs.Grammar.{class_of, is_term, IsConstraint, IsQuery, IsUnion}
+use Rattle.esto_text.specs.Limits.{limited, limited_union}
+use Rattle.esto_text.specs.Trees.{ConstraintTree, QueryTree}
 
 -- A part of the grammar that is still to come. An entry and its rest have the number of open braces.
 pub data Symbol : Type 0 where
@@ -116,3 +118,44 @@ Takes IsPart ts rest = (front : List Token) × (ts ≡ front ++ rest) × IsPart 
 -- No later step of a path begins there.
 abbrev pub EndsPath : List Token → Type 0
 EndsPath ts = (class_at ts ≢ LeftBracket) × (class_at ts ≢ Dot)
+
+-- No token parts two queries.
+abbrev pub HasNoSemicolon : List Token → Type 0
+HasNoSemicolon [] = Unit {0}
+HasNoSemicolon (token ∷ tokens) = (class_of token ≢ Semicolon) × HasNoSemicolon tokens
+
+-- The tokens end, or the next one parts two queries.
+abbrev pub EndsQuery : List Token → Type 0
+EndsQuery [] = Unit {0}
+EndsQuery (token ∷ tokens) = class_of token ≡ Semicolon
+
+-- The tokens up to the next one that parts two queries, and those from it on.
+pub record IsCut (tokens part rest : List Token) : Type 0 where
+  pub is : tokens ≡ part ++ rest
+  pub none : HasNoSemicolon part
+  pub ends : EndsQuery rest
+
+-- The query stands up to the next token that parts two queries.
+pub record TakesQuery (query : QueryTree) (tokens rest : List Token) : Type 0 where
+  pub part : List Token
+  pub cut : IsCut tokens part rest
+  pub is_query : IsQuery query (limited part)
+
+-- No query stands there: up to the next token that parts two queries it stops with so many tokens left, those from that one on included.
+pub record StopsQuery (tokens : List Token) (left : ℕ) : Type 0 where
+  pub part : List Token
+  pub rest : List Token
+  pub cut : IsCut tokens part rest
+  pub stop : List Token
+  pub stops : StopsAt IsQuery (limited part) stop
+  pub leaves : left ≡ length stop + length rest
+
+-- No query was read there for this cause.
+abbrev pub QueryFails : List Token → Stop → Type 0
+QueryFails tokens OutOfMemory = Unit {0}
+QueryFails tokens (Syntax left) = StopsQuery tokens left
+
+-- Tokens were not read as a union for this cause.
+abbrev pub UnionFails : List Token → Stop → Type 0
+UnionFails tokens OutOfMemory = Unit {0}
+UnionFails tokens (Syntax left) = (rest : List Token) × StopsAt IsUnion (limited_union tokens) rest × (left ≡ length rest)

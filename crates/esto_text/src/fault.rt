@@ -19,6 +19,8 @@ pub enum TextKind {
     SameVariable,
     /// The body lacks this name, or this side of an equality is a wildcard.
     Unsafe,
+    /// The head of this query of a union has another length than the first one's.
+    HeadLength,
 }
 
 /// The first fault of a text, and the byte at which it stands, counted from 0.

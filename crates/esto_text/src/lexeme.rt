@@ -81,6 +81,7 @@ fn sign(byte: u8, rest: &[u8]) -> Option<(TokenKind, usize)>
         b',' => TokenKind::Comma,
         b'.' => TokenKind::Dot,
         b'=' => TokenKind::Equals,
+        b';' => TokenKind::Semicolon,
         _ => return None,
     };
     Some((kind, 1))

@@ -16,11 +16,16 @@ mod syntax;
 mod token;
 mod tokens;
 mod tree;
+mod unions;
 mod version;
 
 pub use fault::{ReadError, TextFault, TextKind};
-pub use syntax::{read_constraint_tree, read_layout_tree, read_query_tree, trees_are_determined};
+pub use syntax::{
+    read_constraint_tree, read_layout_tree, read_query_tree, read_union_tree, trees_are_determined,
+    unions_are_determined,
+};
 pub use token::{Token, TokenKind, Tokens};
 pub use tokens::{read_tokens, tokens_are_determined};
 pub use tree::{ConstraintSyntax, EntrySyntax, HeadSyntax, ItemSyntax, QuerySyntax, StepSyntax};
+pub use unions::MAX_QUERIES;
 pub use version::Version;

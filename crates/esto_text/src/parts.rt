@@ -13,7 +13,7 @@ use crate::tree::StepSyntax;
 const MAX_NAME: u64 = 64;
 
 /// What the token is to the grammar: a name that is too long fits nowhere.
-fn class_of(token: &Token) -> TokenKind
+pub fn class_of(token: &Token) -> TokenKind
     ensures { result ≡ class_of token.now }
 {
     match token.kind {

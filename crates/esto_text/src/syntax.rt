@@ -1,6 +1,6 @@
 //! Texts as syntax trees.
-ghost use Rattle.std.specs.Prelude.{◌≡◌, ◌≤◌, ◌-◌, length, drop, IfOk, IfErr};
-ghost use Rattle.esto_text.specs.Faults.{place_of, IsErrorOf, IsOnlyTree, IsQueryText, IsGrammarFault, StandsAt, IsConstraintText, IsConstraintGrammarFault, ConstraintStandsAt, IsLayoutText, IsLayoutGrammarFault, LayoutStandsAt, HaveOneTree, HaveNoFault, HaveOneFault};
+ghost use Rattle.std.specs.Prelude.{◌≡◌, ◌≤◌, ◌-◌, length, drop, map, IfOk, IfErr};
+ghost use Rattle.esto_text.specs.Faults.{place_of, IsErrorOf, IsOnlyTree, IsQueryText, IsGrammarFault, StandsAt, IsConstraintText, IsConstraintGrammarFault, ConstraintStandsAt, IsLayoutText, IsLayoutGrammarFault, LayoutStandsAt, IsUnionText, IsUnionGrammarFault, UnionStandsAt, UnionOfOneIsQueryText, HaveOneTree, HaveNoFault, HaveOneFault};
 ghost use Rattle.esto_text.specs.View.{entries_of, tree_of, constraint_of};
 
 use crate::fault::{ReadError, TextFault, TextKind};
@@ -11,6 +11,7 @@ use crate::stop::Stop;
 use crate::token::Token;
 use crate::tokens::read_tokens;
 use crate::tree::{ConstraintSyntax, EntrySyntax, QuerySyntax};
+use crate::unions::queries;
 use crate::version::Version;
 use esto_term::List;
 use std::alloc::Global;
@@ -58,6 +59,29 @@ pub fn read_query_tree(alloc: Global, bytes: &[u8]) -> Result<QuerySyntax, ReadE
     let tokens = tokens.items();
     match query(alloc, tokens) {
         Ok(query) => Ok(query),
+        Err(Stop::OutOfMemory) => Err(ReadError::OutOfMemory),
+        Err(Stop::Syntax(left)) => Err(syntax_error(tokens, left, bytes.len())),
+    }
+}
+
+/// The syntax trees of the queries of a union, which are parted by `;`. The fault Utf8, at offset 0, comes exactly where the
+/// bytes are not UTF-8; the fault Syntax exactly where the text is outside the grammar, at the start of the first token at
+/// which the tokens so far stop being a prefix of a text of the grammar, or at the end of a text that ends too early. The
+/// sixteenth `;` is such a token.
+pub fn read_union_tree(alloc: Global, bytes: &[u8]) -> Result<List<QuerySyntax>, ReadError>
+    // The text is in the grammar, with these trees.
+    ensures trees { IfOk result (λ queries. IsUnionText bytes.now (map tree_of queries)) }
+    // It is no other trees'.
+    ensures only { IfOk result (λ queries.
+        IsOnlyTree IsUnionText bytes.now (map tree_of queries)) }
+    // Each token of the trees stands in the text.
+    ensures tokens { IfOk result (λ queries. UnionStandsAt bytes.now (map tree_of queries)) }
+    ensures error { IfErr result (IsErrorOf IsUnionGrammarFault bytes.now) }
+{
+    let tokens = read_tokens(alloc, bytes)?;
+    let tokens = tokens.items();
+    match queries(alloc, tokens) {
+        Ok(queries) => Ok(queries),
         Err(Stop::OutOfMemory) => Err(ReadError::OutOfMemory),
         Err(Stop::Syntax(left)) => Err(syntax_error(tokens, left, bytes.len())),
     }
@@ -127,4 +151,13 @@ pub fn trees_are_determined()
     ensures layout_tree { HaveOneTree IsLayoutText }
     ensures layout_apart { HaveNoFault IsLayoutText IsLayoutGrammarFault }
     ensures layout_fault { HaveOneFault IsLayoutGrammarFault }
+{}
+
+/// A law: a text of a union has at most one list of trees and at most one fault of its grammar, and never both. It is a
+/// union of one query exactly where it is a text of that query.
+pub fn unions_are_determined()
+    ensures one { UnionOfOneIsQueryText }
+    ensures trees { HaveOneTree IsUnionText }
+    ensures apart { HaveNoFault IsUnionText IsUnionGrammarFault }
+    ensures fault { HaveOneFault IsUnionGrammarFault }
 {}

@@ -38,6 +38,8 @@ pub enum TokenKind {
     Equals,
     /// `**`
     Stars,
+    /// `;`, which parts the queries of a union and fits nowhere else.
+    Semicolon,
     /// The rest of the text from the first place at which no other token stands.
     Stray,
 }

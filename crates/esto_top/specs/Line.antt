@@ -14,7 +14,7 @@ use Rattle.esto_ports.specs.declared.file_fault.FileKind.{FileKind}
 use Rattle.esto_ports.specs.declared.file_fault.FileKind.TheVariants as file
 use Rattle.esto_text.specs.declared.fault.TextFault.{TextFault}
 use Rattle.esto_text.specs.declared.fault.TextKind.{TextKind}
-use Rattle.esto_text.specs.declared.fault.TextKind.TheVariants.{Utf8, Syntax, Unknown, Arity, TooLarge, SameVariable, Unsafe}
+use Rattle.esto_text.specs.declared.fault.TextKind.TheVariants.{Utf8, Syntax, Unknown, Arity, TooLarge, SameVariable, Unsafe, HeadLength}
 use Rattle.esto_top.specs.declared.status.Status.{Status}
 use Rattle.esto_top.specs.declared.status.Status.TheVariants.{Done, OutOfMemory, Usage, ReadFault, WriteFault, TooLong, BadCatalogue, BadQuery, NotAcyclic, BadFragment, Unsatisfiable, NoRewriting, NoSuchNumber, NotBuilt}
 
@@ -48,6 +48,7 @@ kind_word Arity = codes "Arity"
 kind_word TooLarge = codes "TooLarge"
 kind_word SameVariable = codes "SameVariable"
 kind_word Unsafe = codes "Unsafe"
+kind_word HeadLength = codes "HeadLength"
 
 -- The word that names a kind of a catalogue's fault.
 abbrev pub catalogue_word : CatalogueKind → List ℕ

@@ -52,6 +52,7 @@ fn kind_word(kind: TextKind) -> &'static str
         TextKind::TooLarge => "TooLarge",
         TextKind::SameVariable => "SameVariable",
         TextKind::Unsafe => "Unsafe",
+        TextKind::HeadLength => "HeadLength",
     }
 }
 

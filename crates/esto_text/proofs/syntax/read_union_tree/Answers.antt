@@ -1,0 +1,25 @@
+use Rattle.std.proofs.Common.{map, sym, refl}
+use Rattle.esto_text.specs.View.{tree_of}
+use Rattle.esto_text.proofs.SyntaxLemmas.{union_left_fits, union_syntax_fault, only_tree}
+use Rattle.esto_text.proofs.LeafLemmas.{union_stands}
+use Rattle.esto_text.proofs.UnionLemmas.{union_one}
+use Rattle.esto_text.specs.Grammar.{IsUnion}
+use Rattle.esto_text.specs.Limits.{limited_union}
+use Rattle.esto_text.proofs.syntax.read_union_tree.Goals as goal
+
+pub returns-in-Ok-clause-only : goal.returns-in-Ok-clause-only
+returns-in-Ok-clause-only c other h =
+    only_tree IsUnion limited_union union_one c.args.bytes.now c.in_ok-tokens.tokens (map tree_of c.in-Ok.queries) c.in_ok-tokens.ensures.only
+    (rw c.items-tokens.ensures at c.in-Ok.ensures.ok) other h
+
+pub returns-in-Ok-clause-tokens : goal.returns-in-Ok-clause-tokens
+returns-in-Ok-clause-tokens c = union_stands c.args.bytes.now c.in_ok-tokens.tokens (map tree_of c.in-Ok.queries) c.in_ok-tokens.ensures.tokens.1
+    (rw c.items-tokens.ensures at c.in-Ok.ensures.ok)
+
+pub syntax_error-requires : goal.syntax_error-requires
+syntax_error-requires c = union_left_fits c.items-tokens.result.now c.in-Err-Syntax.left (rw c.in-Err-Syntax.field-0-is at c.in-Err-Syntax.ensures.err)
+
+pub returns-clause-error : goal.returns-clause-error
+returns-clause-error c =
+    rw c.syntax_error.ensures (union_syntax_fault c.args.bytes.now c.items-tokens.result.now c.in-Err-Syntax.left _
+    (rw (sym c.items-tokens.ensures) at c.in_ok-tokens.ensures.tokens) (rw c.in-Err-Syntax.field-0-is at c.in-Err-Syntax.ensures.err) refl)
