@@ -146,14 +146,6 @@ module _ (patterns : Patterns) (atoms : List (Fact Term)) where
 
 -- ---- whether a round adds anything
 
--- where each set of the later products is covered by the earlier ones, all that those cover is
-pub covered_all : (covering covered items : List (List Bool)) → items ≡ covered → (count : ℕ) → length items ≤ count
-    → HoldsBelow (λ _ low. Covers covering low) items count → (set : List Bool) → Covers covered set → Covers covering set
-covered_all covering covered items same count l so_far set (low, inside, within) =
-    let at = place-from_Contains items low (subst (λ its. Contains its low) (sym same) inside) in
-    let found = (each_all (λ _ it. Covers covering it) items count l).0 so_far at.0 low at.1 in
-    (found.0, found.1, within_trans found.0 low set found.2 within)
-
 -- nothing is added at the first few numbers
 abbrev pub AddNothingBelow : List Kept → List Kept → ℕ → Type 0
 AddNothingBelow before after count = (number : ℕ) → number < count → (set : List Bool) → IsSupplied after set number → IsSupplied before set number

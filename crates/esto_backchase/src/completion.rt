@@ -53,8 +53,9 @@ pub fn complete(
 {
     products_are_antichains(products);
     let mut found = Products::new(alloc, products.count());
-    'sets: for low in products.items() {
-        let completed = completions_of(alloc, low, supplies)?;
+    'sets: for at in 0..products.len() {
+        let low = products.copy_of(alloc, at)?;
+        let completed = completions_of(alloc, &low, supplies)?;
         found.add_all(alloc, &completed)?;
     }
     products_are_antichains(&found);

@@ -6,3 +6,4 @@ pub mod CountLemmas
 pub mod SortLemmas
 pub mod JoinLemmas
 pub mod LaneLemmas
+pub mod PackedLemmas

@@ -4,4 +4,4 @@ use Rattle.esto_backchase.proofs.completion.complete.Given as goal
 
 -- the sets so far are completed
 abbrev pub invariant-sets : goal.invariant-sets
-invariant-sets l = (l.found.count ≡ l.products.count) × AreAllCompletedBelow l.supplies l.low-items l.low-index l.found.sets
+invariant-sets l = (l.found.count ≡ l.products.count) × AreAllCompletedBelow l.supplies l.products.sets l.at l.found.sets
