@@ -1,0 +1,64 @@
+-- Matches that use nothing new.
+use Rattle.std.proofs.Common.{◌≡◌, ◌⊎◌, inl, inr, ℕ, ◌+◌, ◌<◌, ◌≤◌, Bool, false, true, List, [], ◌∷◌, length, map, take, get_or, slice_get, Contains, Some, refl, sym, ap, ◌∙◌, subst, arith}
+use Rattle.std.specs.List.{AllZip}
+use Rattle.std.proofs.lemmas.Bool.{cases_lt}
+use Rattle.std.proofs.lemmas.List.{get_or-take, length-take}
+use Rattle.esto_term.specs.declared.term.Term.{Term}
+use Rattle.esto_semantics.specs.Facts.{terms_of}
+use Rattle.esto_semantics.specs.Rules.{Rule, body_of}
+use Rattle.esto_semantics.specs.declared.fact.Fact.{Fact}
+use Rattle.esto_world_laws.specs.Matches.{IsDirectMatch, Touching, match_map}
+use Rattle.esto_world_laws.specs.Worlds.{InWorld}
+use Rattle.esto_world_laws.specs.Steps.{AreAnswered}
+use Rattle.esto_world_laws.specs.declared.entry.Claim.{Claim}
+use Rattle.esto_world_laws.specs.declared.entry.Claim.TheVariants.{Fact as Stated, Same}
+use Rattle.esto_world_laws.specs.declared.entry.Entry.{Entry}
+use Rattle.esto_world_laws.proofs.GrowLemmas.{InWorld-more, IsCovered-more}
+use Rattle.esto_world_laws.proofs.LinkLemmas.{zip_weaker}
+use Rattle.esto_condchase.specs.News.{HasRelation, IsApart, IsSettled}
+use Rattle.esto_condchase.specs.Rounds.{IsRuleAnswered}
+
+-- each entry from a place on, and before another, is apart from the body
+abbrev pub AreApartBelow : List Entry → ℕ → List (Fact Term) → ℕ → Type 0
+AreApartBelow entries since body count = (place : ℕ) (d : Entry) → since ≤ place → place < count → place < length entries → IsApart (get_or entries place d).claim body
+
+module _ (entries : List Entry) (since : ℕ) (body : List (Fact Term)) (apart : AreApartBelow entries since body (length entries)) where
+  -- an entry whose claim isn't apart is one of the first few
+  early : (entry : Entry) → Contains entries entry → ¬ (IsApart entry.claim body) → Contains (take since entries) entry
+  early entry inside used = elim (cases_lt inside.0 since) [
+    | inl before ↦ (
+      inside.0,
+      (let some = inside.1 in omega (arith, before, some, length-take since entries)),
+      get_or-take since entries inside.0 entry before ∙ inside.2,
+    )
+    | inr after ↦ absurd (used (subst (λ (it : Entry). IsApart it.claim body) inside.2 (apart inside.0 entry after inside.1 inside.1)))
+  ]
+
+  pub settled : IsSettled entries since body
+  settled atoms chosen (are_chosen, fits) = (
+    zip_weaker _ _ body chosen
+        (λ atom fact inside (holds, relation, long). (
+          (
+            holds.0,
+            early holds.0 holds.1 (λ is_apart. subst (λ it. IsApart it body) holds.3 is_apart (atom, inside, sym relation)),
+            holds.2,
+            holds.3,
+          ),
+          relation,
+          long,
+        )) are_chosen,
+    zip_weaker (Touching (InWorld entries atoms)) (Touching (InWorld (take since entries) atoms)) (terms_of chosen)
+        (map (match_map body chosen) (terms_of body)) (λ term other _ touches. elim touches [
+          | inl same ↦ inl same
+          | inr linked ↦ inr (elim linked [ inl along ↦ inl (kept term other along) | inr back ↦ inr (kept other term back) ])
+        ]) fits,
+  )
+    where
+      kept : (term other : Term) → InWorld entries atoms (Same term other) → InWorld (take since entries) atoms (Same term other)
+      kept term other (entry, inside, within, is) = (entry, early entry inside (λ is_apart. subst (λ it. IsApart it body) is is_apart), within, is)
+
+-- what was answered of the first few entries is answered of all, where the body's matches are settled
+pub settled_answered : (entries more : List Entry) (since number : ℕ) (rule : Rule) → IsSettled entries since (body_of rule)
+    → IsRuleAnswered (take since entries) more number rule → IsRuleAnswered entries more number rule
+settled_answered entries more since number rule is_settled answered atoms chosen matches claim asked =
+    answered atoms chosen (is_settled atoms chosen matches) claim asked
