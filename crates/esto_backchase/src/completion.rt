@@ -1,16 +1,16 @@
 //! Completion: sets of a plan's atoms in which something holds, made executable.
-ghost use Rattle.std.specs.Prelude.{◌≡◌, ◌↔◌, List, Bool, length, IfOk, Contains};
+ghost use Rattle.std.specs.Prelude.{◌≡◌, ◌↔◌, List, Bool, length, IfOk, IsTrue, Contains};
 ghost use Rattle.esto_semantics.specs.Access.{HoldsExecutably};
 ghost use Rattle.esto_semantics.specs.Sets.{Covers, IsMinimal};
 ghost use Rattle.esto_views.specs.Fragments.{patterns_of};
 ghost use Rattle.esto_views.specs.Plans.{plan_query};
 ghost use Rattle.esto_access.specs.Supplies.{CoversWhere};
-ghost use Rattle.esto_backchase.specs.Completion.{AreSuppliesOf, HaveOwn, IsCompletedIn, IsOneCompletedIn, completions};
+ghost use Rattle.esto_backchase.specs.Completion.{AreComplete, AreSuppliesOf, HaveOwn, IsCompletedIn, IsOneCompletedIn, completions};
 
 use esto_access::{Supplies, access_products};
 use esto_bits::{Products, RowBits, products_are_antichains};
 use esto_semantics::executable_sets_unite;
-use esto_term::OutOfMemory;
+use esto_term::{OutOfMemory, Replicate};
 use esto_views::{FragmentDefs, Plan};
 use std::alloc::Global;
 
@@ -36,9 +36,41 @@ fn completions_of(
     Ok(found)
 }
 
-/// The minimal completions of the products, where a completion of a set has for each of its numbers one of the sets
-/// that supply the number. Each of these has the number itself.
-pub fn complete(
+/// Whether each number of the set is supplied in the set itself, so that the set is its own completion.
+fn is_complete(low: &RowBits, supplies: &Supplies) -> bool
+    requires { AreSuppliesOf (length low.now) supplies.now }
+    ensures { IsTrue result → IsCompletedIn supplies.now low.now low.now }
+{
+    'numbers: for number in 0..low.count() {
+        if low.has(number) && !supplies.item(number).covered(low) {
+            return false;
+        }
+    }
+    true
+}
+
+/// Whether each of the products is its own completion.
+fn are_complete(
+    alloc: Global,
+    products: &Products,
+    supplies: &Supplies,
+) -> Result<bool, OutOfMemory>
+    requires { AreSuppliesOf products.now.count supplies.now }
+    ensures { IfOk result (λ answer. IsTrue answer
+        → AreComplete supplies.now products.now.sets) }
+{
+    products_are_antichains(products);
+    'sets: for at in 0..products.len() {
+        let low = products.copy_of(alloc, at)?;
+        if !is_complete(&low, supplies) {
+            return Ok(false);
+        }
+    }
+    Ok(true)
+}
+
+/// The minimal completions of the products, each completed by itself.
+fn complete_each(
     alloc: Global,
     products: &Products,
     supplies: &Supplies,
@@ -59,6 +91,29 @@ pub fn complete(
         found.add_all(alloc, &completed)?;
     }
     products_are_antichains(&found);
+    Ok(found)
+}
+
+/// The minimal completions of the products, where a completion of a set has for each of its numbers one of the sets
+/// that supply the number. Each of these has the number itself.
+pub fn complete(
+    alloc: Global,
+    products: &Products,
+    supplies: &Supplies,
+) -> Result<Products, OutOfMemory>
+    requires supplies { AreSuppliesOf products.now.count supplies.now }
+    requires own { HaveOwn supplies.now }
+    ensures count { IfOk result (λ it. it.count ≡ products.now.count) }
+    ensures minimal { IfOk result (λ it. (set : List Bool) → Contains it.sets set ↔ IsMinimal
+        (Contains (completions products.now.count supplies.now products.now.sets)) set) }
+    ensures covers { IfOk result
+        (λ it. CoversWhere (IsOneCompletedIn supplies.now products.now.sets) it.sets) }
+{
+    products_are_antichains(products);
+    if are_complete(alloc, products, supplies)? {
+        return products.copy(alloc);
+    }
+    let found = complete_each(alloc, products, supplies)?;
     Ok(found)
 }
 

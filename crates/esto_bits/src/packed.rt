@@ -6,7 +6,7 @@ ghost use Rattle.esto_bits.specs.Words.{AreWordsBelow, set_of};
 
 use crate::lanes::{any_around, any_within, row_within};
 use crate::words::words_for;
-use esto_term::OutOfMemory;
+use esto_term::{OutOfMemory, Replicate};
 use std::alloc::Global;
 use std::marker::Model;
 
@@ -147,5 +147,18 @@ impl PackedSets {
         rest.push(row)?;
         *self = rest;
         Ok(())
+    }
+}
+
+impl Replicate for PackedSets {
+    fn copy(&self, alloc: Global) -> Result<PackedSets, OutOfMemory> {
+        match Vec::from_slice(alloc, self.words.as_slice()) {
+            Ok(words) => Ok(PackedSets {
+                count: self.count,
+                many: self.many,
+                words,
+            }),
+            Err(_) => Err(OutOfMemory),
+        }
     }
 }

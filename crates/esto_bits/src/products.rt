@@ -5,7 +5,7 @@ ghost use Rattle.esto_bits.specs.Kept.{AreOver, IsAntichain, with_set, CoversAls
 
 use crate::packed::PackedSets;
 use crate::row_bits::RowBits;
-use esto_term::{List, OutOfMemory};
+use esto_term::{List, OutOfMemory, Replicate};
 use std::alloc::Global;
 use std::marker::Model;
 
@@ -141,6 +141,14 @@ fn copies(alloc: Global, products: &Products) -> Result<Vec<RowBits>, OutOfMemor
         }
     }
     Ok(copies)
+}
+
+impl Replicate for Products {
+    fn copy(&self, alloc: Global) -> Result<Products, OutOfMemory> {
+        Ok(Products {
+            packed: self.packed.copy(alloc)?,
+        })
+    }
 }
 
 /// A law: each kept set has the count, and none is a subset of another.

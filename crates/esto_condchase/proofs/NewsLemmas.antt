@@ -1,13 +1,15 @@
 -- Matches that use nothing new.
-use Rattle.std.proofs.Common.{◌≡◌, ◌⊎◌, inl, inr, ℕ, ◌+◌, ◌<◌, ◌≤◌, Bool, false, true, List, [], ◌∷◌, length, map, take, get_or, slice_get, Contains, Some, refl, sym, ap, ◌∙◌, subst, arith}
+use Rattle.std.proofs.Common.{◌≡◌, ◌≢◌, ◌⊎◌, inl, inr, ℕ, ◌+◌, ◌<◌, ◌≤◌, Bool, false, true, List, [], ◌∷◌, ◌++◌, length, map, take, get_or, slice_get, Contains, Some, refl, sym, ap, ◌∙◌, subst, arith}
 use Rattle.std.specs.List.{AllZip}
 use Rattle.std.proofs.lemmas.Bool.{cases_lt}
-use Rattle.std.proofs.lemmas.List.{get_or-take, length-take}
+use Rattle.std.proofs.lemmas.List.{get_or-take, length-take, take-append-le, take_all}
+use Rattle.std.proofs.lemmas.List.Elements.{Contains-append_left}
 use Rattle.esto_term.specs.declared.term.Term.{Term}
+use Rattle.esto_term.proofs.ListLemmas.{Contains-at, Contains-nil}
 use Rattle.esto_semantics.specs.Facts.{terms_of}
-use Rattle.esto_semantics.specs.Rules.{Rule, body_of}
+use Rattle.esto_semantics.specs.Rules.{Rule, IsRule, AreRules, tuple, equality, denial, body_of}
 use Rattle.esto_semantics.specs.declared.fact.Fact.{Fact}
-use Rattle.esto_world_laws.specs.Matches.{IsDirectMatch, Touching, match_map}
+use Rattle.esto_world_laws.specs.Matches.{AreChosen, IsDirectMatch, Touching, match_map}
 use Rattle.esto_world_laws.specs.Worlds.{InWorld}
 use Rattle.esto_world_laws.specs.Steps.{AreAnswered}
 use Rattle.esto_world_laws.specs.declared.entry.Claim.{Claim}
@@ -59,6 +61,41 @@ module _ (entries : List Entry) (since : ℕ) (body : List (Fact Term)) (apart :
 
 -- what was answered of the first few entries is answered of all, where the body's matches are settled
 pub settled_answered : (entries more : List Entry) (since number : ℕ) (rule : Rule) → IsSettled entries since (body_of rule)
-    → IsRuleAnswered (take since entries) more number rule → IsRuleAnswered entries more number rule
+    → IsRuleAnswered (take since entries) entries number rule → IsRuleAnswered entries (entries ++ more) number rule
 settled_answered entries more since number rule is_settled answered atoms chosen matches claim asked =
-    answered atoms chosen (is_settled atoms chosen matches) claim asked
+    IsCovered-more (InWorld-more entries (entries ++ more) atoms (Contains-append_left entries more)) claim
+    (answered atoms chosen (is_settled atoms chosen matches) claim asked)
+
+-- ---- from round to round
+
+has_body : (rule : Rule) → IsRule rule → body_of rule ≢ []
+has_body (tuple body head) is = is.has_body
+has_body (equality body left right) is = is.has_body
+has_body (denial body) is = is.has_body
+
+-- before the first round nothing was asked, since no body has a match in no entries
+pub none_answered : (rules : List Rule) (entries : List Entry) → AreRules rules → AreAnswered rules (take 0 entries) entries
+none_answered rules entries sound atoms number rule at chosen matches claim asked =
+    absurd (go (body_of rule) chosen (has_body rule (sound rule (Contains-at rules number rule at))) matches.0)
+  where
+    go : (body chosen : List (Fact Term)) → body ≢ [] → AreChosen (InWorld [] atoms) body chosen → ⊥
+    go [] chosen some are = some refl
+    go (atom ∷ body) [] some are = are
+    go (atom ∷ body) (fact ∷ chosen) some are = Contains-nil are.0.0.0 are.0.0.1
+
+-- after a round, what it went through is answered
+pub turn_answered : (rules : List Rule) (entries items more later : List Entry) (since : ℕ) → items ≡ entries → later ≡ entries ++ more
+    → since ≡ length entries → AreAnswered rules items (items ++ more) → AreAnswered rules (take since later) later
+turn_answered rules entries items more later since same is since_is answered =
+    subst (λ it. AreAnswered rules (take since it) it) (sym is)
+    (subst (λ it. AreAnswered rules it (entries ++ more)) (sym first) (subst (λ it. AreAnswered rules it (it ++ more)) same answered))
+  where
+    first : take since (entries ++ more) ≡ entries
+    first =
+        ap (λ n. take n (entries ++ more)) since_is ∙ take-append-le (length entries) entries more (omega arith)
+        ∙ take_all (length entries) entries (omega arith)
+
+pub before_same : (rules its : List Rule) (entries items : List Entry) (since : ℕ) → its ≡ rules → items ≡ entries
+    → AreAnswered rules (take since entries) entries → AreAnswered its (take since items) items
+before_same rules its entries items since same_rules same answered =
+    subst (λ it. AreAnswered it (take since items) items) (sym same_rules) (subst (λ it. AreAnswered rules (take since it) it) (sym same) answered)

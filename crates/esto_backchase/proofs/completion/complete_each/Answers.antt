@@ -2,7 +2,7 @@ use Rattle.std.proofs.Common.{◌∙◌, subst, arith}
 use Rattle.esto_bits.specs.Kept.{AreOver}
 use Rattle.esto_backchase.proofs.CompleteLemmas.{all_completed_grows, all_completed_end}
 use Rattle.esto_backchase.proofs.CompletionLemmas.{completed_is_minimal}
-use Rattle.esto_backchase.proofs.completion.complete.Goals as goal
+use Rattle.esto_backchase.proofs.completion.complete_each.Goals as goal
 
 pub sets-preserved : goal.sets-preserved
 sets-preserved c = (

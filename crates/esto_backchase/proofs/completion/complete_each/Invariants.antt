@@ -1,6 +1,6 @@
 use Rattle.std.proofs.Common.{◌≡◌}
 use Rattle.esto_backchase.proofs.CompleteLemmas.{AreAllCompletedBelow}
-use Rattle.esto_backchase.proofs.completion.complete.Given as goal
+use Rattle.esto_backchase.proofs.completion.complete_each.Given as goal
 
 -- the sets so far are completed
 abbrev pub invariant-sets : goal.invariant-sets
