@@ -1,10 +1,10 @@
 //! Completion: sets of a plan's atoms in which something holds, made executable.
-ghost use Rattle.std.specs.Prelude.{◌≡◌, ◌↔◌, List, Bool, length, IfOk, IsTrue, Contains};
+ghost use Rattle.std.specs.Prelude.{◌≡◌, ◌↔◌, ◌<◌, List, Bool, length, IfOk, IsTrue, Contains};
 ghost use Rattle.esto_semantics.specs.Access.{HoldsExecutably};
-ghost use Rattle.esto_semantics.specs.Sets.{Covers, IsMinimal};
+ghost use Rattle.esto_semantics.specs.Sets.{Covers, Has, IsMinimal};
 ghost use Rattle.esto_views.specs.Fragments.{patterns_of};
 ghost use Rattle.esto_views.specs.Plans.{plan_query};
-ghost use Rattle.esto_access.specs.Supplies.{CoversWhere};
+ghost use Rattle.esto_access.specs.Supplies.{CoversWhere, IsSupplied};
 ghost use Rattle.esto_backchase.specs.Completion.{AreComplete, AreSuppliesOf, HaveOwn, IsCompletedIn, IsOneCompletedIn, completions};
 
 use esto_access::{Supplies, access_products};
@@ -36,13 +36,25 @@ fn completions_of(
     Ok(found)
 }
 
+/// Whether the number is not in the set, or is supplied in it.
+fn is_supplied(low: &RowBits, supplies: &Supplies, number: usize) -> bool
+    requires supplies { AreSuppliesOf (length low.now) supplies.now }
+    requires number { number < length low.now }
+    ensures { IsTrue result → Has low.now number → IsSupplied supplies.now low.now number }
+{
+    if !low.has(number) {
+        return true;
+    }
+    supplies.item(number).covered(low)
+}
+
 /// Whether each number of the set is supplied in the set itself, so that the set is its own completion.
 fn is_complete(low: &RowBits, supplies: &Supplies) -> bool
     requires { AreSuppliesOf (length low.now) supplies.now }
     ensures { IsTrue result → IsCompletedIn supplies.now low.now low.now }
 {
     'numbers: for number in 0..low.count() {
-        if low.has(number) && !supplies.item(number).covered(low) {
+        if !is_supplied(low, supplies, number) {
             return false;
         }
     }

@@ -1,11 +1,11 @@
 -- Families of sets: what covers, what stays an antichain, and that the kept sets are the minimal ones.
-use Rattle.std.proofs.Common.{◌≡◌, ◌↔◌, ◌⊎◌, ℕ, zero, suc, ◌+◌, ◌<◌, Bool, true, false, cond, not, ◌||◌, List, [], ◌∷◌, ◌++◌, length, take, drop, remove, filter, slice_index_or, IsTrue, add-one, All, Contains, refl, sym, ap, ◌∙◌, subst, inl, inr, arith, append_assoc, append-nil}
-use Rattle.std.proofs.Math.Seq.{drop-cons}
+use Rattle.std.proofs.Common.{◌≡◌, ◌↔◌, ◌⊎◌, ℕ, suc, ◌+◌, ◌<◌, ◌≤◌, Bool, true, false, cond, not, ◌||◌, List, [], ◌∷◌, ◌++◌, length, filter, slice_index_or, slice_get, get_or, IfSome, IsTrue, All, Contains, refl, sym, ap, ◌∙◌, subst, inl, inr, arith, append_assoc, append-nil}
 use Rattle.std.proofs.lemmas.Bool.{cases_lt}
-use Rattle.std.proofs.lemmas.List.{get_or_default, take-append-drop}
-use Rattle.std.proofs.lemmas.List.Elements.{All-filter, All-push, All-contains, All-nil, All-head, All-tail, All-append, All-take, All-drop, All-more, filter-append, Contains-append_left, Contains-push, Contains-push_cases}
+use Rattle.std.proofs.lemmas.List.{get_or_default}
+use Rattle.std.proofs.lemmas.List.Elements.{All-filter, All-push, All-contains, All-nil, All-head, All-tail, Contains-append_left, Contains-get_or, Contains-push, Contains-push_cases}
 use Rattle.std.proofs.lemmas.List.Kept.{AllPairs-filter}
 use Rattle.std.proofs.lemmas.List.Quantifiers.{all_pairs_push}
+use Rattle.std.proofs.lemmas.Option.{slice_get-get_or}
 use Rattle.esto_term.proofs.ListLemmas.{Contains-cases, Contains-filter, Contains-filter_from, Contains-nil, HoldsBelow, each_all, place-from_Contains}
 use Rattle.esto_semantics.specs.Sets.{Has, Within, Covers, HaveCount, IsMinimal, AreMinimal, TellHolds}
 use Rattle.esto_bits.specs.Kept.{is_within, AreOver, IsAntichain, in_place_of_supersets, is_covered, with_set, with_sets, OneMoreIsMinimal, KeptAreMinimal}
@@ -265,6 +265,24 @@ with_set-uncovered sets row none = go (is_covered sets row) refl
 -- a covered set changes nothing
 pub with_set-covered : (sets : List (List Bool)) (row : List Bool) → Covers sets row → sets ≡ with_set sets row
 with_set-covered sets row covered = ap (λ test. cond test sets (in_place_of_supersets sets row)) (sym (test_from_covered row sets covered))
+
+-- one set of the others is covered, or it isn't
+module _ (sets others : List (List Bool)) (at : ℕ) where
+  pub covers_there : at < length others → (answer : Bool) → IfSome (slice_get others at) (λ set. IsTrue answer ↔ Covers sets set)
+      → ((set : List Bool) → Covers others set → Covers sets set) → IsTrue answer
+  covers_there below answer says all =
+      let here = get_or others at [] in
+      (subst (λ it. IfSome it (λ set. IsTrue answer ↔ Covers sets set)) (slice_get-get_or others at [] below) says).1
+      (all here (here, Contains-get_or others at [] below, within_refl here))
+
+  pub covers_next : (answer : Bool) → IfSome (slice_get others at) (λ set. IsTrue answer ↔ Covers sets set) → answer ≡ true
+      → HoldsBelow (λ _ low. Covers sets low) others at → HoldsBelow (λ _ low. Covers sets low) others (at + 1)
+  covers_next answer says holds before place low below there = elim (cases_lt place at) [
+    | inl early ↦ before place low early there
+    | inr late ↦
+        let last : place ≡ at = omega (arith, below, late) in
+        (subst (λ it. IfSome it (λ set. IsTrue answer ↔ Covers sets set)) (ap (slice_get others) (sym last) ∙ there) says).0 holds
+  ]
 
 -- where each set of the others is covered, all that they cover is
 pub covers_each : (sets others : List (List Bool)) (count : ℕ) → length others ≤ count → HoldsBelow (λ _ low. Covers sets low) others count

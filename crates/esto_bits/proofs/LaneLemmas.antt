@@ -206,7 +206,7 @@ module _ (words : List ℕ) (P : ℕ → Type 0) (at : ℕ) where
 
   pub rest_says : (answer : Bool) → NowhereBelow at P → IsTrue answer ↔ SomePlaceFrom at words P → IsTrue answer ↔ SomePlaceFrom 0 words P
   rest_says answer before says = (
-    λ yes. let found = says.0 yes in (found.0, omega arith, found.2, found.3),
+    λ holds. let found = says.0 holds in (found.0, omega arith, found.2, found.3),
     λ (place, _, inside, holds). elim (cases_lt place at) [
       | inl early ↦ absurd (before place early holds)
       | inr late ↦ says.1 (place, late, inside, holds)
@@ -257,12 +257,12 @@ module _ (words row : List ℕ) (single : length row ≡ 1) (group : ℕ) where
 module _ (words row : List ℕ) (width : ℕ) (one : width ≡ 1) (long : length row ≡ width) (answer : Bool) where
   pub one_word_within : IsTrue answer ↔ SomePlaceFrom 0 words (IsWordWithin words (get_or row 0 0)) → IsTrue answer ↔ SomeWithin words width row
   one_word_within says = subst (λ wide. IsTrue answer ↔ SomeWithin words wide row) (sym one) (
-    λ yes. let found = says.0 yes in (found.0, omega (arith, found.2), (word_within_is words row (long ∙ one) found.0).0 found.3),
+    λ holds. let found = says.0 holds in (found.0, omega (arith, found.2), (word_within_is words row (long ∙ one) found.0).0 found.3),
     λ (group, room, lack). says.1 (group, omega arith, omega (arith, room), (word_within_is words row (long ∙ one) group).1 lack),
   )
 
   pub one_word_around : IsTrue answer ↔ SomePlaceFrom 0 words (IsWordAround words (get_or row 0 0)) → IsTrue answer ↔ SomeAround words width row
   one_word_around says = subst (λ wide. IsTrue answer ↔ SomeAround words wide row) (sym one) (
-    λ yes. let found = says.0 yes in (found.0, omega (arith, found.2), (word_around_is words row (long ∙ one) found.0).0 found.3),
+    λ holds. let found = says.0 holds in (found.0, omega (arith, found.2), (word_around_is words row (long ∙ one) found.0).0 found.3),
     λ (group, room, lack). says.1 (group, omega arith, omega (arith, room), (word_around_is words row (long ∙ one) group).1 lack),
   )

@@ -7,3 +7,4 @@ pub mod SortLemmas
 pub mod JoinLemmas
 pub mod LaneLemmas
 pub mod PackedLemmas
+pub mod ProductLemmas

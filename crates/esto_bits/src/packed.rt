@@ -1,5 +1,5 @@
 //! Sets of one count in one vector of words.
-ghost use Rattle.std.specs.Prelude.{◌≡◌, ◌↔◌, ◌<◌, ◌++◌, ◌∷◌, [], Some, filter, length, not, slice_get, IsTrue, IfOk, IfSome, OnOk, OnErr};
+ghost use Rattle.std.specs.Prelude.{◌≡◌, ◌↔◌, ◌<◌, ◌≤◌, ◌+◌, ◌*◌, ◌++◌, ◌∷◌, [], Some, filter, length, not, slice_get, slice_range, IsTrue, IfOk, IfSome, OnOk, OnErr};
 ghost use Rattle.esto_semantics.specs.Sets.{Covers};
 ghost use Rattle.esto_bits.specs.Kept.{HasSuperset, in_place_of_supersets, is_within, kept, unless_superset};
 ghost use Rattle.esto_bits.specs.Words.{AreWordsBelow, set_of};
@@ -28,6 +28,17 @@ impl Model for PackedSets {
     ghost view = { λ it. kept it.count (sets_of it.words.items it.count it.many) };
 
     ghost invariant = { λ it. ArePacked it.words.items it.count it.many };
+}
+
+/// So many words, from a multiple of their number on.
+fn part(words: &[u64], at: usize, width: usize) -> &[u64]
+    requires { at * width + width ≤ length words.now }
+    ensures { result.now ≡ slice_range words.now (at * width) (at * width + width) }
+{
+    // the length is read so that it is known to fit
+    let _length = words.len();
+    let from = at * width;
+    &words[from..from + width]
 }
 
 impl PackedSets {
@@ -62,9 +73,7 @@ impl PackedSets {
         ensures below { AreWordsBelow result.now self.now.count }
         ensures set { slice_get self.now.sets at ≡ Some (set_of result.now self.now.count) }
     {
-        let width = words_for(self.count);
-        let from = at * width;
-        &self.words.as_slice()[from..from + width]
+        part(self.words.as_slice(), at, words_for(self.count))
     }
 
     /// Whether some set is a subset of the one that the words keep.
@@ -117,7 +126,8 @@ impl PackedSets {
         if row_within(row, words) {
             return Ok(());
         }
-        self.push(words)
+        self.push(words)?;
+        Ok(())
     }
 
     /// The sets that are no supersets of the one that the words keep.
@@ -141,7 +151,8 @@ impl PackedSets {
         ensures err { OnErr result (self.new ≡ self.old) }
     {
         if !self.has_superset(row) {
-            return self.push(row);
+            self.push(row)?;
+            return Ok(());
         }
         let mut rest = self.without_supersets(alloc, row)?;
         rest.push(row)?;

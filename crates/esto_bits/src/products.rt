@@ -83,11 +83,21 @@ impl Products {
             → Covers self.now.sets set) }
     {
         'sets: for at in 0..others.len() {
-            if !self.packed.covers(others.packed.words_at(at)) {
+            if !self.covers_one(others, at) {
                 return false;
             }
         }
         true
+    }
+
+    /// Whether the kept set of the others at a place is covered here.
+    fn covers_one(&self, others: &Products, at: usize) -> bool
+        requires same_count { others.now.count ≡ self.now.count }
+        requires in_range { at < length others.now.sets }
+        ensures { IfSome (slice_get others.now.sets at)
+            (λ set. IsTrue result ↔ Covers self.now.sets set) }
+    {
+        self.packed.covers(others.packed.words_at(at))
     }
 
     /// Keeps a set that isn't covered, and drops the kept sets of which it is a subset. Answers false, and changes
@@ -100,10 +110,11 @@ impl Products {
         ensures covers { OnOk result (CoversAlso self.old.sets row.now self.new.sets) }
         ensures err { OnErr result (self.new ≡ self.old) }
     {
-        if self.packed.covers(row.words()) {
+        let words = row.words();
+        if self.packed.covers(words) {
             return Ok(false);
         }
-        self.packed.put_for_supersets(alloc, row.words())?;
+        self.packed.put_for_supersets(alloc, words)?;
         Ok(true)
     }
 
@@ -123,6 +134,7 @@ impl Products {
             (λ it. (set : List Bool) → Contains it set ↔ Contains self.now.sets set) }
         ensures in_order { IfOk result AreInOrder }
     {
+        products_are_antichains(self);
         let mut sets = copies(alloc, self)?;
         sets.sort_by(|set, other| set.compare(other))?;
         Ok(List::from_vec(sets))
@@ -135,7 +147,8 @@ fn copies(alloc: Global, products: &Products) -> Result<Vec<RowBits>, OutOfMemor
 {
     let mut copies = Vec::new(alloc);
     'sets: for at in 0..products.len() {
-        match copies.push(products.copy_of(alloc, at)?) {
+        let set = products.copy_of(alloc, at)?;
+        match copies.push(set) {
             Ok(()) => {}
             Err(_) => return Err(OutOfMemory),
         }
@@ -145,9 +158,9 @@ fn copies(alloc: Global, products: &Products) -> Result<Vec<RowBits>, OutOfMemor
 
 impl Replicate for Products {
     fn copy(&self, alloc: Global) -> Result<Products, OutOfMemory> {
-        Ok(Products {
-            packed: self.packed.copy(alloc)?,
-        })
+        products_are_antichains(self);
+        let packed = self.packed.copy(alloc)?;
+        Ok(Products { packed })
     }
 }
 

@@ -168,7 +168,8 @@ impl RowBits {
     /// Puts the numbers of the set that the words keep into this one.
     pub(crate) fn union_words(&mut self, words: &[u64])
         requires { AreWordsBelow words.now (length self.old) }
-        ensures { self.new ≡ united self.old (set_of words.now (length self.old)) }
+        ensures value { self.new ≡ united self.old (set_of words.now (length self.old)) }
+        ensures count { length self.new ≡ length self.old }
     {
         add_bits(&mut self.words, words);
     }

@@ -6,11 +6,7 @@ ghost use Rattle.esto_bits.specs.Words.{HaveBitsOf, words_for};
 pub fn words_for(count: usize) -> usize
     ensures { result ≡ words_for count }
 {
-    if count == 0 {
-        1
-    } else {
-        count.div_ceil(64)
-    }
+    if count == 0 { 1 } else { count.div_ceil(64) }
 }
 
 /// Adds the bits of each word of `other` to the same word of `words`.
