@@ -122,8 +122,10 @@ pub fn complete(
         (λ it. CoversWhere (IsOneCompletedIn supplies.now products.now.sets) it.sets) }
 {
     products_are_antichains(products);
-    if are_complete(alloc, products, supplies)? {
-        return products.copy(alloc);
+    let complete = are_complete(alloc, products, supplies)?;
+    if complete {
+        let same = products.copy(alloc)?;
+        return Ok(same);
     }
     let found = complete_each(alloc, products, supplies)?;
     Ok(found)

@@ -2,7 +2,7 @@
 use Rattle.std.proofs.Common.{◌≡◌, ◌≢◌, ◌⊎◌, inl, inr, ℕ, ◌+◌, ◌<◌, ◌≤◌, Bool, false, true, List, [], ◌∷◌, ◌++◌, length, map, take, get_or, slice_get, Contains, Some, refl, sym, ap, ◌∙◌, subst, arith}
 use Rattle.std.specs.List.{AllZip}
 use Rattle.std.proofs.lemmas.Bool.{cases_lt}
-use Rattle.std.proofs.lemmas.List.{get_or-take, length-take, take-append-le, take_all}
+use Rattle.std.proofs.lemmas.List.{get_or-take, get_or_default, length-take, take-append-le, take_all}
 use Rattle.std.proofs.lemmas.List.Elements.{Contains-append_left}
 use Rattle.esto_term.specs.declared.term.Term.{Term}
 use Rattle.esto_term.proofs.ListLemmas.{Contains-at, Contains-nil}
@@ -24,6 +24,17 @@ use Rattle.esto_condchase.specs.Rounds.{IsRuleAnswered}
 abbrev pub AreApartBelow : List Entry → ℕ → List (Fact Term) → ℕ → Type 0
 AreApartBelow entries since body count = (place : ℕ) (d : Entry) → since ≤ place → place < count → place < length entries → IsApart (get_or entries place d).claim body
 
+-- one entry more that is apart
+pub apart_next : (entries : List Entry) (since : ℕ) (body : List (Fact Term)) (place : ℕ) (entry : Entry) → place < length entries
+    → entry ≡ get_or entries place entry → IsApart entry.claim body → AreApartBelow entries since body place → AreApartBelow entries since body (place + 1)
+apart_next entries since body place entry within is here before other d from below inside = elim (cases_lt other place) [
+  | inl early ↦ before other d from early inside
+  | inr late ↦
+      let same : place ≡ other = omega (arith, below, late) in
+      subst (λ n. IsApart (get_or entries n d).claim body) same
+      (subst (λ (it : Entry). IsApart it.claim body) (is ∙ get_or_default entries place d entry within) here)
+]
+
 module _ (entries : List Entry) (since : ℕ) (body : List (Fact Term)) (apart : AreApartBelow entries since body (length entries)) where
   -- an entry whose claim isn't apart is one of the first few
   early : (entry : Entry) → Contains entries entry → ¬ (IsApart entry.claim body) → Contains (take since entries) entry
@@ -38,7 +49,11 @@ module _ (entries : List Entry) (since : ℕ) (body : List (Fact Term)) (apart :
 
   pub settled : IsSettled entries since body
   settled atoms chosen (are_chosen, fits) = (
-    zip_weaker _ _ body chosen
+    zip_weaker
+        (λ (atom : Fact Term) (fact : Fact Term). InWorld entries atoms (Stated fact) × (fact.relation ≡ atom.relation)
+        × (length fact.terms ≡ length atom.terms))
+        (λ (atom : Fact Term) (fact : Fact Term). InWorld (take since entries) atoms (Stated fact) × (fact.relation ≡ atom.relation)
+        × (length fact.terms ≡ length atom.terms)) body chosen
         (λ atom fact inside (holds, relation, long). (
           (
             holds.0,
