@@ -5,8 +5,8 @@ use Rattle.esto_condchase.proofs.news.has_news.Goals as goal
 pub entries-preserved : goal.entries-preserved
 entries-preserved c =
     apart_next c.args.entries.now c.args.since c.args.body.now c.entries.place c.index-entries-place.result
-    (omega (arith, c.entries-test.true, c.len-place-end.ensures)) c.index-entries-place.is (c.concerns.ensures c.if-concerns.false) c.entries.invariant
+    c.entries-test.true c.index-entries-place.is (c.concerns.ensures c.if-concerns.false) c.entries.invariant
 
 pub returns : goal.returns
 returns c = λ _. settled c.args.entries.now c.args.since c.args.body.now
-    (λ place d from below inside. c.entries.invariant place d from (omega (arith, inside, c.entries-test.false, c.len-place-end.ensures)) inside)
+    (λ place d from below inside. c.entries.invariant place d from (omega (arith, inside, c.entries-test.false)) inside)
