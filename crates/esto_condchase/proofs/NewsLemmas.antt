@@ -1,6 +1,5 @@
 -- Matches that use nothing new.
-use Rattle.std.proofs.Common.{◌≡◌, ◌≢◌, ◌⊎◌, inl, inr, ℕ, ◌+◌, ◌<◌, ◌≤◌, Bool, false, true, List, [], ◌∷◌, ◌++◌, length, map, take, get_or, slice_get, Contains, Some, refl, sym, ap, ◌∙◌, subst, arith}
-use Rattle.std.specs.List.{AllZip}
+use Rattle.std.proofs.Common.{◌≡◌, ◌≢◌, inl, inr, ℕ, ◌+◌, ◌<◌, ◌≤◌, List, [], ◌∷◌, ◌++◌, length, map, take, get_or, Contains, refl, sym, ap, ◌∙◌, subst, arith}
 use Rattle.std.proofs.lemmas.Bool.{cases_lt}
 use Rattle.std.proofs.lemmas.List.{get_or-take, get_or_default, length-take, take-append-le, take_all}
 use Rattle.std.proofs.lemmas.List.Elements.{Contains-append_left}
@@ -9,15 +8,14 @@ use Rattle.esto_term.proofs.ListLemmas.{Contains-at, Contains-nil}
 use Rattle.esto_semantics.specs.Facts.{terms_of}
 use Rattle.esto_semantics.specs.Rules.{Rule, IsRule, AreRules, tuple, equality, denial, body_of}
 use Rattle.esto_semantics.specs.declared.fact.Fact.{Fact}
-use Rattle.esto_world_laws.specs.Matches.{AreChosen, IsDirectMatch, Touching, match_map}
+use Rattle.esto_world_laws.specs.Matches.{AreChosen, Touching, match_map}
 use Rattle.esto_world_laws.specs.Worlds.{InWorld}
 use Rattle.esto_world_laws.specs.Steps.{AreAnswered}
-use Rattle.esto_world_laws.specs.declared.entry.Claim.{Claim}
 use Rattle.esto_world_laws.specs.declared.entry.Claim.TheVariants.{Fact as Stated, Same}
 use Rattle.esto_world_laws.specs.declared.entry.Entry.{Entry}
 use Rattle.esto_world_laws.proofs.GrowLemmas.{InWorld-more, IsCovered-more}
 use Rattle.esto_world_laws.proofs.LinkLemmas.{zip_weaker}
-use Rattle.esto_condchase.specs.News.{HasRelation, IsApart, IsSettled}
+use Rattle.esto_condchase.specs.News.{IsApart, IsSettled}
 use Rattle.esto_condchase.specs.Rounds.{IsRuleAnswered}
 
 -- each entry from a place on, and before another, is apart from the body
@@ -32,7 +30,7 @@ apart_next entries since body place entry within is here before other d from bel
   | inr late ↦
       let same : place ≡ other = omega (arith, below, late) in
       subst (λ n. IsApart (get_or entries n d).claim body) same
-      (subst (λ (it : Entry). IsApart it.claim body) (is ∙ get_or_default entries place d entry within) here)
+      (subst (λ (it : Entry). IsApart it.claim body) (is ∙ sym (get_or_default entries place d entry within)) here)
 ]
 
 module _ (entries : List Entry) (since : ℕ) (body : List (Fact Term)) (apart : AreApartBelow entries since body (length entries)) where

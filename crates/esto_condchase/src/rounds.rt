@@ -248,9 +248,7 @@ fn answer_rules(
 {
     let mut more = List::new(alloc);
     'rules: for (number, rule) in rules.iter().enumerate() {
-        answer_anew(
-            alloc, entries, since, rules, number, rule, count, &mut more,
-        )?;
+        answer_anew(alloc, entries, since, rules, number, rule, count, &mut more)?;
     }
     Ok(more)
 }

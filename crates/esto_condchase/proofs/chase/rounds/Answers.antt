@@ -21,7 +21,7 @@ rounds-init c = record {
   before = none_answered (rules_of c.args.rules.now) c.in_ok-entries.entries (rules-AreRules c.args.rules.now c.rules_are_sound.ensures.rules);
 }
 
-pub round-requires-clause-before : goal.round-more-requires-clause-before
+pub round-requires-clause-before : goal.round-requires-clause-before
 round-requires-clause-before c =
     before_same (rules_of c.args.rules.now) _ c.rounds.entries c.items-in-rounds.result.now c.rounds.since (ap rules_of c.items-in-rounds-2.ensures)
     c.items-in-rounds.ensures c.rounds.invariant.before

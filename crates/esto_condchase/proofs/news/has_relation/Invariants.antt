@@ -1,4 +1,4 @@
-use Rattle.std.proofs.Common.{◌≢◌, ℕ, ◌<◌, Some, slice_get}
+use Rattle.std.proofs.Common.{◌≢◌}
 use Rattle.esto_term.specs.declared.term.Term.{Term}
 use Rattle.esto_semantics.specs.declared.fact.Fact.{Fact}
 use Rattle.esto_term.proofs.ListLemmas.{HoldsBelow}
