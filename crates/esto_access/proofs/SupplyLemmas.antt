@@ -1,5 +1,5 @@
 -- Rounds for all atoms.
-use Rattle.std.proofs.Common.{Contains, ◌≡◌, ◌↔◌, ◌<◌, ◌≤◌, ℕ, zero, suc, ◌+◌, Bool, List, [], ◌∷◌, ◌++◌, length, replicate, Some, slice_get, add-one, refl, sym, ap, ◌∙◌, subst, inl, inr, arith, length-append}
+use Rattle.std.proofs.Common.{◌≡◌, ◌↔◌, ◌<◌, ◌≤◌, ℕ, zero, suc, ◌+◌, Bool, List, [], ◌∷◌, ◌++◌, length, replicate, Some, slice_get, add-one, refl, sym, ap, ◌∙◌, subst, inl, inr, arith, length-append}
 use Rattle.std.proofs.lemmas.Bool.{cases_lt}
 use Rattle.std.proofs.lemmas.List.{length-replicate}
 use Rattle.std.proofs.lemmas.Option.{none-some, same_Some, slice_get_within}
@@ -13,9 +13,8 @@ use Rattle.esto_access.specs.Rounds.{IsNextIn, InRounds, AreSupplies, AreOneRoun
 use Rattle.esto_bits.proofs.FamilyLemmas.{antichain_is_minimal}
 use Rattle.esto_bits.proofs.JoinLemmas.{covers_none}
 use Rattle.esto_access.proofs.NeedLemmas.{sets_there, supplied_from}
-use Rattle.esto_semantics.proofs.SetLemmas.{within_trans}
 use Rattle.esto_access.proofs.RoundLemmas.{next_more}
-use Rattle.esto_term.proofs.ListLemmas.{HoldsBelow, at_pushed, each_all, place-from_Contains, thing_at}
+use Rattle.esto_term.proofs.ListLemmas.{at_pushed, thing_at}
 
 module _ (patterns : Patterns) (atoms : List (Fact Term)) where
   module _ (supplies : List Kept) where
