@@ -1,5 +1,5 @@
 -- Rounds for all atoms.
-use Rattle.std.proofs.Common.{Contains, ◌≡◌, ◌↔◌, ◌<◌, ◌≤◌, ℕ, zero, suc, ◌+◌, Bool, List, [], ◌∷◌, ◌++◌, length, replicate, Some, slice_get, add-one, refl, sym, ap, ◌∙◌, subst, inl, inr, arith, length-append}
+use Rattle.std.proofs.Common.{◌≡◌, ◌↔◌, ◌<◌, ◌≤◌, ℕ, zero, suc, ◌+◌, Bool, List, [], ◌∷◌, ◌++◌, length, replicate, Some, slice_get, add-one, refl, sym, ap, ◌∙◌, subst, inl, inr, arith, length-append}
 use Rattle.std.proofs.lemmas.Bool.{cases_lt}
 use Rattle.std.proofs.lemmas.List.{length-replicate}
 use Rattle.std.proofs.lemmas.Option.{none-some, same_Some, slice_get_within}
@@ -13,9 +13,8 @@ use Rattle.esto_access.specs.Rounds.{IsNextIn, InRounds, AreSupplies, AreOneRoun
 use Rattle.esto_bits.proofs.FamilyLemmas.{antichain_is_minimal}
 use Rattle.esto_bits.proofs.JoinLemmas.{covers_none}
 use Rattle.esto_access.proofs.NeedLemmas.{sets_there, supplied_from}
-use Rattle.esto_semantics.proofs.SetLemmas.{within_trans}
 use Rattle.esto_access.proofs.RoundLemmas.{next_more}
-use Rattle.esto_term.proofs.ListLemmas.{HoldsBelow, at_pushed, each_all, place-from_Contains, thing_at}
+use Rattle.esto_term.proofs.ListLemmas.{at_pushed, thing_at}
 
 module _ (patterns : Patterns) (atoms : List (Fact Term)) where
   module _ (supplies : List Kept) where
@@ -145,14 +144,6 @@ module _ (patterns : Patterns) (atoms : List (Fact Term)) where
         (subst (λ n. AreOver n products.sets) (are.counts number products at) keeps.0) product_tells keeps.1
 
 -- ---- whether a round adds anything
-
--- where each set of the later products is covered by the earlier ones, all that those cover is
-pub covered_all : (covering covered items : List (List Bool)) → items ≡ covered → (count : ℕ) → length items ≤ count
-    → HoldsBelow (λ _ low. Covers covering low) items count → (set : List Bool) → Covers covered set → Covers covering set
-covered_all covering covered items same count l so_far set (low, inside, within) =
-    let at = place-from_Contains items low (subst (λ its. Contains its low) (sym same) inside) in
-    let found = (each_all (λ _ it. Covers covering it) items count l).0 so_far at.0 low at.1 in
-    (found.0, found.1, within_trans found.0 low set found.2 within)
 
 -- nothing is added at the first few numbers
 abbrev pub AddNothingBelow : List Kept → List Kept → ℕ → Type 0

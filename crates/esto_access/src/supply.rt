@@ -9,7 +9,7 @@ ghost use Rattle.esto_access.specs.Supplies.{AreAccessProducts, EachIs, IsReache
 
 use crate::laws::rounds_are_enough;
 use crate::needs::next_products;
-use esto_bits::{Products, products_are_antichains};
+use esto_bits::Products;
 use esto_term::{List, OutOfMemory};
 use esto_views::{FragmentDefs, Plan};
 use std::alloc::Global;
@@ -47,21 +47,6 @@ fn next_supplies(
     Ok(next)
 }
 
-/// Whether each set of the second is covered by the first.
-fn covers_all(covering: &Products, covered: &Products) -> bool
-    requires { covered.now.count ≡ covering.now.count }
-    ensures { IsTrue result ↔ ((set : List Bool) → Covers covered.now.sets set
-        → Covers covering.now.sets set) }
-{
-    products_are_antichains(covered);
-    'sets: for set in covered.items() {
-        if !covering.covered(set) {
-            return false;
-        }
-    }
-    true
-}
-
 /// Whether the round added nothing.
 fn adds_nothing(before: &Supplies, after: &Supplies) -> bool
     requires same { length after.now ≡ length before.now }
@@ -70,7 +55,7 @@ fn adds_nothing(before: &Supplies, after: &Supplies) -> bool
     ensures { IsTrue result ↔ AddNothing before.now after.now }
 {
     'numbers: for number in 0..after.len() {
-        if !covers_all(before.item(number), after.item(number)) {
+        if !before.item(number).covers_all(after.item(number)) {
             return false;
         }
     }

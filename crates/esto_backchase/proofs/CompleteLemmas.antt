@@ -8,7 +8,7 @@ use Rattle.esto_bits.specs.Kept.{Kept, CoversBoth, CoversEither}
 use Rattle.esto_bits.proofs.JoinLemmas.{covers_none}
 use Rattle.esto_access.specs.Supplies.{CoversWhere, IsSupplied}
 use Rattle.esto_access.proofs.NeedLemmas.{sets_there, supplied_from}
-use Rattle.esto_backchase.specs.Completion.{HaveOwn, IsCompletedIn, IsOneCompletedIn}
+use Rattle.esto_backchase.specs.Completion.{AreComplete, HaveOwn, IsCompletedIn, IsOneCompletedIn}
 
 -- ---- the completions of one set
 
@@ -88,3 +88,21 @@ module _ (supplies : List Kept) (lows : List (List Bool)) where
       → CoversWhere (IsOneCompletedIn supplies lows) found
   all_completed_end count found l so_far set =
       let all = some_contained (λ low. IsCompletedIn supplies low set) lows count l in (λ h. all.0 ((so_far set).0 h), λ h. (so_far set).1 (all.1 h))
+
+-- ---- sets that are their own completions
+
+-- where each of the low sets is complete, what they cover is where one of them is completed
+pub covered_completed : (supplies : List Kept) (lows : List (List Bool)) → HaveOwn supplies → AreComplete supplies lows
+    → CoversWhere (IsOneCompletedIn supplies lows) lows
+covered_completed supplies lows own complete set = (
+  λ (low, inside, within). (
+    low,
+    inside,
+    λ number in_low. let here = complete low inside number in_low in (here.0, here.1, within_trans here.0 low set here.2 within),
+  ),
+  λ (low, inside, completed). (
+    low,
+    inside,
+    λ number in_low. let from = supplied_from supplies set number (completed number in_low) in from.2.2 number (own number from.0 from.1 from.2.0 from.2.1),
+  ),
+)

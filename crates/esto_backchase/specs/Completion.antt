@@ -36,6 +36,10 @@ HaveOwn supplies = EachIs (λ number products. (set : List Bool) → Contains pr
 abbrev pub IsCompletedIn : List Kept → List Bool → List Bool → Type 0
 IsCompletedIn supplies low set = (number : ℕ) → Has low number → IsSupplied supplies set number
 
+-- Each number of each of the sets is supplied in the set itself.
+abbrev pub AreComplete : List Kept → List (List Bool) → Type 0
+AreComplete supplies lows = (low : List Bool) → Contains lows low → IsCompletedIn supplies low low
+
 -- One of the low sets has a completion that is a subset of the set.
 abbrev pub IsOneCompletedIn : List Kept → List (List Bool) → List Bool → Type 0
 IsOneCompletedIn supplies lows set = (low : List Bool) × Contains lows low × IsCompletedIn supplies low set

@@ -1,16 +1,16 @@
 //! Completion: sets of a plan's atoms in which something holds, made executable.
-ghost use Rattle.std.specs.Prelude.{◌≡◌, ◌↔◌, List, Bool, length, IfOk, Contains};
+ghost use Rattle.std.specs.Prelude.{◌≡◌, ◌↔◌, ◌<◌, List, Bool, length, IfOk, IsTrue, Contains};
 ghost use Rattle.esto_semantics.specs.Access.{HoldsExecutably};
-ghost use Rattle.esto_semantics.specs.Sets.{Covers, IsMinimal};
+ghost use Rattle.esto_semantics.specs.Sets.{Covers, Has, IsMinimal};
 ghost use Rattle.esto_views.specs.Fragments.{patterns_of};
 ghost use Rattle.esto_views.specs.Plans.{plan_query};
-ghost use Rattle.esto_access.specs.Supplies.{CoversWhere};
-ghost use Rattle.esto_backchase.specs.Completion.{AreSuppliesOf, HaveOwn, IsCompletedIn, IsOneCompletedIn, completions};
+ghost use Rattle.esto_access.specs.Supplies.{CoversWhere, IsSupplied};
+ghost use Rattle.esto_backchase.specs.Completion.{AreComplete, AreSuppliesOf, HaveOwn, IsCompletedIn, IsOneCompletedIn, completions};
 
 use esto_access::{Supplies, access_products};
 use esto_bits::{Products, RowBits, products_are_antichains};
 use esto_semantics::executable_sets_unite;
-use esto_term::OutOfMemory;
+use esto_term::{OutOfMemory, Replicate};
 use esto_views::{FragmentDefs, Plan};
 use std::alloc::Global;
 
@@ -36,6 +36,76 @@ fn completions_of(
     Ok(found)
 }
 
+/// Whether the number is not in the set, or is supplied in it.
+fn is_supplied(low: &RowBits, supplies: &Supplies, number: usize) -> bool
+    requires supplies { AreSuppliesOf (length low.now) supplies.now }
+    requires number { number < length low.now }
+    ensures { IsTrue result → Has low.now number → IsSupplied supplies.now low.now number }
+{
+    if !low.has(number) {
+        return true;
+    }
+    supplies.item(number).covered(low)
+}
+
+/// Whether each number of the set is supplied in the set itself, so that the set is its own completion.
+fn is_complete(low: &RowBits, supplies: &Supplies) -> bool
+    requires { AreSuppliesOf (length low.now) supplies.now }
+    ensures { IsTrue result → IsCompletedIn supplies.now low.now low.now }
+{
+    'numbers: for number in 0..low.count() {
+        if !is_supplied(low, supplies, number) {
+            return false;
+        }
+    }
+    true
+}
+
+/// Whether each of the products is its own completion.
+fn are_complete(
+    alloc: Global,
+    products: &Products,
+    supplies: &Supplies,
+) -> Result<bool, OutOfMemory>
+    requires { AreSuppliesOf products.now.count supplies.now }
+    ensures { IfOk result (λ answer. IsTrue answer
+        → AreComplete supplies.now products.now.sets) }
+{
+    products_are_antichains(products);
+    'sets: for at in 0..products.len() {
+        let low = products.copy_of(alloc, at)?;
+        if !is_complete(&low, supplies) {
+            return Ok(false);
+        }
+    }
+    Ok(true)
+}
+
+/// The minimal completions of the products, each completed by itself.
+fn complete_each(
+    alloc: Global,
+    products: &Products,
+    supplies: &Supplies,
+) -> Result<Products, OutOfMemory>
+    requires supplies { AreSuppliesOf products.now.count supplies.now }
+    requires own { HaveOwn supplies.now }
+    ensures count { IfOk result (λ it. it.count ≡ products.now.count) }
+    ensures minimal { IfOk result (λ it. (set : List Bool) → Contains it.sets set ↔ IsMinimal
+        (Contains (completions products.now.count supplies.now products.now.sets)) set) }
+    ensures covers { IfOk result
+        (λ it. CoversWhere (IsOneCompletedIn supplies.now products.now.sets) it.sets) }
+{
+    products_are_antichains(products);
+    let mut found = Products::new(alloc, products.count());
+    'sets: for at in 0..products.len() {
+        let low = products.copy_of(alloc, at)?;
+        let completed = completions_of(alloc, &low, supplies)?;
+        found.add_all(alloc, &completed)?;
+    }
+    products_are_antichains(&found);
+    Ok(found)
+}
+
 /// The minimal completions of the products, where a completion of a set has for each of its numbers one of the sets
 /// that supply the number. Each of these has the number itself.
 pub fn complete(
@@ -52,12 +122,12 @@ pub fn complete(
         (λ it. CoversWhere (IsOneCompletedIn supplies.now products.now.sets) it.sets) }
 {
     products_are_antichains(products);
-    let mut found = Products::new(alloc, products.count());
-    'sets: for low in products.items() {
-        let completed = completions_of(alloc, low, supplies)?;
-        found.add_all(alloc, &completed)?;
+    let complete = are_complete(alloc, products, supplies)?;
+    if complete {
+        let same = products.copy(alloc)?;
+        return Ok(same);
     }
-    products_are_antichains(&found);
+    let found = complete_each(alloc, products, supplies)?;
     Ok(found)
 }
 

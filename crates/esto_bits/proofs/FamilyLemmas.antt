@@ -1,14 +1,14 @@
 -- Families of sets: what covers, what stays an antichain, and that the kept sets are the minimal ones.
-use Rattle.std.proofs.Common.{◌≡◌, ◌↔◌, ◌⊎◌, ℕ, zero, suc, ◌+◌, ◌<◌, Bool, true, false, cond, not, ◌||◌, List, [], ◌∷◌, ◌++◌, length, take, drop, remove, filter, slice_index_or, IsTrue, add-one, All, Contains, refl, sym, ap, ◌∙◌, subst, inl, inr, arith, append_assoc, append-nil}
-use Rattle.std.proofs.Math.Seq.{drop-cons}
+use Rattle.std.proofs.Common.{◌≡◌, ◌↔◌, ◌⊎◌, ℕ, suc, ◌+◌, ◌<◌, ◌≤◌, Bool, true, false, cond, not, ◌||◌, List, [], ◌∷◌, ◌++◌, length, filter, slice_index_or, slice_get, get_or, IfSome, IsTrue, All, Contains, refl, sym, ap, ◌∙◌, subst, inl, inr, arith, append_assoc, append-nil}
 use Rattle.std.proofs.lemmas.Bool.{cases_lt}
-use Rattle.std.proofs.lemmas.List.{get_or_default, take-append-drop}
-use Rattle.std.proofs.lemmas.List.Elements.{All-filter, All-push, All-contains, All-nil, All-head, All-tail, All-append, All-take, All-drop, All-more, filter-append, Contains-append_left, Contains-push, Contains-push_cases}
+use Rattle.std.proofs.lemmas.List.{get_or_default}
+use Rattle.std.proofs.lemmas.List.Elements.{All-filter, All-push, All-contains, All-nil, All-head, All-tail, Contains-append_left, Contains-get_or, Contains-push, Contains-push_cases}
 use Rattle.std.proofs.lemmas.List.Kept.{AllPairs-filter}
 use Rattle.std.proofs.lemmas.List.Quantifiers.{all_pairs_push}
-use Rattle.esto_term.proofs.ListLemmas.{Contains-cases, Contains-filter, Contains-filter_from, Contains-nil}
+use Rattle.std.proofs.lemmas.Option.{slice_get-get_or}
+use Rattle.esto_term.proofs.ListLemmas.{Contains-cases, Contains-filter, Contains-filter_from, Contains-nil, HoldsBelow, each_all, place-from_Contains}
 use Rattle.esto_semantics.specs.Sets.{Has, Within, Covers, HaveCount, IsMinimal, AreMinimal, TellHolds}
-use Rattle.esto_bits.specs.Kept.{is_within, AreOver, IsAntichain, is_covered, is_left_by, with_set, with_sets, OneMoreIsMinimal, KeptAreMinimal}
+use Rattle.esto_bits.specs.Kept.{is_within, AreOver, IsAntichain, in_place_of_supersets, is_covered, with_set, with_sets, OneMoreIsMinimal, KeptAreMinimal}
 use Rattle.esto_semantics.proofs.SetLemmas.{within_refl, within_trans, within_same}
 use Rattle.esto_bits.proofs.SetLemmas.{false-not_true, Within-from_test, test_from_Within}
 
@@ -48,26 +48,6 @@ module _ (set : List Bool) where
       or_second : (one other : Bool) → other ≡ true → one || other ≡ true
       or_second true other is = refl
       or_second false other is = is
-
--- ---- a walk over a family that looks for a member which covers
-
-module _ (sets : List (List Bool)) (row : List Bool) (place : ℕ) (set : List Bool) (small : place < length sets)
-    (is : set ≡ slice_index_or sets place set) where
-  rests : is_covered (drop place sets) row ≡ is_within set row || is_covered (drop (place + 1) sets) row
-  rests =
-      ap (λ family. is_covered family row) (drop-cons sets place set small)
-      ∙ ap (λ member. is_within member row || is_covered (drop (suc place) sets) row) (sym is)
-      ∙ ap (λ next. is_within set row || is_covered (drop next sets) row) (sym (add-one place))
-
-  pub covered-here : is_within set row ≡ true → is_covered (drop place sets) row ≡ true
-  covered-here passes = rests ∙ ap (λ test. test || is_covered (drop (place + 1) sets) row) passes
-
-  pub covered-next : is_within set row ≡ false → is_covered (drop place sets) row ≡ is_covered (drop (place + 1) sets) row
-  covered-next fails = rests ∙ ap (λ test. test || is_covered (drop (place + 1) sets) row) fails
-
--- the test is the answer to "is it covered?"
-pub covered_says : (family : List (List Bool)) (set : List Bool) (answer : Bool) → answer ≡ is_covered family set → IsTrue answer ↔ Covers family set
-covered_says family set answer is = (λ holds. covered_from_test set family (sym is ∙ holds), λ covered. is ∙ test_from_covered set family covered)
 
 -- where a set is covered, it covers nothing that isn't
 pub covered-already : (family : List (List Bool)) (row : List Bool) → is_covered family row ≡ true → (set : List Bool)
@@ -263,7 +243,7 @@ one_more_is_minimal count family sets row over is minimal =
     minimal_from_keeps count (family ++ row ∷ []) (with_set sets row)
     (keeps-one_more count family sets row is (keeps_from_minimal count family sets over minimal))
 
--- ---- a walk over a list that removes what doesn't pass a test
+-- ---- a filter that keeps all
 
 -- where all items pass the filter keeps all
 pub filter-all : {A : Type 0} (test : A → Bool) (items : List A) → All (λ item. test item ≡ true) items → filter test items ≡ items
@@ -272,72 +252,45 @@ filter-all test (first ∷ rest) all =
     ap (λ passes. cond passes (first ∷ filter test rest) (filter test rest)) (All-head (λ item. test item ≡ true) first rest all)
     ∙ ap (λ kept. first ∷ kept) (filter-all test rest (All-tail (λ item. test item ≡ true) first rest all))
 
--- the items before a removed one stay
-pub take-remove : {A : Type 0} (items : List A) (place : ℕ) → take place (remove items place) ≡ take place items
-take-remove items zero = refl
-take-remove [] (suc place) = refl
-take-remove (first ∷ rest) (suc place) = ap (λ kept. first ∷ kept) (take-remove rest place)
-
-pub All-remove : {A : Type 0} (P : A → Type 0) (items : List A) (place : ℕ) → All P items → All P (remove items place)
-All-remove P items place all = All-append P (take place items) (drop (suc place) items) (All-take P place items all) (All-drop P (suc place) items all)
-
--- what holds of the items before a place and of the item there holds of one more
-pub All-next : {A : Type 0} (P : A → Type 0) (items : List A) (place : ℕ) (item : A) → place < length items → item ≡ slice_index_or items place item
-    → All P (take place items) → P item → All P (take (place + 1) items)
-All-next P items place item small is all here = All-more P items place item small all (subst P is here)
-
-module _ {A : Type 0} (test : A → Bool) (items : List A) (place : ℕ) (item : A) (small : place < length items)
-    (is : item ≡ slice_index_or items place item) where
-  -- to remove an item that doesn't pass leaves what the filter keeps
-  pub filter-remove : test item ≡ false → filter test (remove items place) ≡ filter test items
-  filter-remove fails =
-      filter-append test (take place items) (drop (suc place) items)
-      ∙ ap (λ kept. filter test (take place items) ++ kept) (sym from_place)
-      ∙ sym (filter-append test (take place items) (drop place items))
-      ∙ ap (filter test) (take-append-drop place items)
-    where
-      from_place : filter test (drop place items) ≡ filter test (drop (suc place) items)
-      from_place =
-          ap (filter test) (drop-cons items place item small)
-          ∙ ap (λ here. cond (test here) (here ∷ filter test (drop (suc place) items)) (filter test (drop (suc place) items))) (sym is)
-          ∙ ap (λ passes. cond passes (item ∷ filter test (drop (suc place) items)) (filter test (drop (suc place) items))) fails
-
 -- ---- the code that adds a set
 
--- a set that isn't covered goes to the end, and then its proper supersets are dropped
-pub with_set-left_by : (sets : List (List Bool)) (row : List Bool) → is_covered sets row ≡ false
-    → filter (is_left_by row) (sets ++ row ∷ []) ≡ with_set sets row
-with_set-left_by sets row fails =
-    filter-append (is_left_by row) sets (row ∷ []) ∙ ap (λ kept. kept ++ filter (is_left_by row) (row ∷ [])) (same sets fails)
-    ∙ ap (λ kept. others sets row ++ kept) itself
-    ∙ ap (λ test. cond test sets (others sets row ++ row ∷ [])) (sym fails)
+-- a set that isn't covered goes to the end, in place of its supersets
+pub with_set-uncovered : (sets : List (List Bool)) (row : List Bool) → ¬ (Covers sets row) → in_place_of_supersets sets row ≡ with_set sets row
+with_set-uncovered sets row none = go (is_covered sets row) refl
   where
-    itself : filter (is_left_by row) (row ∷ []) ≡ row ∷ []
-    itself = let within = test_from_Within row row (within_refl row) in rw within refl
+    go : (test : Bool) → is_covered sets row ≡ test → in_place_of_supersets sets row ≡ with_set sets row
+    go true is = absurd (none (covered_from_test row sets is))
+    go false is = ap (λ test. cond test sets (in_place_of_supersets sets row)) (sym is)
 
-    same : (members : List (List Bool)) → is_covered members row ≡ false → filter (is_left_by row) members ≡ filter (λ set. not (is_within row set)) members
-    same [] none = refl
-    same (first ∷ others) none = go (is_within first row) refl none (same others)
-      where
-        or-false : (test : Bool) → test || false ≡ test
-        or-false true = refl
-        or-false false = refl
+-- a covered set changes nothing
+pub with_set-covered : (sets : List (List Bool)) (row : List Bool) → Covers sets row → sets ≡ with_set sets row
+with_set-covered sets row covered = ap (λ test. cond test sets (in_place_of_supersets sets row)) (sym (test_from_covered row sets covered))
 
-        go : (test : Bool) → is_within first row ≡ test → test || is_covered others row ≡ false
-            → (is_covered others row ≡ false → filter (is_left_by row) others ≡ filter (λ set. not (is_within row set)) others)
-            → filter (is_left_by row) (first ∷ others) ≡ filter (λ set. not (is_within row set)) (first ∷ others)
-        go true is either later = absurd (false-not_true (sym either))
-        go false is either later = rw (later either, is, or-false) refl
+-- one set of the others is covered, or it isn't
+module _ (sets others : List (List Bool)) (at : ℕ) where
+  pub covers_there : at < length others → (answer : Bool) → IfSome (slice_get others at) (λ set. IsTrue answer ↔ Covers sets set)
+      → ((set : List Bool) → Covers others set → Covers sets set) → IsTrue answer
+  covers_there below answer says all =
+      let here = get_or others at [] in
+      (subst (λ it. IfSome it (λ set. IsTrue answer ↔ Covers sets set)) (slice_get-get_or others at [] below) says).1
+      (all here (here, Contains-get_or others at [] below, within_refl here))
 
--- so the code keeps an antichain of the count, and it is what is kept after one set more
-pub added : (count : ℕ) (sets pushed left : List (List Bool)) (row : List Bool) → AreOver count sets × IsAntichain sets → is_covered sets row ≡ false
-    → length row ≡ count
-    → pushed ≡ sets ++ row ∷ [] → left ≡ filter (is_left_by row) pushed → (left ≡ with_set sets row) × AreOver count left × IsAntichain left
-added count sets pushed left row holds fails is pushed_is left_is =
-    (now, subst (AreOver count) (sym now) (over-with_set sets row count holds.0 is), subst IsAntichain (sym now) (antichain-with_set sets row holds.1))
-  where
-    now : left ≡ with_set sets row
-    now = left_is ∙ ap (filter (is_left_by row)) pushed_is ∙ with_set-left_by sets row fails
+  pub covers_next : (answer : Bool) → IfSome (slice_get others at) (λ set. IsTrue answer ↔ Covers sets set) → answer ≡ true
+      → HoldsBelow (λ _ low. Covers sets low) others at → HoldsBelow (λ _ low. Covers sets low) others (at + 1)
+  covers_next answer says holds before place low below there = elim (cases_lt place at) [
+    | inl early ↦ before place low early there
+    | inr late ↦
+        let last : place ≡ at = omega (arith, below, late) in
+        (subst (λ it. IfSome it (λ set. IsTrue answer ↔ Covers sets set)) (ap (slice_get others) (sym last) ∙ there) says).0 holds
+  ]
+
+-- where each set of the others is covered, all that they cover is
+pub covers_each : (sets others : List (List Bool)) (count : ℕ) → length others ≤ count → HoldsBelow (λ _ low. Covers sets low) others count
+    → (set : List Bool) → Covers others set → Covers sets set
+covers_each sets others count l so_far set (low, inside, within) =
+    let at = place-from_Contains others low inside in
+    let found = (each_all (λ _ it. Covers sets it) others count l).0 so_far at.0 low at.1 in
+    (found.0, found.1, within_trans found.0 low set found.2 within)
 
 -- ---- an antichain that tells where something holds has the minimal sets in which it holds
 

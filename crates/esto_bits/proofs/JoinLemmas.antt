@@ -1,6 +1,7 @@
 -- What is kept after several sets, and what it covers.
-use Rattle.std.proofs.Common.{◌≡◌, ◌↔◌, ◌⊎◌, ℕ, ◌+◌, ◌<◌, Bool, List, [], ◌∷◌, ◌++◌, length, map, take, get_or, Contains, refl, sym, ap, ◌∙◌, subst, inl, inr, append_assoc, append-nil}
+use Rattle.std.proofs.Common.{◌≡◌, ◌↔◌, ◌⊎◌, ℕ, ◌+◌, ◌<◌, Bool, List, [], ◌∷◌, ◌++◌, length, map, take, get_or, slice_get, Some, IfSome, Contains, refl, sym, ap, ◌∙◌, subst, inl, inr, append_assoc, append-nil}
 use Rattle.std.proofs.lemmas.List.{map-append, take_more}
+use Rattle.std.proofs.lemmas.Option.{get_or_from_slice_get, slice_get-get_or, slice_get_within}
 use Rattle.std.proofs.lemmas.List.Elements.{Contains-append_left, Contains-append_right, Contains-append_cases}
 use Rattle.esto_term.proofs.ListLemmas.{Contains-cases, Contains-head, Contains-map, Contains-map_from, Contains-nil, Contains-rest}
 use Rattle.esto_semantics.specs.Sets.{Within, Covers, united}
@@ -85,9 +86,21 @@ covers-with_sets sets (row ∷ rows) set =
 
 -- ---- turns of loops over the sets that are added
 
-module _ (start sets after items : List (List Bool)) (index : ℕ) (set : List Bool) (within : index < length items) (is : set ≡ get_or items index set) where
+pub take_there : {A : Type 0} (items : List A) (index : ℕ) (item : A) → slice_get items index ≡ Some item
+    → take (index + 1) items ≡ take index items ++ item ∷ []
+take_there items index item there =
+    take_more items index item (slice_get_within items index item there)
+    ∙ ap (λ here. take index items ++ here ∷ []) (get_or_from_slice_get items index item item there)
+
+-- the union with a set of the others
+pub united_there : (others : List (List Bool)) (index : ℕ) (one row : List Bool) → index < length others
+    → IfSome (slice_get others index) (λ set. row ≡ united one set) → (set : List Bool) × (slice_get others index ≡ Some set) × (row ≡ united one set)
+united_there others index one row below is =
+    let there = slice_get-get_or others index [] below in (get_or others index [], there, subst (λ it. IfSome it (λ set. row ≡ united one set)) there is)
+
+module _ (start sets after items : List (List Bool)) (index : ℕ) (set : List Bool) (there : slice_get items index ≡ Some set) where
   taken : take (index + 1) items ≡ take index items ++ set ∷ []
-  taken = take_more items index set within ∙ ap (λ here. take index items ++ here ∷ []) (sym is)
+  taken = take_there items index set there
 
   pub added_next : after ≡ with_set sets set → sets ≡ with_sets start (take index items) → after ≡ with_sets start (take (index + 1) items)
   added_next now before =

@@ -1,11 +1,11 @@
 -- Words compared by lanes.
-use Rattle.std.proofs.Common.{◌≡◌, ◌↔◌, ℕ, zero, suc, ◌+◌, ◌-◌, ◌%◌, ◌^◌, ◌<◌, ◌≤◌, Bool, true, false, cond, eqb, not, List, [], ◌∷◌, length, get_or, map, IsTrue, bit_and, refl, sym, ap, ◌∙◌, arith, w64, inl, inr}
+use Rattle.std.proofs.Common.{◌≡◌, ◌↔◌, ℕ, zero, suc, ◌+◌, ◌-◌, ◌*◌, ◌%◌, ◌^◌, ◌<◌, ◌≤◌, Bool, true, false, cond, eqb, not, List, [], ◌∷◌, length, get_or, map, replicate, take, drop, slice_range, IsTrue, bit_and, refl, sym, subst, ap, ◌∙◌, arith, w64, inl, inr}
 use Rattle.std.proofs.lemmas.Bool.{cases_lt, false≢true}
 use Rattle.std.proofs.lemmas.Bool.Decides.{Decides-eqb}
-use Rattle.std.proofs.lemmas.List.{get_or_past}
+use Rattle.std.proofs.lemmas.List.{get_or_past, get_or-drop, get_or-replicate, get_or-take, length-replicate, length-take}
 use Rattle.std.proofs.lemmas.Simd.{get_or-chunk, get_or-zip2, length-chunk, length-zip2, mask_l-mod, tops_compared}
 use lib.Lanes.{chunk, mask_l, top, zip2}
-use Rattle.esto_bits.specs.Words.{LacksNone}
+use Rattle.esto_bits.specs.Words.{IsWordAround, IsWordWithin, LacksNone, LackNoBit, OneOfEight, SomeAround, SomePlaceFrom, SomeWithin}
 
 -- a mask is 0 exactly where no answer is yes
 mask_none : (answers : List Bool) → mask_l answers ≡ 0 → (lane : ℕ) → get_or answers lane false ≡ false
@@ -82,3 +82,187 @@ module _ (small large : List ℕ) (at : ℕ) (room : at + 8 ≤ length small) (l
 
 abbrev pub NoneBelow : List ℕ → List ℕ → ℕ → Type 0
 NoneBelow small large at = (place : ℕ) → place < at → LacksNone small large place
+
+-- ---- one word in each lane
+
+-- a mask that isn't 0 has an answer that is yes
+found_in_mask : (answers : List Bool) → (mask_l answers ≡ 0 → ⊥) → (lane : ℕ) × (get_or answers lane false ≡ true)
+found_in_mask [] some = absurd (some refl)
+found_in_mask (true ∷ answers) some = (0, refl)
+found_in_mask (false ∷ answers) some = let rest = found_in_mask answers (λ none. some (omega (arith, none))) in (suc rest.0, rest.1)
+
+not_eqb : (one other : ℕ) → IsTrue (not (eqb one other)) ↔ (one ≡ other → ⊥)
+not_eqb one other = go (eqb one other) refl
+  where
+    go : (answer : Bool) → eqb one other ≡ answer → IsTrue (not answer) ↔ (one ≡ other → ⊥)
+    go true is = (λ no. absurd (false≢true no), λ apart. absurd (apart ((Decides-eqb one other).0 is)))
+    go false is = (λ _ same. false≢true (sym is ∙ (Decides-eqb one other).1 same), λ _. refl)
+
+-- the lanes of two vectors are compared: some are equal exactly where the mask isn't 0
+module _ (one other : List ℕ) (eight : length one ≡ 8) (eight' : length other ≡ 8) where
+  abbrev equal : List Bool
+  equal = zip2 eqb one other
+
+  equal_lanes : length equal ≡ 8
+  equal_lanes = length-zip2 eqb one other (eight ∙ sym eight') ∙ eight
+
+  equal_at : (lane : ℕ) → lane < 8 → get_or equal lane false ≡ eqb (get_or one lane 0) (get_or other lane 0)
+  equal_at lane below = get_or-zip2 eqb one other lane 0 0 false (omega (arith, below, eight)) (omega (arith, below, eight'))
+
+  some_lane : (mask : ℕ) → mask ≡ mask_l (map (top 63) (zip2 (λ left right. cond (eqb left right) (2 ^ 64 - 1) 0) one other)) % 2 ^ 64
+      → IsTrue (not (eqb mask 0)) ↔ ((lane : ℕ) × (lane < 8) × (get_or one lane 0 ≡ get_or other lane 0))
+  some_lane mask is = (there, back)
+    where
+      mask_is : mask ≡ mask_l equal
+      mask_is = is ∙ ap (λ it. mask_l it % 2 ^ 64) (tops_compared w64 eqb one other) ∙ mask_l-mod equal 64 (omega (arith, equal_lanes))
+
+      there : IsTrue (not (eqb mask 0)) → (lane : ℕ) × (lane < 8) × (get_or one lane 0 ≡ get_or other lane 0)
+      there some =
+          let found = found_in_mask equal (λ none. (not_eqb mask 0).0 some (mask_is ∙ none)) in
+          elim (cases_lt found.0 8) [
+            | inl below ↦ (found.0, below, (Decides-eqb _ _).0 (sym (equal_at found.0 below) ∙ found.1))
+            | inr past ↦ absurd (false≢true (sym (get_or_past equal found.0 false (omega (arith, past, equal_lanes))) ∙ found.1))
+          ]
+
+      back : (lane : ℕ) × (lane < 8) × (get_or one lane 0 ≡ get_or other lane 0) → IsTrue (not (eqb mask 0))
+      back (lane, below, same) =
+          (not_eqb mask 0).1
+          (λ none. false≢true (sym (mask_none equal (sym mask_is ∙ none) lane) ∙ equal_at lane below ∙ (Decides-eqb _ _).1 same))
+
+module _ (words : List ℕ) (at word : ℕ) (room : at + 8 ≤ length words) where
+  abbrev block : List ℕ
+  block = chunk at 8 words
+
+  abbrev each : List ℕ
+  each = replicate 8 word
+
+  block_lanes : length block ≡ 8
+  block_lanes = length-chunk at 8 words room
+
+  each_lanes : length each ≡ 8
+  each_lanes = length-replicate 8 word
+
+  in_block : (lane : ℕ) → lane < 8 → get_or block lane 0 ≡ get_or words (at + lane) 0
+  in_block lane below = get_or-chunk at 8 words lane 0 below
+
+  in_each : (lane : ℕ) → lane < 8 → get_or each lane 0 ≡ word
+  in_each lane below = get_or-replicate 8 lane word 0 below
+
+  pub within_is : (mask : ℕ)
+      → mask ≡ mask_l (map (top 63) (zip2 (λ left right. cond (eqb left right) (2 ^ 64 - 1) 0) (zip2 bit_and block each) block)) % 2 ^ 64
+      → IsTrue (not (eqb mask 0)) ↔ OneOfEight at (IsWordWithin words word)
+  within_is mask is = (
+    λ some. let found = compared.0 some in (found.0, found.1, sym (joined found.0 found.1) ∙ found.2 ∙ in_block found.0 found.1),
+    λ (lane, below, holds). compared.1 (lane, below, joined lane below ∙ holds ∙ sym (in_block lane below)),
+  )
+    where
+      joined_lanes : length (zip2 bit_and block each) ≡ 8
+      joined_lanes = length-zip2 bit_and block each (block_lanes ∙ sym each_lanes) ∙ block_lanes
+
+      compared : IsTrue (not (eqb mask 0)) ↔ ((lane : ℕ) × (lane < 8) × (get_or (zip2 bit_and block each) lane 0 ≡ get_or block lane 0))
+      compared = some_lane (zip2 bit_and block each) block joined_lanes block_lanes mask is
+
+      joined : (lane : ℕ) → lane < 8 → get_or (zip2 bit_and block each) lane 0 ≡ bit_and (get_or words (at + lane) 0) word
+      joined lane below =
+          get_or-zip2 bit_and block each lane 0 0 0 (omega (arith, below, block_lanes)) (omega (arith, below, each_lanes))
+          ∙ (λ i. bit_and (in_block lane below i) (in_each lane below i))
+
+  pub around_is : (mask : ℕ)
+      → mask ≡ mask_l (map (top 63) (zip2 (λ left right. cond (eqb left right) (2 ^ 64 - 1) 0) (zip2 bit_and each block) each)) % 2 ^ 64
+      → IsTrue (not (eqb mask 0)) ↔ OneOfEight at (IsWordAround words word)
+  around_is mask is = (
+    λ some. let found = compared.0 some in (found.0, found.1, sym (joined found.0 found.1) ∙ found.2 ∙ in_each found.0 found.1),
+    λ (lane, below, holds). compared.1 (lane, below, joined lane below ∙ holds ∙ sym (in_each lane below)),
+  )
+    where
+      joined_lanes : length (zip2 bit_and each block) ≡ 8
+      joined_lanes = length-zip2 bit_and each block (each_lanes ∙ sym block_lanes) ∙ each_lanes
+
+      compared : IsTrue (not (eqb mask 0)) ↔ ((lane : ℕ) × (lane < 8) × (get_or (zip2 bit_and each block) lane 0 ≡ get_or each lane 0))
+      compared = some_lane (zip2 bit_and each block) each joined_lanes each_lanes mask is
+
+      joined : (lane : ℕ) → lane < 8 → get_or (zip2 bit_and each block) lane 0 ≡ bit_and word (get_or words (at + lane) 0)
+      joined lane below =
+          get_or-zip2 bit_and each block lane 0 0 0 (omega (arith, below, each_lanes)) (omega (arith, below, block_lanes))
+          ∙ (λ i. bit_and (in_each lane below i) (in_block lane below i))
+
+-- ---- a walk over words by blocks
+
+-- P holds of no place before this one
+abbrev pub NowhereBelow : ℕ → (ℕ → Type 0) → Type 0
+NowhereBelow at P = (place : ℕ) → place < at → ¬ (P place)
+
+module _ (words : List ℕ) (P : ℕ → Type 0) (at : ℕ) where
+  pub found_in_block : at + 8 ≤ length words → OneOfEight at P → SomePlaceFrom 0 words P
+  found_in_block room (lane, below, holds) = (at + lane, omega arith, omega (arith, below, room), holds)
+
+  pub block_passed : ¬ (OneOfEight at P) → NowhereBelow at P → NowhereBelow (at + 8) P
+  block_passed none before place below = elim (cases_lt place at) [
+    | inl early ↦ before place early
+    | inr late ↦ λ holds.
+        let here : at + (place - at) ≡ place = omega (arith, late) in
+        none (place - at, omega (arith, below, late), subst P (sym here) holds)
+  ]
+
+  pub rest_says : (answer : Bool) → NowhereBelow at P → IsTrue answer ↔ SomePlaceFrom at words P → IsTrue answer ↔ SomePlaceFrom 0 words P
+  rest_says answer before says = (
+    λ holds. let found = says.0 holds in (found.0, omega arith, found.2, found.3),
+    λ (place, _, inside, holds). elim (cases_lt place at) [
+      | inl early ↦ absurd (before place early holds)
+      | inr late ↦ says.1 (place, late, inside, holds)
+    ],
+  )
+
+-- ---- groups of one word
+
+-- a part of one item reads that item, and nothing behind it
+part_first : (items : List ℕ) (from many : ℕ) → many ≡ 1 → get_or (take many (drop from items)) 0 0 ≡ get_or items from 0
+part_first items from many one =
+    get_or-take many (drop from items) 0 0 (omega (arith, one)) ∙ get_or-drop from items 0 0
+    ∙ ap (λ place. get_or items place 0) (let here : from + 0 ≡ from = omega arith in here)
+
+part_rest : (items : List ℕ) (from many place : ℕ) → many ≡ 1 → get_or (take many (drop from items)) (suc place) 0 ≡ 0
+part_rest items from many place one =
+    get_or_past (take many (drop from items)) (suc place) 0 (omega (arith, one, length-take many (drop from items)))
+
+module _ (words row : List ℕ) (single : length row ≡ 1) (group : ℕ) where
+  abbrev part : List ℕ
+  part = slice_range words (group * 1) (group * 1 + 1)
+
+  part_word : get_or part 0 0 ≡ get_or words group 0
+  part_word =
+      part_first words (group * 1) ((group * 1 + 1) - group * 1) (omega arith)
+      ∙ ap (λ place. get_or words place 0) (let here : group * 1 ≡ group = omega arith in here)
+
+  part_none : (place : ℕ) → get_or part (suc place) 0 ≡ 0
+  part_none place = part_rest words (group * 1) ((group * 1 + 1) - group * 1) place (omega arith)
+
+  row_none : (place : ℕ) → get_or row (suc place) 0 ≡ 0
+  row_none place = get_or_past row (suc place) 0 (omega (arith, single))
+
+  word_within_is : IsWordWithin words (get_or row 0 0) group ↔ LackNoBit part row
+  word_within_is = (there, λ lack. ap (λ word. bit_and word (get_or row 0 0)) (sym part_word) ∙ lack 0 ∙ part_word)
+    where
+      there : IsWordWithin words (get_or row 0 0) group → LackNoBit part row
+      there holds zero = ap (λ word. bit_and word (get_or row 0 0)) part_word ∙ holds ∙ sym part_word
+      there holds (suc place) = (λ i. bit_and (part_none place i) (row_none place i)) ∙ sym (part_none place)
+
+  word_around_is : IsWordAround words (get_or row 0 0) group ↔ LackNoBit row part
+  word_around_is = (there, λ lack. ap (bit_and (get_or row 0 0)) (sym part_word) ∙ lack 0)
+    where
+      there : IsWordAround words (get_or row 0 0) group → LackNoBit row part
+      there holds zero = ap (bit_and (get_or row 0 0)) part_word ∙ holds
+      there holds (suc place) = (λ i. bit_and (row_none place i) (part_none place i)) ∙ sym (row_none place)
+
+module _ (words row : List ℕ) (width : ℕ) (one : width ≡ 1) (long : length row ≡ width) (answer : Bool) where
+  pub one_word_within : IsTrue answer ↔ SomePlaceFrom 0 words (IsWordWithin words (get_or row 0 0)) → IsTrue answer ↔ SomeWithin words width row
+  one_word_within says = subst (λ wide. IsTrue answer ↔ SomeWithin words wide row) (sym one) (
+    λ holds. let found = says.0 holds in (found.0, omega (arith, found.2), (word_within_is words row (long ∙ one) found.0).0 found.3),
+    λ (group, room, lack). says.1 (group, omega arith, omega (arith, room), (word_within_is words row (long ∙ one) group).1 lack),
+  )
+
+  pub one_word_around : IsTrue answer ↔ SomePlaceFrom 0 words (IsWordAround words (get_or row 0 0)) → IsTrue answer ↔ SomeAround words width row
+  one_word_around says = subst (λ wide. IsTrue answer ↔ SomeAround words wide row) (sym one) (
+    λ holds. let found = says.0 holds in (found.0, omega (arith, found.2), (word_around_is words row (long ∙ one) found.0).0 found.3),
+    λ (group, room, lack). says.1 (group, omega arith, omega (arith, room), (word_around_is words row (long ∙ one) group).1 lack),
+  )

@@ -6,3 +6,5 @@ pub mod CountLemmas
 pub mod SortLemmas
 pub mod JoinLemmas
 pub mod LaneLemmas
+pub mod PackedLemmas
+pub mod ProductLemmas

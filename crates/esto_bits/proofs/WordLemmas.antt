@@ -9,7 +9,7 @@ use Rattle.std.proofs.lemmas.List.FromFn.{length-map-range_with_len, get_or-map-
 use Rattle.std.proofs.lemmas.Nat.{and_le_l}
 use Rattle.std.proofs.lemmas.Nat.Bits.{bit_at-lt, bit_at-zero, bit_at_and, bit_at_or, shr_and_one, bit_at_set_same, bit_at_set_other, same_from_bits_below}
 use Rattle.esto_semantics.specs.Sets.{Has, Within, united}
-use Rattle.esto_bits.specs.Words.{bit_of, set_of, AreWordsBelow, LackNoBit, HaveBitsOf}
+use Rattle.esto_bits.specs.Words.{bit_of, set_of, words_for, AreWordsBelow, LackNoBit, HaveBitsOf}
 use Rattle.esto_semantics.proofs.SetLemmas.{beyond, has_united, length-united, within_same}
 use Rattle.esto_bits.proofs.SetLemmas.{Has-replicate, Has-set}
 
@@ -26,7 +26,7 @@ test-one n passes = grind (arith, nat_tests)
 one-test : (n : ℕ) → n ≡ 1 → n == 1 ≡ true
 one-test n is = grind (arith, nat_tests)
 
-length-set_of : (words : List ℕ) (count : ℕ) → length (set_of words count) ≡ count
+pub length-set_of : (words : List ℕ) (count : ℕ) → length (set_of words count) ≡ count
 length-set_of words count = length-map-range_with_len (λ number. bit_of words number == 1) 0 count
 
 set_of-at : (words : List ℕ) (count number : ℕ) → number < count → slice_index_or (set_of words count) number false ≡ (bit_of words number == 1)
@@ -90,7 +90,7 @@ bit_of-empty many number = ap (λ word. bit_at word (number % 64)) (word (number
       | inr beyond ↦ get_or_past (replicate many 0) place 0 (subst (λ n. n ≤ place) (sym (length-replicate many 0)) beyond)
     ]
 
-pub keep-empty : (many count : ℕ) → many ≡ (count + 63) / 64 → Keep (replicate many 0) count (replicate count false)
+pub keep-empty : (many count : ℕ) → many ≡ words_for count → Keep (replicate many 0) count (replicate count false)
 keep-empty many count enough =
     keep_from (replicate many 0) count (replicate count false) (length-replicate many 0 ∙ enough, λ number beyond. bit_of-empty many number)
     (sym (length-replicate count false))
@@ -167,7 +167,7 @@ module _ (words : List ℕ) (count : ℕ) (row : List Bool) (keep : Keep words c
   pub same_length : length words ≡ length words'
   same_length = omega (arith, keep.below.0, keep'.below.0, count_is words count row keep, count_is words' count' row' keep')
 
-  within_from_words : LackNoBit words words' → Within row row'
+  pub within_from_words : LackNoBit words words' → Within row row'
   within_from_words lack number has =
       let one : bit_of words number ≡ 1 = (Has-bit words count row keep number).0 has in
       let both : min (bit_of words number) (bit_of words' number) ≡ bit_of words number =
@@ -182,7 +182,7 @@ module _ (words : List ℕ) (count : ℕ) (row : List Bool) (keep : Keep words c
       let bit_in : (64 * place + low) % 64 ≡ low = omega arith in
       ap (λ q. bit_at (slice_index_or vs q 0) ((64 * place + low) % 64)) word_of ∙ ap (bit_at (slice_index_or vs place 0)) bit_in
 
-  words_from_within : ((place : ℕ) → slice_index_or words place 0 < 2 ^ 64) → Within row row' → LackNoBit words words'
+  pub words_from_within : ((place : ℕ) → slice_index_or words place 0 < 2 ^ 64) → Within row row' → LackNoBit words words'
   words_from_within fits within place =
       same_from_bits_below 64 _ _ (lower (and_le_l (slice_index_or words place 0) (slice_index_or words' place 0)) (fits place)) (fits place)
       (λ low small. bit_at_and (slice_index_or words place 0) (slice_index_or words' place 0) low ∙ bits low small)

@@ -1,5 +1,5 @@
 -- Antichains of sets, and what stays of a family when only minimal sets are kept.
-use Rattle.std.specs.Prelude.{◌≡◌, ◌↔◌, ◌⊎◌, ℕ, Bool, true, cond, not, ◌||◌, ◌&&◌, List, [], ◌∷◌, ◌++◌, length, map, take, filter, All, AllPairs}
+use Rattle.std.specs.Prelude.{◌≡◌, ◌↔◌, ◌⊎◌, ℕ, Bool, true, cond, not, ◌||◌, ◌&&◌, List, [], ◌∷◌, ◌++◌, length, map, take, filter, All, AllPairs, Contains}
 use Rattle.std.specs.List.{list_any}
 use Rattle.esto_semantics.specs.Sets.{Within, Covers, AreMinimal, united}
 
@@ -42,13 +42,21 @@ CoversEither earlier others later = (set : List Bool) → Covers later set ↔ (
 abbrev pub CoversBoth : List (List Bool) → List (List Bool) → List (List Bool) → Type 0
 CoversBoth one other joined = (set : List Bool) → Covers joined set ↔ (Covers one set × Covers other set)
 
--- The set stays where `row` comes in: it isn't a proper superset of it.
-abbrev pub is_left_by : List Bool → List Bool → Bool
-is_left_by row set = not (is_within row set) || is_within set row
+-- Some set of the family is a superset of the set.
+abbrev pub HasSuperset : List (List Bool) → List Bool → Type 0
+HasSuperset family set = (other : List Bool) × Contains family other × Within set other
+
+-- The sets with one set more, unless that is a superset of `row`.
+abbrev pub unless_superset : List Bool → List (List Bool) → List Bool → List (List Bool)
+unless_superset row sets set = cond (is_within row set) sets (sets ++ set ∷ [])
+
+-- The sets of the family that are no supersets of `row`, and behind them this set.
+abbrev pub in_place_of_supersets : List (List Bool) → List Bool → List (List Bool)
+in_place_of_supersets sets row = filter (λ set. not (is_within row set)) sets ++ row ∷ []
 
 -- What is kept after one set more: all as before where it is covered, and else it and the sets that are no supersets of it.
 abbrev pub with_set : List (List Bool) → List Bool → List (List Bool)
-with_set sets row = cond (is_covered sets row) sets (filter (λ set. not (is_within row set)) sets ++ row ∷ [])
+with_set sets row = cond (is_covered sets row) sets (in_place_of_supersets sets row)
 
 -- What is kept after these sets more, one after the other.
 abbrev pub with_sets : List (List Bool) → List (List Bool) → List (List Bool)

@@ -30,8 +30,9 @@ impl Products {
         ensures err { OnErr result (HasFirst self.old.sets others.now.sets self.new.sets) }
     {
         products_are_antichains(others);
-        'sets: for set in others.items() {
-            self.add(alloc, set)?;
+        'sets: for at in 0..others.len() {
+            let set = others.copy_of(alloc, at)?;
+            self.add(alloc, &set)?;
         }
         Ok(())
     }
@@ -47,8 +48,9 @@ impl Products {
     {
         products_are_antichains(self);
         let mut found = Products::new(alloc, self.count());
-        'sets: for set in self.items() {
-            found.add_united(alloc, set, others)?;
+        'sets: for at in 0..self.len() {
+            let set = self.copy_of(alloc, at)?;
+            found.add_united(alloc, &set, others)?;
         }
         Ok(found)
     }
@@ -67,9 +69,9 @@ impl Products {
             (self.new.sets ≡ with_sets self.old.sets (map (united set.now) others.now.sets)) }
     {
         products_are_antichains(others);
-        'sets: for other in others.items() {
+        'sets: for at in 0..others.len() {
             let mut row = set.copy(alloc)?;
-            row.union(other);
+            others.union_into(at, &mut row);
             self.add(alloc, &row)?;
         }
         Ok(())

@@ -3,6 +3,7 @@
 
 mod joins;
 pub mod lanes;
+mod packed;
 mod products;
 mod row_bits;
 mod words;

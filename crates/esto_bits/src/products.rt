@@ -1,8 +1,9 @@
 //! Antichains: families of sets of which none is a subset of another.
-ghost use Rattle.std.specs.Prelude.{◌≡◌, ◌↔◌, ◌<◌, List, Bool, [], false, filter, length, slice_get, IsTrue, IfOk, IfSome, OnOk, OnErr, Contains};
+ghost use Rattle.std.specs.Prelude.{◌≡◌, ◌↔◌, ◌<◌, List, Bool, Some, [], false, length, slice_get, IsTrue, IfOk, IfSome, OnOk, OnErr, Contains};
 ghost use Rattle.esto_semantics.specs.Sets.{AreInOrder, Covers, united};
-ghost use Rattle.esto_bits.specs.Kept.{AreOver, IsAntichain, is_covered, is_left_by, with_set, CoversAlso, OneMoreIsMinimal, KeptAreMinimal};
+ghost use Rattle.esto_bits.specs.Kept.{AreOver, IsAntichain, with_set, CoversAlso, OneMoreIsMinimal, KeptAreMinimal};
 
+use crate::packed::PackedSets;
 use crate::row_bits::RowBits;
 use esto_term::{List, OutOfMemory, Replicate};
 use std::alloc::Global;
@@ -14,18 +15,17 @@ pub type SetList = List<RowBits>;
 /// Sets of one count, none of which is a subset of another. Contracts see the count and the list of the sets.
 #[derive(Debug, Drop)]
 pub struct Products {
-    count: usize,
-    sets: Vec<RowBits>,
+    packed: PackedSets,
 }
 
 impl Model for Products {
-    ghost use Rattle.esto_bits.specs.Kept.{Kept, kept, AreOver, IsAntichain};
+    ghost use Rattle.esto_bits.specs.Kept.{Kept, AreOver, IsAntichain};
 
     ghost Value = { Kept };
 
-    ghost view = { λ it. kept it.count it.sets.items };
+    ghost view = { λ it. it.packed };
 
-    ghost invariant = { λ it. AreOver it.count it.sets.items × IsAntichain it.sets.items };
+    ghost invariant = { λ it. AreOver it.packed.count it.packed.sets × IsAntichain it.packed.sets };
 }
 
 impl Products {
@@ -35,8 +35,7 @@ impl Products {
         ensures empty { result.sets ≡ [] }
     {
         Products {
-            count: atoms,
-            sets: Vec::new(alloc),
+            packed: PackedSets::new(alloc, atoms),
         }
     }
 
@@ -44,28 +43,29 @@ impl Products {
     pub fn count(&self) -> usize
         ensures { result ≡ self.now.count }
     {
-        self.count
+        self.packed.count()
     }
 
     /// How many sets are kept.
     pub fn len(&self) -> usize
         ensures { result ≡ length self.now.sets }
     {
-        self.sets.len()
+        self.packed.len()
     }
 
     /// Whether no set is kept.
     pub fn is_empty(&self) -> bool
         ensures { IsTrue result ↔ (length self.now.sets ≡ 0) }
     {
-        self.sets.is_empty()
+        self.packed.len() == 0
     }
 
-    /// The kept sets, in the order in which they came.
-    pub fn items(&self) -> &[RowBits]
-        ensures { result.now ≡ self.now.sets }
+    /// A copy of the kept set at a place, counted from 0, in the order in which they came.
+    pub fn copy_of(&self, alloc: Global, at: usize) -> Result<RowBits, OutOfMemory>
+        requires { at < length self.now.sets }
+        ensures { IfOk result (λ it. slice_get self.now.sets at ≡ Some it) }
     {
-        self.sets.as_slice()
+        RowBits::from_words(alloc, self.packed.count(), self.packed.words_at(at))
     }
 
     /// Whether some kept set is a subset of this one.
@@ -73,7 +73,31 @@ impl Products {
         requires { length row.now ≡ self.now.count }
         ensures { IsTrue result ↔ Covers self.now.sets row.now }
     {
-        covers(self.sets.as_slice(), row)
+        self.packed.covers(row.words())
+    }
+
+    /// Whether each kept set of the others is covered here.
+    pub fn covers_all(&self, others: &Products) -> bool
+        requires { others.now.count ≡ self.now.count }
+        ensures { IsTrue result ↔ ((set : List Bool) → Covers others.now.sets set
+            → Covers self.now.sets set) }
+    {
+        'sets: for at in 0..others.len() {
+            if !self.covers_one(others, at) {
+                return false;
+            }
+        }
+        true
+    }
+
+    /// Whether the kept set of the others at a place is covered here.
+    fn covers_one(&self, others: &Products, at: usize) -> bool
+        requires same_count { others.now.count ≡ self.now.count }
+        requires in_range { at < length others.now.sets }
+        ensures { IfSome (slice_get others.now.sets at)
+            (λ set. IsTrue result ↔ Covers self.now.sets set) }
+    {
+        self.packed.covers(others.packed.words_at(at))
     }
 
     /// Keeps a set that isn't covered, and drops the kept sets of which it is a subset. Answers false, and changes
@@ -86,15 +110,11 @@ impl Products {
         ensures covers { OnOk result (CoversAlso self.old.sets row.now self.new.sets) }
         ensures err { OnErr result (self.new ≡ self.old) }
     {
-        if covers(self.sets.as_slice(), row) {
+        let words = row.words();
+        if self.packed.covers(words) {
             return Ok(false);
         }
-        let copied = row.copy(alloc)?;
-        match self.sets.push(copied) {
-            Ok(()) => {}
-            Err(_) => return Err(OutOfMemory),
-        }
-        drop_supersets(&mut self.sets, row);
+        self.packed.put_for_supersets(alloc, words)?;
         Ok(true)
     }
 
@@ -105,7 +125,7 @@ impl Products {
         ensures value { IfSome (slice_get self.now.sets at) (λ set. row.new ≡ united row.old set) }
         ensures count { length row.new ≡ length row.old }
     {
-        row.union(&self.sets[at]);
+        row.union_words(self.packed.words_at(at));
     }
 
     /// The kept sets by size, then by their rising lists of numbers, compared as lists.
@@ -114,60 +134,34 @@ impl Products {
             (λ it. (set : List Bool) → Contains it set ↔ Contains self.now.sets set) }
         ensures in_order { IfOk result AreInOrder }
     {
-        let mut sets = copied(alloc, self.sets.as_slice())?;
+        products_are_antichains(self);
+        let mut sets = copies(alloc, self)?;
         sets.sort_by(|set, other| set.compare(other))?;
         Ok(List::from_vec(sets))
     }
 }
 
-/// Copies of the sets, in their order.
-fn copied(alloc: Global, sets: &[RowBits]) -> Result<Vec<RowBits>, OutOfMemory>
-    ensures { IfOk result (λ it. it.items ≡ sets.now) }
+/// Copies of the kept sets, in their order.
+fn copies(alloc: Global, products: &Products) -> Result<Vec<RowBits>, OutOfMemory>
+    ensures { IfOk result (λ it. it.items ≡ products.now.sets) }
 {
-    let mut copied = Vec::new(alloc);
-    'sets: for set in sets {
-        match copied.push(set.copy(alloc)?) {
+    let mut copies = Vec::new(alloc);
+    'sets: for at in 0..products.len() {
+        let set = products.copy_of(alloc, at)?;
+        match copies.push(set) {
             Ok(()) => {}
             Err(_) => return Err(OutOfMemory),
         }
     }
-    Ok(copied)
+    Ok(copies)
 }
 
-/// Whether some set of the list is a subset of this one.
-fn covers(sets: &[RowBits], row: &RowBits) -> bool
-    requires { AreOver (length row.now) sets.now }
-    ensures { result ≡ is_covered sets.now row.now }
-{
-    'sets: for set in sets {
-        if set.within(row) {
-            return true;
-        }
+impl Replicate for Products {
+    fn copy(&self, alloc: Global) -> Result<Products, OutOfMemory> {
+        products_are_antichains(self);
+        let packed = self.packed.copy(alloc)?;
+        Ok(Products { packed })
     }
-    false
-}
-
-/// Drops the sets of which this one is a proper subset.
-fn drop_supersets(sets: &mut Vec<RowBits>, row: &RowBits)
-    requires { AreOver (length row.now) sets.old.items }
-    ensures { sets.new.items ≡ filter (is_left_by row.now) sets.old.items }
-{
-    let mut place: usize = 0;
-    'sets: while place < sets.len() {
-        if stays(&sets[place], row) {
-            place += 1;
-        } else {
-            sets.remove(place);
-        }
-    }
-}
-
-/// Whether a set stays where a new one comes in: it is no proper superset of the new one.
-fn stays(set: &RowBits, row: &RowBits) -> bool
-    requires { length set.now ≡ length row.now }
-    ensures { result ≡ is_left_by row.now set.now }
-{
-    !row.within(set) || set.within(row)
 }
 
 /// A law: each kept set has the count, and none is a subset of another.
@@ -175,7 +169,7 @@ pub fn products_are_antichains(products: &Products)
     ensures over { AreOver products.now.count products.now.sets }
     ensures antichain { IsAntichain products.now.sets }
 {
-    let _count = products.count;
+    let _count = products.packed.count();
 }
 
 /// A law: after a list of sets of one count is added to new products, what is kept are exactly the minimal ones of

@@ -1,9 +1,10 @@
 //! Sets of atom numbers below a count.
 ghost use Rattle.std.specs.Prelude.{ℕ, ◌≡◌, ◌↔◌, ◌⊎◌, ◌<◌, false, true, length, replicate, slice_set, All, Contains, IsTrue, IfOk};
 ghost use Rattle.esto_semantics.specs.Sets.{Has, Within, numbers, set_cmp, united};
+ghost use Rattle.esto_bits.specs.Words.{AreWordsBelow, set_of};
 
 use crate::lanes::row_within;
-use crate::words::{add_bits, bits_in};
+use crate::words::{add_bits, bits_in, words_for};
 use esto_term::{OutOfMemory, Places, Replicate, Values};
 use std::alloc::Global;
 use std::cmp::Ordering;
@@ -33,7 +34,7 @@ impl RowBits {
     pub fn new(alloc: Global, atoms: usize) -> Result<RowBits, OutOfMemory>
         ensures { IfOk result (λ it. it ≡ replicate atoms false) }
     {
-        match vec![in alloc; 0u64; atoms.div_ceil(64)] {
+        match vec![in alloc; 0u64; words_for(atoms)] {
             Ok(words) => Ok(RowBits {
                 count: atoms,
                 words,
@@ -103,7 +104,7 @@ impl RowBits {
             ↔ (Has self.old number ⊎ Has other.now number) }
         ensures count { length self.new ≡ length self.old }
     {
-        add_bits(&mut self.words, other.words.as_slice());
+        self.union_words(other.words());
     }
 
     /// The order of sets: by size, then by their rising lists of numbers, compared as lists. Of sets of one count only
@@ -139,6 +140,38 @@ impl RowBits {
             }
         }
         Ok(numbers)
+    }
+
+    /// The words that keep the set.
+    pub(crate) fn words(&self) -> &[u64]
+        ensures below { AreWordsBelow result.now (length self.now) }
+        ensures set { set_of result.now (length self.now) ≡ self.now }
+    {
+        self.words.as_slice()
+    }
+
+    /// The set that the words keep.
+    pub(crate) fn from_words(
+        alloc: Global,
+        count: usize,
+        words: &[u64],
+    ) -> Result<RowBits, OutOfMemory>
+        requires { AreWordsBelow words.now count }
+        ensures { IfOk result (λ it. it ≡ set_of words.now count) }
+    {
+        match Vec::from_slice(alloc, words) {
+            Ok(words) => Ok(RowBits { count, words }),
+            Err(_) => Err(OutOfMemory),
+        }
+    }
+
+    /// Puts the numbers of the set that the words keep into this one.
+    pub(crate) fn union_words(&mut self, words: &[u64])
+        requires { AreWordsBelow words.now (length self.old) }
+        ensures value { self.new ≡ united self.old (set_of words.now (length self.old)) }
+        ensures count { length self.new ≡ length self.old }
+    {
+        add_bits(&mut self.words, words);
     }
 
     /// Puts numbers into the set.

@@ -1,6 +1,13 @@
 //! Plain loops over 64-bit words.
 ghost use Rattle.std.specs.Prelude.{ℕ, ◌≡◌, ◌<◌, ◌^◌, count_ones, length, min, slice_index_or, sum_by};
-ghost use Rattle.esto_bits.specs.Words.{HaveBitsOf};
+ghost use Rattle.esto_bits.specs.Words.{HaveBitsOf, words_for};
+
+/// How many words a set of numbers below the count has: at least one.
+pub fn words_for(count: usize) -> usize
+    ensures { result ≡ words_for count }
+{
+    if count == 0 { 1 } else { count.div_ceil(64) }
+}
 
 /// Adds the bits of each word of `other` to the same word of `words`.
 pub fn add_bits(words: &mut Vec<u64>, other: &[u64])

@@ -96,8 +96,8 @@ impl FileSet {
         self.failure.kept = number(kept);
     }
 
-    /// Runs a command line over the files, and prints what was put and the status. Nothing is to fail after it.
-    pub fn run<R: Print>(&mut self, rt: &R, alloc: Global, line: &str) -> Result<(), Refused> {
+    // What a command line puts over the files, and its status. Nothing is to fail after it.
+    fn outcome(&mut self, alloc: Global, line: &str) -> Result<(MemorySink, u8), Refused> {
         let failure = mem::replace(&mut self.failure, NONE);
         let words = words_of(alloc, line)?;
         let mut shelf = shelf_of(alloc, &self.files)?;
@@ -105,9 +105,45 @@ impl FileSet {
         shelf.fail_at(failure.fetch)?;
         out.fail_at(failure.put, failure.kept)?;
         let code = mediate(alloc, words.items(), &mut shelf, &mut out).code();
+        Ok((out, code))
+    }
+
+    /// Runs a command line over the files, and prints what was put and the status. Nothing is to fail after it.
+    pub fn run<R: Print>(&mut self, rt: &R, alloc: Global, line: &str) -> Result<(), Refused> {
+        let (out, code) = self.outcome(alloc, line)?;
         put_bytes(rt, out.written());
         let _ = println!(rt; "status {code}");
         Ok(())
+    }
+
+    /// The same, but of what was put it prints how many lines there are, so many first ones and so many last ones. The first
+    /// two words are these numbers.
+    pub fn run_for_ends<R: Print>(
+        &mut self,
+        rt: &R,
+        alloc: Global,
+        line: &str,
+    ) -> Result<(), Refused> {
+        let (first, rest) = line.split_once(' ').unwrap_or((line, ""));
+        let (last, words) = rest.split_once(' ').unwrap_or((rest, ""));
+        let (out, code) = self.outcome(alloc, words)?;
+        put_ends(rt, out.written(), number(first), number(last));
+        let _ = println!(rt; "status {code}");
+        Ok(())
+    }
+}
+
+// How many lines the text has, so many first ones and so many last ones.
+fn put_ends<R: Print>(rt: &R, text: &[u8], first: u64, last: u64) {
+    let count = text.iter().filter(|byte| **byte == 10).count();
+    let _ = println!(rt; "{count} lines");
+    'lines: for (place, line) in text.split(|byte| *byte == 10).enumerate() {
+        let is_first = (place as u64) < first;
+        let is_last = place < count && (place as u64).saturating_add(last) >= count as u64;
+        if is_first || is_last {
+            put_bytes(rt, line);
+            let _ = println!(rt; "");
+        }
     }
 }
 

@@ -15,6 +15,7 @@ mod script;
 mod sets;
 mod stage;
 mod terms;
+mod worlds;
 
 use crate::reading::{Refused, text};
 use crate::script::Script;

@@ -17,13 +17,18 @@ pub fn put_numbers<R: Print>(rt: &R, numbers: &[usize]) {
     let _ = println!(rt; "");
 }
 
-/// A line of the numbers of a set.
-pub fn put_set<R: Print>(rt: &R, set: &RowBits) {
+/// The numbers of a set.
+pub fn put_members<R: Print>(rt: &R, set: &RowBits) {
     'numbers: for number in 0..set.count() {
         if set.has(number) {
             let _ = print!(rt; "{number} ");
         }
     }
+}
+
+/// A line of the numbers of a set.
+pub fn put_set<R: Print>(rt: &R, set: &RowBits) {
+    put_members(rt, set);
     let _ = println!(rt; "");
 }
 
@@ -34,7 +39,9 @@ pub fn put_sets<R: Print>(rt: &R, sets: &[RowBits]) {
     }
 }
 
-fn put_term<R: Print>(rt: &R, term: &Term) {
+/// A term: a constant after a quote, a plain term by its number, and a made one by its rule, its variable, the length of its
+/// frontier and its nesting.
+pub fn put_term<R: Print>(rt: &R, term: &Term) {
     match term {
         Term::Const(constant) => {
             let constant = constant.as_str();
@@ -51,12 +58,16 @@ fn put_term<R: Print>(rt: &R, term: &Term) {
     }
 }
 
-/// A line of terms: a constant after a quote, a plain term by its number, and a made one by its rule, its variable, the
-/// length of its frontier and its nesting.
-pub fn put_row<R: Print>(rt: &R, row: &[Term]) {
+/// The terms of a row.
+pub fn put_terms<R: Print>(rt: &R, row: &[Term]) {
     'terms: for term in row {
         put_term(rt, term);
     }
+}
+
+/// A line of terms.
+pub fn put_row<R: Print>(rt: &R, row: &[Term]) {
+    put_terms(rt, row);
     let _ = println!(rt; "");
 }
 

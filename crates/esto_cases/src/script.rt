@@ -79,6 +79,7 @@ impl Script {
     ) -> Result<(), Refused> {
         match word {
             "run" => self.files.run(rt, alloc, rest),
+            "ends" => self.files.run_for_ends(rt, alloc, rest),
             "machine" => run_on_machine(rt, alloc, rest),
             "terms" => put_terms(rt, alloc),
             "table" => put_table(rt, alloc, rest),
@@ -89,6 +90,7 @@ impl Script {
             "union" => put_union(rt, alloc, rest),
             "joined" => put_joined(rt, alloc, rest),
             "plan" => self.stage.set_plan(rt, alloc, rest),
+            "listed" => self.stage.set_listed(rt, alloc, rest),
             _ => {
                 if word.starts_with("make_") {
                     self.stage.make(rt, alloc, word, rest)

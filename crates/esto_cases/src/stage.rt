@@ -9,19 +9,23 @@ use crate::orders::{
     fragments_with, plan_of, put_access, put_is_order, put_order, put_plan, put_reached,
 };
 use crate::reading::{Refused, facts, patterns};
+use crate::worlds::{put_derivation, put_entries, put_listed, put_products_of};
 use esto_catalog::{Catalogue, read_catalogue};
 use esto_constraint::Rules;
+use esto_prov::Entries;
 use esto_query::{Facts, Valuation};
 use esto_term::List;
 use esto_views::{AccessList, Plan};
 use std::alloc::Global;
 
-/// The catalogue, the patterns of its first fragments, the plan, the facts, the start of matches, and the rules.
+/// The catalogue, the patterns of its first fragments, the plan, the entries of a list, the facts, the start of matches, and
+/// the rules.
 #[derive(Drop)]
 pub struct Stage {
     catalogue: Catalogue,
     patterns: List<AccessList>,
     plan: Option<Plan>,
+    entries: Entries,
     facts: Facts,
     start: Valuation,
     rules: Rules,
@@ -41,6 +45,7 @@ impl Stage {
             catalogue: catalogue_of(alloc, b"version = 1\n")?,
             patterns: List::new(alloc),
             plan: None,
+            entries: Entries::new(alloc),
             facts: List::new(alloc),
             start: Valuation::new(alloc),
             rules: List::new(alloc),
@@ -167,6 +172,34 @@ impl Stage {
         Ok(())
     }
 
+    /// Makes the list of a query, and prints it.
+    pub fn set_listed<R: Print>(
+        &mut self,
+        rt: &R,
+        alloc: Global,
+        text: &str,
+    ) -> Result<(), Refused> {
+        let query = query(alloc, &self.catalogue, text)?;
+        self.entries = put_listed(rt, alloc, &self.catalogue, &query)?;
+        Ok(())
+    }
+
+    // Answers what is asked about the entries of the last list.
+    fn ask_entries<R: Print>(
+        &self,
+        rt: &R,
+        alloc: Global,
+        word: &str,
+        rest: &str,
+    ) -> Result<(), Refused> {
+        match word {
+            "entries" => put_entries(rt, &self.entries),
+            "why" => return put_derivation(rt, alloc, &self.entries, rest),
+            _ => return put_products_of(rt, alloc, &self.entries, rest),
+        }
+        Ok(())
+    }
+
     // Answers what is asked about a set of the plan's atoms.
     fn ask_plan<R: Print>(
         &self,
@@ -203,6 +236,7 @@ impl Stage {
             "active_of" => self.active_of(rt, alloc, rest),
             "meets" => put_broken(rt, alloc, &self.rules, &self.facts),
             "chase" => self.chase(rt, alloc, rest),
+            "entries" | "why" | "products_of" => self.ask_entries(rt, alloc, word, rest),
             _ => self.ask_plan(rt, alloc, word, rest),
         }
     }

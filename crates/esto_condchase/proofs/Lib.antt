@@ -5,3 +5,4 @@ pub mod RoundLemmas
 pub mod LoopLemmas
 pub mod VisitLemmas
 pub mod MatchingLemmas
+pub mod NewsLemmas

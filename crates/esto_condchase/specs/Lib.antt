@@ -1,3 +1,4 @@
 pub mod Ways
 pub mod Rounds
 pub mod Products
+pub mod News

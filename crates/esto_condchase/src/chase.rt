@@ -70,11 +70,13 @@ fn rounds(
     derived_entries_are_bounded();
     let _count = ranks.len();
     let mut entries = given(alloc, facts.items(), atoms)?;
+    let mut since = 0;
     'rounds: loop {
-        let more = round(alloc, entries.items(), rules.items(), atoms)?;
+        let more = round(alloc, entries.items(), since, rules.items(), atoms)?;
         if more.is_empty() {
             return Ok(entries);
         }
+        since = entries.len();
         entries.append(more)?;
     }
 }

@@ -5,6 +5,7 @@
 mod chase;
 mod covering;
 mod matching;
+mod news;
 mod products;
 mod rounds;
 mod taking;

@@ -1,5 +1,5 @@
 //! A round: what the rules and the links ask for among the entries that stood when it began.
-ghost use Rattle.std.specs.Prelude.{◌≡◌, ◌++◌, [], List, Some, Contains, length, slice_get, IfOk, OnOk};
+ghost use Rattle.std.specs.Prelude.{◌≡◌, ◌++◌, [], List, Some, Contains, length, slice_get, take, IfOk, OnOk};
 ghost use Rattle.esto_semantics.specs.Facts.{terms_of};
 ghost use Rattle.esto_semantics.specs.Rules.{Rule, tuple, equality};
 ghost use Rattle.esto_semantics.specs.Sets.{united};
@@ -14,6 +14,7 @@ ghost use Rattle.esto_condchase.specs.Ways.{IsFound};
 ghost use Rattle.esto_condchase.specs.Rounds.{IsAdded, Grows, IsAnswered, IsRuleAnswered, IsThere, LinksAt, IsPairJoined};
 
 use crate::covering::add;
+use crate::news::{body_of, has_news};
 use crate::taking::{made_fact, taken_term, taken_terms, terms_of};
 use crate::ways::{Way, matches_of};
 use esto_chase::frontier_of;
@@ -203,13 +204,43 @@ fn answer_rule(
     }
 }
 
-/// Adds what the rules ask for at all their direct matches.
+/// Adds what a rule asks for at all its direct matches, where what it asks for at those among the first few entries is there.
+/// Where a match can use none of the others, there is nothing to add.
+fn answer_anew(
+    alloc: Global,
+    entries: &[Entry],
+    since: usize,
+    rules: &[Constraint],
+    number: usize,
+    rule: &Constraint,
+    count: usize,
+    more: &mut List<Entry>,
+) -> Result<(), OutOfMemory>
+    requires at { slice_get (rules_of rules.now) number ≡ Some (rule_of rule.now) }
+    requires before { IsRuleAnswered (take since entries.now) entries.now number (rule_of rule.now) }
+    requires counts { AreOfCount count entries.now }
+    requires more_counts { AreOfCount count more.old }
+    ensures grows { OnOk result (Grows (rules_of rules.now) count entries.now more.old more.new) }
+    ensures answered { OnOk result
+        (IsRuleAnswered entries.now (entries.now ++ more.new) number (rule_of rule.now)) }
+{
+    if !has_news(entries, since, body_of(rule)) {
+        return Ok(());
+    }
+    answer_rule(alloc, entries, rules, number, rule, count, more)?;
+    Ok(())
+}
+
+/// Adds what the rules ask for at all their direct matches, where what they ask for at those among the first few entries is
+/// there.
 fn answer_rules(
     alloc: Global,
     entries: &[Entry],
+    since: usize,
     rules: &[Constraint],
     count: usize,
 ) -> Result<List<Entry>, OutOfMemory>
+    requires before { AreAnswered (rules_of rules.now) (take since entries.now) entries.now }
     requires counts { AreOfCount count entries.now }
     ensures grows { IfOk result (λ more. Grows (rules_of rules.now) count entries.now [] more) }
     ensures answered { IfOk result
@@ -217,7 +248,7 @@ fn answer_rules(
 {
     let mut more = List::new(alloc);
     'rules: for (number, rule) in rules.iter().enumerate() {
-        answer_rule(alloc, entries, rules, number, rule, count, &mut more)?;
+        answer_anew(alloc, entries, since, rules, number, rule, count, &mut more)?;
     }
     Ok(more)
 }
@@ -378,20 +409,23 @@ fn join(
 }
 
 /// What the rules and the links ask for among the entries and the entries do not cover yet: what was derived stays
-/// derived, and in each world all that the entries ask for is covered by them and what is answered.
+/// derived, and in each world all that the entries ask for is covered by them and what is answered. What the rules ask for
+/// among the first few entries, those that stood when the last round began, is there already.
 pub fn round(
     alloc: Global,
     entries: &[Entry],
+    since: usize,
     rules: &[Constraint],
     count: usize,
 ) -> Result<List<Entry>, OutOfMemory>
+    requires before { AreAnswered (rules_of rules.now) (take since entries.now) entries.now }
     requires counts { AreOfCount count entries.now }
     ensures grows { IfOk result (λ more. Grows (rules_of rules.now) count entries.now [] more) }
     ensures answered { IfOk result
         (λ more. AreAnswered (rules_of rules.now) entries.now (entries.now ++ more)) }
     ensures joined { IfOk result (λ more. AreJoined entries.now (entries.now ++ more)) }
 {
-    let mut more = answer_rules(alloc, entries, rules, count)?;
+    let mut more = answer_rules(alloc, entries, since, rules, count)?;
     join(alloc, entries, count, &mut more)?;
     Ok(more)
 }

@@ -9,7 +9,7 @@ use crate::ending::Reply;
 use crate::opening::{open_catalogue, open_query};
 use crate::status::Status;
 use either::{Left, Right};
-use esto_backchase::minimal_sets_plain;
+use esto_backchase::minimal_sets;
 use esto_catalog::{Catalogue, catalogues_are_sound};
 use esto_constraint::rules_are_sound;
 use esto_core::{
@@ -53,8 +53,8 @@ pub fn listing_of(
     printed_plans_tell_satisfiable_queries();
     plans_are_sound();
     queries_are_their_own_instances();
-    let sets = minimal_sets_plain(alloc, plan, query, catalogue)?;
-    let listing = Listing::of(alloc, &sets, plan, &catalogue.fragments)?;
+    let chased = minimal_sets(alloc, plan, query, catalogue)?;
+    let listing = Listing::of(alloc, &chased.sets, plan, &catalogue.fragments)?;
     Ok(listing)
 }
 

@@ -1,4 +1,4 @@
-use Rattle.std.proofs.Common.{length, sym, ◌∙◌, arith, subst, Contains}
+use Rattle.std.proofs.Common.{length, sym, ◌∙◌, ap, arith, subst, Contains}
 use Rattle.std.specs.Prelude.{slice_index}
 use Rattle.std.proofs.lemmas.Bool.{false≢true}
 use Rattle.esto_constraint.specs.Constraints.{rules_of}
@@ -6,6 +6,7 @@ use Rattle.esto_chase.proofs.ChaseLemmas.{rules-AreRules, ranks-RanksRise, depth
 use Rattle.esto_world_laws.specs.Derived.{AreDerived}
 use Rattle.esto_world_laws.specs.Laws.{AreGiven}
 use Rattle.esto_condchase.proofs.LoopLemmas.{rules_same, answered_same, turn_derived, turn_counted, turn_given, turn_falls, end_answered, end_joined}
+use Rattle.esto_condchase.proofs.NewsLemmas.{before_same, none_answered, turn_answered}
 use Rattle.esto_condchase.proofs.chase.rounds.Goals as goal
 
 pub given-requires : goal.given-requires
@@ -17,7 +18,13 @@ rounds-init c = record {
       (c.in_ok-entries.ensures.derived (rules_of c.args.rules.now));
   counted = c.in_ok-entries.ensures.counted;
   given = subst (λ it. AreGiven it c.in_ok-entries.entries) c.items.ensures c.in_ok-entries.ensures.given;
+  before = none_answered (rules_of c.args.rules.now) c.in_ok-entries.entries (rules-AreRules c.args.rules.now c.rules_are_sound.ensures.rules);
 }
+
+pub round-requires-clause-before : goal.round-requires-clause-before
+round-requires-clause-before c =
+    before_same (rules_of c.args.rules.now) _ c.rounds.entries c.items-in-rounds.result.now c.rounds.since (ap rules_of c.items-in-rounds-2.ensures)
+    c.items-in-rounds.ensures c.rounds.invariant.before
 
 pub returns-then-is_empty-clause-answered : goal.returns-then-is_empty-clause-answered
 returns-then-is_empty-clause-answered c =
@@ -54,4 +61,7 @@ rounds-preserved c =
           c.append.new.self c.in_ok-append.ensures.ok c.rounds.invariant.counted;
       given = turn_given c.args.facts.now rules c.args.atoms c.rounds.entries c.items-in-rounds.result.now c.in_ok-more.more c.items-in-rounds.ensures grows
           c.append.new.self c.in_ok-append.ensures.ok c.rounds.invariant.given;
+      before = turn_answered rules c.rounds.entries c.items-in-rounds.result.now c.in_ok-more.more c.append.new.self c.len-since.result
+          c.items-in-rounds.ensures c.in_ok-append.ensures.ok c.len-since.ensures
+          (answered_same c.items-in-rounds-2.result.now c.args.rules.now _ _ c.items-in-rounds-2.ensures c.in_ok-more.ensures.answered);
     }

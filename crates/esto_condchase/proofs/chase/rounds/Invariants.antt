@@ -1,10 +1,11 @@
-use Rattle.std.proofs.Common.{◌-◌, length}
+use Rattle.std.proofs.Common.{◌-◌, length, take}
 use Rattle.esto_constraint.specs.Constraints.{rules_of}
 use Rattle.esto_chase.proofs.ChaseLemmas.{depth_of}
 use Rattle.esto_views.specs.Expanded.{facts_of}
 use Rattle.esto_world_laws.specs.Bounds.{most_entries}
 use Rattle.esto_world_laws.specs.Derived.{AreDerived}
 use Rattle.esto_world_laws.specs.Laws.{AreGiven}
+use Rattle.esto_world_laws.specs.Steps.{AreAnswered}
 use Rattle.esto_world_laws.specs.Worlds.{AreOfCount}
 use Rattle.esto_condchase.proofs.chase.rounds.Given as goal
 
@@ -13,6 +14,7 @@ invariant-rounds l = record {
   derived : AreDerived l.facts (rules_of l.rules) l.entries;
   counted : AreOfCount l.atoms l.entries;
   given : AreGiven l.facts l.entries;
+  before : AreAnswered (rules_of l.rules) (take l.since l.entries) l.entries;
 }
 
 -- what is left of the bound of entries

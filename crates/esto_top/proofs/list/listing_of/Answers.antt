@@ -5,29 +5,29 @@ use Rattle.esto_top.proofs.FormLemmas.{plan_form}
 use Rattle.esto_top.proofs.RuleLemmas.{are_rules}
 use Rattle.esto_top.proofs.list.listing_of.Goals as goal
 
-pub minimal_sets_plain-requires-clause-over : goal.minimal_sets_plain-requires-clause-over
-minimal_sets_plain-requires-clause-over c =
+pub minimal_sets-requires-clause-over : goal.minimal_sets-requires-clause-over
+minimal_sets-requires-clause-over c =
     let catalogue = c.args.catalogue.now in
     let sound = c.catalogues_are_sound.ensures catalogue in
     c.printed_plans_are_over_fragments.ensures.over catalogue.core (rules_of catalogue.rules) catalogue.fragments c.args.query.now.names (query_of c.args.query.now)
     c.args.plan.now sound.fragments_are c.requires
 
-pub minimal_sets_plain-requires-clause-satisfiable : goal.minimal_sets_plain-requires-clause-satisfiable
-minimal_sets_plain-requires-clause-satisfiable c =
+pub minimal_sets-requires-clause-satisfiable : goal.minimal_sets-requires-clause-satisfiable
+minimal_sets-requires-clause-satisfiable c =
     let catalogue = c.args.catalogue.now in
     c.printed_plans_tell_satisfiable_queries.ensures catalogue.core (rules_of catalogue.rules) (views_of catalogue.fragments) c.args.query.now.names
     (query_of c.args.query.now) c.args.plan.now (are_rules c.rules_are_sound.ensures.rules catalogue.rules)
     (c.queries_are_sound.ensures c.args.query.now).query c.requires
 
-pub minimal_sets_plain-requires-clause-universal : goal.minimal_sets_plain-requires-clause-universal
-minimal_sets_plain-requires-clause-universal c =
+pub minimal_sets-requires-clause-universal : goal.minimal_sets-requires-clause-universal
+minimal_sets-requires-clause-universal c =
     let catalogue = c.args.catalogue.now in
     c.printed_plans_are_universal.ensures.universal catalogue.core (rules_of catalogue.rules) (views_of catalogue.fragments) c.args.query.now.names
     (query_of c.args.query.now) c.args.plan.now (are_rules c.rules_are_sound.ensures.rules catalogue.rules)
     (c.queries_are_sound.ensures c.args.query.now).query c.requires
 
-pub minimal_sets_plain-requires-clause-same_length : goal.minimal_sets_plain-requires-clause-same_length
-minimal_sets_plain-requires-clause-same_length c =
+pub minimal_sets-requires-clause-same_length : goal.minimal_sets-requires-clause-same_length
+minimal_sets-requires-clause-same_length c =
     let catalogue = c.args.catalogue.now in
     let rules = are_rules c.rules_are_sound.ensures.rules catalogue.rules in
     let is_query = (c.queries_are_sound.ensures c.args.query.now).query in
@@ -42,7 +42,7 @@ minimal_sets_plain-requires-clause-same_length c =
 pub returns : goal.returns
 returns c =
     let members = c.in_ok-listing.ensures.members in
-    let listed = c.in_ok-sets.ensures.listed in
+    let listed = c.in_ok-chased.ensures.listed in
     record {
       sets = record {
         exact = λ set. (λ inside. (listed set).0 ((members set).0 inside), λ is_listed. (members set).1 ((listed set).1 is_listed));

@@ -1,62 +1,53 @@
-use Rattle.std.proofs.Common.{◌≡◌, ◌∙◌, ◌++◌, ◌∷◌, [], ap, length, refl, subst, sym}
-use Rattle.std.proofs.lemmas.List.Elements.{All-push}
-use Rattle.esto_bits.specs.Kept.{AreOver, IsAntichain, CoversAlso, is_covered, with_set}
-use Rattle.esto_bits.proofs.FamilyLemmas.{covered_from_test, test_from_covered, covered-already, covered-with_set, added}
-use Rattle.esto_bits.proofs.SetLemmas.{false-not_true}
+use Rattle.std.proofs.Common.{◌≡◌, ◌∙◌, ap, subst, sym}
+use Rattle.std.proofs.lemmas.Bool.{false≢true}
+use Rattle.esto_semantics.specs.Sets.{Covers}
+use Rattle.esto_bits.specs.Kept.{AreOver, CoversAlso, IsAntichain, Kept, with_set}
+use Rattle.esto_bits.proofs.FamilyLemmas.{covered-with_set, with_set-covered}
+use Rattle.esto_bits.proofs.ProductLemmas.{added, below_count, covers_row}
 use Rattle.esto_bits.proofs.products.Products.add.Goals as goal
+
+pub covers-requires : goal.covers-requires
+covers-requires c =
+    below_count c.args.row.now c.self.inside.packed c.words-words.result.now (c.requires ∙ sym (ap (λ (it : Kept). it.count) c.self.view_is))
+    c.words-words.ensures.below c.words-words.ensures.set
 
 -- ---- the set is covered
 
-pub returns-then-covers-clause-answer : goal.returns-then-covers-clause-answer
-returns-then-covers-clause-answer c =
-    let is = c.covers.ensures ∙ ap (λ sets. is_covered sets c.args.row.now) (c.as_slice.ensures.value ∙ ap (λ kept. kept.sets) c.self.view_is) in
-    (λ same. covered_from_test c.args.row.now c.args.self.now.sets (sym is ∙ c.if-covers.true), λ covered. refl)
-
-pub returns-then-covers-clause-covers : goal.returns-then-covers-clause-covers
-returns-then-covers-clause-covers c =
-    let is = c.covers.ensures ∙ ap (λ sets. is_covered sets c.args.row.now) (c.as_slice.ensures.value ∙ ap (λ kept. kept.sets) c.self.view_is) in
-    covered-already c.args.self.now.sets c.args.row.now (sym is ∙ c.if-covers.true)
+pub returns-then-covers-clause-ok : goal.returns-then-covers-clause-ok
+returns-then-covers-clause-ok c =
+    with_set-covered c.args.self.now.sets c.args.row.now
+    (subst (λ (it : Kept). Covers it.sets c.args.row.now) c.self.view_is
+    ((covers_row c.args.row.now c.self.inside.packed c.words-words.result.now (c.requires ∙ sym (ap (λ (it : Kept). it.count) c.self.view_is))
+    c.words-words.ensures.below c.words-words.ensures.set
+    c.covers.result c.covers.ensures).0 c.if-covers.true))
 
 -- ---- memory is wanting
 
 pub invariant_of-self : goal.invariant_of-self
 invariant_of-self c =
-    (subst (AreOver c.self.inside.count) (sym c.in-Err.ensures.items) c.self.invariant.0, subst IsAntichain (sym c.in-Err.ensures.items) c.self.invariant.1)
+    subst (λ (it : Kept). AreOver it.count it.sets × IsAntichain it.sets) (sym c.in_err-put_for_supersets.ensures.err) c.self.invariant
 
--- ---- the set goes to the end, and its proper supersets are dropped
-
-pub drop_supersets-requires : goal.drop_supersets-requires
-drop_supersets-requires c =
-    let count_is : c.self.inside.count ≡ length c.args.row.now = ap (λ kept. kept.count) c.self.view_is ∙ sym c.requires in
-    let pushed : c.push.new.self.items ≡ c.self.inside.sets.items ++ c.args.row.now ∷ [] =
-    c.in-Ok.ensures.items ∙ ap (λ copied. c.self.inside.sets.items ++ copied ∷ []) c.in_ok-copied.ensures in
-    subst (AreOver (length c.args.row.now)) (sym pushed)
-    (All-push (λ set. length set ≡ length c.args.row.now) c.self.inside.sets.items c.args.row.now
-    (subst (λ count. AreOver count c.self.inside.sets.items) count_is c.self.invariant.0) refl)
-
--- what the code leaves is what is kept after one set more, an antichain of the count
-left : (c : goal.After-drop_supersets) → (c.drop_supersets.new.sets.items ≡ with_set c.self.inside.sets.items c.args.row.now)
-    × AreOver c.self.inside.count c.drop_supersets.new.sets.items × IsAntichain c.drop_supersets.new.sets.items
-left c =
-    added c.self.inside.count c.self.inside.sets.items c.push.new.self.items c.drop_supersets.new.sets.items c.args.row.now c.self.invariant
-    (ap (λ sets. is_covered sets c.args.row.now) (sym c.as_slice.ensures.value) ∙ sym c.covers.ensures ∙ c.if-covers.false)
-    (c.requires ∙ sym (ap (λ kept. kept.count) c.self.view_is))
-    (c.in-Ok.ensures.items ∙ ap (λ copied. c.self.inside.sets.items ++ copied ∷ []) c.in_ok-copied.ensures) c.drop_supersets.ensures
+-- ---- the set is put in place of its supersets
 
 pub invariant_of-self-2 : goal.invariant_of-self-2
-invariant_of-self-2 c = ((left c).1, (left c).2)
-
-pub returns-clause-answer : goal.returns-clause-answer
-returns-clause-answer c =
-    let is = c.covers.ensures ∙ ap (λ sets. is_covered sets c.args.row.now) (c.as_slice.ensures.value ∙ ap (λ kept. kept.sets) c.self.view_is) in (
-      λ same. absurd (false-not_true (sym same)),
-      λ covered. absurd (false-not_true (sym c.if-covers.false ∙ is ∙ test_from_covered c.args.row.now c.args.self.now.sets covered)),
-    )
+invariant_of-self-2 c =
+    (added c.args.row.now c.self.inside.packed c.words-words.result.now (c.requires ∙ sym (ap (λ (it : Kept). it.count) c.self.view_is))
+    c.words-words.ensures.below c.words-words.ensures.set
+    c.self.invariant (λ covered. false≢true (sym c.if-covers.false ∙ (covers_row c.args.row.now c.self.inside.packed c.words-words.result.now (c.requires ∙ sym (ap (λ (it : Kept). it.count) c.self.view_is))
+    c.words-words.ensures.below c.words-words.ensures.set
+    c.covers.result c.covers.ensures).1 covered))
+    c.put_for_supersets.new.self c.in_ok-put_for_supersets.ensures.ok).2
 
 pub returns-clause-ok : goal.returns-clause-ok
-returns-clause-ok c = (left c).0 ∙ ap (λ kept. with_set kept.sets c.args.row.now) c.self.view_is
+returns-clause-ok c =
+    subst (λ (it : Kept). c.put_for_supersets.new.self.sets ≡ with_set it.sets c.args.row.now) c.self.view_is
+    (added c.args.row.now c.self.inside.packed c.words-words.result.now (c.requires ∙ sym (ap (λ (it : Kept). it.count) c.self.view_is))
+    c.words-words.ensures.below c.words-words.ensures.set
+    c.self.invariant (λ covered. false≢true (sym c.if-covers.false ∙ (covers_row c.args.row.now c.self.inside.packed c.words-words.result.now (c.requires ∙ sym (ap (λ (it : Kept). it.count) c.self.view_is))
+    c.words-words.ensures.below c.words-words.ensures.set
+    c.covers.result c.covers.ensures).1 covered))
+    c.put_for_supersets.new.self c.in_ok-put_for_supersets.ensures.ok).0
 
 pub returns-clause-covers : goal.returns-clause-covers
 returns-clause-covers c =
-    let now = (left c).0 ∙ ap (λ kept. with_set kept.sets c.args.row.now) c.self.view_is in
-    subst (CoversAlso c.args.self.now.sets c.args.row.now) (sym now) (covered-with_set c.args.self.now.sets c.args.row.now)
+    subst (CoversAlso c.args.self.now.sets c.args.row.now) (sym (returns-clause-ok c)) (covered-with_set c.args.self.now.sets c.args.row.now)

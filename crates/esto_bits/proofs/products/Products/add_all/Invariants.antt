@@ -6,5 +6,5 @@ use Rattle.esto_bits.proofs.products.Products.add_all.Given as goal
 abbrev pub invariant-sets : goal.invariant-sets
 invariant-sets l = record {
   count : l.self.count ≡ l.initial.self.count;
-  sets : l.self.sets ≡ with_sets l.initial.self.sets (take l.set-index l.set-items);
+  sets : l.self.sets ≡ with_sets l.initial.self.sets (take l.at l.others.sets);
 }

@@ -7,5 +7,5 @@ use Rattle.esto_bits.proofs.products.Products.add_united.Given as goal
 abbrev pub invariant-sets : goal.invariant-sets
 invariant-sets l = record {
   count : l.self.count ≡ l.initial.self.count;
-  sets : l.self.sets ≡ with_sets l.initial.self.sets (map (united l.set) (take l.other-index l.other-items));
+  sets : l.self.sets ≡ with_sets l.initial.self.sets (map (united l.set) (take l.at l.others.sets));
 }

@@ -6,5 +6,5 @@ use Rattle.esto_bits.proofs.products.Products.joined.Given as goal
 abbrev pub invariant-sets : goal.invariant-sets
 invariant-sets l = record {
   count : l.found.count ≡ l.self.count;
-  sets : l.found.sets ≡ with_sets [] (unions (take l.set-index l.set-items) l.others.sets);
+  sets : l.found.sets ≡ with_sets [] (unions (take l.at l.self.sets) l.others.sets);
 }

@@ -1,4 +1,4 @@
-use Rattle.std.proofs.Common.{◌∙◌, ap, arith}
+use Rattle.std.proofs.Common.{◌∙◌, ap}
 use Rattle.esto_bits.specs.Words.{set_of}
 use Rattle.esto_bits.proofs.WordLemmas.{keep-empty}
 use Rattle.esto_bits.proofs.row_bits.RowBits.new.Goals as goal
@@ -6,4 +6,4 @@ use Rattle.esto_bits.proofs.row_bits.RowBits.new.Goals as goal
 pub returns-in-Ok : goal.returns-in-Ok
 returns-in-Ok c =
     ap (λ words. set_of words c.args.atoms) (c.in-Ok.ensures.items_if_clones_equal (λ word same. same))
-    ∙ (keep-empty c.div_ceil.result c.args.atoms (omega arith)).is
+    ∙ (keep-empty c.words_for.result c.args.atoms c.words_for.ensures).is

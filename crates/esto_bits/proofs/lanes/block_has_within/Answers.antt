@@ -1,0 +1,6 @@
+use Rattle.std.proofs.Common.{refl}
+use Rattle.esto_bits.proofs.LaneLemmas.{within_is}
+use Rattle.esto_bits.proofs.lanes.block_has_within.Goals as goal
+
+pub returns : goal.returns
+returns c = within_is c.args.words.now c.args.at c.args.word c.requires _ refl

@@ -1,0 +1,14 @@
+use Rattle.std.proofs.Common.{◌≤◌, ◌-◌, length}
+use Rattle.esto_bits.specs.Words.{IsWordWithin}
+use Rattle.esto_bits.proofs.LaneLemmas.{NowhereBelow}
+use Rattle.esto_bits.proofs.lanes.has_within.Given as goal
+
+-- no word so far is within the word
+abbrev pub invariant-blocks-2 : goal.invariant-blocks-2
+invariant-blocks-2 l = record {
+  inside : l.at ≤ length l.words;
+  so_far : NowhereBelow l.at (IsWordWithin l.words l.word);
+}
+
+abbrev pub decreases-blocks-2 : goal.decreases-blocks-2
+decreases-blocks-2 l = length l.words - l.at

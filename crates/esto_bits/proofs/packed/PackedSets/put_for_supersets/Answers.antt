@@ -1,0 +1,13 @@
+use Rattle.std.proofs.Common.{◌∙◌, ◌++◌, ◌∷◌, [], ap, sym}
+use Rattle.std.proofs.lemmas.Bool.{false≢true}
+use Rattle.esto_bits.specs.Kept.{kept}
+use Rattle.esto_bits.specs.Words.{set_of}
+use Rattle.esto_bits.proofs.PackedLemmas.{none_left_out}
+use Rattle.esto_bits.proofs.packed.PackedSets.put_for_supersets.Goals as goal
+
+pub returns-then-not-has_superset-clause-ok : goal.returns-then-not-has_superset-clause-ok
+returns-then-not-has_superset-clause-ok c =
+    let set = set_of c.args.row.now c.args.self.now.count in
+    c.in_ok-push.ensures.ok
+    ∙ ap (λ sets. kept c.args.self.now.count (sets ++ set ∷ []))
+    (sym (none_left_out c.args.self.now.sets set (λ some. false≢true (sym c.if-not-has_superset.true ∙ c.has_superset.ensures.1 some))))

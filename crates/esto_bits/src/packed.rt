@@ -1,0 +1,175 @@
+//! Sets of one count in one vector of words.
+ghost use Rattle.std.specs.Prelude.{◌≡◌, ◌↔◌, ◌<◌, ◌≤◌, ◌+◌, ◌*◌, ◌++◌, ◌∷◌, [], Some, filter, length, not, slice_get, slice_range, IsTrue, IfOk, IfSome, OnOk, OnErr};
+ghost use Rattle.esto_semantics.specs.Sets.{Covers};
+ghost use Rattle.esto_bits.specs.Kept.{HasSuperset, in_place_of_supersets, is_within, kept, unless_superset};
+ghost use Rattle.esto_bits.specs.Words.{AreWordsBelow, set_of};
+
+use crate::lanes::{any_around, any_within, row_within};
+use crate::words::words_for;
+use esto_term::{OutOfMemory, Replicate};
+use std::alloc::Global;
+use std::marker::Model;
+
+/// Sets of numbers below one count, in the order in which they came, in one vector of words: each set has equally many of
+/// them, and at least one. Contracts see the count and the list of the sets.
+#[derive(Debug, Drop)]
+pub struct PackedSets {
+    count: usize,
+    many: usize,
+    words: Vec<u64>,
+}
+
+impl Model for PackedSets {
+    ghost use Rattle.esto_bits.specs.Kept.{Kept, kept};
+    ghost use Rattle.esto_bits.specs.Words.{sets_of, ArePacked};
+
+    ghost Value = { Kept };
+
+    ghost view = { λ it. kept it.count (sets_of it.words.items it.count it.many) };
+
+    ghost invariant = { λ it. ArePacked it.words.items it.count it.many };
+}
+
+/// So many words, from a multiple of their number on.
+fn part(words: &[u64], at: usize, width: usize) -> &[u64]
+    requires { at * width + width ≤ length words.now }
+    ensures { result.now ≡ slice_range words.now (at * width) (at * width + width) }
+{
+    // the length is read so that it is known to fit
+    let _length = words.len();
+    let from = at * width;
+    &words[from..from + width]
+}
+
+impl PackedSets {
+    /// No set yet, which takes no memory.
+    pub fn new(alloc: Global, count: usize) -> PackedSets
+        ensures { result ≡ kept count [] }
+    {
+        PackedSets {
+            count,
+            many: 0,
+            words: Vec::new(alloc),
+        }
+    }
+
+    /// The count that each number of each set is below.
+    pub fn count(&self) -> usize
+        ensures { result ≡ self.now.count }
+    {
+        self.count
+    }
+
+    /// How many sets there are.
+    pub fn len(&self) -> usize
+        ensures { result ≡ length self.now.sets }
+    {
+        self.many
+    }
+
+    /// The words of the set at a place, counted from 0.
+    pub fn words_at(&self, at: usize) -> &[u64]
+        requires { at < length self.now.sets }
+        ensures below { AreWordsBelow result.now self.now.count }
+        ensures set { slice_get self.now.sets at ≡ Some (set_of result.now self.now.count) }
+    {
+        part(self.words.as_slice(), at, words_for(self.count))
+    }
+
+    /// Whether some set is a subset of the one that the words keep.
+    pub fn covers(&self, row: &[u64]) -> bool
+        requires { AreWordsBelow row.now self.now.count }
+        ensures { IsTrue result ↔ Covers self.now.sets (set_of row.now self.now.count) }
+    {
+        any_within(self.words.as_slice(), words_for(self.count), row)
+    }
+
+    /// Whether some set is a superset of the one that the words keep.
+    fn has_superset(&self, row: &[u64]) -> bool
+        requires { AreWordsBelow row.now self.now.count }
+        ensures { IsTrue result ↔ HasSuperset self.now.sets (set_of row.now self.now.count) }
+    {
+        any_around(self.words.as_slice(), words_for(self.count), row)
+    }
+
+    /// Puts the set that the words keep at the end.
+    fn push(&mut self, row: &[u64]) -> Result<(), OutOfMemory>
+        requires { AreWordsBelow row.now self.old.count }
+        ensures ok { OnOk result (self.new
+            ≡ kept self.old.count (self.old.sets ++ set_of row.now self.old.count ∷ [])) }
+        ensures err { OnErr result (self.new ≡ self.old) }
+    {
+        match self.words.extend_from_slice(row) {
+            Ok(()) => {
+                self.many += 1;
+                Ok(())
+            }
+            Err(_) => Err(OutOfMemory),
+        }
+    }
+
+    /// Puts the set at a place of the others at the end, unless it is a superset of the one that the words keep.
+    fn push_unless_superset(
+        &mut self,
+        others: &PackedSets,
+        at: usize,
+        row: &[u64],
+    ) -> Result<(), OutOfMemory>
+        requires row { AreWordsBelow row.now self.old.count }
+        requires same_count { others.now.count ≡ self.old.count }
+        requires in_range { at < length others.now.sets }
+        ensures { OnOk result (IfSome (slice_get others.now.sets at) (λ set. self.new ≡ kept
+            self.old.count
+            (unless_superset (set_of row.now self.old.count) self.old.sets set))) }
+    {
+        let words = others.words_at(at);
+        if row_within(row, words) {
+            return Ok(());
+        }
+        self.push(words)?;
+        Ok(())
+    }
+
+    /// The sets that are no supersets of the one that the words keep.
+    fn without_supersets(&self, alloc: Global, row: &[u64]) -> Result<PackedSets, OutOfMemory>
+        requires { AreWordsBelow row.now self.now.count }
+        ensures { IfOk result (λ it. it ≡ kept self.now.count
+            (filter (λ set. not (is_within (set_of row.now self.now.count) set)) self.now.sets)) }
+    {
+        let mut rest = PackedSets::new(alloc, self.count);
+        'sets: for at in 0..self.len() {
+            rest.push_unless_superset(self, at, row)?;
+        }
+        Ok(rest)
+    }
+
+    /// Puts the set that the words keep at the end, in place of its supersets. An error changes nothing.
+    pub fn put_for_supersets(&mut self, alloc: Global, row: &[u64]) -> Result<(), OutOfMemory>
+        requires { AreWordsBelow row.now self.old.count }
+        ensures ok { OnOk result (self.new ≡ kept self.old.count
+            (in_place_of_supersets self.old.sets (set_of row.now self.old.count))) }
+        ensures err { OnErr result (self.new ≡ self.old) }
+    {
+        if !self.has_superset(row) {
+            self.push(row)?;
+            return Ok(());
+        }
+        let mut rest = self.without_supersets(alloc, row)?;
+        rest.push(row)?;
+        *self = rest;
+        Ok(())
+    }
+}
+
+impl Replicate for PackedSets {
+    fn copy(&self, alloc: Global) -> Result<PackedSets, OutOfMemory> {
+        match Vec::from_slice(alloc, self.words.as_slice()) {
+            Ok(words) => Ok(PackedSets {
+                count: self.count,
+                many: self.many,
+                words,
+            }),
+            Err(_) => Err(OutOfMemory),
+        }
+    }
+}
