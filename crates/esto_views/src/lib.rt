@@ -1,14 +1,12 @@
 //! Fragments, plans over them, and what a plan asks of the datasets.
 #![tactic(auto)]
 
-mod atoms;
 mod expansion;
 mod fragments;
 mod inner;
 mod plan;
 mod spread;
 
-pub use atoms::plan_facts;
 pub use expansion::{ExpandedFact, ExpandedFacts, expand, plans_fit_views};
 pub use fragments::{Access, AccessList, FragmentDef, FragmentDefs, rows_of_view};
 pub use plan::{Plan, PlanAtom, PlanAtoms, plans_are_sound};

@@ -2,9 +2,9 @@
 ghost use Rattle.std.specs.Prelude.{◌≡◌, map, IfOk};
 ghost use Rattle.esto_views.specs.Plans.{fact_of};
 
-use crate::plan::PlanAtoms;
 use esto_query::{Atom, Facts};
 use esto_term::{List, OutOfMemory, Replicate};
+use esto_views::PlanAtoms;
 use std::alloc::Global;
 
 /// The atoms of a plan, in order, as facts over fragments: the relation of each is the number of its fragment.
