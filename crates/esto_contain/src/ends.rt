@@ -9,7 +9,7 @@ ghost use Rattle.esto_instance.specs.Instances.{state_of};
 ghost use Rattle.esto_query.specs.Making.{query_of};
 
 use either::{Either, Left, Right};
-use esto_catalog::{Catalogue, catalogues_are_sound};
+use esto_catalog::{Catalogue, catalogues_rank_their_rules};
 use esto_chase::{Clash, chase};
 use esto_chase_laws::queries_have_starts;
 use esto_instance::Instance;
@@ -28,7 +28,7 @@ pub fn end_of(
         (state_of end))
         (RunClashes (rules_of catalogue.now.rules) (start_of (query_of query.now)))) }
 {
-    catalogues_are_sound();
+    catalogues_rank_their_rules();
     queries_are_sound();
     queries_have_starts();
     let start = Instance::of_query(alloc, query)?;

@@ -21,7 +21,7 @@ ghost use Rattle.esto_term.specs.declared.term.Term.{Term};
 use crate::ends::end_of;
 use either::{Either, Left, Right};
 use esto_bits::{Products, products_are_antichains};
-use esto_catalog::{Catalogue, catalogues_are_sound};
+use esto_catalog::{Catalogue, catalogues_rank_their_rules};
 use esto_chase::Clash;
 use esto_chase_laws::states_are_universal;
 use esto_condchase::{chase_with_products, products_of_matches};
@@ -85,7 +85,7 @@ fn equivalent_parts(
         ↔ IsMinimal (IsEquivalentPart (rules_of catalogue.now.rules) (query_of query.now)
         (with_head head.now facts.now)) set) }
 {
-    catalogues_are_sound();
+    catalogues_rank_their_rules();
     rules_are_sound();
     queries_are_sound();
     chosen_atoms_are_named();

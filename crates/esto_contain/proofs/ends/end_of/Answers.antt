@@ -1,10 +1,9 @@
-use Rattle.std.proofs.Common.{length, sym, subst}
+use Rattle.std.proofs.Common.{sym, subst}
 use Rattle.esto_query.specs.Making.{query_of}
 use Rattle.esto_constraint.specs.Constraints.{rules_of}
 use Rattle.esto_chase_laws.specs.Runs.{IsStart}
 use Rattle.esto_chase.specs.Chased.{RunClashes}
 use Rattle.esto_instance.specs.Instances.{state_of}
-use Rattle.esto_universal.proofs.PlannedLemmas.{ranks_of_all, within_ranks}
 use Rattle.esto_contain.proofs.ToldLemmas.{finished_from}
 use Rattle.esto_contain.proofs.ends.end_of.Goals as goal
 
@@ -14,16 +13,10 @@ chase-requires-clause-start c =
     (c.queries_have_starts.ensures.start (query_of c.args.query.now) (c.queries_are_sound.ensures c.args.query.now).query)
 
 pub chase-requires-clause-within : goal.chase-requires-clause-within
-chase-requires-clause-within c =
-    let it = c.args.catalogue.now in
-    let sound = c.catalogues_are_sound.ensures it in
-    within_ranks (rules_of it.rules) (length it.schema) it.ranks sound.within sound.ranks_are
+chase-requires-clause-within c = c.catalogues_rank_their_rules.ensures.within c.args.catalogue.now
 
 pub chase-requires-clause-ranks : goal.chase-requires-clause-ranks
-chase-requires-clause-ranks c =
-    let it = c.args.catalogue.now in
-    let sound = c.catalogues_are_sound.ensures it in
-    ranks_of_all (rules_of it.rules) (length it.schema) it.ranks sound.ranks_are
+chase-requires-clause-ranks c = c.catalogues_rank_their_rules.ensures.ranks c.args.catalogue.now
 
 pub returns-in-Left : goal.returns-in-Left
 returns-in-Left c =

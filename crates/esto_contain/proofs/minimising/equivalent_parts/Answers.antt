@@ -1,6 +1,4 @@
 use Rattle.std.proofs.Common.{◌<◌, ◌↔◌, ◌∙◌, Bool, List, length, map, sym, ap, subst}
-use Rattle.esto_acyclic.specs.Graphs.{AreRanks, IsWithin}
-use Rattle.esto_acyclic.specs.Relations.{IsEdge}
 use Rattle.esto_constraint.specs.Constraints.{rules_of}
 use Rattle.esto_bits.specs.Kept.{AreOver}
 use Rattle.esto_plan_laws.specs.Cores.{with_head}
@@ -8,7 +6,7 @@ use Rattle.esto_query.specs.Making.{query_of}
 use Rattle.esto_semantics.specs.Sets.{Covers}
 use Rattle.esto_semantics.specs.declared.fact.Fact.{Fact}
 use Rattle.esto_term.specs.declared.term.Term.{Term}
-use Rattle.esto_universal.proofs.PlannedLemmas.{constraints-AreRules, ranks_of_all, within_ranks}
+use Rattle.esto_universal.proofs.PlannedLemmas.{constraints-AreRules}
 use Rattle.esto_world_laws.specs.Laws.{HasMatch}
 use Rattle.esto_world_laws.specs.Steps.{AreJoined}
 use Rattle.esto_world_laws.specs.Worlds.{AreOfCount, InWorld}
@@ -29,16 +27,10 @@ chase_with_products-requires-clause-atoms c fact inside =
     (numbered_below c.args.facts.now c.in_ok-expanded.expanded (rw c.items.ensures at c.in_ok-expanded.ensures) fact inside)
 
 pub chase_with_products-requires-clause-within : goal.chase_with_products-requires-clause-within
-chase_with_products-requires-clause-within c =
-    let it = c.args.catalogue.now in
-    let sound = c.catalogues_are_sound.ensures it in
-    within_ranks (rules_of it.rules) (length it.schema) it.ranks sound.within sound.ranks_are
+chase_with_products-requires-clause-within c = c.catalogues_rank_their_rules.ensures.within c.args.catalogue.now
 
 pub chase_with_products-requires-clause-ranks : goal.chase_with_products-requires-clause-ranks
-chase_with_products-requires-clause-ranks c =
-    let it = c.args.catalogue.now in
-    let sound = c.catalogues_are_sound.ensures it in
-    ranks_of_all (rules_of it.rules) (length it.schema) it.ranks sound.ranks_are
+chase_with_products-requires-clause-ranks c = c.catalogues_rank_their_rules.ensures.ranks c.args.catalogue.now
 
 pub products_of_matches-requires-clause-heads : goal.products_of_matches-requires-clause-heads
 products_of_matches-requires-clause-heads c =
