@@ -26,7 +26,7 @@ use Rattle.esto_views.specs.declared.plan.PlanAtom.{PlanAtom}
 use Rattle.esto_views.specs.declared.plan.Plan.{Plan}
 use Rattle.esto_universal.specs.Reading.{terms_read, AreFirstOccurrences}
 use Rattle.esto_universal.specs.Renamings.{IsRenaming, numbered, renamed_atom, name_of}
-use Rattle.esto_universal.specs.Stated.{IsStatedPlan, IsRenamed, IsRenamedPlan}
+use Rattle.esto_universal.specs.Stated.{IsStatedPlan, IsRenamed}
 use Rattle.esto_universal.proofs.RenamingLemmas.{back, back-Const, back-Plain, numbered_renames}
 use Rattle.esto_term.proofs.ListLemmas.{Contains-at, Contains-flat, Contains-map, Contains-map_from}
 use Rattle.esto_term.proofs.ListLemmas.{map_agree, map_at-from, map_itself, map_then, place-from_Contains}
@@ -183,9 +183,10 @@ module _ (names : List Name) (rows : List (Fact Term)) (head : List Term) (seen 
       no_head [] none = refl
       no_head (first ∷ rest) none = absurd (cc)
 
-  pub renamed_is : (plan : Plan) → plan.atoms ≡ map (renamed_atom (numbered 0 seen)) rows → plan.head ≡ map (numbered 0 seen) head
-      → plan.names ≡ map (name_of names) seen → IsRenamedPlan names rows head plan
-  renamed_is plan atoms head_is names_are = record {
+  pub renamed_is : (new_atoms : List PlanAtom) (new_head : List Term) (new_names : List Name) → new_atoms ≡ map (renamed_atom (numbered 0 seen)) rows
+      → new_head ≡ map (numbered 0 seen) head → new_names ≡ map (name_of names) seen
+      → IsRenamed names (with_head head rows) (with_head new_head (map fact_of new_atoms)) new_names
+  renamed_is new_atoms new_head new_names atoms head_is names_are = record {
     seen = seen;
     are_seen = are_seen;
     renaming = numbered 0 seen;
