@@ -1,14 +1,11 @@
 -- The candidate of a set, by what the plan's expansion has for the set.
-use Rattle.std.proofs.Common.{Option, None, Some, IsTrue, IfSome, IfNone, ◌≡◌, ◌≢◌, ◌↔◌, inl, inr, ℕ, ◌<◌, Bool, true, false, cond, List, [], ◌∷◌, length, slice_index_or, Contains, refl, sym, subst, ◌∙◌, arith}
+use Rattle.std.proofs.Common.{◌≡◌, ◌≢◌, ◌↔◌, inl, inr, ℕ, ◌<◌, Bool, true, false, cond, List, [], ◌∷◌, length, slice_index_or, Contains, refl, sym, subst, ◌∙◌, arith}
 use Rattle.std.proofs.lemmas.Bool.{false≢true}
 use Rattle.std.proofs.lemmas.List.{length-map}
-use Rattle.std.specs.Bool.{⊤}
-use Rattle.std.specs.Option.{is_some}
 use Rattle.either.specs.Either.{MatchEither}
 use Rattle.either.specs.declared.Either.{Either}
 use Rattle.either.specs.declared.Either.TheVariants.{Left, Right}
 use Rattle.esto_term.specs.declared.term.Term.{Term}
-use Rattle.esto_term.specs.declared.term.Term.TheVariants.{Const}
 use Rattle.esto_term.proofs.ListLemmas.{Contains-at, Contains-cases, Contains-head, Contains-map, Contains-map_from, Contains-nil, Contains-rest, place-from_Contains}
 use Rattle.esto_semantics.specs.Containment.{IsContained, IsSatisfiable}
 use Rattle.esto_semantics.specs.ExpansionLaws.{ExpansionAnswers, ExpansionIsContained, PartExpandsCandidate}
@@ -16,8 +13,7 @@ use Rattle.esto_semantics.specs.Expansions.{IsExpansion, IsPartOf}
 use Rattle.esto_semantics.specs.Facts.{image}
 use Rattle.esto_semantics.specs.Instances.{IsFinished, IsUniversalFor, MapsTo}
 use Rattle.esto_semantics.specs.Listed.{candidate}
-use Rattle.esto_semantics.specs.Maps.{AreFlat, IsFlat, Keeps, Sends}
-use Rattle.esto_semantics.specs.Matches.{IsMatch}
+use Rattle.esto_semantics.specs.Maps.{AreFlat, IsFlat}
 use Rattle.esto_semantics.specs.Queries.{ConjunctiveQuery, IsAnswer}
 use Rattle.esto_semantics.specs.Rules.{Rule, AreRules, IsRule}
 use Rattle.esto_semantics.specs.Sets.{Has, numbers}
@@ -28,9 +24,6 @@ use Rattle.esto_chase_laws.specs.RunLaws.{StartsHaveTheBody}
 use Rattle.esto_chase_laws.specs.Runs.{IsStart, start_of}
 use Rattle.esto_constraint.specs.Constraints.{rule_of, rules_of}
 use Rattle.esto_constraint.specs.declared.rule.Constraint.{Constraint}
-use Rattle.esto_query.specs.Matches.{IsLeastMatch, HasNoMatch}
-use Rattle.esto_query.specs.Valuations.{Assignment, Extends, map_of}
-use Rattle.esto_query.specs.declared.matches.Found.{Found}
 use Rattle.esto_views.specs.Expanded.{Expands, facts_of}
 use Rattle.esto_views.specs.Fragments.{views_of}
 use Rattle.esto_views.specs.Plans.{fact_of, plan_query}
@@ -69,35 +62,6 @@ size-some set some = by (numbers set) refl
     by : (its : List ℕ) → numbers set ≡ its → (number : ℕ) × Has set number
     by [] is = absurd (some (subst (λ its. length its ≡ 0) (sym is) refl))
     by (first ∷ rest) is = (first, (numbers_have set first).0 (subst (λ its. Contains its first) (sym is) (Contains-head first rest)))
-
--- ---- a match that says that a query maps to facts, head to head
-
-module _ (query target : ConjunctiveQuery) (start : Assignment) (is_start : own.IsStart query.head target.head start)
-    (send : (m : Term → Term) (body facts : List (Fact Term)) → Sends m body facts ↔ ((places : List ℕ) × IsMatch m body facts places))
-    (keeps : (valuation : Assignment) → Keeps Const (map_of valuation)) (extends : (valuation : Assignment) → Extends (map_of valuation) valuation) where
-  match-maps : (valuation : Assignment) (places : List ℕ) → IsLeastMatch query.body target.body start (λ _. ⊤) valuation places → MapsTo query target
-  match-maps valuation places least =
-      let m = map_of valuation in
-      let both = (least.is_found.exact m (keeps valuation)).0 (extends valuation) in
-      (m, keeps valuation, (send m query.body target.body).1 (places, both.1), (is_start m (keeps valuation)).0 both.0)
-
-  none-maps : HasNoMatch query.body target.body start (λ _. ⊤) → MapsTo query target → ⊥
-  none-maps none maps =
-      let there = (send maps.0 query.body target.body).0 maps.2 in
-      none maps.0 there.0 maps.1 ((is_start maps.0 maps.1).1 maps.3) there.1 tt
-
-  pub found-maps : (outcome : Option Found)
-      → IfSome outcome (λ found. IsLeastMatch query.body target.body start (λ _. ⊤) found.valuation found.places)
-      → IfNone outcome (HasNoMatch query.body target.body start (λ _. ⊤)) → (answer : Bool) → answer ≡ is_some outcome → IsTrue answer ↔ MapsTo query target
-  found-maps (Some found) some none answer is = (λ _. match-maps found.valuation found.places some, λ _. is)
-  found-maps None some none answer is = (λ holds. absurd (false≢true (sym is ∙ holds)), λ maps. absurd (none-maps none maps))
-
-pub mapped-at : (query : ConjunctiveQuery) (head other_head : List Term) (body other_body : List (Fact Term)) → head ≡ other_head → body ≡ other_body
-    → (answer : Bool) → IsTrue answer ↔ MapsTo query (record { head = head; body = body })
-    → IsTrue answer ↔ MapsTo query (record { head = other_head; body = other_body })
-mapped-at query head other_head body other_body same_head same_body answer says =
-    subst (λ facts. IsTrue answer ↔ MapsTo query (record { head = other_head; body = facts })) same_body
-    (subst (λ row. IsTrue answer ↔ MapsTo query (record { head = row; body = body })) same_head says)
 
 -- ---- what is said of the one side or the other
 

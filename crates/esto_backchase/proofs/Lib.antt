@@ -1,4 +1,3 @@
-pub mod StartLemmas
 pub mod SafetyLemmas
 pub mod CandidateLemmas
 pub mod VisitLemmas

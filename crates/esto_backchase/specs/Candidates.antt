@@ -1,33 +1,19 @@
 -- How a set of a plan's atoms is tested: its part of the plan's expansion, chased, receives the query or not.
-use Rattle.std.specs.Prelude.{◌≡◌, ◌↔◌, Bool, false, cond, List, [], ◌∷◌, length, map, slice_index_or}
+use Rattle.std.specs.Prelude.{◌≡◌, Bool, false, cond, List, [], ◌∷◌, length, slice_index_or}
 use Rattle.esto_catalog.specs.declared.catalogue.Catalogue.{Catalogue}
 use Rattle.esto_constraint.specs.Constraints.{rules_of}
 use Rattle.esto_query.specs.Making.{query_of}
-use Rattle.esto_query.specs.Valuations.{Assignment, Extends}
 use Rattle.esto_query.specs.declared.query.Query.{Query}
 use Rattle.esto_semantics.specs.Listed.{AnswersQuery}
-use Rattle.esto_semantics.specs.Maps.{AreFlat, Keeps}
+use Rattle.esto_semantics.specs.Maps.{AreFlat}
 use Rattle.esto_semantics.specs.Plans.{IsUniversalPlan}
 use Rattle.esto_semantics.specs.declared.fact.Fact.{Fact}
 use Rattle.esto_term.specs.declared.term.Term.{Term}
-use Rattle.esto_term.specs.declared.term.Term.TheVariants.{Const}
 use Rattle.esto_views.specs.Expanded.{Expands, facts_of}
 use Rattle.esto_views.specs.Fragments.{views_of}
 use Rattle.esto_views.specs.Plans.{plan_query}
 use Rattle.esto_views.specs.declared.expansion.ExpandedFact.{ExpandedFact}
 use Rattle.esto_views.specs.declared.plan.Plan.{Plan}
-
--- A row of terms as a fact.
-abbrev pub row_fact : List Term → Fact Term
-row_fact terms = record { relation = 0; terms = terms }
-
--- No map that keeps constants sends the one row to the other.
-abbrev pub NoneSends : List Term → List Term → Type 0
-NoneSends terms targets = (m : Term → Term) → Keeps Const m → ¬ (map m terms ≡ targets)
-
--- The maps that keep constants and extend the valuation are exactly those that send the one row to the other.
-abbrev pub IsStart : List Term → List Term → Assignment → Type 0
-IsStart terms targets start = (m : Term → Term) → Keeps Const m → Extends m start ↔ (map m terms ≡ targets)
 
 -- The facts of an expansion that come from atoms of the set, in order.
 abbrev pub facts_chosen : List Bool → List ExpandedFact → List (Fact Term)

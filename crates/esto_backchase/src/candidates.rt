@@ -1,10 +1,7 @@
 //! Whether the candidate of a set of a plan's atoms is equivalent to the query.
-ghost use Rattle.std.specs.Prelude.{◌≡◌, ◌↔◌, ◌<◌, List, [], ◌∷◌, Contains, IsTrue, IfOk, MatchOption, length};
-ghost use Rattle.esto_term.specs.declared.term.Term.{Term};
+ghost use Rattle.std.specs.Prelude.{◌≡◌, ◌↔◌, ◌<◌, Contains, IsTrue, IfOk, length};
 ghost use Rattle.esto_semantics.specs.Containment.{IsContained};
-ghost use Rattle.esto_semantics.specs.Instances.{MapsTo};
 ghost use Rattle.esto_semantics.specs.Listed.{candidate};
-ghost use Rattle.esto_semantics.specs.Maps.{IsFlat};
 ghost use Rattle.esto_semantics.specs.Queries.{IsAnswer};
 ghost use Rattle.esto_semantics.specs.Views.{IsFragmentAnswer};
 ghost use Rattle.esto_constraint.specs.Constraints.{rules_of};
@@ -12,7 +9,7 @@ ghost use Rattle.esto_query.specs.Making.{query_of};
 ghost use Rattle.esto_views.specs.Fragments.{views_of};
 ghost use Rattle.esto_views.specs.Plans.{plan_query};
 ghost use Rattle.esto_views.specs.declared.expansion.ExpandedFact.{ExpandedFact};
-ghost use Rattle.esto_backchase.specs.Candidates.{row_fact, facts_chosen, NoneSends, IsStart, IsSearch, Answers};
+ghost use Rattle.esto_backchase.specs.Candidates.{facts_chosen, IsSearch, Answers};
 
 use crate::safety::is_safe;
 use either::{Left, Right};
@@ -22,15 +19,12 @@ use esto_chase::chase;
 use esto_chase_laws::queries_have_starts;
 use esto_constraint::rules_are_sound;
 use esto_instance::Instance;
-use esto_query::{
-    Atom, Facts, Query, Valuation, first_match, matches_send, queries_are_sound,
-    valuations_are_maps,
-};
+use esto_query::{Facts, Query};
 use esto_semantics::{
     an_expansion_means_the_same, an_expansion_of_a_plan_expands_its_candidates,
     candidates_contain_the_query,
 };
-use esto_term::{List, OutOfMemory, Replicate, Terms};
+use esto_term::{List, OutOfMemory, Replicate};
 use esto_views::{ExpandedFact, ExpandedFacts, Plan, plans_are_sound};
 use std::alloc::Global;
 
@@ -41,53 +35,6 @@ pub struct Search<'a> {
     pub query: &'a Query,
     pub plan: &'a Plan,
     pub expanded: &'a ExpandedFacts,
-}
-
-/// The list of one fact, which is the row.
-fn row_facts(alloc: Global, terms: &Terms) -> Result<Facts, OutOfMemory>
-    ensures { IfOk result (λ facts. facts ≡ row_fact terms.now ∷ []) }
-{
-    let mut facts = List::new(alloc);
-    facts.push(Atom {
-        relation: 0,
-        terms: terms.copy(alloc)?,
-    })?;
-    Ok(facts)
-}
-
-/// The valuation whose maps are exactly those that send the one row to the other. None comes exactly where no map that
-/// keeps constants does.
-fn sending(alloc: Global, terms: &Terms, targets: &Terms) -> Result<Option<Valuation>, OutOfMemory>
-    requires { (term : Term) → Contains terms.now term → IsFlat term }
-    ensures { IfOk result (λ start. MatchOption start
-        (NoneSends terms.now targets.now) (IsStart terms.now targets.now)) }
-{
-    valuations_are_maps();
-    let body = row_facts(alloc, terms)?;
-    let facts = row_facts(alloc, targets)?;
-    let start = Valuation::new(alloc);
-    match first_match(alloc, &body, &facts, &start)? {
-        Some(found) => Ok(Some(found.valuation)),
-        None => Ok(None),
-    }
-}
-
-/// Whether the query maps to the facts, and its head to the other head.
-fn maps_into(alloc: Global, query: &Query, facts: &Facts, head: &Terms) -> Result<bool, OutOfMemory>
-    ensures { IfOk result (λ answer. IsTrue answer
-        ↔ MapsTo (query_of query.now) (record { head = head.now; body = facts.now })) }
-{
-    queries_are_sound();
-    matches_send();
-    valuations_are_maps();
-    let outcome = sending(alloc, &query.head, head)?;
-    match outcome {
-        None => Ok(false),
-        Some(start) => {
-            let found = first_match(alloc, &query.body, facts, &start)?;
-            Ok(found.is_some())
-        }
-    }
 }
 
 /// The facts of the expansion that come from atoms of the set.
@@ -132,8 +79,7 @@ impl Search<'_> {
         let outcome = chase(alloc, start, &self.catalogue.rules, &self.catalogue.ranks)?;
         match outcome {
             Left(chased) => {
-                let end = &chased.instance;
-                let mapped = maps_into(alloc, self.query, end.facts(), end.head())?;
+                let mapped = chased.instance.receives(alloc, self.query)?;
                 Ok(mapped)
             }
             Right(_) => Ok(true),

@@ -29,7 +29,7 @@ use esto_semantics::{
 };
 use esto_term::{List, OutOfMemory};
 use esto_views::{Plan, expand, plans_are_sound};
-use esto_world_laws::{derived_claims_rest_on_atoms, matches_decide_containment};
+use esto_world_laws::{matches_decide_containment, matches_rest_on_atoms};
 use std::alloc::Global;
 
 /// The listed sets of a plan, with the entries that they come from.
@@ -81,7 +81,7 @@ fn answering_products(
     queries_are_sound();
     queries_have_starts();
     matches_decide_containment();
-    derived_claims_rest_on_atoms();
+    matches_rest_on_atoms();
     chosen_atoms_are_named();
     candidates_contain_the_query();
     an_expansion_means_the_same();

@@ -1,12 +1,12 @@
 //! The core of a plan.
-ghost use Rattle.std.specs.Prelude.{◌≡◌, List, length, map, IfOk};
+ghost use Rattle.std.specs.Prelude.{◌≡◌, List, length, IfOk};
 ghost use Rattle.esto_semantics.specs.Instances.{MapsTo};
 ghost use Rattle.esto_semantics.specs.Plans.{IsUniversalPlan};
 ghost use Rattle.esto_semantics.specs.Queries.{ConjunctiveQuery};
 ghost use Rattle.esto_semantics.specs.Rules.{Rule};
 ghost use Rattle.esto_semantics.specs.Unions.{ReceivesUnions};
 ghost use Rattle.esto_plan_laws.specs.Cores.{IsCore, HasNoRetract};
-ghost use Rattle.esto_views.specs.Plans.{fact_of, plan_query, IsPlanOver};
+ghost use Rattle.esto_views.specs.Plans.{plan_query, IsPlanOver};
 ghost use Rattle.esto_views.specs.declared.fragments.FragmentDef.{FragmentDef};
 ghost use Rattle.esto_core.specs.Cored.{IsCoredPlan, IsPart};
 ghost use Rattle.esto_core.specs.CoredLaws.{CoredIsPart, CoredIsCore, CoredHasNoRetract};
@@ -20,32 +20,17 @@ use esto_plan_laws::{
     plans_that_map_to_each_other_are_universal_alike, renamed_plans_are_alike,
     what_is_left_is_a_core,
 };
-use esto_semantics::{Atom, Facts};
-use esto_term::{List, OutOfMemory, Replicate};
-use esto_universal::{renamed_plan, renamed_plans_are_one};
-use esto_views::{Plan, PlanAtoms, plans_are_sound};
+use esto_term::OutOfMemory;
+use esto_universal::{plan_facts, renamed_plan, renamed_plans_are_one};
+use esto_views::{Plan, plans_are_sound};
 use std::alloc::Global;
-
-/// The plan's atoms as facts over fragments.
-fn facts_of(alloc: Global, atoms: &PlanAtoms) -> Result<Facts, OutOfMemory>
-    ensures { IfOk result (λ facts. facts ≡ map fact_of atoms.now) }
-{
-    let mut facts = List::new(alloc);
-    'atoms: for atom in atoms.items() {
-        facts.push(Atom {
-            relation: atom.fragment,
-            terms: atom.terms.copy(alloc)?,
-        })?;
-    }
-    Ok(facts)
-}
 
 /// What is left of the plan's atoms, with the plan's head, under new names.
 fn cored_plan(alloc: Global, plan: &Plan) -> Result<Plan, OutOfMemory>
     ensures { IfOk result (IsCoredPlan plan.now) }
 {
     plans_are_sound();
-    let facts = facts_of(alloc, &plan.atoms)?;
+    let facts = plan_facts(alloc, &plan.atoms)?;
     let left = left_of(alloc, &plan.head, &facts)?;
     let cored = renamed_plan(alloc, &left, &plan.head, &plan.names)?;
     Ok(cored)

@@ -1,12 +1,14 @@
 //! Instances and their traces.
-ghost use Rattle.std.specs.Prelude.{◌≡◌, [], ◌∷◌, ◌++◌, map, IfOk, OnOk, OnErr};
+ghost use Rattle.std.specs.Prelude.{◌≡◌, ◌↔◌, [], ◌∷◌, ◌++◌, map, IsTrue, IfOk, OnOk, OnErr};
 ghost use Rattle.esto_term.specs.Order.{replaced};
+ghost use Rattle.esto_semantics.specs.Instances.{MapsTo};
 ghost use Rattle.esto_query.specs.Making.{query_of};
 ghost use Rattle.esto_chase_laws.specs.Joined.{joined};
 ghost use Rattle.esto_chase_laws.specs.Runs.{start_of, replaced_facts};
 ghost use Rattle.esto_instance.specs.Instances.{state_of, trace_of};
 
 use crate::fresh::{fresh_facts, once};
+use crate::receiving::maps_into;
 use crate::replacing::{replace_in_facts, replace_in_terms};
 use esto_query::{Found, Query};
 use esto_semantics::Facts;
@@ -77,6 +79,16 @@ impl Instance {
         ensures { result.now ≡ trace_of self.now }
     {
         &self.trace
+    }
+
+    /// Whether the query maps to the instance: some map of terms that keeps constants sends the query's body into the
+    /// facts, and its head, term by term, to the head. It is a search for one match.
+    pub fn receives(&self, alloc: Global, query: &Query) -> Result<bool, OutOfMemory>
+        ensures { IfOk result
+            (λ answer. IsTrue answer ↔ MapsTo (query_of query.now) (state_of self.now)) }
+    {
+        let answer = maps_into(alloc, query, &self.facts, &self.head)?;
+        Ok(answer)
     }
 
     /// Appends those of the facts that are not there, in their order and once, and a step of that rule at that match to

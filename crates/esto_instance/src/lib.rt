@@ -3,6 +3,7 @@
 
 mod fresh;
 mod instance;
+mod receiving;
 mod replacing;
 
 pub use instance::{ChaseStep, Instance, Trace};

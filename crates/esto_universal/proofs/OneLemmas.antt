@@ -14,13 +14,14 @@ use Rattle.esto_term.proofs.OrderLemmas.{term_cmp_total}
 use Rattle.esto_semantics.specs.Facts.{image}
 use Rattle.esto_semantics.specs.Queries.{ConjunctiveQuery}
 use Rattle.esto_semantics.specs.declared.fact.Fact.{Fact}
+use Rattle.esto_plan_laws.specs.Cores.{with_head}
 use Rattle.esto_query.specs.declared.query.Name.{Name}
 use Rattle.esto_views.specs.Plans.{plan_query}
 use Rattle.esto_views.specs.declared.plan.Plan.{Plan}
 use Rattle.esto_universal.specs.Reading.{terms_read, OccursBefore}
 use Rattle.esto_universal.specs.Renamings.{name_of}
 use Rattle.esto_universal.specs.Rows.{IsRowBefore}
-use Rattle.esto_universal.specs.Stated.{IsStatedPlan, IsRenamedPlan}
+use Rattle.esto_universal.specs.Stated.{IsStatedPlan, IsRenamed, IsRenamedPlan}
 use Rattle.esto_universal.proofs.PlanLemmas.{became, read_row, read_head, atoms_distinct}
 use Rattle.esto_term.proofs.ChoiceLemmas.{pairs_head, pairs_tail}
 use Rattle.esto_term.proofs.ListLemmas.{Contains-cases, Contains-head, Contains-nil, Contains-rest, map_agree}
@@ -99,12 +100,12 @@ occurs_apart terms term other (front, (back, is, without)) (other_front, (other_
         let longer : length other_front < length (front ++ term ∷ []) = omega (arith, length_push front term) in
         without (front_has terms other_front other_back (front ++ term ∷ []) back other other_is is longer)
 
--- ---- the plan
+-- ---- what is renamed
 
-module _ (names : List Name) (rows : List (Fact Term)) (head : List Term) (plan other : Plan) (renamed : IsRenamedPlan names rows head plan)
-    (again : IsRenamedPlan names rows head other) where
+module _ (names : List Name) (old new other : ConjunctiveQuery) (new_names other_names : List Name) (renamed : IsRenamed names old new new_names)
+    (again : IsRenamed names old other other_names) where
   abbrev read : List Term
-  read = terms_read rows head
+  read = terms_read old.body old.head
 
   same_seen : renamed.seen ≡ again.seen
   same_seen =
@@ -118,19 +119,21 @@ module _ (names : List Name) (rows : List (Fact Term)) (head : List Term) (plan 
     | inr (place, at, same) ↦ same ∙ sym (again.is_renaming.numbers place term (ap (λ it. slice_get it place) (sym same_seen) ∙ at))
   ]
 
-  same_head : plan.head ≡ other.head
+  same_head : new.head ≡ other.head
   same_head =
-      renamed.head ∙ map_agree renamed.renaming again.renaming head (λ term inside. same_renaming term (read_head rows head term inside)) ∙ sym again.head
+      renamed.head
+      ∙ map_agree renamed.renaming again.renaming old.head (λ term inside. same_renaming term (read_head old.body old.head term inside))
+      ∙ sym again.head
 
-  same_body : (plan_query plan).body ≡ (plan_query other).body
+  same_body : new.body ≡ other.body
   same_body =
       renamed.atoms
-      ∙ map_agree (image renamed.renaming) (image again.renaming) rows
+      ∙ map_agree (image renamed.renaming) (image again.renaming) old.body
       (λ row in_rows. ap (λ (it : List Term). record { relation = row.relation; terms = it })
-      (map_agree renamed.renaming again.renaming row.terms (λ term inside. same_renaming term (read_row rows head row term in_rows inside))))
+      (map_agree renamed.renaming again.renaming row.terms (λ term inside. same_renaming term (read_row old.body old.head row term in_rows inside))))
       ∙ sym again.atoms
 
-  pub one_renamed : (plan_query plan ≡ plan_query other) × (plan.names ≡ other.names)
+  pub one_renamed : (new ≡ other) × (new_names ≡ other_names)
   one_renamed = (
     (λ i. record { head = same_head i; body = same_body i }),
     renamed.names_are ∙ ap (map (name_of names)) same_seen ∙ sym again.names_are,
@@ -145,13 +148,13 @@ module _ (names : List Name) (views : List ConjunctiveQuery) (end : ConjunctiveQ
   pub one_plan : (plan other : Plan) → IsStatedPlan names views end plan → IsStatedPlan names views end other
       → (plan_query plan ≡ plan_query other) × (plan.names ≡ other.names)
   one_plan plan other stated again =
-      one_renamed names stated.rows end.head plan other stated.renamed
+      one_renamed names (with_head end.head stated.rows) (plan_query plan) (plan_query other) plan.names other.names stated.renamed
       (subst (λ rows. IsRenamedPlan names rows end.head other) (sym (same_rows plan other stated again)) again.renamed)
 
 -- the atoms of a stated plan are distinct
 pub stated_distinct : (names : List Name) (views : List ConjunctiveQuery) (end : ConjunctiveQuery) (plan : Plan) → IsStatedPlan names views end plan
     → AllPairs ◌≢◌ (plan_query plan).body
 stated_distinct names views end plan stated =
-    atoms_distinct names stated.rows end.head plan stated.renamed
+    atoms_distinct names (with_head end.head stated.rows) (plan_query plan) plan.names stated.renamed
     (λ i j d less within same. let before = stated.are_rows.ordered i j d less within in rows_apart _ _ before
     (subst (λ it. IsRowBefore it (get_or stated.rows i d)) same (subst (IsRowBefore (get_or stated.rows i d)) (sym same) before)))

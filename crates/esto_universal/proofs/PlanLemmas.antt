@@ -7,9 +7,10 @@ use Rattle.std.proofs.lemmas.List.Sorted.{IsPermutation-refl}
 use Rattle.std.proofs.lemmas.List.Elements.{Contains-append_left, Contains-append_right, Contains-get_or}
 use Rattle.std.proofs.lemmas.Option.{slice_get_within}
 use Rattle.esto_term.specs.declared.term.Term.{Term}
-use Rattle.esto_term.specs.declared.term.Term.TheVariants.{Plain}
+use Rattle.esto_term.specs.declared.term.Term.TheVariants.{Const, Plain}
 use Rattle.esto_semantics.specs.Facts.{image, Mentions}
-use Rattle.esto_semantics.specs.Maps.{IsConstant}
+use Rattle.esto_semantics.specs.Expansions.{IsOfQuery}
+use Rattle.esto_semantics.specs.Maps.{IsConstant, Keeps}
 use Rattle.esto_semantics.specs.PlanOf.{IsOfRows, IsPlanOf}
 use Rattle.esto_semantics.specs.Queries.{ConjunctiveQuery}
 use Rattle.esto_semantics.specs.declared.fact.Fact.{Fact}
@@ -25,7 +26,7 @@ use Rattle.esto_views.specs.declared.plan.PlanAtom.{PlanAtom}
 use Rattle.esto_views.specs.declared.plan.Plan.{Plan}
 use Rattle.esto_universal.specs.Reading.{terms_read, AreFirstOccurrences}
 use Rattle.esto_universal.specs.Renamings.{IsRenaming, numbered, renamed_atom, name_of}
-use Rattle.esto_universal.specs.Stated.{IsStatedPlan, IsRenamedPlan}
+use Rattle.esto_universal.specs.Stated.{IsStatedPlan, IsRenamed}
 use Rattle.esto_universal.proofs.RenamingLemmas.{back, back-Const, back-Plain, numbered_renames}
 use Rattle.esto_term.proofs.ListLemmas.{Contains-at, Contains-flat, Contains-map, Contains-map_from}
 use Rattle.esto_term.proofs.ListLemmas.{map_agree, map_at-from, map_itself, map_then, place-from_Contains}
@@ -59,26 +60,36 @@ read_head rows head term inside = Contains-append_right (flat_map (λ it. it.ter
 
 -- ---- the way back
 
-module _ (names : List Name) (rows : List (Fact Term)) (head : List Term) (plan : Plan) (renamed : IsRenamedPlan names rows head plan) where
-  pub term_undone : (term : Term) → Contains (terms_read rows head) term → back renamed.seen (renamed.renaming term) ≡ term
-  term_undone term inside = by (became (terms_read rows head) renamed.seen renamed.renaming term renamed.are_seen renamed.is_renaming inside)
+module _ (names : List Name) (old new : ConjunctiveQuery) (new_names : List Name) (renamed : IsRenamed names old new new_names) where
+  abbrev read : List Term
+  read = terms_read old.body old.head
+
+  pub term_undone : (term : Term) → Contains read term → back renamed.seen (renamed.renaming term) ≡ term
+  term_undone term inside = by (became read renamed.seen renamed.renaming term renamed.are_seen renamed.is_renaming inside)
     where
       by : (IsConstant term × (renamed.renaming term ≡ term)) ⊎ ((place : ℕ) × (slice_get renamed.seen place ≡ Some term)
           × (renamed.renaming term ≡ Plain place)) → back renamed.seen (renamed.renaming term) ≡ term
       by (inl ((text, is), same)) = ap (back renamed.seen) (same ∙ is) ∙ back-Const renamed.seen text ∙ sym is
       by (inr (place, at, same)) = ap (back renamed.seen) same ∙ back-Plain renamed.seen place term at
 
-  row_undone : (row : Fact Term) → Contains rows row → image (back renamed.seen) (image renamed.renaming row) ≡ row
+  row_undone : (row : Fact Term) → Contains old.body row → image (back renamed.seen) (image renamed.renaming row) ≡ row
   row_undone row inside =
       let terms : map (back renamed.seen) (map renamed.renaming row.terms) ≡ row.terms =
       map_then renamed.renaming (back renamed.seen) row.terms
       ∙ map_agree (λ term. back renamed.seen (renamed.renaming term)) (λ term. term) row.terms
-      (λ term at. term_undone term (read_row rows head row term inside at))
+      (λ term at. term_undone term (read_row old.body old.head row term inside at))
       ∙ map_itself row.terms in
       λ i. record { relation = row.relation; terms = terms i }
 
-  -- the plan is its rows and the head under a renaming that can be undone
-  pub renamed-IsRenamedTo : IsRenamedTo (with_head head rows) (plan_query plan)
+  of_query : (term : Term) → IsOfQuery old term → Contains read term
+  of_query term (inl (row, inside, in_row)) = read_row old.body old.head row term inside in_row
+  of_query term (inr in_head) = read_head old.body old.head term in_head
+
+  pub renaming_undone : (other : Term → Term) × Keeps Const other × ((term : Term) → IsOfQuery old term → other (renamed.renaming term) ≡ term)
+  renaming_undone = (back renamed.seen, back-Const renamed.seen, λ term inside. term_undone term (of_query term inside))
+
+  -- the new query is the old one under a renaming that can be undone
+  pub renamed-IsRenamedTo : IsRenamedTo old new
   renamed-IsRenamedTo = record {
     renaming = renamed.renaming;
     back = back renamed.seen;
@@ -86,27 +97,28 @@ module _ (names : List Name) (rows : List (Fact Term)) (head : List Term) (plan 
     back_keeps = back-Const renamed.seen;
     undone = λ term inside. term_undone term (is_read term inside);
     head = sym renamed.head;
-    atoms = subst (IsPermutation (map (image renamed.renaming) rows)) (sym renamed.atoms) (IsPermutation-refl (map (image renamed.renaming) rows));
+    atoms = subst (IsPermutation (map (image renamed.renaming) old.body)) (sym renamed.atoms)
+        (IsPermutation-refl (map (image renamed.renaming) old.body));
   }
     where
-      is_read : (term : Term) → Contains head term ⊎ Mentions rows term → Contains (terms_read rows head) term
-      is_read term (inl in_head) = read_head rows head term in_head
-      is_read term (inr (row, inside, in_row)) = read_row rows head row term inside in_row
+      is_read : (term : Term) → Contains old.head term ⊎ Mentions old.body term → Contains read term
+      is_read term (inl in_head) = of_query term (inr in_head)
+      is_read term (inr in_body) = of_query term (inl in_body)
 
   -- rows that are distinct stay so
-  pub atoms_distinct : AllPairs ◌≢◌ rows → AllPairs ◌≢◌ (plan_query plan).body
+  pub atoms_distinct : AllPairs ◌≢◌ old.body → AllPairs ◌≢◌ new.body
   atoms_distinct distinct = subst (AllPairs ◌≢◌) (sym renamed.atoms) mapped
     where
-      same_row : (row other : Fact Term) → Contains rows row → Contains rows other → image renamed.renaming row ≡ image renamed.renaming other → row ≡ other
+      same_row : (row other : Fact Term) → Contains old.body row → Contains old.body other → image renamed.renaming row ≡ image renamed.renaming other → row ≡ other
       same_row row other inside other_inside same = sym (row_undone row inside) ∙ ap (image (back renamed.seen)) same ∙ row_undone other other_inside
 
-      mapped : AllPairs ◌≢◌ (map (image renamed.renaming) rows)
+      mapped : AllPairs ◌≢◌ (map (image renamed.renaming) old.body)
       mapped i j d less within same =
-          let short : j < length rows = rw (length-map rows (image renamed.renaming)) at within in
-          let early : i < length rows = omega arith in
+          let short : j < length old.body = rw (length-map old.body (image renamed.renaming)) at within in
+          let early : i < length old.body = omega arith in
           distinct i j d less short
-          (same_row (get_or rows i d) (get_or rows j d) (Contains-get_or rows i d early) (Contains-get_or rows j d short)
-          (sym (get_or-map (image renamed.renaming) rows i d d early) ∙ same ∙ get_or-map (image renamed.renaming) rows j d d short))
+          (same_row (get_or old.body i d) (get_or old.body j d) (Contains-get_or old.body i d early) (Contains-get_or old.body j d short)
+          (sym (get_or-map (image renamed.renaming) old.body i d d early) ∙ same ∙ get_or-map (image renamed.renaming) old.body j d d short))
 
 -- ---- a plan of its end
 
@@ -121,7 +133,7 @@ module _ (names : List Name) (views : List ConjunctiveQuery) (end : ConjunctiveQ
     back = back stated.renamed.seen;
     keeps = stated.renamed.is_renaming.keeps;
     back_keeps = back-Const stated.renamed.seen;
-    undone = λ term inside. term_undone names stated.rows end.head plan stated.renamed term (of_rows term inside);
+    undone = λ term inside. term_undone names (with_head end.head stated.rows) (plan_query plan) plan.names stated.renamed term (of_rows term inside);
     rows = λ row is_row. subst (λ it. Contains it (image stated.renamed.renaming row)) (sym stated.renamed.atoms)
         (Contains-map (image stated.renamed.renaming) stated.rows row ((stated.are_rows.exact row).1 is_row));
     only_rows = λ atom inside.
@@ -171,9 +183,10 @@ module _ (names : List Name) (rows : List (Fact Term)) (head : List Term) (seen 
       no_head [] none = refl
       no_head (first ∷ rest) none = absurd (cc)
 
-  pub renamed_is : (plan : Plan) → plan.atoms ≡ map (renamed_atom (numbered 0 seen)) rows → plan.head ≡ map (numbered 0 seen) head
-      → plan.names ≡ map (name_of names) seen → IsRenamedPlan names rows head plan
-  renamed_is plan atoms head_is names_are = record {
+  pub renamed_is : (new_atoms : List PlanAtom) (new_head : List Term) (new_names : List Name) → new_atoms ≡ map (renamed_atom (numbered 0 seen)) rows
+      → new_head ≡ map (numbered 0 seen) head → new_names ≡ map (name_of names) seen
+      → IsRenamed names (with_head head rows) (with_head new_head (map fact_of new_atoms)) new_names
+  renamed_is new_atoms new_head new_names atoms head_is names_are = record {
     seen = seen;
     are_seen = are_seen;
     renaming = numbered 0 seen;

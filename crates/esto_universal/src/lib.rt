@@ -1,6 +1,7 @@
 //! The universal plan of a query.
 #![tactic(auto)]
 
+mod atoms;
 mod index;
 mod indexed;
 mod planned;
@@ -10,6 +11,7 @@ mod renaming;
 mod rows;
 mod stated;
 
+pub use atoms::plan_facts;
 pub use planned::{
     plans_of_runs_are_over_fragments, plans_of_runs_are_universal, plans_tell_satisfiable_queries,
     runs_have_one_outcome,

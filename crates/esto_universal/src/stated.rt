@@ -1,4 +1,5 @@
 //! Laws of plans under new names, and of stated plans.
+ghost use Rattle.esto_universal.specs.RenamedLaws.{RenamedIsOne, RenamingIsUndone};
 ghost use Rattle.esto_universal.specs.RenamedLaws.{RenamedPlanIsOne, RenamedPlanIsRenamed};
 ghost use Rattle.esto_universal.specs.StatedLaws.{StatedPlanIsOne, StatedAtomsAreDistinct};
 ghost use Rattle.esto_universal.specs.StatedLaws.{StatedPlanIsOfRows, StatedPlanReceivesUnions};
@@ -6,9 +7,11 @@ ghost use Rattle.esto_universal.specs.StatedLaws.{StatedPlanIsUniversal};
 
 use esto_plan_laws::plans_receive_unions;
 
-/// A law: there is one plan of some rows and a head under new names. It is their query under a renaming of its terms that
-/// can be undone.
+/// A law: there is one query that is another under new names, and so one plan of some rows and a head. The renaming of
+/// the terms can be undone.
 pub fn renamed_plans_are_one()
+    ensures query { RenamedIsOne }
+    ensures undone { RenamingIsUndone }
     ensures one { RenamedPlanIsOne }
     ensures renamed { RenamedPlanIsRenamed }
 {}

@@ -11,3 +11,4 @@ pub mod SoundLemmas
 pub mod MatchLemmas
 pub mod ContainLemmas
 pub mod RestLemmas
+pub mod MatchRestLemmas

@@ -89,7 +89,7 @@ module _ (expanded : List ExpandedFact) (rules : List Rule) (are_rules : AreRule
 
   -- ---- entries
 
-  module _ (entries : List Entry) (all : (entry : Entry) → Contains entries entry → RestsOn expanded entry.claim entry.product)
+  module _ (entries : List Entry) (all : (entry : Entry) → Contains entries entry → RestsOn expanded (IsAbout entry.claim) entry.product)
       (places : List ℕ) (product : List Bool) (union : IsUnion entries places product) where
     abbrev Found : ℕ → Type 0
     Found variable = (fact : ExpandedFact) × Contains expanded fact × Has product fact.atom × Contains fact.fact.terms (Plain variable)
@@ -137,7 +137,7 @@ module _ (expanded : List ExpandedFact) (rules : List Rule) (are_rules : AreRule
         place_some place (Same next term) (among place (Contains-head place more)) claims
 
     chain_rests : (term other : Term) (claim : Claim) → claim ≡ Same term other → places ≢ [] → IsChain entries places term other
-        → RestsOn expanded claim product
+        → RestsOn expanded (IsAbout claim) product
     chain_rests term other claim is full chain = record {
       some = chain_some places term other full (λ place inside. inside) chain;
       variables = λ variable about. elim (subst (λ it. IsAbout it (Plain variable)) is about) [
@@ -163,7 +163,7 @@ module _ (expanded : List ExpandedFact) (rules : List Rule) (are_rules : AreRule
     has_body (denial body) is = is.has_body
 
     step_rests : (number : ℕ) (rule : Rule) → Contains rules rule → (claim : Claim) → FollowsBy entries number rule places claim
-        → RestsOn expanded claim product
+        → RestsOn expanded (IsAbout claim) product
     step_rests number rule in_rules claim by =
         let among : (place : ℕ) → Contains by.facts place → Contains places place =
         (λ place inside. subst (λ it. Contains it place) (sym by.in_order) (Contains-append_left by.facts by.links place inside)) in
@@ -176,8 +176,8 @@ module _ (expanded : List ExpandedFact) (rules : List Rule) (are_rules : AreRule
         }
 
   follows_rests : (entries : List Entry) (claim : Claim) (product : List Bool) (reason : Reason)
-      → ((entry : Entry) → Contains entries entry → RestsOn expanded entry.claim entry.product)
-      → Follows expanded rules entries claim product reason → RestsOn expanded claim product
+      → ((entry : Entry) → Contains entries entry → RestsOn expanded (IsAbout entry.claim) entry.product)
+      → Follows expanded rules entries claim product reason → RestsOn expanded (IsAbout claim) product
   follows_rests entries claim product (Expanded atom place) all (fact, inside, is_atom, is_place, is, has) =
       let own : Has product fact.atom = (has fact.atom).1 is_atom in
       record {
@@ -191,5 +191,5 @@ module _ (expanded : List ExpandedFact) (rules : List Rule) (are_rules : AreRule
 
 pub claims_rest : DerivedClaimsRestOnAtoms
 claims_rest expanded rules entries are_rules derived entry inside =
-    all_derived (RestsOn expanded) expanded rules entries
+    all_derived (λ claim product. RestsOn expanded (IsAbout claim) product) expanded rules entries
     (λ before claim product reason all follows. follows_rests expanded rules are_rules before claim product reason all follows) derived entry inside

@@ -8,7 +8,7 @@ use Rattle.esto_semantics.specs.Facts.{Database, image}
 use Rattle.esto_semantics.specs.Containment.{IsContained}
 use Rattle.esto_semantics.specs.Followed.{IsFollowedBy, IsGiven}
 use Rattle.esto_semantics.specs.Maps.{AreFlat, IsFixedBy, Keeps, Sends, SendsInto}
-use Rattle.esto_semantics.specs.Queries.{ConjunctiveQuery, IsAnswer}
+use Rattle.esto_semantics.specs.Queries.{ConjunctiveQuery, IsQuery, IsAnswer}
 use Rattle.esto_semantics.specs.Rules.{Rule, Meets, AreRules}
 use Rattle.esto_semantics.specs.Sets.{Has}
 use Rattle.esto_semantics.specs.declared.fact.Fact.{Fact}
@@ -147,17 +147,24 @@ abbrev pub IsAbout : Claim → Term → Type 0
 IsAbout (Stated fact) term = Contains fact.terms term
 IsAbout (Same left right) term = (left ≡ term) ⊎ (right ≡ term)
 
--- The claim rests on the atoms: there is one, and each variable that the claim is about stands in an expanded fact of one of them.
-pub record RestsOn (expanded : List ExpandedFact) (claim : Claim) (atoms : List Bool) : Type 0 where
+-- What is about some terms rests on the atoms: there is one, and each variable among these terms stands in an expanded fact of one of them.
+pub record RestsOn (expanded : List ExpandedFact) (About : Term → Type 0) (atoms : List Bool) : Type 0 where
   pub some : (number : ℕ) × Has atoms number
-  pub variables : (variable : ℕ) → IsAbout claim (Plain variable)
+  pub variables : (variable : ℕ) → About (Plain variable)
       → (fact : ExpandedFact) × Contains expanded fact × Has atoms fact.atom × Contains fact.fact.terms (Plain variable)
 
 -- Each derived claim rests on the atoms of its product.
 abbrev pub DerivedClaimsRestOnAtoms : Type 0
 DerivedClaimsRestOnAtoms =
     (expanded : List ExpandedFact) (rules : List Rule) (entries : List Entry) → AreRules rules → AreDerived expanded rules entries
-    → (entry : Entry) → Contains entries entry → RestsOn expanded entry.claim entry.product
+    → (entry : Entry) → Contains entries entry → RestsOn expanded (IsAbout entry.claim) entry.product
+
+-- A match of a query in the world of some atoms, with its head one with the targets, rests on these atoms, with the variables among the targets.
+abbrev pub MatchesRestOnAtoms : Type 0
+MatchesRestOnAtoms =
+    (expanded : List ExpandedFact) (rules : List Rule) (entries : List Entry) (atoms : List Bool) (query : ConjunctiveQuery) (targets : List Term)
+    → AreRules rules → AreDerived expanded rules entries → IsQuery query → HasMatch (InWorld entries atoms) query.head query.body targets
+    → RestsOn expanded (Contains targets) atoms
 
 -- ---- bounds
 

@@ -1,7 +1,7 @@
 //! Laws of entries and of their worlds.
 ghost use Rattle.esto_world_laws.specs.Laws.{DerivedEntriesAreSound, BrokenWorldsAreReceivedNowhere, CompleteEntriesAreClosed, ClosedWorldsAreDatabases};
 ghost use Rattle.esto_world_laws.specs.Laws.{MatchesAreDirect, DerivedFactsNestWithinRanks, DerivedEntriesAreFew, DerivedEntriesAreReasoned};
-ghost use Rattle.esto_world_laws.specs.Laws.{MatchesShowContainment, ContainmentShowsMatches, DerivedClaimsRestOnAtoms};
+ghost use Rattle.esto_world_laws.specs.Laws.{MatchesShowContainment, ContainmentShowsMatches, DerivedClaimsRestOnAtoms, MatchesRestOnAtoms};
 
 use esto_semantics::{
     universal_instances_decide_containment, what_follows_the_facts_follows_the_query,
@@ -49,6 +49,12 @@ pub fn matches_decide_containment()
 /// one of its atoms.
 pub fn derived_claims_rest_on_atoms()
     ensures { DerivedClaimsRestOnAtoms }
+{}
+
+/// A law: a match of a query in the world of some atoms rests on an atom at least, and each variable that its head is one
+/// with stands in an expanded fact of one of them.
+pub fn matches_rest_on_atoms()
+    ensures { MatchesRestOnAtoms }
 {}
 
 /// A law: under ranks that rise, the terms of derived facts nest no deeper than the ranks of their relations, and derived

@@ -40,7 +40,7 @@ returns-clause-tell c set over =
     (rules-are c.args.catalogue.now.rules c.rules_are_sound.ensures.rules) is_query sound_plan is_plan c.requires.universal
     c.queries_have_starts.ensures.body c.an_expansion_of_a_plan_expands_its_candidates.ensures c.an_expansion_means_the_same.ensures.answers
     c.chosen_atoms_are_named.ensures c.candidates_contain_the_query.ensures.equivalent c.matches_decide_containment.ensures.shown
-    c.matches_decide_containment.ensures.found c.derived_claims_rest_on_atoms.ensures set over c.requires.satisfiable in
+    c.matches_decide_containment.ensures.found c.matches_rest_on_atoms.ensures set over c.requires.satisfiable in
     let tell = matched c.in_ok-found.found.sets set c.args.entries.now c.items.result.now query.head query.body c.items-2.result.now plan.head
     c.items-3.result.now c.items.ensures c.items-2.ensures c.items-3.ensures (c.in_ok-found.ensures.tell set) in
     (λ covers. answers.0 (tell.0 covers), λ holds. tell.1 (answers.1 holds))

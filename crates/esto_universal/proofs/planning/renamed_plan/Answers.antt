@@ -12,5 +12,5 @@ invariant_of-result c = record {
 pub returns : goal.returns
 returns c =
     renamed_is c.args.names.now c.args.rows.now c.args.head.now c.in_ok-seen.seen c.in_ok-seen.ensures
-    _ (rw c.in_ok-indexed.ensures at c.in_ok-atoms.ensures)
+    c.in_ok-atoms.atoms c.in_ok-new_head.new_head c.in_ok-new_names.new_names (rw c.in_ok-indexed.ensures at c.in_ok-atoms.ensures)
     (rw c.in_ok-indexed.ensures at c.in_ok-new_head.ensures ∙ ap (map (numbered 0 c.in_ok-seen.seen)) c.items.ensures) c.in_ok-new_names.ensures

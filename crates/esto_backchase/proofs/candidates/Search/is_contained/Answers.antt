@@ -11,7 +11,7 @@ use Rattle.esto_constraint.specs.Constraints.{rules_of}
 use Rattle.esto_query.specs.Making.{query_of}
 use Rattle.esto_instance.specs.Instances.{state_of}
 use Rattle.esto_backchase.specs.Candidates.{facts_chosen}
-use Rattle.esto_backchase.proofs.CandidateLemmas.{chosen-starts, contained-clashed, contained-mapped, left-says, mapped-at, right-says, rules-are}
+use Rattle.esto_backchase.proofs.CandidateLemmas.{chosen-starts, contained-clashed, contained-mapped, left-says, right-says, rules-are}
 use Rattle.esto_backchase.proofs.candidates.Search.is_contained.Goals as goal
 
 pub facts_chosen-requires : goal.facts_chosen-requires
@@ -53,8 +53,7 @@ returns-in-Left c =
     c.queries_have_starts.ensures.body rules (query_of it.query.now) c.an_expansion_of_a_plan_expands_its_candidates.ensures
     c.an_expansion_means_the_same.ensures.contained (rules-are it.catalogue.now.rules c.rules_are_sound.ensures.rules)
     (state_of c.in_ok-start.start) end start_is universal run.finished in
-    let mapped = mapped-at (query_of it.query.now) c.head.result.now end.head c.facts-in-Left.result.now end.body c.head.ensures c.facts-in-Left.ensures
-    c.in_ok-mapped-in-Left.mapped c.in_ok-mapped-in-Left.ensures in
+    let mapped = c.in_ok-mapped-in-Left.ensures in
     (λ holds. contained.1 (mapped.0 holds), λ is. mapped.1 (contained.0 is))
 
 pub returns : goal.returns

@@ -1,18 +1,24 @@
--- A valuation that sends one row to another, found as a match of the one row in the other.
-use Rattle.std.proofs.Common.{◌≡◌, ◌↔◌, inl, inr, ℕ, zero, suc, List, [], ◌∷◌, Some, map, Contains, refl, sym, ap, subst, ◌∙◌}
+-- A valuation that sends one row to another, found as a match of the one row in the other, and a query's match that goes on from it.
+use Rattle.std.proofs.Common.{Option, None, Some, IsTrue, IfSome, IfNone, ◌≡◌, ◌↔◌, inl, inr, ℕ, zero, suc, Bool, List, [], ◌∷◌, map, Contains, refl, sym, ap}
+use Rattle.std.proofs.Common.{subst, ◌∙◌}
+use Rattle.std.proofs.lemmas.Bool.{false≢true}
 use Rattle.std.specs.Bool.{⊤}
+use Rattle.std.specs.Option.{is_some}
 use Rattle.std.specs.FinMap.{get, empty, get-empty}
 use Rattle.std.specs.Ordering.{nat_cmp}
 use Rattle.std.proofs.lemmas.Option.{none-some, same_Some}
 use Rattle.esto_term.specs.declared.term.Term.{Term}
 use Rattle.esto_term.specs.declared.term.Term.TheVariants.{Const}
 use Rattle.esto_term.proofs.ListLemmas.{Contains-cases, Contains-nil}
-use Rattle.esto_semantics.specs.Maps.{AreFlat, IsFlat, Keeps}
+use Rattle.esto_semantics.specs.Instances.{MapsTo}
+use Rattle.esto_semantics.specs.Maps.{AreFlat, IsFlat, Keeps, Sends}
 use Rattle.esto_semantics.specs.Matches.{IsMatch}
+use Rattle.esto_semantics.specs.Queries.{ConjunctiveQuery}
 use Rattle.esto_semantics.specs.declared.fact.Fact.{Fact}
 use Rattle.esto_query.specs.Matches.{IsLeastMatch, HasNoMatch}
 use Rattle.esto_query.specs.Valuations.{Assignment, Extends, map_of}
-use Rattle.esto_backchase.specs.Candidates.{row_fact, NoneSends, IsStart}
+use Rattle.esto_query.specs.declared.matches.Found.{Found}
+use Rattle.esto_instance.specs.Receiving.{row_fact, NoneSends, IsSending}
 
 -- every map extends the empty valuation
 extends-empty : (m : Term → Term) (valuation : Assignment) → valuation ≡ empty → Extends m valuation
@@ -51,7 +57,7 @@ module _ (terms targets : List Term) where
 
     pub match-starts : (keeps : (valuation : Assignment) → Keeps Const (map_of valuation))
         → (extends : (valuation : Assignment) → Extends (map_of valuation) valuation)
-        → (valuation : Assignment) (places : List ℕ) → IsLeastMatch body facts start (λ _. ⊤) valuation places → IsStart terms targets valuation
+        → (valuation : Assignment) (places : List ℕ) → IsLeastMatch body facts start (λ _. ⊤) valuation places → IsSending terms targets valuation
     match-starts keeps extends valuation places least m keeps_m =
         let own = (least.is_found.exact (map_of valuation) (keeps valuation)).0 (extends valuation) in
         let place = (match-row (map_of valuation) places ((moved (map_of valuation) places).0 own.1)).0 in (
@@ -64,3 +70,25 @@ module _ (terms targets : List Term) where
 
     pub none-starts : HasNoMatch body facts start (λ _. ⊤) → NoneSends terms targets
     none-starts none m keeps sent = none m (0 ∷ []) keeps (extends-empty m start start_is) ((moved m (0 ∷ [])).1 (row-match m sent)) tt
+
+-- ---- a match that says that a query maps to facts, head to head
+
+module _ (query target : ConjunctiveQuery) (start : Assignment) (is_start : IsSending query.head target.head start)
+    (send : (m : Term → Term) (body facts : List (Fact Term)) → Sends m body facts ↔ ((places : List ℕ) × IsMatch m body facts places))
+    (keeps : (valuation : Assignment) → Keeps Const (map_of valuation)) (extends : (valuation : Assignment) → Extends (map_of valuation) valuation) where
+  match-maps : (valuation : Assignment) (places : List ℕ) → IsLeastMatch query.body target.body start (λ _. ⊤) valuation places → MapsTo query target
+  match-maps valuation places least =
+      let m = map_of valuation in
+      let both = (least.is_found.exact m (keeps valuation)).0 (extends valuation) in
+      (m, keeps valuation, (send m query.body target.body).1 (places, both.1), (is_start m (keeps valuation)).0 both.0)
+
+  none-maps : HasNoMatch query.body target.body start (λ _. ⊤) → MapsTo query target → ⊥
+  none-maps none maps =
+      let there = (send maps.0 query.body target.body).0 maps.2 in
+      none maps.0 there.0 maps.1 ((is_start maps.0 maps.1).1 maps.3) there.1 tt
+
+  pub found-maps : (outcome : Option Found)
+      → IfSome outcome (λ found. IsLeastMatch query.body target.body start (λ _. ⊤) found.valuation found.places)
+      → IfNone outcome (HasNoMatch query.body target.body start (λ _. ⊤)) → (answer : Bool) → answer ≡ is_some outcome → IsTrue answer ↔ MapsTo query target
+  found-maps (Some found) some none answer is = (λ _. match-maps found.valuation found.places some, λ _. is)
+  found-maps None some none answer is = (λ holds. absurd (false≢true (sym is ∙ holds)), λ maps. absurd (none-maps none maps))

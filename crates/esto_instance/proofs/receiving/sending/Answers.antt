@@ -2,8 +2,8 @@ use Rattle.std.proofs.Common.{IfNone, IfSome, subst}
 use Rattle.std.specs.Bool.{⊤}
 use Rattle.esto_query.specs.Matches.{HasNoMatch, IsLeastMatch}
 use Rattle.esto_query.specs.declared.matches.Found.{Found}
-use Rattle.esto_backchase.proofs.StartLemmas.{match-starts, none-starts, row-flat}
-use Rattle.esto_backchase.proofs.candidates.sending.Goals as goal
+use Rattle.esto_instance.proofs.ReceivingLemmas.{match-starts, none-starts, row-flat}
+use Rattle.esto_instance.proofs.receiving.sending.Goals as goal
 
 pub first_match-requires : goal.first_match-requires
 first_match-requires c = row-flat c.args.terms.now c.in_ok-body.body c.in_ok-body.ensures c.requires

@@ -1,0 +1,5 @@
+pub mod ToldLemmas
+pub mod NumberedLemmas
+pub mod PartLemmas
+pub mod MinimisedLemmas
+pub mod AlikeLemmas
