@@ -2,7 +2,7 @@
 
 use crate::printing::put_bytes;
 use crate::reading::{Refused, number, text};
-use esto_ports::{FolderShelf, MemoryShelf, MemorySink, OutSink};
+use esto_ports::{FolderShelf, MemoryShelf, MemorySink, OutSink, Shelf, Sink};
 use esto_term::{Bytes, List, Replicate, Text};
 use esto_top::mediate;
 use std::alloc::Global;
@@ -49,6 +49,11 @@ fn words_of(alloc: Global, line: &str) -> Result<List<Text>, Refused> {
         words.push(text(alloc, word)?)?;
     }
     Ok(words)
+}
+
+// The code of the status that a command line over a shelf and a sink ends with.
+fn code_of<S: Shelf, O: Sink>(alloc: Global, words: &[Text], shelf: &mut S, out: &mut O) -> u8 {
+    mediate(alloc, words, shelf, out).code()
 }
 
 // The shelf of the files.
@@ -104,7 +109,7 @@ impl FileSet {
         let mut out = MemorySink::new(alloc);
         shelf.fail_at(failure.fetch)?;
         out.fail_at(failure.put, failure.kept)?;
-        let code = mediate(alloc, words.items(), &mut shelf, &mut out).code();
+        let code = code_of(alloc, words.items(), &mut shelf, &mut out);
         Ok((out, code))
     }
 
@@ -152,7 +157,7 @@ pub fn run_on_machine<R: Files + Print>(rt: &R, alloc: Global, line: &str) -> Re
     let words = words_of(alloc, line)?;
     let mut shelf = FolderShelf::new(rt);
     let mut out = OutSink::new(rt);
-    let code = mediate(alloc, words.items(), &mut shelf, &mut out).code();
+    let code = code_of(alloc, words.items(), &mut shelf, &mut out);
     let _ = println!(rt; "status {code}");
     Ok(())
 }

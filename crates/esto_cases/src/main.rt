@@ -39,13 +39,18 @@ fn script_of<R: Files>(rt: &R, alloc: Global, name: &str) -> Result<Text, Refuse
     }
 }
 
-// Does what the lines of a script say, one after the other.
+// Does what the lines say, one after the other.
+fn obey_lines<R: Files + Print>(rt: &R, alloc: Global, script: &mut Script, lines: &str) {
+    'lines: for line in lines.split('\n') {
+        script.obey(rt, alloc, line);
+    }
+}
+
+// Does what the lines of a script say.
 fn obey_all<R: Files + Print>(rt: &R, alloc: Global, name: &str) -> Result<(), Refused> {
     let lines = script_of(rt, alloc, name)?;
     let mut script = Script::new(alloc)?;
-    'lines: for line in lines.as_str().split('\n') {
-        script.obey(rt, alloc, line);
-    }
+    obey_lines(rt, alloc, &mut script, lines.as_str());
     Ok(())
 }
 

@@ -4,7 +4,7 @@ use crate::contents::{put_constraint, put_dataset, put_fragment, put_line};
 use crate::files::{FileSet, run_on_machine};
 use crate::models::{put_codes, put_inside, put_key_row, put_table};
 use crate::reading::Refused;
-use crate::sets::{put_joined, put_products, put_union};
+use crate::sets::ask_sets;
 use crate::stage::Stage;
 use crate::terms::put_terms;
 use std::alloc::Global;
@@ -34,6 +34,16 @@ fn is_setting(word: &str) -> bool {
         "rules",
     ];
     words.contains(&word)
+}
+
+// Answers what the words ask of rows, documents and codes.
+fn ask_model<R: Print>(rt: &R, alloc: Global, word: &str, rest: &str) -> Result<(), Refused> {
+    match word {
+        "table" => put_table(rt, alloc, rest),
+        "key_row" => put_key_row(rt, alloc, rest),
+        "codes" => put_codes(rt, alloc, rest),
+        _ => put_inside(rt, alloc, rest),
+    }
 }
 
 impl Script {
@@ -69,6 +79,27 @@ impl Script {
         Ok(())
     }
 
+    // Answers what the words ask of what lines have set.
+    fn ask_stage<R: Print>(
+        &mut self,
+        rt: &R,
+        alloc: Global,
+        word: &str,
+        rest: &str,
+    ) -> Result<(), Refused> {
+        match word {
+            "plan" => self.stage.set_plan(rt, alloc, rest),
+            "listed" => self.stage.set_listed(rt, alloc, rest),
+            _ => {
+                if word.starts_with("make_") {
+                    self.stage.make(rt, alloc, word, rest)
+                } else {
+                    self.stage.ask(rt, alloc, word, rest)
+                }
+            }
+        }
+    }
+
     // Answers what the words ask.
     fn ask<R: Files + Print>(
         &mut self,
@@ -82,22 +113,9 @@ impl Script {
             "ends" => self.files.run_for_ends(rt, alloc, rest),
             "machine" => run_on_machine(rt, alloc, rest),
             "terms" => put_terms(rt, alloc),
-            "table" => put_table(rt, alloc, rest),
-            "key_row" => put_key_row(rt, alloc, rest),
-            "codes" => put_codes(rt, alloc, rest),
-            "inside" => put_inside(rt, alloc, rest),
-            "products" => put_products(rt, alloc, rest),
-            "union" => put_union(rt, alloc, rest),
-            "joined" => put_joined(rt, alloc, rest),
-            "plan" => self.stage.set_plan(rt, alloc, rest),
-            "listed" => self.stage.set_listed(rt, alloc, rest),
-            _ => {
-                if word.starts_with("make_") {
-                    self.stage.make(rt, alloc, word, rest)
-                } else {
-                    self.stage.ask(rt, alloc, word, rest)
-                }
-            }
+            "table" | "key_row" | "codes" | "inside" => ask_model(rt, alloc, word, rest),
+            "products" | "union" | "joined" => ask_sets(rt, alloc, word, rest),
+            _ => self.ask_stage(rt, alloc, word, rest),
         }
     }
 

@@ -41,16 +41,24 @@ fn count_of(line: &str) -> Option<(usize, &str)> {
     }
 }
 
-/// A line of each set, in the order of the words, and then the kept ones, sorted. The first word is what the numbers are
-/// below.
-pub fn put_products<R: Print>(rt: &R, alloc: Global, line: &str) -> Result<(), Refused> {
-    let Some((count, words)) = count_of(line) else {
-        return Err(Refused);
-    };
-    let mut products = Products::new(alloc, count);
+// A line of each set, in the order of the words.
+fn put_all_added<R: Print>(
+    rt: &R,
+    alloc: Global,
+    products: &mut Products,
+    words: &str,
+) -> Result<(), Refused> {
     'words: for word in words.split(' ') {
-        put_added(rt, alloc, &mut products, &set(alloc, word, count)?)?;
+        let set = set(alloc, word, products.count())?;
+        put_added(rt, alloc, products, &set)?;
     }
+    Ok(())
+}
+
+// A line of each set, in the order of the words, and then the kept ones, sorted.
+fn put_products<R: Print>(rt: &R, alloc: Global, count: usize, words: &str) -> Result<(), Refused> {
+    let mut products = Products::new(alloc, count);
+    put_all_added(rt, alloc, &mut products, words)?;
     let sorted = products.sorted(alloc)?;
     put_sets(rt, sorted.items());
     Ok(())
@@ -69,19 +77,21 @@ fn products_of(alloc: Global, count: usize, words: &str) -> Result<Products, Ref
     Ok(products)
 }
 
-/// The first set with the numbers of each kept one of the others. The first word is what the numbers are below.
-pub fn put_union<R: Print>(rt: &R, alloc: Global, line: &str) -> Result<(), Refused> {
-    let Some((count, words)) = count_of(line) else {
-        return Err(Refused);
-    };
+// Puts the numbers of each kept set into the union.
+fn unite(products: &Products, union: &mut RowBits) {
+    'places: for place in 0..products.len() {
+        if union.count() == products.count() {
+            products.union_into(place, union);
+        }
+    }
+}
+
+// The first set with the numbers of each kept one of the others.
+fn put_union<R: Print>(rt: &R, alloc: Global, count: usize, words: &str) -> Result<(), Refused> {
     let (first, others) = words.split_once(' ').unwrap_or((words, ""));
     let mut union = set(alloc, first, count)?;
     let products = products_of(alloc, count, others)?;
-    'places: for place in 0..products.len() {
-        if union.count() == products.count() {
-            products.union_into(place, &mut union);
-        }
-    }
+    unite(&products, &mut union);
     put_set(rt, &union);
     Ok(())
 }
@@ -98,13 +108,22 @@ fn joined(alloc: Global, count: usize, left: &str, right: &str) -> Result<SetLis
     Ok(sorted)
 }
 
-/// The minimal unions of a set before `|` and one after it. The first word is what the numbers are below.
-pub fn put_joined<R: Print>(rt: &R, alloc: Global, line: &str) -> Result<(), Refused> {
-    let Some((count, words)) = count_of(line) else {
-        return Err(Refused);
-    };
+// The minimal unions of a set before `|` and one after it.
+fn put_joined<R: Print>(rt: &R, alloc: Global, count: usize, words: &str) -> Result<(), Refused> {
     let (left, right) = words.split_once(" | ").unwrap_or((words, "-"));
     let sorted = joined(alloc, count, left, right)?;
     put_sets(rt, sorted.items());
     Ok(())
+}
+
+/// Answers what the words ask of sets. The first word of the line is what the numbers are below.
+pub fn ask_sets<R: Print>(rt: &R, alloc: Global, word: &str, line: &str) -> Result<(), Refused> {
+    let Some((count, words)) = count_of(line) else {
+        return Err(Refused);
+    };
+    match word {
+        "products" => put_products(rt, alloc, count, words),
+        "union" => put_union(rt, alloc, count, words),
+        _ => put_joined(rt, alloc, count, words),
+    }
 }

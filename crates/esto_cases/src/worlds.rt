@@ -1,10 +1,11 @@
 //! The list of a query by both of its bodies, and the entries of the conditional chase that it comes from.
+ghost use Rattle.std.specs.Prelude.{◌<◌, length, IfSome};
 
 use crate::printing::{put_members, put_numbers, put_sets, put_term, put_terms};
 use crate::reading::Refused;
 use either::{Left, Right};
 use esto_backchase::{Backchase, minimal_sets, minimal_sets_plain};
-use esto_bits::RowBits;
+use esto_bits::{Products, RowBits};
 use esto_catalog::Catalogue;
 use esto_prov::{Claim, Entries, Entry, Reason, Why};
 use esto_query::Query;
@@ -24,6 +25,25 @@ fn are_same(sets: &[RowBits], others: &[RowBits]) -> bool {
     true
 }
 
+// The sets, sorted, and whether the others are the same.
+fn put_compared<R: Print>(
+    rt: &R,
+    alloc: Global,
+    sets: &Products,
+    others: &Products,
+) -> Result<(), Refused> {
+    let sets = sets.sorted(alloc)?;
+    let others = others.sorted(alloc)?;
+    put_sets(rt, sets.items());
+    let found = if are_same(sets.items(), others.items()) {
+        "the same"
+    } else {
+        "others"
+    };
+    let _ = println!(rt; "the plain search finds {found}");
+    Ok(())
+}
+
 /// The sets of the query's list, sorted, and whether the plain search finds the same ones. The answer has the entries that
 /// the list comes from. A query that is not satisfiable has none.
 pub fn put_listed<R: Print>(
@@ -39,15 +59,7 @@ pub fn put_listed<R: Print>(
             }
             let plain = minimal_sets_plain(alloc, &plan, query, catalogue)?;
             let Backchase { entries, sets } = minimal_sets(alloc, &plan, query, catalogue)?;
-            let sets = sets.sorted(alloc)?;
-            let others = plain.sorted(alloc)?;
-            put_sets(rt, sets.items());
-            let found = if are_same(sets.items(), others.items()) {
-                "the same"
-            } else {
-                "others"
-            };
-            let _ = println!(rt; "the plain search finds {found}");
+            put_compared(rt, alloc, &sets, &plain)?;
             Ok(entries)
         }
         Right(_) => Err(Refused),
@@ -102,7 +114,9 @@ pub fn put_entries<R: Print>(rt: &R, entries: &Entries) {
 }
 
 // The number of an entry that a word writes.
-fn place_of(entries: &Entries, word: &str) -> Option<usize> {
+fn place_of(entries: &Entries, word: &str) -> Option<usize>
+    ensures { IfSome result (λ place. place < length entries.now) }
+{
     match word.parse::<usize>() {
         Ok(place) if place < entries.len() => Some(place),
         _ => None,
