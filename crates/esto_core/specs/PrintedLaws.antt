@@ -54,8 +54,7 @@ PrintedCoreHasNoRetract =
     (core : Bool) (rules : List Rule) (views : List ConjunctiveQuery) (names : List Name) (query : ConjunctiveQuery) (plan : Plan)
     → IsTrue core → IsPrintedPlan core rules views names query plan → HasNoRetract (plan_query plan)
 
--- Where the core is asked for, the printed plan is the only core for the query: where it is safe and has an atom, each universal plan of the query, over constants
--- and variables, that retracts into no proper sublist of itself is the printed plan under a renaming, but for the order of its atoms.
+-- Where the core is asked for, the printed plan is the only core for the query.
 abbrev pub PrintedCoreIsOneForAQuery : Type 0
 PrintedCoreIsOneForAQuery =
     (core : Bool) (rules : List Rule) (views : List ConjunctiveQuery) (names : List Name) (query : ConjunctiveQuery) (plan : Plan)
