@@ -1,5 +1,5 @@
 -- The cored plan: its terms are flat, it maps to the plan and back, and it is one.
-use Rattle.std.proofs.Common.{◌≡◌, ◌≢◌, inl, inr, List, [], map, length, slice_get, Contains, sym, ap, ◌∙◌, subst}
+use Rattle.std.proofs.Common.{◌≡◌, inl, inr, List, length, slice_get, Contains, sym, ap, ◌∙◌, subst}
 use Rattle.std.proofs.lemmas.List.{length-map}
 use Rattle.esto_term.specs.declared.term.Term.{Term}
 use Rattle.esto_term.proofs.ListLemmas.{Contains-map, Contains-map_from}

@@ -10,7 +10,7 @@ use Rattle.std.proofs.lemmas.Option.{get_or_from_slice_get}
 use Rattle.esto_term.specs.declared.term.Term.{Term}
 use Rattle.esto_term.specs.declared.term.Term.TheVariants.{Const}
 use Rattle.esto_term.proofs.DistinctLemmas.{after_push, length_split, split_cases, split_more, split_thing}
-use Rattle.esto_term.proofs.ListLemmas.{Contains-at, Contains-cases, Contains-head, Contains-rest, thing_at}
+use Rattle.esto_term.proofs.ListLemmas.{Contains-cases, Contains-head, Contains-rest, thing_at}
 use Rattle.esto_semantics.specs.Maps.{AreFlat, Keeps, Sends}
 use Rattle.esto_semantics.specs.Matches.{IsMatch}
 use Rattle.esto_semantics.specs.declared.fact.Fact.{Fact}

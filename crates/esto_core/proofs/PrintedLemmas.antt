@@ -1,19 +1,25 @@
--- The printed plan: it is one, and what cored plans keep of a plan it keeps too.
-use Rattle.std.proofs.Common.{◌≡◌, ◌≢◌, Bool, true, false, IsTrue, List, [], sym, ap, subst, ◌∙◌}
+-- The printed plan: it is one, what cored plans keep of a plan it keeps too, and its head is as long as the query's.
+use Rattle.std.proofs.Common.{◌≡◌, ◌≢◌, Bool, true, false, IsTrue, List, [], ◌∷◌, map, length, Contains, inl, inr, sym, ap, subst, ◌∙◌}
 use Rattle.std.proofs.lemmas.Bool.{false≢true}
+use Rattle.std.proofs.lemmas.List.{length-map}
 use Rattle.std.specs.Prelude.{AllPairs}
+use Rattle.esto_term.specs.declared.term.Term.{Term}
+use Rattle.esto_term.proofs.ListLemmas.{Contains-cases, Contains-head, Contains-nil}
+use Rattle.esto_semantics.specs.Containment.{IsSatisfiable}
+use Rattle.esto_semantics.specs.Instances.{MapsTo}
 use Rattle.esto_semantics.specs.Queries.{ConjunctiveQuery}
-use Rattle.esto_semantics.specs.Rules.{Rule, AreRules}
+use Rattle.esto_semantics.specs.Rules.{Rule}
+use Rattle.esto_semantics.specs.Unions.{ReceivesUnions}
+use Rattle.esto_semantics.specs.declared.fact.Value.{Value}
 use Rattle.esto_plan_laws.specs.CoreLaws.{CoreIsDistinct}
 use Rattle.esto_plan_laws.specs.Cores.{AreLeft, HasNoRetract}
-use Rattle.esto_query.specs.declared.query.Name.{Name}
 use Rattle.esto_views.specs.Plans.{plan_query}
 use Rattle.esto_views.specs.declared.plan.Plan.{Plan}
 use Rattle.esto_universal.specs.PlannedLaws.{PlanOfRunIsOne}
 use Rattle.esto_universal.specs.Stated.{IsRenamedPlan}
 use Rattle.esto_core.specs.Cored.{IsCoredPlan}
 use Rattle.esto_core.specs.CoredLaws.{CoredIsCore, CoredHasNoRetract, CoredIsOne}
-use Rattle.esto_core.specs.Printed.{IsPrintedOf, IsPrintedPlan}
+use Rattle.esto_core.specs.Printed.{IsPrintedOf}
 use Rattle.esto_core.specs.PrintedLaws.{PrintedPlanIsOne}
 
 -- what holds of a plan, and of the cored plan of each plan of which it holds, holds of what is printed of it
@@ -54,3 +60,23 @@ pub printed_plan-one : PlanOfRunIsOne → CoredIsOne → PrintedPlanIsOne
 printed_plan-one one cored_one core rules views names query plan other are_rules printed again =
     let same = one rules views names query printed.stated again.stated are_rules printed.of_run again.of_run in
     printed-one cored_one core printed.stated again.stated plan other same.0 same.1 printed.printed again.printed
+
+-- ---- the head
+
+only_one : {A : Type 0} (one other : A) → Contains (one ∷ []) other → one ≡ other
+only_one one other inside = elim (Contains-cases one [] other inside) [ inl is ↦ is | inr later ↦ absurd (Contains-nil other later) ]
+
+-- two lists of terms that one row is made of are of one length
+one_length : (one other : Term → Value) (terms others : List Term) (row : List Value) → row ≡ map one terms → row ≡ map other others
+    → length terms ≡ length others
+one_length one other terms others row is is_other =
+    sym (length-map terms one) ∙ sym (ap length is) ∙ ap length is_other ∙ length-map others other
+
+-- the head of a plan that receives unions for a satisfiable query is as long as the query's, since the plan answers what the query answers
+pub same_length-received : (rules : List Rule) (views : List ConjunctiveQuery) (query plan : ConjunctiveQuery) → MapsTo plan plan
+    → ReceivesUnions rules views query plan → IsSatisfiable rules query → length plan.head ≡ length query.head
+same_length-received rules views query plan own receives (database, meets, (row, answer)) =
+    let contained = (receives (plan ∷ [])).1 (plan, Contains-head plan [], own) in
+    let (other, inside, found) = contained database meets row answer in
+    ap (λ (it : ConjunctiveQuery). length it.head) (only_one plan other inside)
+    ∙ one_length found.0 answer.0 other.head query.head row found.3 answer.3

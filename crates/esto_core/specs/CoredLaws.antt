@@ -1,17 +1,15 @@
 -- Laws of cored plans.
-use Rattle.std.specs.Prelude.{◌≡◌, ◌≢◌, List, [], length, Contains}
-use Rattle.esto_term.specs.declared.term.Term.{Term}
+use Rattle.std.specs.Prelude.{◌≡◌, List, length}
 use Rattle.esto_semantics.specs.Instances.{MapsTo}
-use Rattle.esto_semantics.specs.Maps.{AreFlat, IsFixedBy}
 use Rattle.esto_semantics.specs.Plans.{IsUniversalPlan}
 use Rattle.esto_semantics.specs.Queries.{ConjunctiveQuery}
 use Rattle.esto_semantics.specs.Rules.{Rule}
 use Rattle.esto_semantics.specs.Unions.{ReceivesUnions}
-use Rattle.esto_plan_laws.specs.Cores.{IsCore, HasNoRetract, IsRenamedTo}
+use Rattle.esto_plan_laws.specs.Cores.{IsCore, HasNoRetract}
 use Rattle.esto_views.specs.Plans.{plan_query, IsPlanOver}
 use Rattle.esto_views.specs.declared.fragments.FragmentDef.{FragmentDef}
 use Rattle.esto_views.specs.declared.plan.Plan.{Plan}
-use Rattle.esto_core.specs.Cored.{IsCoredPlan, IsPart}
+use Rattle.esto_core.specs.Cored.{IsCoredPlan, IsPart, IsOnlyCore}
 
 -- The cored plan is some of the plan's atoms, in order, under new names.
 abbrev pub CoredIsPart : Type 0
@@ -55,11 +53,9 @@ abbrev pub CoredIsOne : Type 0
 CoredIsOne =
     (plan cored other : Plan) → IsCoredPlan plan cored → IsCoredPlan plan other → (plan_query cored ≡ plan_query other) × (cored.names ≡ other.names)
 
--- Where the cored plan of a universal plan of a query is safe and has an atom, each universal plan of the query that is a core is the cored plan under a
--- renaming, but for the order of its atoms.
+-- The cored plan of a universal plan of a query is the only core for the query.
 abbrev pub CoredIsOneForAQuery : Type 0
 CoredIsOneForAQuery =
-    (rules : List Rule) (views : List ConjunctiveQuery) (query other : ConjunctiveQuery) (plan cored : Plan)
+    (rules : List Rule) (views : List ConjunctiveQuery) (query : ConjunctiveQuery) (plan cored : Plan)
     → length plan.head ≡ length query.head → IsUniversalPlan rules views query (plan_query plan) → IsCoredPlan plan cored
-    → ((term : Term) → Contains cored.head term → IsFixedBy (plan_query cored).body term) → (plan_query cored).body ≢ [] → AreFlat other.body
-    → IsUniversalPlan rules views query other → IsCore other → IsRenamedTo (plan_query cored) other
+    → IsOnlyCore rules views query (plan_query cored)

@@ -14,6 +14,7 @@ use Rattle.esto_views.specs.declared.plan.Plan.{Plan}
 use Rattle.esto_chase_laws.specs.Runs.{start_of}
 use Rattle.esto_chase_laws.specs.declared.clash.Clash.{Clash}
 use Rattle.esto_chase.specs.Chased.{RunClashes}
+use Rattle.esto_core.specs.Cored.{IsOnlyCore}
 use Rattle.esto_core.specs.Printed.{IsPrintedPlan}
 
 -- A query has one printed plan.
@@ -52,6 +53,12 @@ abbrev pub PrintedCoreHasNoRetract : Type 0
 PrintedCoreHasNoRetract =
     (core : Bool) (rules : List Rule) (views : List ConjunctiveQuery) (names : List Name) (query : ConjunctiveQuery) (plan : Plan)
     → IsTrue core → IsPrintedPlan core rules views names query plan → HasNoRetract (plan_query plan)
+
+-- Where the core is asked for, the printed plan is the only core for the query.
+abbrev pub PrintedCoreIsOneForAQuery : Type 0
+PrintedCoreIsOneForAQuery =
+    (core : Bool) (rules : List Rule) (views : List ConjunctiveQuery) (names : List Name) (query : ConjunctiveQuery) (plan : Plan)
+    → AreRules rules → IsQuery query → IsTrue core → IsPrintedPlan core rules views names query plan → IsOnlyCore rules views query (plan_query plan)
 
 -- The printed plan is over the fragments whose views it is made of.
 abbrev pub PrintedPlanIsOver : Type 0

@@ -109,12 +109,13 @@ pub fn cored_plans_are_determined()
 }
 
 /// A law: where the cored plan of a universal plan of a query is safe and has an atom, each universal plan of the query that
-/// is a core is the cored plan under a renaming, but for the order of its atoms.
+/// retracts into no proper sublist of itself is the cored plan under a renaming, but for the order of its atoms.
 pub fn cored_plans_are_one_for_a_query()
     ensures { CoredIsOneForAQuery }
 {
     plans_are_sound();
     cored_plans_are_cores();
     cored_plans_are_universal();
+    cores_have_no_retract();
     cores_are_one();
 }

@@ -10,6 +10,7 @@ pub use cored::{
     cored_plans_are_universal,
 };
 pub use printed::{
-    printed_plan, printed_plans_are_one, printed_plans_are_over_fragments,
-    printed_plans_are_universal, printed_plans_tell_satisfiable_queries,
+    printed_cores_are_one_for_a_query, printed_plan, printed_plans_are_one,
+    printed_plans_are_over_fragments, printed_plans_are_universal,
+    printed_plans_tell_satisfiable_queries,
 };

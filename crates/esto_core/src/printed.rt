@@ -15,6 +15,7 @@ ghost use Rattle.esto_core.specs.Printed.{IsPrintedOf, IsPrintedPlan};
 ghost use Rattle.esto_core.specs.PrintedLaws.{PrintedPlanIsOne, PrintedPlanExcludesClash};
 ghost use Rattle.esto_core.specs.PrintedLaws.{PrintedIsSatisfiable, PrintedPlanReceivesUnions};
 ghost use Rattle.esto_core.specs.PrintedLaws.{PrintedPlanIsUniversal, PrintedCoreHasNoRetract};
+ghost use Rattle.esto_core.specs.PrintedLaws.{PrintedCoreIsOneForAQuery};
 ghost use Rattle.esto_core.specs.PrintedLaws.{PrintedPlanIsOver, PrintedPlanHasDistinctAtoms};
 
 use crate::cored::{
@@ -24,14 +25,15 @@ use either::{Either, Left, Right};
 use esto_catalog::{Catalogue, catalogues_are_sound};
 use esto_chase::Clash;
 use esto_constraint::rules_are_sound;
-use esto_plan_laws::cores_have_no_retract;
+use esto_plan_laws::{cores_are_one, cores_have_no_retract};
 use esto_query::{Query, queries_are_sound};
+use esto_semantics::queries_are_their_own_instances;
 use esto_term::OutOfMemory;
 use esto_universal::{
     plans_of_runs_are_over_fragments, plans_of_runs_are_universal, plans_tell_satisfiable_queries,
     runs_have_one_outcome, universal,
 };
-use esto_views::Plan;
+use esto_views::{Plan, plans_are_sound};
 use std::alloc::Global;
 
 /// What is printed of the plan: its cored plan where the core is asked for, and else the plan itself.
@@ -132,6 +134,19 @@ pub fn printed_plans_are_universal()
     plans_of_runs_are_universal();
     cored_plans_are_universal();
     cored_plans_are_cores();
+}
+
+/// A law: where the core is asked for, and the printed plan is safe and has an atom, each universal plan of the query that
+/// retracts into no proper sublist of itself is the printed plan under a renaming, but for the order of its atoms.
+pub fn printed_cores_are_one_for_a_query()
+    ensures { PrintedCoreIsOneForAQuery }
+{
+    plans_are_sound();
+    queries_are_their_own_instances();
+    printed_plans_tell_satisfiable_queries();
+    printed_plans_are_universal();
+    cores_have_no_retract();
+    cores_are_one();
 }
 
 /// A law: the atoms of the printed plan are distinct, and over the fragments whose views it is made of.

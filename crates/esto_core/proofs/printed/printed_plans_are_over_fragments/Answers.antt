@@ -1,6 +1,5 @@
 use Rattle.std.proofs.Common.{◌≢◌}
 use Rattle.std.specs.Prelude.{AllPairs}
-use Rattle.esto_views.specs.Fragments.{views_of}
 use Rattle.esto_views.specs.Plans.{plan_query, IsPlanOver}
 use Rattle.esto_core.proofs.PrintedLemmas.{printed-keeps, cored-distinct}
 use Rattle.esto_core.proofs.printed.printed_plans_are_over_fragments.Goals as goal
