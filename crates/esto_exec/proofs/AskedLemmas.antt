@@ -8,6 +8,8 @@ use Rattle.std.proofs.lemmas.Option.{same_Some, get_or_from_slice_get}
 use Rattle.esto_term.proofs.ListLemmas.{Contains-at, Contains-nil, Contains-head, Contains-rest, Contains-filter, Contains-filter_from}
 use Rattle.esto_columns.specs.declared.fragment.Input.{Input}
 use Rattle.esto_columns.specs.Asked.{holds_all}
+use Rattle.esto_columns.specs.CodedRows.{CodedRows}
+use Rattle.esto_columns.specs.Columns.{HaveLength}
 use Rattle.esto_columns.specs.Indexed.{IsNumberOf}
 use Rattle.esto_plan.specs.declared.steps.Get.{Get}
 use Rattle.esto_plan.specs.declared.steps.Link.{Link}
@@ -139,12 +141,19 @@ module _ (asked new got : List (List ℕ)) (grown : new ≡ asked ++ got) where
 
 -- ---- rows, one by one
 
-pub push_row_more : (start into new rows : List (List ℕ)) (count : ℕ) (row : List ℕ) → count < length rows → slice_get rows count ≡ Some row
-    → into ≡ start ++ take count rows → new ≡ into ++ row ∷ [] → new ≡ start ++ take (count + 1) rows
-push_row_more start into new rows count row below at so_far is =
-    is ∙ ap (λ them. them ++ row ∷ []) so_far ∙ append_assoc start (take count rows) (row ∷ [])
-    ∙ ap (λ them. start ++ them) (sym
-    (take_more rows count row below ∙ ap (λ it. take count rows ++ it ∷ []) (get_or_from_slice_get rows count row row at)))
+pub row_long : (rows : CodedRows) (at : ℕ) (row given : List ℕ) → slice_get rows.rows at ≡ Some row → given ≡ row → HaveLength rows.arity rows.rows
+    → length given ≡ rows.arity
+row_long rows at row given is same fits = ap length same ∙ fits row (Contains-at rows.rows at row is)
+
+pub push_row_more : (start into new : CodedRows) (rows : List (List ℕ)) (count : ℕ) (row given : List ℕ) → count < length rows
+    → slice_get rows count ≡ Some row → given ≡ row → into ≡ record { arity = start.arity; rows = start.rows ++ take count rows }
+    → new ≡ record { arity = into.arity; rows = into.rows ++ given ∷ [] }
+    → new ≡ record { arity = start.arity; rows = start.rows ++ take (count + 1) rows }
+push_row_more start into new rows count row given below at same so_far is =
+    is ∙ ap (λ (it : CodedRows). record { arity = it.arity; rows = it.rows ++ given ∷ [] }) so_far
+    ∙ ap (λ them. record { arity = start.arity; rows = them })
+    (append_assoc start.rows (take count rows) (given ∷ []) ∙ ap (λ them. start.rows ++ them)
+    (sym (take_more rows count row below ∙ ap (λ it. take count rows ++ it ∷ []) (get_or_from_slice_get rows count row row at ∙ sym same))))
 
 pub key_seen : (seen : List (List ℕ)) (key : List ℕ) (found : Option ℕ) → MatchOption found (¬ (Contains seen key)) (IsNumberOf seen key) → true ≡ is_some found
     → Contains seen key
@@ -160,18 +169,17 @@ inputs_turn links items codes inputs new count default same long below so_far is
     ∙ sym (inputs_more items codes count (get_or items count default) (long ∙ sym (ap length same)) below
     (get_or_default items count default (get_or items count default) below))
 
-pub asked_all : (get : Get) (rows so_far items seen asked : List (List ℕ)) (count : ℕ) → items ≡ so_far → length items ≤ count
-    → IsAskedBelow get rows items count seen asked
+pub asked_all : (get : Get) (rows so_far seen asked : List (List ℕ)) (count : ℕ) → length so_far ≤ count → IsAskedBelow get rows so_far count seen asked
     → (cells row : List ℕ) → Contains so_far cells → Contains rows row → Follows get cells row → Contains asked row
-asked_all get rows so_far items seen asked count same past below cells row among =
-    below.complete cells row (subst (λ them. Contains them cells) (sym (take_all count items past ∙ same)) among)
+asked_all get rows so_far seen asked count past below cells row among =
+    below.complete cells row (subst (λ them. Contains them cells) (sym (take_all count so_far past)) among)
 
 pub asked_turn : (get : Get) (rows so_far : List (List ℕ)) (count : ℕ) (seen asked new_seen new : List (List ℕ)) (cells given : List ℕ) → given ≡ cells
-    → count < length so_far → cells ≡ get_or so_far count cells → IsAskedBelow get rows so_far count seen asked
+    → count < length so_far → slice_get so_far count ≡ Some cells → IsAskedBelow get rows so_far count seen asked
     → ((row : List ℕ) → Contains asked row → Contains new row) → ((row : List ℕ) → Contains new row → Contains asked row ⊎ Contains rows row)
     → (AreAnswered get.inputs rows seen asked → AreAnswered get.inputs rows new_seen new)
     → (AreAnswered get.inputs rows seen asked → (row : List ℕ) → Contains rows row → Follows get given row → Contains new row)
     → IsAskedBelow get rows so_far (count + 1) new_seen new
 asked_turn get rows so_far count seen asked new_seen new cells given same below is before kept sound answered complete =
-    asked_more get rows so_far count seen asked new_seen new cells below is before kept sound answered
+    asked_more get rows so_far count seen asked new_seen new cells below (sym (get_or_from_slice_get so_far count cells cells is)) before kept sound answered
     (λ told row among follows. complete told row among (subst (λ it. Follows get it row) (sym same) follows))

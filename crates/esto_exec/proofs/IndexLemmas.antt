@@ -42,9 +42,9 @@ finds_more columns rows count row given key own index new below is same named ow
       },
     )
 
-pub finds_all : (columns : List Source) (rows items : List (List ℕ)) (count : ℕ) (index : Index) → items ≡ rows → length items ≤ count
-    → FindsRows (take count items) columns index → FindsRows rows columns index
-finds_all columns rows items count index same past finds = subst (λ them. FindsRows them columns index) (take_all count items past ∙ same) finds
+pub finds_all : (columns : List Source) (rows : List (List ℕ)) (count : ℕ) (index : Index) → length rows ≤ count
+    → FindsRows (take count rows) columns index → FindsRows rows columns index
+finds_all columns rows count index past finds = subst (λ them. FindsRows them columns index) (take_all count rows past) finds
 
 -- ---- the places of a key
 

@@ -3,7 +3,7 @@ use Rattle.std.proofs.Common.{◌≡◌, ◌⊎◌, ◌↔◌, inl, inr, ℕ, �
 use Rattle.std.proofs.lemmas.List.{take_more, take_all}
 use Rattle.std.proofs.lemmas.List.Elements.{Contains-append_left, Contains-push, Contains-push_cases}
 use Rattle.std.proofs.lemmas.Option.{same_Some}
-use Rattle.esto_term.proofs.ListLemmas.{Contains-at}
+use Rattle.esto_term.proofs.ListLemmas.{Contains-at, Contains-nil}
 use Rattle.esto_term.proofs.ListLemmas.{place-from_Contains}
 use Rattle.esto_plan.specs.declared.steps.Get.{Get}
 use Rattle.esto_plan.specs.declared.steps.Source.{Source}
@@ -108,8 +108,14 @@ joins_more get so_far rows old new items count cells below is before gains both 
   ]),
 )
 
-pub joins_all : (get : Get) (so_far rows new items : List (List ℕ)) (count : ℕ) → items ≡ so_far → length items ≤ count
-    → ((both : List ℕ) → Contains new both ↔ IsJoin get (take count items) rows both)
+pub joins_all : (get : Get) (so_far rows new : List (List ℕ)) (count : ℕ) → length so_far ≤ count
+    → ((both : List ℕ) → Contains new both ↔ IsJoin get (take count so_far) rows both)
     → (both : List ℕ) → Contains new both ↔ IsJoin get so_far rows both
-joins_all get so_far rows new items count same past joins =
-    subst (λ them. (both : List ℕ) → Contains new both ↔ IsJoin get them rows both) (take_all count items past ∙ same) joins
+joins_all get so_far rows new count past joins =
+    subst (λ them. (both : List ℕ) → Contains new both ↔ IsJoin get them rows both) (take_all count so_far past) joins
+
+pub joins_none : (get : Get) (so_far rows new : List (List ℕ)) → new ≡ [] → (both : List ℕ) → Contains new both ↔ IsJoin get (take 0 so_far) rows both
+joins_none get so_far rows new none both = (
+  (λ has. absurd (Contains-nil both (subst (λ them. Contains them both) none has))),
+  (λ join. absurd (Contains-nil join.0 join.2)),
+)

@@ -19,7 +19,7 @@ returns-then-is_some-clause-complete g c =
     (subst (NamesCodes c.args.cells.now c.args.sources.now) (sym c.items.ensures)
     (MatchOption-at_some (¬ ((codes : List ℕ) × NamesCodes c.args.cells.now c.args.sources.now codes))
     (NamesCodes c.args.cells.now c.args.sources.now) c.in-Some.key c.in-Some.is c.in_ok-key.ensures))
-    c.args.seen.now c.args.asked.now (key_seen c.args.seen.now c.items.result.now c.find.result c.find.ensures c.if-is_some.ensures)
+    c.args.seen.now c.args.asked.now.rows (key_seen c.args.seen.now c.items.result.now c.find.result c.find.ensures c.if-is_some.ensures)
 
 pub get-requires : goal.get-requires
 get-requires g c =
@@ -32,21 +32,29 @@ get-requires g c =
     (NamesCodes c.args.cells.now c.args.sources.now) c.in-Some.key c.in-Some.is c.in_ok-key.ensures)))))
     c.requires.allowed
 
+pub push_rows-requires : goal.push_rows-requires
+push_rows-requires g c = c.requires.arity ∙ sym (ap (λ (it : CodedRows). it.arity) c.in_ok-rows.ensures)
+
+pub returns-clause-arity : goal.returns-clause-arity
+returns-clause-arity g c = on_ok_weaker c.push_rows.result (λ grown. ap (λ (it : CodedRows). it.arity) grown) c.push_rows.ensures
+
 pub returns-clause-kept : goal.returns-clause-kept
 returns-clause-kept g c =
-    on_ok_weaker c.push_rows.result (λ grown. ask_kept c.args.asked.now c.push_rows.new.into c.in_ok-rows.rows.rows grown) c.push_rows.ensures
+    on_ok_weaker c.push_rows.result (λ grown. ask_kept c.args.asked.now.rows c.push_rows.new.into.rows c.in_ok-rows.rows.rows (ap (λ (it : CodedRows). it.rows) grown)) c.push_rows.ensures
 
 pub returns-clause-sound : goal.returns-clause-sound
 returns-clause-sound g c =
     on_ok_weaker c.push_rows.result
-    (λ grown. ask_sound c.args.asked.now c.push_rows.new.into c.in_ok-rows.rows.rows grown (g.F.Fragment.rows c.args.fragment.now) c.in_ok-inputs.inputs
+    (λ grown. ask_sound c.args.asked.now.rows c.push_rows.new.into.rows c.in_ok-rows.rows.rows
+    (ap (λ (it : CodedRows). it.rows) grown) (g.F.Fragment.rows c.args.fragment.now) c.in_ok-inputs.inputs
     (ap (λ (it : CodedRows). it.rows) c.in_ok-rows.ensures))
     c.push_rows.ensures
 
 pub returns-clause-answered : goal.returns-clause-answered
 returns-clause-answered g c =
     on_ok_weaker c.push_rows.result
-    (λ grown. ask_answered c.args.asked.now c.push_rows.new.into c.in_ok-rows.rows.rows grown (g.F.Fragment.rows c.args.fragment.now) c.in_ok-inputs.inputs
+    (λ grown. ask_answered c.args.asked.now.rows c.push_rows.new.into.rows c.in_ok-rows.rows.rows
+    (ap (λ (it : CodedRows). it.rows) grown) (g.F.Fragment.rows c.args.fragment.now) c.in_ok-inputs.inputs
     (ap (λ (it : CodedRows). it.rows) c.in_ok-rows.ensures)
     c.args.get.now c.items-3.result.now c.in_ok-inputs.ensures c.args.seen.now c.number.new.self
     (grown_key c.args.seen.now c.number.new.self c.items-2.result.now c.items-3.result.now _
@@ -56,7 +64,8 @@ returns-clause-answered g c =
 pub returns-clause-complete : goal.returns-clause-complete
 returns-clause-complete g c =
     on_ok_weaker c.push_rows.result
-    (λ grown. ask_complete c.args.asked.now c.push_rows.new.into c.in_ok-rows.rows.rows grown (g.F.Fragment.rows c.args.fragment.now) c.in_ok-inputs.inputs
+    (λ grown. ask_complete c.args.asked.now.rows c.push_rows.new.into.rows c.in_ok-rows.rows.rows
+    (ap (λ (it : CodedRows). it.rows) grown) (g.F.Fragment.rows c.args.fragment.now) c.in_ok-inputs.inputs
     (ap (λ (it : CodedRows). it.rows) c.in_ok-rows.ensures)
     c.args.get.now c.items-3.result.now c.in_ok-inputs.ensures c.args.seen.now c.args.cells.now c.args.sources.now c.requires.sources
     (subst (NamesCodes c.args.cells.now c.args.sources.now) (sym c.items-3.ensures)

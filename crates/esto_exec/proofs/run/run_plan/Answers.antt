@@ -22,10 +22,13 @@ followed-requires g c =
     c.get-item.result c.index-fragments-get.result c.items-get-items.ensures c.gets-test.true
     c.get-item.is c.requires c.index-fragments-get.is
 
+pub gets-init : goal.gets-init
+gets-init g c = _
+
 pub gets-preserved : goal.gets-preserved
 gets-preserved g c =
     leads_more (IsRowOf (λ number. get_or (map g.F.Fragment.rows c.args.fragments.now) number [])) c.items-get-items.result.now c.gets.get-index
-    c.get-item.result c.gets.so_far c.in_ok-so_far.so_far
+    c.get-item.result c.gets.so_far.rows c.in_ok-so_far.so_far.rows
     (g.F.Fragment.rows c.index-fragments-get.result) c.gets-test.true c.get-item.is
     (fragment_rows g.F.Fragment.shape g.F.Fragment.rows c.args.fragments.now c.get-item.result.fragment c.index-fragments-get.result
     (fragment_there g.F.Fragment.shape g.F.Fragment.rows c.args.fragments.now c.args.steps.now.gets c.items-get-items.result.now c.gets.get-index
@@ -37,5 +40,5 @@ pub returns-clause-rows : goal.returns-clause-rows
 returns-clause-rows g c =
     IfOk-weaker c.projected.result _ _
     (λ it. leads_all (IsRowOf (λ number. get_or (map g.F.Fragment.rows c.args.fragments.now) number [])) c.args.steps.now c.items-get-items.result.now
-    c.gets.get-index c.gets.so_far it.rows c.items-get-items.ensures c.gets-test.false c.gets.invariant)
+    c.gets.get-index c.gets.so_far.rows it.rows c.items-get-items.ensures c.gets-test.false c.gets.invariant)
     c.projected.ensures.rows
