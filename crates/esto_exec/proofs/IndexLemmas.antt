@@ -9,7 +9,7 @@ use Rattle.esto_columns.specs.Indexed.{Index, IsIndexOf, places_of_key}
 use Rattle.esto_columns.specs.Picked.{places_where}
 use Rattle.esto_plan.specs.declared.steps.Source.{Source}
 use Rattle.esto_exec.specs.Named.{NamesCodes}
-use Rattle.esto_exec.specs.Indexed.{AreKeysOf, FindsRows}
+use Rattle.esto_exec.specs.Indexed.{FindsRows}
 
 same_some : (row other : List ℕ) → map Some row ≡ map Some other → row ≡ other
 same_some [] [] e = refl

@@ -1,4 +1,4 @@
-use Rattle.std.proofs.Common.{◌<◌, ◌≤◌, length, ap, sym, subst, ◌∙◌, arith}
+use Rattle.std.proofs.Common.{◌<◌, [], ap, sym, subst, ◌∙◌, arith}
 use Rattle.esto_columns.specs.CodedRows.{CodedRows}
 use Rattle.esto_exec.proofs.AskedLemmas.{IsAskedBelow, none_asked, asked_turn, asked_all}
 use Rattle.esto_exec.proofs.asked.asked_rows.Goals as goal

@@ -1,4 +1,4 @@
-use Rattle.std.proofs.Common.{◌<◌, length, ap, sym, subst, ◌∙◌}
+use Rattle.std.proofs.Common.{◌<◌, ap, sym, subst, ◌∙◌}
 use Rattle.esto_columns.specs.CodedRows.{CodedRows}
 use Rattle.esto_exec.proofs.AskedLemmas.{push_row_more, row_long}
 use Rattle.esto_exec.proofs.asked.push_rows.Goals as goal

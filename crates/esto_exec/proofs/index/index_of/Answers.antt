@@ -1,4 +1,4 @@
-use Rattle.std.proofs.Common.{◌<◌, ◌≤◌, length, sym, subst, arith}
+use Rattle.std.proofs.Common.{◌<◌, sym, subst, arith}
 use Rattle.std.proofs.lemmas.Option.{get_or_from_slice_get}
 use Rattle.esto_exec.proofs.IndexLemmas.{finds_none, finds_more, finds_all}
 use Rattle.esto_exec.proofs.index.index_of.Goals as goal

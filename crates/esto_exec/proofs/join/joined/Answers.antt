@@ -1,4 +1,4 @@
-use Rattle.std.proofs.Common.{◌<◌, ◌≤◌, length, ap, sym, subst, ◌∙◌, arith}
+use Rattle.std.proofs.Common.{◌<◌, ap, sym, subst, ◌∙◌, arith}
 use Rattle.std.proofs.lemmas.Option.{get_or_from_slice_get}
 use Rattle.esto_columns.specs.CodedRows.{CodedRows}
 use Rattle.esto_exec.specs.Joined.{IsFollower, GainsOnly}
@@ -14,14 +14,22 @@ rows-init c = (
 )
 
 pub push_joined-requires-clause-arity : goal.push_joined-requires-clause-arity
-push_joined-requires-clause-arity c = _
+push_joined-requires-clause-arity c =
+    let long = row_long c.args.so_far.now c.rows.at c.in_ok-cells.cells c.items.result.now c.in_ok-cells.ensures c.items.ensures c.arity-width.ensures.fits in
+    let width = c.arity-width.ensures.value in
+    let arity = c.arity.ensures.value in
+    let sum = c.in-Some.ensures in
+    let same = c.rows.invariant.1 in
+    omega (arith, long, width, arity, sum, same)
 
 pub push_joined-requires-clause-found : goal.push_joined-requires-clause-found
 push_joined-requires-clause-found c = (
   c.in_ok-columns.columns,
   c.in_ok-index.ensures,
   early_names c.args.get.now c.arity-width.result c.in_ok-links.links c.in_ok-sources.sources c.in_ok-columns.columns c.items.result.now
-      _ c.in_ok-links.ensures c.in_ok-sources.ensures c.in_ok-columns.ensures,
+      (let long = row_long c.args.so_far.now c.rows.at c.in_ok-cells.cells c.items.result.now c.in_ok-cells.ensures c.items.ensures c.arity-width.ensures.fits in
+      let width = c.arity-width.ensures.value in omega (arith, long, width))
+      c.in_ok-links.ensures c.in_ok-sources.ensures c.in_ok-columns.ensures,
 )
 
 pub rows-preserved : goal.rows-preserved

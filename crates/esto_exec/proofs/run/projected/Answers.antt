@@ -1,4 +1,4 @@
-use Rattle.std.proofs.Common.{◌<◌, ◌≤◌, ℕ, List, [], length, Contains, ◌∙◌, sym, subst, arith}
+use Rattle.std.proofs.Common.{◌<◌, ℕ, List, [], Contains, ◌∙◌, sym, subst, arith}
 use Rattle.std.proofs.lemmas.Option.{get_or_from_slice_get}
 use Rattle.esto_exec.specs.Joined.{GainsOnly}
 use Rattle.esto_exec.specs.Named.{NamesCodes}
