@@ -1,7 +1,6 @@
 -- Rows that are asked for, row by row.
-use Rattle.std.proofs.Common.{◌≡◌, ◌⊎◌, inl, inr, ℕ, zero, suc, ◌+◌, ◌<◌, ◌≤◌, true, ◌&&◌, List, [], ◌∷◌, ◌++◌, map, length, get_or, take, Option, Some, None, is_some, slice_get, Contains, refl, sym, ap, ◌∙◌, subst, arith, eqb, eq-eqb}
+use Rattle.std.proofs.Common.{◌≡◌, ◌⊎◌, inl, inr, ℕ, zero, suc, ◌+◌, ◌<◌, ◌≤◌, true, ◌&&◌, List, [], ◌∷◌, ◌++◌, map, length, get_or, take, Some, slice_get, Contains, refl, sym, ap, ◌∙◌, subst, arith, eqb, eq-eqb}
 use Rattle.std.specs.List.{filter}
-use Rattle.std.specs.Prelude.{MatchOption}
 use Rattle.std.proofs.lemmas.List.{get_or_default, take_more, take_all, append_assoc, length-map}
 use Rattle.std.proofs.lemmas.List.Elements.{Contains-append_left, Contains-append_right, Contains-append_cases, Contains-push_cases}
 use Rattle.std.proofs.lemmas.Option.{same_Some, get_or_from_slice_get}
@@ -10,7 +9,6 @@ use Rattle.esto_columns.specs.declared.fragment.Input.{Input}
 use Rattle.esto_columns.specs.Asked.{holds_all}
 use Rattle.esto_columns.specs.CodedRows.{CodedRows}
 use Rattle.esto_columns.specs.Columns.{HaveLength}
-use Rattle.esto_columns.specs.Indexed.{IsNumberOf}
 use Rattle.esto_plan.specs.declared.steps.Get.{Get}
 use Rattle.esto_plan.specs.declared.steps.Link.{Link}
 use Rattle.esto_plan.specs.declared.steps.Source.{Source}
@@ -92,10 +90,6 @@ pub named_length : (links : List Link) (cells : List ℕ) (sources : List Source
     → NamesCodes cells sources key → length key ≡ length links
 named_length links cells sources is key named = length-named cells sources key named ∙ ap length is ∙ length-map links (λ (link : Link). link.source)
 
-pub grown_key : (old new : List (List ℕ)) (given key : List ℕ) (number : ℕ) → given ≡ key → (new ≡ old) ⊎ ((new ≡ old ++ given ∷ []) × (number ≡ length old))
-    → (new ≡ old) ⊎ (new ≡ old ++ key ∷ [])
-grown_key old new given key number same grown = elim grown [ inl kept ↦ inl kept | inr more ↦ inr (more.0 ∙ ap (λ it. old ++ it ∷ []) same) ]
-
 module _ (get : Get) (rows : List (List ℕ)) (cells : List ℕ) (sources : List Source) (is : sources ≡ map (λ (link : Link). link.source) get.inputs) where
   pub named_by : (row : List ℕ) → Follows get cells row → (codes : List ℕ) × NamesCodes cells sources codes
   named_by row follows = let names = met_names cells row get.inputs follows.inputs in (names.0, subst (λ it. NamesCodes cells it names.0) (sym is) names.1)
@@ -154,11 +148,6 @@ push_row_more start into new rows count row given below at same so_far is =
     ∙ ap (λ them. record { arity = start.arity; rows = them })
     (append_assoc start.rows (take count rows) (given ∷ []) ∙ ap (λ them. start.rows ++ them)
     (sym (take_more rows count row below ∙ ap (λ it. take count rows ++ it ∷ []) (get_or_from_slice_get rows count row row at ∙ sym same))))
-
-pub key_seen : (seen : List (List ℕ)) (key : List ℕ) (found : Option ℕ) → MatchOption found (¬ (Contains seen key)) (IsNumberOf seen key) → true ≡ is_some found
-    → Contains seen key
-key_seen seen key None told some = absurd (cc)
-key_seen seen key (Some number) told some = Contains-at seen number key told.0
 
 pub inputs_turn : (links items : List Link) (codes : List ℕ) (inputs new : List Input) (count : ℕ) (default : Link) → items ≡ links
     → length codes ≡ length links → count < length items → inputs ≡ inputs_with (take count items) codes

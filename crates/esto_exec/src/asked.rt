@@ -6,7 +6,8 @@ ghost use Rattle.esto_exec.specs.Inputs.{inputs_with, AreAnswered};
 
 use crate::codes::codes_at;
 use crate::links::sources_of;
-use esto_columns::{Fragment, Input, Inputs, Keys, Rows};
+use crate::seen::Seen;
+use esto_columns::{Fragment, Input, Inputs, Rows};
 use esto_plan::{Get, Links, Sources};
 use esto_term::{List, OutOfMemory};
 use std::alloc::Global;
@@ -49,32 +50,35 @@ fn ask<F: Fragment>(
     fragment: &F,
     cells: &[u64],
     sources: &Sources,
-    seen: &mut Keys,
+    seen: &mut Seen,
     asked: &mut Rows,
 ) -> Result<(), OutOfMemory>
     requires allowed { IsAllowed (F.shape fragment.now) (map (λ link. link.column) get.now.inputs) }
     requires sources { sources.now ≡ map (λ link. link.source) get.now.inputs }
     requires arity { asked.old.arity ≡ (F.shape fragment.now).arity }
+    requires width { seen.old.arity ≡ length get.now.inputs }
+    ensures width { OnOk result (seen.new.arity ≡ seen.old.arity) }
     ensures arity { OnOk result (asked.new.arity ≡ asked.old.arity) }
     ensures kept { OnOk result ((row : List ℕ)
         → Contains asked.old.rows row → Contains asked.new.rows row) }
     ensures sound { OnOk result ((row : List ℕ) → Contains asked.new.rows row
         → Contains asked.old.rows row ⊎ Contains (F.rows fragment.now) row) }
     ensures answered { OnOk result
-        (AreAnswered get.now.inputs (F.rows fragment.now) seen.old asked.old.rows
-        → AreAnswered get.now.inputs (F.rows fragment.now) seen.new asked.new.rows) }
+        (AreAnswered get.now.inputs (F.rows fragment.now) seen.old.rows asked.old.rows
+        → AreAnswered get.now.inputs (F.rows fragment.now) seen.new.rows asked.new.rows) }
     ensures complete { OnOk result
-        (AreAnswered get.now.inputs (F.rows fragment.now) seen.old asked.old.rows
+        (AreAnswered get.now.inputs (F.rows fragment.now) seen.old.rows asked.old.rows
         → (row : List ℕ) → Contains (F.rows fragment.now) row
         → Follows get.now cells.now row → Contains asked.new.rows row) }
 {
     let Some(key) = codes_at(alloc, cells, sources)? else {
         return Ok(());
     };
-    if seen.find(key.items()).is_some() {
+    let known = seen.has(alloc, key.items())?;
+    if known {
         return Ok(());
     }
-    seen.number(alloc, key.items())?;
+    seen.put(key.items())?;
     let inputs = inputs_of(alloc, &get.inputs, key.items())?;
     let rows = fragment.get(alloc, &inputs)?;
     push_rows(alloc, &rows, asked)
@@ -95,7 +99,7 @@ pub(crate) fn asked_rows<F: Fragment>(
         → Follows get.now cells row → Contains it.rows row) }
 {
     let sources = sources_of(alloc, &get.inputs)?;
-    let mut seen = Keys::new(alloc);
+    let mut seen = Seen::new(alloc, get.inputs.len(), so_far.len())?;
     let mut asked = Rows::new(alloc, fragment.arity())?;
     'rows: for at in 0..so_far.len() {
         let cells = so_far.row(alloc, at)?;

@@ -1,5 +1,5 @@
 //! Chains of places, which find the places of a key without a look at most of the others.
-ghost use Rattle.std.specs.Prelude.{◌≡◌, [], ◌<◌, ◌≤◌, ℕ, length, slice_index_or, IfOk, OnOk};
+ghost use Rattle.std.specs.Prelude.{◌≡◌, [], ◌<◌, ◌≤◌, ℕ, length, slice_index_or, IfOk, OnOk, OnErr};
 ghost use Rattle.esto_exec.specs.Chained.{mixed, hash_from, bucket_of, with_place, AreChains};
 
 use esto_term::{OutOfMemory, Places, Values};
@@ -81,7 +81,8 @@ impl Chains {
     /// Puts the next place on the chain of the bucket.
     fn put(&mut self, bucket: usize) -> Result<(), OutOfMemory>
         requires { bucket < length self.old.last }
-        ensures { OnOk result (self.new ≡ with_place self.old bucket) }
+        ensures ok { OnOk result (self.new ≡ with_place self.old bucket) }
+        ensures err { OnErr result (self.new ≡ self.old) }
     {
         let count = self.before.len();
         if count == usize::MAX {
@@ -96,8 +97,9 @@ impl Chains {
     /// Puts the next place on the chain of the key's bucket.
     pub(crate) fn add(&mut self, key: &[u64]) -> Result<(), OutOfMemory>
         requires { 0 < length self.old.last }
-        ensures { OnOk result (self.new
+        ensures ok { OnOk result (self.new
             ≡ with_place self.old (bucket_of (length self.old.last) key.now)) }
+        ensures err { OnErr result (self.new ≡ self.old) }
     {
         let bucket = bucket_of(key, self.last.len());
         self.put(bucket)

@@ -16,12 +16,12 @@ add-requires c = c.rows.invariant.0
 
 pub rows-preserved : goal.rows-preserved
 rows-preserved c = (
-  subst (λ (it : Chains). 0 < length it.last) (sym c.in_ok-add.ensures)
+  subst (λ (it : Chains). 0 < length it.last) (sym c.in_ok-add.ensures.ok)
       (subst (λ count. 0 < count) (sym (length-set c.rows.chains.last _ _)) c.rows.invariant.0),
   finds_more c.args.columns.now c.args.rows.now.rows c.rows.at c.in_ok-row.row c.items.result.now c.in_ok-key.key c.items-in-rows.result.now c.rows.chains
       c.add.new.self (subst (λ it. c.rows.at < it) c.len-at-end.ensures c.rows-test.true) c.in_ok-row.ensures c.items.ensures c.in_ok-key.ensures
       c.items-in-rows.ensures (in_some_bucket c.items-in-rows.result.now (length c.rows.chains.last) c.rows.invariant.0) c.rows.invariant.1
-      c.in_ok-add.ensures,
+      c.in_ok-add.ensures.ok,
 )
 
 pub returns-clause-buckets : goal.returns-clause-buckets
