@@ -1,71 +1,128 @@
--- Chains of rows, row by row.
-use Rattle.std.proofs.Common.{◌≡◌, inl, inr, ℕ, ◌+◌, ◌<◌, ◌≤◌, List, [], ◌∷◌, ◌++◌, length, take, Some, slice_get, refl, sym, ap, ◌∙◌, subst}
-use Rattle.std.proofs.lemmas.List.{length-append, length-set, take_more, take_all}
-use Rattle.std.proofs.lemmas.Option.{none-some, get_or_from_slice_get}
-use Rattle.esto_term.proofs.ListLemmas.{Contains-at, at_left, at_end, at_pushed, place-from_Contains}
+-- Indexes of rows, row by row.
+use Rattle.std.proofs.Common.{◌≡◌, ◌⊎◌, inl, inr, ℕ, ◌+◌, ◌<◌, ◌≤◌, List, [], ◌∷◌, ◌++◌, map, length, take, Some, slice_get, Contains, refl, sym, ap, ◌∙◌, subst, arith}
+use Rattle.std.proofs.lemmas.Bool.{cases_order}
+use Rattle.std.proofs.lemmas.List.{length-append, take_more, take_all}
+use Rattle.std.proofs.lemmas.Option.{none-some, slice_get_within, get_or_from_slice_get}
+use Rattle.esto_term.proofs.ListLemmas.{Contains-at, at_left, at_end, at_pushed, map_at, place-from_Contains}
+use Rattle.esto_columns.specs.Indexed.{Index, IsIndexOf, LeadsOn, AreChains, bucket_of}
 use Rattle.esto_plan.specs.declared.steps.Get.{Get}
 use Rattle.esto_plan.specs.declared.steps.Source.{Source}
 use Rattle.esto_plan.specs.Meaning.{Follows}
-use Rattle.esto_exec.specs.declared.chains.Chains.{Chains}
-use Rattle.esto_exec.specs.Chained.{AreChains, bucket_of, with_place}
 use Rattle.esto_exec.specs.Indexed.{FindsRows}
 use Rattle.esto_exec.specs.Joined.{IsFollower, IsFollowerAt, GainsOnly}
 use Rattle.esto_exec.specs.Named.{NamesCodes}
-use Rattle.esto_exec.proofs.ChainLemmas.{chains_put}
 use Rattle.esto_exec.proofs.NamedLemmas.{one_key}
 
-pub finds_none : (columns : List Source) (chains : Chains) → AreChains chains [] → FindsRows [] columns chains
-finds_none columns chains are = ([], are, record { long = refl; named = λ place row codes at named. absurd (none-some row at) })
+pub finds_none : (columns : List Source) (index : Index) → IsIndexOf index [] → FindsRows [] columns index
+finds_none columns index is = ([], is, record { long = refl; named = λ place row codes at named. absurd (none-some row at) })
 
-pub finds_more : (columns : List Source) (rows : List (List ℕ)) (at : ℕ) (row given key own : List ℕ) (chains new : Chains) → at < length rows
-    → slice_get rows at ≡ Some row → given ≡ row → ((codes : List ℕ) → NamesCodes given columns codes → codes ≡ key) → own ≡ key
-    → bucket_of (length chains.last) own < length chains.last → FindsRows (take at rows) columns chains
-    → new ≡ with_place chains (bucket_of (length chains.last) own) → FindsRows (take (at + 1) rows) columns new
-finds_more columns rows at row given key own chains new below is same named own_is inside (buckets, are, of) put =
-    let bucket = bucket_of (length chains.last) own in
-    let more : take (at + 1) rows ≡ take at rows ++ row ∷ [] =
-    take_more rows at row below ∙ ap (λ it. take at rows ++ it ∷ []) (get_or_from_slice_get rows at row row is) in
-    subst (FindsRows (take (at + 1) rows) columns) (sym put) (
-      buckets ++ bucket ∷ [],
-      chains_put chains buckets bucket inside are,
+pub finds_more : (columns : List Source) (rows : List (List ℕ)) (count : ℕ) (row given key own : List ℕ) (index new : Index) → count < length rows
+    → slice_get rows count ≡ Some row → given ≡ row
+    → ((codes : List ℕ) → NamesCodes given columns codes → codes ≡ key) → own ≡ key → FindsRows (take count rows) columns index
+    → ((keys : List (List ℕ)) → IsIndexOf index keys → IsIndexOf new (keys ++ own ∷ [])) → FindsRows (take (count + 1) rows) columns new
+finds_more columns rows count row given key own index new below is same named own_is (keys, before, are) added =
+    let more : take (count + 1) rows ≡ take count rows ++ row ∷ [] = take_more rows count row below ∙ ap (λ it. take count rows ++ it ∷ []) (get_or_from_slice_get rows count row row is) in (
+      keys ++ own ∷ [],
+      added keys before,
       record {
-        long = length-append buckets (bucket ∷ []) ∙ ap (λ n. n + 1) of.long ∙ sym (length-append (take at rows) (row ∷ [])) ∙ ap length (sym more);
-        named = λ place found codes at_place codes_named.
-            subst (λ count. slice_get (buckets ++ bucket ∷ []) place ≡ Some (bucket_of count codes))
-            (sym (length-set chains.last bucket (length chains.before + 1)))
-            (elim (at_pushed (take at rows) row place found (subst (λ them. slice_get them place ≡ Some found) more at_place)) [
-              | inl old ↦ at_left buckets (bucket ∷ []) place (bucket_of (length chains.last) codes) (of.named place found codes old codes_named)
-              | inr last ↦ ap (slice_get (buckets ++ bucket ∷ [])) (last.0 ∙ sym of.long) ∙ at_end buckets bucket
-                  ∙ ap (λ it. Some (bucket_of (length chains.last) it))
-                  (own_is ∙ sym (named codes (subst (λ it. NamesCodes it columns codes) (sym (same ∙ last.1)) codes_named)))
-            ]);
+        long = length-append keys (own ∷ []) ∙ ap (λ n. n + 1) are.long ∙ sym (length-append (take count rows) (row ∷ [])) ∙ ap length (sym more);
+        named = λ place found codes at codes_named.
+            elim (at_pushed (take count rows) row place found (subst (λ them. slice_get them place ≡ Some found) more at)) [
+              | inl old ↦ at_left keys (own ∷ []) place codes (are.named place found codes old codes_named)
+              | inr last ↦ ap (slice_get (keys ++ own ∷ [])) (last.0 ∙ sym are.long) ∙ at_end keys own
+                  ∙ ap Some (own_is ∙ sym (named codes (subst (λ it. NamesCodes it columns codes) (sym (same ∙ last.1)) codes_named)))
+            ];
       },
     )
 
-pub finds_all : (columns : List Source) (rows : List (List ℕ)) (at : ℕ) (chains : Chains) → length rows ≤ at
-    → FindsRows (take at rows) columns chains → FindsRows rows columns chains
-finds_all columns rows at chains past finds = subst (λ them. FindsRows them columns chains) (take_all at rows past) finds
+pub finds_all : (columns : List Source) (rows : List (List ℕ)) (count : ℕ) (index : Index) → length rows ≤ count
+    → FindsRows (take count rows) columns index → FindsRows rows columns index
+finds_all columns rows count index past finds = subst (λ them. FindsRows them columns index) (take_all count rows past) finds
 
--- the chain of a key has all followers
-pub followers_found : (get : Get) (cells : List ℕ) (rows old new : List (List ℕ)) (sources columns : List Source) (chains : Chains) (key : List ℕ)
+-- ---- a walk along the chain of a bucket, from its last place to its first
+
+-- what the new rows gain is exactly what the places of the bucket from `next` on give
+abbrev pub FromNext : (ℕ → List ℕ → Type 0) → List ℕ → ℕ → ℕ → List ℕ → Type 0
+FromNext Gives buckets bucket next both = (place : ℕ) × (next ≤ place) × (slice_get buckets place ≡ Some bucket) × Gives place both
+
+pub record Walked (Gives : ℕ → List ℕ → Type 0) (buckets : List ℕ) (bucket next : ℕ) (start new : List (List ℕ)) : Type 0 where
+  pub own : (place : ℕ) → place + 1 ≡ next → slice_get buckets place ≡ Some bucket
+  pub gains : GainsOnly start new (FromNext Gives buckets bucket next)
+
+module _ (Gives : ℕ → List ℕ → Type 0) (buckets : List ℕ) (bucket : ℕ) (start : List (List ℕ)) where
+  pub walk_start : (next : ℕ) → LeadsOn buckets bucket (length buckets) next → Walked Gives buckets bucket next start start
+  walk_start next leads = record {
+    own = leads.own;
+    gains = λ both. (
+      (λ has. inl has),
+      (λ has. elim has [
+        | inl old ↦ old
+        | inr (place, past, at, gives) ↦
+            absurd (let below = leads.past place (slice_get_within buckets place bucket at) at in omega (arith, below, past))
+      ]),
+    );
+  }
+
+  pub walk_on : (next place then : ℕ) (old new : List (List ℕ)) → place + 1 ≡ next → LeadsOn buckets bucket place then
+      → Walked Gives buckets bucket next start old → GainsOnly old new (Gives place) → Walked Gives buckets bucket then start new
+  walk_on next place then old new is leads walked gains = record {
+    own = leads.own;
+    gains = λ both. (
+      (λ has. elim ((gains both).0 has) [
+        | inl before ↦ elim ((walked.gains both).0 before) [
+          | inl in_start ↦ inl in_start
+          | inr (other, past, at, gives) ↦ let within = leads.within in inr (other, omega (arith, past, is, within), at, gives)
+        ]
+        | inr gives ↦ inr (place, leads.within, walked.own place is, gives)
+      ]),
+      (λ has. (gains both).1 (elim has [
+        | inl in_start ↦ inl ((walked.gains both).1 (inl in_start))
+        | inr (other, past, at, gives) ↦ elim (below_or_same other) [
+          | inl under ↦ absurd (let before = leads.past other under at in omega (arith, before, past))
+          | inr (inl same) ↦ inr (subst (λ it. Gives it both) same gives)
+          | inr (inr later) ↦ inl ((walked.gains both).1 (inr (other, later, at, gives)))
+        ]
+      ])),
+    );
+  }
+    where
+      below_or_same : (other : ℕ) → (other < place) ⊎ ((other ≡ place) ⊎ (next ≤ other))
+      below_or_same other = elim (cases_order other place) [
+        | inl same ↦ inr (inl same)
+        | inr (inl under) ↦ inl under
+        | inr (inr past) ↦ inr (inr (omega (arith, is, past)))
+      ]
+
+  pub walk_end : (next : ℕ) (new : List (List ℕ)) → next ≤ 0 → Walked Gives buckets bucket next start new
+      → GainsOnly start new (λ both. (place : ℕ) × (slice_get buckets place ≡ Some bucket) × Gives place both)
+  walk_end next new none walked both = (
+    (λ has. elim ((walked.gains both).0 has) [ inl in_start ↦ inl in_start | inr (place, past, at, gives) ↦ inr (place, at, gives) ]),
+    (λ has. (walked.gains both).1 (elim has [
+      | inl in_start ↦ inl in_start
+      | inr (place, at, gives) ↦ inr (place, omega (arith, none), at, gives)
+    ])),
+  )
+
+-- the chain of a key's bucket has all followers
+pub followers_found : (get : Get) (cells : List ℕ) (rows old new : List (List ℕ)) (sources columns : List Source) (index : Index) (key : List ℕ)
     → NamesCodes cells sources key
     → ((row : List ℕ) → Follows get cells row → (codes : List ℕ) × NamesCodes cells sources codes × NamesCodes row columns codes)
-    → FindsRows rows columns chains
-    → ((buckets : List ℕ) → AreChains chains buckets → GainsOnly old new (λ both. (place : ℕ)
-    × (slice_get buckets place ≡ Some (bucket_of (length chains.last) key)) × IsFollowerAt get cells rows place both))
+    → FindsRows rows columns index
+    → ((buckets : List ℕ) → AreChains index buckets → GainsOnly old new (λ both. (place : ℕ)
+    × (slice_get buckets place ≡ Some (bucket_of (length index.last) key)) × IsFollowerAt get cells rows place both))
     → GainsOnly old new (IsFollower get cells rows)
-followers_found get cells rows old new sources columns chains key named names (buckets, are, of) gains it = (
-  (λ has. elim ((gains buckets are it).0 has) [
+followers_found get cells rows old new sources columns index key named names (keys, are, of) gains it = (
+  (λ has. elim ((gains (map (bucket_of (length index.last)) keys) are it).0 has) [
     | inl before ↦ inl before
     | inr (place, in_bucket, follower) ↦ inr (follower.0, Contains-at rows place follower.0 follower.1, follower.2, follower.3)
   ]),
-  (λ has. (gains buckets are it).1 (elim has [
+  (λ has. (gains (map (bucket_of (length index.last)) keys) are it).1 (elim has [
     | inl before ↦ inl before
     | inr (row, among, follows, is) ↦
         let at = place-from_Contains rows row among in let codes = names row follows in
         inr (
           at.0,
-          of.named at.0 row key at.1 (subst (NamesCodes row columns) (one_key cells sources codes.0 key codes.1 named) codes.2),
+          map_at (bucket_of (length index.last)) keys at.0 key (of.named at.0 row key at.1 (subst (NamesCodes row columns) (one_key cells sources codes.0 key codes.1 named) codes.2)),
           (row, at.1, follows, is),
         )
   ])),

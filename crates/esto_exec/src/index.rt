@@ -1,11 +1,10 @@
-//! Chains of rows by the codes that sources name in them.
-ghost use Rattle.std.specs.Prelude.{◌≡◌, ◌<◌, List, ℕ, length, IfOk};
+//! Indexes of rows by the codes that sources name in them.
+ghost use Rattle.std.specs.Prelude.{◌≡◌, List, ℕ, IfOk};
 ghost use Rattle.esto_exec.specs.Indexed.{FindsRows};
 ghost use Rattle.esto_exec.specs.Named.{NamesCodes};
 
-use crate::chains::Chains;
 use crate::codes::codes_at;
-use esto_columns::Rows;
+use esto_columns::{Index, Rows};
 use esto_plan::Sources;
 use esto_term::{OutOfMemory, Values};
 use std::alloc::Global;
@@ -21,20 +20,15 @@ fn key_of(alloc: Global, row: &[u64], columns: &Sources) -> Result<Values<u64>, 
     }
 }
 
-/// Chains of the rows by the codes that the columns name in them.
-pub(crate) fn chains_of(
-    alloc: Global,
-    rows: &Rows,
-    columns: &Sources,
-) -> Result<Chains, OutOfMemory>
-    ensures buckets { IfOk result (λ it. 0 < length it.last) }
-    ensures finds { IfOk result (FindsRows rows.now.rows columns.now) }
+/// An index of the rows by the codes that the columns name in them.
+pub(crate) fn index_of(alloc: Global, rows: &Rows, columns: &Sources) -> Result<Index, OutOfMemory>
+    ensures { IfOk result (FindsRows rows.now.rows columns.now) }
 {
-    let mut chains = Chains::new(alloc, rows.len().max(1))?;
+    let mut index = Index::new(alloc, rows.len())?;
     'rows: for at in 0..rows.len() {
         let row = rows.row(alloc, at)?;
         let key = key_of(alloc, row.items(), columns)?;
-        chains.add(key.items())?;
+        index.add(key.items())?;
     }
-    Ok(chains)
+    Ok(index)
 }

@@ -1,17 +1,16 @@
 //! Rows so far joined with rows of a fragment.
-ghost use Rattle.std.specs.Prelude.{◌≡◌, ◌↔◌, ◌++◌, ◌+◌, ◌<◌, List, ℕ, Some, slice_get, length, Contains, IfOk, OnOk, IsTrue};
+ghost use Rattle.std.specs.Prelude.{◌≡◌, ◌↔◌, ◌++◌, ◌+◌, List, ℕ, Some, slice_get, length, Contains, IfOk, OnOk, IsTrue};
 ghost use Rattle.esto_plan.specs.Meaning.{Follows};
 ghost use Rattle.esto_plan.specs.declared.steps.Source.{Source};
-ghost use Rattle.esto_exec.specs.Chained.{AreChains, bucket_of};
+ghost use Rattle.esto_columns.specs.Indexed.{AreChains, bucket_of};
 ghost use Rattle.esto_exec.specs.Indexed.{FindsRows};
 ghost use Rattle.esto_exec.specs.Joined.{IsJoin, IsFollower, IsFollowerAt, GainsOnly};
 ghost use Rattle.esto_exec.specs.Named.{NamesCodes};
 
-use crate::chains::Chains;
 use crate::codes::{codes_at, each_met};
-use crate::index::chains_of;
+use crate::index::index_of;
 use crate::links::{columns_of, early_links, sources_of};
-use esto_columns::Rows;
+use esto_columns::{Index, Rows};
 use esto_plan::{Get, Sources};
 use esto_term::{OutOfMemory, Values};
 use std::alloc::Global;
@@ -61,29 +60,28 @@ fn push_follower(
     into.add(both.items())
 }
 
-/// Puts those of the rows that follow the cells after them, of those on the chain of the key's bucket.
+/// Puts those of the rows that follow the cells after them, of those whose keys are in one bucket with this one.
 fn push_followers(
     alloc: Global,
     get: &Get,
     cells: &[u64],
     rows: &Rows,
-    chains: &Chains,
+    index: &Index,
     key: &[u64],
     into: &mut Rows,
 ) -> Result<(), OutOfMemory>
-    requires arity { into.old.arity ≡ length cells.now + rows.now.arity }
-    requires buckets { 0 < length chains.now.last }
+    requires { into.old.arity ≡ length cells.now + rows.now.arity }
     ensures arity { OnOk result (into.new.arity ≡ into.old.arity) }
-    ensures rows { OnOk result ((buckets : List ℕ) → AreChains chains.now buckets
+    ensures rows { OnOk result ((buckets : List ℕ) → AreChains index.now buckets
         → GainsOnly into.old.rows into.new.rows (λ both. (place : ℕ)
-        × (slice_get buckets place ≡ Some (bucket_of (length chains.now.last) key.now))
+        × (slice_get buckets place ≡ Some (bucket_of (length index.now.last) key.now))
         × IsFollowerAt get.now cells.now rows.now.rows place both)) }
 {
-    let mut next = chains.last_of(key);
+    let mut next = index.last_of(key);
     'places: while next > 0 {
         let place = next - 1;
         push_follower(alloc, get, cells, rows, place, into)?;
-        next = chains.before(place);
+        next = index.before(place);
     }
     Ok(())
 }
@@ -95,12 +93,11 @@ fn push_joined(
     cells: &[u64],
     rows: &Rows,
     sources: &Sources,
-    chains: &Chains,
+    index: &Index,
     into: &mut Rows,
 ) -> Result<(), OutOfMemory>
     requires arity { into.old.arity ≡ length cells.now + rows.now.arity }
-    requires buckets { 0 < length chains.now.last }
-    requires found { (columns : List Source) × FindsRows rows.now.rows columns chains.now
+    requires found { (columns : List Source) × FindsRows rows.now.rows columns index.now
         × ((row : List ℕ) → Follows get.now cells.now row → (codes : List ℕ)
         × NamesCodes cells.now sources.now codes × NamesCodes row columns codes) }
     ensures arity { OnOk result (into.new.arity ≡ into.old.arity) }
@@ -110,7 +107,7 @@ fn push_joined(
     let Some(key) = codes_at(alloc, cells, sources)? else {
         return Ok(());
     };
-    push_followers(alloc, get, cells, rows, chains, key.items(), into)
+    push_followers(alloc, get, cells, rows, index, key.items(), into)
 }
 
 /// The rows so far, each with every one of the rows that follows it after it.
@@ -130,7 +127,7 @@ pub(crate) fn joined(
     let links = early_links(alloc, get, width)?;
     let sources = sources_of(alloc, &links)?;
     let columns = columns_of(alloc, &links)?;
-    let chains = chains_of(alloc, rows, &columns)?;
+    let index = index_of(alloc, rows, &columns)?;
     let mut joined = Rows::new(alloc, arity)?;
     'rows: for at in 0..so_far.len() {
         let cells = so_far.row(alloc, at)?;
@@ -140,7 +137,7 @@ pub(crate) fn joined(
             cells.items(),
             rows,
             &sources,
-            &chains,
+            &index,
             &mut joined,
         )?;
     }

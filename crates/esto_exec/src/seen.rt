@@ -1,30 +1,26 @@
 //! Keys that were seen.
-ghost use Rattle.std.specs.Prelude.{◌≡◌, ◌<◌, ◌++◌, ◌∷◌, [], length, Contains, IfOk, OnOk, IsTrue};
+ghost use Rattle.std.specs.Prelude.{◌≡◌, ◌++◌, ◌∷◌, [], length, Contains, IfOk, OnOk, IsTrue};
 ghost use Rattle.esto_columns.specs.CodedRows.{CodedRows};
 
-use crate::chains::Chains;
-use esto_columns::Rows;
+use esto_columns::{Index, Rows};
 use esto_term::OutOfMemory;
 use std::alloc::Global;
 use std::marker::Model;
 
 /// Rows of codes that were seen as keys, which contracts see as their arity and their list. They are kept by columns,
-/// and found by chains.
+/// and found by an index.
 #[derive(Drop)]
 pub(crate) struct Seen {
     keys: Rows,
-    chains: Chains,
+    index: Index,
 }
 
 impl Model for Seen {
-    ghost use Rattle.std.specs.Prelude.{◌<◌, length};
     ghost use Rattle.esto_columns.specs.CodedRows.{CodedRows};
 
     ghost Value = { CodedRows };
 
     ghost view = { λ it. it.keys };
-
-    ghost invariant = { λ it. 0 < length it.chains.last };
 }
 
 /// Whether the key stands at the place of the keys.
@@ -38,18 +34,17 @@ fn is_at(alloc: Global, keys: &Rows, place: usize, key: &[u64]) -> Result<bool, 
     Ok(row.items() == key)
 }
 
-/// Whether the key is one of the keys, as far as a look along its chain tells.
-fn is_among(alloc: Global, keys: &Rows, chains: &Chains, key: &[u64]) -> Result<bool, OutOfMemory>
-    requires { 0 < length chains.now.last }
+/// Whether the key is one of the keys, as far as a look at those of its bucket tells.
+fn is_among(alloc: Global, keys: &Rows, index: &Index, key: &[u64]) -> Result<bool, OutOfMemory>
     ensures { IfOk result (λ is. IsTrue is → Contains keys.now.rows key.now) }
 {
-    let mut next = chains.last_of(key);
+    let mut next = index.last_of(key);
     'places: while next > 0 {
         let place = next - 1;
         if is_at(alloc, keys, place, key)? {
             return Ok(true);
         }
-        next = chains.before(place);
+        next = index.before(place);
     }
     Ok(false)
 }
@@ -60,15 +55,15 @@ impl Seen {
         ensures { IfOk result (λ it. it ≡ record { arity = arity; rows = [] }) }
     {
         let keys = Rows::new(alloc, arity)?;
-        let chains = Chains::new(alloc, count.max(1))?;
-        Ok(Seen { keys, chains })
+        let index = Index::new(alloc, count)?;
+        Ok(Seen { keys, index })
     }
 
-    /// Whether the key was seen, as far as a look along its chain tells.
+    /// Whether the key was seen, as far as a look at those of its bucket tells.
     pub(crate) fn has(&self, alloc: Global, key: &[u64]) -> Result<bool, OutOfMemory>
         ensures { IfOk result (λ has. IsTrue has → Contains self.now.rows key.now) }
     {
-        is_among(alloc, &self.keys, &self.chains, key)
+        is_among(alloc, &self.keys, &self.index, key)
     }
 
     /// Puts the key at the end.
@@ -77,7 +72,7 @@ impl Seen {
         ensures { OnOk result (self.new
             ≡ record { arity = self.old.arity; rows = self.old.rows ++ key.now ∷ [] }) }
     {
-        self.chains.add(key)?;
+        self.index.add(key)?;
         self.keys.add(key)
     }
 }

@@ -1,23 +1,23 @@
 use Rattle.std.proofs.Common.{◌≡◌, ◌+◌, ◌-◌, length, refl, sym, subst, ◌∙◌, arith}
-use Rattle.esto_exec.specs.Chained.{bucket_of, LeadsOn}
+use Rattle.esto_columns.specs.Indexed.{bucket_of, LeadsOn}
 use Rattle.esto_exec.specs.Joined.{IsFollowerAt}
-use Rattle.esto_exec.proofs.ChainLemmas.{walk_start, walk_on, walk_end}
+use Rattle.esto_exec.proofs.IndexLemmas.{walk_start, walk_on, walk_end}
 use Rattle.esto_exec.proofs.join.push_followers.Goals as goal
 
 pub places-init : goal.places-init
 places-init c = (
-  (λ buckets are. let bucket = bucket_of (length c.args.chains.now.last) c.args.key.now in
+  (λ buckets are. let bucket = bucket_of (length c.args.index.now.last) c.args.key.now in
       walk_start (IsFollowerAt c.args.get.now c.args.cells.now c.args.rows.now.rows) buckets bucket c.args.into.now.rows c.last_of-next.result
       (subst (LeadsOn buckets bucket (length buckets)) (sym c.last_of-next.ensures) (are.last bucket))),
   refl,
 )
 
 pub push_follower-requires : goal.push_follower-requires
-push_follower-requires c = c.places.invariant.1 ∙ c.requires.arity
+push_follower-requires c = c.places.invariant.1 ∙ c.requires
 
 pub places-preserved : goal.places-preserved
 places-preserved c = (
-  (λ buckets are. let bucket = bucket_of (length c.args.chains.now.last) c.args.key.now in
+  (λ buckets are. let bucket = bucket_of (length c.args.index.now.last) c.args.key.now in
       let walked = c.places.invariant.0 buckets are in
       let some = c.places-test.true in
       let is : c.places.next - 1 + 1 ≡ c.places.next = omega (arith, some) in
@@ -34,5 +34,5 @@ places-smaller c = let within = c.before-next.ensures.within in let some = c.pla
 
 pub returns-clause-rows : goal.returns-clause-rows
 returns-clause-rows c = λ buckets are.
-    walk_end (IsFollowerAt c.args.get.now c.args.cells.now c.args.rows.now.rows) buckets (bucket_of (length c.args.chains.now.last) c.args.key.now)
+    walk_end (IsFollowerAt c.args.get.now c.args.cells.now c.args.rows.now.rows) buckets (bucket_of (length c.args.index.now.last) c.args.key.now)
     c.args.into.now.rows c.places.next c.places.into.rows c.places-test.false (c.places.invariant.0 buckets are)
