@@ -1,4 +1,4 @@
-use Rattle.std.proofs.Common.{◌<◌, ◌≤◌, length, subst, arith}
+use Rattle.std.proofs.Common.{◌<◌, subst, arith}
 use Rattle.esto_exec.proofs.IndexLemmas.{finds_none, finds_more, finds_all}
 use Rattle.esto_exec.proofs.index.index_of.Goals as goal
 
