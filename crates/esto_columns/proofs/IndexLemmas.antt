@@ -1,173 +1,184 @@
--- Indexes of keys.
-use Rattle.std.proofs.Common.{◌≡◌, ◌⊎◌, inl, inr, ℕ, zero, suc, ◌+◌, ◌<◌, ◌≤◌, Bool, true, false, cond, List, [], ◌∷◌, ◌++◌, length, get_or, Some, Contains, refl, sym, ap, ◌∙◌, subst, arith, slice_set}
-use Rattle.std.specs.Str.{bytes_eq}
-use Rattle.std.proofs.lemmas.List.{append-nil, length-append, get_or_default}
-use Rattle.std.proofs.lemmas.Option.{none-some, slice_get_within}
-use Rattle.std.proofs.lemmas.Slice.Eq.{bytes_eq-Decides}
-use Rattle.esto_term.proofs.ListLemmas.{Contains-head, Contains-rest}
-use Rattle.esto_columns.specs.Indexed.{Index, IsIndexOf, IsNumberOf, group_of, with_place, places_of_key}
-use Rattle.esto_columns.specs.Picked.{places_where}
+-- Indexes of keys, place by place.
+use Rattle.std.proofs.Common.{◌≡◌, inl, inr, ℕ, ◌+◌, ◌-◌, ◌<◌, ◌≤◌, Bool, false, cond, eqb, List, [], ◌∷◌, ◌++◌, map, length, get_or, set, take, drop, reverse, Some, slice_get, refl, sym, ap, ◌∙◌, subst, arith, slice_range}
+use Rattle.std.proofs.lemmas.Bool.Decides.{eqb_tells, Decides-eqb}
+use Rattle.std.proofs.lemmas.List.{length-append, length-set, length-take, map-append, append-nil, append_assoc, take_all, take_more, reverse-append, get_or-set_same, get_or-set_other, get_or_append_left, get_or-take, get_or-drop}
+use Rattle.std.proofs.lemmas.Option.{slice_get_within, slice_get-get_or, get_or_from_slice_get}
+use Rattle.esto_term.proofs.ListLemmas.{at_left, at_end, at_pushed}
+use Rattle.esto_columns.specs.Indexed.{Index, LeadsOn, AreChains, IsIndexOf, AreAmongPlaces, with_place, bucket_of}
+use Rattle.esto_columns.specs.Picked.{places_of, places_where}
+use Rattle.esto_columns.proofs.PickLemmas.{places-append, none_placed, placed_part}
 
--- ---- places that pass a test
+-- ---- chains of one place more
 
-pub where-append : {X : Type 0} (test : X → Bool) (from : ℕ) (xs ys : List X)
-    → places_where test from (xs ++ ys) ≡ places_where test from xs ++ places_where test (from + length xs) ys
-where-append test from [] ys = ap (λ at. places_where test at ys) (let none : from ≡ from + 0 = omega arith in none)
-where-append test from (x ∷ xs) ys =
-    by (test x) (where-append test (from + 1) xs ys
-    ∙ ap (λ at. places_where test (from + 1) xs ++ places_where test at ys)
-    (let next : from + 1 + length xs ≡ from + suc (length xs) = omega arith in next))
-  where
-    by : (answer : Bool) → places_where test (from + 1) (xs ++ ys) ≡ places_where test (from + 1) xs ++ places_where test (from + suc (length xs)) ys
-        → cond answer (from ∷ places_where test (from + 1) (xs ++ ys)) (places_where test (from + 1) (xs ++ ys))
-        ≡ cond answer (from ∷ places_where test (from + 1) xs) (places_where test (from + 1) xs) ++ places_where test (from + suc (length xs)) ys
-    by true rest = ap (λ them. from ∷ them) rest
-    by false rest = rest
+leads_left : (buckets : List ℕ) (more bucket below next : ℕ) → below ≤ length buckets → LeadsOn buckets bucket below next
+    → LeadsOn (buckets ++ more ∷ []) bucket below next
+leads_left buckets more bucket below next short leads = record {
+  within = leads.within;
+  own = λ place is. at_left buckets (more ∷ []) place bucket (leads.own place is);
+  past = λ place under at. elim (at_pushed buckets more place bucket at) [
+    | inl old ↦ leads.past place under old
+    | inr last ↦ absurd (let is = last.0 in omega (arith, is, under, short))
+  ];
+}
 
--- ---- groups
+-- the place that is put is the last of its bucket
+leads_here : (buckets : List ℕ) (bucket : ℕ) → LeadsOn (buckets ++ bucket ∷ []) bucket (length (buckets ++ bucket ∷ [])) (length buckets + 1)
+leads_here buckets bucket =
+    let long : length (buckets ++ bucket ∷ []) ≡ length buckets + 1 = length-append buckets (bucket ∷ []) in record {
+      within = omega (arith, long);
+      own = λ place is. let same : place ≡ length buckets = omega (arith, is) in ap (slice_get (buckets ++ bucket ∷ [])) same ∙ at_end buckets bucket;
+      past = λ place under at. omega (arith, long, under);
+    }
 
-apart : (key other : List ℕ) → (key ≡ other → ⊥) → bytes_eq key other ≡ false
-apart key other differ = by (bytes_eq key other) refl
-  where
-    by : (answer : Bool) → bytes_eq key other ≡ answer → answer ≡ false
-    by true told = absurd (differ ((bytes_eq-Decides key other).0 told))
-    by false told = refl
+-- and of another bucket the last place stays
+leads_beside : (buckets : List ℕ) (put bucket next : ℕ) → (put ≡ bucket → ⊥) → LeadsOn buckets bucket (length buckets) next
+    → LeadsOn (buckets ++ put ∷ []) bucket (length (buckets ++ put ∷ [])) next
+leads_beside buckets put bucket next other leads =
+    let long : length (buckets ++ put ∷ []) ≡ length buckets + 1 = length-append buckets (put ∷ []) in
+    let within = leads.within in record {
+      within = omega (arith, long, within);
+      own = λ place is. at_left buckets (put ∷ []) place bucket (leads.own place is);
+      past = λ place under at. elim (at_pushed buckets put place bucket at) [
+        | inl old ↦ leads.past place (slice_get_within buckets place bucket old) old
+        | inr last ↦ absurd (other last.1)
+      ];
+    }
 
-no_groups : (keys : List (List ℕ)) (key : List ℕ) → group_of keys [] key ≡ []
-no_groups [] key = refl
-no_groups (first ∷ keys) key = refl
-
--- keys without a group add nothing
-more_keys : (keys more groups : List (List ℕ)) (key : List ℕ) → length groups ≤ length keys → group_of (keys ++ more) groups key ≡ group_of keys groups key
-more_keys [] more [] key fits = no_groups more key
-more_keys [] more (group ∷ groups) key fits = absurd (omega (arith, fits))
-more_keys (first ∷ keys) more [] key fits = refl
-more_keys (first ∷ keys) more (group ∷ groups) key fits = ap (cond (bytes_eq first key) group) (more_keys keys more groups key (omega (arith, fits)))
-
-with_one : (keys groups : List (List ℕ)) (key other : List ℕ) (number place : ℕ) → IsNumberOf keys key number → number ≤ length groups
-    → group_of keys (with_place groups number place) other ≡ group_of keys groups other ++ cond (bytes_eq key other) (place ∷ []) []
-with_one [] groups key other number place is fits = absurd (none-some key is.0)
-with_one (first ∷ keys) [] key other zero place is fits =
-    let same : first ≡ key = cc in ap (λ it. cond (bytes_eq it other) (place ∷ []) (group_of keys [] other)) same
-    ∙ ap (cond (bytes_eq key other) (place ∷ [])) (no_groups keys other)
-with_one (first ∷ keys) [] key other (suc number) place is fits = absurd (omega (arith, fits))
-with_one (first ∷ keys) (group ∷ groups) key other zero place is fits =
-    let same : first ≡ key = cc in by (bytes_eq first other) (bytes_eq key other) (ap (λ it. bytes_eq it other) same)
-  where
-    by : (answer told : Bool) → answer ≡ told
-        → cond answer (group ++ place ∷ []) (group_of keys groups other) ≡ cond answer group (group_of keys groups other) ++ cond told (place ∷ []) []
-    by true true e = refl
-    by true false e = absurd (cc)
-    by false true e = absurd (cc)
-    by false false e = sym (append-nil (group_of keys groups other))
-with_one (first ∷ keys) (group ∷ groups) key other (suc number) place is fits =
-    by (bytes_eq first other) refl (with_one keys groups key other number place (is.0, λ at found. let same = is.1 (suc at) found in omega (arith, same))
-    (omega (arith, fits)))
-  where
-    differ : first ≡ key → ⊥
-    differ same = let wrong = is.1 0 (ap Some same) in omega (arith, wrong)
-
-    by : (answer : Bool) → bytes_eq first other ≡ answer
-        → group_of keys (with_place groups number place) other ≡ group_of keys groups other ++ cond (bytes_eq key other) (place ∷ []) []
-        → cond answer group (group_of keys (with_place groups number place) other) ≡ cond answer group (group_of keys groups other)
-        ++ cond (bytes_eq key other) (place ∷ []) []
-    by true told rest =
-        let not_key = apart key other (λ same. differ ((bytes_eq-Decides first other).0 told ∙ sym same)) in
-        sym (append-nil group) ∙ ap (λ it. group ++ cond it (place ∷ []) []) (sym not_key)
-    by false told rest = rest
-
-pub length-with_more : (groups : List (List ℕ)) (number place : ℕ) → number ≡ length groups → length (with_place groups number place) ≡ length groups + 1
-length-with_more [] number place at = refl
-length-with_more (group ∷ groups) zero place at = absurd (omega (arith, at))
-length-with_more (group ∷ groups) (suc number) place at = let rest = length-with_more groups number place (omega (arith, at)) in omega (arith, rest)
-
-pub length-with_same : (groups : List (List ℕ)) (number place : ℕ) → number < length groups → length (with_place groups number place) ≡ length groups
-length-with_same [] number place below = absurd (omega (arith, below))
-length-with_same (group ∷ groups) zero place below = refl
-length-with_same (group ∷ groups) (suc number) place below = ap suc (length-with_same groups number place (omega (arith, below)))
-
--- a group in place of the old one, and a group after the others
-pub with_set : (groups : List (List ℕ)) (number place : ℕ) (group more : List ℕ) → number < length groups → group ≡ get_or groups number group
-    → more ≡ group ++ place ∷ [] → slice_set groups number more ≡ with_place groups number place
-with_set [] number place group more below at is = absurd (omega (arith, below))
-with_set (first ∷ groups) zero place group more below at is = ap (λ it. it ∷ groups) (is ∙ ap (λ it. it ++ place ∷ []) at)
-with_set (first ∷ groups) (suc number) place group more below at is =
-    ap (λ it. first ∷ it) (with_set groups number place group more (omega (arith, below)) at is)
-
-pub with_pushed : (groups : List (List ℕ)) (number place : ℕ) → length groups ≤ number → groups ++ (place ∷ []) ∷ [] ≡ with_place groups number place
-with_pushed [] number place past = refl
-with_pushed (group ∷ groups) zero place past = absurd (omega (arith, past))
-with_pushed (group ∷ groups) (suc number) place past = ap (λ it. group ∷ it) (with_pushed groups number place (omega (arith, past)))
-
--- ---- a key more
-
-module _ (old new : Index) (listed : List (List ℕ)) (key : List ℕ) (number : ℕ) (is : IsIndexOf old listed) (found : IsNumberOf new.keys key number)
-    (grown : (new.keys ≡ old.keys) ⊎ ((new.keys ≡ old.keys ++ key ∷ []) × (number ≡ length old.keys)))
-    (groups : new.groups ≡ with_place old.groups number old.count) (count : new.count ≡ old.count + 1) where
-  fits : number ≤ length old.groups
-  fits = let long = is.long in elim grown [
-    | inl same ↦ let below = slice_get_within new.keys number key found.0 in let keys = ap length same in omega (arith, below, keys, long)
-    | inr more ↦ let at = more.1 in omega (arith, at, long)
-  ]
-
-  as_before : (other : List ℕ) → group_of new.keys old.groups other ≡ group_of old.keys old.groups other
-  as_before other = elim grown [
-    | inl same ↦ ap (λ them. group_of them old.groups other) same
-    | inr more ↦ ap (λ them. group_of them old.groups other) more.0 ∙ more_keys old.keys (key ∷ []) old.groups other (let long = is.long in omega (arith, long))
-  ]
-
-  long_after : length new.groups ≡ length new.keys
-  long_after = let long = is.long in elim grown [
+pub chains_put : (index : Index) (buckets : List ℕ) (bucket : ℕ) → bucket < length index.last → AreChains index buckets
+    → AreChains (with_place index bucket) (buckets ++ bucket ∷ [])
+chains_put index buckets bucket inside are = record {
+  long = length-append index.before (get_or index.last bucket 0 ∷ []) ∙ ap (λ n. n + 1) are.long ∙ sym (length-append buckets (bucket ∷ []));
+  last = λ other. elim (eqb_tells other bucket) [
     | inl same ↦
-        let below = slice_get_within new.keys number key found.0 in let keys = ap length same in
-        let after = length-with_same old.groups number old.count (omega (arith, below, keys, long)) in ap length groups ∙ omega (arith, after, keys, long)
-    | inr more ↦
-        let at = more.1 in let keys = ap length more.0 in let longer = length-append old.keys (key ∷ []) in
-        let after = length-with_more old.groups number old.count (omega (arith, at, long)) in ap length groups ∙ omega (arith, after, keys, longer, long)
-  ]
+        let next : length buckets + 1 ≡ get_or (set index.last bucket (length index.before + 1)) other 0 =
+        ap (λ n. n + 1) (sym are.long) ∙ sym (get_or-set_same index.last bucket (length index.before + 1) 0 inside)
+        ∙ ap (λ n. get_or (set index.last bucket (length index.before + 1)) n 0) (sym same.1) in
+        subst (LeadsOn (buckets ++ bucket ∷ []) other (length (buckets ++ bucket ∷ []))) next
+        (subst (λ it. LeadsOn (buckets ++ bucket ∷ []) it (length (buckets ++ bucket ∷ [])) (length buckets + 1)) (sym same.1) (leads_here buckets bucket))
+    | inr differ ↦
+        subst (LeadsOn (buckets ++ bucket ∷ []) other (length (buckets ++ bucket ∷ [])))
+        (sym (get_or-set_other index.last bucket other (length index.before + 1) 0 differ.1))
+        (leads_beside buckets bucket other (get_or index.last other 0) (λ same. differ.1 (sym same)) (are.last other))
+  ];
+  before = λ place other at. elim (at_pushed buckets bucket place other at) [
+    | inl old ↦
+        let under = slice_get_within buckets place other old in let long = are.long in
+        subst (LeadsOn (buckets ++ bucket ∷ []) other place)
+        (sym (get_or_append_left index.before (get_or index.last bucket 0 ∷ []) 0 place (omega (arith, under, long))))
+        (leads_left buckets bucket other place (get_or index.before place 0) (omega (arith, under)) (are.before place other old))
+    | inr end ↦ put_before place other end
+  ];
+}
+  where
+    put_before : (place other : ℕ) → (place ≡ length buckets) × (bucket ≡ other)
+        → LeadsOn (buckets ++ bucket ∷ []) other place (get_or (index.before ++ get_or index.last bucket 0 ∷ []) place 0)
+    put_before place other (is, same) =
+        let at_the_end : get_or index.last bucket 0 ≡ get_or (index.before ++ get_or index.last bucket 0 ∷ []) place 0 =
+        sym (ap (λ n. get_or (index.before ++ get_or index.last bucket 0 ∷ []) n 0) (is ∙ sym are.long)
+        ∙ get_or_from_slice_get (index.before ++ get_or index.last bucket 0 ∷ []) (length index.before) (get_or index.last bucket 0) 0
+        (at_end index.before (get_or index.last bucket 0))) in
+        subst (λ it. LeadsOn (buckets ++ bucket ∷ []) it place (get_or (index.before ++ get_or index.last bucket 0 ∷ []) place 0)) same
+        (subst (LeadsOn (buckets ++ bucket ∷ []) bucket place) at_the_end
+        (subst (λ n. LeadsOn (buckets ++ bucket ∷ []) bucket n (get_or index.last bucket 0)) (sym is)
+        (leads_left buckets bucket bucket (length buckets) (get_or index.last bucket 0) (omega arith) (are.last bucket))))
 
-  pub added_key : IsIndexOf new (listed ++ key ∷ [])
-  added_key = record {
-    count = let longer = length-append listed (key ∷ []) in let before = is.count in omega (arith, longer, before, count);
-    long = long_after;
-    places = λ other. ap (λ them. group_of new.keys them other) groups ∙ with_one new.keys old.groups key other number old.count found fits
-        ∙ ap (λ them. them ++ cond (bytes_eq key other) (old.count ∷ []) []) (as_before other ∙ is.places other)
-        ∙ ap (λ at. places_of_key other listed ++ cond (bytes_eq key other) (at ∷ []) [])
-        (is.count ∙ (let plain : length listed ≡ 0 + length listed = omega arith in plain))
-        ∙ sym (where-append (λ it. bytes_eq it other) 0 listed (key ∷ []));
-  }
+-- one more key
+pub index_put : (index new : Index) (listed : List (List ℕ)) (key : List ℕ) (bucket : ℕ) → bucket ≡ bucket_of (length index.last) key
+    → bucket < length index.last → new ≡ with_place index bucket → IsIndexOf index listed → IsIndexOf new (listed ++ key ∷ [])
+index_put index new listed key bucket is inside put are =
+    let same_count : length new.last ≡ length index.last =
+    ap (λ (it : Index). length it.last) put ∙ length-set index.last bucket (length index.before + 1) in
+    let more : map (bucket_of (length new.last)) (listed ++ key ∷ []) ≡ map (bucket_of (length index.last)) listed ++ bucket ∷ [] =
+    ap (λ count. map (bucket_of count) (listed ++ key ∷ [])) same_count ∙ map-append (bucket_of (length index.last)) listed (key ∷ [])
+    ∙ ap (λ it. map (bucket_of (length index.last)) listed ++ it ∷ []) (sym is) in
+    subst (AreChains new) (sym more) (subst (λ it. AreChains it (map (bucket_of (length index.last)) listed ++ bucket ∷ [])) (sym put)
+    (chains_put index (map (bucket_of (length index.last)) listed) bucket inside are))
+
+-- ---- the places of a chain
+
+-- between two places, none of which is of the bucket, the places stay
+places_same : (buckets : List ℕ) (bucket from to : ℕ) → from ≤ to → to ≤ length buckets
+    → ((place : ℕ) → from ≤ place → place < to → slice_get buckets place ≡ Some bucket → ⊥)
+    → places_of 0 bucket (take to buckets) ≡ places_of 0 bucket (take from buckets)
+places_same buckets bucket from to order inside none =
+    placed_part buckets from to bucket order inside
+    ∙ ap (λ them. places_of 0 bucket (take from buckets) ++ them) (none_placed from bucket (slice_range buckets from to) missed)
+    ∙ append-nil (places_of 0 bucket (take from buckets))
+  where
+    missed : (k : ℕ) → k < length (slice_range buckets from to) → eqb (get_or (slice_range buckets from to) k 0) bucket ≡ false
+    missed k below =
+        let cut = length-take (to - from) (drop from buckets) in
+        let short : k < to - from = omega (arith, below, cut) in
+        let held : get_or (slice_range buckets from to) k 0 ≡ get_or buckets (from + k) 0 =
+        get_or-take (to - from) (drop from buckets) k 0 short ∙ get_or-drop from buckets k 0 in
+        elim (eqb_tells (get_or buckets (from + k) 0) bucket) [
+          | inl same ↦ absurd (none (from + k) (omega arith) (omega (arith, short))
+              (slice_get-get_or buckets (from + k) 0 (omega (arith, short, inside)) ∙ ap Some same.1))
+          | inr apart ↦ ap (λ it. eqb it bucket) held ∙ apart.0
+        ]
+
+-- and a place of the bucket comes last
+places_more : (buckets : List ℕ) (bucket place : ℕ) → slice_get buckets place ≡ Some bucket
+    → places_of 0 bucket (take (place + 1) buckets) ≡ places_of 0 bucket (take place buckets) ++ place ∷ []
+places_more buckets bucket place at =
+    let within = slice_get_within buckets place bucket at in
+    let short = length-take place buckets in
+    let start : 0 + length (take place buckets) ≡ place = omega (arith, short, within) in
+    ap (places_of 0 bucket) (take_more buckets place bucket within
+    ∙ ap (λ it. take place buckets ++ it ∷ []) (get_or_from_slice_get buckets place bucket bucket at))
+    ∙ places-append 0 bucket (take place buckets) (bucket ∷ [])
+    ∙ ap (λ answer. places_of 0 bucket (take place buckets)
+    ++ cond answer ((0 + length (take place buckets)) ∷ []) []) ((Decides-eqb bucket bucket).1 refl)
+    ∙ ap (λ it. places_of 0 bucket (take place buckets) ++ it ∷ []) start
+
+-- the places below `next` and those that were collected, the last first, are all
+pub record Collected (buckets : List ℕ) (bucket next : ℕ) (places : List ℕ) : Type 0 where
+  pub own : (place : ℕ) → place + 1 ≡ next → slice_get buckets place ≡ Some bucket
+  pub all : places_of 0 bucket (take next buckets) ++ reverse places ≡ places_of 0 bucket buckets
+
+pub collect_start : (buckets : List ℕ) (bucket last : ℕ) → LeadsOn buckets bucket (length buckets) last → Collected buckets bucket last []
+collect_start buckets bucket last leads = record {
+  own = leads.own;
+  all = append-nil (places_of 0 bucket (take last buckets))
+      ∙ sym (places_same buckets bucket last (length buckets) leads.within (omega arith)
+      (λ place past under at. let below = leads.past place under at in omega (arith, past, below)))
+      ∙ ap (places_of 0 bucket) (take_all (length buckets) buckets (omega arith));
+}
+
+pub collect_more : (buckets : List ℕ) (bucket next place then : ℕ) (places : List ℕ) → place + 1 ≡ next → LeadsOn buckets bucket place then
+    → Collected buckets bucket next places → Collected buckets bucket then (places ++ place ∷ [])
+collect_more buckets bucket next place then places is leads so_far =
+    let at = so_far.own place is in
+    let within = slice_get_within buckets place bucket at in
+    record {
+      own = leads.own;
+      all = ap (λ them. places_of 0 bucket (take then buckets) ++ them) (reverse-append places (place ∷ []))
+          ∙ sym (append_assoc (places_of 0 bucket (take then buckets)) (place ∷ []) (reverse places))
+          ∙ ap (λ them. (them ++ place ∷ []) ++ reverse places)
+          (sym (places_same buckets bucket then place leads.within (omega (arith, within))
+          (λ other past under found. let below = leads.past other under found in omega (arith, past, below))))
+          ∙ ap (λ them. them ++ reverse places) (sym (places_more buckets bucket place at))
+          ∙ ap (λ n. places_of 0 bucket (take n buckets) ++ reverse places) is
+          ∙ so_far.all;
+    }
+
+pub collect_end : (buckets : List ℕ) (bucket next : ℕ) (places : List ℕ) → next ≤ 0 → Collected buckets bucket next places
+    → reverse places ≡ places_of 0 bucket buckets
+collect_end buckets bucket next places none so_far =
+    let zero_is : 0 ≡ next = omega (arith, none) in ap (λ n. places_of 0 bucket (take n buckets) ++ reverse places) zero_is ∙ so_far.all
 
 -- ---- the places of a key
 
-at_number : (keys groups : List (List ℕ)) (key : List ℕ) (number : ℕ) → IsNumberOf keys key number → number < length groups
-    → group_of keys groups key ≡ get_or groups number []
-at_number [] groups key number is below = absurd (none-some key is.0)
-at_number (first ∷ keys) [] key number is below = absurd (omega (arith, below))
-at_number (first ∷ keys) (group ∷ groups) key zero is below =
-    let same : first ≡ key = cc in ap (λ answer. cond answer group (group_of keys groups key)) ((bytes_eq-Decides first key).1 same)
-at_number (first ∷ keys) (group ∷ groups) key (suc number) is below =
-    ap (λ answer. cond answer group (group_of keys groups key)) (apart first key (λ same. let wrong = is.1 0 (ap Some same) in omega (arith, wrong)))
-    ∙ at_number keys groups key number (is.0, λ at found. let same = is.1 (suc at) found in omega (arith, same)) (omega (arith, below))
+where_mapped : {X Y : Type 0} (test : Y → Bool) (seen : X → Y) (from : ℕ) (xs : List X)
+    → places_where test from (map seen xs) ≡ places_where (λ x. test (seen x)) from xs
+where_mapped test seen from [] = refl
+where_mapped test seen from (x ∷ xs) =
+    ap (λ them. cond (test (seen x)) (from ∷ them) them) (where_mapped test seen (from + 1) xs)
 
-not_there : (keys groups : List (List ℕ)) (key : List ℕ) → ¬ (Contains keys key) → group_of keys groups key ≡ []
-not_there [] groups key absent = refl
-not_there (first ∷ keys) [] key absent = refl
-not_there (first ∷ keys) (group ∷ groups) key absent =
-    ap (λ answer. cond answer group (group_of keys groups key))
-    (apart first key (λ same. absent (subst (λ it. Contains (first ∷ keys) it) same (Contains-head first keys))))
-    ∙ not_there keys groups key (λ inside. absent (Contains-rest first keys key inside))
-
-pub found_places : (index : Index) (listed : List (List ℕ)) (key group : List ℕ) (number : ℕ) → IsIndexOf index listed → IsNumberOf index.keys key number
-    → number < length index.groups → group ≡ get_or index.groups number group
-    → group ≡ places_of_key key listed
-found_places index listed key group number is found below at =
-    at ∙ get_or_default index.groups number group [] below ∙ sym (at_number index.keys index.groups key number found below) ∙ is.places key
-
--- a number past the groups is none of an index
-pub no_group : (index : Index) (listed : List (List ℕ)) (key : List ℕ) (number : ℕ) → IsIndexOf index listed → IsNumberOf index.keys key number
-    → length index.groups ≤ number → ⊥
-no_group index listed key number is found past = let below = slice_get_within index.keys number key found.0 in let long = is.long in
-    omega (arith, below, long, past)
-
-pub no_places : (index : Index) (listed : List (List ℕ)) (key : List ℕ) → IsIndexOf index listed → ¬ (Contains index.keys key) → [] ≡ places_of_key key listed
-no_places index listed key is absent = sym (not_there index.keys index.groups key absent) ∙ is.places key
+pub among_places : (count : ℕ) (key : List ℕ) (listed : List (List ℕ)) (places : List ℕ)
+    → places ≡ places_of 0 (bucket_of count key) (map (bucket_of count) listed) → AreAmongPlaces key listed places
+among_places count key listed places are = (
+  (λ other. eqb (bucket_of count other) (bucket_of count key)),
+  (Decides-eqb (bucket_of count key) (bucket_of count key)).1 refl,
+  are ∙ where_mapped (λ bucket. eqb bucket (bucket_of count key)) (bucket_of count) 0 listed,
+)

@@ -8,7 +8,6 @@ use Rattle.std.proofs.lemmas.List.{map-append}
 use Rattle.std.proofs.lemmas.List.Elements.{Contains-get_or}
 use Rattle.std.proofs.lemmas.List.Quantifiers.{all_pairs_push, position-Some}
 use Rattle.std.specs.Str.{bytes_eq}
-use Rattle.esto_columns.specs.Indexed.{IsNumberOf}
 use Rattle.esto_term.proofs.ListLemmas.{Contains-nil, Contains-cases, at_end, thing_at}
 use Rattle.std.proofs.lemmas.Slice.Eq.{bytes_eq-Decides}
 use Rattle.std.proofs.lemmas.Option.{none-some, slice_get_within, get_or_from_slice_get}
@@ -25,15 +24,6 @@ one_place things once place other thing at also = elim (cases_order place other)
         (get_or_from_slice_get things other thing thing also ∙ sym (get_or_from_slice_get things place thing thing at)))
   ]
 ]
-
--- where a thing stands in a list without repeats, its number is found
-pub numbered : (keys : List (List ℕ)) (key : List ℕ) (number : ℕ) → AllPairs ◌≢◌ keys → slice_get keys number ≡ Some key → IsNumberOf keys key number
-numbered keys key number once at = (at, λ other also. one_place keys once other number key also at)
-
-pub found_number : (keys : List (List ℕ)) (key : List ℕ) (found : Option ℕ) → AllPairs ◌≢◌ keys
-    → MatchOption found (¬ (Contains keys key)) (λ number. slice_get keys number ≡ Some key) → MatchOption found (¬ (Contains keys key)) (IsNumberOf keys key)
-found_number keys key None once told = told
-found_number keys key (Some number) once told = numbered keys key number once told
 
 seen_at : {X Y : Type 0} (seen : X → Y) (things : List X) (place : ℕ) (thing : X) → slice_get things place ≡ Some thing
     → slice_get (map seen things) place ≡ Some (seen thing)

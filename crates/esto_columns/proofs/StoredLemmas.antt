@@ -9,7 +9,7 @@ use Rattle.esto_columns.specs.Asked.{holds_all}
 use Rattle.esto_columns.specs.CodedRows.{CodedRows}
 use Rattle.esto_columns.specs.Columns.{HaveLength}
 use Rattle.esto_columns.specs.Picked.{places_where, rows_at}
-use Rattle.esto_columns.specs.Indexed.{key_at}
+use Rattle.esto_columns.specs.Indexed.{key_at, AreAmongPlaces}
 use Rattle.std.specs.Str.{bytes_eq}
 use Rattle.std.proofs.lemmas.Slice.Eq.{bytes_eq-Decides}
 use Rattle.std.proofs.lemmas.Bool.Decides.{Decides-eqb}
@@ -147,6 +147,20 @@ holds_key inputs columns codes row is_columns are_codes holds =
     all (first ∷ own) each =
         let here = (Decides-eqb (get_or row first.column 0) first.code).0 (each first (Contains-head first own)) in
         let rest = all own (λ input inside. each input (Contains-rest first own input inside)) in λ i. here i ∷ rest i
+
+-- the places of an index are those of rows, and the rows there that hold all inputs are all that do
+module _ (rows : List (List ℕ)) (columns key places given : List ℕ) (among : AreAmongPlaces key (map (key_at columns) rows) places) (same : given ≡ places) where
+  pub among_within : (inputs : List Input) (place : ℕ) → Contains given place → place < length rows
+  among_within inputs place inside =
+      found_within among.0 (key_at columns) rows inputs (map (key_at columns) rows) given refl (same ∙ among.2) place inside
+
+  pub among_all : (inputs : List Input) → columns ≡ map (λ (input : Input). input.column) inputs → key ≡ map (λ (input : Input). input.code) inputs
+      → (arity : ℕ) (held : CodedRows) → held ≡ record { arity = arity; rows = filter (holds_all inputs) (rows_at rows given) }
+      → held ≡ record { arity = arity; rows = filter (holds_all inputs) rows }
+  among_all inputs is_columns are_codes arity held is =
+      found_all among.0 (key_at columns) rows inputs (map (key_at columns) rows) given refl (same ∙ among.2)
+      (λ row holds. ap among.0 ((bytes_eq-Decides (key_at columns row) key).0 (holds_key inputs columns key row is_columns are_codes holds)) ∙ among.1)
+      arity held is
 
 pub some_inputs : (inputs : List Input) → false ≡ eqb (length inputs) 0 → 0 < length inputs
 some_inputs [] e = absurd (cc)

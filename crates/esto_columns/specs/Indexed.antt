@@ -1,39 +1,56 @@
 -- Indexes: the places of keys.
-use Rattle.std.specs.Prelude.{◌≡◌, ℕ, zero, suc, cond, List, [], ◌∷◌, ◌++◌, Some, length, map, slice_get, slice_index_or}
-use Rattle.std.specs.Str.{bytes_eq}
+use Rattle.std.specs.Prelude.{◌≡◌, ◌+◌, ◌*◌, ◌%◌, ◌^◌, ◌<◌, ◌≤◌, ℕ, Bool, true, List, [], ◌∷◌, ◌++◌, Some, length, map, slice_get, slice_set, slice_index_or}
 use Rattle.esto_columns.specs.Picked.{places_where}
 
--- An index: its keys, for each of them the group of its places, and how many places there are.
+-- An index: for each bucket one more than its last place, and for each place one more than the place before it in its bucket; 0 where there is none.
 pub record Index : Type 0 where
-  pub keys : List (List ℕ)
-  pub groups : List (List ℕ)
-  pub count : ℕ
+  pub last : List ℕ
+  pub before : List ℕ
 
--- The number is that of the key, and no other is.
-abbrev pub IsNumberOf : List (List ℕ) → List ℕ → ℕ → Type 0
-IsNumberOf keys key number = (slice_get keys number ≡ Some key) × ((other : ℕ) → slice_get keys other ≡ Some key → other ≡ number)
+-- The hash with a code taken into it.
+unfoldable pub mixed : ℕ → ℕ → ℕ
+mixed hash code = ((hash * 11400714819323198485) % 2 ^ 64 + code) % 2 ^ 64
 
--- The group of the first key that is this one; a key that is not there has no place.
-abbrev pub group_of : List (List ℕ) → List (List ℕ) → List ℕ → List ℕ
-group_of [] groups key = []
-group_of (first ∷ keys) [] key = []
-group_of (first ∷ keys) (group ∷ groups) key = cond (bytes_eq first key) group (group_of keys groups key)
+-- The hash of the key, from a hash on.
+abbrev pub hash_from : ℕ → List ℕ → ℕ
+hash_from hash [] = hash
+hash_from hash (code ∷ key) = hash_from (mixed hash code) key
 
--- The groups with a place more: at the end of the group of the number, or in a new group after the others.
-abbrev pub with_place : List (List ℕ) → ℕ → ℕ → List (List ℕ)
-with_place [] number place = (place ∷ []) ∷ []
-with_place (group ∷ groups) zero place = (group ++ place ∷ []) ∷ groups
-with_place (group ∷ groups) (suc number) place = group ∷ with_place groups number place
+-- The bucket of the key among so many.
+abbrev pub bucket_of : ℕ → List ℕ → ℕ
+bucket_of count key = hash_from 0 key % count
 
--- The places of a key in a list of keys, in rising order.
-abbrev pub places_of_key : List ℕ → List (List ℕ) → List ℕ
-places_of_key key listed = places_where (λ other. bytes_eq other key) 0 listed
+-- What leads on along the chain of the bucket from below a place: it is 0, or one more than the last place of the bucket that is below that place.
+pub record LeadsOn (buckets : List ℕ) (bucket below next : ℕ) : Type 0 where
+  pub within : next ≤ below
+  pub own : (place : ℕ) → place + 1 ≡ next → slice_get buckets place ≡ Some bucket
+  pub past : (place : ℕ) → place < below → slice_get buckets place ≡ Some bucket → place < next
 
--- The index is that of a list of keys, one for each place: it gives each key its places there.
-pub record IsIndexOf (index : Index) (listed : List (List ℕ)) : Type 0 where
-  pub count : index.count ≡ length listed
-  pub long : length index.groups ≡ length index.keys
-  pub places : (key : List ℕ) → group_of index.keys index.groups key ≡ places_of_key key listed
+-- For each place, what stands there leads on from below it along the chain of its bucket.
+abbrev pub LeadBefore : List ℕ → List ℕ → Type 0
+LeadBefore before buckets =
+    (place bucket : ℕ) → slice_get buckets place ≡ Some bucket → LeadsOn buckets bucket place (slice_index_or before place 0)
+
+-- The chains are those of places with these buckets.
+pub record AreChains (index : Index) (buckets : List ℕ) : Type 0 where
+  pub long : length index.before ≡ length buckets
+  pub last : (bucket : ℕ) → LeadsOn buckets bucket (length buckets) (slice_index_or index.last bucket 0)
+  pub before : LeadBefore index.before buckets
+
+-- The index with the next place on the chain of the bucket.
+abbrev pub with_place : Index → ℕ → Index
+with_place index bucket = record {
+  last = slice_set index.last bucket (length index.before + 1);
+  before = index.before ++ slice_index_or index.last bucket 0 ∷ [];
+}
+
+-- The index is that of a list of keys, one for each place: its chains are those of their buckets.
+abbrev pub IsIndexOf : Index → List (List ℕ) → Type 0
+IsIndexOf index listed = AreChains index (map (bucket_of (length index.last)) listed)
+
+-- The places are those of the keys that pass some test, in rising order; the key passes it.
+abbrev pub AreAmongPlaces : List ℕ → List (List ℕ) → List ℕ → Type 0
+AreAmongPlaces key listed places = (test : List ℕ → Bool) × (test key ≡ true) × (places ≡ places_where test 0 listed)
 
 -- The codes that a row has in the columns.
 abbrev pub key_at : List ℕ → List ℕ → List ℕ

@@ -1,100 +1,178 @@
-//! Indexes of keys, which find the places of a key without a look at the others.
-ghost use Rattle.std.specs.Prelude.{◌≡◌, ◌++◌, ◌∷◌, [], List, ℕ, IfOk, OnOk};
-ghost use Rattle.esto_columns.specs.Indexed.{IsIndexOf, group_of, places_of_key, with_place};
+//! Indexes of keys, which find the places of a key without a look at most of the others.
+ghost use Rattle.std.specs.Prelude.{◌≡◌, ◌++◌, ◌∷◌, [], ◌<◌, ◌≤◌, List, ℕ, length, reverse, slice_index_or, IfOk, OnOk, OnErr};
+ghost use Rattle.esto_columns.specs.Indexed.{IsIndexOf, LeadsOn, LeadBefore, mixed, hash_from, bucket_of, with_place, AreAmongPlaces};
+ghost use Rattle.esto_columns.specs.Picked.{places_of};
 
-use crate::keys::Keys;
 use esto_term::{OutOfMemory, Places, Values};
 use std::alloc::Global;
 use std::marker::Model;
 
-/// An index of a list of keys, which are rows of codes: one key for each place, counted from 0.
+/// By what a hash is multiplied before a code is added to it.
+const FACTOR: u64 = 0x9E37_79B9_7F4A_7C15;
+
+/// An index of a list of keys, which are rows of codes: one key for each place, counted from 0. The places of each bucket
+/// of keys are a chain, from the last one to the first. A place stands here as one more than it is, and 0 ends a chain.
+/// `last` has for each bucket its last place, and `before` for each place the one before it.
 #[derive(Drop)]
 pub struct Index {
-    keys: Keys,
-    groups: Vec<Places>,
-    count: usize,
+    last: Places,
+    before: Places,
 }
 
 impl Model for Index {
+    ghost use Rattle.std.specs.Prelude.{◌<◌, length};
     ghost use Rattle.esto_columns.specs.Indexed.{Index};
 
     ghost Value = { Index };
 
-    ghost view = { λ it. record { keys = it.keys; groups = it.groups.items; count = it.count } };
+    ghost view = { λ it. record { last = it.last; before = it.before } };
+
+    ghost invariant = { λ it. 0 < length it.last };
 }
 
-/// Puts a new group with the place alone after the others.
-fn put_new_group(alloc: Global, groups: &mut Vec<Places>, place: usize) -> Result<(), OutOfMemory>
-    ensures { OnOk result (groups.new.items ≡ groups.old.items ++ (place ∷ []) ∷ []) }
+/// The hash with the code taken into it.
+fn mixed(hash: u64, code: u64) -> u64
+    ensures { result ≡ mixed hash code }
 {
-    let group = Values::from_slice(alloc, &[place])?;
-    match groups.push(group) {
-        Ok(()) => Ok(()),
-        Err(_) => Err(OutOfMemory),
+    hash.wrapping_mul(FACTOR).wrapping_add(code)
+}
+
+/// The hash of the key.
+fn hash_of(key: &[u64]) -> u64
+    ensures { result ≡ hash_from 0 key.now }
+{
+    let mut hash: u64 = 0;
+    'codes: for code in key {
+        hash = mixed(hash, *code);
+    }
+    hash
+}
+
+/// The bucket of the key among so many.
+fn bucket_of(key: &[u64], count: usize) -> usize
+    requires { 0 < count }
+    ensures value { result ≡ bucket_of count key.now }
+    ensures within { result < count }
+{
+    (hash_of(key) % count as u64) as usize
+}
+
+/// What stands at the place, or 0 past the end.
+fn item_at(places: &Places, at: usize) -> usize
+    ensures { result ≡ slice_index_or places.now at 0 }
+{
+    match places.items().get(at) {
+        Some(place) => *place,
+        None => 0,
     }
 }
 
-/// Puts the place at the end of the group of the number, or into a new group after the others.
-fn put_in_group(
-    alloc: Global,
-    groups: &mut Vec<Places>,
-    number: usize,
-    place: usize,
-) -> Result<(), OutOfMemory>
-    ensures { OnOk result (groups.new.items ≡ with_place groups.old.items number place) }
+/// So many zeros.
+fn zeros(alloc: Global, count: usize) -> Result<Places, OutOfMemory>
+    ensures long { IfOk result (λ it. length it ≡ count) }
+    ensures zero { IfOk result (λ it. (at : ℕ) → slice_index_or it at 0 ≡ 0) }
 {
-    if number < groups.len() {
-        let group = &mut groups[number];
-        return group.push(place);
+    let mut zeros = Values::new(alloc);
+    'places: for _place in 0..count {
+        zeros.push(0)?;
     }
-    put_new_group(alloc, groups, place)
+    Ok(zeros)
+}
+
+/// One more than the place before this one on its chain, or 0.
+fn place_before(before: &Places, place: usize) -> usize
+    ensures within { result ≤ place }
+    ensures value { slice_index_or before.now place 0 ≤ place
+        → result ≡ slice_index_or before.now place 0 }
+{
+    item_at(before, place).min(place)
+}
+
+/// Puts the next place on the chain of the bucket.
+fn put(last: &mut Places, before: &mut Places, bucket: usize) -> Result<(), OutOfMemory>
+    requires { bucket < length last.old }
+    ensures long { length last.new ≡ length last.old }
+    ensures ok { OnOk result (record { last = last.new; before = before.new }
+        ≡ with_place (record { last = last.old; before = before.old }) bucket) }
+    ensures last { OnErr result (last.new ≡ last.old) }
+    ensures before { OnErr result (before.new ≡ before.old) }
+{
+    let count = before.len();
+    if count == usize::MAX {
+        return Err(OutOfMemory);
+    }
+    before.push(item_at(last, bucket))?;
+    last.set(bucket, count + 1);
+    Ok(())
+}
+
+/// The places of a chain, from the last one, to which one leads that is one more, to the first.
+fn chain_of(alloc: Global, before: &Places, last: usize) -> Result<Vec<usize>, OutOfMemory>
+    ensures { IfOk result (λ it. (buckets : List ℕ) (bucket : ℕ)
+        → LeadBefore before.now buckets → LeadsOn buckets bucket (length buckets) last
+        → reverse it.items ≡ places_of 0 bucket buckets) }
+{
+    let mut places = Vec::new(alloc);
+    let mut next = last;
+    'places: while next > 0 {
+        let place = next - 1;
+        let Ok(()) = places.push(place) else {
+            return Err(OutOfMemory);
+        };
+        next = place_before(before, place);
+    }
+    Ok(places)
 }
 
 impl Index {
-    /// The index of no keys, which takes no memory.
-    pub fn new(alloc: Global) -> Index
-        ensures { IsIndexOf result [] }
+    /// The index of no keys. Places are found fast as long as there are not many more of them than the count.
+    pub fn new(alloc: Global, count: usize) -> Result<Index, OutOfMemory>
+        ensures { IfOk result (λ it. IsIndexOf it []) }
     {
-        Index {
-            keys: Keys::new(alloc),
-            groups: Vec::new(alloc),
-            count: 0,
-        }
-    }
-
-    /// The index with the key at the next place. Where memory is wanting, the index is gone.
-    pub fn add(self, alloc: Global, key: &[u64]) -> Result<Index, OutOfMemory>
-        ensures { IfOk result (λ it. (listed : List (List ℕ))
-            → IsIndexOf self listed → IsIndexOf it (listed ++ key.now ∷ [])) }
-    {
-        let Index {
-            keys,
-            groups,
-            count,
-        } = self;
-        if count == usize::MAX {
-            return Err(OutOfMemory);
-        }
-        let mut keys = keys;
-        let mut groups = groups;
-        let number = keys.number(alloc, key)?;
-        put_in_group(alloc, &mut groups, number, count)?;
+        let last = zeros(alloc, count.max(1))?;
         Ok(Index {
-            keys,
-            groups,
-            count: count + 1,
+            last,
+            before: Values::new(alloc),
         })
     }
 
-    /// The places of the key, in rising order.
-    pub fn places(&self, key: &[u64]) -> &[usize]
-        ensures { (listed : List (List ℕ)) → IsIndexOf self.now listed
-            → result.now ≡ places_of_key key.now listed }
+    /// Puts the key at the next place.
+    pub fn add(&mut self, key: &[u64]) -> Result<(), OutOfMemory>
+        ensures ok { OnOk result ((listed : List (List ℕ))
+            → IsIndexOf self.old listed → IsIndexOf self.new (listed ++ key.now ∷ [])) }
+        ensures err { OnErr result (self.new ≡ self.old) }
     {
-        match self.keys.find(key) {
-            Some(number) if number < self.groups.len() => self.groups[number].items(),
-            _ => &[],
-        }
+        let bucket = bucket_of(key, self.last.len());
+        put(&mut self.last, &mut self.before, bucket)
+    }
+
+    /// One more than the last place of the key's bucket, or 0.
+    pub fn last_of(&self, key: &[u64]) -> usize
+        ensures { result ≡ slice_index_or self.now.last
+            (bucket_of (length self.now.last) key.now) 0 }
+    {
+        let bucket = bucket_of(key, self.last.len());
+        item_at(&self.last, bucket)
+    }
+
+    /// One more than the place before this one in its bucket, or 0.
+    pub fn before(&self, place: usize) -> usize
+        ensures within { result ≤ place }
+        ensures value { slice_index_or self.now.before place 0 ≤ place
+            → result ≡ slice_index_or self.now.before place 0 }
+    {
+        place_before(&self.before, place)
+    }
+
+    /// Places in rising order, among which are all of the key.
+    pub fn places(&self, alloc: Global, key: &[u64]) -> Result<Vec<usize>, OutOfMemory>
+        ensures { IfOk result (λ it. (listed : List (List ℕ))
+            → IsIndexOf self.now listed → AreAmongPlaces key.now listed it.items) }
+    {
+        let last = self.last_of(key);
+        let mut places = chain_of(alloc, &self.before, last)?;
+        places.reverse();
+        Ok(places)
     }
 }
 

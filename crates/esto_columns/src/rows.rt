@@ -2,7 +2,7 @@
 ghost use Rattle.std.specs.Prelude.{◌≡◌, ℕ, List, [], ◌∷◌, ◌++◌, ◌<◌, length, map, slice_get, slice_index_or, Some, Contains, IfOk, OnOk, OnErr, MatchOption, IsTrue};
 ghost use Rattle.esto_columns.specs.CodedRows.{CodedRows};
 ghost use Rattle.esto_columns.specs.Columns.{HaveLength};
-ghost use Rattle.esto_columns.specs.Indexed.{IsIndexOf, key_at, places_of_key};
+ghost use Rattle.esto_columns.specs.Indexed.{IsIndexOf, AreAmongPlaces, key_at};
 
 use crate::index::{Index, RowIndex};
 use crate::table::{Column, Table};
@@ -54,11 +54,11 @@ fn key_of(alloc: Global, columns: &[usize], row: &[u64]) -> Result<Values<u64>, 
 fn indexed(alloc: Global, table: &Table, columns: &[usize]) -> Result<Index, OutOfMemory>
     ensures { IfOk result (λ it. IsIndexOf it (map (key_at columns.now) table.now.rows)) }
 {
-    let mut index = Index::new(alloc);
+    let mut index = Index::new(alloc, table.len())?;
     'rows: for at in 0..table.len() {
         let row = table.row(alloc, at)?;
         let key = key_of(alloc, columns, row.items())?;
-        index = index.add(alloc, key.items())?;
+        index.add(key.items())?;
     }
     Ok(index)
 }
@@ -126,17 +126,23 @@ impl Rows {
         self.indexes.push(RowIndex { columns, index })
     }
 
-    /// The places of the rows that hold the codes of the key in the columns, in rising order. `None` may come where
-    /// the rows have no index by these columns, in this order.
-    pub fn places(&self, columns: &[usize], key: &[u64]) -> Option<&[usize]>
-        ensures { MatchOption result Unit (λ places. places.now
-            ≡ places_of_key key.now (map (key_at columns.now) self.now.rows)) }
+    /// Places of rows in rising order, among which are all that hold the codes of the key in the columns. `None` may come
+    /// where the rows have no index by these columns, in this order.
+    pub fn places(
+        &self,
+        alloc: Global,
+        columns: &[usize],
+        key: &[u64],
+    ) -> Result<Option<Vec<usize>>, OutOfMemory>
+        ensures { IfOk result (λ found. MatchOption found Unit (λ places.
+            AreAmongPlaces key.now (map (key_at columns.now) self.now.rows) places.items)) }
     {
         'indexes: for own in self.indexes.items() {
             if own.columns.items() == columns {
-                return Some(own.index.places(key));
+                let places = own.index.places(alloc, key)?;
+                return Ok(Some(places));
             }
         }
-        None
+        Ok(None)
     }
 }

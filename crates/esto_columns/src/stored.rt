@@ -150,8 +150,8 @@ fn found(alloc: Global, rows: &Rows, inputs: &[Input]) -> Result<Rows, OutOfMemo
 {
     let columns = columns_of(alloc, inputs)?;
     let codes = codes_of(alloc, inputs)?;
-    if let Some(places) = rows.places(columns.items(), codes.items()) {
-        return held_among(alloc, rows, places, inputs);
+    if let Some(places) = rows.places(alloc, columns.items(), codes.items())? {
+        return held_among(alloc, rows, places.as_slice(), inputs);
     }
     if inputs.is_empty() {
         return scanned(alloc, rows, inputs);

@@ -1,14 +1,14 @@
 -- Rows that are asked for, row by row.
-use Rattle.std.proofs.Common.{◌≡◌, ◌⊎◌, inl, inr, ℕ, zero, suc, ◌+◌, ◌<◌, ◌≤◌, true, ◌&&◌, List, [], ◌∷◌, ◌++◌, map, length, get_or, take, Option, Some, None, is_some, slice_get, Contains, refl, sym, ap, ◌∙◌, subst, arith, eqb, eq-eqb}
+use Rattle.std.proofs.Common.{◌≡◌, ◌⊎◌, inl, inr, ℕ, zero, suc, ◌+◌, ◌<◌, ◌≤◌, true, ◌&&◌, List, [], ◌∷◌, ◌++◌, map, length, get_or, take, Some, slice_get, Contains, refl, sym, ap, ◌∙◌, subst, arith, eqb, eq-eqb}
 use Rattle.std.specs.List.{filter}
-use Rattle.std.specs.Prelude.{MatchOption}
 use Rattle.std.proofs.lemmas.List.{get_or_default, take_more, take_all, append_assoc, length-map}
 use Rattle.std.proofs.lemmas.List.Elements.{Contains-append_left, Contains-append_right, Contains-append_cases, Contains-push_cases}
 use Rattle.std.proofs.lemmas.Option.{same_Some, get_or_from_slice_get}
 use Rattle.esto_term.proofs.ListLemmas.{Contains-at, Contains-nil, Contains-head, Contains-rest, Contains-filter, Contains-filter_from}
 use Rattle.esto_columns.specs.declared.fragment.Input.{Input}
 use Rattle.esto_columns.specs.Asked.{holds_all}
-use Rattle.esto_columns.specs.Indexed.{IsNumberOf}
+use Rattle.esto_columns.specs.CodedRows.{CodedRows}
+use Rattle.esto_columns.specs.Columns.{HaveLength}
 use Rattle.esto_plan.specs.declared.steps.Get.{Get}
 use Rattle.esto_plan.specs.declared.steps.Link.{Link}
 use Rattle.esto_plan.specs.declared.steps.Source.{Source}
@@ -90,10 +90,6 @@ pub named_length : (links : List Link) (cells : List ℕ) (sources : List Source
     → NamesCodes cells sources key → length key ≡ length links
 named_length links cells sources is key named = length-named cells sources key named ∙ ap length is ∙ length-map links (λ (link : Link). link.source)
 
-pub grown_key : (old new : List (List ℕ)) (given key : List ℕ) (number : ℕ) → given ≡ key → (new ≡ old) ⊎ ((new ≡ old ++ given ∷ []) × (number ≡ length old))
-    → (new ≡ old) ⊎ (new ≡ old ++ key ∷ [])
-grown_key old new given key number same grown = elim grown [ inl kept ↦ inl kept | inr more ↦ inr (more.0 ∙ ap (λ it. old ++ it ∷ []) same) ]
-
 module _ (get : Get) (rows : List (List ℕ)) (cells : List ℕ) (sources : List Source) (is : sources ≡ map (λ (link : Link). link.source) get.inputs) where
   pub named_by : (row : List ℕ) → Follows get cells row → (codes : List ℕ) × NamesCodes cells sources codes
   named_by row follows = let names = met_names cells row get.inputs follows.inputs in (names.0, subst (λ it. NamesCodes cells it names.0) (sym is) names.1)
@@ -139,17 +135,19 @@ module _ (asked new got : List (List ℕ)) (grown : new ≡ asked ++ got) where
 
 -- ---- rows, one by one
 
-pub push_row_more : (start into new rows : List (List ℕ)) (count : ℕ) (row : List ℕ) → count < length rows → slice_get rows count ≡ Some row
-    → into ≡ start ++ take count rows → new ≡ into ++ row ∷ [] → new ≡ start ++ take (count + 1) rows
-push_row_more start into new rows count row below at so_far is =
-    is ∙ ap (λ them. them ++ row ∷ []) so_far ∙ append_assoc start (take count rows) (row ∷ [])
-    ∙ ap (λ them. start ++ them) (sym
-    (take_more rows count row below ∙ ap (λ it. take count rows ++ it ∷ []) (get_or_from_slice_get rows count row row at)))
+pub row_long : (rows : CodedRows) (at : ℕ) (row given : List ℕ) → slice_get rows.rows at ≡ Some row → given ≡ row → HaveLength rows.arity rows.rows
+    → length given ≡ rows.arity
+row_long rows at row given is same fits = ap length same ∙ fits row (Contains-at rows.rows at row is)
 
-pub key_seen : (seen : List (List ℕ)) (key : List ℕ) (found : Option ℕ) → MatchOption found (¬ (Contains seen key)) (IsNumberOf seen key) → true ≡ is_some found
-    → Contains seen key
-key_seen seen key None told some = absurd (cc)
-key_seen seen key (Some number) told some = Contains-at seen number key told.0
+pub push_row_more : (start into new : CodedRows) (rows : List (List ℕ)) (count : ℕ) (row given : List ℕ) → count < length rows
+    → slice_get rows count ≡ Some row → given ≡ row → into ≡ record { arity = start.arity; rows = start.rows ++ take count rows }
+    → new ≡ record { arity = into.arity; rows = into.rows ++ given ∷ [] }
+    → new ≡ record { arity = start.arity; rows = start.rows ++ take (count + 1) rows }
+push_row_more start into new rows count row given below at same so_far is =
+    is ∙ ap (λ (it : CodedRows). record { arity = it.arity; rows = it.rows ++ given ∷ [] }) so_far
+    ∙ ap (λ them. record { arity = start.arity; rows = them })
+    (append_assoc start.rows (take count rows) (given ∷ []) ∙ ap (λ them. start.rows ++ them)
+    (sym (take_more rows count row below ∙ ap (λ it. take count rows ++ it ∷ []) (get_or_from_slice_get rows count row row at ∙ sym same))))
 
 pub inputs_turn : (links items : List Link) (codes : List ℕ) (inputs new : List Input) (count : ℕ) (default : Link) → items ≡ links
     → length codes ≡ length links → count < length items → inputs ≡ inputs_with (take count items) codes
@@ -160,18 +158,17 @@ inputs_turn links items codes inputs new count default same long below so_far is
     ∙ sym (inputs_more items codes count (get_or items count default) (long ∙ sym (ap length same)) below
     (get_or_default items count default (get_or items count default) below))
 
-pub asked_all : (get : Get) (rows so_far items seen asked : List (List ℕ)) (count : ℕ) → items ≡ so_far → length items ≤ count
-    → IsAskedBelow get rows items count seen asked
+pub asked_all : (get : Get) (rows so_far seen asked : List (List ℕ)) (count : ℕ) → length so_far ≤ count → IsAskedBelow get rows so_far count seen asked
     → (cells row : List ℕ) → Contains so_far cells → Contains rows row → Follows get cells row → Contains asked row
-asked_all get rows so_far items seen asked count same past below cells row among =
-    below.complete cells row (subst (λ them. Contains them cells) (sym (take_all count items past ∙ same)) among)
+asked_all get rows so_far seen asked count past below cells row among =
+    below.complete cells row (subst (λ them. Contains them cells) (sym (take_all count so_far past)) among)
 
 pub asked_turn : (get : Get) (rows so_far : List (List ℕ)) (count : ℕ) (seen asked new_seen new : List (List ℕ)) (cells given : List ℕ) → given ≡ cells
-    → count < length so_far → cells ≡ get_or so_far count cells → IsAskedBelow get rows so_far count seen asked
+    → count < length so_far → slice_get so_far count ≡ Some cells → IsAskedBelow get rows so_far count seen asked
     → ((row : List ℕ) → Contains asked row → Contains new row) → ((row : List ℕ) → Contains new row → Contains asked row ⊎ Contains rows row)
     → (AreAnswered get.inputs rows seen asked → AreAnswered get.inputs rows new_seen new)
     → (AreAnswered get.inputs rows seen asked → (row : List ℕ) → Contains rows row → Follows get given row → Contains new row)
     → IsAskedBelow get rows so_far (count + 1) new_seen new
 asked_turn get rows so_far count seen asked new_seen new cells given same below is before kept sound answered complete =
-    asked_more get rows so_far count seen asked new_seen new cells below is before kept sound answered
+    asked_more get rows so_far count seen asked new_seen new cells below (sym (get_or_from_slice_get so_far count cells cells is)) before kept sound answered
     (λ told row among follows. complete told row among (subst (λ it. Follows get it row) (sym same) follows))

@@ -1,34 +1,27 @@
 -- Indexes of rows, row by row.
-use Rattle.std.proofs.Common.{◌≡◌, inl, inr, ℕ, zero, suc, ◌+◌, ◌<◌, ◌≤◌, Bool, true, false, cond, List, [], ◌∷◌, ◌++◌, map, length, get_or, take, Some, slice_get, Contains, refl, sym, ap, ◌∙◌, subst, arith}
+use Rattle.std.proofs.Common.{◌≡◌, ◌⊎◌, inl, inr, ℕ, ◌+◌, ◌<◌, ◌≤◌, List, [], ◌∷◌, ◌++◌, map, length, take, Some, slice_get, refl, sym, ap, ◌∙◌, subst, arith}
+use Rattle.std.proofs.lemmas.Bool.{cases_order}
 use Rattle.std.proofs.lemmas.List.{length-append, take_more, take_all}
-use Rattle.std.proofs.lemmas.Option.{none-some}
-use Rattle.std.proofs.lemmas.Slice.Eq.{bytes_eq-Decides}
-use Rattle.std.specs.Str.{bytes_eq}
-use Rattle.esto_term.proofs.ListLemmas.{Contains-head, Contains-rest, at_left, at_end, at_pushed}
-use Rattle.esto_columns.specs.Indexed.{Index, IsIndexOf, places_of_key}
-use Rattle.esto_columns.specs.Picked.{places_where}
+use Rattle.std.proofs.lemmas.Option.{none-some, slice_get_within, get_or_from_slice_get}
+use Rattle.esto_term.proofs.ListLemmas.{Contains-at, at_left, at_end, at_pushed, map_at, place-from_Contains}
+use Rattle.esto_columns.specs.Indexed.{Index, IsIndexOf, LeadsOn, AreChains, bucket_of}
+use Rattle.esto_plan.specs.declared.steps.Get.{Get}
 use Rattle.esto_plan.specs.declared.steps.Source.{Source}
+use Rattle.esto_plan.specs.Meaning.{Follows}
+use Rattle.esto_exec.specs.Indexed.{FindsRows}
+use Rattle.esto_exec.specs.Joined.{IsFollower, IsFollowerAt, GainsOnly}
 use Rattle.esto_exec.specs.Named.{NamesCodes}
-use Rattle.esto_exec.specs.Indexed.{AreKeysOf, FindsRows}
-
-same_some : (row other : List ℕ) → map Some row ≡ map Some other → row ≡ other
-same_some [] [] e = refl
-same_some [] (x ∷ other) e = absurd (cc)
-same_some (x ∷ row) [] e = absurd (cc)
-same_some (x ∷ row) (y ∷ other) e = let first : x ≡ y = cc in let rest = same_some row other (cc) in λ i. first i ∷ rest i
-
-pub one_key : (row : List ℕ) (columns : List Source) (key other : List ℕ) → NamesCodes row columns key → NamesCodes row columns other → key ≡ other
-one_key row columns key other named also = same_some key other (sym named ∙ also)
+use Rattle.esto_exec.proofs.NamedLemmas.{one_key}
 
 pub finds_none : (columns : List Source) (index : Index) → IsIndexOf index [] → FindsRows [] columns index
 finds_none columns index is = ([], is, record { long = refl; named = λ place row codes at named. absurd (none-some row at) })
 
 pub finds_more : (columns : List Source) (rows : List (List ℕ)) (count : ℕ) (row given key own : List ℕ) (index new : Index) → count < length rows
-    → row ≡ get_or rows count row → given ≡ row
+    → slice_get rows count ≡ Some row → given ≡ row
     → ((codes : List ℕ) → NamesCodes given columns codes → codes ≡ key) → own ≡ key → FindsRows (take count rows) columns index
     → ((keys : List (List ℕ)) → IsIndexOf index keys → IsIndexOf new (keys ++ own ∷ [])) → FindsRows (take (count + 1) rows) columns new
 finds_more columns rows count row given key own index new below is same named own_is (keys, before, are) added =
-    let more : take (count + 1) rows ≡ take count rows ++ row ∷ [] = take_more rows count row below ∙ ap (λ it. take count rows ++ it ∷ []) (sym is) in (
+    let more : take (count + 1) rows ≡ take count rows ++ row ∷ [] = take_more rows count row below ∙ ap (λ it. take count rows ++ it ∷ []) (get_or_from_slice_get rows count row row is) in (
       keys ++ own ∷ [],
       added keys before,
       record {
@@ -42,34 +35,95 @@ finds_more columns rows count row given key own index new below is same named ow
       },
     )
 
-pub finds_all : (columns : List Source) (rows items : List (List ℕ)) (count : ℕ) (index : Index) → items ≡ rows → length items ≤ count
-    → FindsRows (take count items) columns index → FindsRows rows columns index
-finds_all columns rows items count index same past finds = subst (λ them. FindsRows them columns index) (take_all count items past ∙ same) finds
+pub finds_all : (columns : List Source) (rows : List (List ℕ)) (count : ℕ) (index : Index) → length rows ≤ count
+    → FindsRows (take count rows) columns index → FindsRows rows columns index
+finds_all columns rows count index past finds = subst (λ them. FindsRows them columns index) (take_all count rows past) finds
 
--- ---- the places of a key
+-- ---- a walk along the chain of a bucket, from its last place to its first
 
-where_has : {X : Type 0} (test : X → Bool) (from : ℕ) (xs : List X) (place : ℕ) (x : X) → slice_get xs place ≡ Some x → test x ≡ true
-    → Contains (places_where test from xs) (from + place)
-where_has test from [] place x at passes = absurd (none-some x at)
-where_has test from (first ∷ xs) zero x at passes =
-    let same : first ≡ x = cc in let here : from ≡ from + 0 = omega arith in
-    subst (λ answer. Contains (cond answer (from ∷ places_where test (from + 1) xs) (places_where test (from + 1) xs)) (from + 0)) (sym (ap test same ∙ passes))
-    (subst (Contains (from ∷ places_where test (from + 1) xs)) here (Contains-head from (places_where test (from + 1) xs)))
-where_has test from (first ∷ xs) (suc place) x at passes =
-    let next : from + 1 + place ≡ from + suc place = omega arith in
-    by (test first) (subst (Contains (places_where test (from + 1) xs)) next (where_has test (from + 1) xs place x at passes))
-  where
-    by : (answer : Bool) → Contains (places_where test (from + 1) xs) (from + suc place)
-        → Contains (cond answer (from ∷ places_where test (from + 1) xs) (places_where test (from + 1) xs)) (from + suc place)
-    by true later = Contains-rest from (places_where test (from + 1) xs) (from + suc place) later
-    by false later = later
+-- what the new rows gain is exactly what the places of the bucket from `next` on give
+abbrev pub FromNext : (ℕ → List ℕ → Type 0) → List ℕ → ℕ → ℕ → List ℕ → Type 0
+FromNext Gives buckets bucket next both = (place : ℕ) × (next ≤ place) × (slice_get buckets place ≡ Some bucket) × Gives place both
 
--- an index has the place of each row with the key
-pub found_place : (rows : List (List ℕ)) (columns : List Source) (index : Index) (key places : List ℕ) → FindsRows rows columns index
-    → ((keys : List (List ℕ)) → IsIndexOf index keys → places ≡ places_of_key key keys)
-    → (place : ℕ) (row : List ℕ) → slice_get rows place ≡ Some row → NamesCodes row columns key → Contains places place
-found_place rows columns index key places (keys, is, are) found place row at named =
-    let plain : 0 + place ≡ place = omega arith in
-    subst (λ them. Contains them place) (sym (found keys is))
-    (subst (Contains (places_of_key key keys)) plain
-    (where_has (λ other. bytes_eq other key) 0 keys place key (are.named place row key at named) ((bytes_eq-Decides key key).1 refl)))
+pub record Walked (Gives : ℕ → List ℕ → Type 0) (buckets : List ℕ) (bucket next : ℕ) (start new : List (List ℕ)) : Type 0 where
+  pub own : (place : ℕ) → place + 1 ≡ next → slice_get buckets place ≡ Some bucket
+  pub gains : GainsOnly start new (FromNext Gives buckets bucket next)
+
+module _ (Gives : ℕ → List ℕ → Type 0) (buckets : List ℕ) (bucket : ℕ) (start : List (List ℕ)) where
+  pub walk_start : (next : ℕ) → LeadsOn buckets bucket (length buckets) next → Walked Gives buckets bucket next start start
+  walk_start next leads = record {
+    own = leads.own;
+    gains = λ both. (
+      (λ has. inl has),
+      (λ has. elim has [
+        | inl old ↦ old
+        | inr (place, past, at, gives) ↦
+            absurd (let below = leads.past place (slice_get_within buckets place bucket at) at in omega (arith, below, past))
+      ]),
+    );
+  }
+
+  pub walk_on : (next place then : ℕ) (old new : List (List ℕ)) → place + 1 ≡ next → LeadsOn buckets bucket place then
+      → Walked Gives buckets bucket next start old → GainsOnly old new (Gives place) → Walked Gives buckets bucket then start new
+  walk_on next place then old new is leads walked gains = record {
+    own = leads.own;
+    gains = λ both. (
+      (λ has. elim ((gains both).0 has) [
+        | inl before ↦ elim ((walked.gains both).0 before) [
+          | inl in_start ↦ inl in_start
+          | inr (other, past, at, gives) ↦ let within = leads.within in inr (other, omega (arith, past, is, within), at, gives)
+        ]
+        | inr gives ↦ inr (place, leads.within, walked.own place is, gives)
+      ]),
+      (λ has. (gains both).1 (elim has [
+        | inl in_start ↦ inl ((walked.gains both).1 (inl in_start))
+        | inr (other, past, at, gives) ↦ elim (below_or_same other) [
+          | inl under ↦ absurd (let before = leads.past other under at in omega (arith, before, past))
+          | inr (inl same) ↦ inr (subst (λ it. Gives it both) same gives)
+          | inr (inr later) ↦ inl ((walked.gains both).1 (inr (other, later, at, gives)))
+        ]
+      ])),
+    );
+  }
+    where
+      below_or_same : (other : ℕ) → (other < place) ⊎ ((other ≡ place) ⊎ (next ≤ other))
+      below_or_same other = elim (cases_order other place) [
+        | inl same ↦ inr (inl same)
+        | inr (inl under) ↦ inl under
+        | inr (inr past) ↦ inr (inr (omega (arith, is, past)))
+      ]
+
+  pub walk_end : (next : ℕ) (new : List (List ℕ)) → next ≤ 0 → Walked Gives buckets bucket next start new
+      → GainsOnly start new (λ both. (place : ℕ) × (slice_get buckets place ≡ Some bucket) × Gives place both)
+  walk_end next new none walked both = (
+    (λ has. elim ((walked.gains both).0 has) [ inl in_start ↦ inl in_start | inr (place, past, at, gives) ↦ inr (place, at, gives) ]),
+    (λ has. (walked.gains both).1 (elim has [
+      | inl in_start ↦ inl in_start
+      | inr (place, at, gives) ↦ inr (place, omega (arith, none), at, gives)
+    ])),
+  )
+
+-- the chain of a key's bucket has all followers
+pub followers_found : (get : Get) (cells : List ℕ) (rows old new : List (List ℕ)) (sources columns : List Source) (index : Index) (key : List ℕ)
+    → NamesCodes cells sources key
+    → ((row : List ℕ) → Follows get cells row → (codes : List ℕ) × NamesCodes cells sources codes × NamesCodes row columns codes)
+    → FindsRows rows columns index
+    → ((buckets : List ℕ) → AreChains index buckets → GainsOnly old new (λ both. (place : ℕ)
+    × (slice_get buckets place ≡ Some (bucket_of (length index.last) key)) × IsFollowerAt get cells rows place both))
+    → GainsOnly old new (IsFollower get cells rows)
+followers_found get cells rows old new sources columns index key named names (keys, are, of) gains it = (
+  (λ has. elim ((gains (map (bucket_of (length index.last)) keys) are it).0 has) [
+    | inl before ↦ inl before
+    | inr (place, in_bucket, follower) ↦ inr (follower.0, Contains-at rows place follower.0 follower.1, follower.2, follower.3)
+  ]),
+  (λ has. (gains (map (bucket_of (length index.last)) keys) are it).1 (elim has [
+    | inl before ↦ inl before
+    | inr (row, among, follows, is) ↦
+        let at = place-from_Contains rows row among in let codes = names row follows in
+        inr (
+          at.0,
+          map_at (bucket_of (length index.last)) keys at.0 key (of.named at.0 row key at.1 (subst (NamesCodes row columns) (one_key cells sources codes.0 key codes.1 named) codes.2)),
+          (row, at.1, follows, is),
+        )
+  ])),
+)

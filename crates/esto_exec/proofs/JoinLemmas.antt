@@ -3,14 +3,10 @@ use Rattle.std.proofs.Common.{◌≡◌, ◌⊎◌, ◌↔◌, inl, inr, ℕ, �
 use Rattle.std.proofs.lemmas.List.{take_more, take_all}
 use Rattle.std.proofs.lemmas.List.Elements.{Contains-append_left, Contains-push, Contains-push_cases}
 use Rattle.std.proofs.lemmas.Option.{same_Some}
-use Rattle.esto_term.proofs.ListLemmas.{Contains-at}
-use Rattle.esto_term.proofs.ListLemmas.{place-from_Contains}
+use Rattle.esto_term.proofs.ListLemmas.{Contains-nil}
 use Rattle.esto_plan.specs.declared.steps.Get.{Get}
-use Rattle.esto_plan.specs.declared.steps.Source.{Source}
 use Rattle.esto_plan.specs.Meaning.{Follows}
-use Rattle.esto_exec.specs.Named.{NamesCodes}
 use Rattle.esto_exec.specs.Joined.{IsJoin, IsFollower, IsFollowerAt, GainsOnly}
-use Rattle.esto_exec.proofs.IndexLemmas.{one_key}
 
 -- ---- one more thing of a list
 
@@ -73,25 +69,6 @@ follower_pushed get cells rows old new place row both at follows is grown it = (
   ]),
 )
 
--- the places of a key have all followers
-pub followers_found : (get : Get) (cells : List ℕ) (rows old new : List (List ℕ)) (sources columns : List Source) (key places : List ℕ)
-    → NamesCodes cells sources key
-    → ((row : List ℕ) → Follows get cells row → (codes : List ℕ) × NamesCodes cells sources codes × NamesCodes row columns codes)
-    → ((place : ℕ) (row : List ℕ) → slice_get rows place ≡ Some row → NamesCodes row columns key → Contains places place)
-    → GainsOnly old new (λ both. (place : ℕ) × Contains places place × IsFollowerAt get cells rows place both) → GainsOnly old new (IsFollower get cells rows)
-followers_found get cells rows old new sources columns key places named names there gains it = (
-  λ has. elim ((gains it).0 has) [
-    | inl before ↦ inl before
-    | inr (place, among, follower) ↦ inr (follower.0, Contains-at rows place follower.0 follower.1, follower.2, follower.3)
-  ],
-  λ has. (gains it).1 (elim has [
-    | inl before ↦ inl before
-    | inr (row, among, follows, is) ↦
-        let at = place-from_Contains rows row among in let codes = names row follows in
-        inr (at.0, there at.0 row at.1 (subst (NamesCodes row columns) (one_key cells sources codes.0 key codes.1 named) codes.2), (row, at.1, follows, is))
-  ]),
-)
-
 -- ---- joins
 
 pub joins_more : (get : Get) (so_far rows old new items : List (List ℕ)) (count : ℕ) (cells : List ℕ) → count < length items → cells ≡ get_or items count cells
@@ -108,8 +85,14 @@ joins_more get so_far rows old new items count cells below is before gains both 
   ]),
 )
 
-pub joins_all : (get : Get) (so_far rows new items : List (List ℕ)) (count : ℕ) → items ≡ so_far → length items ≤ count
-    → ((both : List ℕ) → Contains new both ↔ IsJoin get (take count items) rows both)
+pub joins_all : (get : Get) (so_far rows new : List (List ℕ)) (count : ℕ) → length so_far ≤ count
+    → ((both : List ℕ) → Contains new both ↔ IsJoin get (take count so_far) rows both)
     → (both : List ℕ) → Contains new both ↔ IsJoin get so_far rows both
-joins_all get so_far rows new items count same past joins =
-    subst (λ them. (both : List ℕ) → Contains new both ↔ IsJoin get them rows both) (take_all count items past ∙ same) joins
+joins_all get so_far rows new count past joins =
+    subst (λ them. (both : List ℕ) → Contains new both ↔ IsJoin get them rows both) (take_all count so_far past) joins
+
+pub joins_none : (get : Get) (so_far rows new : List (List ℕ)) → new ≡ [] → (both : List ℕ) → Contains new both ↔ IsJoin get (take 0 so_far) rows both
+joins_none get so_far rows new none both = (
+  (λ has. absurd (Contains-nil both (subst (λ them. Contains them both) none has))),
+  (λ join. absurd (Contains-nil join.0 join.2)),
+)

@@ -11,6 +11,15 @@ use Rattle.esto_plan.specs.declared.steps.Source.TheVariants.{Code, Cell}
 use Rattle.esto_plan.specs.Meaning.{code_at, IsMet, Follows}
 use Rattle.esto_exec.specs.Named.{NamesCodes, IsEarly}
 
+same_some : (row other : List ℕ) → map Some row ≡ map Some other → row ≡ other
+same_some [] [] e = refl
+same_some [] (x ∷ other) e = absurd (cc)
+same_some (x ∷ row) [] e = absurd (cc)
+same_some (x ∷ row) (y ∷ other) e = let first : x ≡ y = cc in let rest = same_some row other (cc) in λ i. first i ∷ rest i
+
+pub one_key : (row : List ℕ) (columns : List Source) (key other : List ℕ) → NamesCodes row columns key → NamesCodes row columns other → key ≡ other
+one_key row columns key other named also = same_some key other (sym named ∙ also)
+
 -- a source that names nothing
 pub none_names : (cells : List ℕ) (sources items : List Source) → items ≡ sources → (at : ℕ) (source : Source) → at < length items
     → source ≡ get_or items at source → code_at cells source ≡ None
@@ -58,12 +67,9 @@ filters_early get width links more link early among grown cells row wide follows
 ]
 
 -- the early links name one list of codes in the cells and in each row that follows
-pub early_names : (get : Get) (width : ℕ) (links : List Link) (sources columns : List Source) (so_far items : List (List ℕ)) → items ≡ so_far
-    → (index : ℕ) (cells item : List ℕ) → index < length items → item ≡ get_or items index item
-    → cells ≡ item → ((row : List ℕ) → Contains so_far row → width ≤ length row) → AreEarly get width links → sources ≡ map (λ (link : Link). link.source) links
-    → columns ≡ map (λ (link : Link). Cell link.column) links
+pub early_names : (get : Get) (width : ℕ) (links : List Link) (sources columns : List Source) (cells : List ℕ) → width ≤ length cells
+    → AreEarly get width links → sources ≡ map (λ (link : Link). link.source) links → columns ≡ map (λ (link : Link). Cell link.column) links
     → (row : List ℕ) → Follows get cells row → (codes : List ℕ) × NamesCodes cells sources codes × NamesCodes row columns codes
-early_names get width links sources columns so_far items same index cells item below at is wide early sources_are columns_are row follows =
-    let in_items : Contains items cells = subst (Contains items) (sym is) (index, below, sym at) in
-    let names = met_names cells row links (early cells row (wide cells (subst (λ them. Contains them cells) same in_items)) follows) in
+early_names get width links sources columns cells wide early sources_are columns_are row follows =
+    let names = met_names cells row links (early cells row wide follows) in
     (names.0, subst (λ it. NamesCodes cells it names.0) (sym sources_are) names.1, subst (λ it. NamesCodes row it names.0) (sym columns_are) names.2)

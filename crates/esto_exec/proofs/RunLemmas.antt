@@ -15,7 +15,7 @@ use Rattle.esto_plan.specs.Rows.{IsRowOf}
 use Rattle.esto_exec.specs.Named.{NamesCodes}
 use Rattle.esto_exec.specs.Joined.{IsJoin, GainsOnly}
 use Rattle.esto_exec.specs.Runnable.{AreRunnable}
-use Rattle.esto_exec.proofs.IndexLemmas.{one_key}
+use Rattle.esto_exec.proofs.NamedLemmas.{one_key}
 
 -- ---- the head
 

@@ -4,9 +4,10 @@ ghost use Rattle.esto_columns.specs.Asked.{IsAllowed};
 ghost use Rattle.esto_plan.specs.Meaning.{Follows};
 ghost use Rattle.esto_exec.specs.Inputs.{inputs_with, AreAnswered};
 
-use crate::codes::{CodeRows, codes_at};
+use crate::codes::codes_at;
 use crate::links::sources_of;
-use esto_columns::{Fragment, Input, Inputs, Keys, Rows};
+use crate::seen::Seen;
+use esto_columns::{Fragment, Input, Inputs, Rows};
 use esto_plan::{Get, Links, Sources};
 use esto_term::{List, OutOfMemory};
 use std::alloc::Global;
@@ -27,11 +28,17 @@ fn inputs_of(alloc: Global, links: &Links, codes: &[u64]) -> Result<Inputs, OutO
 }
 
 /// Puts the rows at the end, one by one.
-fn push_rows(alloc: Global, rows: &Rows, into: &mut CodeRows) -> Result<(), OutOfMemory>
-    ensures { OnOk result (into.new ≡ into.old ++ rows.now.rows) }
+fn push_rows(alloc: Global, rows: &Rows, into: &mut Rows) -> Result<(), OutOfMemory>
+    requires { into.old.arity ≡ rows.now.arity }
+    ensures { OnOk result (into.new ≡ record {
+      arity = into.old.arity;
+      rows = into.old.rows ++ rows.now.rows;
+    }) }
 {
+    let _arity = rows.arity();
     'rows: for at in 0..rows.len() {
-        into.push(rows.row(alloc, at)?)?;
+        let row = rows.row(alloc, at)?;
+        into.add(row.items())?;
     }
     Ok(())
 }
@@ -43,30 +50,35 @@ fn ask<F: Fragment>(
     fragment: &F,
     cells: &[u64],
     sources: &Sources,
-    seen: &mut Keys,
-    asked: &mut CodeRows,
+    seen: &mut Seen,
+    asked: &mut Rows,
 ) -> Result<(), OutOfMemory>
     requires allowed { IsAllowed (F.shape fragment.now) (map (λ link. link.column) get.now.inputs) }
     requires sources { sources.now ≡ map (λ link. link.source) get.now.inputs }
+    requires arity { asked.old.arity ≡ (F.shape fragment.now).arity }
+    requires width { seen.old.arity ≡ length get.now.inputs }
+    ensures width { OnOk result (seen.new.arity ≡ seen.old.arity) }
+    ensures arity { OnOk result (asked.new.arity ≡ asked.old.arity) }
     ensures kept { OnOk result ((row : List ℕ)
-        → Contains asked.old row → Contains asked.new row) }
-    ensures sound { OnOk result ((row : List ℕ) → Contains asked.new row
-        → Contains asked.old row ⊎ Contains (F.rows fragment.now) row) }
+        → Contains asked.old.rows row → Contains asked.new.rows row) }
+    ensures sound { OnOk result ((row : List ℕ) → Contains asked.new.rows row
+        → Contains asked.old.rows row ⊎ Contains (F.rows fragment.now) row) }
     ensures answered { OnOk result
-        (AreAnswered get.now.inputs (F.rows fragment.now) seen.old asked.old
-        → AreAnswered get.now.inputs (F.rows fragment.now) seen.new asked.new) }
+        (AreAnswered get.now.inputs (F.rows fragment.now) seen.old.rows asked.old.rows
+        → AreAnswered get.now.inputs (F.rows fragment.now) seen.new.rows asked.new.rows) }
     ensures complete { OnOk result
-        (AreAnswered get.now.inputs (F.rows fragment.now) seen.old asked.old
+        (AreAnswered get.now.inputs (F.rows fragment.now) seen.old.rows asked.old.rows
         → (row : List ℕ) → Contains (F.rows fragment.now) row
-        → Follows get.now cells.now row → Contains asked.new row) }
+        → Follows get.now cells.now row → Contains asked.new.rows row) }
 {
     let Some(key) = codes_at(alloc, cells, sources)? else {
         return Ok(());
     };
-    if seen.find(key.items()).is_some() {
+    let known = seen.has(alloc, key.items())?;
+    if known {
         return Ok(());
     }
-    seen.number(alloc, key.items())?;
+    seen.put(key.items())?;
     let inputs = inputs_of(alloc, &get.inputs, key.items())?;
     let rows = fragment.get(alloc, &inputs)?;
     push_rows(alloc, &rows, asked)
@@ -77,18 +89,20 @@ pub(crate) fn asked_rows<F: Fragment>(
     alloc: Global,
     get: &Get,
     fragment: &F,
-    so_far: &CodeRows,
-) -> Result<CodeRows, OutOfMemory>
+    so_far: &Rows,
+) -> Result<Rows, OutOfMemory>
     requires { IsAllowed (F.shape fragment.now) (map (λ link. link.column) get.now.inputs) }
     ensures sound { IfOk result (λ it. (row : List ℕ)
-        → Contains it row → Contains (F.rows fragment.now) row) }
-    ensures complete { IfOk result (λ it. (cells row : List ℕ) → Contains so_far.now cells
-        → Contains (F.rows fragment.now) row → Follows get.now cells row → Contains it row) }
+        → Contains it.rows row → Contains (F.rows fragment.now) row) }
+    ensures complete { IfOk result (λ it. (cells row : List ℕ)
+        → Contains so_far.now.rows cells → Contains (F.rows fragment.now) row
+        → Follows get.now cells row → Contains it.rows row) }
 {
     let sources = sources_of(alloc, &get.inputs)?;
-    let mut seen = Keys::new(alloc);
-    let mut asked = List::new(alloc);
-    'rows: for cells in so_far.items() {
+    let mut seen = Seen::new(alloc, get.inputs.len(), so_far.len())?;
+    let mut asked = Rows::new(alloc, fragment.arity())?;
+    'rows: for at in 0..so_far.len() {
+        let cells = so_far.row(alloc, at)?;
         ask(
             alloc,
             get,

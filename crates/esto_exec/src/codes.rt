@@ -5,11 +5,8 @@ ghost use Rattle.esto_plan.specs.Meaning.{code_at, IsMet};
 ghost use Rattle.esto_exec.specs.Named.{NamesCodes};
 
 use esto_plan::{Link, Links, Source, Sources};
-use esto_term::{List, OutOfMemory, Values};
+use esto_term::{OutOfMemory, Values};
 use std::alloc::Global;
-
-/// Rows of codes, one by one.
-pub(crate) type CodeRows = List<Values<u64>>;
 
 /// The code that the source names in the cells of a row.
 fn code_at(cells: &[u64], source: &Source) -> Option<u64>

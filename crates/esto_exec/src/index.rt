@@ -3,8 +3,8 @@ ghost use Rattle.std.specs.Prelude.{◌≡◌, List, ℕ, IfOk};
 ghost use Rattle.esto_exec.specs.Indexed.{FindsRows};
 ghost use Rattle.esto_exec.specs.Named.{NamesCodes};
 
-use crate::codes::{CodeRows, codes_at};
-use esto_columns::Index;
+use crate::codes::codes_at;
+use esto_columns::{Index, Rows};
 use esto_plan::Sources;
 use esto_term::{OutOfMemory, Values};
 use std::alloc::Global;
@@ -21,17 +21,14 @@ fn key_of(alloc: Global, row: &[u64], columns: &Sources) -> Result<Values<u64>, 
 }
 
 /// An index of the rows by the codes that the columns name in them.
-pub(crate) fn index_of(
-    alloc: Global,
-    rows: &CodeRows,
-    columns: &Sources,
-) -> Result<Index, OutOfMemory>
-    ensures { IfOk result (FindsRows rows.now columns.now) }
+pub(crate) fn index_of(alloc: Global, rows: &Rows, columns: &Sources) -> Result<Index, OutOfMemory>
+    ensures { IfOk result (FindsRows rows.now.rows columns.now) }
 {
-    let mut index = Index::new(alloc);
-    'rows: for row in rows.items() {
+    let mut index = Index::new(alloc, rows.len())?;
+    'rows: for at in 0..rows.len() {
+        let row = rows.row(alloc, at)?;
         let key = key_of(alloc, row.items(), columns)?;
-        index = index.add(alloc, key.items())?;
+        index.add(key.items())?;
     }
     Ok(index)
 }

@@ -1,17 +1,18 @@
 //! Rows so far joined with rows of a fragment.
-ghost use Rattle.std.specs.Prelude.{◌≡◌, ◌↔◌, ◌++◌, List, ℕ, Contains, IfOk, OnOk, IsTrue};
+ghost use Rattle.std.specs.Prelude.{◌≡◌, ◌↔◌, ◌++◌, ◌+◌, List, ℕ, Some, slice_get, length, Contains, IfOk, OnOk, IsTrue};
 ghost use Rattle.esto_plan.specs.Meaning.{Follows};
 ghost use Rattle.esto_plan.specs.declared.steps.Source.{Source};
+ghost use Rattle.esto_columns.specs.Indexed.{AreChains, bucket_of};
 ghost use Rattle.esto_exec.specs.Indexed.{FindsRows};
 ghost use Rattle.esto_exec.specs.Joined.{IsJoin, IsFollower, IsFollowerAt, GainsOnly};
 ghost use Rattle.esto_exec.specs.Named.{NamesCodes};
 
-use crate::codes::{CodeRows, codes_at, each_met};
+use crate::codes::{codes_at, each_met};
 use crate::index::index_of;
-use crate::links::{columns_of, early_links, least_len, sources_of};
-use esto_columns::Index;
+use crate::links::{columns_of, early_links, sources_of};
+use esto_columns::{Index, Rows};
 use esto_plan::{Get, Sources};
-use esto_term::{List, OutOfMemory, Values};
+use esto_term::{OutOfMemory, Values};
 use std::alloc::Global;
 
 /// The cells with those of the row after them.
@@ -38,38 +39,49 @@ fn push_follower(
     alloc: Global,
     get: &Get,
     cells: &[u64],
-    rows: &CodeRows,
+    rows: &Rows,
     place: usize,
-    into: &mut CodeRows,
+    into: &mut Rows,
 ) -> Result<(), OutOfMemory>
-    ensures { OnOk result
-        (GainsOnly into.old into.new (IsFollowerAt get.now cells.now rows.now place)) }
+    requires { into.old.arity ≡ length cells.now + rows.now.arity }
+    ensures arity { OnOk result (into.new.arity ≡ into.old.arity) }
+    ensures rows { OnOk result (GainsOnly into.old.rows into.new.rows
+        (IsFollowerAt get.now cells.now rows.now.rows place)) }
 {
+    let _arity = rows.arity();
     if place >= rows.len() {
         return Ok(());
     }
-    let row = rows.item(place).items();
-    let both = appended(alloc, cells, row)?;
-    if !follows(get, cells, both.items(), row) {
+    let row = rows.row(alloc, place)?;
+    let both = appended(alloc, cells, row.items())?;
+    if !follows(get, cells, both.items(), row.items()) {
         return Ok(());
     }
-    into.push(both)
+    into.add(both.items())
 }
 
-/// Puts those of the rows at the places that follow the cells after them.
+/// Puts those of the rows that follow the cells after them, of those whose keys are in one bucket with this one.
 fn push_followers(
     alloc: Global,
     get: &Get,
     cells: &[u64],
-    rows: &CodeRows,
-    places: &[usize],
-    into: &mut CodeRows,
+    rows: &Rows,
+    index: &Index,
+    key: &[u64],
+    into: &mut Rows,
 ) -> Result<(), OutOfMemory>
-    ensures { OnOk result (GainsOnly into.old into.new (λ both. (place : ℕ)
-        × Contains places.now place × IsFollowerAt get.now cells.now rows.now place both)) }
+    requires { into.old.arity ≡ length cells.now + rows.now.arity }
+    ensures arity { OnOk result (into.new.arity ≡ into.old.arity) }
+    ensures rows { OnOk result ((buckets : List ℕ) → AreChains index.now buckets
+        → GainsOnly into.old.rows into.new.rows (λ both. (place : ℕ)
+        × (slice_get buckets place ≡ Some (bucket_of (length index.now.last) key.now))
+        × IsFollowerAt get.now cells.now rows.now.rows place both)) }
 {
-    'places: for place in places {
-        push_follower(alloc, get, cells, rows, *place, into)?;
+    let mut next = index.last_of(key);
+    'places: while next > 0 {
+        let place = next - 1;
+        push_follower(alloc, get, cells, rows, place, into)?;
+        next = index.before(place);
     }
     Ok(())
 }
@@ -79,38 +91,46 @@ fn push_joined(
     alloc: Global,
     get: &Get,
     cells: &[u64],
-    rows: &CodeRows,
+    rows: &Rows,
     sources: &Sources,
     index: &Index,
-    into: &mut CodeRows,
+    into: &mut Rows,
 ) -> Result<(), OutOfMemory>
-    requires { (columns : List Source) × FindsRows rows.now columns index.now
+    requires arity { into.old.arity ≡ length cells.now + rows.now.arity }
+    requires found { (columns : List Source) × FindsRows rows.now.rows columns index.now
         × ((row : List ℕ) → Follows get.now cells.now row → (codes : List ℕ)
         × NamesCodes cells.now sources.now codes × NamesCodes row columns codes) }
-    ensures { OnOk result (GainsOnly into.old into.new (IsFollower get.now cells.now rows.now)) }
+    ensures arity { OnOk result (into.new.arity ≡ into.old.arity) }
+    ensures rows { OnOk result (GainsOnly into.old.rows into.new.rows
+        (IsFollower get.now cells.now rows.now.rows)) }
 {
     let Some(key) = codes_at(alloc, cells, sources)? else {
         return Ok(());
     };
-    push_followers(alloc, get, cells, rows, index.places(key.items()), into)
+    push_followers(alloc, get, cells, rows, index, key.items(), into)
 }
 
 /// The rows so far, each with every one of the rows that follows it after it.
 pub(crate) fn joined(
     alloc: Global,
     get: &Get,
-    so_far: &CodeRows,
-    rows: &CodeRows,
-) -> Result<CodeRows, OutOfMemory>
+    so_far: &Rows,
+    rows: &Rows,
+) -> Result<Rows, OutOfMemory>
     ensures { IfOk result (λ it. (both : List ℕ)
-        → Contains it both ↔ IsJoin get.now so_far.now rows.now both) }
+        → Contains it.rows both ↔ IsJoin get.now so_far.now.rows rows.now.rows both) }
 {
-    let links = early_links(alloc, get, least_len(so_far))?;
+    let width = so_far.arity();
+    let Some(arity) = width.checked_add(rows.arity()) else {
+        return Err(OutOfMemory);
+    };
+    let links = early_links(alloc, get, width)?;
     let sources = sources_of(alloc, &links)?;
     let columns = columns_of(alloc, &links)?;
     let index = index_of(alloc, rows, &columns)?;
-    let mut joined = List::new(alloc);
-    'rows: for cells in so_far.items() {
+    let mut joined = Rows::new(alloc, arity)?;
+    'rows: for at in 0..so_far.len() {
+        let cells = so_far.row(alloc, at)?;
         push_joined(
             alloc,
             get,

@@ -5,21 +5,9 @@ ghost use Rattle.esto_plan.specs.declared.steps.Source.TheVariants.{Cell};
 ghost use Rattle.esto_plan.specs.Meaning.{code_at, IsMet, Follows};
 ghost use Rattle.esto_exec.specs.Named.{IsEarly};
 
-use crate::codes::CodeRows;
 use esto_plan::{Get, Link, Links, Source, Sources};
 use esto_term::{List, OutOfMemory};
 use std::alloc::Global;
-
-/// The least length of the rows, or the greatest number where there is none.
-pub(crate) fn least_len(rows: &CodeRows) -> usize
-    ensures { (row : List ℕ) → Contains rows.now row → result ≤ length row }
-{
-    let mut least = usize::MAX;
-    'rows: for row in rows.items() {
-        least = least.min(row.len());
-    }
-    least
-}
 
 /// Whether the source is a code or one of the first cells, so many.
 fn is_early(source: &Source, width: usize) -> bool

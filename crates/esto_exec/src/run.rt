@@ -9,11 +9,11 @@ ghost use Rattle.esto_exec.specs.Runnable.{AreRunnable};
 ghost use Rattle.esto_exec.specs.Named.{NamesCodes};
 
 use crate::asked::asked_rows;
-use crate::codes::{CodeRows, codes_at};
+use crate::codes::codes_at;
 use crate::join::joined;
 use esto_columns::{Fragment, Rows};
 use esto_plan::{Get, Sources, Steps};
-use esto_term::{List, OutOfMemory, Values};
+use esto_term::OutOfMemory;
 use std::alloc::Global;
 
 /// The rows so far, each with every row of the fragment that follows it after it.
@@ -21,11 +21,11 @@ fn followed<F: Fragment>(
     alloc: Global,
     get: &Get,
     fragment: &F,
-    so_far: &CodeRows,
-) -> Result<CodeRows, OutOfMemory>
+    so_far: &Rows,
+) -> Result<Rows, OutOfMemory>
     requires { IsAllowed (F.shape fragment.now) (map (λ link. link.column) get.now.inputs) }
-    ensures { IfOk result (λ it. (both : List ℕ)
-        → Contains it both ↔ IsJoin get.now so_far.now (F.rows fragment.now) both) }
+    ensures { IfOk result (λ it. (both : List ℕ) → Contains it.rows both
+        ↔ IsJoin get.now so_far.now.rows (F.rows fragment.now) both) }
 {
     let asked = asked_rows(alloc, get, fragment, so_far)?;
     let rows = joined(alloc, get, so_far, &asked)?;
@@ -51,13 +51,14 @@ fn push_projected(
 }
 
 /// The codes of the head in each of the rows.
-fn projected(alloc: Global, head: &Sources, rows: &CodeRows) -> Result<Rows, OutOfMemory>
+fn projected(alloc: Global, head: &Sources, rows: &Rows) -> Result<Rows, OutOfMemory>
     ensures arity { IfOk result (λ it. it.arity ≡ length head.now) }
     ensures rows { IfOk result (λ it. (row : List ℕ) → Contains it.rows row
-        ↔ ((end : List ℕ) × Contains rows.now end × NamesCodes end head.now row)) }
+        ↔ ((end : List ℕ) × Contains rows.now.rows end × NamesCodes end head.now row)) }
 {
     let mut projected = Rows::new(alloc, head.len())?;
-    'rows: for cells in rows.items() {
+    'rows: for at in 0..rows.len() {
+        let cells = rows.row(alloc, at)?;
         push_projected(alloc, head, cells.items(), &mut projected)?;
     }
     Ok(projected)
@@ -76,8 +77,8 @@ pub fn run_plan<F: Fragment>(
     ensures rows { IfOk result (λ it. (row : List ℕ) → Contains it.rows row
         ↔ IsResult (IsRowOf (held_by (map F.rows fragments.now))) steps.now row) }
 {
-    let mut so_far = List::new(alloc);
-    so_far.push(Values::new(alloc))?;
+    let mut so_far = Rows::new(alloc, 0)?;
+    so_far.add(&[])?;
     'gets: for get in steps.gets.items() {
         so_far = followed(alloc, get, &fragments[get.fragment], &so_far)?;
     }

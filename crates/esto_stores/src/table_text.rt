@@ -49,13 +49,23 @@ fn put_row(alloc: Global, writer: &mut Writer<Vec<u8>>, row: &[Text]) -> Result<
     put_cells(writer, cells.as_slice())
 }
 
+// The bytes, which are moved where they are a text, and else copied.
+fn taken(alloc: Global, bytes: Vec<u8>) -> Result<Bytes, OutOfMemory>
+    ensures { IfOk result (λ it. it ≡ bytes.items) }
+{
+    match String::from_utf8(bytes) {
+        Ok(text) => Ok(Bytes::from_string(text)),
+        Err(error) => Bytes::from_slice(alloc, error.as_bytes()),
+    }
+}
+
 // The bytes that the writer has written.
 fn ended(alloc: Global, writer: Writer<Vec<u8>>) -> Result<Bytes, OutOfMemory>
     requires { Writes writer }
     ensures { IfOk result (λ text. text ≡ written writer) }
 {
     match writer.into_inner() {
-        Ok(text) => Bytes::from_slice(alloc, text.as_slice()),
+        Ok(bytes) => taken(alloc, bytes),
         Err(_) => Err(OutOfMemory),
     }
 }

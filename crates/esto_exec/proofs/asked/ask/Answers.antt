@@ -1,10 +1,10 @@
-use Rattle.std.proofs.Common.{ℕ, List, map, sym, subst, ap, ◌∙◌}
+use Rattle.std.proofs.Common.{inr, ℕ, List, [], ◌∷◌, ◌++◌, map, sym, subst, ap, ◌∙◌}
 use Rattle.std.proofs.lemmas.Option.{MatchOption-at_none, MatchOption-at_some}
 use Rattle.std.proofs.lemmas.Result.{on_ok_weaker}
 use Rattle.esto_columns.specs.Asked.{IsAllowed}
 use Rattle.esto_columns.specs.CodedRows.{CodedRows}
 use Rattle.esto_exec.specs.Named.{NamesCodes}
-use Rattle.esto_exec.proofs.AskedLemmas.{named_by, seen_complete, key_seen, columns_with, named_length, grown_key, ask_kept, ask_sound, ask_answered, ask_complete}
+use Rattle.esto_exec.proofs.AskedLemmas.{named_by, seen_complete, columns_with, named_length, ask_kept, ask_sound, ask_answered, ask_complete}
 use Rattle.esto_exec.proofs.asked.ask.Goals as goal
 
 pub returns-in_default-clause-complete : goal.returns-in_default-clause-complete
@@ -13,13 +13,13 @@ returns-in_default-clause-complete g c = λ answered row among follows.
     (NamesCodes c.args.cells.now c.args.sources.now) c.in_default.is c.in_ok-key.ensures
     (named_by c.args.get.now (g.F.Fragment.rows c.args.fragment.now) c.args.cells.now c.args.sources.now c.requires.sources row follows))
 
-pub returns-then-is_some-clause-complete : goal.returns-then-is_some-clause-complete
-returns-then-is_some-clause-complete g c =
+pub returns-then-known-clause-complete : goal.returns-then-known-clause-complete
+returns-then-known-clause-complete g c =
     seen_complete c.args.get.now (g.F.Fragment.rows c.args.fragment.now) c.args.cells.now c.args.sources.now c.requires.sources c.items.result.now
     (subst (NamesCodes c.args.cells.now c.args.sources.now) (sym c.items.ensures)
     (MatchOption-at_some (¬ ((codes : List ℕ) × NamesCodes c.args.cells.now c.args.sources.now codes))
     (NamesCodes c.args.cells.now c.args.sources.now) c.in-Some.key c.in-Some.is c.in_ok-key.ensures))
-    c.args.seen.now c.args.asked.now (key_seen c.args.seen.now c.items.result.now c.find.result c.find.ensures c.if-is_some.ensures)
+    c.args.seen.now.rows c.args.asked.now.rows (c.in_ok-known.ensures c.if-known.true)
 
 pub get-requires : goal.get-requires
 get-requires g c =
@@ -32,33 +32,41 @@ get-requires g c =
     (NamesCodes c.args.cells.now c.args.sources.now) c.in-Some.key c.in-Some.is c.in_ok-key.ensures)))))
     c.requires.allowed
 
+pub push_rows-requires : goal.push_rows-requires
+push_rows-requires g c = c.requires.arity ∙ sym (ap (λ (it : CodedRows). it.arity) c.in_ok-rows.ensures)
+
+pub returns-clause-arity : goal.returns-clause-arity
+returns-clause-arity g c = on_ok_weaker c.push_rows.result (λ grown. ap (λ (it : CodedRows). it.arity) grown) c.push_rows.ensures
+
 pub returns-clause-kept : goal.returns-clause-kept
 returns-clause-kept g c =
-    on_ok_weaker c.push_rows.result (λ grown. ask_kept c.args.asked.now c.push_rows.new.into c.in_ok-rows.rows.rows grown) c.push_rows.ensures
+    on_ok_weaker c.push_rows.result (λ grown. ask_kept c.args.asked.now.rows c.push_rows.new.into.rows c.in_ok-rows.rows.rows (ap (λ (it : CodedRows). it.rows) grown)) c.push_rows.ensures
 
 pub returns-clause-sound : goal.returns-clause-sound
 returns-clause-sound g c =
     on_ok_weaker c.push_rows.result
-    (λ grown. ask_sound c.args.asked.now c.push_rows.new.into c.in_ok-rows.rows.rows grown (g.F.Fragment.rows c.args.fragment.now) c.in_ok-inputs.inputs
+    (λ grown. ask_sound c.args.asked.now.rows c.push_rows.new.into.rows c.in_ok-rows.rows.rows
+    (ap (λ (it : CodedRows). it.rows) grown) (g.F.Fragment.rows c.args.fragment.now) c.in_ok-inputs.inputs
     (ap (λ (it : CodedRows). it.rows) c.in_ok-rows.ensures))
     c.push_rows.ensures
 
 pub returns-clause-answered : goal.returns-clause-answered
 returns-clause-answered g c =
     on_ok_weaker c.push_rows.result
-    (λ grown. ask_answered c.args.asked.now c.push_rows.new.into c.in_ok-rows.rows.rows grown (g.F.Fragment.rows c.args.fragment.now) c.in_ok-inputs.inputs
+    (λ grown. ask_answered c.args.asked.now.rows c.push_rows.new.into.rows c.in_ok-rows.rows.rows
+    (ap (λ (it : CodedRows). it.rows) grown) (g.F.Fragment.rows c.args.fragment.now) c.in_ok-inputs.inputs
     (ap (λ (it : CodedRows). it.rows) c.in_ok-rows.ensures)
-    c.args.get.now c.items-3.result.now c.in_ok-inputs.ensures c.args.seen.now c.number.new.self
-    (grown_key c.args.seen.now c.number.new.self c.items-2.result.now c.items-3.result.now _
-    (c.items-2.ensures ∙ sym c.items-3.ensures) c.in_ok-number.ensures.grown))
+    c.args.get.now c.items-3.result.now c.in_ok-inputs.ensures c.args.seen.now.rows c.put.new.self.rows
+    (inr (ap (λ (it : CodedRows). it.rows) c.in_ok-put.ensures ∙ ap (λ it. c.args.seen.now.rows ++ it ∷ []) (c.items-2.ensures ∙ sym c.items-3.ensures))))
     c.push_rows.ensures
 
 pub returns-clause-complete : goal.returns-clause-complete
 returns-clause-complete g c =
     on_ok_weaker c.push_rows.result
-    (λ grown. ask_complete c.args.asked.now c.push_rows.new.into c.in_ok-rows.rows.rows grown (g.F.Fragment.rows c.args.fragment.now) c.in_ok-inputs.inputs
+    (λ grown. ask_complete c.args.asked.now.rows c.push_rows.new.into.rows c.in_ok-rows.rows.rows
+    (ap (λ (it : CodedRows). it.rows) grown) (g.F.Fragment.rows c.args.fragment.now) c.in_ok-inputs.inputs
     (ap (λ (it : CodedRows). it.rows) c.in_ok-rows.ensures)
-    c.args.get.now c.items-3.result.now c.in_ok-inputs.ensures c.args.seen.now c.args.cells.now c.args.sources.now c.requires.sources
+    c.args.get.now c.items-3.result.now c.in_ok-inputs.ensures c.args.seen.now.rows c.args.cells.now c.args.sources.now c.requires.sources
     (subst (NamesCodes c.args.cells.now c.args.sources.now) (sym c.items-3.ensures)
     (MatchOption-at_some (¬ ((codes : List ℕ) × NamesCodes c.args.cells.now c.args.sources.now codes))
     (NamesCodes c.args.cells.now c.args.sources.now) c.in-Some.key c.in-Some.is c.in_ok-key.ensures)))

@@ -2,4 +2,4 @@ use Rattle.std.proofs.Common.{◌≡◌, ◌++◌, take}
 use Rattle.esto_exec.proofs.asked.push_rows.Given as goal
 
 abbrev pub invariant-rows : goal.invariant-rows
-invariant-rows l = l.into ≡ l.initial.into ++ take l.at l.rows.rows
+invariant-rows l = l.into ≡ record { arity = l.initial.into.arity; rows = l.initial.into.rows ++ take l.at l.rows.rows }

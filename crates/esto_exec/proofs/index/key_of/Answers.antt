@@ -1,7 +1,7 @@
 use Rattle.std.proofs.Common.{ℕ, List}
 use Rattle.std.proofs.lemmas.Option.{MatchOption-at_some}
 use Rattle.esto_exec.specs.Named.{NamesCodes}
-use Rattle.esto_exec.proofs.IndexLemmas.{one_key}
+use Rattle.esto_exec.proofs.NamedLemmas.{one_key}
 use Rattle.esto_exec.proofs.index.key_of.Goals as goal
 
 pub returns-in-Some : goal.returns-in-Some

@@ -2,16 +2,15 @@ use Rattle.std.proofs.Common.{ℕ, List, sym, subst}
 use Rattle.std.proofs.lemmas.Option.{MatchOption-at_some}
 use Rattle.std.proofs.lemmas.Result.{on_ok_weaker}
 use Rattle.esto_exec.specs.Named.{NamesCodes}
-use Rattle.esto_exec.proofs.IndexLemmas.{found_place}
-use Rattle.esto_exec.proofs.JoinLemmas.{followers_found}
+use Rattle.esto_exec.proofs.IndexLemmas.{followers_found}
 use Rattle.esto_exec.proofs.join.push_joined.Goals as goal
 
-pub returns : goal.returns
-returns c = on_ok_weaker c.push_followers.result
-    (followers_found c.args.get.now c.args.cells.now c.args.rows.now c.args.into.now c.push_followers.new.into c.args.sources.now c.requires.0
-    c.items.result.now c.places.result.now
+pub returns-clause-rows : goal.returns-clause-rows
+returns-clause-rows c = on_ok_weaker c.push_followers.result
+    (followers_found c.args.get.now c.args.cells.now c.args.rows.now.rows c.args.into.now.rows c.push_followers.new.into.rows c.args.sources.now
+    c.requires.found.0 c.args.index.now c.items.result.now
     (subst (NamesCodes c.args.cells.now c.args.sources.now) (sym c.items.ensures)
     (MatchOption-at_some (¬ ((codes : List ℕ) × NamesCodes c.args.cells.now c.args.sources.now codes))
     (NamesCodes c.args.cells.now c.args.sources.now) c.in-Some.key c.in-Some.is c.in_ok-key.ensures))
-    c.requires.2 (found_place c.args.rows.now c.requires.0 c.args.index.now c.items.result.now c.places.result.now c.requires.1 c.places.ensures))
-    c.push_followers.ensures
+    c.requires.found.2 c.requires.found.1)
+    c.push_followers.ensures.rows

@@ -1,4 +1,5 @@
-use Rattle.std.proofs.Common.{ℕ, List, [], Contains, ◌∙◌, subst}
+use Rattle.std.proofs.Common.{◌<◌, ℕ, List, [], Contains, ◌∙◌, sym, subst, arith}
+use Rattle.std.proofs.lemmas.Option.{get_or_from_slice_get}
 use Rattle.esto_exec.specs.Joined.{GainsOnly}
 use Rattle.esto_exec.specs.Named.{NamesCodes}
 use Rattle.esto_exec.proofs.JoinLemmas.{gains_more, gains_all}
@@ -7,8 +8,9 @@ use Rattle.esto_exec.proofs.run.projected.Goals as goal
 
 pub rows-preserved : goal.rows-preserved
 rows-preserved c = (
-  gains_more (λ cells. NamesCodes cells c.args.head.now) c.items-cells-items.result.now [] c.rows.projected.rows c.push_projected.new.into.rows
-      c.rows.cells-index c.cells-item.result c.rows-test.true c.cells-item.is c.rows.invariant.0
+  gains_more (λ cells. NamesCodes cells c.args.head.now) c.args.rows.now.rows [] c.rows.projected.rows c.push_projected.new.into.rows
+      c.rows.at c.in_ok-cells.cells (subst (λ it. c.rows.at < it) c.len-at-end.ensures c.rows-test.true)
+      (sym (get_or_from_slice_get c.args.rows.now.rows c.rows.at c.in_ok-cells.cells c.in_ok-cells.cells c.in_ok-cells.ensures)) c.rows.invariant.0
       (subst (λ cells. GainsOnly c.rows.projected.rows c.push_projected.new.into.rows (NamesCodes cells c.args.head.now)) c.items.ensures
       c.in_ok-push_projected.ensures.rows),
   c.in_ok-push_projected.ensures.arity ∙ c.rows.invariant.1,
@@ -16,9 +18,7 @@ rows-preserved c = (
 
 pub returns-clause-rows : goal.returns-clause-rows
 returns-clause-rows c =
-    subst (λ (them : List (List ℕ)). (row : List ℕ)
-    → (Contains c.rows.projected.rows row → (end : List ℕ) × Contains them end × NamesCodes end c.args.head.now row)
-    × ((end : List ℕ) × Contains them end × NamesCodes end c.args.head.now row → Contains c.rows.projected.rows row)) c.items-cells-items.ensures
-    (gains_from_none c.rows.projected.rows (λ row. (end : List ℕ) × Contains c.items-cells-items.result.now end × NamesCodes end c.args.head.now row)
-    (gains_all (λ cells. NamesCodes cells c.args.head.now) c.items-cells-items.result.now [] c.rows.projected.rows c.rows.cells-index c.rows-test.false
-    c.rows.invariant.0))
+    gains_from_none c.rows.projected.rows (λ row. (end : List ℕ) × Contains c.args.rows.now.rows end × NamesCodes end c.args.head.now row)
+    (gains_all (λ cells. NamesCodes cells c.args.head.now) c.args.rows.now.rows [] c.rows.projected.rows c.rows.at
+    (let past = c.rows-test.false in let count = c.len-at-end.ensures in omega (arith, past, count))
+    c.rows.invariant.0)

@@ -4,5 +4,5 @@ use Rattle.esto_exec.specs.Named.{NamesCodes}
 use Rattle.esto_exec.proofs.run.projected.Given as goal
 
 abbrev pub invariant-rows : goal.invariant-rows
-invariant-rows l = (GainsOnly [] l.projected.rows (λ row. (end : List ℕ) × Contains (take l.cells-index l.cells-items) end × NamesCodes end l.head row))
+invariant-rows l = (GainsOnly [] l.projected.rows (λ row. (end : List ℕ) × Contains (take l.at l.rows.rows) end × NamesCodes end l.head row))
     × (l.projected.arity ≡ length l.head)

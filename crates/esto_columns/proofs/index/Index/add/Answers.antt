@@ -1,9 +1,14 @@
-use Rattle.std.proofs.Common.{◌+◌, sym, subst, refl}
-use Rattle.esto_columns.specs.Indexed.{IsIndexOf}
-use Rattle.esto_columns.proofs.IndexLemmas.{added_key}
+use Rattle.std.proofs.Common.{◌<◌, ap, sym, subst, ◌∙◌}
+use Rattle.std.proofs.lemmas.Result.{on_ok_weaker}
+use Rattle.esto_columns.specs.Indexed.{IsIndexOf, bucket_of}
+use Rattle.esto_columns.proofs.IndexLemmas.{index_put}
 use Rattle.esto_columns.proofs.index.Index.add.Goals as goal
 
-pub returns : goal.returns
-returns c = λ listed is. added_key (record { keys = c.self.inside.keys; groups = c.self.inside.groups.items; count = c.self.inside.count })
-    (record { keys = c.number.new.self; groups = c.put_in_group.new.groups.items; count = c.self.inside.count + 1 }) listed c.args.key.now c.in_ok-number.number
-    (subst (λ it. IsIndexOf it listed) (sym c.self.view_is) is) c.in_ok-number.ensures.found c.in_ok-number.ensures.grown c.in_ok-put_in_group.ensures refl
+pub returns-clause-ok : goal.returns-clause-ok
+returns-clause-ok c = on_ok_weaker c.put.result
+    (λ put listed are. index_put (record { last = c.self.inside.last; before = c.self.inside.before })
+    (record { last = c.put.new.last; before = c.put.new.before }) listed c.args.key.now c.bucket_of-bucket.result
+    (c.bucket_of-bucket.ensures.value ∙ ap (λ count. bucket_of count c.args.key.now) c.len.ensures)
+    (subst (λ count. c.bucket_of-bucket.result < count) c.len.ensures c.bucket_of-bucket.ensures.within) put
+    (subst (λ it. IsIndexOf it listed) (sym c.self.view_is) are))
+    c.put.ensures.ok
