@@ -1,13 +1,11 @@
 -- The end of a run under new names, and what it is minimised to.
-use Rattle.std.proofs.Common.{◌≡◌, ◌≢◌, ◌⊎◌, ◌↔◌, inl, inr, ℕ, Bool, true, false, cond, List, [], ◌∷◌, length, map, Contains, refl, sym, ap, ◌∙◌, subst}
+use Rattle.std.proofs.Common.{◌≡◌, ◌≢◌, inl, inr, List, [], ◌∷◌, length, map, Contains, refl, sym, ap, ◌∙◌, subst}
 use Rattle.std.proofs.lemmas.List.{length-map}
 use Rattle.esto_term.specs.declared.term.Term.{Term}
-use Rattle.esto_term.specs.declared.term.Term.TheVariants.{Const}
 use Rattle.esto_term.proofs.ListLemmas.{Contains-map_from, map_then}
 use Rattle.esto_semantics.specs.Containment.{IsSatisfiable}
 use Rattle.esto_semantics.specs.ContainmentLaws.{InstanceSatisfies}
 use Rattle.esto_semantics.specs.Expansions.{IsOfQuery}
-use Rattle.esto_semantics.specs.Facts.{Database, image}
 use Rattle.esto_semantics.specs.Instances.{IsUniversalFor, MapsTo}
 use Rattle.esto_semantics.specs.Listed.{IsEquivalentPart}
 use Rattle.esto_semantics.specs.Maps.{IsFlat}
@@ -26,12 +24,10 @@ use Rattle.esto_universal.specs.RenamedLaws.{RenamedIsOne, RenamedPlanIsRenamed}
 use Rattle.esto_universal.specs.Stated.{IsRenamed, IsRenamedPlan}
 use Rattle.esto_views.specs.Plans.{fact_of, plan_query}
 use Rattle.esto_views.specs.Soundness.{IsNamed, IsSoundPlan}
-use Rattle.esto_views.specs.declared.plan.PlanAtom.{PlanAtom}
 use Rattle.esto_views.specs.declared.plan.Plan.{Plan}
 use Rattle.esto_contain.specs.Ends.{FinishesAt}
-use Rattle.esto_contain.specs.Minimised.{instance_of, IsMinimised}
+use Rattle.esto_contain.specs.Minimised.{instance_of}
 use Rattle.esto_contain.specs.MinimisedLaws.{MinimisedIsOne}
-use Rattle.esto_contain.specs.declared.minimising.Minimal.{Minimal}
 
 -- ---- an instance under new names
 

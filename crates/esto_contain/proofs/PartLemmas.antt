@@ -1,5 +1,5 @@
 -- A set of an instance's facts is equivalent to a query exactly where its world has a match of the query, head to head with the instance's head.
-use Rattle.std.proofs.Common.{◌≡◌, ◌⊎◌, ◌↔◌, inl, inr, ℕ, Bool, List, length, Some, Contains, refl, sym, ap, subst, ◌∙◌}
+use Rattle.std.proofs.Common.{◌≡◌, ◌⊎◌, ◌↔◌, inl, inr, Bool, List, length, Some, Contains, refl, sym, ap, subst, ◌∙◌}
 use Rattle.esto_term.specs.declared.term.Term.{Term}
 use Rattle.esto_semantics.specs.Containment.{IsSatisfiable}
 use Rattle.esto_semantics.specs.ContainmentLaws.{PartContains}
@@ -11,7 +11,6 @@ use Rattle.esto_semantics.specs.Maps.{IsFlat}
 use Rattle.esto_semantics.specs.Queries.{ConjunctiveQuery, IsQuery}
 use Rattle.esto_semantics.specs.Rules.{Rule, AreRules}
 use Rattle.esto_semantics.specs.Sets.{Covers, IsMinimal}
-use Rattle.esto_semantics.specs.declared.fact.Fact.{Fact}
 use Rattle.esto_bits.specs.Kept.{AreOver, IsAntichain}
 use Rattle.esto_bits.proofs.FamilyLemmas.{antichain_is_minimal}
 use Rattle.esto_views.specs.declared.expansion.ExpandedFact.{ExpandedFact}

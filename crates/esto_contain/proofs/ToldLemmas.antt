@@ -1,14 +1,12 @@
 -- What is told of containment, at the end of a run or at its clash.
-use Rattle.std.proofs.Common.{◌≡◌, ◌↔◌, Bool, IsTrue, inl, inr, List, Contains, refl, sym, subst}
+use Rattle.std.proofs.Common.{◌≡◌, ◌↔◌, inl, List, refl, subst}
 use Rattle.esto_term.specs.declared.term.Term.{Term}
 use Rattle.esto_semantics.specs.Containment.{IsContained, IsSatisfiable}
 use Rattle.esto_semantics.specs.ContainmentLaws.{InstanceShows, QueriesAreDecided}
-use Rattle.esto_semantics.specs.Facts.{Database}
 use Rattle.esto_semantics.specs.Instances.{MapsTo}
 use Rattle.esto_semantics.specs.Queries.{ConjunctiveQuery, IsAnswer, IsQuery}
 use Rattle.esto_semantics.specs.Rules.{Rule, AreRules}
 use Rattle.esto_semantics.specs.declared.fact.Fact.{Fact}
-use Rattle.esto_semantics.specs.declared.fact.Value.{Value}
 use Rattle.esto_chase_laws.specs.ReceivedLaws.{FinishedRunsDecide, StatesAreUniversalForQueries}
 use Rattle.esto_chase_laws.specs.RunLaws.{EndIsOne}
 use Rattle.esto_chase_laws.specs.Runs.{IsRun, start_of}

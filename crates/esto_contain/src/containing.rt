@@ -1,5 +1,5 @@
 //! Whether one query is contained in another.
-ghost use Rattle.std.specs.Prelude.{IfOk};
+ghost use Rattle.std.specs.Prelude.{IfOk, List};
 ghost use Rattle.esto_constraint.specs.Constraints.{rules_of};
 ghost use Rattle.esto_contain.specs.Contained.{IfNo, IsCounterexample, TellsContained};
 ghost use Rattle.esto_contain.specs.Ends.{FinishesAt};

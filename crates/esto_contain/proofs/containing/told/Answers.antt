@@ -1,18 +1,17 @@
-use Rattle.std.proofs.Common.{subst}
 use Rattle.esto_query.specs.Making.{query_of}
 use Rattle.esto_constraint.specs.Constraints.{rules_of}
 use Rattle.esto_universal.proofs.PlannedLemmas.{constraints-AreRules}
 use Rattle.esto_contain.proofs.ToldLemmas.{unsatisfiable_contained}
 use Rattle.esto_contain.proofs.containing.told.Goals as goal
 
-pub returns-in_ok-answer-in-Left : goal.returns-in_ok-answer-in-Left
-returns-in_ok-answer-in-Left c =
+pub returns-in-Left : goal.returns-in-Left
+returns-in-Left c =
     c.in_ok-answer-in-Left.ensures (rules_of c.args.catalogue.now.rules) (query_of c.args.left.now)
     (constraints-AreRules c.args.catalogue.now.rules c.rules_are_sound.ensures.rules) (c.queries_are_sound.ensures c.args.left.now).query
     (rw c.in-Left.is at c.in_ok-outcome.ensures)
 
-pub returns-in-Right : goal.returns-in-Right
-returns-in-Right c =
+pub returns : goal.returns
+returns c =
     let rules = rules_of c.args.catalogue.now.rules in
     let left = query_of c.args.left.now in
     unsatisfiable_contained rules left (query_of c.args.right.now)

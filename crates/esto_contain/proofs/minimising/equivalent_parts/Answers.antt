@@ -1,4 +1,4 @@
-use Rattle.std.proofs.Common.{◌<◌, ◌↔◌, ◌∙◌, Bool, List, length, map, sym, ap, subst}
+use Rattle.std.proofs.Common.{◌<◌, ◌≡◌, ◌↔◌, inl, ◌∙◌, Bool, List, length, sym, ap, subst}
 use Rattle.esto_constraint.specs.Constraints.{rules_of}
 use Rattle.esto_bits.specs.Kept.{AreOver}
 use Rattle.esto_plan_laws.specs.Cores.{with_head}
@@ -9,9 +9,8 @@ use Rattle.esto_term.specs.declared.term.Term.{Term}
 use Rattle.esto_universal.proofs.PlannedLemmas.{constraints-AreRules}
 use Rattle.esto_world_laws.specs.Laws.{HasMatch}
 use Rattle.esto_world_laws.specs.Steps.{AreJoined}
-use Rattle.esto_world_laws.specs.Worlds.{AreOfCount, InWorld}
+use Rattle.esto_world_laws.specs.Worlds.{InWorld}
 use Rattle.esto_world_laws.specs.declared.entry.Entry.{Entry}
-use Rattle.esto_contain.specs.Numbered.{AreNumbered}
 use Rattle.esto_contain.proofs.MinimisedLemmas.{head_length}
 use Rattle.esto_contain.proofs.NumberedLemmas.{numbered_below, numbered_flat}
 use Rattle.esto_contain.proofs.PartLemmas.{told_parts}

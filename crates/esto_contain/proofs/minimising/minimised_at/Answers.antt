@@ -1,9 +1,7 @@
-use Rattle.std.proofs.Common.{◌≢◌, ◌∙◌, [], sym, subst}
+use Rattle.std.proofs.Common.{◌≢◌, [], sym, subst}
 use Rattle.esto_constraint.specs.Constraints.{rules_of}
 use Rattle.esto_instance.specs.Instances.{state_of}
-use Rattle.esto_plan_laws.specs.Cores.{with_head}
 use Rattle.esto_query.specs.Making.{query_of}
-use Rattle.esto_universal.specs.Stated.{IsRenamedPlan}
 use Rattle.esto_universal.proofs.PlannedLemmas.{constraints-AreRules}
 use Rattle.esto_contain.proofs.MinimisedLemmas.{end_satisfies, end_universal, facts_flat, facts_named, facts_renamed, facts_universal, head_stays}
 use Rattle.esto_contain.proofs.minimising.minimised_at.Goals as goal

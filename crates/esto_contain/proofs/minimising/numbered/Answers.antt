@@ -1,4 +1,4 @@
-use Rattle.std.proofs.Common.{[], length, take, sym, subst}
+use Rattle.std.proofs.Common.{◌≡◌, ◌+◌, [], get_or, take, sym, subst}
 use Rattle.std.proofs.lemmas.List.{take_all}
 use Rattle.esto_contain.specs.Numbered.{AreNumbered}
 use Rattle.esto_contain.proofs.NumberedLemmas.{numbered_more, numbered_none}
@@ -9,5 +9,9 @@ facts-init c = subst (AreNumbered []) (sym c.new-expanded.ensures) numbered_none
 
 pub facts-preserved : goal.facts-preserved
 facts-preserved c =
-    rw (c.in_ok-copy.ensures) at numbered_more c.args.facts.now c.facts.number c.fact-item.result c.facts.expanded c.facts-test.true c.fact-item.is
-    c.facts.invariant
+    subst (AreNumbered (take (c.facts.number + 1) c.args.facts.now)) (sym c.in_ok-push.ensures.ok)
+    (numbered_more c.args.facts.now c.facts.number c.in_ok-copy.field-0 c.facts.expanded c.facts-test.true
+    (subst (λ it. it ≡ get_or c.args.facts.now c.facts.number it) (sym c.in_ok-copy.ensures) c.index-facts-number.is) c.facts.invariant)
+
+pub returns : goal.returns
+returns c = subst (λ its. AreNumbered its c.facts.expanded) (take_all c.facts.number c.args.facts.now c.facts-test.false) c.facts.invariant
