@@ -5,6 +5,7 @@
 mod cell;
 mod fetch;
 mod fragments;
+mod laws;
 mod line;
 mod opening;
 mod reply;
@@ -13,6 +14,7 @@ mod status;
 pub use cell::cell_text;
 pub use fetch::fetch;
 pub use fragments::{FRAGMENT_LIMIT, open_fragments};
+pub use laws::openings_are_one;
 pub use line::status_line;
 pub use opening::{CATALOGUE_LIMIT, QUERY_LIMIT, open_catalogue, open_query};
 pub use reply::Reply;
