@@ -3,7 +3,7 @@
 #![tactic(auto)]
 
 mod cell;
-mod fetch;
+mod fetching;
 mod fragments;
 mod laws;
 mod line;
@@ -12,7 +12,7 @@ mod reply;
 mod status;
 
 pub use cell::cell_text;
-pub use fetch::fetch;
+pub use fetching::fetch;
 pub use fragments::{FRAGMENT_LIMIT, open_fragments};
 pub use laws::openings_are_one;
 pub use line::status_line;
