@@ -138,11 +138,11 @@ texts_over : (query : ConjunctiveQuery) (facts some : List (Fact Term))
 texts_over query facts some same texts rows are = record {
   exact = λ values. (
     (λ answers.
-    let (row, is) = texts values answers in
-    let found = (are.exact (map Text row)).0 ((same row).0 (subst (IsAnswer query (database_of facts)) is answers)) in
-    (found.0, found.1, is ∙ found.2)),
+        let (row, is) = texts values answers in
+        let found = (are.exact (map Text row)).0 ((same row).0 (subst (IsAnswer query (database_of facts)) is answers)) in
+        (found.0, found.1, is ∙ found.2)),
     (λ (row, inside, is).
-    subst (IsAnswer query (database_of facts)) (sym is) ((same row).1 ((are.exact (map Text row)).1 (row, inside, refl)))),
+        subst (IsAnswer query (database_of facts)) (sym is) ((same row).1 ((are.exact (map Text row)).1 (row, inside, refl)))),
   );
   rising = are.rising;
 }

@@ -132,9 +132,13 @@ module _ (laws : DataLaws) (files : Files) (catalogue : Catalogue) where
     answer_says : Says (answers_query (Some files) catalogue query) (IsExactAnswer files catalogue query)
     unfolding and_then judges gives
     answer_says = record {
-      goes = λ reply (others, loaded, (rows, texts, done)). (rows_text query rows, done, (λ facts holds.
-          let same : others ≡ facts = (holds_leads files catalogue.datasets (Names (query_of query).body) facts holds laws.facts).goes others loaded in
-          answered facts rows (subst (λ (it : List (Fact Term)). AreTextsOf (IsAnswerOfFacts query it) rows) same texts)));
+      goes = λ reply (others, loaded, (rows, texts, done)). (
+        rows_text query rows,
+        done,
+        (λ facts holds.
+            let same : others ≡ facts = (holds_leads files catalogue.datasets (Names (query_of query).body) facts holds laws.facts).goes others loaded in
+            answered facts rows (subst (λ (it : List (Fact Term)). AreTextsOf (IsAnswerOfFacts query it) rows) same texts)),
+      );
       stops = λ said caused stop facts holds. elim stop [
         | inl unloaded ↦ absurd ((holds_leads files catalogue.datasets (Names (query_of query).body) facts holds laws.facts).stops said caused unloaded)
         | inr (others, loaded, more) ↦
@@ -283,26 +287,30 @@ module _ (laws : DataLaws) (files : Files) (catalogue : Catalogue) where
     fill_says : Says (fills_named (Some files) name catalogue) (IsExactFill files catalogue name)
     unfolding and_then judges gives
     fill_says = record {
-      goes = λ reply (number, first, (stored, here, (others, loaded, (text, filled, done)))). (text, done, record {
-        fills = λ other its facts its_first there holds.
-            let moved = subst (λ (it : Stored). (loads (Some files) catalogue.datasets (Names (query_of it.definition.view).body)).goes others
-            × IsFilled it others text) (same_fragment number other first its_first stored its here there) (loaded, filled) in
-            from_goes its facts holds others text moved.0 moved.1;
-        unnamed = ((λ is. absurd (done_other name is)), (λ none. absurd (none (named number first))));
-      });
+      goes = λ reply (number, first, (stored, here, (others, loaded, (text, filled, done)))). (
+        text,
+        done,
+        record {
+          fills = λ other its facts its_first there holds.
+              let moved = subst (λ (it : Stored). (loads (Some files) catalogue.datasets (Names (query_of it.definition.view).body)).goes others
+              × IsFilled it others text) (same_fragment number other first its_first stored its here there) (loaded, filled) in
+              from_goes its facts holds others text moved.0 moved.1;
+          unnamed = ((λ is. absurd (done_other name is)), (λ none. absurd (none (named number first))));
+        },
+      );
       stops = λ said caused stop. elim stop [
         | inl (none, is) ↦ record {
-            fills = λ number its facts first there holds. absurd (none (named number first));
-            unnamed = ((λ same. none), (λ still. is));
-          }
+          fills = λ number its facts first there holds. absurd (none (named number first));
+          unnamed = ((λ same. none), (λ still. is));
+        }
         | inr (number, first, more) ↦ elim more [
           | inl never ↦ absurd never
           | inr (stored, here, later) ↦ record {
-              fills = λ other its facts its_first there holds.
-                  from_stops its facts holds said caused
-                  (subst (λ (it : Stored). (fills_from it).stops said) (same_fragment number other first its_first stored its here there) later);
-              unnamed = ((λ is. absurd (from_other name stored said caused later is)), (λ none. absurd (none (named number first))));
-            }
+            fills = λ other its facts its_first there holds.
+                from_stops its facts holds said caused
+                (subst (λ (it : Stored). (fills_from it).stops said) (same_fragment number other first its_first stored its here there) later);
+            unnamed = ((λ is. absurd (from_other name stored said caused later is)), (λ none. absurd (none (named number first))));
+          }
         ]
       ];
     }
@@ -387,7 +395,7 @@ module _ (laws : DataLaws) (catalogue : Catalogue) (facts : List (Fact Term)) (f
       done = (
         (λ same. absurd (done_not_node column (sym same ∙ is))),
         (λ agree. absurd (texts_not_view (views_of catalogue.fragments) (database_of facts) column
-        (agree_texts (views_of catalogue.fragments) (database_of facts) (IsFileRow catalogue.stores contents) agree.rows) first)),
+            (agree_texts (views_of catalogue.fragments) (database_of facts) (IsFileRow catalogue.stores contents) agree.rows) first)),
       );
       prints = λ same. absurd (done_not_node column (sym same ∙ is));
       node = λ other its. is ∙ ap status.NodeInRow (one_view_column (views_of catalogue.fragments) (database_of facts) column other first its);
@@ -435,9 +443,13 @@ module _ (laws : DataLaws) (files : Files) (catalogue : Catalogue) (many : lengt
   audit_says : Says (audits_catalogue (Some files) catalogue) (IsExactAudit files catalogue)
   unfolding and_then judges gives
   audit_says = record {
-    goes = λ reply (others, loaded, (value, texts, (their, opened, (given, agree, done)))). (audit_text catalogue, done, (λ facts contents holds readable.
-        agreed laws catalogue facts (flat_facts facts contents holds readable others loaded) contents
-        (ends_moved facts contents holds readable others their None loaded opened agree)));
+    goes = λ reply (others, loaded, (value, texts, (their, opened, (given, agree, done)))). (
+      audit_text catalogue,
+      done,
+      (λ facts contents holds readable.
+          agreed laws catalogue facts (flat_facts facts contents holds readable others loaded) contents
+          (ends_moved facts contents holds readable others their None loaded opened agree)),
+    );
     stops = λ said caused stop facts contents holds readable. audit_stops facts contents holds readable said caused stop;
   }
 

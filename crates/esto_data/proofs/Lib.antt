@@ -10,3 +10,4 @@ pub mod FragmentLemmas
 pub mod MovedLemmas
 pub mod ExactLemmas
 pub mod AuditedLemmas
+pub mod RefusalLemmas

@@ -91,9 +91,9 @@ module _ (files : Files) (catalogue other : Catalogue) (alike : AreSame catalogu
           let same : map stored_as (stored.store ∷ []) ≡ map stored_as (its.store ∷ []) = ap (λ it. it ∷ []) stores_same in
           let moved = one_content (stored.store ∷ []) (its.store ∷ []) (λ _. bytes) (record { relation = 0; terms = row }) same in (
             (λ is. let found = moved.0 (stored.store, refl, is) in
-            subst (λ (it : Store). IsRowIn it.shape bytes row) (same_Some found.0 its.store (sym found.1)) found.2),
+                subst (λ (it : Store). IsRowIn it.shape bytes row) (same_Some found.0 its.store (sym found.1)) found.2),
             (λ is. let found = moved.1 (its.store, refl, is) in
-            subst (λ (it : Store). IsRowIn it.shape bytes row) (same_Some found.0 stored.store (sym found.1)) found.2),
+                subst (λ (it : Store). IsRowIn it.shape bytes row) (same_Some found.0 stored.store (sym found.1)) found.2),
           )
 
       opened_moved : (bytes : List ℕ) → IsOpenedAs its.store.shape (length its.definition.view.head) (IsRowOfView its.definition facts) bytes
@@ -103,9 +103,9 @@ module _ (files : Files) (catalogue other : Catalogue) (alike : AreSame catalogu
             ∙ ap (λ (it : ℕ). first_fault_in its.store.shape it bytes) width_same ∙ opened.no_fault;
         rows = λ row. (
           (λ is. subst (λ (it : ConjunctiveQuery). IsAnswer it (database_of facts) (map Text row)) (sym views_same)
-          ((opened.rows row).0 ((row_same bytes row).0 is))),
+              ((opened.rows row).0 ((row_same bytes row).0 is))),
           (λ is. (row_same bytes row).1
-          ((opened.rows row).1 (subst (λ (it : ConjunctiveQuery). IsAnswer it (database_of facts) (map Text row)) views_same is))),
+              ((opened.rows row).1 (subst (λ (it : ConjunctiveQuery). IsAnswer it (database_of facts) (map Text row)) views_same is))),
         );
       }
 

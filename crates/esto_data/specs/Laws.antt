@@ -1,5 +1,5 @@
 -- What laws on the commands on data say.
-use Rattle.std.specs.Prelude.{◌≡◌, ℕ, List, Some}
+use Rattle.std.specs.Prelude.{◌≡◌, ◌≢◌, ℕ, List, Some}
 use Rattle.esto_catalog.specs.declared.catalogue.Catalogue.{Catalogue}
 use Rattle.esto_constraint.specs.Constraints.{rules_of}
 use Rattle.esto_course.specs.Course.{Course}
@@ -12,6 +12,7 @@ use Rattle.esto_run.specs.Stores.{IsFileRow}
 use Rattle.esto_semantics.specs.declared.fact.Fact.{Fact}
 use Rattle.esto_term.specs.declared.term.Term.{Term}
 use Rattle.esto_views.specs.Fragments.{views_of}
+use Rattle.esto_opening.specs.Answers.{IsCaused}
 use Rattle.esto_opening.specs.Calm.{AgreeCalmly, Leads}
 use Rattle.esto_opening.specs.Fragments.{opens_fragment}
 use Rattle.esto_opening.specs.Line.{line_of}
@@ -81,3 +82,8 @@ abbrev pub RepliesAreAudited : Type 0
 RepliesAreAudited =
     (files : Files) (catalogue_name : List ℕ) (catalogue : Catalogue) (reply : Reply) → (audit_course (Some files) catalogue_name).goes reply
     → (opens_catalogue (Some files) catalogue_name).goes catalogue → AreAudited files catalogue_name catalogue
+
+-- `audit` never refuses with Done.
+abbrev pub AuditsRefuse : Type 0
+AuditsRefuse =
+    (files : Files) (name : List ℕ) (said : Status) → IsCaused ⊥ said → (audit_course (Some files) name).stops said → said ≢ status.Done

@@ -5,11 +5,9 @@ ghost use Rattle.esto_data.specs.Answer.{answer_course, answers_facts, answers_q
 ghost use Rattle.esto_opening.specs.Answers.{Answers};
 
 use crate::datasets::load_named;
-use esto_opening::Reply;
-use esto_opening::{open_catalogue, open_query};
-use esto_opening::Status;
 use esto_catalog::Catalogue;
 use esto_fill::{AnswerError, Loaded};
+use esto_opening::{Reply, Status, open_catalogue, open_query};
 use esto_ports::Shelf;
 use esto_query::Query;
 use esto_run::answers_text;

@@ -13,12 +13,9 @@ ghost use Rattle.esto_data.specs.Audit.{OpensNextRows, OpensRows, ReadsRows, aud
 ghost use Rattle.esto_opening.specs.Fragments.{IsStoredAt};
 
 use crate::datasets::load_all;
-use esto_opening::{Reply, fetch};
-use esto_opening::FRAGMENT_LIMIT;
-use esto_opening::open_catalogue;
-use esto_opening::Status;
 use esto_catalog::{Catalogue, catalogues_are_sound};
 use esto_fill::{AnswerError, Loaded, TextRowsList, audit_views, audits_are_over_files};
+use esto_opening::{FRAGMENT_LIMIT, Reply, Status, fetch, open_catalogue};
 use esto_ports::{FileError, Shelf};
 use esto_run::open_store;
 use esto_term::{Bytes, List, OutOfMemory, Replicate, Text, TextRows};

@@ -7,10 +7,9 @@ ghost use Rattle.esto_ports.specs.Faults.{Rises};
 ghost use Rattle.esto_opening.specs.Answers.{Answers};
 ghost use Rattle.esto_data.specs.Datasets.{AddsNeeded, AreNeeded, Each, HasRelation, IsSourceAt, Loads, LoadsFiles, LoadsNext, Names, ReadsData, Source, demands_file, demands_files, loads};
 
-use esto_opening::fetch;
-use esto_opening::Status;
 use esto_catalog::{Catalogue, Dataset, Datasets};
 use esto_fill::{Loaded, load_dataset, loaded_facts_are_flat, nothing_loaded};
+use esto_opening::{Status, fetch};
 use esto_ports::{FileError, Shelf};
 use esto_read::DataModel;
 use esto_semantics::{Atom, Atoms};
@@ -66,11 +65,7 @@ fn add_named(
 }
 
 // The numbers of the datasets that the body names, in order.
-fn named_datasets(
-    alloc: Global,
-    datasets: &Datasets,
-    body: &Atoms,
-) -> Result<Places, OutOfMemory>
+fn named_datasets(alloc: Global, datasets: &Datasets, body: &Atoms) -> Result<Places, OutOfMemory>
     ensures { IfOk result (AreNeeded datasets.now (Names body.now)) }
 {
     let mut numbers = Values::new(alloc);

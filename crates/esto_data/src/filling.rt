@@ -7,11 +7,9 @@ ghost use Rattle.esto_data.specs.Fill.{fill_course, fill_status, fills_file, fil
 ghost use Rattle.esto_opening.specs.Fragments.{IsStoredAt};
 
 use crate::datasets::load_named;
-use esto_opening::Reply;
-use esto_opening::open_catalogue;
-use esto_opening::Status;
 use esto_catalog::{Catalogue, catalogues_are_sound};
 use esto_fill::{FillError, Loaded};
+use esto_opening::{Reply, Status, open_catalogue};
 use esto_ports::Shelf;
 use esto_term::{Bytes, Replicate, Text};
 use esto_views::FragmentDef;

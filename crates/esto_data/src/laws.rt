@@ -1,5 +1,5 @@
 //! Laws of the commands on data.
-ghost use Rattle.esto_data.specs.Laws.{AnswersAreExact, AnswersAreOne, AuditsAreExact, AuditsAreOne, FillsAreExact, FillsAreOne, RepliesAreAudited};
+ghost use Rattle.esto_data.specs.Laws.{AnswersAreExact, AnswersAreOne, AuditsAreExact, AuditsAreOne, AuditsRefuse, FillsAreExact, FillsAreOne, RepliesAreAudited};
 
 use esto_catalog::catalogues_are_sound;
 use esto_constraint::rules_are_sound;
@@ -32,9 +32,10 @@ pub fn data_outcomes_are_exact()
 }
 
 /// A law: where `audit` has a reply, the facts of all datasets meet the rules and the fragments hold their views' rows, and
-/// `answer` prints the answers over these facts of each query that has answers of texts alone.
+/// `answer` prints the answers over these facts of each query that has answers of texts alone. A refusal is never Done.
 pub fn audited_datasets_answer()
-    ensures { RepliesAreAudited }
+    ensures replies { RepliesAreAudited }
+    ensures refusals { AuditsRefuse }
 {
     openings_are_one();
     outcomes_are_one();

@@ -5,3 +5,4 @@ pub mod LeadLemmas
 pub mod AgreeLemmas
 pub mod StoreLemmas
 pub mod AlikeLemmas
+pub mod RefusalLemmas

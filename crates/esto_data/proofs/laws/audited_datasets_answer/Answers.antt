@@ -1,8 +1,9 @@
 use Rattle.esto_data.proofs.AuditedLemmas.{replies_audited}
+use Rattle.esto_data.proofs.RefusalLemmas.{audit_refuses}
 use Rattle.esto_data.proofs.laws.audited_datasets_answer.Goals as goal
 
-pub returns : goal.returns
-returns c = replies_audited
+pub returns-clause-replies : goal.returns-clause-replies
+returns-clause-replies c = replies_audited
     (record {
       rules = c.rules_are_sound.ensures.rules;
       catalogues = c.openings_are_one.ensures.catalogues;
@@ -19,3 +20,6 @@ returns c = replies_audited
       audits = c.outcomes_are_one.ensures.audits;
     })
     c.answers_rest_on_their_datasets.ensures
+
+pub returns-clause-refusals : goal.returns-clause-refusals
+returns-clause-refusals c = λ files name said caused stops. (audit_refuses files name).stops said caused stops

@@ -57,4 +57,3 @@ returns-clause-audits c = λ files name catalogue say. audits_exact
       audits = c.outcomes_are_one.ensures.audits;
     })
     c.catalogues_are_sound.ensures files name catalogue say
-

@@ -57,4 +57,3 @@ returns-clause-audits c = λ files name. audits_one
       audits = c.outcomes_are_one.ensures.audits;
     })
     files name
-
