@@ -85,8 +85,8 @@ module _ (sound : CataloguesAreSound) (one : HaveOneCatalogue) (apart : HaveNoEr
         subst (λ it. IsFirstFault form.Query it (arities_of catalogue.schema) bytes fault) (sym alike.words)
         (subst (λ it. IsFirstFault form.Query other.words (arities_of it) bytes fault) (sym alike.schema) first)
 
-    read_agree : (bytes : List ℕ) → AgreeCalmly IsSameQuery (reads_query catalogue bytes) (reads_query other bytes)
-    read_agree bytes = judges_agree _ _ _ _ _ _
+    query_agree : (bytes : List ℕ) → AgreeCalmly IsSameQuery (reads_query catalogue bytes) (reads_query other bytes)
+    query_agree bytes = judges_agree _ _ _ _ _ _
         (λ query other_query here there.
         same_reading one_reading (sound catalogue).vocabulary bytes query other_query here (there.0, reading_back bytes there.0 there.1, there.2))
         (λ said other_said caused other_caused here there.
@@ -100,7 +100,7 @@ module _ (sound : CataloguesAreSound) (one : HaveOneCatalogue) (apart : HaveNoEr
     pub queries_open : (name : List ℕ) → AgreeCalmly IsSameQuery (opens_query (Some files) name catalogue) (opens_query (Some files) name other)
     queries_open name =
         then_agree _ ◌≡◌ IsSameQuery _ _ _ _ (fetches-agree files name QUERY_LIMIT)
-        (λ bytes other_bytes goes same. subst (λ it. AgreeCalmly IsSameQuery (reads_query catalogue bytes) (reads_query other it)) same (read_agree bytes))
+        (λ bytes other_bytes goes same. subst (λ it. AgreeCalmly IsSameQuery (reads_query catalogue bytes) (reads_query other it)) same (query_agree bytes))
 
 -- ---- the files of fragments
 

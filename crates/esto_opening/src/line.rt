@@ -271,6 +271,14 @@ fn node_in_row_line(alloc: Global, column: u64) -> Result<Bytes, OutOfMemory>
     Bytes::from_slice(alloc, line.as_str().as_bytes())
 }
 
+// A number in decimal, and a space.
+fn count_text(alloc: Global, number: u64) -> Result<Bytes, OutOfMemory>
+    ensures { IfOk result (λ text. text ≡ decimal number ++ codes " ") }
+{
+    let text = format!(in alloc; "{number} ")?;
+    Bytes::from_slice(alloc, text.as_str().as_bytes())
+}
+
 // Puts the number of a rule and a record at the end.
 fn put_rule(
     alloc: Global,
@@ -281,9 +289,10 @@ fn put_rule(
     ensures { OnOk result (line.new ≡ line.old ++ (codes "constraint "
         ++ (decimal number ++ codes " ") ++ row_text default_writer cells.now)) }
 {
-    let start = format!(in alloc; "constraint {number} ")?;
+    let count = count_text(alloc, number)?;
     let record = record_text(alloc, cells)?;
-    line.append(start.as_str().as_bytes())?;
+    line.append(b"constraint ")?;
+    line.append(count.bytes())?;
     line.append(record.bytes())
 }
 
