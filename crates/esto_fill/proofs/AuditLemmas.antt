@@ -210,10 +210,6 @@ module _ (stand : RulesStand) (rules : List Rule) (names : List (List Name)) (fr
       (end_first fragments OfView OfFile other its also) in
       absurd (also.apart.outside (subst (OfFile also.number) same.2 (subst (λ n. OfFile n row) same.0 apart.apart.inside)))
 
-pub audits_are_one : (stand : RulesStand) → AuditsAreOne
-audits_are_one stand rules names fragments views facts stores files result other are flat one two =
-    end_one stand rules names fragments views facts are flat (IsFileRow stores files) result other one two
-
 -- ---- the same sets of rows
 
 module _ (rules : List Rule) (names : List (List Name)) (fragments : List (List ℕ)) (views : List ConjunctiveQuery) (facts : List (Fact Term))
@@ -260,3 +256,8 @@ audits_are_over_files rules names fragments views facts stores files rows result
   audits_same rules names fragments views facts (IsRowOf (held_by rows)) (IsFileRow stores files) same result,
   audits_same rules names fragments views facts (IsFileRow stores files) (IsRowOf (held_by rows)) (λ fact. ((same fact).1, (same fact).0)) result,
 )
+
+pub audits_are_one : (stand : RulesStand) → AuditsAreOne
+audits_are_one stand rules names fragments views facts stores others files contents result other are flat same one two =
+    end_one stand rules names fragments views facts are flat (IsFileRow stores files) result other one
+    (audits_same rules names fragments views facts (IsFileRow others contents) (IsFileRow stores files) (λ fact. ((same fact).1, (same fact).0)) other two)

@@ -3,11 +3,14 @@ use Rattle.std.proofs.Common.{◌≡◌, ◌≢◌, ◌↔◌, inl, inr, ℕ, �
 use Rattle.std.specs.Prelude.{Result, Ok, Err}
 use Rattle.std.proofs.lemmas.Bool.{cases_order}
 use Rattle.std.proofs.lemmas.Option.{get_or_from_slice_get, none-some, same_Some, slice_get_within}
+use Rattle.esto_catalog.specs.Determined.{shape_as, stored_as}
 use Rattle.esto_catalog.specs.declared.catalogue.Shape.{Shape}
-use Rattle.esto_catalog.specs.declared.catalogue.Shape.TheVariants.{Keys}
+use Rattle.esto_catalog.specs.declared.catalogue.Shape.TheVariants.{Table, Documents, Keys}
 use Rattle.esto_catalog.specs.declared.catalogue.Store.{Store}
 use Rattle.esto_catalog.specs.declared.dataset.Dataset.{Dataset}
 use Rattle.esto_read.specs.declared.words.DataModel.{DataModel}
+use Rattle.esto_docmodel.specs.Shapes.{entries_of}
+use Rattle.esto_docs.specs.Documents.{document, documents_text}
 use Rattle.esto_relmodel.specs.Once.{StandsBefore, AreEachOnce}
 use Rattle.esto_relmodel.specs.RowFacts.{row_fact, AreRowFacts}
 use Rattle.esto_run.proofs.UsedLemmas.{one_list}
@@ -22,6 +25,7 @@ use Rattle.esto_semantics.specs.declared.fact.Value.{Value}
 use Rattle.esto_semantics.specs.declared.fact.Value.TheVariants.{Text, Node}
 use Rattle.esto_stores.specs.KeyText.{row_fault}
 use Rattle.esto_stores.specs.Rows.{Row}
+use Rattle.esto_stores.specs.TableText.{table_text}
 use Rattle.esto_term.specs.declared.term.Term.{Term}
 use Rattle.esto_term.proofs.ListLemmas.{Contains-at, map_at-from}
 use Rattle.esto_fill.specs.Differences.{HoldViewRows}
@@ -203,8 +207,42 @@ module _ (law : RisingRowsAreOne) (shape : Shape) (Rows : List Value → Type 0)
   filled_one (Err (filled.KeyText cell)) (Err filled.OutOfMemory) one two said told = absurd (told refl)
   filled_one (Err filled.OutOfMemory) other one two said told = absurd (said refl)
 
+-- shapes that say the same have the same texts, and can hold the same rows
+module _ (file its_file : List ℕ) (rows : List Row) where
+  abbrev Alike : Shape → Shape → Type 0
+  Alike shape its = (text_in its rows ≡ text_in shape rows) × (CanHold its rows → CanHold shape rows) × (its ≡ Keys → shape ≡ Keys)
+
+  alike : (shape its : Shape) → shape_as shape file ≡ shape_as its its_file → Alike shape its
+  alike (Table columns) (Table others) same =
+      let one : columns ≡ others = cc in (ap (λ those. table_text those rows) (sym one), (λ can. tt), (λ keys. absurd (cc)))
+  alike (Table columns) (Documents layout pattern) same = absurd (cc)
+  alike (Table columns) Keys same = absurd (cc)
+  alike (Documents layout pattern) (Table columns) same = absurd (cc)
+  alike (Documents layout pattern) (Documents other its) same =
+      let one : layout ≡ other = cc in
+      let entries : entries_of pattern.entries ≡ entries_of its.entries = cc in (
+        ap (λ those. documents_text those (map (document (entries_of its.entries)) rows)) (sym one)
+            ∙ ap (λ those. documents_text layout (map (document those) rows)) (sym entries),
+        (λ can. tt),
+        (λ keys. absurd (cc)),
+      )
+  alike (Documents layout pattern) Keys same = absurd (cc)
+  alike Keys (Table columns) same = absurd (cc)
+  alike Keys (Documents layout pattern) same = absurd (cc)
+  alike Keys Keys same = (refl, (λ can. can), (λ keys. keys))
+
+fills_alike : (store its : Store) (Rows : List Value → Type 0) (result : Result (List ℕ) FillError) → stored_as store ≡ stored_as its
+    → Fills its.shape Rows result → Fills store.shape Rows result
+fills_alike store its Rows (Ok text) same (rows, are, can, is) =
+    let both = alike store.file its.file rows store.shape its.shape same in (rows, are, both.1 can, is ∙ ap with_mark both.0)
+fills_alike store its Rows (Err (filled.NodeInRow column)) same first = first
+fills_alike store its Rows (Err (filled.KeyText cell)) same (keys, (rows, are, first)) =
+    ((alike store.file its.file rows store.shape its.shape same).2 keys, (rows, are, first))
+fills_alike store its Rows (Err filled.OutOfMemory) same given = tt
+
 pub fills_are_one : (law : RisingRowsAreOne) → FillsAreOne
-fills_are_one law shape view database result other one two = filled_one law shape (IsAnswer view database) result other one two
+fills_are_one law store its view database result other same one two =
+    filled_one law store.shape (IsAnswer view database) result other one (fills_alike store its (IsAnswer view database) other same two)
 
 -- ---- agreement
 

@@ -1,6 +1,6 @@
 -- What laws on datasets' facts and fragments' rows say.
 use Rattle.std.specs.Prelude.{◌≡◌, ◌≢◌, ◌↔◌, ℕ, Bool, List, map, Contains, Option, Result, Err}
-use Rattle.esto_catalog.specs.declared.catalogue.Shape.{Shape}
+use Rattle.esto_catalog.specs.Determined.{stored_as}
 use Rattle.esto_catalog.specs.declared.catalogue.Store.{Store}
 use Rattle.esto_catalog.specs.declared.dataset.Dataset.{Dataset}
 use Rattle.esto_plan.specs.Rows.{IsRowOf, held_by}
@@ -77,21 +77,22 @@ JudgementsAreOne =
     → JudgesViews views database result → JudgesViews views database other → result ≢ Err answer.OutOfMemory → other ≢ Err answer.OutOfMemory
     → result ≡ other
 
--- A file is filled in one way with a view's rows over a database.
+-- The files of two stores that say the same are filled in one way with a view's rows over a database.
 abbrev pub FillsAreOne : Type 0
 FillsAreOne =
-    (shape : Shape) (view : ConjunctiveQuery) (database : Database) (result other : Result (List ℕ) FillError)
-    → Fills shape (IsAnswer view database) result → Fills shape (IsAnswer view database) other → result ≢ Err filled.OutOfMemory
-    → other ≢ Err filled.OutOfMemory
+    (store its : Store) (view : ConjunctiveQuery) (database : Database) (result other : Result (List ℕ) FillError)
+    → stored_as store ≡ stored_as its → Fills store.shape (IsAnswer view database) result → Fills its.shape (IsAnswer view database) other
+    → result ≢ Err filled.OutOfMemory → other ≢ Err filled.OutOfMemory
     → result ≡ other
 
--- An audit of facts and files comes to one end.
+-- An audit of facts comes to one end over files that hold the same rows.
 abbrev pub AuditsAreOne : Type 0
 AuditsAreOne =
     (rules : List Rule) (names : List (List Name)) (fragments : List (List ℕ)) (views : List ConjunctiveQuery) (facts : List (Fact Term))
-    (stores : List Store) (files : ℕ → List ℕ) (result other : Option Difference)
-    → AreRules rules → AreFlat facts → Audits rules names fragments views facts (IsFileRow stores files) result
-    → Audits rules names fragments views facts (IsFileRow stores files) other
+    (stores others : List Store) (files contents : ℕ → List ℕ) (result other : Option Difference)
+    → AreRules rules → AreFlat facts → ((fact : Fact (List ℕ)) → IsFileRow stores files fact ↔ IsFileRow others contents fact)
+    → Audits rules names fragments views facts (IsFileRow stores files) result
+    → Audits rules names fragments views facts (IsFileRow others contents) other
     → result ≡ other
 
 -- ---- which datasets count

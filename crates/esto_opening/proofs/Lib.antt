@@ -3,3 +3,6 @@ pub mod OpeningLemmas
 pub mod FragmentLemmas
 pub mod LeadLemmas
 pub mod AgreeLemmas
+pub mod StoreLemmas
+pub mod AlikeLemmas
+pub mod RefusalLemmas

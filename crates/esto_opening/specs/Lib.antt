@@ -4,3 +4,4 @@ pub mod Fetch
 pub mod Calm
 pub mod Opening
 pub mod Fragments
+pub mod Alike

@@ -9,6 +9,8 @@ use Rattle.esto_catalog.specs.declared.fault.Section.{Section}
 use Rattle.esto_catalog.specs.declared.fault.Section.TheVariants.{Top, Dataset, Fragment, Constraint}
 use Rattle.esto_chase_laws.specs.declared.clash.Clash.{Clash}
 use Rattle.esto_chase_laws.specs.declared.clash.Clash.TheVariants.{Equal, Denied}
+use Rattle.esto_fill.specs.declared.auditing.Difference.{Difference}
+use Rattle.esto_fill.specs.declared.auditing.Difference.TheVariants.{Rule, Missing, Extra}
 use Rattle.esto_list.specs.Text.{constant_text}
 use Rattle.esto_ports.specs.declared.file_fault.FileKind.{FileKind}
 use Rattle.esto_ports.specs.declared.file_fault.FileKind.TheVariants as file
@@ -16,7 +18,7 @@ use Rattle.esto_text.specs.declared.fault.TextFault.{TextFault}
 use Rattle.esto_text.specs.declared.fault.TextKind.{TextKind}
 use Rattle.esto_text.specs.declared.fault.TextKind.TheVariants.{Utf8, Syntax, Unknown, Arity, TooLarge, SameVariable, Unsafe, HeadLength}
 use Rattle.esto_opening.specs.declared.status.Status.{Status}
-use Rattle.esto_opening.specs.declared.status.Status.TheVariants.{Done, OutOfMemory, Usage, ReadFault, WriteFault, TooLong, BadCatalogue, BadQuery, NotAcyclic, BadFragment, Unsatisfiable, NoRewriting, NoSuchNumber, NotBuilt}
+use Rattle.esto_opening.specs.declared.status.Status.TheVariants.{Done, OutOfMemory, Usage, ReadFault, WriteFault, TooLong, BadCatalogue, BadQuery, NotAcyclic, BadFragment, Unsatisfiable, NoRewriting, NoSuchNumber, NoData, BadDataset, NodeInRow, Differs, KeyText, NotBuilt, NoSuchFragment}
 
 -- A cell as the record of this one cell has it, without the line feed that ends the record. The empty cell is two quotes.
 abbrev pub cell_of : List ℕ → List ℕ
@@ -37,7 +39,13 @@ code_of (BadFragment name fault) = 9
 code_of (Unsatisfiable clash) = 10
 code_of NoRewriting = 11
 code_of (NoSuchNumber number listed) = 12
+code_of (NoData name) = 13
+code_of (BadDataset name fault) = 14
+code_of (NodeInRow column) = 15
+code_of (Differs difference) = 16
+code_of (KeyText cell) = 17
 code_of NotBuilt = 18
+code_of (NoSuchFragment name) = 19
 
 -- The word that names a kind of fault.
 abbrev pub kind_word : TextKind → List ℕ
@@ -102,6 +110,13 @@ abbrev pub clash_text : Clash → List ℕ
 clash_text (Equal one other) = constant_text one ++ (codes " " ++ constant_text other)
 clash_text (Denied rule) = codes "constraint " ++ decimal (rule + 1)
 
+-- A difference: the number of a constraint, counted from 1 over all rules, or the name of a fragment and whether a row is missing or extra; and a CSV record, which
+-- ends the line.
+abbrev pub difference_text : Difference → List ℕ
+difference_text (Rule number cells) = codes "constraint " ++ (decimal number ++ codes " ") ++ row_text default_writer cells
+difference_text (Missing name row) = codes "fragment " ++ cell_of name ++ codes " missing " ++ row_text default_writer row
+difference_text (Extra name row) = codes "fragment " ++ cell_of name ++ codes " extra " ++ row_text default_writer row
+
 -- The line that names a status, of which Done and OutOfMemory have none.
 abbrev pub line_of : Status → List ℕ
 line_of Done = []
@@ -120,4 +135,11 @@ line_of (BadFragment name fault) =
 line_of (Unsatisfiable clash) = codes "Unsatisfiable " ++ clash_text clash ++ codes "\n"
 line_of NoRewriting = codes "NoRewriting\n"
 line_of (NoSuchNumber number listed) = codes "NoSuchNumber " ++ (decimal number ++ (codes " " ++ (decimal listed ++ codes "\n")))
+line_of (NoData name) = codes "NoData " ++ cell_of name ++ codes "\n"
+line_of (BadDataset name fault) =
+    codes "BadDataset " ++ (cell_of name ++ (codes " " ++ (file_word fault.kind ++ (codes " " ++ (decimal fault.place ++ codes "\n")))))
+line_of (NodeInRow column) = codes "NodeInRow " ++ (decimal column ++ codes "\n")
+line_of (Differs difference) = codes "Differs " ++ difference_text difference
+line_of (KeyText cell) = codes "KeyText " ++ cell_of cell ++ codes "\n"
 line_of NotBuilt = codes "NotBuilt\n"
+line_of (NoSuchFragment name) = codes "NoSuchFragment " ++ cell_of name ++ codes "\n"

@@ -1,14 +1,15 @@
-//! One cell of a CSV record.
+//! Cells and records of CSV.
 ghost use Rattle.std.specs.Prelude.{◌≡◌, ◌++◌, ◌∷◌, [], IfOk};
 ghost use Rattle.csv.specs.Writing.{default_writer, row_text};
 ghost use Rattle.esto_opening.specs.Line.{cell_of};
 
 use csv::WriterBuilder;
-use esto_term::{Bytes, OutOfMemory};
+use esto_stores::write_records;
+use esto_term::{Bytes, List, OutOfMemory, TextRow};
 use std::alloc::Global;
 
 // The record of this one cell, with the line feed that ends it.
-fn record_text(alloc: Global, cell: &[u8]) -> Result<Vec<u8>, OutOfMemory>
+fn cell_record(alloc: Global, cell: &[u8]) -> Result<Vec<u8>, OutOfMemory>
     ensures { IfOk result (λ text. text.items ≡ row_text default_writer (cell.now ∷ [])) }
 {
     let mut writer = WriterBuilder::new().from_writer(Vec::new(alloc));
@@ -25,7 +26,16 @@ fn record_text(alloc: Global, cell: &[u8]) -> Result<Vec<u8>, OutOfMemory>
 pub fn cell_text(alloc: Global, cell: &[u8]) -> Result<Bytes, OutOfMemory>
     ensures { IfOk result (λ text. text ≡ cell_of cell.now) }
 {
-    let text = record_text(alloc, cell)?;
+    let text = cell_record(alloc, cell)?;
     let without_end = text.len().saturating_sub(1);
     Bytes::from_slice(alloc, &text[..without_end])
+}
+
+/// The record of these cells, with the line feed that ends it.
+pub fn record_text(alloc: Global, cells: &TextRow) -> Result<Bytes, OutOfMemory>
+    ensures { IfOk result (λ text. text ≡ row_text default_writer cells.now) }
+{
+    let rows = List::new(alloc);
+    let text = write_records(alloc, cells, &rows)?;
+    Ok(text)
 }

@@ -3,16 +3,18 @@
 #![tactic(auto)]
 
 mod cell;
-mod fetch;
+mod fetching;
 mod fragments;
+mod laws;
 mod line;
 mod opening;
 mod reply;
 mod status;
 
 pub use cell::cell_text;
-pub use fetch::fetch;
+pub use fetching::fetch;
 pub use fragments::{FRAGMENT_LIMIT, open_fragments};
+pub use laws::openings_are_one;
 pub use line::status_line;
 pub use opening::{CATALOGUE_LIMIT, QUERY_LIMIT, open_catalogue, open_query};
 pub use reply::Reply;

@@ -2,27 +2,29 @@
 ghost use Rattle.std.specs.Prelude.{◌≡◌, ◌+◌, ◌++◌, IfOk, OnOk, codes};
 ghost use Rattle.std.specs.Fmt.{decimal};
 ghost use Rattle.std.specs.List.{flat_map};
-ghost use Rattle.esto_opening.specs.Line.{catalogue_word, clash_text, file_word, kind_word, line_of, section_word, way_text, within_text};
+ghost use Rattle.csv.specs.Writing.{default_writer, row_text};
+ghost use Rattle.esto_opening.specs.Line.{catalogue_word, cell_of, clash_text, difference_text, file_word, kind_word, line_of, section_word, way_text, within_text};
 ghost use Rattle.esto_list.specs.Text.{constant_text};
 ghost use Rattle.esto_opening.specs.declared.status.Status.TheVariants as status;
 
-use crate::cell::cell_text;
+use crate::cell::{cell_text, record_text};
 use crate::status::Status;
 use esto_acyclic::Cycle;
 use esto_catalog::{CatalogueFault, CatalogueKind, Section};
 use esto_chase::Clash;
+use esto_fill::Difference;
 use esto_list::put_constant;
 use esto_ports::{FileFault, FileKind};
-use esto_term::{Bytes, OutOfMemory, Text};
+use esto_term::{Bytes, OutOfMemory, Text, TextRow};
 use esto_text::{TextFault, TextKind};
 use std::alloc::Global;
 
-// The line of a fault at a file.
-fn read_fault_line(alloc: Global, name: &Text) -> Result<Bytes, OutOfMemory>
-    ensures { IfOk result (λ line. line ≡ line_of (status.ReadFault name.now)) }
+// A line of a word and a name, or another text, as one cell.
+fn named_line(alloc: Global, word: &str, name: &Text) -> Result<Bytes, OutOfMemory>
+    ensures { IfOk result (λ line. line ≡ word.now ++ cell_of name.now ++ codes "\n") }
 {
     let cell = cell_text(alloc, name.bytes())?;
-    let mut line = Bytes::from_slice(alloc, b"ReadFault ")?;
+    let mut line = Bytes::from_slice(alloc, word.as_bytes())?;
     line.append(cell.bytes())?;
     line.append(b"\n")?;
     Ok(line)
@@ -233,15 +235,21 @@ fn file_word(kind: FileKind) -> &'static str
     }
 }
 
-// The line of a fault of a fragment's file.
-fn bad_fragment_line(alloc: Global, name: &Text, fault: FileFault) -> Result<Bytes, OutOfMemory>
-    ensures { IfOk result (λ line. line ≡ line_of (status.BadFragment name.now fault)) }
+// A line of a word, of the name of a fragment or a dataset, and of a fault of its file.
+fn bad_file_line(
+    alloc: Global,
+    word: &str,
+    name: &Text,
+    fault: FileFault,
+) -> Result<Bytes, OutOfMemory>
+    ensures { IfOk result (λ line. line ≡ word.now ++ (cell_of name.now ++ (codes " "
+        ++ (file_word fault.kind ++ (codes " " ++ (decimal fault.place ++ codes "\n")))))) }
 {
     let cell = cell_text(alloc, name.bytes())?;
-    let word = file_word(fault.kind);
+    let kind = file_word(fault.kind);
     let place = fault.place;
-    let end = format!(in alloc; " {word} {place}\n")?;
-    let mut line = Bytes::from_slice(alloc, b"BadFragment ")?;
+    let end = format!(in alloc; " {kind} {place}\n")?;
+    let mut line = Bytes::from_slice(alloc, word.as_bytes())?;
     line.append(cell.bytes())?;
     line.append(end.as_str().as_bytes())?;
     Ok(line)
@@ -255,10 +263,87 @@ fn no_such_number_line(alloc: Global, number: u64, listed: u64) -> Result<Bytes,
     Bytes::from_slice(alloc, line.as_str().as_bytes())
 }
 
+// The line of a node in a row.
+fn node_in_row_line(alloc: Global, column: u64) -> Result<Bytes, OutOfMemory>
+    ensures { IfOk result (λ line. line ≡ line_of (status.NodeInRow column)) }
+{
+    let line = format!(in alloc; "NodeInRow {column}\n")?;
+    Bytes::from_slice(alloc, line.as_str().as_bytes())
+}
+
+// A number in decimal, and a space.
+fn count_text(alloc: Global, number: u64) -> Result<Bytes, OutOfMemory>
+    ensures { IfOk result (λ text. text ≡ decimal number ++ codes " ") }
+{
+    let text = format!(in alloc; "{number} ")?;
+    Bytes::from_slice(alloc, text.as_str().as_bytes())
+}
+
+// Puts the number of a rule and a record at the end.
+fn put_rule(
+    alloc: Global,
+    line: &mut Bytes,
+    number: u64,
+    cells: &TextRow,
+) -> Result<(), OutOfMemory>
+    ensures { OnOk result (line.new ≡ line.old ++ (codes "constraint "
+        ++ (decimal number ++ codes " ") ++ row_text default_writer cells.now)) }
+{
+    let count = count_text(alloc, number)?;
+    let record = record_text(alloc, cells)?;
+    line.append(b"constraint ")?;
+    line.append(count.bytes())?;
+    line.append(record.bytes())
+}
+
+// Puts the name of a fragment, how a row of it differs, and the row as a record at the end.
+fn put_row(
+    alloc: Global,
+    line: &mut Bytes,
+    name: &Text,
+    how: &str,
+    row: &TextRow,
+) -> Result<(), OutOfMemory>
+    ensures { OnOk result (line.new ≡ line.old ++ (codes "fragment " ++ cell_of name.now
+        ++ how.now ++ row_text default_writer row.now)) }
+{
+    let cell = cell_text(alloc, name.bytes())?;
+    let record = record_text(alloc, row)?;
+    line.append(b"fragment ")?;
+    line.append(cell.bytes())?;
+    line.append(how.as_bytes())?;
+    line.append(record.bytes())
+}
+
+// Puts a difference at the end.
+fn put_difference(
+    alloc: Global,
+    line: &mut Bytes,
+    difference: &Difference,
+) -> Result<(), OutOfMemory>
+    ensures { OnOk result (line.new ≡ line.old ++ difference_text difference.now) }
+{
+    match difference {
+        Difference::Rule(number, cells) => put_rule(alloc, line, *number, cells),
+        Difference::Missing(name, row) => put_row(alloc, line, name, " missing ", row),
+        Difference::Extra(name, row) => put_row(alloc, line, name, " extra ", row),
+    }
+}
+
+// The line of a difference.
+fn differs_line(alloc: Global, difference: &Difference) -> Result<Bytes, OutOfMemory>
+    ensures { IfOk result (λ line. line ≡ line_of (status.Differs difference.now)) }
+{
+    let mut line = Bytes::from_slice(alloc, b"Differs ")?;
+    put_difference(alloc, &mut line, difference)?;
+    Ok(line)
+}
+
 /// The line of a status, ended by a line feed. Done and OutOfMemory have none. The name of a file or a fragment and the
 /// key of a catalogue are written as one CSV cell. A cycle is written as the names of its relations with arrows between them,
 /// back to the first. Of a clash two constants are written as a list writes them, the lesser first, and a denial as
-/// `constraint` and its number among all rules, counted from 1.
+/// `constraint` and its number among all rules, counted from 1. A difference is written with a CSV record of its row or of the
+/// values of its match.
 pub fn status_line(alloc: Global, status: &Status) -> Result<Bytes, OutOfMemory>
     ensures { IfOk result (λ line. line ≡ line_of status.now) }
 {
@@ -266,16 +351,22 @@ pub fn status_line(alloc: Global, status: &Status) -> Result<Bytes, OutOfMemory>
         Status::Done => Ok(Bytes::new(alloc)),
         Status::OutOfMemory => Ok(Bytes::new(alloc)),
         Status::Usage => Bytes::from_slice(alloc, b"Usage\n"),
-        Status::ReadFault(name) => read_fault_line(alloc, name),
+        Status::ReadFault(name) => named_line(alloc, "ReadFault ", name),
         Status::WriteFault => Bytes::from_slice(alloc, b"WriteFault\n"),
         Status::TooLong(name, limit) => too_long_line(alloc, name, *limit),
         Status::BadCatalogue(fault) => bad_catalogue_line(alloc, fault),
         Status::BadQuery(fault) => bad_query_line(alloc, *fault),
         Status::NotAcyclic(cycle) => not_acyclic_line(alloc, cycle),
-        Status::BadFragment(name, fault) => bad_fragment_line(alloc, name, *fault),
+        Status::BadFragment(name, fault) => bad_file_line(alloc, "BadFragment ", name, *fault),
         Status::Unsatisfiable(clash) => unsatisfiable_line(alloc, clash),
         Status::NoRewriting => Bytes::from_slice(alloc, b"NoRewriting\n"),
         Status::NoSuchNumber(number, listed) => no_such_number_line(alloc, *number, *listed),
+        Status::NoData(name) => named_line(alloc, "NoData ", name),
+        Status::BadDataset(name, fault) => bad_file_line(alloc, "BadDataset ", name, *fault),
+        Status::NodeInRow(column) => node_in_row_line(alloc, *column),
+        Status::Differs(difference) => differs_line(alloc, difference),
+        Status::KeyText(cell) => named_line(alloc, "KeyText ", cell),
         Status::NotBuilt => Bytes::from_slice(alloc, b"NotBuilt\n"),
+        Status::NoSuchFragment(name) => named_line(alloc, "NoSuchFragment ", name),
     }
 }

@@ -6,6 +6,7 @@ ghost use Rattle.esto_opening.specs.declared.status.Status.TheVariants as status
 use esto_acyclic::Cycle;
 use esto_catalog::CatalogueFault;
 use esto_chase::Clash;
+use esto_fill::Difference;
 use esto_ports::FileFault;
 use esto_term::{OutOfMemory, Text};
 use esto_text::TextFault;
@@ -41,6 +42,18 @@ pub enum Status {
     NoSuchNumber(u64, u64),
     /// The command is not built yet.
     NotBuilt,
+    /// The dataset of this name has no file, and the command needs one.
+    NoData(Text),
+    /// The content of the file of the dataset of this name has this first fault.
+    BadDataset(Text, FileFault),
+    /// A row holds a node in this column, counted from 1, and no row holds one in a lesser: nodes have no text.
+    NodeInRow(u64),
+    /// The datasets' facts and the catalogue's rules, or the rows of a fragment and those of its view, first differ here.
+    Differs(Difference),
+    /// A key file cannot hold this cell, which has a tab, a carriage return or a line feed.
+    KeyText(Text),
+    /// The catalogue has no fragment of this name.
+    NoSuchFragment(Text),
 }
 
 impl From<OutOfMemory> for Status {
@@ -70,7 +83,13 @@ impl Status {
             Status::Unsatisfiable(_) => 10,
             Status::NoRewriting => 11,
             Status::NoSuchNumber(_, _) => 12,
+            Status::NoData(_) => 13,
+            Status::BadDataset(_, _) => 14,
+            Status::NodeInRow(_) => 15,
+            Status::Differs(_) => 16,
+            Status::KeyText(_) => 17,
             Status::NotBuilt => 18,
+            Status::NoSuchFragment(_) => 19,
         }
     }
 }

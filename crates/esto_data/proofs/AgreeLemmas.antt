@@ -1,0 +1,276 @@
+-- The courses of `fill`, `answer` and `audit` agree with themselves, over catalogues that say the same.
+use Rattle.std.proofs.Common.{◌≡◌, ◌≢◌, ◌<◌, ℕ, List, map, length, Contains, Some, None, Option, Result, Ok, Err, refl, sym, ap, subst, ◌∙◌, inl, inr}
+use Rattle.std.specs.List.{range_with_len}
+use Rattle.std.proofs.lemmas.Option.{none-some}
+use Rattle.esto_catalog.specs.Determined.{AreSame, stored_as}
+use Rattle.esto_catalog.specs.declared.catalogue.Catalogue.{Catalogue}
+use Rattle.esto_catalog.specs.declared.catalogue.Store.{Store}
+use Rattle.esto_catalog.specs.declared.dataset.Dataset.{Dataset}
+use Rattle.esto_constraint.specs.Constraints.{rule_of, rules_of}
+use Rattle.esto_constraint.specs.EncodingRules.{written}
+use Rattle.esto_constraint.specs.declared.rule.Constraint.{Constraint}
+use Rattle.esto_course.specs.Course.{Course, gives, judges, and_then}
+use Rattle.esto_course.proofs.Determined.{then_agree, gives_agree, judges_agree}
+use Rattle.esto_fill.specs.Databases.{database_of}
+use Rattle.esto_fill.specs.Filled.{Fills}
+use Rattle.esto_fill.specs.Laws.{AnswersAreOne, AuditsAreOne, FactsAreOne, FillsAreOne, JudgementsAreOne}
+use Rattle.esto_fill.specs.Texts.{AreTextsOf, AreTextViews, IsFirstNodeColumn, IsFirstNodeView}
+use Rattle.esto_fill.specs.declared.auditing.Difference.{Difference}
+use Rattle.esto_fill.specs.declared.filled.FillError.{FillError}
+use Rattle.esto_fill.specs.declared.filled.FillError.TheVariants as filled
+use Rattle.esto_fill.specs.declared.rows.AnswerError.TheVariants as answer
+use Rattle.esto_ports.specs.Files.{Files}
+use Rattle.esto_query.specs.Making.{query_of}
+use Rattle.esto_query.specs.declared.query.Query.{Query}
+use Rattle.esto_run.specs.Answers.{rows_text}
+use Rattle.esto_run.specs.Stores.{IsFileRow}
+use Rattle.esto_semantics.specs.Maps.{AreFlat}
+use Rattle.esto_semantics.specs.Queries.{ConjunctiveQuery, IsAnswer}
+use Rattle.esto_semantics.specs.Rules.{AreRules, IsRule}
+use Rattle.esto_semantics.specs.declared.fact.Fact.{Fact}
+use Rattle.esto_stores.specs.Rows.{Row}
+use Rattle.esto_term.proofs.ListLemmas.{Contains-at}
+use Rattle.esto_term.specs.declared.term.Term.{Term}
+use Rattle.esto_views.specs.Fragments.{views_of}
+use Rattle.esto_opening.specs.Alike.{CataloguesOpenAlike, FragmentOpensAlike, FragmentsOpenAlike, IsSameQuery, QueriesOpenAlike, StoresHaveOneContent, StoresHaveOneFault, StoresHaveOneFile}
+use Rattle.esto_opening.specs.Answers.{IsCaused}
+use Rattle.esto_opening.specs.Calm.{AgreeCalmly}
+use Rattle.esto_opening.specs.Fragments.{Stored, IsStoredAt, opens_fragments}
+use Rattle.esto_opening.specs.declared.reply.Reply.TheVariants.{Done}
+use Rattle.esto_opening.specs.declared.status.Status.{Status}
+use Rattle.esto_opening.specs.declared.status.Status.TheVariants as status
+use Rattle.esto_opening.proofs.Steps.{never_wanting}
+use Rattle.esto_data.specs.Answer.{answer_course, answers_facts, answers_query}
+use Rattle.esto_data.specs.Audit.{AuditsFiles, all_fragments, audit_course, audit_text, audits_catalogue, audits_facts, compares, judges_views}
+use Rattle.esto_data.specs.Datasets.{Each, Names, loads}
+use Rattle.esto_data.specs.Fill.{IsFilled, IsFirstOf, fill_course, fill_status, fills_file, fills_fragment, fills_named, finds_fragment, names_of}
+use Rattle.esto_data.specs.Laws.{IsOne}
+use Rattle.esto_data.proofs.AlikeLemmas.{are_rules, audits_over, first_one, fragments_long, texts_one, same_query, same_rows_text, same_stored, same_view}
+use Rattle.esto_data.proofs.LoadLemmas.{loads_agree, loads_flat}
+
+-- the laws by which the commands on data are determined
+pub record DataLaws : Type 0 where
+  pub rules : (constraint : Constraint) → IsRule (rule_of constraint)
+  pub catalogues : CataloguesOpenAlike
+  pub queries : QueriesOpenAlike
+  pub fragment : FragmentOpensAlike
+  pub fragments : FragmentsOpenAlike
+  pub file : StoresHaveOneFile
+  pub fault : StoresHaveOneFault
+  pub rows : StoresHaveOneContent
+  pub facts : FactsAreOne
+  pub answers : AnswersAreOne
+  pub judgements : JudgementsAreOne
+  pub fills : FillsAreOne
+  pub audits : AuditsAreOne
+
+-- ---- results
+
+ok_same : {A E : Type 0} (value other : A) → Ok {E = E} value ≡ Ok other → value ≡ other
+ok_same value other same = cc
+
+err_same : {A E : Type 0} (error other : E) → Err {T = A} error ≡ Err other → error ≡ other
+err_same error other same = cc
+
+pub ok_not_err : {A E : Type 0} (value : A) (error : E) → Ok value ≡ Err error → ⊥
+ok_not_err value error same = cc
+
+node_not_want : (A : Type 0) (column : ℕ) → Err {T = A} (answer.NodeInRow column) ≢ Err answer.OutOfMemory
+node_not_want A column same = cc
+
+same_column : (column other : ℕ) → answer.NodeInRow column ≡ answer.NodeInRow other → column ≡ other
+same_column column other same = cc
+
+same_difference : (difference other_difference : Difference) → Some difference ≡ Some other_difference → difference ≡ other_difference
+same_difference difference other_difference same = cc
+
+module _ (laws : DataLaws) where
+  module _ (query : ConjunctiveQuery) (facts : List (Fact Term)) where
+    abbrev texts_course : Course Status (List Row)
+    texts_course = judges (AreTextsOf (IsAnswer query (database_of facts))) (λ refusal. (column : ℕ) × IsFirstNodeColumn (IsAnswer query (database_of facts)) column
+        × (refusal ≡ status.NodeInRow column))
+
+    pub listed_not_node : (rows : List Row) (column : ℕ) → AreTextsOf (IsAnswer query (database_of facts)) rows
+        → IsFirstNodeColumn (IsAnswer query (database_of facts)) column → ⊥
+    listed_not_node rows column here there = ok_not_err rows (answer.NodeInRow column)
+        (laws.answers query (database_of facts) (Ok rows) (Err (answer.NodeInRow column)) here there (λ same. ok_not_err rows answer.OutOfMemory same)
+        (node_not_want (List Row) column))
+
+    texts_agree : AgreeCalmly ◌≡◌ texts_course texts_course
+    texts_agree = judges_agree _ _ _ _ _ _
+        (λ rows others here there. ok_same rows others
+        (laws.answers query (database_of facts) (Ok rows) (Ok others) here there (λ same. ok_not_err rows answer.OutOfMemory same)
+        (λ same. ok_not_err others answer.OutOfMemory same)))
+        (λ said other caused other_caused here there. here.2 ∙ ap status.NodeInRow (same_column here.0 there.0
+        (err_same (answer.NodeInRow here.0) (answer.NodeInRow there.0)
+        (laws.answers query (database_of facts) (Err (answer.NodeInRow here.0)) (Err (answer.NodeInRow there.0)) here.1 there.1 (node_not_want (List Row) here.0)
+        (node_not_want (List Row) there.0)))) ∙ sym there.2)
+        (λ rows said caused here there. listed_not_node rows there.0 here there.1) (λ rows said caused here there. listed_not_node rows there.0 here there.1)
+
+  module _ (files : Files) (catalogue other : Catalogue) (alike : AreSame catalogue other) where
+    -- the facts of datasets that are needed, which are the same
+    named_agree : (body other_body : List (Fact Term)) → body ≡ other_body
+        → AgreeCalmly ◌≡◌ (loads (Some files) catalogue.datasets (Names body)) (loads (Some files) other.datasets (Names other_body))
+    named_agree body other_body same =
+        subst (λ (it : List Dataset). AgreeCalmly ◌≡◌ (loads (Some files) catalogue.datasets (Names body)) (loads (Some files) it (Names other_body)))
+        alike.datasets
+        (subst (λ (it : List (Fact Term)). AgreeCalmly ◌≡◌ (loads (Some files) catalogue.datasets (Names body))
+        (loads (Some files) catalogue.datasets (Names it))) same (loads_agree files catalogue.datasets laws.facts (Names body)))
+
+    module _ (query other_query : Query) (same : IsSameQuery query other_query) where
+      rows_agree : (facts : List (Fact Term)) → AgreeCalmly ◌≡◌ (answers_facts query facts) (answers_facts other_query facts)
+      rows_agree facts =
+          subst (λ (it : ConjunctiveQuery). AgreeCalmly ◌≡◌ (texts_course (query_of query) facts) (texts_course it facts)) (same_query query other_query same)
+          (texts_agree (query_of query) facts)
+
+      pub answers_agree : AgreeCalmly ◌≡◌ (answers_query (Some files) catalogue query) (answers_query (Some files) other other_query)
+      answers_agree =
+          then_agree _ ◌≡◌ ◌≡◌ _ _ _ _ (named_agree query.body other_query.body same.body) (λ facts others goes one.
+          then_agree _ ◌≡◌ ◌≡◌ _ _ _ _
+          (subst (λ (it : List (Fact Term)). AgreeCalmly ◌≡◌ (answers_facts query facts) (answers_facts other_query it)) one (rows_agree facts))
+          (λ rows other_rows goes1 one1. gives_agree _ (Done (rows_text query rows)) (Done (rows_text other_query other_rows))
+          (ap (λ (it : List Row). Done (rows_text query it)) one1 ∙ ap Done (same_rows_text query other_query same other_rows))))
+
+    -- ---- `fill`
+
+    abbrev finds_in : List (List ℕ) → List ℕ → Course Status ℕ
+    finds_in names name = judges (IsFirstOf names name) (λ refusal. ¬ (Contains names name) × (refusal ≡ status.NoSuchFragment name))
+
+    found_agree : (name : List ℕ) → AgreeCalmly ◌≡◌ (finds_fragment catalogue name) (finds_fragment other name)
+    found_agree name =
+        subst (λ (it : List (List ℕ)). AgreeCalmly ◌≡◌ (finds_in (names_of catalogue.fragments) name) (finds_in it name)) alike.names
+        (judges_agree _ _ _ _ _ _ (first_one (names_of catalogue.fragments) name)
+        (λ said other_said caused other_caused here there. here.1 ∙ sym there.1)
+        (λ number said caused here there. there.0 (Contains-at (names_of catalogue.fragments) number name here.there))
+        (λ number said caused here there. there.0 (Contains-at (names_of catalogue.fragments) number name here.there)))
+
+    -- the fragment of the number in each of the catalogues
+    record BothStored (number : ℕ) (stored other_stored : Stored) : Type 0 where
+      here : IsStoredAt catalogue number stored
+      there : IsStoredAt other number other_stored
+
+    module _ (number : ℕ) (stored other_stored : Stored) (are : BothStored number stored other_stored) where
+      no_want : (said : Status) (cause : FillError) → IsCaused ⊥ said → said ≡ fill_status cause → Err {T = List ℕ} cause ≢ Err filled.OutOfMemory
+      no_want said cause caused is wanting = never_wanting ⊥ said (is ∙ ap fill_status (err_same cause filled.OutOfMemory wanting)) caused
+
+      -- the file is filled in one way in both
+      one_filled : (facts : List (Fact Term)) (result other_result : Result (List ℕ) FillError)
+          → Fills stored.store.shape (IsAnswer (query_of stored.definition.view) (database_of facts)) result
+          → Fills other_stored.store.shape (IsAnswer (query_of other_stored.definition.view) (database_of facts)) other_result
+          → result ≢ Err filled.OutOfMemory → other_result ≢ Err filled.OutOfMemory → result ≡ other_result
+      one_filled facts result other_result here there =
+          laws.fills stored.store other_stored.store (query_of stored.definition.view) (database_of facts) result other_result
+          (same_stored catalogue other alike number stored other_stored are.here are.there) here
+          (subst (λ (it : ConjunctiveQuery). Fills other_stored.store.shape (IsAnswer it (database_of facts)) other_result)
+          (sym (same_view catalogue other alike number stored other_stored are.here are.there)) there)
+
+      file_agree : (facts : List (Fact Term)) → AgreeCalmly ◌≡◌ (fills_file stored facts) (fills_file other_stored facts)
+      file_agree facts = judges_agree _ _ _ _ _ _
+          (λ text other_text here there. ok_same text other_text (one_filled facts (Ok text) (Ok other_text) here.filled there.filled
+          (λ wanting. ok_not_err text filled.OutOfMemory wanting) (λ wanting. ok_not_err other_text filled.OutOfMemory wanting)))
+          (λ said other_said caused other_caused here there.
+          here.2 ∙ ap fill_status (err_same here.0 there.0 (one_filled facts (Err here.0) (Err there.0) here.1 there.1
+          (no_want said here.0 caused here.2) (no_want other_said there.0 other_caused there.2))) ∙ sym there.2)
+          (λ text said caused here there. ok_not_err text there.0 (one_filled facts (Ok text) (Err there.0) here.filled there.1
+          (λ wanting. ok_not_err text filled.OutOfMemory wanting) (no_want said there.0 caused there.2)))
+          (λ text said caused here there. ok_not_err text there.0 (sym (one_filled facts (Err there.0) (Ok text) there.1 here.filled
+          (no_want said there.0 caused there.2) (λ wanting. ok_not_err text filled.OutOfMemory wanting))))
+
+    fragment_agree : (number : ℕ) → AgreeCalmly ◌≡◌ (fills_fragment (Some files) catalogue number) (fills_fragment (Some files) other number)
+    fragment_agree number =
+        then_agree _ (BothStored number) ◌≡◌ _ _ _ _
+        (judges_agree _ _ _ _ _ _ (λ stored other_stored here there. record { here = here; there = there })
+        (λ said other_said caused other_caused here there. absurd here) (λ value said caused here there. there) (λ value said caused here there. there))
+        (λ stored other_stored goes are.
+        then_agree _ ◌≡◌ ◌≡◌ _ _ _ _
+        (named_agree (query_of stored.definition.view).body (query_of other_stored.definition.view).body
+        (ap (λ (it : ConjunctiveQuery). it.body) (same_view catalogue other alike number stored other_stored are.here are.there)))
+        (λ facts others goes1 one.
+        then_agree _ ◌≡◌ ◌≡◌ _ _ _ _
+        (subst (λ (it : List (Fact Term)). AgreeCalmly ◌≡◌ (fills_file stored facts) (fills_file other_stored it)) one
+        (file_agree number stored other_stored are facts))
+        (λ text other_text goes2 one2. gives_agree _ (Done text) (Done other_text) (ap Done one2))))
+
+    pub fills_agree : (name : List ℕ) → AgreeCalmly ◌≡◌ (fills_named (Some files) name catalogue) (fills_named (Some files) name other)
+    fills_agree name =
+        then_agree _ ◌≡◌ ◌≡◌ _ _ _ _ (found_agree name) (λ number other_number goes same.
+        subst (λ (it : ℕ). AgreeCalmly ◌≡◌ (fills_fragment (Some files) catalogue number) (fills_fragment (Some files) other it)) same (fragment_agree number))
+
+    -- ---- `audit`
+
+    abbrev judged_by : List ConjunctiveQuery → List (Fact Term) → Course Status (Unit {0})
+    judged_by views facts = judges (λ _. AreTextViews views (database_of facts))
+        (λ refusal. (column : ℕ) × IsFirstNodeView views (database_of facts) column × (refusal ≡ status.NodeInRow column))
+
+    pub texts_not_node : (views : List ConjunctiveQuery) (facts : List (Fact Term)) (column : ℕ) → AreTextViews views (database_of facts)
+        → IsFirstNodeView views (database_of facts) column → ⊥
+    texts_not_node views facts column here there = ok_not_err tt (answer.NodeInRow column)
+        (laws.judgements views (database_of facts) (Ok tt) (Err (answer.NodeInRow column)) here there (λ same. ok_not_err tt answer.OutOfMemory same)
+        (node_not_want (Unit {0}) column))
+
+    views_agree : (facts : List (Fact Term)) → AgreeCalmly ◌≡◌ (judges_views catalogue facts) (judges_views other facts)
+    views_agree facts =
+        let views = views_of catalogue.fragments in
+        subst (λ (it : List ConjunctiveQuery). AgreeCalmly ◌≡◌ (judged_by views facts) (judged_by it facts)) alike.views
+        (judges_agree _ _ _ _ _ _ (λ value other_value here there. refl)
+        (λ said other_said caused other_caused here there.
+        here.2 ∙ ap status.NodeInRow (same_column here.0 there.0 (err_same (answer.NodeInRow here.0) (answer.NodeInRow there.0)
+        (laws.judgements views (database_of facts) (Err (answer.NodeInRow here.0)) (Err (answer.NodeInRow there.0)) here.1 there.1 (node_not_want (Unit {0}) here.0)
+        (node_not_want (Unit {0}) there.0)))) ∙ sym there.2)
+        (λ value said caused here there. texts_not_node views facts there.0 here there.1)
+        (λ value said caused here there. texts_not_node views facts there.0 here there.1))
+
+    module _ (facts : List (Fact Term)) (flat : AreFlat facts) (contents : ℕ → List ℕ) where
+      one_audit : (rules : AreRules (rules_of catalogue.rules)) (outcome other_outcome : Option Difference) → AuditsFiles catalogue facts contents outcome
+          → AuditsFiles other facts contents other_outcome → outcome ≡ other_outcome
+      one_audit rules outcome other_outcome here there =
+          laws.audits (rules_of catalogue.rules) (map written catalogue.rules) (names_of catalogue.fragments) (views_of catalogue.fragments) facts
+          catalogue.stores other.stores contents contents outcome other_outcome rules flat
+          (λ fact. laws.rows catalogue.stores other.stores contents fact alike.stores) here
+          (audits_over catalogue other alike facts (IsFileRow other.stores contents) other_outcome there)
+
+      compared_agree : AreRules (rules_of catalogue.rules) → AgreeCalmly ◌≡◌ (compares catalogue facts contents) (compares other facts contents)
+      compared_agree rules = judges_agree _ _ _ _ _ _ (λ value other_value here there. refl)
+          (λ said other_said caused other_caused here there.
+          here.2 ∙ ap status.Differs (same_difference here.0 there.0 (one_audit rules (Some here.0) (Some there.0) here.1 there.1)) ∙ sym there.2)
+          (λ value said caused here there. none-some there.0 (one_audit rules None (Some there.0) here there.1))
+          (λ value said caused here there. none-some there.0 (sym (one_audit rules (Some there.0) None there.1 here)))
+
+    module _ (rules : AreRules (rules_of catalogue.rules)) where
+      audited_agree : (facts : List (Fact Term)) → AreFlat facts → AgreeCalmly ◌≡◌ (audits_facts (Some files) catalogue facts) (audits_facts (Some files) other facts)
+      audited_agree facts flat =
+          then_agree _ ◌≡◌ ◌≡◌ _ _ _ _ (views_agree facts) (λ value other_value goes same.
+          then_agree _ ◌≡◌ ◌≡◌ _ _ _ _
+          (subst (λ (it : ℕ). AgreeCalmly ◌≡◌ (opens_fragments (Some files) catalogue (all_fragments catalogue))
+          (opens_fragments (Some files) other (range_with_len 0 it))) (fragments_long catalogue other alike)
+          (laws.fragments files catalogue other (all_fragments catalogue) alike))
+          (λ contents other_contents goes1 same1.
+          then_agree _ ◌≡◌ ◌≡◌ _ _ _ _
+          (subst (λ (it : ℕ → List ℕ). AgreeCalmly ◌≡◌ (compares catalogue facts contents) (compares other facts it)) same1
+          (compared_agree facts flat contents rules))
+          (λ value1 other_value1 goes2 same2. gives_agree _ (Done (audit_text catalogue)) (Done (audit_text other)) (ap Done (texts_one catalogue other alike)))))
+
+    catalogue_agree : AgreeCalmly ◌≡◌ (audits_catalogue (Some files) catalogue) (audits_catalogue (Some files) other)
+    catalogue_agree =
+        then_agree _ ◌≡◌ ◌≡◌ _ _ _ _
+        (subst (λ (it : List Dataset). AgreeCalmly ◌≡◌ (loads (Some files) catalogue.datasets Each) (loads (Some files) it Each)) alike.datasets
+        (loads_agree files catalogue.datasets laws.facts Each))
+        (λ facts others goes one. subst (λ (it : List (Fact Term)). AgreeCalmly ◌≡◌ (audits_facts (Some files) catalogue facts)
+        (audits_facts (Some files) other it)) one
+        (audited_agree (are_rules laws.rules catalogue.rules) facts (loads_flat (Some files) catalogue.datasets Each facts goes)))
+
+  -- ---- the commands
+
+  module _ (files : Files) where
+    pub fills_one : (catalogue_name name : List ℕ) → IsOne (fill_course (Some files) catalogue_name name)
+    fills_one catalogue_name name = then_agree _ AreSame ◌≡◌ _ _ _ _ (laws.catalogues files catalogue_name)
+        (λ catalogue other goes alike. fills_agree files catalogue other alike name)
+
+    pub answers_one : (catalogue_name query_name : List ℕ) → IsOne (answer_course (Some files) catalogue_name query_name)
+    answers_one catalogue_name query_name = then_agree _ AreSame ◌≡◌ _ _ _ _ (laws.catalogues files catalogue_name)
+        (λ catalogue other goes alike. then_agree _ IsSameQuery ◌≡◌ _ _ _ _ (laws.queries files query_name catalogue other alike)
+        (λ query other_query goes1 same. answers_agree files catalogue other alike query other_query same))
+
+    pub audits_one : (name : List ℕ) → IsOne (audit_course (Some files) name)
+    audits_one name = then_agree _ AreSame ◌≡◌ _ _ _ _ (laws.catalogues files name)
+        (λ catalogue other goes alike. catalogue_agree files catalogue other alike)

@@ -1,0 +1,296 @@
+-- The files of the datasets that are needed, opened one after the other.
+use Rattle.std.proofs.Common.{◌≡◌, ◌≢◌, ◌↔◌, ◌⊎◌, ◌<◌, ◌≤◌, ◌+◌, ◌-◌, ℕ, zero, suc, List, [], ◌∷◌, ◌++◌, take, drop, length, get_or, drop-cons, add-one, zero-add, Contains, slice_get, Option, Some, None, Result, Ok, Err, refl, sym, ap, subst, ◌∙◌, arith, inl, inr}
+use Rattle.std.specs.Prelude.{AllPairs, IfSome, IsSome}
+use Rattle.std.specs.Result.{IsErrAnd}
+use Rattle.std.proofs.lemmas.List.{get_or_default, take_all}
+use Rattle.std.proofs.lemmas.List.Elements.{Contains-append_cases, Contains-append_left, Contains-append_right, Contains-get_or}
+use Rattle.std.proofs.lemmas.List.Quantifiers.{all_pairs_push}
+use Rattle.std.proofs.lemmas.Option.{same_Some, slice_get_within}
+use Rattle.esto_catalog.specs.declared.dataset.Dataset.{Dataset}
+use Rattle.esto_course.specs.Course.{Course, Stops, judges, demands, gives, and_then, each}
+use Rattle.esto_course.specs.Course.Stops.{is_free, refused}
+use Rattle.esto_course.proofs.Steps.{Leads, first_stops, then_stops, then_goes, gives_goes, caused_more, each_next, each_stops, each_goes}
+use Rattle.esto_fill.specs.Files.{FindsFault, IsLoadedFrom, dataset_fault}
+use Rattle.esto_fill.specs.Laws.{LoadedAreFlat}
+use Rattle.esto_fill.specs.declared.datasets.DatasetBytes.{DatasetBytes}
+use Rattle.esto_fill.specs.declared.loaded.Loaded.{Loaded}
+use Rattle.esto_ports.specs.Files.{Files}
+use Rattle.esto_ports.specs.declared.file_fault.FileError.{FileError}
+use Rattle.esto_ports.specs.declared.file_fault.FileError.TheVariants.{Fault}
+use Rattle.esto_ports.specs.declared.file_fault.FileFault.{FileFault}
+use Rattle.esto_semantics.specs.declared.fact.Fact.{Fact}
+use Rattle.esto_term.proofs.ListLemmas.{Contains-cases, Contains-head, Contains-nil}
+use Rattle.esto_term.specs.declared.term.Term.{Term}
+use Rattle.esto_opening.specs.Answers.{IsWant, IsCaused, Answers}
+use Rattle.esto_data.specs.Datasets.{AddsNeeded, AreNeeded, IsSourceAt, Loads, LoadsFiles, LoadsMore, LoadsNext, ReadsData, Source, demands_file, demands_files, loads, loads_files, loads_next, opens_dataset, opens_source, reads_data}
+use Rattle.esto_opening.specs.Fetch.{fetches}
+use Rattle.esto_data.specs.declared.datasets.TheConstants.{DATASET_LIMIT}
+use Rattle.esto_opening.specs.declared.status.Status.{Status}
+use Rattle.esto_opening.specs.declared.status.Status.TheVariants.{BadDataset, NoData, OutOfMemory}
+use Rattle.esto_opening.proofs.Steps.{caused_weaker, later_stops}
+
+-- ---- the content of one file
+
+module _ (datasets : List Dataset) (number : ℕ) (bytes : List ℕ) (dataset : Dataset) (at : slice_get datasets number ≡ Some dataset) where
+  -- what is found of the file of the dataset at the number is found of its file
+  pub found_at : {A : Type 0} (result : Result A FileError) → IfSome (slice_get datasets number) (λ it. FindsFault (dataset_fault it bytes) result)
+      → FindsFault (dataset_fault dataset bytes) result
+  found_at result found = subst (λ (it : Option Dataset). IfSome it (λ own. FindsFault (dataset_fault own bytes) result)) at found
+
+pub data_goes : (dataset : Dataset) (bytes : List ℕ) → dataset_fault dataset bytes ≡ None → (reads_data dataset bytes).goes tt
+unfolding judges
+data_goes dataset bytes none = none
+
+pub data_stops : (dataset : Dataset) (bytes name : List ℕ) (fault : FileFault) → dataset_fault dataset bytes ≡ Some fault → name ≡ dataset.name
+    → Stops IsWant (IsCaused ⊥) (reads_data dataset bytes) (BadDataset name fault)
+unfolding judges
+data_stops dataset bytes name fault found is = refused (record { cause = tt }) (fault, found, ap (λ it. BadDataset it fault) is)
+
+-- the error that was given is the first fault
+pub fault_found : {A : Type 0} (dataset : Dataset) (bytes : List ℕ) (error : FileError) (fault : FileFault) → error ≡ Fault fault
+    → FindsFault {A = A} (dataset_fault dataset bytes) (Err error) → dataset_fault dataset bytes ≡ Some fault
+fault_found {A} dataset bytes error fault is found = subst (λ (it : FileError). FindsFault {A = A} (dataset_fault dataset bytes) (Err it)) is found
+
+-- ---- one file
+
+module _ (files : Option Files) (datasets : List Dataset) (number : ℕ) (source : Source) (at : IsSourceAt datasets number source) where
+  source_goes : (bytes : List ℕ) → (opens_source files source).goes bytes → (opens_dataset files datasets number).goes bytes
+  unfolding judges
+  source_goes bytes goes = then_goes (judges (IsSourceAt datasets number) (λ _. ⊥)) (opens_source files) source bytes at goes
+
+  source_stops : {rose : Type 0} {refusal : Status} → Stops IsWant (IsCaused rose) (opens_source files source) refusal
+      → Stops IsWant (IsCaused rose) (opens_dataset files datasets number) refusal
+  unfolding judges
+  source_stops stops = then_stops (judges (IsSourceAt datasets number) (λ _. ⊥)) (opens_source files) source at stops
+
+  -- an error that `?` hands on where the file is not fetched
+  pub load_exit : {rose : Type 0} (old : Loaded) (error : Status) (result : Result Loaded Status) → IsErrAnd result (λ handed. handed ≡ error)
+      → Stops IsWant (IsCaused rose) (fetches files source.file DATASET_LIMIT) error → LoadsNext files datasets number old rose result
+  load_exit old error (Ok _) handed stops = absurd handed
+  load_exit old error (Err handed_on) handed stops = rw handed (source_stops (first_stops _ _ stops))
+
+  -- it is fetched, and its content read
+  pub loads_next_by : (bytes : List ℕ) → (fetches files source.file DATASET_LIMIT).goes bytes → (old : Loaded) (rose : Type 0) (result : Result Loaded Status)
+      → ReadsData datasets number source.dataset bytes old result → LoadsNext files datasets number old rose result
+  loads_next_by bytes fetched old rose (Ok new) (good, more) =
+      (bytes, source_goes bytes (then_goes _ _ bytes bytes fetched (then_goes _ _ tt bytes good (gives_goes Status bytes bytes refl))), more)
+  loads_next_by bytes fetched old rose (Err refusal) stops =
+      source_stops (then_stops _ _ bytes fetched (first_stops _ _ (caused_more _ refusal (caused_weaker (λ none. absurd none)) stops)))
+
+-- the file that the dataset at the number has is the source's
+pub same_source : (datasets : List Dataset) (number : ℕ) (source : Source) → IsSourceAt datasets number source → (dataset : Dataset)
+    → slice_get datasets number ≡ Some dataset → source.dataset ≡ dataset
+same_source datasets number source at dataset is = same_Some source.dataset dataset (sym at.there ∙ is)
+
+-- ---- all files
+
+-- after the files of the first numbers, so many: these, with which the course goes on, and their facts
+pub record SoFarLoaded (files : Option Files) (datasets : List Dataset) (numbers : List ℕ) (index : ℕ) (loaded : Loaded) : Type 0 where
+  pub counter : ℕ
+  pub contents : List DatasetBytes
+  pub leads : Leads (each (loads_next files datasets) counter contents (drop index numbers)) (loads_files files datasets numbers)
+  pub are : IsLoadedFrom datasets contents loaded
+
+module _ (files : Option Files) (datasets : List Dataset) (numbers : List ℕ) where
+  pub loading_starts : (loaded : Loaded) → loaded.facts ≡ [] → loaded.next ≡ 0 → SoFarLoaded files datasets numbers 0 loaded
+  loading_starts loaded facts next = record {
+    counter = 0;
+    contents = [];
+    leads = record { goes = λ value goes. goes; stops = λ refusal stops. stops };
+    are = (facts, next);
+  }
+
+  module _ (index : ℕ) (loaded : Loaded) (so_far : SoFarLoaded files datasets numbers index loaded) where
+    module _ (number : ℕ) (below : index < length numbers) (is : number ≡ get_or numbers index number) where
+      -- one file more
+      pub loading_goes : (next : Loaded) (bytes : List ℕ) → (opens_dataset files datasets number).goes bytes → LoadsMore datasets number bytes loaded next
+          → SoFarLoaded files datasets numbers (index + 1) next
+      loading_goes next bytes goes more =
+          let contents : List DatasetBytes = so_far.contents ++ record { dataset = number; bytes = bytes } ∷ [] in record {
+            counter = suc so_far.counter;
+            contents = contents;
+            leads = each_next (loads_next files datasets) numbers (loads_files files datasets numbers) so_far.counter index so_far.contents so_far.leads
+                number below is contents
+                (then_goes (opens_dataset files datasets number) (λ it. gives (so_far.contents ++ record { dataset = number; bytes = it } ∷ [])) bytes contents
+                goes (gives_goes Status _ _ refl));
+            are = more so_far.contents so_far.are;
+          }
+
+      -- the file is not opened
+      pub loading_stops : {rose : Type 0} {refusal : Status} → Stops IsWant (IsCaused rose) (opens_dataset files datasets number) refusal
+          → Stops IsWant (IsCaused rose) (loads_files files datasets numbers) refusal
+      loading_stops stops = each_stops (loads_next files datasets) numbers (loads_files files datasets numbers) so_far.counter index so_far.contents
+          so_far.leads number below is (first_stops _ _ stops)
+
+    -- no file is left
+    pub loading_ends : length numbers ≤ index → (rose : Type 0) → LoadsFiles files datasets numbers rose (Ok loaded)
+    loading_ends le rose = (
+      so_far.contents,
+      each_goes (loads_next files datasets) numbers (loads_files files datasets numbers) so_far.counter index so_far.contents so_far.leads le,
+      so_far.are,
+    )
+
+-- the error of one file that `?` hands on
+pub loading_exit : {rose : Type 0} (files : Option Files) (datasets : List Dataset) (numbers : List ℕ) (error : Status) (result : Result Loaded Status)
+    → IsErrAnd result (λ handed. handed ≡ error) → Stops IsWant (IsCaused rose) (loads_files files datasets numbers) error
+    → LoadsFiles files datasets numbers rose result
+loading_exit files datasets numbers error (Ok _) handed stops = absurd handed
+loading_exit files datasets numbers error (Err handed_on) handed stops = rw handed stops
+
+-- ---- that each has a file
+
+pub record SoFarDemanded (datasets : List Dataset) (numbers : List ℕ) (index : ℕ) : Type 0 where
+  pub counter : ℕ
+  pub leads : Leads (each (demands_file datasets) counter tt (drop index numbers)) (demands_files datasets numbers)
+
+module _ (datasets : List Dataset) (numbers : List ℕ) where
+  pub demanding_starts : SoFarDemanded datasets numbers 0
+  demanding_starts = record { counter = 0; leads = record { goes = λ value goes. goes; stops = λ refusal stops. stops } }
+
+  module _ (index : ℕ) (so_far : SoFarDemanded datasets numbers index) where
+    module _ (number : ℕ) (below : index < length numbers) (is : number ≡ get_or numbers index number) where
+      pub demanding_goes : ((place : ℕ) → (demands_file datasets place tt number).goes tt) → SoFarDemanded datasets numbers (index + 1)
+      demanding_goes goes = record {
+        counter = suc so_far.counter;
+        leads = each_next (demands_file datasets) numbers (demands_files datasets numbers) so_far.counter index tt so_far.leads number below is tt
+            (goes so_far.counter);
+      }
+
+      pub demanding_stops : {refusal : Status} → ((place : ℕ) → Stops IsWant (IsCaused ⊥) (demands_file datasets place tt number) refusal)
+          → Stops IsWant (IsCaused ⊥) (demands_files datasets numbers) refusal
+      demanding_stops stops = each_stops (demands_file datasets) numbers (demands_files datasets numbers) so_far.counter index tt so_far.leads number below is
+          (stops so_far.counter)
+
+    pub demanding_ends : length numbers ≤ index → (demands_files datasets numbers).goes tt
+    demanding_ends le = each_goes (demands_file datasets) numbers (demands_files datasets numbers) so_far.counter index tt so_far.leads le
+
+-- the dataset has a file, or it has none
+pub file_there : (datasets : List Dataset) (number place : ℕ) (dataset : Dataset) → slice_get datasets number ≡ Some dataset → IsSome dataset.file
+    → (demands_file datasets place tt number).goes tt
+unfolding judges demands
+file_there datasets number place dataset at some = then_goes (judges (λ it. slice_get datasets number ≡ Some it) (λ _. ⊥)) _ dataset tt at some
+
+pub file_absent : (datasets : List Dataset) (number place : ℕ) (dataset : Dataset) (name : List ℕ) → slice_get datasets number ≡ Some dataset
+    → ¬ (IsSome dataset.file) → name ≡ dataset.name
+    → Stops IsWant (IsCaused ⊥) (demands_file datasets place tt number) (NoData name)
+unfolding judges demands
+file_absent datasets number place dataset name at none is =
+    then_stops (judges (λ it. slice_get datasets number ≡ Some it) (λ _. ⊥)) _ dataset at (refused (record { cause = tt }) (none, ap NoData is))
+
+source_of : (datasets : List Dataset) (number : ℕ) (dataset : Dataset) → slice_get datasets number ≡ Some dataset → (file : Option (List ℕ))
+    → dataset.file ≡ file → IsSome file → (source : Source) × IsSourceAt datasets number source
+source_of datasets number dataset at None is some = absurd some
+source_of datasets number dataset at (Some name) is some = (record { dataset = dataset; file = name }, record { there = at; file_is = is })
+
+-- where each has a file, each number is that of a source
+pub sources_there : (datasets : List Dataset) (counter : ℕ) (numbers : List ℕ) → (each (demands_file datasets) counter tt numbers).goes tt
+    → (number : ℕ) → Contains numbers number → (source : Source) × IsSourceAt datasets number source
+unfolding and_then judges demands
+sources_there datasets counter [] goes number inside = absurd (Contains-nil number inside)
+sources_there datasets counter (first ∷ rest) (given, (dataset, at, some), more) number inside = elim (Contains-cases first rest number inside) [
+  | inl is ↦ subst (λ (it : ℕ). (source : Source) × IsSourceAt datasets it source) is (source_of datasets first dataset at dataset.file refl some)
+  | inr later ↦ sources_there datasets (suc counter) rest more number later
+]
+
+-- ---- all together
+
+module _ (files : Option Files) (datasets : List Dataset) (Needs : Dataset → Type 0) (numbers : List ℕ) (needed : AreNeeded datasets Needs numbers) where
+  pub needed_there : (number : ℕ) → Contains numbers number → number < length datasets
+  needed_there number inside = let found = (needed.exact number).0 inside in slice_get_within datasets number found.0 found.1
+
+  -- a dataset has no file
+  pub demand_exit : {rose : Type 0} (error : Status) (result : Result Loaded Status) → IsErrAnd result (λ handed. handed ≡ error)
+      → Stops IsWant (IsCaused ⊥) (demands_files datasets numbers) error → Loads (loads files datasets Needs) rose result
+  unfolding judges
+  demand_exit error (Ok _) handed stops = absurd handed
+  demand_exit error (Err handed_on) handed stops =
+      rw handed (then_stops (judges (AreNeeded datasets Needs) (λ _. ⊥)) _ numbers needed
+      (first_stops _ _ (caused_more _ error (caused_weaker (λ none. absurd none)) stops)))
+
+  -- all have one, and the files are opened
+  pub loads_by : LoadedAreFlat → (demands_files datasets numbers).goes tt → (rose : Type 0) (result : Result Loaded Status) → LoadsFiles files datasets numbers rose result
+      → Loads (loads files datasets Needs) rose result
+  unfolding judges
+  loads_by flat have rose (Ok loaded) (contents, goes, are) =
+      then_goes (judges (AreNeeded datasets Needs) (λ _. ⊥)) _ numbers loaded.facts needed
+      (then_goes (demands_files datasets numbers) _ tt loaded.facts have
+      (then_goes (loads_files files datasets numbers) _ contents loaded.facts goes (record { next = loaded.next; are = are; flat = flat loaded })))
+  loads_by flat have rose (Err refusal) stops =
+      then_stops (judges (AreNeeded datasets Needs) (λ _. ⊥)) _ numbers needed
+      (then_stops (demands_files datasets numbers) _ tt have (first_stops _ _ stops))
+
+-- want of memory
+pub loads_wanting : {rose : Type 0} (course : Course Status (List (Fact Term))) (result : Result Loaded Status) → IsErrAnd result (λ handed. handed ≡ OutOfMemory)
+    → Loads course rose result
+loads_wanting course (Ok _) handed = absurd handed
+loads_wanting course (Err handed_on) handed = is_free handed
+
+-- ---- which are needed
+
+-- of the datasets below a place, the numbers of those that are needed
+pub record AreNeededBelow (datasets : List Dataset) (Needs : Dataset → Type 0) (count : ℕ) (numbers : List ℕ) : Type 0 where
+  pub exact : (number : ℕ) → Contains numbers number
+      ↔ ((number < count) × ((dataset : Dataset) × (slice_get datasets number ≡ Some dataset) × Needs dataset))
+  pub rising : AllPairs ◌<◌ numbers
+
+none_needed : (datasets : List Dataset) (Needs : Dataset → Type 0) → AreNeededBelow datasets Needs 0 []
+none_needed datasets Needs = record {
+  exact = λ number. ((λ inside. absurd (Contains-nil number inside)), (λ found. absurd (omega (arith, found.0))));
+  rising = λ i j d less within. absurd (omega (arith, less, within));
+}
+
+module _ (datasets : List Dataset) (Needs : Dataset → Type 0) (count : ℕ) (dataset : Dataset) (at : slice_get datasets count ≡ Some dataset) (old new : List ℕ)
+    (so_far : AreNeededBelow datasets Needs count old) where
+  earlier_or_last : (number : ℕ) → number < count + 1 → (number < count) ⊎ (number ≡ count)
+  earlier_or_last number within = grind arith
+
+  last_is : (number : ℕ) → number ≡ count → (other : Dataset) → slice_get datasets number ≡ Some other → dataset ≡ other
+  last_is number last other there = same_Some dataset other (sym at ∙ ap (slice_get datasets) (sym last) ∙ there)
+
+  takes : Needs dataset → new ≡ old ++ count ∷ [] → AreNeededBelow datasets Needs (count + 1) new
+  takes needs is = subst (AreNeededBelow datasets Needs (count + 1)) (sym is) (record {
+    exact = λ number. (
+      (λ inside. elim (Contains-append_cases old (count ∷ []) number inside) [
+        | inl earlier ↦ let found = (so_far.exact number).0 earlier in (omega (arith, found.0), found.1)
+        | inr last ↦ elim (Contains-cases count [] number last) [
+          | inl same ↦ (omega (arith, same), (dataset, ap (slice_get datasets) (sym same) ∙ at, needs))
+          | inr none ↦ absurd (Contains-nil number none)
+        ]
+      ]),
+      (λ found. elim (earlier_or_last number found.0) [
+        | inl earlier ↦ Contains-append_left old (count ∷ []) number ((so_far.exact number).1 (earlier, found.1))
+        | inr last ↦ subst (Contains (old ++ count ∷ [])) (sym last) (Contains-append_right old (count ∷ []) count (Contains-head count []))
+      ]),
+    );
+    rising = all_pairs_push ◌<◌ old count so_far.rising (λ k d within. ((so_far.exact _).0 (Contains-get_or old k d within)).0);
+  })
+
+  skips : ¬ (Needs dataset) → new ≡ old → AreNeededBelow datasets Needs (count + 1) new
+  skips not_needed is = subst (AreNeededBelow datasets Needs (count + 1)) (sym is) (record {
+    exact = λ number. (
+      (λ inside. let found = (so_far.exact number).0 inside in (omega (arith, found.0), found.1)),
+      (λ found. elim (earlier_or_last number found.0) [
+        | inl earlier ↦ (so_far.exact number).1 (earlier, found.1)
+        | inr last ↦ absurd (not_needed (subst Needs (sym (last_is number last found.1.0 found.1.1)) found.1.2))
+      ]),
+    );
+    rising = so_far.rising;
+  })
+
+  -- one dataset more
+  pub needed_more : AddsNeeded (Needs dataset) count old new → AreNeededBelow datasets Needs (count + 1) new
+  needed_more adds = elim adds [ inl taken ↦ takes taken.0 taken.1 | inr skipped ↦ skips skipped.0 skipped.1 ]
+
+pub needed_starts : (datasets : List Dataset) (Needs : Dataset → Type 0) (numbers : List ℕ) → numbers ≡ [] → AreNeededBelow datasets Needs 0 numbers
+needed_starts datasets Needs numbers none = subst (AreNeededBelow datasets Needs 0) (sym none) (none_needed datasets Needs)
+
+-- all datasets were looked at
+pub needed_all : (datasets : List Dataset) (Needs : Dataset → Type 0) (count : ℕ) (numbers : List ℕ) → AreNeededBelow datasets Needs count numbers
+    → length datasets ≤ count → AreNeeded datasets Needs numbers
+needed_all datasets Needs count numbers so_far le = record {
+  exact = λ number. (
+    (λ inside. ((so_far.exact number).0 inside).1),
+    (λ found. let within = slice_get_within datasets number found.0 found.1 in (so_far.exact number).1 (omega (arith, within, le), found)),
+  );
+  rising = so_far.rising;
+}

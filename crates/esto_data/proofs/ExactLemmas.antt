@@ -1,0 +1,481 @@
+-- What `fill`, `answer` and `audit` answer where nothing is wrong with the files.
+use Rattle.std.proofs.Common.{◌≡◌, ◌≢◌, ◌⊎◌, ◌↔◌, ◌<◌, ◌≤◌, ℕ, suc, List, [], ◌∷◌, ◌++◌, map, length, slice_get, Contains, Option, Some, None, Result, Ok, Err, refl, sym, ap, subst, ◌∙◌, arith, inl, inr}
+use Rattle.std.proofs.lemmas.Bool.{cases_order}
+use Rattle.std.proofs.lemmas.Option.{same_Some, none-some}
+use Rattle.esto_catalog.specs.Determined.{AreSame, CataloguesAreSound}
+use Rattle.esto_catalog.specs.declared.catalogue.Catalogue.{Catalogue}
+use Rattle.esto_catalog.specs.declared.dataset.Dataset.{Dataset}
+use Rattle.esto_constraint.specs.Constraints.{rules_of}
+use Rattle.esto_constraint.specs.EncodingRules.{written}
+use Rattle.esto_course.specs.Course.{Course, judges, demands, gives, and_then, each}
+use Rattle.esto_fill.specs.Databases.{database_of}
+use Rattle.esto_fill.specs.Differences.{Agree, Audits, HoldViewRows}
+use Rattle.esto_fill.specs.Filled.{Fills}
+use Rattle.esto_fill.specs.Texts.{AreTextViews, AreTextsOf, HaveTextsOnly, HasNodeIn, IsFirstNodeColumn, IsFirstNodeView, IsTextRow}
+use Rattle.esto_fill.specs.declared.auditing.Difference.{Difference}
+use Rattle.esto_fill.specs.declared.filled.FillError.{FillError}
+use Rattle.esto_fill.specs.declared.filled.FillError.TheVariants as filled
+use Rattle.esto_fill.specs.declared.datasets.DatasetBytes.{DatasetBytes}
+use Rattle.esto_ports.specs.Files.{Files}
+use Rattle.esto_ports.specs.declared.file_fault.FileFault.{FileFault}
+use Rattle.esto_query.specs.Making.{query_of}
+use Rattle.esto_query.specs.declared.query.Query.{Query}
+use Rattle.esto_run.specs.Answers.{rows_text}
+use Rattle.esto_run.specs.Stores.{IsFileRow}
+use Rattle.esto_semantics.specs.Facts.{Database}
+use Rattle.esto_semantics.specs.Maps.{AreFlat}
+use Rattle.esto_semantics.specs.Queries.{ConjunctiveQuery, IsAnswer}
+use Rattle.esto_semantics.specs.declared.fact.Fact.{Fact}
+use Rattle.esto_semantics.specs.declared.fact.Value.{Value}
+use Rattle.esto_semantics.specs.declared.fact.Value.TheVariants.{Text, Node}
+use Rattle.esto_stores.specs.Rows.{Row}
+use Rattle.esto_term.proofs.ListLemmas.{Contains-at, map_at-from, place-from_Contains}
+use Rattle.esto_term.specs.declared.term.Term.{Term}
+use Rattle.esto_views.specs.Fragments.{views_of}
+use Rattle.esto_opening.specs.Alike.{IsSameQuery}
+use Rattle.esto_opening.specs.Answers.{IsCaused}
+use Rattle.esto_opening.specs.Calm.{AgreeCalmly, Leads}
+use Rattle.esto_opening.specs.Fetch.{fetches, FetchStops}
+use Rattle.esto_opening.specs.Fetch.FetchStops.{fails, is_longer}
+use Rattle.esto_opening.specs.Fragments.{Stored, IsStoredAt, opens_fragments}
+use Rattle.esto_opening.specs.Line.{line_of}
+use Rattle.esto_opening.specs.Opening.{opens_catalogue, opens_query, reads_catalogue, reads_query}
+use Rattle.esto_opening.specs.declared.opening.TheConstants.{CATALOGUE_LIMIT, QUERY_LIMIT}
+use Rattle.esto_opening.specs.declared.reply.Reply.{Reply}
+use Rattle.esto_opening.specs.declared.reply.Reply.TheVariants.{Done}
+use Rattle.esto_opening.specs.declared.status.Status.{Status}
+use Rattle.esto_opening.specs.declared.status.Status.TheVariants as status
+use Rattle.esto_opening.proofs.LeadLemmas.{then-leads, leads-more, gives-leads, judges-leads}
+use Rattle.esto_opening.proofs.Steps.{never_wanting, read_cause}
+use Rattle.esto_course.proofs.Steps.{then_goes}
+use Rattle.esto_data.specs.Answer.{IsAnswerOfFacts, answer_course, answers_facts, answers_query}
+use Rattle.esto_data.specs.Audit.{AuditsFiles, all_fragments, audit_course, audit_text, audits_catalogue, compares, judges_views}
+use Rattle.esto_data.specs.Datasets.{AreNeeded, Each, Names, Source, demands_file, demands_files, loads, loads_files, loads_next, opens_dataset, opens_source, reads_data}
+use Rattle.esto_data.specs.declared.datasets.TheConstants.{DATASET_LIMIT}
+use Rattle.esto_data.specs.Exact.{AnswersExactly, AreReadableFragments, AuditsExactly, FilesSayCatalogue, FilesSayQuery, FillsExactly, HoldFacts, IsExactAnswer, IsExactAudit, IsExactFill}
+use Rattle.esto_data.specs.Exact.FillsExactly.{prints, refuses}
+use Rattle.esto_data.specs.Fill.{IsFilled, IsFirstOf, IsRowOfView, fill_course, fill_status, fills_file, fills_fragment, fills_named, finds_fragment, names_of}
+use Rattle.esto_data.specs.Laws.{Says}
+use Rattle.esto_data.proofs.AgreeLemmas.{DataLaws, listed_not_node}
+use Rattle.esto_data.proofs.AlikeLemmas.{are_rules, audits-moved, first_one}
+use Rattle.esto_data.proofs.FragmentLemmas.{fragments_never, rows_same}
+use Rattle.esto_data.proofs.LeadLemmas.{holds-leads, holds_leads}
+use Rattle.esto_data.proofs.LoadLemmas.{loads_flat}
+use Rattle.esto_data.proofs.MovedLemmas.{answer_moved, audit_moved, fill_moved}
+
+-- ---- the catalogue and the query that the files say
+
+module _ (files : Files) where
+  pub said_opens : (name : List ℕ) (catalogue : Catalogue) → FilesSayCatalogue files name catalogue → (opens_catalogue (Some files) name).goes catalogue
+  unfolding fetches judges
+  said_opens name catalogue say = then_goes (fetches (Some files) name CATALOGUE_LIMIT) reads_catalogue say.bytes catalogue say.has say.is_catalogue
+
+  said_query_opens : (name : List ℕ) (catalogue : Catalogue) (query : Query) → FilesSayQuery files name catalogue query
+      → (opens_query (Some files) name catalogue).goes query
+  unfolding fetches judges
+  said_query_opens name catalogue query say = then_goes (fetches (Some files) name QUERY_LIMIT) (reads_query catalogue) say.bytes query say.has
+      (say.named, say.is_query, say.query_is)
+
+-- a course leads to what is the same as a value with which one goes on that agrees with it
+pub agreed-leads : {A : Type 0} (Same : A → A → Type 0) (course other : Course Status A) (value : A) (Refusal : Status → Type 0)
+    → AgreeCalmly Same course other → course.goes value → Leads other (Same value) Refusal
+agreed-leads Same course other value Refusal agree goes = record {
+  goes = λ its there. agree.one value its goes there;
+  stops = λ said caused stop. absurd (agree.apart value said caused goes stop);
+}
+
+-- what holds of replies and refusals, as it is said, once more is
+says-more : (course : Course Status Reply) (Fact More : Status → List ℕ → Type 0) → ((said : Status) (text : List ℕ) → Fact said text → More said text)
+    → Says course Fact → Says course More
+says-more course Fact More more says = record {
+  goes = λ reply goes. let found = says.goes reply goes in (found.0, found.1, more status.Done found.0 found.2);
+  stops = λ said caused stop. more said (line_of said) (says.stops said caused stop);
+}
+
+-- ---- nodes in rows
+
+-- rows of texts hold no node
+pub no_node : (Rows : List Value → Type 0) (column : ℕ) → HaveTextsOnly Rows → IsFirstNodeColumn Rows column → ⊥
+no_node Rows column texts first = none (texts first.values first.there) first.node
+  where
+    apart : (text : List ℕ) (node : ℕ) → Text text ≡ Node node → ⊥
+    apart text node same = cc
+
+    none : IsTextRow first.values → HasNodeIn column first.values → ⊥
+    none (row, is) (place, node, counted, at) =
+        let found = map_at-from Text row place (Node node) (subst (λ (it : List Value). slice_get it place ≡ Some (Node node)) is at) in
+        apart found.0 node found.2
+
+-- the least column is one
+pub one_column : (Rows : List Value → Type 0) (column other : ℕ) → IsFirstNodeColumn Rows column → IsFirstNodeColumn Rows other → column ≡ other
+one_column Rows column other here there =
+    omega (arith, here.least there.values other there.there there.node, there.least here.values column here.there here.node)
+
+-- ---- `answer`
+
+module _ (laws : DataLaws) (files : Files) (catalogue : Catalogue) where
+  module _ (query : Query) where
+    answered : (facts : List (Fact Term)) (rows : List Row) → AreTextsOf (IsAnswerOfFacts query facts) rows
+        → AnswersExactly query facts status.Done (rows_text query rows)
+    answered facts rows texts = record {
+      prints = λ only. (refl, (rows, texts, refl));
+      node = λ column first. absurd (listed_not_node laws (query_of query) facts rows column texts first);
+    }
+
+    refused : (facts : List (Fact Term)) (column : ℕ) (said : Status) (text : List ℕ) → IsFirstNodeColumn (IsAnswerOfFacts query facts) column
+        → said ≡ status.NodeInRow column → AnswersExactly query facts said text
+    refused facts column said text first is = record {
+      prints = λ only. absurd (no_node (IsAnswerOfFacts query facts) column only first);
+      node = λ other its. is ∙ ap status.NodeInRow (one_column (IsAnswerOfFacts query facts) column other first its);
+    }
+
+    answer_says : Says (answers_query (Some files) catalogue query) (IsExactAnswer files catalogue query)
+    unfolding and_then judges gives
+    answer_says = record {
+      goes = λ reply (others, loaded, (rows, texts, done)). (
+        rows_text query rows,
+        done,
+        (λ facts holds.
+            let same : others ≡ facts = (holds_leads files catalogue.datasets (Names (query_of query).body) facts holds laws.facts).goes others loaded in
+            answered facts rows (subst (λ (it : List (Fact Term)). AreTextsOf (IsAnswerOfFacts query it) rows) same texts)),
+      );
+      stops = λ said caused stop facts holds. elim stop [
+        | inl unloaded ↦ absurd ((holds_leads files catalogue.datasets (Names (query_of query).body) facts holds laws.facts).stops said caused unloaded)
+        | inr (others, loaded, more) ↦
+            let same : others ≡ facts = (holds_leads files catalogue.datasets (Names (query_of query).body) facts holds laws.facts).goes others loaded in
+            elim more [
+              | inl (column, first, is) ↦ refused facts column said (line_of said)
+                  (subst (λ (it : List (Fact Term)). IsFirstNodeColumn (IsAnswerOfFacts query it) column) same first) is
+              | inr (rows, texts, none) ↦ absurd none
+            ]
+      ];
+    }
+
+  -- ---- `fill`
+
+  -- no status of loading says that there is no fragment
+  demanded_other : (name : List ℕ) (number counter : ℕ) (given : Unit {0})
+      → Leads (demands_file catalogue.datasets counter given number) (λ _. Unit {0}) (λ said. said ≢ status.NoSuchFragment name)
+  unfolding and_then judges demands
+  demanded_other name number counter given = record {
+    goes = λ value goes. tt;
+    stops = λ said caused stop. elim stop [
+      | inl none ↦ absurd none
+      | inr (dataset, at, without, is) ↦ no_data dataset.name said is
+    ];
+  }
+    where
+      no_data : (its : List ℕ) (said : Status) → said ≡ status.NoData its → said ≢ status.NoSuchFragment name
+      no_data its said is same = cc
+
+  opened_other : (name : List ℕ) (number : ℕ)
+      → Leads (opens_dataset (Some files) catalogue.datasets number) (λ _. Unit {0}) (λ said. said ≢ status.NoSuchFragment name)
+  unfolding and_then judges gives fetches
+  opened_other name number = record {
+    goes = λ value goes. tt;
+    stops = λ said caused stop. elim stop [
+      | inl none ↦ absurd none
+      | inr (source, at, more) ↦ elim more [
+        | inl unfetched ↦ fetch_other source.file said caused unfetched
+        | inr (bytes, fetched, later) ↦ elim later [
+          | inl (fault, found, is) ↦ bad_data source.dataset.name fault said is
+          | inr (good, read, none) ↦ absurd none
+        ]
+      ]
+    ];
+  }
+    where
+      bad_data : (its : List ℕ) (fault : FileFault) (said : Status) → said ≡ status.BadDataset its fault → said ≢ status.NoSuchFragment name
+      bad_data its fault said is same = cc
+
+      long : (its : List ℕ) (limit : ℕ) (said : Status) → said ≡ status.TooLong its limit → said ≢ status.NoSuchFragment name
+      long its limit said is same = cc
+
+      fetch_other : (file : List ℕ) (said : Status) → IsCaused ⊥ said → FetchStops (Some files) file DATASET_LIMIT said → said ≢ status.NoSuchFragment name
+      fetch_other file said caused (fails is) = absurd (read_cause ⊥ said file is caused)
+      fetch_other file said caused (is_longer bytes holds less is) = long file DATASET_LIMIT said is
+
+  loaded_other : (name : List ℕ) (numbers : List ℕ) (counter : ℕ) (so_far : List DatasetBytes)
+      → Leads (each (loads_next (Some files) catalogue.datasets) counter so_far numbers) (λ _. Unit {0}) (λ said. said ≢ status.NoSuchFragment name)
+  loaded_other name [] counter so_far = leads-more _ _ _ _ (λ value is. tt) (gives-leads so_far (λ said. said ≢ status.NoSuchFragment name))
+  loaded_other name (number ∷ rest) counter so_far =
+      then-leads _ _ (λ _. Unit {0}) _ _
+      (then-leads _ _ (λ _. Unit {0}) _ _ (opened_other name number)
+      (λ bytes opened. leads-more _ _ _ _ (λ value is. tt)
+      (gives-leads (so_far ++ record { dataset = number; bytes = bytes } ∷ []) (λ said. said ≢ status.NoSuchFragment name))))
+      (λ next done. loaded_other name rest (suc counter) next)
+
+  demanded_all : (name : List ℕ) (numbers : List ℕ) (counter : ℕ) (given : Unit {0})
+      → Leads (each (demands_file catalogue.datasets) counter given numbers) (λ _. Unit {0}) (λ said. said ≢ status.NoSuchFragment name)
+  demanded_all name [] counter given = leads-more _ _ _ _ (λ value is. tt) (gives-leads given (λ said. said ≢ status.NoSuchFragment name))
+  demanded_all name (number ∷ rest) counter given =
+      then-leads _ _ (λ _. Unit {0}) _ _ (demanded_other name number counter given) (λ next done. demanded_all name rest (suc counter) next)
+
+  loads_other : (name : List ℕ) (Needs : Dataset → Type 0)
+      → Leads (loads (Some files) catalogue.datasets Needs) (λ _. Unit {0}) (λ said. said ≢ status.NoSuchFragment name)
+  loads_other name Needs =
+      then-leads _ _ (λ _. Unit {0}) _ _ (holds-leads _ _ _ (λ value holds. tt))
+      (λ numbers needed. then-leads _ _ (λ _. Unit {0}) _ _ (demanded_all name numbers 0 tt)
+      (λ value have. then-leads _ _ (λ _. Unit {0}) _ _ (loaded_other name numbers 0 [])
+      (λ contents opened. holds-leads _ _ _ (λ facts are. tt))))
+
+  cause_other : (name : List ℕ) (cause : FillError) → fill_status cause ≢ status.NoSuchFragment name
+  cause_other name (filled.NodeInRow column) same = cc
+  cause_other name (filled.KeyText cell) same = cc
+  cause_other name filled.OutOfMemory same = cc
+
+  done_other : (name : List ℕ) → status.Done ≢ status.NoSuchFragment name
+  done_other name same = cc
+
+  one_stored : (number : ℕ) (stored its : Stored) → IsStoredAt catalogue number stored → IsStoredAt catalogue number its → stored ≡ its
+  one_stored number stored its here there =
+      let definition : stored.definition ≡ its.definition = same_Some stored.definition its.definition (sym here.definition ∙ there.definition) in
+      let store : stored.store ≡ its.store = same_Some stored.store its.store (sym here.store ∙ there.store) in
+      λ i. record { definition = definition i; store = store i }
+
+  -- from a stored fragment on, what follows
+  abbrev fills_from : Stored → Course Status Reply
+  fills_from stored =
+      and_then (loads (Some files) catalogue.datasets (Names (query_of stored.definition.view).body)) (λ facts.
+      and_then (fills_file stored facts) (λ text. gives (Done text)))
+
+  from_other : (name : List ℕ) (stored : Stored) (said : Status) → IsCaused ⊥ said → (fills_from stored).stops said → said ≢ status.NoSuchFragment name
+  unfolding and_then judges gives
+  from_other name stored said caused stop = elim stop [
+    | inl unloaded ↦ (loads_other name (Names (query_of stored.definition.view).body)).stops said caused unloaded
+    | inr (facts, loaded, more) ↦ elim more [
+      | inl (cause, fills, is) ↦ (λ same. cause_other name cause (sym is ∙ same))
+      | inr (text, filled, none) ↦ absurd none
+    ]
+  ]
+
+  module _ (stored : Stored) (facts : List (Fact Term))
+      (holds : HoldFacts files catalogue.datasets (Names (query_of stored.definition.view).body) facts) where
+    from_goes : (others : List (Fact Term)) (text : List ℕ)
+        → (loads (Some files) catalogue.datasets (Names (query_of stored.definition.view).body)).goes others
+        → IsFilled stored others text → FillsExactly stored facts status.Done text
+    from_goes others text loaded filled =
+        let same : others ≡ facts =
+        (holds_leads files catalogue.datasets (Names (query_of stored.definition.view).body) facts holds laws.facts).goes others loaded in
+        prints refl (subst (λ (it : List (Fact Term)). IsFilled stored it text) same filled)
+
+    from_stops : (said : Status) → IsCaused ⊥ said → (fills_from stored).stops said → FillsExactly stored facts said (line_of said)
+    unfolding and_then judges gives
+    from_stops said caused stop =
+        let leads = holds_leads files catalogue.datasets (Names (query_of stored.definition.view).body) facts holds laws.facts in
+        elim stop [
+          | inl unloaded ↦ absurd (leads.stops said caused unloaded)
+          | inr (others, loaded, more) ↦ elim more [
+            | inl (cause, fills, is) ↦ refuses cause
+                (subst (λ (it : List (Fact Term)). Fills stored.store.shape (IsRowOfView stored.definition it) (Err cause)) (leads.goes others loaded) fills)
+                is (λ wanting. never_wanting ⊥ said wanting caused)
+            | inr (text, filled, none) ↦ absurd none
+          ]
+        ]
+
+  module _ (name : List ℕ) where
+    named : (number : ℕ) → IsFirstOf (names_of catalogue.fragments) name number → Contains (names_of catalogue.fragments) name
+    named number first = Contains-at (names_of catalogue.fragments) number name first.there
+
+    -- the first fragment of the name is one
+    same_fragment : (number other : ℕ) → IsFirstOf (names_of catalogue.fragments) name number → IsFirstOf (names_of catalogue.fragments) name other
+        → (stored its : Stored) → IsStoredAt catalogue number stored → IsStoredAt catalogue other its → stored ≡ its
+    same_fragment number other first its_first stored its here there =
+        one_stored other stored its
+        (subst (λ (it : ℕ). IsStoredAt catalogue it stored) (first_one (names_of catalogue.fragments) name number other first its_first) here) there
+
+    fill_says : Says (fills_named (Some files) name catalogue) (IsExactFill files catalogue name)
+    unfolding and_then judges gives
+    fill_says = record {
+      goes = λ reply (number, first, (stored, here, (others, loaded, (text, filled, done)))). (
+        text,
+        done,
+        record {
+          fills = λ other its facts its_first there holds.
+              let moved = subst (λ (it : Stored). (loads (Some files) catalogue.datasets (Names (query_of it.definition.view).body)).goes others
+              × IsFilled it others text) (same_fragment number other first its_first stored its here there) (loaded, filled) in
+              from_goes its facts holds others text moved.0 moved.1;
+          unnamed = ((λ is. absurd (done_other name is)), (λ none. absurd (none (named number first))));
+        },
+      );
+      stops = λ said caused stop. elim stop [
+        | inl (none, is) ↦ record {
+          fills = λ number its facts first there holds. absurd (none (named number first));
+          unnamed = ((λ same. none), (λ still. is));
+        }
+        | inr (number, first, more) ↦ elim more [
+          | inl never ↦ absurd never
+          | inr (stored, here, later) ↦ record {
+            fills = λ other its facts its_first there holds.
+                from_stops its facts holds said caused
+                (subst (λ (it : Stored). (fills_from it).stops said) (same_fragment number other first its_first stored its here there) later);
+            unnamed = ((λ is. absurd (from_other name stored said caused later is)), (λ none. absurd (none (named number first))));
+          }
+        ]
+      ];
+    }
+
+-- ---- `audit`
+
+-- where each fragment holds its view's rows, these are of texts
+agree_texts : (views : List ConjunctiveQuery) (database : Database) (Holds : Fact (List ℕ) → Type 0) → HoldViewRows views database Holds
+    → AreTextViews views database
+agree_texts views database Holds rows view inside values answers =
+    let place = place-from_Contains views view inside in
+    let found = (rows (record { relation = place.0; terms = values })).0 (view, place.1, answers) in
+    (found.0, found.2)
+
+texts_not_view : (views : List ConjunctiveQuery) (database : Database) (column : ℕ) → AreTextViews views database → IsFirstNodeView views database column → ⊥
+texts_not_view views database column texts first =
+    no_node (IsAnswer first.view database) column (texts first.view (Contains-at views first.number first.view first.there)) first.first
+
+one_view_column : (views : List ConjunctiveQuery) (database : Database) (column other : ℕ) → IsFirstNodeView views database column
+    → IsFirstNodeView views database other → column ≡ other
+one_view_column views database column other here there = elim (cases_order here.number there.number) [
+  | inl equal ↦
+      let same : here.view ≡ there.view = same_Some here.view there.view (sym here.there ∙ ap (slice_get views) equal ∙ there.there) in
+      one_column (IsAnswer there.view database) column other
+      (subst (λ (it : ConjunctiveQuery). IsFirstNodeColumn (IsAnswer it database) column) same here.first) there.first
+  | inr apart ↦ elim apart [
+    | inl less ↦ absurd (no_node (IsAnswer here.view database) column (there.before here.number here.view less here.there) here.first)
+    | inr more ↦ absurd (no_node (IsAnswer there.view database) other (here.before there.number there.view more there.there) there.first)
+  ]
+]
+
+some_same : (difference other : Difference) → Some difference ≡ Some other → difference ≡ other
+some_same difference other same = cc
+
+differs_same : (difference other : Difference) → status.Differs difference ≡ status.Differs other → difference ≡ other
+differs_same difference other same = cc
+
+done_not_differs : (difference : Difference) → status.Done ≡ status.Differs difference → ⊥
+done_not_differs difference same = cc
+
+done_not_node : (column : ℕ) → status.Done ≡ status.NodeInRow column → ⊥
+done_not_node column same = cc
+
+module _ (laws : DataLaws) (catalogue : Catalogue) (facts : List (Fact Term)) (flat : AreFlat facts) (contents : ℕ → List ℕ) where
+  ends_one : (outcome other : Option Difference) → AuditsFiles catalogue facts contents outcome → AuditsFiles catalogue facts contents other → outcome ≡ other
+  ends_one outcome other here there =
+      laws.audits (rules_of catalogue.rules) (map written catalogue.rules) (names_of catalogue.fragments) (views_of catalogue.fragments) facts
+      catalogue.stores catalogue.stores contents contents outcome other (are_rules laws.rules catalogue.rules) flat (λ fact. ((λ is. is), (λ is. is))) here there
+
+  agreed : AuditsFiles catalogue facts contents None → AuditsExactly catalogue facts contents status.Done (audit_text catalogue)
+  agreed agree = record {
+    done = ((λ same. agree), (λ same. refl));
+    prints = λ same. refl;
+    node = λ column first. absurd (texts_not_view (views_of catalogue.fragments) (database_of facts) column
+        (agree_texts (views_of catalogue.fragments) (database_of facts) (IsFileRow catalogue.stores contents) agree.rows) first);
+    differs = λ texts difference. (
+      (λ same. absurd (done_not_differs difference same)),
+      (λ first. absurd (none-some difference (ends_one None (Some difference) agree first))),
+    );
+  }
+
+  module _ (said : Status) where
+    differing : (difference : Difference) → AreTextViews (views_of catalogue.fragments) (database_of facts)
+        → AuditsFiles catalogue facts contents (Some difference) → said ≡ status.Differs difference
+        → AuditsExactly catalogue facts contents said (line_of said)
+    differing difference texts first is = record {
+      done = (
+        (λ same. absurd (done_not_differs difference (sym same ∙ is))),
+        (λ agree. absurd (none-some difference (ends_one None (Some difference) agree first))),
+      );
+      prints = λ same. absurd (done_not_differs difference (sym same ∙ is));
+      node = λ column node. absurd (texts_not_view (views_of catalogue.fragments) (database_of facts) column texts node);
+      differs = λ only other. (
+        (λ same. subst (λ (it : Difference). AuditsFiles catalogue facts contents (Some it)) (differs_same difference other (sym is ∙ same)) first),
+        (λ its. is ∙ ap status.Differs (some_same difference other (ends_one (Some difference) (Some other) first its))),
+      );
+    }
+
+    noded : (column : ℕ) → IsFirstNodeView (views_of catalogue.fragments) (database_of facts) column → said ≡ status.NodeInRow column
+        → AuditsExactly catalogue facts contents said (line_of said)
+    noded column first is = record {
+      done = (
+        (λ same. absurd (done_not_node column (sym same ∙ is))),
+        (λ agree. absurd (texts_not_view (views_of catalogue.fragments) (database_of facts) column
+            (agree_texts (views_of catalogue.fragments) (database_of facts) (IsFileRow catalogue.stores contents) agree.rows) first)),
+      );
+      prints = λ same. absurd (done_not_node column (sym same ∙ is));
+      node = λ other its. is ∙ ap status.NodeInRow (one_view_column (views_of catalogue.fragments) (database_of facts) column other first its);
+      differs = λ texts difference. absurd (texts_not_view (views_of catalogue.fragments) (database_of facts) column texts first);
+    }
+
+module _ (laws : DataLaws) (files : Files) (catalogue : Catalogue) (many : length catalogue.stores ≡ length catalogue.fragments) where
+  module _ (facts : List (Fact Term)) (contents : ℕ → List ℕ) (holds : HoldFacts files catalogue.datasets Each facts)
+      (readable : AreReadableFragments files catalogue contents) where
+    loaded_is : (others : List (Fact Term)) → (loads (Some files) catalogue.datasets Each).goes others → others ≡ facts
+    loaded_is others loaded = (holds_leads files catalogue.datasets Each facts holds laws.facts).goes others loaded
+
+    -- an audit over what was loaded and opened is one over the readable files
+    ends_moved : (others : List (Fact Term)) (their : ℕ → List ℕ) (outcome : Option Difference) → (loads (Some files) catalogue.datasets Each).goes others
+        → (opens_fragments (Some files) catalogue (all_fragments catalogue)).goes their → AuditsFiles catalogue others their outcome
+        → AuditsFiles catalogue facts contents outcome
+    ends_moved others their outcome loaded opened audits =
+        audits-moved (rules_of catalogue.rules) (map written catalogue.rules) (names_of catalogue.fragments) (views_of catalogue.fragments) facts
+        (IsFileRow catalogue.stores their) (IsFileRow catalogue.stores contents) (rows_same files catalogue contents readable their opened many) outcome
+        (subst (λ (it : List (Fact Term)). AuditsFiles catalogue it their outcome) (loaded_is others loaded) audits)
+
+    flat_facts : (others : List (Fact Term)) → (loads (Some files) catalogue.datasets Each).goes others → AreFlat facts
+    flat_facts others loaded = subst AreFlat (loaded_is others loaded) (loads_flat (Some files) catalogue.datasets Each others loaded)
+
+    audit_stops : (said : Status) → IsCaused ⊥ said → (audits_catalogue (Some files) catalogue).stops said
+        → AuditsExactly catalogue facts contents said (line_of said)
+    unfolding and_then judges gives
+    audit_stops said caused stop = elim stop [
+      | inl unloaded ↦ absurd ((holds_leads files catalogue.datasets Each facts holds laws.facts).stops said caused unloaded)
+      | inr (others, loaded, more) ↦ elim more [
+        | inl (column, first, is) ↦ noded laws catalogue facts (flat_facts others loaded) contents said column
+            (subst (λ (it : List (Fact Term)). IsFirstNodeView (views_of catalogue.fragments) (database_of it) column) (loaded_is others loaded) first) is
+        | inr (value, texts, later) ↦ elim later [
+          | inl unopened ↦ absurd (fragments_never files catalogue contents readable said caused unopened)
+          | inr (their, opened, last) ↦ elim last [
+            | inl (difference, first, is) ↦ differing laws catalogue facts (flat_facts others loaded) contents said difference
+                (subst (λ (it : List (Fact Term)). AreTextViews (views_of catalogue.fragments) (database_of it)) (loaded_is others loaded) texts)
+                (ends_moved others their (Some difference) loaded opened first) is
+            | inr (given, agree, none) ↦ absurd none
+          ]
+        ]
+      ]
+    ]
+
+  audit_says : Says (audits_catalogue (Some files) catalogue) (IsExactAudit files catalogue)
+  unfolding and_then judges gives
+  audit_says = record {
+    goes = λ reply (others, loaded, (value, texts, (their, opened, (given, agree, done)))). (
+      audit_text catalogue,
+      done,
+      (λ facts contents holds readable.
+          agreed laws catalogue facts (flat_facts facts contents holds readable others loaded) contents
+          (ends_moved facts contents holds readable others their None loaded opened agree)),
+    );
+    stops = λ said caused stop facts contents holds readable. audit_stops facts contents holds readable said caused stop;
+  }
+
+-- ---- the commands
+
+module _ (laws : DataLaws) (sound : CataloguesAreSound) (files : Files) (catalogue_name : List ℕ) (catalogue : Catalogue)
+    (say : FilesSayCatalogue files catalogue_name catalogue) where
+  -- the catalogue that is opened says the same
+  opened-leads : (Refusal : Status → Type 0) → Leads (opens_catalogue (Some files) catalogue_name) (AreSame catalogue) Refusal
+  opened-leads Refusal = agreed-leads AreSame _ _ catalogue Refusal (laws.catalogues files catalogue_name) (said_opens files catalogue_name catalogue say)
+
+  pub fills_exact : (name : List ℕ) → Says (fill_course (Some files) catalogue_name name) (IsExactFill files catalogue name)
+  fills_exact name = then-leads _ _ (AreSame catalogue) _ _ (opened-leads _) (λ other alike.
+      says-more _ (IsExactFill files other name) (IsExactFill files catalogue name)
+      (fill_moved files catalogue other alike laws.fault laws.rows name) (fill_says laws files other name))
+
+  pub answers_exact : (query_name : List ℕ) (query : Query) → FilesSayQuery files query_name catalogue query
+      → Says (answer_course (Some files) catalogue_name query_name) (IsExactAnswer files catalogue query)
+  answers_exact query_name query say_query = then-leads _ _ (AreSame catalogue) _ _ (opened-leads _) (λ other alike.
+      then-leads _ _ (IsSameQuery query) _ _
+      (agreed-leads IsSameQuery _ _ query _ (laws.queries files query_name catalogue other alike)
+      (said_query_opens files query_name catalogue query say_query))
+      (λ other_query same. says-more _ (IsExactAnswer files other other_query) (IsExactAnswer files catalogue query)
+      (answer_moved files catalogue other alike query other_query same) (answer_says laws files other other_query)))
+
+  pub audits_exact : Says (audit_course (Some files) catalogue_name) (IsExactAudit files catalogue)
+  audits_exact = then-leads _ _ (AreSame catalogue) _ _ (opened-leads _) (λ other alike.
+      says-more _ (IsExactAudit files other) (IsExactAudit files catalogue)
+      (audit_moved files catalogue other alike laws.fault laws.rows laws.file) (audit_says laws files other (sound other).stored))

@@ -1,0 +1,13 @@
+pub mod Steps
+pub mod StepLemmas
+pub mod DatasetLemmas
+pub mod RowLemmas
+pub mod AlikeLemmas
+pub mod LoadLemmas
+pub mod AgreeLemmas
+pub mod LeadLemmas
+pub mod FragmentLemmas
+pub mod MovedLemmas
+pub mod ExactLemmas
+pub mod AuditedLemmas
+pub mod RefusalLemmas

@@ -1,0 +1,98 @@
+-- The command `audit`.
+use Rattle.std.specs.Prelude.{◌≡◌, ◌↔◌, ℕ, List, ◌++◌, length, map, codes, slice_get, Contains, Option, Some, None, Result, Ok, Err}
+use Rattle.std.specs.Fmt.{decimal}
+use Rattle.std.specs.List.{range_with_len}
+use Rattle.esto_catalog.specs.declared.catalogue.Catalogue.{Catalogue}
+use Rattle.esto_catalog.specs.declared.catalogue.Store.{Store}
+use Rattle.esto_opening.specs.Fragments.{Stored}
+use Rattle.esto_constraint.specs.Constraints.{rules_of}
+use Rattle.esto_constraint.specs.EncodingRules.{written}
+use Rattle.esto_course.specs.Course.{Course, Stops, judges, gives, and_then}
+use Rattle.esto_fill.specs.Databases.{database_of}
+use Rattle.esto_fill.specs.Differences.{Audits}
+use Rattle.esto_fill.specs.Texts.{AreTextViews, IsFirstNodeView}
+use Rattle.esto_fill.specs.declared.auditing.Difference.{Difference}
+use Rattle.esto_plan.specs.Rows.{IsRowOf, held_by}
+use Rattle.esto_ports.specs.Files.{Files}
+use Rattle.esto_run.specs.Stores.{IsFileRow, IsRowIn}
+use Rattle.esto_semantics.specs.declared.fact.Fact.{Fact}
+use Rattle.esto_stores.specs.Rows.{Row}
+use Rattle.esto_term.specs.declared.term.Term.{Term}
+use Rattle.esto_views.specs.Fragments.{views_of}
+use Rattle.esto_opening.specs.Answers.{IsWant, IsCaused}
+use Rattle.esto_data.specs.Datasets.{Each, loads}
+use Rattle.esto_data.specs.Fill.{names_of}
+use Rattle.esto_opening.specs.Fragments.{opens_fragment, opens_fragments, reads_content}
+use Rattle.esto_opening.specs.Opening.{opens_catalogue}
+use Rattle.esto_opening.specs.declared.reply.Reply.{Reply}
+use Rattle.esto_opening.specs.declared.reply.Reply.TheVariants.{Done}
+use Rattle.esto_opening.specs.declared.status.Status.{Status}
+use Rattle.esto_opening.specs.declared.status.Status.TheVariants.{Differs, NodeInRow}
+
+-- ---- the text
+
+-- The text of `audit`: how many constraints of its own and how many fragments the catalogue has, and that all agrees.
+abbrev pub audit_text : Catalogue → List ℕ
+audit_text catalogue =
+    codes "constraints " ++ (decimal catalogue.given ++ (codes "\nfragments " ++ (decimal (length catalogue.fragments) ++ codes "\nagree\n")))
+
+-- ---- the steps
+
+-- The rows of all views over the facts are rows of texts; or of the first view of which one is not, this is the least column.
+abbrev pub judges_views : Catalogue → List (Fact Term) → Course Status (Unit {0})
+judges_views catalogue facts =
+    judges (λ _. AreTextViews (views_of catalogue.fragments) (database_of facts))
+    (λ refusal. (column : ℕ) × IsFirstNodeView (views_of catalogue.fragments) (database_of facts) column × (refusal ≡ NodeInRow column))
+
+-- The numbers of all fragments, in order.
+abbrev pub all_fragments : Catalogue → List ℕ
+all_fragments catalogue = range_with_len 0 (length catalogue.fragments)
+
+-- The audit of the facts and of the fragments' files comes to this end.
+abbrev pub AuditsFiles : Catalogue → List (Fact Term) → (ℕ → List ℕ) → Option Difference → Type 0
+AuditsFiles catalogue facts contents outcome =
+    Audits (rules_of catalogue.rules) (map written catalogue.rules) (names_of catalogue.fragments) (views_of catalogue.fragments) facts
+    (IsFileRow catalogue.stores contents) outcome
+
+-- The facts meet the rules, and the fragments' files hold the rows of their views; or there is a first difference.
+abbrev pub compares : Catalogue → List (Fact Term) → (ℕ → List ℕ) → Course Status (Unit {0})
+compares catalogue facts contents =
+    judges (λ _. AuditsFiles catalogue facts contents None)
+    (λ refusal. (difference : Difference) × AuditsFiles catalogue facts contents (Some difference) × (refusal ≡ Differs difference))
+
+-- The views of the facts are judged, the files of all fragments opened, and both compared; the text is the reply.
+abbrev pub audits_facts : Option Files → Catalogue → List (Fact Term) → Course Status Reply
+audits_facts files catalogue facts =
+    and_then (judges_views catalogue facts) (λ _.
+    and_then (opens_fragments files catalogue (all_fragments catalogue)) (λ contents.
+    and_then (compares catalogue facts contents) (λ _.
+    gives (Done (audit_text catalogue)))))
+
+-- All datasets are loaded, and audited.
+abbrev pub audits_catalogue : Option Files → Catalogue → Course Status Reply
+audits_catalogue files catalogue = and_then (loads files catalogue.datasets Each) (audits_facts files catalogue)
+
+-- The catalogue is fetched and read, and audited.
+abbrev pub audit_course : Option Files → List ℕ → Course Status Reply
+audit_course files name = and_then (opens_catalogue files name) (audits_catalogue files)
+
+-- ---- what functions answer
+
+-- The rows of all fragments are those of their files, all of which were opened; or the course stops.
+abbrev pub OpensRows : Option Files → Catalogue → Type 0 → Result (List (List Row)) Status → Type 0
+OpensRows files catalogue rose (Ok rows) =
+    (contents : ℕ → List ℕ) × (opens_fragments files catalogue (all_fragments catalogue)).goes contents × (length rows ≡ length catalogue.fragments)
+    × ((fact : Fact (List ℕ)) → IsRowOf (held_by rows) fact ↔ IsFileRow catalogue.stores contents fact)
+OpensRows files catalogue rose (Err refusal) = Stops IsWant (IsCaused rose) (opens_fragments files catalogue (all_fragments catalogue)) refusal
+
+-- The content of the fragment's file has no fault, and these are its rows; or the course stops.
+abbrev pub ReadsRows : Stored → List ℕ → Result (List Row) Status → Type 0
+ReadsRows stored bytes (Ok rows) = (reads_content stored bytes).goes tt × ((row : Row) → Contains rows row ↔ IsRowIn stored.store.shape bytes row)
+ReadsRows stored bytes (Err refusal) = Stops IsWant (IsCaused ⊥) (reads_content stored bytes) refusal
+
+-- The file of the fragment of the number was opened, and these are its rows; or the course stops.
+abbrev pub OpensNextRows : Option Files → Catalogue → ℕ → Type 0 → Result (List Row) Status → Type 0
+OpensNextRows files catalogue number rose (Ok rows) =
+    (bytes : List ℕ) × (opens_fragment files catalogue number).goes bytes
+    × ((store : Store) → slice_get catalogue.stores number ≡ Some store → (row : Row) → Contains rows row ↔ IsRowIn store.shape bytes row)
+OpensNextRows files catalogue number rose (Err refusal) = Stops IsWant (IsCaused rose) (opens_fragment files catalogue number) refusal

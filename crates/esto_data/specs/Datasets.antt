@@ -1,0 +1,131 @@
+-- The files of the datasets that a command needs, as steps: each of the datasets has a file; then each file is fetched, and its content read, before the next
+-- is fetched.
+use Rattle.std.specs.Prelude.{◌≡◌, ◌↔◌, ◌⊎◌, ℕ, ◌+◌, ◌<◌, ◌≤◌, List, [], ◌∷◌, ◌++◌, slice_get, AllPairs, Contains, Option, Some, None, IsSome, Result, Ok, Err}
+use Rattle.esto_catalog.specs.Datasets.{relation_count}
+use Rattle.esto_catalog.specs.declared.dataset.Dataset.{Dataset}
+use Rattle.esto_course.specs.Course.{Course, Stops, judges, demands, gives, and_then, each}
+use Rattle.esto_fill.specs.Files.{AreFactsFrom, IsLoadedFrom, dataset_fault}
+use Rattle.esto_fill.specs.declared.datasets.DatasetBytes.{DatasetBytes}
+use Rattle.esto_fill.specs.declared.loaded.Loaded.{Loaded}
+use Rattle.esto_ports.specs.Files.{Files}
+use Rattle.esto_ports.specs.declared.file_fault.FileFault.{FileFault}
+use Rattle.esto_semantics.specs.Maps.{AreFlat}
+use Rattle.esto_semantics.specs.declared.fact.Fact.{Fact}
+use Rattle.esto_term.specs.declared.term.Term.{Term}
+use Rattle.esto_opening.specs.Answers.{IsWant, IsCaused}
+use Rattle.esto_opening.specs.Fetch.{fetches}
+use Rattle.esto_data.specs.declared.datasets.TheConstants.{DATASET_LIMIT}
+use Rattle.esto_opening.specs.declared.status.Status.{Status}
+use Rattle.esto_opening.specs.declared.status.Status.TheVariants.{NoData, BadDataset}
+
+-- ---- which datasets are needed
+
+-- The relation is one of the dataset's, which stand from its base on.
+abbrev pub HasRelation : Dataset → ℕ → Type 0
+HasRelation dataset relation = (dataset.base ≤ relation) × (relation < dataset.base + relation_count dataset.model)
+
+-- The body names the dataset: some atom is over a relation of it.
+abbrev pub Names : List (Fact Term) → Dataset → Type 0
+Names body dataset = (atom : Fact Term) × Contains body atom × HasRelation dataset atom.relation
+
+-- Each dataset.
+abbrev pub Each : Dataset → Type 0
+Each dataset = Unit {0}
+
+-- These are the numbers of the datasets that are needed, in order.
+pub record AreNeeded (datasets : List Dataset) (Needs : Dataset → Type 0) (numbers : List ℕ) : Type 0 where
+  pub exact : (number : ℕ) → Contains numbers number ↔ ((dataset : Dataset) × (slice_get datasets number ≡ Some dataset) × Needs dataset)
+  pub rising : AllPairs ◌<◌ numbers
+
+-- ---- the steps
+
+-- A dataset and its file.
+pub record Source : Type 0 where
+  pub dataset : Dataset
+  pub file : List ℕ
+
+-- It is the dataset of the number, with its file.
+pub record IsSourceAt (datasets : List Dataset) (number : ℕ) (source : Source) : Type 0 where
+  pub there : slice_get datasets number ≡ Some source.dataset
+  pub file_is : source.dataset.file ≡ Some source.file
+
+-- The dataset of the number has a file; else NoData.
+abbrev pub demands_file : List Dataset → ℕ → Unit {0} → ℕ → Course Status (Unit {0})
+demands_file datasets place given number =
+    and_then (judges (λ dataset. slice_get datasets number ≡ Some dataset) (λ _. ⊥)) (λ dataset. demands (IsSome dataset.file) (NoData dataset.name))
+
+-- Each of the datasets of the numbers has a file.
+abbrev pub demands_files : List Dataset → List ℕ → Course Status (Unit {0})
+demands_files datasets numbers = each (demands_file datasets) 0 tt numbers
+
+-- The content of the dataset's file has no fault, or it has a first one.
+abbrev pub reads_data : Dataset → List ℕ → Course Status (Unit {0})
+reads_data dataset bytes =
+    judges (λ _. dataset_fault dataset bytes ≡ None)
+    (λ refusal. (fault : FileFault) × (dataset_fault dataset bytes ≡ Some fault) × (refusal ≡ BadDataset dataset.name fault))
+
+-- The dataset's file is no longer than a dataset's may be, and its content has no fault.
+abbrev pub opens_source : Option Files → Source → Course Status (List ℕ)
+opens_source files source =
+    and_then (fetches files source.file DATASET_LIMIT) (λ bytes. and_then (reads_data source.dataset bytes) (λ _. gives bytes))
+
+-- The file of the dataset of the number is opened.
+abbrev pub opens_dataset : Option Files → List Dataset → ℕ → Course Status (List ℕ)
+opens_dataset files datasets number = and_then (judges (IsSourceAt datasets number) (λ _. ⊥)) (opens_source files)
+
+-- One file more is opened.
+abbrev pub loads_next : Option Files → List Dataset → ℕ → List DatasetBytes → ℕ → Course Status (List DatasetBytes)
+loads_next files datasets place so_far number =
+    and_then (opens_dataset files datasets number) (λ bytes. gives (so_far ++ record { dataset = number; bytes = bytes } ∷ []))
+
+-- The files of the datasets of the numbers are opened, in order.
+abbrev pub loads_files : Option Files → List Dataset → List ℕ → Course Status (List DatasetBytes)
+loads_files files datasets numbers = each (loads_next files datasets) 0 [] numbers
+
+-- The facts are those of the files, whose nodes are numbered from 0 on; they are over constants and plain terms.
+pub record AreFactsOfFiles (datasets : List Dataset) (contents : List DatasetBytes) (facts : List (Fact Term)) : Type 0 where
+  pub next : ℕ
+  pub are : AreFactsFrom datasets 0 contents facts next
+  pub flat : AreFlat facts
+
+-- The datasets that are needed are found, each has a file, and the files are opened; this gives their facts.
+abbrev pub loads : Option Files → List Dataset → (Dataset → Type 0) → Course Status (List (Fact Term))
+loads files datasets Needs =
+    and_then (judges (AreNeeded datasets Needs) (λ _. ⊥)) (λ numbers.
+    and_then (demands_files datasets numbers) (λ _.
+    and_then (loads_files files datasets numbers) (λ contents.
+    judges (AreFactsOfFiles datasets contents) (λ _. ⊥))))
+
+-- ---- what functions answer
+
+-- The number has come at the end, where its dataset is needed.
+abbrev pub AddsNeeded : Type 0 → ℕ → List ℕ → List ℕ → Type 0
+AddsNeeded Needed number old new = (Needed × (new ≡ old ++ number ∷ [])) ⊎ (¬ Needed × (new ≡ old))
+
+-- The facts that are loaded are some with which the course goes on; or it stops.
+abbrev pub Loads : Course Status (List (Fact Term)) → Type 0 → Result Loaded Status → Type 0
+Loads course rose (Ok loaded) = course.goes loaded.facts
+Loads course rose (Err refusal) = Stops IsWant (IsCaused rose) course refusal
+
+-- After what was loaded come the facts of the file of the dataset of the number, with these bytes.
+abbrev pub LoadsMore : List Dataset → ℕ → List ℕ → Loaded → Loaded → Type 0
+LoadsMore datasets number bytes old new =
+    (contents : List DatasetBytes) → IsLoadedFrom datasets contents old
+    → IsLoadedFrom datasets (contents ++ record { dataset = number; bytes = bytes } ∷ []) new
+
+-- The content of the dataset's file has no fault, and its facts come after what was loaded; or the course stops.
+abbrev pub ReadsData : List Dataset → ℕ → Dataset → List ℕ → Loaded → Result Loaded Status → Type 0
+ReadsData datasets number dataset bytes old (Ok new) = (reads_data dataset bytes).goes tt × LoadsMore datasets number bytes old new
+ReadsData datasets number dataset bytes old (Err refusal) = Stops IsWant (IsCaused ⊥) (reads_data dataset bytes) refusal
+
+-- The file of the dataset of the number was opened, and its facts come after what was loaded; or the course stops.
+abbrev pub LoadsNext : Option Files → List Dataset → ℕ → Loaded → Type 0 → Result Loaded Status → Type 0
+LoadsNext files datasets number old rose (Ok new) =
+    (bytes : List ℕ) × (opens_dataset files datasets number).goes bytes × LoadsMore datasets number bytes old new
+LoadsNext files datasets number old rose (Err refusal) = Stops IsWant (IsCaused rose) (opens_dataset files datasets number) refusal
+
+-- The facts that are loaded are those of the files, all of which were opened; or the course stops.
+abbrev pub LoadsFiles : Option Files → List Dataset → List ℕ → Type 0 → Result Loaded Status → Type 0
+LoadsFiles files datasets numbers rose (Ok loaded) =
+    (contents : List DatasetBytes) × (loads_files files datasets numbers).goes contents × IsLoadedFrom datasets contents loaded
+LoadsFiles files datasets numbers rose (Err refusal) = Stops IsWant (IsCaused rose) (loads_files files datasets numbers) refusal

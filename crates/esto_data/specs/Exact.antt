@@ -1,0 +1,137 @@
+-- What `fill`, `answer` and `audit` answer where nothing is wrong with the files.
+use Rattle.std.specs.Prelude.{◌≡◌, ◌↔◌, ℕ, ◌<◌, List, length, map, slice_get, Contains, Some, None, Err}
+use Rattle.esto_catalog.specs.Reading.{IsCatalogueOf}
+use Rattle.esto_catalog.specs.declared.catalogue.Catalogue.{Catalogue}
+use Rattle.esto_catalog.specs.declared.dataset.Dataset.{Dataset}
+use Rattle.esto_constraint.specs.Constraints.{rules_of}
+use Rattle.esto_constraint.specs.EncodingRules.{written}
+use Rattle.esto_fill.specs.Databases.{database_of}
+use Rattle.esto_fill.specs.Differences.{Agree, IsFirstDifference}
+use Rattle.esto_fill.specs.Files.{dataset_fault}
+use Rattle.esto_fill.specs.Filled.{Fills}
+use Rattle.esto_fill.specs.Texts.{AreTextViews, AreTextsOf, HaveTextsOnly, IsFirstNodeColumn, IsFirstNodeView}
+use Rattle.esto_fill.specs.declared.auditing.Difference.{Difference}
+use Rattle.esto_fill.specs.declared.datasets.DatasetBytes.{DatasetBytes}
+use Rattle.esto_fill.specs.declared.filled.FillError.{FillError}
+use Rattle.esto_ports.specs.Files.{Files}
+use Rattle.esto_query.specs.Making.{query_of}
+use Rattle.esto_query.specs.Schemas.{arities_of}
+use Rattle.esto_query.specs.declared.query.Query.{Query}
+use Rattle.esto_read.specs.Readings.{IsReading}
+use Rattle.esto_read.specs.declared.read.Form.TheVariants as form
+use Rattle.esto_read.specs.declared.read.NamedQuery.{NamedQuery}
+use Rattle.esto_run.specs.Answers.{rows_text}
+use Rattle.esto_run.specs.Stores.{IsFileRow}
+use Rattle.esto_semantics.specs.declared.fact.Fact.{Fact}
+use Rattle.esto_stores.specs.Rows.{Row}
+use Rattle.esto_term.specs.declared.term.Term.{Term}
+use Rattle.esto_views.specs.Fragments.{views_of}
+use Rattle.esto_opening.specs.Fetch.{HasWithin}
+use Rattle.esto_opening.specs.Fragments.{Stored, IsStoredAt, content_fault}
+use Rattle.esto_opening.specs.declared.fragments.TheConstants.{FRAGMENT_LIMIT}
+use Rattle.esto_opening.specs.declared.opening.TheConstants.{CATALOGUE_LIMIT, QUERY_LIMIT}
+use Rattle.esto_opening.specs.declared.status.Status.{Status}
+use Rattle.esto_opening.specs.declared.status.Status.TheVariants as status
+use Rattle.esto_data.specs.Answer.{IsAnswerOfFacts}
+use Rattle.esto_data.specs.Audit.{audit_text}
+use Rattle.esto_data.specs.Datasets.{AreFactsOfFiles, AreNeeded, Each, Names}
+use Rattle.esto_data.specs.Fill.{IsFilled, IsFirstOf, IsRowOfView, fill_status, names_of}
+use Rattle.esto_data.specs.declared.datasets.TheConstants.{DATASET_LIMIT}
+
+-- ---- the files
+
+-- The files say this catalogue.
+pub record FilesSayCatalogue (files : Files) (name : List ℕ) (catalogue : Catalogue) : Type 0 where
+  pub bytes : List ℕ
+  pub has : HasWithin files name CATALOGUE_LIMIT bytes
+  pub is_catalogue : IsCatalogueOf bytes catalogue
+
+-- They say this query over the catalogue.
+pub record FilesSayQuery (files : Files) (name : List ℕ) (catalogue : Catalogue) (query : Query) : Type 0 where
+  pub bytes : List ℕ
+  pub has : HasWithin files name QUERY_LIMIT bytes
+  pub named : NamedQuery
+  pub is_query : IsReading form.Query catalogue.words (arities_of catalogue.schema) bytes named
+  pub query_is : query ≡ named.query
+
+-- The dataset has a file, which is no longer than a dataset's may be, has these bytes after one leading mark, and they have no fault.
+abbrev pub IsReadableDataset : Files → Dataset → List ℕ → Type 0
+IsReadableDataset files dataset bytes =
+    (name : List ℕ) × (dataset.file ≡ Some name) × HasWithin files name DATASET_LIMIT bytes × (dataset_fault dataset bytes ≡ None)
+
+-- The contents of files, by the numbers of their datasets.
+abbrev pub files_of : (ℕ → List ℕ) → List ℕ → List DatasetBytes
+files_of contents numbers = map (λ number. record { dataset = number; bytes = contents number }) numbers
+
+-- The files of the datasets that are needed are readable, and these are their facts.
+pub record HoldFacts (files : Files) (datasets : List Dataset) (Needs : Dataset → Type 0) (facts : List (Fact Term)) : Type 0 where
+  pub contents : ℕ → List ℕ
+  pub readable : (number : ℕ) (dataset : Dataset) → slice_get datasets number ≡ Some dataset → Needs dataset
+      → IsReadableDataset files dataset (contents number)
+  pub numbers : List ℕ
+  pub needed : AreNeeded datasets Needs numbers
+  pub facts_are : AreFactsOfFiles datasets (files_of contents numbers) facts
+
+-- The file of the fragment of the number is no longer than a fragment's may be, has these bytes after one leading mark, and they have no fault.
+abbrev pub IsReadableFragment : Files → Catalogue → ℕ → List ℕ → Type 0
+IsReadableFragment files catalogue number bytes =
+    (stored : Stored) × IsStoredAt catalogue number stored × HasWithin files stored.store.file FRAGMENT_LIMIT bytes × (content_fault stored bytes ≡ None)
+
+-- The files of all fragments are readable, with these contents.
+abbrev pub AreReadableFragments : Files → Catalogue → (ℕ → List ℕ) → Type 0
+AreReadableFragments files catalogue contents =
+    (number : ℕ) → number < length catalogue.fragments → IsReadableFragment files catalogue number (contents number)
+
+-- ---- `answer`
+
+-- The text prints exactly the answers of the query over the facts, all of which are rows of texts, each once, in order.
+abbrev pub PrintsAnswersOfFacts : Query → List (Fact Term) → List ℕ → Type 0
+PrintsAnswersOfFacts query facts text = (rows : List Row) × AreTextsOf (IsAnswerOfFacts query facts) rows × (text ≡ rows_text query rows)
+
+-- Where each answer of the query over the facts is a row of texts, the status is Done and the text prints exactly the answers; where one holds a node, the
+-- status tells the least column that has one.
+pub record AnswersExactly (query : Query) (facts : List (Fact Term)) (said : Status) (text : List ℕ) : Type 0 where
+  pub prints : HaveTextsOnly (IsAnswerOfFacts query facts) → (said ≡ status.Done) × PrintsAnswersOfFacts query facts text
+  pub node : (column : ℕ) → IsFirstNodeColumn (IsAnswerOfFacts query facts) column → said ≡ status.NodeInRow column
+
+-- So it is where the files of the datasets that the query names are readable. No rule is asked of their facts.
+abbrev pub IsExactAnswer : Files → Catalogue → Query → Status → List ℕ → Type 0
+IsExactAnswer files catalogue query said text =
+    (facts : List (Fact Term)) → HoldFacts files catalogue.datasets (Names (query_of query).body) facts → AnswersExactly query facts said text
+
+-- ---- `fill`
+
+-- The status is Done and the text is that of a file with exactly the rows of the fragment's view over the facts, which says these rows when it is read; or the
+-- status tells why there is none: the least column in which a row holds a node, or the first cell that a key file cannot hold.
+pub data FillsExactly (stored : Stored) (facts : List (Fact Term)) (said : Status) (text : List ℕ) : Type 0 where
+  prints : said ≡ status.Done → IsFilled stored facts text → FillsExactly stored facts said text
+  refuses : (cause : FillError) → Fills stored.store.shape (IsRowOfView stored.definition facts) (Err cause) → said ≡ fill_status cause
+      → ¬ (said ≡ status.OutOfMemory) → FillsExactly stored facts said text
+
+-- So it is where the catalogue has a fragment of the name, the first of which this is, and the files of the datasets that its view names are readable. The
+-- status is NoSuchFragment exactly where it has none.
+pub record IsExactFill (files : Files) (catalogue : Catalogue) (name : List ℕ) (said : Status) (text : List ℕ) : Type 0 where
+  pub fills : (number : ℕ) (stored : Stored) (facts : List (Fact Term)) → IsFirstOf (names_of catalogue.fragments) name number
+      → IsStoredAt catalogue number stored → HoldFacts files catalogue.datasets (Names (query_of stored.definition.view).body) facts
+      → FillsExactly stored facts said text
+  pub unnamed : (said ≡ status.NoSuchFragment name) ↔ ¬ (Contains (names_of catalogue.fragments) name)
+
+-- ---- `audit`
+
+-- The status is Done exactly where the facts meet the rules and each fragment's file holds exactly the rows of its view over them, and then the text says so.
+-- Where the rows of a view hold a node, the status tells the least column of the first such view; else, where there is a difference, the first.
+pub record AuditsExactly (catalogue : Catalogue) (facts : List (Fact Term)) (contents : ℕ → List ℕ) (said : Status) (text : List ℕ) : Type 0 where
+  pub done : (said ≡ status.Done)
+      ↔ Agree (rules_of catalogue.rules) (views_of catalogue.fragments) (database_of facts) (IsFileRow catalogue.stores contents)
+  pub prints : said ≡ status.Done → text ≡ audit_text catalogue
+  pub node : (column : ℕ) → IsFirstNodeView (views_of catalogue.fragments) (database_of facts) column → said ≡ status.NodeInRow column
+  pub differs : AreTextViews (views_of catalogue.fragments) (database_of facts) → (difference : Difference)
+      → (said ≡ status.Differs difference)
+      ↔ IsFirstDifference (rules_of catalogue.rules) (map written catalogue.rules) (names_of catalogue.fragments) (views_of catalogue.fragments) facts
+      (IsFileRow catalogue.stores contents) difference
+
+-- So it is where the files of all datasets and of all fragments are readable.
+abbrev pub IsExactAudit : Files → Catalogue → Status → List ℕ → Type 0
+IsExactAudit files catalogue said text =
+    (facts : List (Fact Term)) (contents : ℕ → List ℕ) → HoldFacts files catalogue.datasets Each facts → AreReadableFragments files catalogue contents
+    → AuditsExactly catalogue facts contents said text

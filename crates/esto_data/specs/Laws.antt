@@ -1,0 +1,89 @@
+-- What laws on the commands on data say.
+use Rattle.std.specs.Prelude.{◌≡◌, ◌≢◌, ℕ, List, Some}
+use Rattle.esto_catalog.specs.declared.catalogue.Catalogue.{Catalogue}
+use Rattle.esto_constraint.specs.Constraints.{rules_of}
+use Rattle.esto_course.specs.Course.{Course}
+use Rattle.esto_fill.specs.Databases.{database_of}
+use Rattle.esto_fill.specs.Differences.{Agree}
+use Rattle.esto_fill.specs.Texts.{HaveTextsOnly}
+use Rattle.esto_ports.specs.Files.{Files}
+use Rattle.esto_query.specs.declared.query.Query.{Query}
+use Rattle.esto_run.specs.Stores.{IsFileRow}
+use Rattle.esto_semantics.specs.declared.fact.Fact.{Fact}
+use Rattle.esto_term.specs.declared.term.Term.{Term}
+use Rattle.esto_views.specs.Fragments.{views_of}
+use Rattle.esto_opening.specs.Answers.{IsCaused}
+use Rattle.esto_opening.specs.Calm.{AgreeCalmly, Leads}
+use Rattle.esto_opening.specs.Fragments.{opens_fragment}
+use Rattle.esto_opening.specs.Line.{line_of}
+use Rattle.esto_opening.specs.Opening.{opens_catalogue, opens_query}
+use Rattle.esto_opening.specs.declared.reply.Reply.{Reply}
+use Rattle.esto_opening.specs.declared.reply.Reply.TheVariants.{Done}
+use Rattle.esto_opening.specs.declared.status.Status.{Status}
+use Rattle.esto_opening.specs.declared.status.Status.TheVariants as status
+use Rattle.esto_data.specs.Answer.{IsAnswerOfFacts, answer_course}
+use Rattle.esto_data.specs.Audit.{audit_course}
+use Rattle.esto_data.specs.Exact.{FilesSayCatalogue, FilesSayQuery, IsExactAnswer, IsExactAudit, IsExactFill, PrintsAnswersOfFacts}
+use Rattle.esto_data.specs.Fill.{fill_course}
+
+-- ---- one outcome
+
+-- The course over the files agrees with itself where no fetch is at a fault: it has one reply or one refusal.
+abbrev pub IsOne : Course Status Reply → Type 0
+IsOne course = AgreeCalmly ◌≡◌ course course
+
+abbrev pub FillsAreOne : Type 0
+FillsAreOne = (files : Files) (catalogue_name name : List ℕ) → IsOne (fill_course (Some files) catalogue_name name)
+
+abbrev pub AnswersAreOne : Type 0
+AnswersAreOne = (files : Files) (catalogue_name query_name : List ℕ) → IsOne (answer_course (Some files) catalogue_name query_name)
+
+abbrev pub AuditsAreOne : Type 0
+AuditsAreOne = (files : Files) (name : List ℕ) → IsOne (audit_course (Some files) name)
+
+-- ---- which outcome
+
+-- The fact holds of each reply, which is Done with a text, and of each refusal with its line, where no fetch is at a fault.
+abbrev pub Says : Course Status Reply → (Status → List ℕ → Type 0) → Type 0
+Says course Fact = Leads course (λ reply. (text : List ℕ) × (reply ≡ Done text) × Fact status.Done text) (λ said. Fact said (line_of said))
+
+abbrev pub FillsAreExact : Type 0
+FillsAreExact =
+    (files : Files) (catalogue_name name : List ℕ) (catalogue : Catalogue) → FilesSayCatalogue files catalogue_name catalogue
+    → Says (fill_course (Some files) catalogue_name name) (IsExactFill files catalogue name)
+
+abbrev pub AnswersAreExact : Type 0
+AnswersAreExact =
+    (files : Files) (catalogue_name query_name : List ℕ) (catalogue : Catalogue) (query : Query) → FilesSayCatalogue files catalogue_name catalogue
+    → FilesSayQuery files query_name catalogue query
+    → Says (answer_course (Some files) catalogue_name query_name) (IsExactAnswer files catalogue query)
+
+abbrev pub AuditsAreExact : Type 0
+AuditsAreExact =
+    (files : Files) (name : List ℕ) (catalogue : Catalogue) → FilesSayCatalogue files name catalogue
+    → Says (audit_course (Some files) name) (IsExactAudit files catalogue)
+
+-- ---- agreement
+
+-- The facts of all datasets' files meet the rules, and the files of all fragments hold exactly the rows of their views. A query over the catalogue that has no
+-- answers over these facts but rows of texts is answered, and the text prints them, though only the files of the datasets that it names are loaded.
+pub record AreAudited (files : Files) (catalogue_name : List ℕ) (catalogue : Catalogue) : Type 0 where
+  pub facts : List (Fact Term)
+  pub contents : ℕ → List ℕ
+  pub agree : Agree (rules_of catalogue.rules) (views_of catalogue.fragments) (database_of facts) (IsFileRow catalogue.stores contents)
+  pub opened : (number : ℕ) (bytes : List ℕ) → (opens_fragment (Some files) catalogue number).goes bytes → bytes ≡ contents number
+  pub answers : (query_name : List ℕ) (query : Query) → (opens_query (Some files) query_name catalogue).goes query
+      → HaveTextsOnly (IsAnswerOfFacts query facts)
+      → Leads (answer_course (Some files) catalogue_name query_name)
+      (λ reply. (text : List ℕ) × (reply ≡ Done text) × PrintsAnswersOfFacts query facts text) (λ _. ⊥)
+
+-- So it is where `audit` has a reply, for each catalogue that its file says.
+abbrev pub RepliesAreAudited : Type 0
+RepliesAreAudited =
+    (files : Files) (catalogue_name : List ℕ) (catalogue : Catalogue) (reply : Reply) → (audit_course (Some files) catalogue_name).goes reply
+    → (opens_catalogue (Some files) catalogue_name).goes catalogue → AreAudited files catalogue_name catalogue
+
+-- `audit` never refuses with Done.
+abbrev pub AuditsRefuse : Type 0
+AuditsRefuse =
+    (files : Files) (name : List ℕ) (said : Status) → IsCaused ⊥ said → (audit_course (Some files) name).stops said → said ≢ status.Done

@@ -1,0 +1,6 @@
+pub mod Datasets
+pub mod Fill
+pub mod Answer
+pub mod Audit
+pub mod Exact
+pub mod Laws

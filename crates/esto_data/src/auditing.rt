@@ -1,0 +1,175 @@
+//! The command `audit`.
+ghost use Rattle.std.specs.Prelude.{◌≡◌, ◌<◌, ◌≤◌, ◌++◌, ◌∷◌, [], ℕ, List, length, IfOk, OnOk, codes};
+ghost use Rattle.esto_opening.specs.Fragments.{Stored};
+ghost use Rattle.esto_fill.specs.Databases.{database_of};
+ghost use Rattle.esto_fill.specs.Texts.{AreTextViews};
+ghost use Rattle.esto_plan.specs.Rows.{IsRowOf, held_by};
+ghost use Rattle.esto_ports.specs.Faults.{Rises};
+ghost use Rattle.esto_run.specs.Stores.{IsFileRow};
+ghost use Rattle.esto_semantics.specs.declared.fact.Fact.{Fact};
+ghost use Rattle.esto_views.specs.Fragments.{views_of};
+ghost use Rattle.esto_opening.specs.Answers.{Answers};
+ghost use Rattle.esto_data.specs.Audit.{OpensNextRows, OpensRows, ReadsRows, audit_course, audit_text, audits_catalogue, audits_facts, compares, judges_views};
+ghost use Rattle.esto_opening.specs.Fragments.{IsStoredAt};
+
+use crate::datasets::load_all;
+use esto_catalog::{Catalogue, catalogues_are_sound};
+use esto_fill::{AnswerError, Loaded, TextRowsList, audit_views, audits_are_over_files};
+use esto_opening::{FRAGMENT_LIMIT, Reply, Status, fetch, open_catalogue};
+use esto_ports::{FileError, Shelf};
+use esto_run::open_store;
+use esto_term::{Bytes, List, OutOfMemory, Replicate, Text, TextRows};
+use std::alloc::Global;
+
+// No row of a fragment's view over the facts holds a node, or the status of one that does.
+fn judge_views(alloc: Global, catalogue: &Catalogue, loaded: &Loaded) -> Result<(), Status>
+    ensures { Answers (judges_views catalogue.now loaded.now.facts) ⊥ result }
+{
+    match audit_views(alloc, catalogue, loaded) {
+        Ok(()) => Ok(()),
+        Err(AnswerError::NodeInRow(column)) => Err(Status::NodeInRow(column)),
+        Err(AnswerError::OutOfMemory) => Err(Status::OutOfMemory),
+    }
+}
+
+// The rows of the content of the fragment's file, or the status of the content's first fault.
+fn read_rows(
+    alloc: Global,
+    catalogue: &Catalogue,
+    number: usize,
+    bytes: &Bytes,
+) -> Result<TextRows, Status>
+    requires { number < length catalogue.now.fragments }
+    ensures { (stored : Stored) → IsStoredAt catalogue.now number stored
+        → ReadsRows stored bytes.now result }
+{
+    catalogues_are_sound();
+    let fragment = catalogue.fragments.item(number);
+    let store = catalogue.stores.item(number);
+    match open_store(alloc, store, fragment, bytes.bytes()) {
+        Ok(rows) => Ok(rows),
+        Err(FileError::Fault(fault)) => {
+            let name = fragment.name.copy(alloc)?;
+            Err(Status::BadFragment(name, fault))
+        }
+        Err(FileError::OutOfMemory) => Err(Status::OutOfMemory),
+    }
+}
+
+// Fetches the file of the fragment of the number, and reads its rows.
+fn open_rows<S: Shelf>(
+    alloc: Global,
+    shelf: &mut S,
+    catalogue: &Catalogue,
+    number: usize,
+) -> Result<TextRows, Status>
+    requires { number < length catalogue.now.fragments }
+    ensures answer { OpensNextRows (S.files shelf.old) catalogue.now number
+        (Rises S.faults shelf.old shelf.new) result }
+    ensures files { S.files shelf.new ≡ S.files shelf.old }
+    ensures later { S.faults shelf.old ≤ S.faults shelf.new }
+{
+    catalogues_are_sound();
+    let store = catalogue.stores.item(number);
+    let bytes = fetch(alloc, shelf, &store.file, FRAGMENT_LIMIT)?;
+    read_rows(alloc, catalogue, number, &bytes)
+}
+
+// The rows of the files of all fragments: each is fetched, and its content read, before the next is fetched.
+fn open_all_rows<S: Shelf>(
+    alloc: Global,
+    shelf: &mut S,
+    catalogue: &Catalogue,
+) -> Result<TextRowsList, Status>
+    ensures answer { OpensRows (S.files shelf.old) catalogue.now
+        (Rises S.faults shelf.old shelf.new) result }
+    ensures files { S.files shelf.new ≡ S.files shelf.old }
+    ensures later { S.faults shelf.old ≤ S.faults shelf.new }
+{
+    let mut rows = List::new(alloc);
+    'fragments: for number in 0..catalogue.fragments.len() {
+        rows.push(open_rows(alloc, shelf, catalogue, number)?)?;
+    }
+    Ok(rows)
+}
+
+// The facts meet the rules, and the rows of the fragments are those of their views; or the status of the first difference.
+fn compare(
+    alloc: Global,
+    catalogue: &Catalogue,
+    loaded: &Loaded,
+    rows: &TextRowsList,
+) -> Result<(), Status>
+    requires many { length rows.now ≡ length catalogue.now.fragments }
+    requires texts { AreTextViews (views_of catalogue.now.fragments)
+        (database_of loaded.now.facts) }
+    ensures { (contents : ℕ → List ℕ) → ((fact : Fact (List ℕ)) → IsRowOf (held_by rows.now) fact
+        ↔ IsFileRow catalogue.now.stores contents fact)
+        → Answers (compares catalogue.now loaded.now.facts contents) ⊥ result }
+{
+    audits_are_over_files();
+    match esto_fill::audit(alloc, catalogue, loaded, rows)? {
+        None => Ok(()),
+        Some(difference) => Err(Status::Differs(difference)),
+    }
+}
+
+// What the command prints.
+fn audit_text(alloc: Global, catalogue: &Catalogue) -> Result<Bytes, OutOfMemory>
+    ensures { IfOk result (λ text. text ≡ audit_text catalogue.now) }
+{
+    let constraints = catalogue.given;
+    let fragments = catalogue.fragments.len();
+    let text = format!(in alloc; "constraints {constraints}\nfragments {fragments}\nagree\n")?;
+    Bytes::from_slice(alloc, text.as_str().as_bytes())
+}
+
+// Judges the views over the facts, opens the files of all fragments, and compares both.
+fn audit_facts<S: Shelf>(
+    alloc: Global,
+    shelf: &mut S,
+    catalogue: &Catalogue,
+    loaded: &Loaded,
+) -> Result<Reply, Status>
+    ensures answer { Answers (audits_facts (S.files shelf.old) catalogue.now loaded.now.facts)
+        (Rises S.faults shelf.old shelf.new) result }
+    ensures files { S.files shelf.new ≡ S.files shelf.old }
+    ensures later { S.faults shelf.old ≤ S.faults shelf.new }
+{
+    judge_views(alloc, catalogue, loaded)?;
+    let rows = open_all_rows(alloc, shelf, catalogue)?;
+    compare(alloc, catalogue, loaded, &rows)?;
+    let text = audit_text(alloc, catalogue)?;
+    Ok(Reply::Done(text))
+}
+
+// Loads all datasets, and audits their facts.
+#[tactic(auto, using(crate::proofs::Steps::run_steps))]
+fn audit_catalogue<S: Shelf>(
+    alloc: Global,
+    shelf: &mut S,
+    catalogue: &Catalogue,
+) -> Result<Reply, Status>
+    ensures answer { Answers (audits_catalogue (S.files shelf.old) catalogue.now)
+        (Rises S.faults shelf.old shelf.new) result }
+    ensures files { S.files shelf.new ≡ S.files shelf.old }
+    ensures later { S.faults shelf.old ≤ S.faults shelf.new }
+{
+    let loaded = load_all(alloc, shelf, catalogue)?;
+    let reply = audit_facts(alloc, shelf, catalogue, &loaded)?;
+    Ok(reply)
+}
+
+/// Fetches and reads the catalogue, loads all datasets, opens the files of all fragments, and tells that the facts meet the
+/// rules and that each fragment holds exactly the rows of its view, or the first difference.
+#[tactic(auto, using(crate::proofs::Steps::run_steps))]
+pub fn audit<S: Shelf>(alloc: Global, shelf: &mut S, catalogue: &Text) -> Result<Reply, Status>
+    ensures answer { Answers (audit_course (S.files shelf.old) catalogue.now)
+        (Rises S.faults shelf.old shelf.new) result }
+    ensures files { S.files shelf.new ≡ S.files shelf.old }
+    ensures later { S.faults shelf.old ≤ S.faults shelf.new }
+{
+    let catalogue = open_catalogue(alloc, shelf, catalogue)?;
+    let reply = audit_catalogue(alloc, shelf, &catalogue)?;
+    Ok(reply)
+}

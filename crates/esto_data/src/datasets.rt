@@ -1,0 +1,211 @@
+//! The files of the datasets that a command needs: each has to have a file; then each is fetched, and its content read,
+//! before the next is fetched.
+ghost use Rattle.std.specs.Prelude.{◌≡◌, ◌↔◌, ◌<◌, ◌≤◌, ℕ, IsTrue, length, slice_get, Some, Contains, AllPairs, IfOk, OnOk};
+ghost use Rattle.esto_catalog.specs.Datasets.{relation_count};
+ghost use Rattle.esto_catalog.specs.declared.dataset.Dataset.{Dataset};
+ghost use Rattle.esto_ports.specs.Faults.{Rises};
+ghost use Rattle.esto_opening.specs.Answers.{Answers};
+ghost use Rattle.esto_data.specs.Datasets.{AddsNeeded, AreNeeded, Each, HasRelation, IsSourceAt, Loads, LoadsFiles, LoadsNext, Names, ReadsData, Source, demands_file, demands_files, loads};
+
+use esto_catalog::{Catalogue, Dataset, Datasets};
+use esto_fill::{Loaded, load_dataset, loaded_facts_are_flat, nothing_loaded};
+use esto_opening::{Status, fetch};
+use esto_ports::{FileError, Shelf};
+use esto_read::DataModel;
+use esto_semantics::{Atom, Atoms};
+use esto_term::{Bytes, OutOfMemory, Places, Replicate, Values};
+use std::alloc::Global;
+
+/// The greatest length of a dataset's file, in bytes.
+pub const DATASET_LIMIT: u64 = 8_388_608;
+
+// The number of relations of a dataset of this model.
+fn relation_count(model: DataModel) -> usize
+    ensures { result ≡ relation_count model }
+{
+    match model {
+        DataModel::Table => 1,
+        DataModel::Documents => 5,
+        DataModel::Keys => 1,
+    }
+}
+
+// Whether the relation is one of the dataset's.
+fn has_relation(dataset: &Dataset, relation: usize) -> bool
+    ensures { IsTrue result ↔ HasRelation dataset.now relation }
+{
+    relation >= dataset.base && relation - dataset.base < relation_count(dataset.model)
+}
+
+// Whether the body names the dataset.
+fn names(body: &[Atom], dataset: &Dataset) -> bool
+    ensures { IsTrue result ↔ Names body.now dataset.now }
+{
+    'atoms: for atom in body {
+        if has_relation(dataset, atom.relation) {
+            return true;
+        }
+    }
+    false
+}
+
+// Puts the number of the dataset at the end, if the body names the dataset.
+fn add_named(
+    numbers: &mut Places,
+    number: usize,
+    dataset: &Dataset,
+    body: &Atoms,
+) -> Result<(), OutOfMemory>
+    ensures { OnOk result (AddsNeeded (Names body.now dataset.now) number numbers.old numbers.new) }
+{
+    if !names(body.items(), dataset) {
+        return Ok(());
+    }
+    numbers.push(number)
+}
+
+// The numbers of the datasets that the body names, in order.
+fn named_datasets(alloc: Global, datasets: &Datasets, body: &Atoms) -> Result<Places, OutOfMemory>
+    ensures { IfOk result (AreNeeded datasets.now (Names body.now)) }
+{
+    let mut numbers = Values::new(alloc);
+    'datasets: for (number, dataset) in datasets.items().iter().enumerate() {
+        add_named(&mut numbers, number, dataset, body)?;
+    }
+    Ok(numbers)
+}
+
+// The numbers of all datasets, in order.
+fn all_datasets(alloc: Global, datasets: &Datasets) -> Result<Places, OutOfMemory>
+    ensures { IfOk result (AreNeeded datasets.now Each) }
+{
+    let mut numbers = Values::new(alloc);
+    'datasets: for number in 0..datasets.len() {
+        numbers.push(number)?;
+    }
+    Ok(numbers)
+}
+
+// The dataset of the number has a file; else NoData.
+fn demand_file(alloc: Global, datasets: &Datasets, number: usize) -> Result<(), Status>
+    requires { number < length datasets.now }
+    ensures { (place : ℕ) → Answers (demands_file datasets.now place tt number) ⊥ result }
+{
+    let dataset = datasets.item(number);
+    match &dataset.file {
+        Some(_) => Ok(()),
+        None => Err(Status::NoData(dataset.name.copy(alloc)?)),
+    }
+}
+
+// Each of the datasets of the numbers has a file; else NoData with the name of the first that has none.
+fn demand_files(alloc: Global, datasets: &Datasets, numbers: &Places) -> Result<(), Status>
+    requires { (number : ℕ) → Contains numbers.now number → number < length datasets.now }
+    ensures { Answers (demands_files datasets.now numbers.now) ⊥ result }
+{
+    'numbers: for number in numbers.items() {
+        demand_file(alloc, datasets, *number)?;
+    }
+    Ok(())
+}
+
+// Puts the facts of the content of the dataset's file after what was loaded, or answers the status of the content's first
+// fault.
+fn load_content(
+    alloc: Global,
+    catalogue: &Catalogue,
+    number: usize,
+    bytes: &Bytes,
+    loaded: Loaded,
+) -> Result<Loaded, Status>
+    requires { number < length catalogue.now.datasets }
+    ensures { (dataset : Dataset) → slice_get catalogue.now.datasets number ≡ Some dataset
+        → ReadsData catalogue.now.datasets number dataset bytes.now loaded result }
+{
+    match load_dataset(alloc, catalogue, number, bytes, loaded) {
+        Ok(loaded) => Ok(loaded),
+        Err(FileError::Fault(fault)) => {
+            let name = catalogue.datasets.item(number).name.copy(alloc)?;
+            Err(Status::BadDataset(name, fault))
+        }
+        Err(FileError::OutOfMemory) => Err(Status::OutOfMemory),
+    }
+}
+
+// Fetches the file of the dataset of the number, and puts its facts after what was loaded.
+fn load_next<S: Shelf>(
+    alloc: Global,
+    shelf: &mut S,
+    catalogue: &Catalogue,
+    number: usize,
+    loaded: Loaded,
+) -> Result<Loaded, Status>
+    requires { (source : Source) × IsSourceAt catalogue.now.datasets number source }
+    ensures answer { LoadsNext (S.files shelf.old) catalogue.now.datasets number loaded
+        (Rises S.faults shelf.old shelf.new) result }
+    ensures files { S.files shelf.new ≡ S.files shelf.old }
+    ensures later { S.faults shelf.old ≤ S.faults shelf.new }
+{
+    let Some(file) = &catalogue.datasets.item(number).file else {
+        unreachable!()
+    };
+    let bytes = fetch(alloc, shelf, file, DATASET_LIMIT)?;
+    load_content(alloc, catalogue, number, &bytes, loaded)
+}
+
+// Loads the facts of the files of the datasets of the numbers, in order.
+fn load_files<S: Shelf>(
+    alloc: Global,
+    shelf: &mut S,
+    catalogue: &Catalogue,
+    numbers: &Places,
+) -> Result<Loaded, Status>
+    requires { (number : ℕ) → Contains numbers.now number
+        → (source : Source) × IsSourceAt catalogue.now.datasets number source }
+    ensures answer { LoadsFiles (S.files shelf.old) catalogue.now.datasets numbers.now
+        (Rises S.faults shelf.old shelf.new) result }
+    ensures files { S.files shelf.new ≡ S.files shelf.old }
+    ensures later { S.faults shelf.old ≤ S.faults shelf.new }
+{
+    let mut loaded = nothing_loaded(alloc);
+    'numbers: for number in numbers.items() {
+        loaded = load_next(alloc, shelf, catalogue, *number, loaded)?;
+    }
+    Ok(loaded)
+}
+
+/// Loads the facts of the files of the datasets that the body names, in order. Each of them has to have a file; then each
+/// is fetched, and its content read, before the next is fetched.
+pub fn load_named<S: Shelf>(
+    alloc: Global,
+    shelf: &mut S,
+    catalogue: &Catalogue,
+    body: &Atoms,
+) -> Result<Loaded, Status>
+    ensures answer { Loads (loads (S.files shelf.old) catalogue.now.datasets (Names body.now))
+        (Rises S.faults shelf.old shelf.new) result }
+    ensures files { S.files shelf.new ≡ S.files shelf.old }
+    ensures later { S.faults shelf.old ≤ S.faults shelf.new }
+{
+    loaded_facts_are_flat();
+    let numbers = named_datasets(alloc, &catalogue.datasets, body)?;
+    demand_files(alloc, &catalogue.datasets, &numbers)?;
+    load_files(alloc, shelf, catalogue, &numbers)
+}
+
+/// Loads the facts of the files of all datasets, in order, in the same way.
+pub fn load_all<S: Shelf>(
+    alloc: Global,
+    shelf: &mut S,
+    catalogue: &Catalogue,
+) -> Result<Loaded, Status>
+    ensures answer { Loads (loads (S.files shelf.old) catalogue.now.datasets Each)
+        (Rises S.faults shelf.old shelf.new) result }
+    ensures files { S.files shelf.new ≡ S.files shelf.old }
+    ensures later { S.faults shelf.old ≤ S.faults shelf.new }
+{
+    loaded_facts_are_flat();
+    let numbers = all_datasets(alloc, &catalogue.datasets)?;
+    demand_files(alloc, &catalogue.datasets, &numbers)?;
+    load_files(alloc, shelf, catalogue, &numbers)
+}

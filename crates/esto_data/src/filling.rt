@@ -1,0 +1,120 @@
+//! The command `fill`.
+ghost use Rattle.std.specs.Prelude.{◌≡◌, ◌<◌, ◌≤◌, length, IfOk, IsTrue, ◌↔◌};
+ghost use Rattle.esto_opening.specs.Fragments.{Stored};
+ghost use Rattle.esto_ports.specs.Faults.{Rises};
+ghost use Rattle.esto_opening.specs.Answers.{Answers};
+ghost use Rattle.esto_data.specs.Fill.{fill_course, fill_status, fills_file, fills_fragment, fills_named, finds_fragment};
+ghost use Rattle.esto_opening.specs.Fragments.{IsStoredAt};
+
+use crate::datasets::load_named;
+use esto_catalog::{Catalogue, catalogues_are_sound};
+use esto_fill::{FillError, Loaded};
+use esto_opening::{Reply, Status, open_catalogue};
+use esto_ports::Shelf;
+use esto_term::{Bytes, Replicate, Text};
+use esto_views::FragmentDef;
+use std::alloc::Global;
+
+// Whether the fragment has the name.
+fn has_name(fragment: &FragmentDef, name: &Text) -> bool
+    ensures { IsTrue result ↔ (fragment.now.name ≡ name.now) }
+{
+    fragment.name.bytes() == name.bytes()
+}
+
+// The number of the fragment of the name, or NoSuchFragment.
+fn find_fragment(alloc: Global, catalogue: &Catalogue, name: &Text) -> Result<usize, Status>
+    ensures { Answers (finds_fragment catalogue.now name.now) ⊥ result }
+{
+    'fragments: for (number, fragment) in catalogue.fragments.items().iter().enumerate() {
+        if has_name(fragment, name) {
+            return Ok(number);
+        }
+    }
+    Err(Status::NoSuchFragment(name.copy(alloc)?))
+}
+
+// The status of why a file is not filled.
+fn fill_status(error: FillError) -> Status
+    ensures { result ≡ fill_status error }
+{
+    match error {
+        FillError::NodeInRow(column) => Status::NodeInRow(column),
+        FillError::KeyText(cell) => Status::KeyText(cell),
+        FillError::OutOfMemory => Status::OutOfMemory,
+    }
+}
+
+// The text of the fragment's file over the facts, or the status of why there is none.
+fn text_of(
+    alloc: Global,
+    catalogue: &Catalogue,
+    number: usize,
+    loaded: &Loaded,
+) -> Result<Bytes, Status>
+    requires { number < length catalogue.now.fragments }
+    ensures { (stored : Stored) → IsStoredAt catalogue.now number stored
+        → Answers (fills_file stored loaded.now.facts) ⊥ result }
+{
+    match esto_fill::fill(alloc, catalogue, number, loaded) {
+        Ok(text) => Ok(text),
+        Err(error) => Err(fill_status(error)),
+    }
+}
+
+// Loads the datasets that the fragment's view names, and gives the text of its file.
+fn fill_fragment<S: Shelf>(
+    alloc: Global,
+    shelf: &mut S,
+    catalogue: &Catalogue,
+    number: usize,
+) -> Result<Reply, Status>
+    requires { number < length catalogue.now.fragments }
+    ensures answer { Answers (fills_fragment (S.files shelf.old) catalogue.now number)
+        (Rises S.faults shelf.old shelf.new) result }
+    ensures files { S.files shelf.new ≡ S.files shelf.old }
+    ensures later { S.faults shelf.old ≤ S.faults shelf.new }
+{
+    catalogues_are_sound();
+    let fragment = catalogue.fragments.item(number);
+    let loaded = load_named(alloc, shelf, catalogue, &fragment.view.body)?;
+    let text = text_of(alloc, catalogue, number, &loaded)?;
+    Ok(Reply::Done(text))
+}
+
+// Finds the fragment of the name, and fills its file.
+#[tactic(auto, using(crate::proofs::Steps::run_steps))]
+fn fill_named<S: Shelf>(
+    alloc: Global,
+    shelf: &mut S,
+    catalogue: &Catalogue,
+    name: &Text,
+) -> Result<Reply, Status>
+    ensures answer { Answers (fills_named (S.files shelf.old) name.now catalogue.now)
+        (Rises S.faults shelf.old shelf.new) result }
+    ensures files { S.files shelf.new ≡ S.files shelf.old }
+    ensures later { S.faults shelf.old ≤ S.faults shelf.new }
+{
+    let number = find_fragment(alloc, catalogue, name)?;
+    let reply = fill_fragment(alloc, shelf, catalogue, number)?;
+    Ok(reply)
+}
+
+/// Fetches and reads the catalogue, finds the fragment of the name, loads the datasets that its view names, and gives the
+/// text of its file with the rows of the view over their facts.
+#[tactic(auto, using(crate::proofs::Steps::run_steps))]
+pub fn fill<S: Shelf>(
+    alloc: Global,
+    shelf: &mut S,
+    catalogue: &Text,
+    name: &Text,
+) -> Result<Reply, Status>
+    ensures answer { Answers (fill_course (S.files shelf.old) catalogue.now name.now)
+        (Rises S.faults shelf.old shelf.new) result }
+    ensures files { S.files shelf.new ≡ S.files shelf.old }
+    ensures later { S.faults shelf.old ≤ S.faults shelf.new }
+{
+    let catalogue = open_catalogue(alloc, shelf, catalogue)?;
+    let reply = fill_named(alloc, shelf, &catalogue, name)?;
+    Ok(reply)
+}

@@ -1,0 +1,44 @@
+//! Laws of the commands on data.
+ghost use Rattle.esto_data.specs.Laws.{AnswersAreExact, AnswersAreOne, AuditsAreExact, AuditsAreOne, AuditsRefuse, FillsAreExact, FillsAreOne, RepliesAreAudited};
+
+use esto_catalog::catalogues_are_sound;
+use esto_constraint::rules_are_sound;
+use esto_fill::{answers_rest_on_their_datasets, outcomes_are_one};
+use esto_opening::openings_are_one;
+
+/// A law: over the same files `fill`, `answer` and `audit` have one reply or one refusal each, where no fetch is at a fault.
+pub fn data_outcomes_are_one()
+    ensures fills { FillsAreOne }
+    ensures answers { AnswersAreOne }
+    ensures audits { AuditsAreOne }
+{
+    openings_are_one();
+    outcomes_are_one();
+    rules_are_sound();
+}
+
+/// A law: where the files say a catalogue, and a query over it, and the files of what a command needs are readable, `fill`
+/// replies with the file of the fragment's view rows, `answer` with the query's answers, and `audit` where all agree; or
+/// each refuses with the cause that there is.
+pub fn data_outcomes_are_exact()
+    ensures fills { FillsAreExact }
+    ensures answers { AnswersAreExact }
+    ensures audits { AuditsAreExact }
+{
+    catalogues_are_sound();
+    openings_are_one();
+    outcomes_are_one();
+    rules_are_sound();
+}
+
+/// A law: where `audit` has a reply, the facts of all datasets meet the rules and the fragments hold their views' rows, and
+/// `answer` prints the answers over these facts of each query that has answers of texts alone. A refusal is never Done.
+pub fn audited_datasets_answer()
+    ensures replies { RepliesAreAudited }
+    ensures refusals { AuditsRefuse }
+{
+    openings_are_one();
+    outcomes_are_one();
+    answers_rest_on_their_datasets();
+    rules_are_sound();
+}

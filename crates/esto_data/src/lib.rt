@@ -1,0 +1,15 @@
+//! The commands on data: `fill` writes the file of a fragment, `answer` answers a query, and `audit` compares, each over the
+//! facts of the datasets' files. Start from `fill`, `answer` and `audit`.
+#![tactic(auto)]
+
+mod answering;
+mod auditing;
+mod datasets;
+mod filling;
+mod laws;
+
+pub use answering::answer;
+pub use auditing::audit;
+pub use datasets::DATASET_LIMIT;
+pub use filling::fill;
+pub use laws::{audited_datasets_answer, data_outcomes_are_exact, data_outcomes_are_one};

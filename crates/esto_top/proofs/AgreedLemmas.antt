@@ -1,0 +1,215 @@
+-- Where `audit` and `run` are Done over the same files, `answer` is Done with the text of `run`.
+use Rattle.std.proofs.Common.{◌≡◌, ◌≢◌, ◌⊎◌, ◌↔◌, ◌==◌, arith, ℕ, suc, true, false, Bool, List, [], ◌∷◌, map, length, slice_get, Contains, Option, Some, None, refl, sym, ap, subst, ◌∙◌, inl, inr}
+use Rattle.std.specs.Prelude.{codes}
+use Rattle.std.proofs.lemmas.Bool.Decides.{nat_tests}
+use Rattle.either.specs.declared.Either.{Either}
+use Rattle.either.specs.declared.Either.TheVariants.{Left, Right}
+use Rattle.esto_catalog.specs.declared.catalogue.Catalogue.{Catalogue}
+use Rattle.esto_catalog.specs.declared.catalogue.Store.{Store}
+use Rattle.esto_chase_laws.specs.declared.clash.Clash.{Clash}
+use Rattle.esto_constraint.specs.Constraints.{rules_of}
+use Rattle.esto_course.specs.Course.{Course, and_then, each, gives, judges}
+use Rattle.esto_data.specs.Answer.{IsAnswerOfFacts, answer_course}
+use Rattle.esto_data.specs.Audit.{audit_course}
+use Rattle.esto_data.specs.Exact.{PrintsAnswersOfFacts}
+use Rattle.esto_data.specs.Laws.{AreAudited, AuditsRefuse, RepliesAreAudited}
+use Rattle.esto_fill.specs.Databases.{database_of}
+use Rattle.esto_fill.specs.Laws.{AgreeingAnswersAreOne, AgreeingAnswersAreTexts}
+use Rattle.esto_fill.specs.Texts.{AreTextsOf, HaveTextsOnly}
+use Rattle.esto_list.specs.declared.listing.Listed.{Listed}
+use Rattle.esto_ports.specs.Files.{Files}
+use Rattle.esto_query.specs.Making.{query_of}
+use Rattle.esto_query.specs.declared.query.Query.{Query}
+use Rattle.esto_run.specs.Answers.{rows_text}
+use Rattle.esto_run.specs.Laws.{IsAnswerOver, RisingRowsAreOne}
+use Rattle.esto_run.specs.Stores.{IsFileRow}
+use Rattle.esto_run.specs.Used.{AreUsed, ChosenAreNamed}
+use Rattle.esto_semantics.specs.Listed.{candidate}
+use Rattle.esto_semantics.specs.declared.fact.Fact.{Fact}
+use Rattle.esto_semantics.specs.declared.fact.Value.TheVariants.{Text}
+use Rattle.esto_stores.specs.Rows.{Row}
+use Rattle.esto_term.proofs.ListLemmas.{Contains-cases, Contains-nil}
+use Rattle.esto_term.specs.declared.term.Term.{Term}
+use Rattle.esto_views.specs.Fragments.{views_of, patterns_of}
+use Rattle.esto_views.specs.Plans.{plan_query}
+use Rattle.esto_views.specs.declared.plan.Plan.{Plan}
+use Rattle.esto_opening.specs.Answers.{IsCaused}
+use Rattle.esto_opening.specs.Calm.{Leads}
+use Rattle.esto_opening.specs.Fragments.{opens_fragment, opens_fragments, opens_next, no_contents, with_content}
+use Rattle.esto_opening.specs.Opening.{opens_catalogue, opens_query}
+use Rattle.esto_opening.specs.declared.reply.Reply.{Reply}
+use Rattle.esto_opening.specs.declared.reply.Reply.TheVariants.{Done, Unsatisfiable}
+use Rattle.esto_opening.specs.declared.status.Status.{Status}
+use Rattle.esto_opening.specs.declared.status.Status.TheVariants as status
+use Rattle.esto_opening.proofs.RefusalLemmas.{Refuses, catalogue_refuses, fragments_refuse, gives_refuses, judges_refuses, query_refuses, then_refuses}
+use Rattle.esto_top.specs.DataOutcomes.{OutcomesAgree}
+use Rattle.esto_top.specs.Grammar.{course_of}
+use Rattle.esto_top.specs.Listing.{IsListOf}
+use Rattle.esto_top.specs.Outcome.{Says, reply_status, reply_text}
+use Rattle.esto_top.specs.Outcome.Says.{replies, refuses}
+use Rattle.esto_top.specs.Run.{HasNoPlace, IsRunText, chooses, ends_query, lists_plan, run_course, runs_end, runs_item, runs_plan, runs_query}
+use Rattle.esto_top.specs.Run.HasNoPlace.{is_empty, is_above}
+use Rattle.esto_top.proofs.RunLemmas.{item_of, same_rows, uses_only}
+use Rattle.esto_top.proofs.RunsLemmas.{RunGoes, content_cases, same_texts, is_run, has_clash, over_same, run_goes, run_words}
+
+-- ---- no run stops with Done
+
+module _ (files : Files) (catalogue : Catalogue) (query : Query) (number : Option ℕ) where
+  no_place : (items : List Listed) (said : Status) → HasNoPlace items number said → said ≢ status.Done
+  no_place items said (is_empty none is) = λ done. let h : status.NoRewriting ≡ status.Done = sym is ∙ done in cc
+  no_place items said (is_above asked is_asked some less is) = λ done. let h : status.NoSuchNumber asked (length items) ≡ status.Done = sym is ∙ done in cc
+
+  item_refuses : (plan : Plan) (item : Listed) → Refuses (runs_item (Some files) catalogue query plan item)
+  item_refuses plan item = then_refuses _ _ (judges_refuses _ _ (λ said never. absurd never))
+      (λ numbers. then_refuses _ _ (fragments_refuse files catalogue numbers)
+      (λ contents. then_refuses _ _ (judges_refuses _ _ (λ said never. absurd never)) (λ text. gives_refuses (Done text))))
+
+  end_refuses : (end : Either Plan Clash) → Refuses (runs_end (Some files) catalogue query number end)
+  end_refuses (Left plan) = then_refuses _ _ (judges_refuses _ _ (λ said never. absurd never))
+      (λ items. then_refuses _ _ (judges_refuses _ _ (no_place items))
+      (λ place. then_refuses _ _ (judges_refuses _ _ (λ said never. absurd never)) (λ item. item_refuses plan item)))
+  end_refuses (Right clash) = gives_refuses (Unsatisfiable clash (rows_text query []))
+
+  runs_refuses : Refuses (runs_query (Some files) catalogue query number)
+  runs_refuses = then_refuses _ _ (judges_refuses _ _ (λ said never. absurd never)) end_refuses
+
+run_refuses : (files : Files) (catalogue_name query_name : List ℕ) (number : Option ℕ) → Refuses (run_course (Some files) catalogue_name query_name number)
+run_refuses files catalogue_name query_name number = then_refuses _ _ (catalogue_refuses files catalogue_name)
+    (λ catalogue. then_refuses _ _ (query_refuses files query_name catalogue) (λ query. runs_refuses files catalogue query number))
+
+-- ---- what was opened
+
+-- where each file that is opened has the wanted content, the contents that are opened are the wanted ones
+module _ (files : Files) (catalogue : Catalogue) (want : ℕ → List ℕ)
+    (wanted : (number : ℕ) (bytes : List ℕ) → (opens_fragment (Some files) catalogue number).goes bytes → bytes ≡ want number) where
+  each_wanted : (numbers : List ℕ) (counter : ℕ) (before got : ℕ → List ℕ) → (each (opens_next (Some files) catalogue) counter before numbers).goes got
+      → (number : ℕ) → Contains numbers number ⊎ (before number ≡ want number) → got number ≡ want number
+  unfolding and_then gives
+  each_wanted [] counter before got is number cases = elim cases [
+    | inl inside ↦ absurd (Contains-nil number inside)
+    | inr same ↦ ap (λ (it : ℕ → List ℕ). it number) is ∙ same
+  ]
+  each_wanted (first ∷ rest) counter before got (next, (bytes, opens, next_is), more) number cases =
+      each_wanted rest (suc counter) next got more number (later (elim cases [
+        | inl inside ↦ elim (Contains-cases first rest number inside) [
+          | inl same ↦ inr (inl same)
+          | inr after ↦ inl after
+        ]
+        | inr was ↦ inr (inr was)
+      ]))
+    where
+      own : (it : ℕ) → bytes ≡ want it → with_content before it bytes it ≡ want it
+      own it is = elim (content_cases before it bytes it) [
+        | inl changed ↦ changed.1 ∙ is
+        | inr stays ↦ (let test : (it == it) ≡ true = grind (arith, nat_tests) in rw test is)
+      ]
+
+      here : (first ≡ number) ⊎ (before number ≡ want number) → next number ≡ want number
+      here either = ap (λ (it : ℕ → List ℕ). it number) next_is ∙ (elim (content_cases before first bytes number) [
+        | inl changed ↦ changed.1 ∙ wanted first bytes opens ∙ ap want (sym changed.0)
+        | inr stays ↦ elim either [
+          | inl same ↦ subst (λ (it : ℕ). with_content before first bytes it ≡ want it) same (own first (wanted first bytes opens))
+          | inr was ↦ stays ∙ was
+        ]
+      ])
+
+      later : Contains rest number ⊎ ((first ≡ number) ⊎ (before number ≡ want number)) → Contains rest number ⊎ (next number ≡ want number)
+      later either = elim either [ inl after ↦ inl after | inr now ↦ inr (here now) ]
+
+  opened_is : (numbers : List ℕ) (contents : ℕ → List ℕ) → (opens_fragments (Some files) catalogue numbers).goes contents → (number : ℕ)
+      → Contains numbers number → contents number ≡ want number
+  opened_is numbers contents goes number inside = each_wanted numbers 0 no_contents contents goes number (inl inside)
+
+-- ---- the texts
+
+-- the laws of agreement
+pub record AgreementLaws : Type 0 where
+  pub audited : RepliesAreAudited
+  pub refusals : AuditsRefuse
+  pub texts : AgreeingAnswersAreTexts
+  pub rows : AgreeingAnswersAreOne
+  pub rising : RisingRowsAreOne
+  pub named : ChosenAreNamed
+
+module _ (laws : AgreementLaws) (files : Files) (catalogue_name query_name : List ℕ) (catalogue : Catalogue) (query : Query) (number : Option ℕ)
+    (audited : AreAudited files catalogue_name catalogue) (reads : (opens_query (Some files) query_name catalogue).goes query) where
+  module _ (plan : Plan) (items : List Listed) (list : IsListOf catalogue query plan items) (place : ℕ) (item : Listed)
+      (there : slice_get items place ≡ Some item) (numbers : List ℕ) (used : AreUsed (plan_query plan).body item.set numbers) (contents : ℕ → List ℕ)
+      (opened : (opens_fragments (Some files) catalogue numbers).goes contents) (text : List ℕ)
+      (printed : IsRunText catalogue query plan item.set contents text) where
+    same_contents : (atom : Fact Term) → Contains (candidate (plan_query plan) item.set).body atom → contents atom.relation ≡ audited.contents atom.relation
+    same_contents atom inside = opened_is files catalogue audited.contents audited.opened numbers contents opened atom.relation
+        (uses_only laws.named plan item.set numbers used atom inside)
+
+    over_audited : IsRunText catalogue query plan item.set audited.contents text
+    over_audited = same_rows query (IsAnswerOver (IsFileRow catalogue.stores contents) (candidate (plan_query plan) item.set))
+        (IsAnswerOver (IsFileRow catalogue.stores audited.contents) (candidate (plan_query plan) item.set)) text
+        (λ row. (
+          over_same catalogue.stores contents audited.contents (candidate (plan_query plan) item.set) same_contents row,
+          over_same catalogue.stores audited.contents contents (candidate (plan_query plan) item.set)
+              (λ atom inside. sym (same_contents atom inside)) row,
+        )) printed
+
+    query_texts : HaveTextsOnly (IsAnswerOfFacts query audited.facts)
+    query_texts = laws.texts (rules_of catalogue.rules) (views_of catalogue.fragments) (patterns_of catalogue.fragments) (query_of query) (plan_query plan)
+        item.set catalogue.stores audited.contents (database_of audited.facts) (item_of catalogue query plan items list place item there).set.0 audited.agree
+
+    rows_are : AreTextsOf (IsAnswerOfFacts query audited.facts) over_audited.rows
+    rows_are = (laws.rows (rules_of catalogue.rules) (views_of catalogue.fragments) (patterns_of catalogue.fragments) (query_of query) (plan_query plan)
+        item.set catalogue.stores audited.contents (database_of audited.facts) over_audited.rows
+        (item_of catalogue query plan items list place item there).set.0 audited.agree).1 (over_audited.exact, over_audited.rising)
+
+    texts_agree : (other : List ℕ) → PrintsAnswersOfFacts query audited.facts other → other ≡ text
+    texts_agree other (rows, are, is) =
+        let same : rows ≡ over_audited.rows = one_list rows are in is ∙ ap (rows_text query) same ∙ sym over_audited.printed
+      where
+        one_list : (rows : List Row) → AreTextsOf (IsAnswerOfFacts query audited.facts) rows → rows ≡ over_audited.rows
+        one_list rows are = laws.rising rows over_audited.rows are.rising over_audited.rising (λ row. (
+          (λ inside. held over_audited.rows rows_are row ((are.exact (map Text row)).1 (row, inside, refl))),
+          (λ inside. held rows are row ((rows_are.exact (map Text row)).1 (row, inside, refl))),
+        ))
+          where
+            held : (own : List Row) → AreTextsOf (IsAnswerOfFacts query audited.facts) own → (row : Row) → IsAnswerOfFacts query audited.facts (map Text row)
+                → Contains own row
+            held own texts row answers = let found = (texts.exact (map Text row)).0 answers in
+                subst (Contains own) (sym (same_texts row found.0 found.2)) found.1
+
+    answer_agrees : (said : Status) (answered : List ℕ) → Says (answer_course (Some files) catalogue_name query_name) ⊥ said answered
+        → (said ≡ status.Done) × (answered ≡ text)
+    answer_agrees said answered (replies reply goes said_is text_is) =
+        let found = (audited.answers query_name query reads query_texts).goes reply goes in
+        (said_is ∙ ap reply_status found.1, text_is ∙ ap reply_text found.1 ∙ texts_agree found.0 found.2)
+    answer_agrees said answered (refuses caused stops text_is) = absurd ((audited.answers query_name query reads query_texts).stops said caused stops)
+
+  -- a run that is Done says what `answer` says
+  run_agrees : (reply : Reply) → RunGoes files catalogue query number reply → reply_status reply ≡ status.Done → (said : Status) (answered : List ℕ)
+      → Says (answer_course (Some files) catalogue_name query_name) ⊥ said answered → (said ≡ status.Done) × (answered ≡ reply_text reply)
+  run_agrees reply (is_run plan planned items list place chosen item there numbers used contents opened text printed is) done said answered says =
+      let found = answer_agrees plan items list place item there numbers used contents opened text printed said answered says in
+      (found.0, found.1 ∙ sym (ap reply_text is))
+  run_agrees reply (has_clash clash clashes is) done said answered says =
+      absurd (let h : status.Unsatisfiable clash ≡ status.Done = sym (ap reply_status is) ∙ done in cc)
+
+module _ (laws : AgreementLaws) (files : Files) (catalogue_name query_name : List ℕ) (number : Option ℕ) where
+  course_agrees : (reply ran : Reply) → (audit_course (Some files) catalogue_name).goes reply → (run_course (Some files) catalogue_name query_name number).goes ran
+      → reply_status ran ≡ status.Done → (said : Status) (answered : List ℕ) → Says (answer_course (Some files) catalogue_name query_name) ⊥ said answered
+      → (said ≡ status.Done) × (answered ≡ reply_text ran)
+  unfolding and_then
+  course_agrees reply ran audits (catalogue, opens, (query, reads, goes)) done said answered says =
+      run_agrees laws files catalogue_name query_name catalogue query number (laws.audited files catalogue_name catalogue reply audits opens) reads ran
+      (run_goes files catalogue query number ran goes) done said answered says
+
+  says_agreed : (audited ran answered : List ℕ) (said : Status) → Says (audit_course (Some files) catalogue_name) ⊥ status.Done audited
+      → Says (run_course (Some files) catalogue_name query_name number) ⊥ status.Done ran
+      → Says (answer_course (Some files) catalogue_name query_name) ⊥ said answered → (said ≡ status.Done) × (answered ≡ ran)
+  says_agreed audited ran answered said (replies reply goes done text_is) (replies run_reply run_goes run_done run_text) says =
+      let found = course_agrees reply run_reply goes run_goes (sym run_done) said answered says in (found.0, found.1 ∙ sym run_text)
+  says_agreed audited ran answered said (replies reply goes done text_is) (refuses caused stops line) says =
+      absurd ((run_refuses files catalogue_name query_name number).stops status.Done caused stops refl)
+  says_agreed audited ran answered said (refuses caused stops line) runs says =
+      absurd (laws.refusals files catalogue_name status.Done caused stops refl)
+
+pub outcomes_agree : AgreementLaws → OutcomesAgree
+outcomes_agree laws words files catalogue_name query_name number audited ran answered said audits asks runs answers =
+    says_agreed laws files catalogue_name query_name number audited ran answered said audits
+    (subst (λ it. Says it ⊥ status.Done ran) (run_words words catalogue_name query_name number (Some files) asks) runs) answers

@@ -1,0 +1,81 @@
+-- What `fill`, `answer` and `audit` answer where nothing is wrong with the files.
+use Rattle.std.proofs.Common.{◌≡◌, ℕ, List, [], ◌∷◌, Option, Some, None, refl, sym, ap, subst, ◌∙◌, inl, inr}
+use Rattle.std.specs.Prelude.{codes}
+use Rattle.esto_course.specs.Course.{Course}
+use Rattle.esto_data.specs.Exact.{FilesSayCatalogue, FilesSayQuery}
+use Rattle.esto_data.specs.Laws.{AnswersAreExact, AuditsAreExact, FillsAreExact, Says as SaysAlways}
+use Rattle.esto_catalog.specs.declared.catalogue.Catalogue.{Catalogue}
+use Rattle.esto_ports.specs.Files.{Files}
+use Rattle.esto_query.specs.declared.query.Query.{Query}
+use Rattle.esto_opening.specs.Line.{line_of}
+use Rattle.esto_opening.specs.declared.reply.Reply.{Reply}
+use Rattle.esto_opening.specs.declared.status.Status.{Status}
+use Rattle.esto_opening.specs.declared.status.Status.TheVariants as status
+use Rattle.esto_top.specs.DataOutcomes.{AnswersWhereTold, AuditsWhereTold, FillsWhereTold, OutcomesAreAnswers, OutcomesAreAudits, OutcomesAreFills}
+use Rattle.esto_top.specs.Grammar.{course_of}
+use Rattle.esto_top.specs.Headline.{FilesSay}
+use Rattle.esto_top.specs.Outcome.{CompleteWhereTold, Says, reply_status, reply_text}
+use Rattle.esto_top.specs.Outcome.Says.{replies, refuses}
+
+-- what holds of the replies and refusals of a course holds of what it says
+says_fact : (course : Course Status Reply) (Fact : Status → List ℕ → Type 0) (said : Status) (text : List ℕ) → SaysAlways course Fact → Says course ⊥ said text
+    → Fact said text
+says_fact course Fact said text always (replies reply goes said_is text_is) =
+    let found = always.goes reply goes in
+    subst (λ (it : List ℕ). Fact said it) (sym (text_is ∙ ap reply_text found.1))
+    (subst (λ (it : Status). Fact it found.0) (sym (said_is ∙ ap reply_status found.1)) found.2)
+says_fact course Fact said text always (refuses caused stops text_is) = subst (Fact said) (sym text_is) (always.stops said caused stops)
+
+catalogue_said : (files : Files) (catalogue_name query_name : List ℕ) (catalogue : Catalogue) (query : Query)
+    → FilesSay files catalogue_name query_name catalogue query → FilesSayCatalogue files catalogue_name catalogue
+catalogue_said files catalogue_name query_name catalogue query say =
+    record { bytes = say.catalogue_bytes; has = say.has_catalogue; is_catalogue = say.is_catalogue }
+
+query_said : (files : Files) (catalogue_name query_name : List ℕ) (catalogue : Catalogue) (query : Query)
+    → FilesSay files catalogue_name query_name catalogue query → FilesSayQuery files query_name catalogue query
+query_said files catalogue_name query_name catalogue query say =
+    record { bytes = say.query_bytes; has = say.has_query; named = say.named; is_query = say.is_query; query_is = say.query_is }
+
+pub outcomes_are_fills : FillsAreExact → OutcomesAreFills
+outcomes_are_fills exact words files catalogue_name name catalogue said text is say outcome =
+    says_fact _ _ said text (exact files catalogue_name name catalogue say)
+    (subst (λ (it : List (List ℕ)). Says (course_of it (Some files)) ⊥ said text) is outcome)
+
+pub outcomes_are_answers : AnswersAreExact → OutcomesAreAnswers
+outcomes_are_answers exact words files catalogue_name query_name catalogue query said text is say outcome =
+    says_fact _ _ said text
+    (exact files catalogue_name query_name catalogue query (catalogue_said files catalogue_name query_name catalogue query say)
+    (query_said files catalogue_name query_name catalogue query say))
+    (subst (λ (it : List (List ℕ)). Says (course_of it (Some files)) ⊥ said text) is outcome)
+
+pub outcomes_are_audits : AuditsAreExact → OutcomesAreAudits
+outcomes_are_audits exact words files name catalogue said text is say outcome =
+    says_fact _ _ said text (exact files name catalogue say)
+    (subst (λ (it : List (List ℕ)). Says (course_of it (Some files)) ⊥ said text) is outcome)
+
+-- ---- where the files are told
+
+module _ (words : List (List ℕ)) (rose sink_rose : Type 0) (old new : Option (List ℕ)) (result : Status) where
+  pub fills_where_told : OutcomesAreFills → (files : Option Files) → CompleteWhereTold words files rose sink_rose old new result
+      → FillsWhereTold words files rose sink_rose old new result
+  fills_where_told are None complete = tt
+  fills_where_told are (Some files) complete = λ calm sink_calm catalogue_name name catalogue is say. elim (complete calm sink_calm) [
+    | inl whole ↦ inl (whole.0, are words files catalogue_name name catalogue result whole.0 is say whole.1, whole.2)
+    | inr wanting ↦ inr wanting
+  ]
+
+  pub answers_where_told : OutcomesAreAnswers → (files : Option Files) → CompleteWhereTold words files rose sink_rose old new result
+      → AnswersWhereTold words files rose sink_rose old new result
+  answers_where_told are None complete = tt
+  answers_where_told are (Some files) complete = λ calm sink_calm catalogue_name query_name catalogue query is say. elim (complete calm sink_calm) [
+    | inl whole ↦ inl (whole.0, are words files catalogue_name query_name catalogue query result whole.0 is say whole.1, whole.2)
+    | inr wanting ↦ inr wanting
+  ]
+
+  pub audits_where_told : OutcomesAreAudits → (files : Option Files) → CompleteWhereTold words files rose sink_rose old new result
+      → AuditsWhereTold words files rose sink_rose old new result
+  audits_where_told are None complete = tt
+  audits_where_told are (Some files) complete = λ calm sink_calm name catalogue is say. elim (complete calm sink_calm) [
+    | inl whole ↦ inl (whole.0, are words files name catalogue result whole.0 is say whole.1, whole.2)
+    | inr wanting ↦ inr wanting
+  ]

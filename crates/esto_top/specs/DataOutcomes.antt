@@ -1,0 +1,69 @@
+-- What `fill`, `answer` and `audit` answer where nothing is wrong with the files.
+use Rattle.std.specs.Prelude.{◌≡◌, ℕ, List, [], ◌∷◌, Option, Some, None, codes}
+use Rattle.esto_catalog.specs.declared.catalogue.Catalogue.{Catalogue}
+use Rattle.esto_data.specs.Exact.{FilesSayCatalogue, IsExactAnswer, IsExactAudit, IsExactFill}
+use Rattle.esto_ports.specs.Files.{Files}
+use Rattle.esto_query.specs.declared.query.Query.{Query}
+use Rattle.esto_opening.specs.declared.status.Status.{Status}
+use Rattle.esto_opening.specs.declared.status.Status.TheVariants as status
+use Rattle.esto_top.specs.Headline.{FilesSay, HoldsOfPut}
+use Rattle.esto_top.specs.Outcome.{Outcome}
+use Rattle.esto_top.specs.Runs.{AsksRun}
+
+-- ---- outcomes
+
+-- Each outcome of `answer C Q` is exact, where the files say a catalogue and a query over it.
+abbrev pub OutcomesAreAnswers : Type 0
+OutcomesAreAnswers =
+    (words : List (List ℕ)) (files : Files) (catalogue_name query_name : List ℕ) (catalogue : Catalogue) (query : Query) (said : Status) (text : List ℕ)
+    → words ≡ codes "answer" ∷ catalogue_name ∷ query_name ∷ [] → FilesSay files catalogue_name query_name catalogue query → Outcome words files said text
+    → IsExactAnswer files catalogue query said text
+
+-- Each outcome of `fill C F` is, where they say a catalogue.
+abbrev pub OutcomesAreFills : Type 0
+OutcomesAreFills =
+    (words : List (List ℕ)) (files : Files) (catalogue_name name : List ℕ) (catalogue : Catalogue) (said : Status) (text : List ℕ)
+    → words ≡ codes "fill" ∷ catalogue_name ∷ name ∷ [] → FilesSayCatalogue files catalogue_name catalogue → Outcome words files said text
+    → IsExactFill files catalogue name said text
+
+-- So is each outcome of `audit C`.
+abbrev pub OutcomesAreAudits : Type 0
+OutcomesAreAudits =
+    (words : List (List ℕ)) (files : Files) (name : List ℕ) (catalogue : Catalogue) (said : Status) (text : List ℕ)
+    → words ≡ codes "audit" ∷ name ∷ [] → FilesSayCatalogue files name catalogue → Outcome words files said text
+    → IsExactAudit files catalogue said text
+
+-- ---- what the top call says
+
+-- So it is where the files are told and neither count rose.
+abbrev pub AnswersWhereTold : List (List ℕ) → Option Files → Type 0 → Type 0 → Option (List ℕ) → Option (List ℕ) → Status → Type 0
+AnswersWhereTold words None rose sink_rose old new result = Unit {0}
+AnswersWhereTold words (Some files) rose sink_rose old new result =
+    ¬ rose → ¬ sink_rose → (catalogue_name query_name : List ℕ) (catalogue : Catalogue) (query : Query)
+    → words ≡ codes "answer" ∷ catalogue_name ∷ query_name ∷ [] → FilesSay files catalogue_name query_name catalogue query
+    → HoldsOfPut (IsExactAnswer files catalogue query) old new result
+
+abbrev pub FillsWhereTold : List (List ℕ) → Option Files → Type 0 → Type 0 → Option (List ℕ) → Option (List ℕ) → Status → Type 0
+FillsWhereTold words None rose sink_rose old new result = Unit {0}
+FillsWhereTold words (Some files) rose sink_rose old new result =
+    ¬ rose → ¬ sink_rose → (catalogue_name name : List ℕ) (catalogue : Catalogue)
+    → words ≡ codes "fill" ∷ catalogue_name ∷ name ∷ [] → FilesSayCatalogue files catalogue_name catalogue
+    → HoldsOfPut (IsExactFill files catalogue name) old new result
+
+abbrev pub AuditsWhereTold : List (List ℕ) → Option Files → Type 0 → Type 0 → Option (List ℕ) → Option (List ℕ) → Status → Type 0
+AuditsWhereTold words None rose sink_rose old new result = Unit {0}
+AuditsWhereTold words (Some files) rose sink_rose old new result =
+    ¬ rose → ¬ sink_rose → (name : List ℕ) (catalogue : Catalogue)
+    → words ≡ codes "audit" ∷ name ∷ [] → FilesSayCatalogue files name catalogue
+    → HoldsOfPut (IsExactAudit files catalogue) old new result
+
+-- ---- agreement
+
+-- Where, over the same files, `audit` and `run` are Done, each outcome of `answer` is Done with the text of `run`.
+abbrev pub OutcomesAgree : Type 0
+OutcomesAgree =
+    (words : List (List ℕ)) (files : Files) (catalogue_name query_name : List ℕ) (number : Option ℕ) (audited ran answered : List ℕ) (said : Status)
+    → Outcome (codes "audit" ∷ catalogue_name ∷ []) files status.Done audited
+    → AsksRun words catalogue_name query_name number → Outcome words files status.Done ran
+    → Outcome (codes "answer" ∷ catalogue_name ∷ query_name ∷ []) files said answered
+    → (said ≡ status.Done) × (answered ≡ ran)
