@@ -1,14 +1,21 @@
 -- Turns of the loops that complete products.
 use Rattle.std.proofs.Common.{◌≡◌, ◌↔◌, ℕ, ◌+◌, ◌<◌, ◌≤◌, Bool, List, [], length, Some, slice_get, sym, subst, inl, inr, arith}
 use Rattle.std.proofs.lemmas.Bool.{cases_order}
-use Rattle.esto_term.proofs.ListLemmas.{SomeBelow, some_none, some_step, some_contained}
+use Rattle.std.proofs.lemmas.List.Elements.{All-contains}
+use Rattle.esto_term.proofs.ListLemmas.{SomeBelow, Contains-at, some_none, some_step, some_contained}
 use Rattle.esto_semantics.specs.Sets.{Has, Within, Covers}
 use Rattle.esto_semantics.proofs.SetLemmas.{beyond, within_trans}
-use Rattle.esto_bits.specs.Kept.{Kept, CoversBoth, CoversEither}
+use Rattle.esto_bits.specs.Kept.{AreOver, Kept, CoversBoth, CoversEither}
 use Rattle.esto_bits.proofs.JoinLemmas.{covers_none}
 use Rattle.esto_access.specs.Supplies.{CoversWhere, IsSupplied}
 use Rattle.esto_access.proofs.NeedLemmas.{sets_there, supplied_from}
 use Rattle.esto_backchase.specs.Completion.{AreComplete, HaveOwn, IsCompletedIn, IsOneCompletedIn}
+
+-- each kept set is of the count
+pub same_count : (products : Kept) → AreOver products.count products.sets → (at : ℕ) (low : List Bool) → slice_get products.sets at ≡ Some low
+    → length low ≡ products.count
+same_count products over at low is =
+    All-contains (λ set. length set ≡ products.count) products.sets low over (Contains-at products.sets at low is)
 
 -- ---- the completions of one set
 

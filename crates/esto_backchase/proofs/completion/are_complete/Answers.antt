@@ -1,14 +1,13 @@
-use Rattle.std.proofs.Common.{◌≡◌, arith, length, subst, sym}
-use Rattle.std.proofs.lemmas.List.Elements.{All-contains}
-use Rattle.esto_term.proofs.ListLemmas.{Contains-at, each_all, each_step, place-from_Contains}
+use Rattle.std.proofs.Common.{arith, subst, sym}
+use Rattle.esto_term.proofs.ListLemmas.{each_all, each_step, place-from_Contains}
 use Rattle.esto_backchase.specs.Completion.{AreSuppliesOf, IsCompletedIn}
+use Rattle.esto_backchase.proofs.CompleteLemmas.{same_count}
 use Rattle.esto_backchase.proofs.completion.are_complete.Goals as goal
 
 pub is_complete-requires : goal.is_complete-requires
 is_complete-requires c =
     subst (λ count. AreSuppliesOf count c.args.supplies.now)
-    (sym (All-contains (λ set. length set ≡ c.args.products.now.count) c.args.products.now.sets c.in_ok-low.low c.products_are_antichains.ensures.over
-    (Contains-at c.args.products.now.sets c.sets.at c.in_ok-low.low c.in_ok-low.ensures))) c.requires
+    (sym (same_count c.args.products.now c.products_are_antichains.ensures.over c.sets.at c.in_ok-low.low c.in_ok-low.ensures)) c.requires
 
 pub sets-preserved : goal.sets-preserved
 sets-preserved c =

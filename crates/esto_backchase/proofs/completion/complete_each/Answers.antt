@@ -1,17 +1,20 @@
-use Rattle.std.proofs.Common.{◌≡◌, ◌∙◌, length, subst, sym, arith}
-use Rattle.std.proofs.lemmas.List.Elements.{All-contains}
-use Rattle.esto_term.proofs.ListLemmas.{Contains-at}
+use Rattle.std.proofs.Common.{◌∙◌, subst, sym, arith}
 use Rattle.esto_backchase.specs.Completion.{AreSuppliesOf}
 use Rattle.esto_bits.specs.Kept.{AreOver}
-use Rattle.esto_backchase.proofs.CompleteLemmas.{all_completed_grows, all_completed_end}
+use Rattle.esto_backchase.proofs.CompleteLemmas.{all_completed_grows, all_completed_end, same_count}
 use Rattle.esto_backchase.proofs.CompletionLemmas.{completed_is_minimal}
 use Rattle.esto_backchase.proofs.completion.complete_each.Goals as goal
 
 pub completions_of-requires-clause-supplies : goal.completions_of-requires-clause-supplies
 completions_of-requires-clause-supplies c =
     subst (λ count. AreSuppliesOf count c.args.supplies.now)
-    (sym (All-contains (λ set. length set ≡ c.args.products.now.count) c.args.products.now.sets c.in_ok-low.low c.products_are_antichains.ensures.over
-    (Contains-at c.args.products.now.sets c.sets.at c.in_ok-low.low c.in_ok-low.ensures))) c.requires.supplies
+    (sym (same_count c.args.products.now c.products_are_antichains.ensures.over c.sets.at c.in_ok-low.low c.in_ok-low.ensures)) c.requires.supplies
+
+pub add_all-requires : goal.add_all-requires
+add_all-requires c =
+    c.in_ok-completed.ensures.count
+    ∙ same_count c.args.products.now c.products_are_antichains.ensures.over c.sets.at c.in_ok-low.low c.in_ok-low.ensures
+    ∙ sym c.sets.invariant.0
 
 pub sets-preserved : goal.sets-preserved
 sets-preserved c = (

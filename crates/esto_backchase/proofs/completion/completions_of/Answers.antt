@@ -1,11 +1,17 @@
-use Rattle.std.proofs.Common.{◌≡◌, ◌+◌, ◌∙◌, sym, subst, length, arith}
+use Rattle.std.proofs.Common.{◌≡◌, ◌+◌, ◌∙◌, ap, sym, subst, length, arith}
 use Rattle.std.proofs.lemmas.Bool.{false≢true}
 use Rattle.esto_semantics.specs.Sets.{Covers}
 use Rattle.esto_bits.specs.Kept.{Kept}
 use Rattle.esto_access.proofs.NeedLemmas.{sets_there}
-use Rattle.esto_backchase.proofs.CompleteLemmas.{AreCompletedBelow, completed_grows, completed_stays, completed_end}
+use Rattle.esto_backchase.proofs.CompleteLemmas.{AreCompletedBelow, completed_start, completed_grows, completed_stays, completed_end}
 use Rattle.esto_backchase.proofs.completion.completions_of.Goals.{then-has+then-not-covered+in_ok-found-2, else-has, else-has-via-then-has+else-not-covered, else-has-via-else-has}
 use Rattle.esto_backchase.proofs.completion.completions_of.Goals as goal
+
+pub numbers-init : goal.numbers-init
+numbers-init c = (
+  ap (λ (it : Kept). it.count) c.in_ok-found.ensures.value,
+  completed_start c.args.supplies.now c.args.low.now c.in_ok-found.found.sets c.in_ok-found.ensures.covers,
+)
 
 pub numbers-preserved : goal.numbers-preserved
 numbers-preserved c = elim c.if-has.branch [
