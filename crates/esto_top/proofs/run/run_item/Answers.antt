@@ -2,7 +2,6 @@ use Rattle.esto_constraint.specs.Constraints.{rules_of}
 use Rattle.esto_query.specs.Making.{query_of}
 use Rattle.esto_run.specs.Opened.{rows_held}
 use Rattle.esto_views.specs.Fragments.{views_of}
-use Rattle.esto_views.specs.Plans.{plan_query}
 use Rattle.esto_course.proofs.Steps.{at_exit}
 use Rattle.esto_top.proofs.FormLemmas.{plan_form}
 use Rattle.esto_top.proofs.RuleLemmas.{are_rules}
