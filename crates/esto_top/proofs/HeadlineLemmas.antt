@@ -23,7 +23,7 @@ use Rattle.esto_semantics.specs.Plans.{IsUniversalPlan}
 use Rattle.esto_semantics.specs.Queries.{ConjunctiveQuery}
 use Rattle.esto_semantics.specs.Rewritings.{IsPlanFor}
 use Rattle.esto_semantics.specs.Rules.{AreRules, IsRule}
-use Rattle.esto_core.specs.PrintedLaws.{PrintedIsSatisfiable, PrintedPlanReceivesUnions, PrintedPlanIsUniversal, PrintedCoreHasNoRetract}
+use Rattle.esto_core.specs.PrintedLaws.{PrintedIsSatisfiable, PrintedPlanReceivesUnions, PrintedPlanIsUniversal, PrintedCoreHasNoRetract, PrintedCoreIsOneForAQuery}
 use Rattle.esto_universal.specs.PlannedLaws.{ClashedIsUnsatisfiable}
 use Rattle.esto_views.specs.Fragments.{views_of, patterns_of, weights_of}
 use Rattle.esto_views.specs.Plans.{plan_query}
@@ -74,6 +74,7 @@ pub record ListingLaws : Type 0 where
   pub unions : PrintedPlanReceivesUnions
   pub universal : PrintedPlanIsUniversal
   pub core : PrintedCoreHasNoRetract
+  pub only_core : PrintedCoreIsOneForAQuery
   pub covers : ListedCoverRewritings
   pub none : NoRewritingExists
   pub lightest : PickWeighsLeastOfAll
@@ -128,6 +129,9 @@ module _ (laws : ListingLaws) (catalogue : Catalogue) (query : Query) where
             universal = universal;
             core = λ asked.
                 laws.core catalogue.core (rules_of catalogue.rules) (views_of catalogue.fragments) query.names (query_of query) plan asked planned;
+            only_core = λ asked.
+                laws.only_core catalogue.core (rules_of catalogue.rules) (views_of catalogue.fragments) query.names (query_of query) plan rules_are
+                (laws.queries query).query asked planned;
             complete = λ other rewriting.
                 laws.covers (rules_of catalogue.rules) (views_of catalogue.fragments) (patterns_of catalogue.fragments) (query_of query) (plan_query plan)
                 other (sets_of listing.items) is_for.flat_body universal plan_tells listing.list.sets rewriting;

@@ -5,6 +5,7 @@ use Rattle.esto_catalog.specs.Reading.{IsCatalogueOf}
 use Rattle.esto_catalog.specs.declared.catalogue.Catalogue.{Catalogue}
 use Rattle.esto_chase_laws.specs.declared.clash.Clash.{Clash}
 use Rattle.esto_constraint.specs.Constraints.{rules_of}
+use Rattle.esto_core.specs.Cored.{IsOnlyCore}
 use Rattle.esto_list.specs.Items.{sets_of, totals_of}
 use Rattle.esto_list.specs.Text.{IsListText}
 use Rattle.esto_list.specs.declared.listing.Listed.{Listed}
@@ -74,7 +75,8 @@ abbrev pub IsEmptyWithoutRewriting : Catalogue → Query → List Listed → Typ
 IsEmptyWithoutRewriting catalogue query items = (items ≡ []) ↔ ((other : ConjunctiveQuery) → ¬ (Rewrites catalogue query other))
 
 -- The text is that of the printed plan and of its list. The plan is universal, and where the catalogue asks for the core it retracts into no proper sublist of
--- itself; its listed sets cover the executable rewritings, of which none weighs less than the pick, and there are none where no set is listed.
+-- itself and is the only core for the query; its listed sets cover the executable rewritings, of which none weighs less than the pick, and there are none where
+-- no set is listed.
 pub record PrintsExactly (catalogue : Catalogue) (query : Query) (text : List ℕ) : Type 0 where
   pub plan : Plan
   pub items : List Listed
@@ -83,6 +85,7 @@ pub record PrintsExactly (catalogue : Catalogue) (query : Query) (text : List �
   pub printed : IsListText catalogue.fragments plan items text
   pub universal : IsUniversalPlan (rules_of catalogue.rules) (views_of catalogue.fragments) (query_of query) (plan_query plan)
   pub core : IsTrue catalogue.core → HasNoRetract (plan_query plan)
+  pub only_core : IsTrue catalogue.core → IsOnlyCore (rules_of catalogue.rules) (views_of catalogue.fragments) (query_of query) (plan_query plan)
   pub complete : CoversRewritings catalogue query plan items
   pub lightest : PicksLightest catalogue query items
   pub empty : IsEmptyWithoutRewriting catalogue query items

@@ -8,7 +8,8 @@ use esto_bench::summaries_are_one;
 use esto_catalog::{catalogues_are_determined, catalogues_are_sound};
 use esto_constraint::rules_are_sound;
 use esto_core::{
-    printed_plans_are_one, printed_plans_are_universal, printed_plans_tell_satisfiable_queries,
+    printed_cores_are_one_for_a_query, printed_plans_are_one, printed_plans_are_universal,
+    printed_plans_tell_satisfiable_queries,
 };
 use esto_query::queries_are_sound;
 use esto_read::readings_are_determined;
@@ -35,6 +36,7 @@ pub(crate) fn lists_are_exact()
     plans_tell_satisfiable_queries();
     printed_plans_tell_satisfiable_queries();
     printed_plans_are_universal();
+    printed_cores_are_one_for_a_query();
     plans_are_sound();
     queries_are_their_own_instances();
     listed_sets_cover_rewritings();
@@ -56,6 +58,7 @@ pub(crate) fn runs_are_exact()
     plans_tell_satisfiable_queries();
     printed_plans_tell_satisfiable_queries();
     printed_plans_are_universal();
+    printed_cores_are_one_for_a_query();
     plans_are_sound();
     queries_are_their_own_instances();
     listed_sets_cover_rewritings();

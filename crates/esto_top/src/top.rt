@@ -54,9 +54,10 @@ pub fn mediate<S: Shelf, O: Sink>(
 
     // The headline. Where the files say a catalogue and a satisfiable query over it, `list` prints exactly the plan of the
     // query's run, or its cored plan where the catalogue asks for the core, and its listed sets, each once, in order, with
-    // orders, weights and the pick. The plan is universal, a cored plan retracts into no proper sublist of itself, and
-    // each executable rewriting of the query, with any variables and of any size, maps onto a set of its atoms that has a
-    // listed set within it, and weighs no less than the pick. No set is listed exactly where there is no such rewriting.
+    // orders, weights and the pick. The plan is universal, a cored plan retracts into no proper sublist of itself and is
+    // the only core for the query, and each executable rewriting of the query, with any variables and of any size, maps onto
+    // a set of its atoms that has a listed set within it, and weighs no less than the pick. No set is listed exactly where
+    // there is no such rewriting.
     ensures headline { ListsWhereTold words.now (S.files shelf.old)
         (Rises S.faults shelf.old shelf.new) (Rises O.faults out.old out.new) (O.written out.old)
         (O.written out.new) result }

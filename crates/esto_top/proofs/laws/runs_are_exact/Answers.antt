@@ -15,6 +15,7 @@ returns c =
       unions = c.printed_plans_are_universal.ensures.unions;
       universal = c.printed_plans_are_universal.ensures.universal;
       core = c.printed_plans_are_universal.ensures.core;
+      only_core = c.printed_cores_are_one_for_a_query.ensures;
       covers = c.listed_sets_cover_rewritings.ensures;
       none = c.listed_sets_are_minimal.ensures.no_rewriting;
       lightest = c.picks_exist.ensures.least_of_all;
