@@ -1,9 +1,10 @@
 //! The program `esto`: a polystore mediator.
 #![tactic(auto)]
 
+use esto_opening::Status;
 use esto_ports::{FolderShelf, OutSink};
 use esto_term::{List, Text, TextError};
-use esto_top::{Status, mediate};
+use esto_top::mediate;
 use std::alloc::Global;
 use std::env;
 use std::process::ExitCode;

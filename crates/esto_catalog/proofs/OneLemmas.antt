@@ -13,7 +13,8 @@ use Rattle.esto_acyclic.specs.declared.relations.Cycle.{Cycle}
 use Rattle.esto_constraint.specs.Soundness.{IsSoundTuple, IsSoundEquality, IsSoundDenial}
 use Rattle.esto_constraint.specs.declared.rule.Constraint.{Constraint}
 use Rattle.esto_constraint.specs.declared.rule.Constraint.TheVariants.{Tuple, Equal as Equality, Never}
-use Rattle.esto_course.proofs.Determined.{Agree, IsDetermined, IsDeterminedUpTo, then_agree, judges_agree, then_determined, gives_determined, refuses_determined, demands_determined, judges_determined, each_determined}
+use Rattle.esto_course.specs.Agreement.{Agree, IsDetermined, IsDeterminedUpTo}
+use Rattle.esto_course.proofs.Determined.{then_agree, judges_agree, then_determined, gives_determined, refuses_determined, demands_determined, judges_determined, each_determined}
 use Rattle.esto_course.specs.Course.{Course, Stops, and_then, demands, each, gives}
 use Rattle.esto_course.specs.Course.Stops.{is_free, refused}
 use Rattle.esto_query.specs.Schemas.{arities_of, names_of}

@@ -1,13 +1,7 @@
 -- Courses that agree, and courses that go on with at most one value or stop with at most one error.
 use Rattle.std.proofs.Common.{◌≡◌, ℕ, suc, List, [], ◌∷◌, inl, inr, refl, sym, subst, ◌∙◌}
+use Rattle.esto_course.specs.Agreement.{Agree, IsDetermined, IsDeterminedUpTo}
 use Rattle.esto_course.specs.Course.{Course, judges, gives, refuses, demands, and_then, each}
-
--- two courses go on with what counts as the same, or stop with one error; of errors, those that have a cause are looked at
-pub record Agree {E A : Type 0} (caused : E → Type 0) (Same : A → A → Type 0) (course other : Course E A) : Type 0 where
-  pub one : (value other_value : A) → course.goes value → other.goes other_value → Same value other_value
-  pub one_stop : (error other_error : E) → caused error → caused other_error → course.stops error → other.stops other_error → error ≡ other_error
-  pub apart : (value : A) (error : E) → caused error → course.goes value → other.stops error → ⊥
-  pub other_apart : (value : A) (error : E) → caused error → other.goes value → course.stops error → ⊥
 
 module _ {E A B : Type 0} (caused : E → Type 0) (Same : A → A → Type 0) (Result : B → B → Type 0) (first other : Course E A)
     (next other_next : A → Course E B) where
@@ -67,14 +61,6 @@ module _ {E : Type 0} (caused : E → Type 0) where
   unfolding judges
   judges_agree Same Accepts Others Refuses OtherRefuses one one_stop apart other_apart =
       record { one = one; one_stop = one_stop; apart = apart; other_apart = other_apart }
-
--- it goes on with one value, up to what counts as the same, or stops with one error
-abbrev pub IsDeterminedUpTo : {E A : Type 0} → (A → A → Type 0) → Course E A → Type 0
-IsDeterminedUpTo Same course = Agree (λ _. Unit {0}) Same course course
-
--- it goes on with one value, or stops with one error
-abbrev pub IsDetermined : {E A : Type 0} → Course E A → Type 0
-IsDetermined course = IsDeterminedUpTo ◌≡◌ course
 
 pub then_determined : {E A B : Type 0} (Same : B → B → Type 0) (first : Course E A) (next : A → Course E B) → IsDetermined first
     → ((value : A) → first.goes value → IsDeterminedUpTo Same (next value))

@@ -28,7 +28,7 @@ use Rattle.esto_term.proofs.ListLemmas.{map_at, map_at-from}
 use Rattle.esto_views.specs.Plans.{plan_query}
 use Rattle.esto_views.specs.declared.fragments.FragmentDef.{FragmentDef}
 use Rattle.esto_views.specs.declared.plan.Plan.{Plan}
-use Rattle.esto_top.specs.Fragments.{Stored, IsStoredAt, content_fault}
+use Rattle.esto_opening.specs.Fragments.{Stored, IsStoredAt, content_fault}
 use Rattle.esto_top.specs.Run.{IsRunText}
 use Rattle.esto_top.proofs.AlikeLemmas.{IsSameQuery}
 use Rattle.esto_top.proofs.SameListLemmas.{IsSamePlan}

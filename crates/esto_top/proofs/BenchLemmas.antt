@@ -15,9 +15,9 @@ use Rattle.esto_top.specs.Grammar.{course_of, is_made_size, value_of}
 use Rattle.esto_top.specs.Outcome.{Mediates, Says, reply_status, reply_text}
 use Rattle.esto_top.specs.Outcome.Mediates.{whole, cut, memory as nothing}
 use Rattle.esto_top.specs.Outcome.Says.{replies, refuses}
-use Rattle.esto_top.specs.declared.ending.Reply.TheVariants.{Done}
-use Rattle.esto_top.specs.declared.status.Status.{Status}
-use Rattle.esto_top.proofs.AgreeLemmas.{AgreeCalmly}
+use Rattle.esto_opening.specs.declared.reply.Reply.TheVariants.{Done}
+use Rattle.esto_opening.specs.declared.status.Status.{Status}
+use Rattle.esto_opening.specs.Calm.{AgreeCalmly}
 
 no_rules : AreRules []
 no_rules rule inside = absurd (Contains-nil rule inside)

@@ -31,18 +31,20 @@ use Rattle.esto_views.specs.Soundness.{IsSoundPlan}
 use Rattle.esto_views.specs.declared.plan.Plan.{Plan}
 use Rattle.esto_course.specs.Course.{gives}
 use Rattle.esto_top.specs.Headline.{FilesSay, HasAnswers, PrintsExactly, IsExactList, IsExactRefusal, IsEmptyWithoutRewriting, SaidOfLists, OutcomesAreLists, OutcomesAreRefusals, HoldsOfLists}
-use Rattle.esto_top.specs.Line.{line_of}
+use Rattle.esto_opening.specs.Line.{line_of}
 use Rattle.esto_top.specs.List.{plans_query, lists_query, list_course}
 use Rattle.esto_top.specs.Listing.{IsClash, IsListing, IsListOf, IsPlanned}
 use Rattle.esto_top.specs.Outcome.{Says, CompleteWhereTold, reply_status, reply_text}
 use Rattle.esto_top.specs.Grammar.{course_of}
-use Rattle.esto_top.specs.declared.ending.Reply.{Reply}
-use Rattle.esto_top.specs.declared.ending.Reply.TheVariants.{Done}
-use Rattle.esto_top.specs.declared.status.Status.{Status}
-use Rattle.esto_top.specs.declared.status.Status.TheVariants as status
+use Rattle.esto_opening.specs.declared.reply.Reply.{Reply}
+use Rattle.esto_opening.specs.declared.reply.Reply.TheVariants.{Done}
+use Rattle.esto_opening.specs.declared.status.Status.{Status}
+use Rattle.esto_opening.specs.declared.status.Status.TheVariants as status
 use Rattle.esto_top.proofs.AlikeLemmas.{planned_moved, clash_moved, listing_moved}
 use Rattle.esto_top.proofs.FormLemmas.{plan_form}
-use Rattle.esto_top.proofs.LeadLemmas.{Leads, then-leads, leads-more, gives-leads, judges-leads, says-leads}
+use Rattle.esto_opening.specs.Calm.{Leads}
+use Rattle.esto_opening.proofs.LeadLemmas.{then-leads, leads-more, gives-leads, judges-leads}
+use Rattle.esto_top.proofs.LeadLemmas.{says-leads}
 use Rattle.esto_top.proofs.RuleLemmas.{are_rules}
 use Rattle.esto_top.proofs.SayLemmas.{IsQueryOf, catalogue_leads, query_leads, same_as_read}
 

@@ -1,12 +1,10 @@
 pub mod Steps
 pub mod ValueLemmas
 pub mod SizeLemmas
-pub mod FragmentLemmas
 pub mod RunLemmas
 pub mod ListCourseLemmas
 pub mod Mediation
 pub mod CheckLemmas
-pub mod OpeningLemmas
 pub mod RuleLemmas
 pub mod FormLemmas
 pub mod LeadLemmas

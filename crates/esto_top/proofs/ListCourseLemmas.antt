@@ -5,12 +5,12 @@ use Rattle.esto_course.specs.Course.{Stops, gives, and_then}
 use Rattle.esto_course.proofs.Steps.{then_stops}
 use Rattle.esto_ports.specs.Files.{Files}
 use Rattle.esto_query.specs.declared.query.Query.{Query}
-use Rattle.esto_top.specs.Answers.{IsWant, IsCaused}
+use Rattle.esto_opening.specs.Answers.{IsWant, IsCaused}
 use Rattle.esto_top.specs.List.{list_course, lists_query}
-use Rattle.esto_top.specs.Opening.{opens_catalogue, opens_query}
-use Rattle.esto_top.specs.declared.ending.Reply.TheVariants.{Done}
-use Rattle.esto_top.specs.declared.status.Status.{Status}
-use Rattle.esto_top.proofs.Steps.{still_stops}
+use Rattle.esto_opening.specs.Opening.{opens_catalogue, opens_query}
+use Rattle.esto_opening.specs.declared.reply.Reply.TheVariants.{Done}
+use Rattle.esto_opening.specs.declared.status.Status.{Status}
+use Rattle.esto_opening.proofs.Steps.{still_stops}
 
 pub text_stops : {rose : Type 0} {refusal : Status} (files read_files : Option Files) → read_files ≡ files → (catalogue_name query_name : List ℕ)
     (catalogue : Catalogue) → (opens_catalogue files catalogue_name).goes catalogue → (query : Query)

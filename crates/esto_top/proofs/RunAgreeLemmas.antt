@@ -27,15 +27,16 @@ use Rattle.esto_semantics.specs.Rules.{AreRules}
 use Rattle.esto_views.specs.Fragments.{views_of}
 use Rattle.esto_views.specs.Plans.{plan_query}
 use Rattle.esto_views.specs.declared.plan.Plan.{Plan}
-use Rattle.esto_top.specs.Fetch.{fetches}
-use Rattle.esto_top.specs.Fragments.{Stored, IsStoredAt, content_fault, reads_content, opens_stored, opens_fragment, opens_next, opens_fragments, with_content, no_contents}
+use Rattle.esto_opening.specs.Fetch.{fetches}
+use Rattle.esto_opening.specs.Fragments.{Stored, IsStoredAt, content_fault, reads_content, opens_stored, opens_fragment, opens_next, opens_fragments, with_content, no_contents}
 use Rattle.esto_top.specs.Run.{IsPlace, HasNoPlace, IsRunText, ends_query, lists_plan, chooses, runs_item, runs_plan, runs_end, runs_query}
 use Rattle.esto_top.specs.Run.HasNoPlace.{is_empty, is_above}
-use Rattle.esto_top.specs.declared.ending.Reply.TheVariants.{Done, Unsatisfiable}
-use Rattle.esto_top.specs.declared.fragments.TheConstants.{FRAGMENT_LIMIT}
-use Rattle.esto_top.specs.declared.status.Status.{Status}
-use Rattle.esto_top.specs.declared.status.Status.TheVariants as status
-use Rattle.esto_top.proofs.AgreeLemmas.{AgreeCalmly, fetches-agree}
+use Rattle.esto_opening.specs.declared.reply.Reply.TheVariants.{Done, Unsatisfiable}
+use Rattle.esto_opening.specs.declared.fragments.TheConstants.{FRAGMENT_LIMIT}
+use Rattle.esto_opening.specs.declared.status.Status.{Status}
+use Rattle.esto_opening.specs.declared.status.Status.TheVariants as status
+use Rattle.esto_opening.specs.Calm.{AgreeCalmly}
+use Rattle.esto_opening.proofs.AgreeLemmas.{fetches-agree}
 use Rattle.esto_top.proofs.AlikeLemmas.{IsSameQuery, planned_moved, clash_moved, list_moved}
 use Rattle.esto_top.proofs.AlikeRunLemmas.{same_file, same_named, same_fault, same_rows_text, one_text, run_text_moved}
 use Rattle.esto_top.proofs.RuleLemmas.{are_rules}

@@ -32,17 +32,17 @@ use Rattle.esto_views.specs.Fragments.{patterns_of}
 use Rattle.esto_views.specs.Plans.{IsPlanOver, fact_of, plan_query}
 use Rattle.esto_views.specs.declared.fragments.FragmentDef.{FragmentDef}
 use Rattle.esto_views.specs.declared.plan.Plan.{Plan}
-use Rattle.esto_top.specs.Answers.{IsWant, IsCaused, Answers}
-use Rattle.esto_top.specs.Fragments.{opens_fragments}
+use Rattle.esto_opening.specs.Answers.{IsWant, IsCaused, Answers}
+use Rattle.esto_opening.specs.Fragments.{opens_fragments}
 use Rattle.esto_top.specs.Listing.{IsClash, IsListOf, IsPlanned}
-use Rattle.esto_top.specs.Opening.{opens_catalogue, opens_query}
+use Rattle.esto_opening.specs.Opening.{opens_catalogue, opens_query}
 use Rattle.esto_top.specs.Run.{IsItemOf, IsPlace, HasNoPlace, IsRunText, chooses, ends_query, lists_plan, runs_end, run_course, runs_item, runs_plan, runs_query}
 use Rattle.esto_top.specs.Run.HasNoPlace.{is_empty, is_above}
-use Rattle.esto_top.specs.declared.ending.Reply.{Reply}
-use Rattle.esto_top.specs.declared.ending.Reply.TheVariants.{Done, Unsatisfiable}
-use Rattle.esto_top.specs.declared.status.Status.{Status}
-use Rattle.esto_top.specs.declared.status.Status.TheVariants.{NoRewriting, NoSuchNumber}
-use Rattle.esto_top.proofs.Steps.{caused_weaker}
+use Rattle.esto_opening.specs.declared.reply.Reply.{Reply}
+use Rattle.esto_opening.specs.declared.reply.Reply.TheVariants.{Done, Unsatisfiable}
+use Rattle.esto_opening.specs.declared.status.Status.{Status}
+use Rattle.esto_opening.specs.declared.status.Status.TheVariants.{NoRewriting, NoSuchNumber}
+use Rattle.esto_opening.proofs.Steps.{caused_weaker}
 
 -- ---- the choice
 

@@ -36,27 +36,30 @@ use Rattle.esto_term.proofs.ListLemmas.{Contains-nil, Contains-head, Contains-re
 use Rattle.esto_views.specs.Fragments.{views_of, patterns_of}
 use Rattle.esto_views.specs.Plans.{plan_query}
 use Rattle.esto_views.specs.declared.plan.Plan.{Plan}
-use Rattle.esto_top.specs.Answers.{IsCaused}
-use Rattle.esto_top.specs.Fetch.{FetchStops, fetches}
-use Rattle.esto_top.specs.Fetch.FetchStops.{fails, is_longer}
-use Rattle.esto_top.specs.Fragments.{IsStoredAt, content_fault, reads_content, opens_stored, opens_fragment, opens_next, opens_fragments, with_content, no_contents}
+use Rattle.esto_opening.specs.Answers.{IsCaused}
+use Rattle.esto_opening.specs.Fetch.{FetchStops, fetches}
+use Rattle.esto_opening.specs.Fetch.FetchStops.{fails, is_longer}
+use Rattle.esto_opening.specs.Fragments.{IsStoredAt, content_fault, reads_content, opens_stored, opens_fragment, opens_next, opens_fragments, with_content, no_contents}
 use Rattle.esto_top.specs.Grammar.{course_of, course_of_asked, request_of, is_list_number, value_of}
-use Rattle.esto_top.specs.Headline.{FilesSay, HasAnswers, HasWithin, Rewrites}
-use Rattle.esto_top.specs.Line.{line_of}
+use Rattle.esto_top.specs.Headline.{FilesSay, HasAnswers, Rewrites}
+use Rattle.esto_opening.specs.Fetch.{HasWithin}
+use Rattle.esto_opening.specs.Line.{line_of}
 use Rattle.esto_top.specs.Listing.{IsClash, IsListOf, IsPlanned}
 use Rattle.esto_top.specs.Outcome.{Says, CompleteWhereTold, reply_status, reply_text}
 use Rattle.esto_top.specs.Run.{IsPlace, HasNoPlace, IsRunText, runs_query, run_course}
 use Rattle.esto_top.specs.Run.HasNoPlace.{is_empty, is_above}
 use Rattle.esto_top.specs.Runs.{AsksRun, IsReadable, CanRun, PrintsAnswers, PrintsRun, SaidOfRuns, RunsExactly, RefusesRun, NeedsRewriting, IsExactRun, OutcomesAreRuns, RunsWhereTold}
-use Rattle.esto_top.specs.declared.ending.Reply.{Reply}
-use Rattle.esto_top.specs.declared.ending.Reply.TheVariants.{Done, Unsatisfiable}
-use Rattle.esto_top.specs.declared.fragments.TheConstants.{FRAGMENT_LIMIT}
-use Rattle.esto_top.specs.declared.status.Status.{Status}
-use Rattle.esto_top.specs.declared.status.Status.TheVariants as status
+use Rattle.esto_opening.specs.declared.reply.Reply.{Reply}
+use Rattle.esto_opening.specs.declared.reply.Reply.TheVariants.{Done, Unsatisfiable}
+use Rattle.esto_opening.specs.declared.fragments.TheConstants.{FRAGMENT_LIMIT}
+use Rattle.esto_opening.specs.declared.status.Status.{Status}
+use Rattle.esto_opening.specs.declared.status.Status.TheVariants as status
 use Rattle.esto_top.proofs.AlikeLemmas.{IsSameQuery, planned_moved, clash_moved, list_moved}
 use Rattle.esto_top.proofs.AlikeRunLemmas.{same_file, same_fault, same_rows_text, run_text_moved}
 use Rattle.esto_top.proofs.HeadlineLemmas.{ListingLaws, clash_excludes, plan_tells, empty-without}
-use Rattle.esto_top.proofs.LeadLemmas.{Leads, then-leads, leads-more, gives-leads, judges-leads, fetches-leads, says-leads}
+use Rattle.esto_opening.specs.Calm.{Leads}
+use Rattle.esto_opening.proofs.LeadLemmas.{then-leads, leads-more, gives-leads, judges-leads, fetches-leads}
+use Rattle.esto_top.proofs.LeadLemmas.{says-leads}
 use Rattle.esto_top.proofs.OneListLemmas.{first_same, rest_same}
 use Rattle.esto_top.proofs.RuleLemmas.{are_rules}
 use Rattle.esto_top.proofs.RunAgreeLemmas.{one_place, no_cause}

@@ -12,15 +12,16 @@ use Rattle.esto_read.specs.declared.read.Form.TheVariants as form
 use Rattle.esto_read.specs.declared.read.NamedQuery.{NamedQuery}
 use Rattle.esto_read.specs.declared.words.Word.{Word}
 use Rattle.esto_text.specs.declared.fault.TextFault.{TextFault}
-use Rattle.esto_top.specs.Answers.{IsCaused}
+use Rattle.esto_opening.specs.Answers.{IsCaused}
 use Rattle.esto_top.specs.Headline.{FilesSay}
-use Rattle.esto_top.specs.Opening.{status_of, reads_catalogue, opens_catalogue, reads_query, opens_query}
-use Rattle.esto_top.specs.declared.opening.TheConstants.{CATALOGUE_LIMIT, QUERY_LIMIT}
-use Rattle.esto_top.specs.declared.status.Status.{Status}
-use Rattle.esto_top.specs.declared.status.Status.TheVariants as status
+use Rattle.esto_opening.specs.Opening.{status_of, reads_catalogue, opens_catalogue, reads_query, opens_query}
+use Rattle.esto_opening.specs.declared.opening.TheConstants.{CATALOGUE_LIMIT, QUERY_LIMIT}
+use Rattle.esto_opening.specs.declared.status.Status.{Status}
+use Rattle.esto_opening.specs.declared.status.Status.TheVariants as status
 use Rattle.esto_top.proofs.AlikeLemmas.{IsSameQuery, same_reading}
-use Rattle.esto_top.proofs.LeadLemmas.{Leads, then-leads, judges-leads, fetches-leads}
-use Rattle.esto_top.proofs.Steps.{never_wanting}
+use Rattle.esto_opening.specs.Calm.{Leads}
+use Rattle.esto_opening.proofs.LeadLemmas.{then-leads, judges-leads, fetches-leads}
+use Rattle.esto_opening.proofs.Steps.{never_wanting}
 
 -- the query is a reading of the bytes over a catalogue
 abbrev pub IsQueryOf : Catalogue → List ℕ → Query → Type 0

@@ -5,10 +5,10 @@ use Rattle.esto_catalog.specs.declared.catalogue.Catalogue.{Catalogue}
 use Rattle.esto_ports.specs.Files.{Files}
 use Rattle.esto_query.specs.Schemas.{names_of}
 use Rattle.esto_course.specs.Course.{Course, gives, and_then}
-use Rattle.esto_top.specs.Opening.{opens_catalogue}
-use Rattle.esto_top.specs.declared.ending.Reply.{Reply}
-use Rattle.esto_top.specs.declared.ending.Reply.TheVariants.{Done}
-use Rattle.esto_top.specs.declared.status.Status.{Status}
+use Rattle.esto_opening.specs.Opening.{opens_catalogue}
+use Rattle.esto_opening.specs.declared.reply.Reply.{Reply}
+use Rattle.esto_opening.specs.declared.reply.Reply.TheVariants.{Done}
+use Rattle.esto_opening.specs.declared.status.Status.{Status}
 
 -- The line of a relation and its rank.
 abbrev pub rank_line : List ℕ → ℕ → List ℕ

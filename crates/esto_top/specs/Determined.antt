@@ -3,8 +3,8 @@ use Rattle.std.specs.Prelude.{◌≡◌, ◌⊎◌, ℕ, List, Option, Some, Non
 use Rattle.std.specs.Io.KnownBytes.{Appends, Keeps}
 use Rattle.esto_ports.specs.Files.{Files}
 use Rattle.esto_top.specs.Outcome.{Outcome}
-use Rattle.esto_top.specs.declared.status.Status.{Status}
-use Rattle.esto_top.specs.declared.status.Status.TheVariants as status
+use Rattle.esto_opening.specs.declared.status.Status.{Status}
+use Rattle.esto_opening.specs.declared.status.Status.TheVariants as status
 
 -- The same words over the same files have at most one status and one text.
 abbrev pub OutcomesAreDetermined : Type 0

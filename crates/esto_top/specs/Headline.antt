@@ -1,6 +1,5 @@
 -- What `list` answers where nothing is wrong with the files.
 use Rattle.std.specs.Prelude.{◌≡◌, ◌⊎◌, ◌↔◌, ℕ, ◌≤◌, Bool, IsTrue, List, [], ◌∷◌, length, slice_index_or, Option, Some, None, codes}
-use Rattle.std.specs.FinMap.{get}
 use Rattle.std.specs.Io.KnownBytes.{Appends, Keeps}
 use Rattle.esto_catalog.specs.Reading.{IsCatalogueOf}
 use Rattle.esto_catalog.specs.declared.catalogue.Catalogue.{Catalogue}
@@ -26,19 +25,15 @@ use Rattle.esto_semantics.specs.Sets.{Covers}
 use Rattle.esto_views.specs.Fragments.{views_of, patterns_of, weights_of}
 use Rattle.esto_views.specs.Plans.{plan_query}
 use Rattle.esto_views.specs.declared.plan.Plan.{Plan}
-use Rattle.esto_top.specs.Fetch.{without_mark}
-use Rattle.esto_top.specs.Line.{line_of}
+use Rattle.esto_opening.specs.Fetch.{HasWithin}
+use Rattle.esto_opening.specs.Line.{line_of}
 use Rattle.esto_top.specs.Listing.{IsClash, IsListOf, IsPlanned}
 use Rattle.esto_top.specs.Outcome.{Outcome}
-use Rattle.esto_top.specs.declared.status.Status.{Status}
-use Rattle.esto_top.specs.declared.status.Status.TheVariants as status
-use Rattle.esto_top.specs.declared.opening.TheConstants.{CATALOGUE_LIMIT, QUERY_LIMIT}
+use Rattle.esto_opening.specs.declared.status.Status.{Status}
+use Rattle.esto_opening.specs.declared.status.Status.TheVariants as status
+use Rattle.esto_opening.specs.declared.opening.TheConstants.{CATALOGUE_LIMIT, QUERY_LIMIT}
 
 -- ---- the files
-
--- The file of that name has at most so many bytes, and these after one leading mark.
-abbrev pub HasWithin : Files → List ℕ → ℕ → List ℕ → Type 0
-HasWithin files name limit bytes = (file : List ℕ) × (get files name ≡ Some file) × (length file ≤ limit) × (bytes ≡ without_mark file)
 
 -- The files say this catalogue, and this query over it.
 pub record FilesSay (files : Files) (catalogue_name query_name : List ℕ) (catalogue : Catalogue) (query : Query) : Type 0 where

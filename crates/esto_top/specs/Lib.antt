@@ -1,11 +1,6 @@
-pub mod Line
-pub mod Answers
-pub mod Fetch
-pub mod Opening
 pub mod Check
 pub mod Listing
 pub mod List
-pub mod Fragments
 pub mod Run
 pub mod Bench
 pub mod Grammar

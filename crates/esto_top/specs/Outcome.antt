@@ -2,14 +2,14 @@
 use Rattle.std.specs.Prelude.{◌≡◌, ◌≢◌, ◌⊎◌, ℕ, List, take, Option, Some, None, Result, Ok, Err}
 use Rattle.std.specs.Io.KnownBytes.{Appends, Keeps}
 use Rattle.esto_ports.specs.Files.{Files}
-use Rattle.esto_top.specs.Line.{line_of}
+use Rattle.esto_opening.specs.Line.{line_of}
 use Rattle.esto_course.specs.Course.{Course}
-use Rattle.esto_top.specs.Answers.{IsCaused}
+use Rattle.esto_opening.specs.Answers.{IsCaused}
 use Rattle.esto_top.specs.Grammar.{course_of}
-use Rattle.esto_top.specs.declared.ending.Reply.{Reply}
-use Rattle.esto_top.specs.declared.ending.Reply.TheVariants as reply
-use Rattle.esto_top.specs.declared.status.Status.{Status}
-use Rattle.esto_top.specs.declared.status.Status.TheVariants as status
+use Rattle.esto_opening.specs.declared.reply.Reply.{Reply}
+use Rattle.esto_opening.specs.declared.reply.Reply.TheVariants as reply
+use Rattle.esto_opening.specs.declared.status.Status.{Status}
+use Rattle.esto_opening.specs.declared.status.Status.TheVariants as status
 
 -- The status of a reply.
 abbrev pub reply_status : Reply → Status

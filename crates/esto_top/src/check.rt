@@ -3,13 +3,11 @@ ghost use Rattle.std.specs.Prelude.{◌≡◌, ◌≤◌, ◌++◌, length, IfOk
 ghost use Rattle.esto_ports.specs.Faults.{Rises};
 ghost use Rattle.esto_query.specs.Schemas.{names_of};
 ghost use Rattle.esto_top.specs.Check.{count_lines, rank_line, rank_lines, check_text, check_course};
-ghost use Rattle.esto_top.specs.Answers.{Answers};
+ghost use Rattle.esto_opening.specs.Answers.{Answers};
 
-use crate::ending::Reply;
-use crate::opening::open_catalogue;
-use crate::status::Status;
 use esto_acyclic::Ranks;
 use esto_catalog::{Catalogue, catalogues_are_sound};
+use esto_opening::{Reply, Status, open_catalogue};
 use esto_ports::Shelf;
 use esto_query::Schema;
 use esto_term::{Bytes, OutOfMemory, Text};

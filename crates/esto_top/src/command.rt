@@ -2,16 +2,15 @@
 ghost use Rattle.std.specs.Prelude.{◌≡◌, ◌≤◌, ◌<◌, ◌+◌, length, true, None, Some, IfSome, MatchOption};
 ghost use Rattle.std.specs.List.{list_all};
 ghost use Rattle.esto_ports.specs.Faults.{Rises};
-ghost use Rattle.esto_top.specs.Answers.{Answers};
+ghost use Rattle.esto_opening.specs.Answers.{Answers};
 ghost use Rattle.esto_top.specs.Grammar.{is_word, is_digit, is_leading_digit, is_list_number, is_made_size, value_of, request_of_one, request_of_two, request_of_three, request_of, asked, IsSized, course_of_request};
 
 use crate::bench::bench;
 use crate::check::check;
-use crate::ending::Reply;
 use crate::list::list;
 use crate::run::run;
-use crate::status::Status;
 use esto_bench::MAX_SIZE;
+use esto_opening::{Reply, Status};
 use esto_ports::Shelf;
 use esto_term::Text;
 use std::alloc::Global;

@@ -1,13 +1,10 @@
 //! The command `list`.
 ghost use Rattle.std.specs.Prelude.{◌≡◌, ◌≤◌, IfOk};
 ghost use Rattle.esto_ports.specs.Faults.{Rises};
-ghost use Rattle.esto_top.specs.Answers.{Answers};
+ghost use Rattle.esto_opening.specs.Answers.{Answers};
 ghost use Rattle.esto_top.specs.List.{plans_query, prints_list, lists_query, list_course};
 ghost use Rattle.esto_top.specs.Listing.{IsListOf, IsListing, IsPlanned};
 
-use crate::ending::Reply;
-use crate::opening::{open_catalogue, open_query};
-use crate::status::Status;
 use either::{Left, Right};
 use esto_backchase::minimal_sets;
 use esto_catalog::{Catalogue, catalogues_are_sound};
@@ -17,6 +14,7 @@ use esto_core::{
     printed_plans_tell_satisfiable_queries,
 };
 use esto_list::Listing;
+use esto_opening::{Reply, Status, open_catalogue, open_query};
 use esto_ports::Shelf;
 use esto_query::{Query, queries_are_sound};
 use esto_semantics::queries_are_their_own_instances;

@@ -1,18 +1,14 @@
 //! The command `run`.
 ghost use Rattle.std.specs.Prelude.{◌≡◌, ◌≤◌};
 ghost use Rattle.esto_ports.specs.Faults.{Rises};
-ghost use Rattle.esto_top.specs.Answers.{Answers};
+ghost use Rattle.esto_opening.specs.Answers.{Answers};
 ghost use Rattle.esto_top.specs.Listing.{IsPlanned, IsClash};
 ghost use Rattle.esto_top.specs.Run.{chooses, IsItemOf, runs_item, runs_plan, runs_query, run_course};
-ghost use Rattle.esto_top.specs.declared.ending.Reply.TheVariants as reply;
+ghost use Rattle.esto_opening.specs.declared.reply.Reply.TheVariants as reply;
 ghost use Rattle.esto_run.specs.Answers.{rows_text};
 ghost use Rattle.std.specs.Prelude.{IfOk, []};
 
-use crate::ending::Reply;
-use crate::fragments::open_fragments;
 use crate::list::listing_of;
-use crate::opening::{open_catalogue, open_query};
-use crate::status::Status;
 use either::{Left, Right};
 use esto_catalog::{Catalogue, catalogues_are_sound};
 use esto_chase::Clash;
@@ -22,6 +18,7 @@ use esto_core::{
     printed_plans_tell_satisfiable_queries,
 };
 use esto_list::{Listed, Listing};
+use esto_opening::{Reply, Status, open_catalogue, open_fragments, open_query};
 use esto_ports::Shelf;
 use esto_query::{Query, queries_are_sound};
 use esto_run::{answers_are_over_files, answers_text, fragments_of_set, run_text};

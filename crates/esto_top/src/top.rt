@@ -1,7 +1,7 @@
 //! The top call.
 ghost use Rattle.std.specs.Prelude.{◌≡◌, ◌≤◌};
 ghost use Rattle.esto_ports.specs.Faults.{Rises};
-ghost use Rattle.esto_top.specs.Answers.{Answers};
+ghost use Rattle.esto_opening.specs.Answers.{Answers};
 ghost use Rattle.esto_top.specs.Benches.{BenchesAlways};
 ghost use Rattle.esto_top.specs.Determined.{ExactWhereTold};
 ghost use Rattle.esto_top.specs.Grammar.{course_of};
@@ -10,9 +10,9 @@ ghost use Rattle.esto_top.specs.Runs.{RunsWhereTold};
 ghost use Rattle.esto_top.specs.Outcome.{Mediates, CompleteWhereTold, CausedReadFault, CausedWriteFault};
 
 use crate::command::{command_of, obey};
-use crate::ending::{Reply, finish};
+use crate::ending::finish;
 use crate::laws::{lists_are_exact, outcomes_are_determined, runs_are_exact};
-use crate::status::Status;
+use esto_opening::{Reply, Status};
 use esto_ports::{Shelf, Sink};
 use esto_term::Text;
 use std::alloc::Global;

@@ -1,7 +1,7 @@
 use Rattle.esto_top.specs.Bench.{bench_course}
 use Rattle.esto_top.proofs.Mediation.{refused_by}
-use Rattle.esto_top.proofs.Steps.{answers_still}
-use Rattle.esto_top.specs.declared.status.Status.TheVariants.{NotBuilt}
+use Rattle.esto_opening.proofs.Steps.{answers_still}
+use Rattle.esto_opening.specs.declared.status.Status.TheVariants.{NotBuilt}
 use Rattle.esto_top.proofs.command.obey.Goals as goal
 
 pub returns-in-Bench-clause-answer : goal.returns-in-Bench-clause-answer

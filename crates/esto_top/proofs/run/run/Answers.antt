@@ -1,7 +1,7 @@
 use Rattle.std.proofs.Common.{arith}
 use Rattle.esto_course.proofs.Steps.{at_exit}
 use Rattle.esto_top.proofs.RunLemmas.{course_goes, course_stops}
-use Rattle.esto_top.proofs.Steps.{end_stops}
+use Rattle.esto_opening.proofs.Steps.{end_stops}
 use Rattle.esto_top.proofs.run.run.Goals as goal
 
 pub returns-in_err-reply-clause-answer : goal.returns-in_err-reply-clause-answer

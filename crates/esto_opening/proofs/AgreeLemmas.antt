@@ -1,0 +1,35 @@
+-- The fetch of a file agrees with itself.
+use Rattle.std.proofs.Common.{◌≡◌, ◌<◌, ℕ, List, Some, sym, ap, ◌∙◌, arith, length}
+use Rattle.std.specs.FinMap.{get}
+use Rattle.esto_ports.specs.Files.{Files}
+use Rattle.esto_opening.specs.Answers.{IsCaused}
+use Rattle.esto_opening.specs.Calm.{AgreeCalmly}
+use Rattle.esto_opening.specs.Fetch.{FetchStops, fetches, without_mark}
+use Rattle.esto_opening.specs.Fetch.FetchStops.{fails, is_longer}
+use Rattle.esto_opening.specs.declared.status.Status.{Status}
+use Rattle.esto_opening.specs.declared.status.Status.TheVariants as status
+use Rattle.esto_opening.proofs.LeadLemmas.{same-file}
+use Rattle.esto_opening.proofs.Steps.{read_cause}
+
+module _ (files : Files) (name : List ℕ) (limit : ℕ) where
+  -- where no fetch is at a fault, it stops at a longer file
+  longer : (said : Status) → IsCaused ⊥ said → FetchStops (Some files) name limit said
+      → (file : List ℕ) × (get files name ≡ Some file) × (limit < length file) × (said ≡ status.TooLong name limit)
+  longer said caused (fails is) = absurd (read_cause ⊥ said name is caused)
+  longer said caused (is_longer file holds less is) = (file, holds, less, is)
+
+  pub fetches-agree : AgreeCalmly ◌≡◌ (fetches (Some files) name limit) (fetches (Some files) name limit)
+  unfolding fetches
+  fetches-agree = record {
+    one = λ bytes other here there. here.3 ∙ ap without_mark (same-file here.0 there.0 (sym here.1 ∙ there.1)) ∙ sym there.3;
+    one_stop = λ said other_said caused other_caused here there. (longer said caused here).3 ∙ sym (longer other_said other_caused there).3;
+    apart = λ bytes said caused here there. never bytes said caused here there;
+    other_apart = λ bytes said caused here there. never bytes said caused here there;
+  }
+    where
+      never : (bytes : List ℕ) (said : Status) → IsCaused ⊥ said → (fetches (Some files) name limit).goes bytes
+          → (fetches (Some files) name limit).stops said → ⊥
+      never bytes said caused here there =
+          let found = longer said caused there in
+          let same : here.0 ≡ found.0 = same-file here.0 found.0 (sym here.1 ∙ found.1) in
+          omega (arith, here.2, found.2, ap length same)

@@ -1,0 +1,202 @@
+-- The files of the fragments that a set uses, opened one after the other.
+use Rattle.std.proofs.Common.{◌≡◌, ◌≢◌, ◌↔◌, ◌<◌, ◌≤◌, ◌+◌, ◌==◌, ℕ, suc, true, false, cond, List, [], ◌∷◌, ◌++◌, take, drop, length, get_or, drop-cons, add-one, Contains, slice_get, Option, Some, None, Result, Ok, Err, refl, sym, ap, subst, ◌∙◌, arith, inl, inr}
+use Rattle.std.proofs.lemmas.Bool.Decides.{nat_tests}
+use Rattle.std.specs.Prelude.{IfSome}
+use Rattle.std.specs.List.{AllPairs}
+use Rattle.std.specs.Result.{IsErrAnd}
+use Rattle.std.proofs.lemmas.List.{get_or_default, take_more, take-append-drop, take_all}
+use Rattle.std.proofs.lemmas.List.Elements.{Contains-append_left, Contains-get_or}
+use Rattle.std.proofs.lemmas.Option.{same_Some}
+use Rattle.esto_catalog.specs.declared.catalogue.Catalogue.{Catalogue}
+use Rattle.esto_catalog.specs.declared.catalogue.Store.{Store}
+use Rattle.esto_course.specs.Course.{Course, Stops, judges, gives, and_then, each}
+use Rattle.esto_course.specs.Course.Stops.{is_free, refused}
+use Rattle.esto_course.proofs.Steps.{Leads, first_stops, then_stops, then_goes, gives_goes, caused_more, each_next, each_stops, each_goes}
+use Rattle.esto_lines.specs.Faults.{Gives}
+use Rattle.esto_ports.specs.Files.{Files}
+use Rattle.esto_ports.specs.declared.file_fault.FileError.{FileError}
+use Rattle.esto_ports.specs.declared.file_fault.FileError.TheVariants.{Fault}
+use Rattle.esto_ports.specs.declared.file_fault.FileFault.{FileFault}
+use Rattle.esto_plan.specs.Rows.{IsRowOf, held_by}
+use Rattle.esto_run.specs.Opened.{Held, AreOpened, AreRowsFor, rows_held}
+use Rattle.esto_run.specs.Stores.{IsFileRow, IsRowIn, first_fault_in}
+use Rattle.esto_semantics.specs.declared.fact.Fact.{Fact}
+use Rattle.esto_stores.specs.Rows.{Row}
+use Rattle.esto_term.proofs.DistinctLemmas.{outside}
+use Rattle.esto_term.proofs.ListLemmas.{thing_at}
+use Rattle.esto_views.specs.declared.fragments.FragmentDef.{FragmentDef}
+use Rattle.esto_opening.specs.Answers.{IsWant, IsCaused, Answers}
+use Rattle.esto_opening.specs.Fetch.{fetches}
+use Rattle.esto_opening.specs.Fragments.{Stored, IsStoredAt, content_fault, reads_content, opens_stored, opens_fragment, no_contents, with_content, opens_next, opens_fragments, Takes, Reads, OpensNext, OpensAll}
+use Rattle.esto_opening.specs.declared.fragments.TheConstants.{FRAGMENT_LIMIT}
+use Rattle.esto_opening.specs.declared.status.Status.{Status}
+use Rattle.esto_opening.specs.declared.status.Status.TheVariants.{BadFragment, OutOfMemory}
+use Rattle.esto_opening.proofs.Steps.{caused_weaker, later_stops}
+
+-- ---- the content of one file
+
+module _ (catalogue : Catalogue) (number : ℕ) (bytes : List ℕ) (result : Result (Unit {0}) FileError) where
+  abbrev pub GivesAt : Type 0
+  GivesAt = IfSome (slice_get catalogue.fragments number) (λ fragment. IfSome (slice_get catalogue.stores number) (λ store.
+      Gives tt (first_fault_in store.shape (length fragment.view.head) bytes) result))
+
+  -- what is said of the fragment and the store at the number is said of them
+  pub gives_stored : (stored : Stored) → IsStoredAt catalogue number stored → GivesAt → Gives tt (content_fault stored bytes) result
+  gives_stored stored at gives =
+      subst (λ (it : Option Store). IfSome it (λ store. Gives tt (first_fault_in store.shape (length stored.definition.view.head) bytes) result)) at.store
+      (subst (λ it. IfSome it (λ fragment. IfSome (slice_get catalogue.stores number) (λ store.
+      Gives tt (first_fault_in store.shape (length fragment.view.head) bytes) result))) at.definition gives)
+
+-- the error that was given is the first fault
+pub fault_given : (stored : Stored) (bytes same : List ℕ) (error : FileError) (fault : FileFault) → same ≡ bytes → error ≡ Fault fault
+    → Gives {A = Unit {0}} tt (content_fault stored same) (Err error) → content_fault stored bytes ≡ Some fault
+fault_given stored bytes same error fault is error_is gives =
+    subst (λ (it : List ℕ). content_fault stored it ≡ Some fault) is
+    (subst (λ (it : FileError). Gives {A = Unit {0}} tt (content_fault stored same) (Err it)) error_is gives)
+
+pub content_goes : (stored : Stored) (bytes : List ℕ) → content_fault stored bytes ≡ None → (reads_content stored bytes).goes tt
+unfolding judges
+content_goes stored bytes none = none
+
+pub content_stops : (stored : Stored) (bytes name : List ℕ) (fault : FileFault) → content_fault stored bytes ≡ Some fault → name ≡ stored.definition.name
+    → Stops IsWant (IsCaused ⊥) (reads_content stored bytes) (BadFragment name fault)
+unfolding judges
+content_stops stored bytes name fault found is = refused (record { cause = tt }) (fault, found, ap (λ it. BadFragment it fault) is)
+
+-- the name of the fragment at the number
+pub same_name : (catalogue : Catalogue) (number : ℕ) (stored : Stored) → IsStoredAt catalogue number stored → (own : FragmentDef)
+    → slice_get catalogue.fragments number ≡ Some own → own.name ≡ stored.definition.name
+same_name catalogue number stored at own is = ap (λ (it : FragmentDef). it.name) (same_Some own stored.definition (sym is ∙ at.definition))
+
+-- there is a fragment at the number, with the store
+pub stored_at : (catalogue : Catalogue) (number : ℕ) (store : Store) → number < length catalogue.fragments → slice_get catalogue.stores number ≡ Some store
+    → (definition : FragmentDef) × IsStoredAt catalogue number (record { definition = definition; store = store })
+stored_at catalogue number store below is =
+    let found = thing_at catalogue.fragments number below in (found.0, record { definition = found.1; store = is })
+
+-- ---- one file
+
+module _ (files : Option Files) (catalogue : Catalogue) (number : ℕ) (stored : Stored) (at : IsStoredAt catalogue number stored) where
+  found_goes : (bytes : List ℕ) → (opens_stored files stored).goes bytes → (opens_fragment files catalogue number).goes bytes
+  unfolding judges
+  found_goes bytes goes = then_goes (judges (IsStoredAt catalogue number) (λ _. ⊥)) (opens_stored files) stored bytes at goes
+
+  found_stops : {rose : Type 0} {refusal : Status} → Stops IsWant (IsCaused rose) (opens_stored files stored) refusal
+      → Stops IsWant (IsCaused rose) (opens_fragment files catalogue number) refusal
+  unfolding judges
+  found_stops stops = then_stops (judges (IsStoredAt catalogue number) (λ _. ⊥)) (opens_stored files) stored at stops
+
+  -- the file is not fetched
+  pub fetch_stops : {rose : Type 0} {refusal : Status} → Stops IsWant (IsCaused rose) (fetches files stored.store.file FRAGMENT_LIMIT) refusal
+      → Stops IsWant (IsCaused rose) (opens_fragment files catalogue number) refusal
+  fetch_stops stops = found_stops (first_stops _ _ stops)
+
+  -- an error that `?` hands on
+  pub next_exit : {rose : Type 0} (old new : List (List Row)) (error : Status) (result : Result (Unit {0}) Status)
+      → IsErrAnd result (λ handed. handed ≡ error) → Stops IsWant (IsCaused rose) (fetches files stored.store.file FRAGMENT_LIMIT) error
+      → OpensNext files catalogue number old new rose result
+  next_exit old new error (Ok _) handed stops = absurd handed
+  next_exit old new error (Err handed_on) handed stops = rw handed (fetch_stops stops)
+
+  module _ (bytes : List ℕ) (fetched : (fetches files stored.store.file FRAGMENT_LIMIT).goes bytes) where
+    -- it is fetched and its content read
+    pub opens_next_by : (old new : List (List Row)) (rose : Type 0) (result : Result (Unit {0}) Status) → Reads catalogue number stored bytes old new result
+        → OpensNext files catalogue number old new rose result
+    opens_next_by old new rose (Ok _) (good, taken) =
+        (bytes, found_goes bytes (then_goes _ _ bytes bytes fetched (then_goes _ _ tt bytes good (gives_goes Status bytes bytes refl))), taken)
+    opens_next_by old new rose (Err refusal) stops =
+        found_stops (then_stops _ _ bytes fetched (first_stops _ _ (caused_more _ refusal (caused_weaker (λ none. absurd none)) stops)))
+
+-- ---- all files
+
+-- a further content leaves what was opened before
+still_opened : (stores : List Store) (contents : ℕ → List ℕ) (numbers : List ℕ) (opened : List (List Row)) (number : ℕ) (bytes : List ℕ)
+    → ¬ (Contains numbers number) → AreOpened stores contents numbers opened → AreOpened stores (with_content contents number bytes) numbers opened
+still_opened stores contents numbers opened number bytes absent are fact inside =
+    let same : with_content contents number bytes fact.relation ≡ contents fact.relation = elsewhere fact.relation
+    (λ is. absent (subst (Contains numbers) is inside)) in
+    subst (λ (it : List ℕ). IsRowOf (held_by opened) fact
+    ↔ ((store : Store) × (slice_get stores fact.relation ≡ Some store) × IsRowIn store.shape it fact.terms))
+    (sym same) (are fact inside)
+  where
+    elsewhere : (other : ℕ) → other ≢ number → with_content contents number bytes other ≡ contents other
+    elsewhere other apart = let test : (other == number) ≡ false = grind (arith, nat_tests) in rw test refl
+
+content_there : (contents : ℕ → List ℕ) (number : ℕ) (bytes : List ℕ) → with_content contents number bytes number ≡ bytes
+content_there contents number bytes = let test : (number == number) ≡ true = grind (arith, nat_tests) in rw test refl
+
+-- after the files of the first numbers, so many: the contents of these, with which the course goes on, and their rows
+pub record SoFar (files : Option Files) (catalogue : Catalogue) (numbers : List ℕ) (index : ℕ) (opened : List (List Row)) : Type 0 where
+  pub counter : ℕ
+  pub contents : ℕ → List ℕ
+  pub leads : Leads (each (opens_next files catalogue) counter contents (drop index numbers)) (opens_fragments files catalogue numbers)
+  pub are : AreOpened catalogue.stores contents (take index numbers) opened
+
+module _ (files : Option Files) (catalogue : Catalogue) (numbers : List ℕ) where
+  pub opening_starts : (opened : List (List Row)) → AreOpened catalogue.stores no_contents [] opened → SoFar files catalogue numbers 0 opened
+  opening_starts opened are = record {
+    counter = 0;
+    contents = no_contents;
+    leads = record { goes = λ value goes. goes; stops = λ refusal stops. stops };
+    are = are;
+  }
+
+  module _ (index : ℕ) (opened : List (List Row)) (so_far : SoFar files catalogue numbers index opened) where
+    module _ (number : ℕ) (below : index < length numbers) (is : number ≡ get_or numbers index number) where
+      -- one file more
+      pub opening_goes : (next : List (List Row)) (bytes : List ℕ) → AllPairs ◌≢◌ numbers → (opens_fragment files catalogue number).goes bytes
+          → Takes catalogue number bytes opened next → SoFar files catalogue numbers (index + 1) next
+      opening_goes next bytes distinct goes takes = record {
+        counter = suc so_far.counter;
+        contents = with_content so_far.contents number bytes;
+        leads = each_next (opens_next files catalogue) numbers (opens_fragments files catalogue numbers) so_far.counter index so_far.contents so_far.leads
+            number below is (with_content so_far.contents number bytes)
+            (then_goes (opens_fragment files catalogue number) (λ it. gives (with_content so_far.contents number it)) bytes
+            (with_content so_far.contents number bytes) goes (gives_goes Status _ _ refl));
+        are = subst (λ (it : List ℕ). AreOpened catalogue.stores (with_content so_far.contents number bytes) it next) (sym taken)
+            (takes (with_content so_far.contents number bytes) (take index numbers) (content_there so_far.contents number bytes)
+            (still_opened catalogue.stores so_far.contents (take index numbers) opened number bytes absent so_far.are));
+      }
+        where
+          taken : take (index + 1) numbers ≡ take index numbers ++ number ∷ []
+          taken = take_more numbers index number below ∙ ap (λ (it : ℕ). take index numbers ++ it ∷ []) (sym is)
+
+          left : drop index numbers ≡ number ∷ drop (index + 1) numbers
+          left = rw (drop-cons numbers index number, add-one) (ap (λ (first : ℕ). first ∷ drop (suc index) numbers) (sym is))
+
+          absent : ¬ (Contains (take index numbers) number)
+          absent inside = outside (take index numbers) (drop (index + 1) numbers) number
+              (subst (AllPairs ◌≢◌) (sym (take-append-drop index numbers) ∙ ap (λ (it : List ℕ). take index numbers ++ it) left) distinct)
+              (Contains-append_left (take index numbers) (drop (index + 1) numbers) number inside)
+
+      -- the file is not opened
+      pub opening_stops : {rose : Type 0} {refusal : Status} → Stops IsWant (IsCaused rose) (opens_fragment files catalogue number) refusal
+          → Stops IsWant (IsCaused rose) (opens_fragments files catalogue numbers) refusal
+      opening_stops stops = each_stops (opens_next files catalogue) numbers (opens_fragments files catalogue numbers) so_far.counter index so_far.contents
+          so_far.leads number below is (first_stops _ _ stops)
+
+  -- no file is left
+  pub opening_ends : (index : ℕ) (opened : List Held) → SoFar files catalogue numbers index (rows_held opened) → length numbers ≤ index
+      → AreRowsFor catalogue.fragments opened → (rose : Type 0) → OpensAll files catalogue numbers rose (Ok opened)
+  opening_ends index opened so_far le rows rose = (
+    so_far.contents,
+    each_goes (opens_next files catalogue) numbers (opens_fragments files catalogue numbers) so_far.counter index so_far.contents so_far.leads le,
+    subst (λ (it : List ℕ). AreOpened catalogue.stores so_far.contents it (rows_held opened)) (take_all index numbers le) so_far.are,
+    rows,
+  )
+
+-- the number at a place of the list, as it is read off a slice of it
+pub number_inside : (numbers items : List ℕ) (index : ℕ) → items ≡ numbers → index < length items → Contains numbers (get_or items index 0)
+number_inside numbers items index is below = subst (λ (it : List ℕ). Contains it (get_or items index 0)) is (Contains-get_or items index 0 below)
+
+pub number_read : (numbers items : List ℕ) (index : ℕ) → items ≡ numbers → index < length items
+    → get_or items index 0 ≡ get_or numbers index (get_or items index 0)
+number_read numbers items index is below =
+    get_or_default items index 0 (get_or items index 0) below ∙ ap (λ (it : List ℕ). get_or it index (get_or items index 0)) is
+
+-- the error of one file that `?` hands on
+pub opening_exit : {rose : Type 0} (files : Option Files) (catalogue : Catalogue) (numbers : List ℕ) (error : Status) (result : Result (List Held) Status)
+    → IsErrAnd result (λ handed. handed ≡ error) → Stops IsWant (IsCaused rose) (opens_fragments files catalogue numbers) error
+    → OpensAll files catalogue numbers rose result
+opening_exit files catalogue numbers error (Ok _) handed stops = absurd handed
+opening_exit files catalogue numbers error (Err handed_on) handed stops = rw handed stops

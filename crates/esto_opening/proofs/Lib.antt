@@ -1,0 +1,5 @@
+pub mod Steps
+pub mod OpeningLemmas
+pub mod FragmentLemmas
+pub mod LeadLemmas
+pub mod AgreeLemmas

@@ -1,0 +1,29 @@
+-- The fetch of a file, as a step.
+use Rattle.std.specs.Prelude.{◌≡◌, ℕ, ◌<◌, ◌≤◌, List, length, drop, nat_eq, if◌then◌else◌, Option, Some}
+use Rattle.std.specs.FinMap.{get}
+use Rattle.std.specs.List.{starts_with}
+use Rattle.esto_ports.specs.Files.{Files, Holds}
+use Rattle.esto_course.specs.Course.{Course}
+use Rattle.esto_opening.specs.declared.status.Status.{Status}
+use Rattle.esto_opening.specs.declared.status.Status.TheVariants.{ReadFault, TooLong}
+use Rattle.esto_catalog.specs.declared.columns.TheConstants.{MARK}
+
+-- The bytes after the one byte-order mark with which they may begin.
+abbrev pub without_mark : List ℕ → List ℕ
+without_mark bytes = if starts_with nat_eq bytes MARK then drop (length MARK) bytes else bytes
+
+-- The fetch is at a fault, whose cause is asked for where the status is said; or the file is longer than the limit.
+pub data FetchStops (files : Option Files) (name : List ℕ) (limit : ℕ) (status : Status) : Type 0 where
+  fails : status ≡ ReadFault name → FetchStops files name limit status
+  is_longer : (file : List ℕ) → Holds files name file → limit < length file → status ≡ TooLong name limit → FetchStops files name limit status
+
+-- It goes on with the file's bytes after one leading byte-order mark. The limit counts the file as it is.
+unfoldable pub fetches : Option Files → List ℕ → ℕ → Course Status (List ℕ)
+fetches files name limit = record {
+  goes = λ bytes. (file : List ℕ) × Holds files name file × (length file ≤ limit) × (bytes ≡ without_mark file);
+  stops = λ status. FetchStops files name limit status;
+}
+
+-- The file of that name has at most so many bytes, and these after one leading mark.
+abbrev pub HasWithin : Files → List ℕ → ℕ → List ℕ → Type 0
+HasWithin files name limit bytes = (file : List ℕ) × (get files name ≡ Some file) × (length file ≤ limit) × (bytes ≡ without_mark file)

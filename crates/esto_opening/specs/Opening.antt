@@ -1,0 +1,43 @@
+-- The catalogue and the query of a command, as steps: each file is fetched, and then read.
+use Rattle.std.specs.Prelude.{◌≡◌, ℕ, List, Option}
+use Rattle.esto_catalog.specs.Reading.{IsCatalogueOf, IsCatalogueError}
+use Rattle.esto_catalog.specs.declared.catalogue.Catalogue.{Catalogue}
+use Rattle.esto_catalog.specs.declared.fault.CatalogueError.{CatalogueError}
+use Rattle.esto_catalog.specs.declared.fault.CatalogueError.TheVariants as error
+use Rattle.esto_ports.specs.Files.{Files}
+use Rattle.esto_query.specs.Schemas.{arities_of}
+use Rattle.esto_query.specs.declared.query.Query.{Query}
+use Rattle.esto_read.specs.Readings.{IsReading, IsFirstFault}
+use Rattle.esto_read.specs.declared.read.Form.TheVariants as form
+use Rattle.esto_read.specs.declared.read.NamedQuery.{NamedQuery}
+use Rattle.esto_text.specs.declared.fault.TextFault.{TextFault}
+use Rattle.esto_course.specs.Course.{Course, judges, and_then}
+use Rattle.esto_opening.specs.Fetch.{fetches}
+use Rattle.esto_opening.specs.declared.status.Status.{Status}
+use Rattle.esto_opening.specs.declared.status.Status.TheVariants as status
+use Rattle.esto_opening.specs.declared.opening.TheConstants.{CATALOGUE_LIMIT, QUERY_LIMIT}
+
+-- The status of why a catalogue is not read.
+abbrev pub status_of : CatalogueError → Status
+status_of (error.Fault fault) = status.BadCatalogue fault
+status_of (error.NotAcyclic cycle) = status.NotAcyclic cycle
+status_of error.OutOfMemory = status.OutOfMemory
+
+-- The bytes say a catalogue, or there is a cause for which they say none.
+abbrev pub reads_catalogue : List ℕ → Course Status Catalogue
+reads_catalogue bytes =
+    judges (IsCatalogueOf bytes) (λ refusal. (cause : CatalogueError) × IsCatalogueError bytes cause × (refusal ≡ status_of cause))
+
+-- The catalogue of a file that is no longer than a catalogue may be.
+abbrev pub opens_catalogue : Option Files → List ℕ → Course Status Catalogue
+opens_catalogue files name = and_then (fetches files name CATALOGUE_LIMIT) reads_catalogue
+
+-- The bytes are the text of a query over the catalogue's words, or the text has a first fault.
+abbrev pub reads_query : Catalogue → List ℕ → Course Status Query
+reads_query catalogue bytes =
+    judges (λ query. (named : NamedQuery) × IsReading form.Query catalogue.words (arities_of catalogue.schema) bytes named × (query ≡ named.query))
+    (λ refusal. (fault : TextFault) × IsFirstFault form.Query catalogue.words (arities_of catalogue.schema) bytes fault × (refusal ≡ status.BadQuery fault))
+
+-- The query of a file that is no longer than a query may be.
+abbrev pub opens_query : Option Files → List ℕ → Catalogue → Course Status Query
+opens_query files name catalogue = and_then (fetches files name QUERY_LIMIT) (reads_query catalogue)

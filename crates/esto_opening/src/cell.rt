@@ -1,0 +1,31 @@
+//! One cell of a CSV record.
+ghost use Rattle.std.specs.Prelude.{◌≡◌, ◌++◌, ◌∷◌, [], IfOk};
+ghost use Rattle.csv.specs.Writing.{default_writer, row_text};
+ghost use Rattle.esto_opening.specs.Line.{cell_of};
+
+use csv::WriterBuilder;
+use esto_term::{Bytes, OutOfMemory};
+use std::alloc::Global;
+
+// The record of this one cell, with the line feed that ends it.
+fn record_text(alloc: Global, cell: &[u8]) -> Result<Vec<u8>, OutOfMemory>
+    ensures { IfOk result (λ text. text.items ≡ row_text default_writer (cell.now ∷ [])) }
+{
+    let mut writer = WriterBuilder::new().from_writer(Vec::new(alloc));
+    if writer.write_fields(&[cell]).is_err() {
+        return Err(OutOfMemory);
+    }
+    match writer.into_inner() {
+        Ok(text) => Ok(text),
+        Err(_) => Err(OutOfMemory),
+    }
+}
+
+/// The cell as a record of one cell has it, without the line feed.
+pub fn cell_text(alloc: Global, cell: &[u8]) -> Result<Bytes, OutOfMemory>
+    ensures { IfOk result (λ text. text ≡ cell_of cell.now) }
+{
+    let text = record_text(alloc, cell)?;
+    let without_end = text.len().saturating_sub(1);
+    Bytes::from_slice(alloc, &text[..without_end])
+}

@@ -1,0 +1,19 @@
+//! What all commands share: how a command line may end and the line that says so, the fetch of a file, and the opening of
+//! the catalogue, of the query and of the files of fragments, as steps of a command's course.
+#![tactic(auto)]
+
+mod cell;
+mod fetch;
+mod fragments;
+mod line;
+mod opening;
+mod reply;
+mod status;
+
+pub use cell::cell_text;
+pub use fetch::fetch;
+pub use fragments::{FRAGMENT_LIMIT, open_fragments};
+pub use line::status_line;
+pub use opening::{CATALOGUE_LIMIT, QUERY_LIMIT, open_catalogue, open_query};
+pub use reply::Reply;
+pub use status::Status;

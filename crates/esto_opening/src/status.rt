@@ -1,0 +1,76 @@
+//! How a command line ended.
+ghost use Rattle.std.specs.Prelude.{◌≡◌};
+ghost use Rattle.esto_opening.specs.Line.{code_of};
+ghost use Rattle.esto_opening.specs.declared.status.Status.TheVariants as status;
+
+use esto_acyclic::Cycle;
+use esto_catalog::CatalogueFault;
+use esto_chase::Clash;
+use esto_ports::FileFault;
+use esto_term::{OutOfMemory, Text};
+use esto_text::TextFault;
+
+/// How a command line ended.
+#[derive(Debug, Drop)]
+pub enum Status {
+    /// The command's text was put.
+    Done,
+    /// Memory was refused, and nothing was put.
+    OutOfMemory,
+    /// The words are outside the grammar of the command line.
+    Usage,
+    /// The file of this name could not be read: the shelf was at a fault, which it counted.
+    ReadFault(Text),
+    /// The text could not be put: the sink was at a fault, which it counted.
+    WriteFault,
+    /// The file of this name is longer than this limit, in bytes.
+    TooLong(Text, u64),
+    /// The catalogue has this first fault.
+    BadCatalogue(CatalogueFault),
+    /// The query's text has this first fault.
+    BadQuery(TextFault),
+    /// By the catalogue's constraints a relation leads back to itself, along this cycle.
+    NotAcyclic(Cycle),
+    /// The content of the file of the fragment of this name has this first fault.
+    BadFragment(Text, FileFault),
+    /// No database that meets the catalogue's rules gives the query an answer: its chase ends with this clash.
+    Unsatisfiable(Clash),
+    /// No executable query over the fragments is equivalent to the query, so no set is listed.
+    NoRewriting,
+    /// The first number was asked for, counted from 1, and so many sets are listed, which are fewer.
+    NoSuchNumber(u64, u64),
+    /// The command is not built yet.
+    NotBuilt,
+}
+
+impl From<OutOfMemory> for Status {
+    ghost from_gives = { λ _ s. s ≡ status.OutOfMemory };
+
+    fn from(_: OutOfMemory) -> Status {
+        Status::OutOfMemory
+    }
+}
+
+impl Status {
+    /// The status of the process.
+    pub fn code(&self) -> u8
+        ensures { result ≡ code_of self.now }
+    {
+        match self {
+            Status::Done => 0,
+            Status::OutOfMemory => 1,
+            Status::Usage => 2,
+            Status::ReadFault(_) => 3,
+            Status::WriteFault => 4,
+            Status::TooLong(_, _) => 5,
+            Status::BadCatalogue(_) => 6,
+            Status::BadQuery(_) => 7,
+            Status::NotAcyclic(_) => 8,
+            Status::BadFragment(_, _) => 9,
+            Status::Unsatisfiable(_) => 10,
+            Status::NoRewriting => 11,
+            Status::NoSuchNumber(_, _) => 12,
+            Status::NotBuilt => 18,
+        }
+    }
+}
