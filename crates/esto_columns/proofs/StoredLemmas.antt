@@ -149,7 +149,8 @@ holds_key inputs columns codes row is_columns are_codes holds =
         let rest = all own (λ input inside. each input (Contains-rest first own input inside)) in λ i. here i ∷ rest i
 
 -- the places of an index are those of rows, and the rows there that hold all inputs are all that do
-module _ (rows : List (List ℕ)) (columns key places given : List ℕ) (among : AreAmongPlaces key (map (key_at columns) rows) places) (same : given ≡ places) where
+module _ (rows : List (List ℕ)) (columns key places given : List ℕ) (among : AreAmongPlaces key (map (key_at columns) rows) places)
+    (same : given ≡ places) where
   pub among_within : (inputs : List Input) (place : ℕ) → Contains given place → place < length rows
   among_within inputs place inside =
       found_within among.0 (key_at columns) rows inputs (map (key_at columns) rows) given refl (same ∙ among.2) place inside

@@ -10,9 +10,9 @@ use std::marker::Model;
 /// By what a hash is multiplied before a code is added to it.
 const FACTOR: u64 = 0x9E37_79B9_7F4A_7C15;
 
-/// An index of a list of keys, which are rows of codes: one key for each place, counted from 0. The places of each bucket
-/// of keys are a chain, from the last one to the first. A place stands here as one more than it is, and 0 ends a chain.
-/// `last` has for each bucket its last place, and `before` for each place the one before it.
+/// An index of a list of keys, which are rows of codes: one key for each place, counted from 0. The places of each
+/// bucket of keys are a chain, from the last one to the first. A place stands here as one more than it is, and 0 ends a
+/// chain. `last` has for each bucket its last place, and `before` for each place the one before it.
 #[derive(Drop)]
 pub struct Index {
     last: Places,

@@ -126,8 +126,8 @@ impl Rows {
         self.indexes.push(RowIndex { columns, index })
     }
 
-    /// Places of rows in rising order, among which are all that hold the codes of the key in the columns. `None` may come
-    /// where the rows have no index by these columns, in this order.
+    /// Places of rows in rising order, among which are all that hold the codes of the key in the columns. `None` may
+    /// come where the rows have no index by these columns, in this order.
     pub fn places(
         &self,
         alloc: Global,

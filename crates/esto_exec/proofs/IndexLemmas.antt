@@ -21,7 +21,8 @@ pub finds_more : (columns : List Source) (rows : List (List ℕ)) (count : ℕ) 
     → ((codes : List ℕ) → NamesCodes given columns codes → codes ≡ key) → own ≡ key → FindsRows (take count rows) columns index
     → ((keys : List (List ℕ)) → IsIndexOf index keys → IsIndexOf new (keys ++ own ∷ [])) → FindsRows (take (count + 1) rows) columns new
 finds_more columns rows count row given key own index new below is same named own_is (keys, before, are) added =
-    let more : take (count + 1) rows ≡ take count rows ++ row ∷ [] = take_more rows count row below ∙ ap (λ it. take count rows ++ it ∷ []) (get_or_from_slice_get rows count row row is) in (
+    let more : take (count + 1) rows ≡ take count rows ++ row ∷ [] =
+    take_more rows count row below ∙ ap (λ it. take count rows ++ it ∷ []) (get_or_from_slice_get rows count row row is) in (
       keys ++ own ∷ [],
       added keys before,
       record {
@@ -122,7 +123,8 @@ followers_found get cells rows old new sources columns index key named names (ke
         let at = place-from_Contains rows row among in let codes = names row follows in
         inr (
           at.0,
-          map_at (bucket_of (length index.last)) keys at.0 key (of.named at.0 row key at.1 (subst (NamesCodes row columns) (one_key cells sources codes.0 key codes.1 named) codes.2)),
+          map_at (bucket_of (length index.last)) keys at.0 key
+              (of.named at.0 row key at.1 (subst (NamesCodes row columns) (one_key cells sources codes.0 key codes.1 named) codes.2)),
           (row, at.1, follows, is),
         )
   ])),

@@ -40,7 +40,9 @@ returns-clause-arity g c = on_ok_weaker c.push_rows.result (λ grown. ap (λ (it
 
 pub returns-clause-kept : goal.returns-clause-kept
 returns-clause-kept g c =
-    on_ok_weaker c.push_rows.result (λ grown. ask_kept c.args.asked.now.rows c.push_rows.new.into.rows c.in_ok-rows.rows.rows (ap (λ (it : CodedRows). it.rows) grown)) c.push_rows.ensures
+    on_ok_weaker c.push_rows.result
+    (λ grown. ask_kept c.args.asked.now.rows c.push_rows.new.into.rows c.in_ok-rows.rows.rows (ap (λ (it : CodedRows). it.rows) grown))
+    c.push_rows.ensures
 
 pub returns-clause-sound : goal.returns-clause-sound
 returns-clause-sound g c =

@@ -27,7 +27,8 @@ push_joined-requires-clause-found c = (
   c.in_ok-columns.columns,
   c.in_ok-index.ensures,
   early_names c.args.get.now c.arity-width.result c.in_ok-links.links c.in_ok-sources.sources c.in_ok-columns.columns c.items.result.now
-      (let long = row_long c.args.so_far.now c.rows.at c.in_ok-cells.cells c.items.result.now c.in_ok-cells.ensures c.items.ensures c.arity-width.ensures.fits in
+      (let long = row_long c.args.so_far.now c.rows.at c.in_ok-cells.cells c.items.result.now c.in_ok-cells.ensures c.items.ensures
+      c.arity-width.ensures.fits in
       let width = c.arity-width.ensures.value in omega (arith, long, width))
       c.in_ok-links.ensures c.in_ok-sources.ensures c.in_ok-columns.ensures,
 )
