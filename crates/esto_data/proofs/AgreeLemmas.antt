@@ -18,6 +18,7 @@ use Rattle.esto_fill.specs.Texts.{AreTextsOf, AreTextViews, IsFirstNodeColumn, I
 use Rattle.esto_fill.specs.declared.auditing.Difference.{Difference}
 use Rattle.esto_fill.specs.declared.filled.FillError.{FillError}
 use Rattle.esto_fill.specs.declared.filled.FillError.TheVariants as filled
+use Rattle.esto_fill.specs.declared.rows.AnswerError.{AnswerError}
 use Rattle.esto_fill.specs.declared.rows.AnswerError.TheVariants as answer
 use Rattle.esto_ports.specs.Files.{Files}
 use Rattle.esto_query.specs.Making.{query_of}
@@ -66,16 +67,23 @@ pub record DataLaws : Type 0 where
 
 -- ---- results
 
-ok_same : {A E : Type 0} (value other : A) → Ok {E = E} value ≡ Ok other → value ≡ other
+-- a result that is a value, and one that is an error
+abbrev good : (A E : Type 0) → A → Result A E
+good A E value = Ok value
+
+abbrev bad : (A E : Type 0) → E → Result A E
+bad A E error = Err error
+
+ok_same : {A E : Type 0} (value other : A) → good A E value ≡ good A E other → value ≡ other
 ok_same value other same = cc
 
-err_same : {A E : Type 0} (error other : E) → Err {T = A} error ≡ Err other → error ≡ other
+err_same : {A E : Type 0} (error other : E) → bad A E error ≡ bad A E other → error ≡ other
 err_same error other same = cc
 
-pub ok_not_err : {A E : Type 0} (value : A) (error : E) → Ok value ≡ Err error → ⊥
+pub ok_not_err : {A E : Type 0} (value : A) (error : E) → good A E value ≡ bad A E error → ⊥
 ok_not_err value error same = cc
 
-node_not_want : (A : Type 0) (column : ℕ) → Err {T = A} (answer.NodeInRow column) ≢ Err answer.OutOfMemory
+node_not_want : (A : Type 0) (column : ℕ) → bad A AnswerError (answer.NodeInRow column) ≢ bad A AnswerError answer.OutOfMemory
 node_not_want A column same = cc
 
 same_column : (column other : ℕ) → answer.NodeInRow column ≡ answer.NodeInRow other → column ≡ other
@@ -150,7 +158,7 @@ module _ (laws : DataLaws) where
       there : IsStoredAt other number other_stored
 
     module _ (number : ℕ) (stored other_stored : Stored) (are : BothStored number stored other_stored) where
-      no_want : (said : Status) (cause : FillError) → IsCaused ⊥ said → said ≡ fill_status cause → Err {T = List ℕ} cause ≢ Err filled.OutOfMemory
+      no_want : (said : Status) (cause : FillError) → IsCaused ⊥ said → said ≡ fill_status cause → bad (List ℕ) FillError cause ≢ bad (List ℕ) FillError filled.OutOfMemory
       no_want said cause caused is wanting = never_wanting ⊥ said (is ∙ ap fill_status (err_same cause filled.OutOfMemory wanting)) caused
 
       -- the file is filled in one way in both

@@ -55,9 +55,9 @@ entries_apart numbers entries is rising i j d less within same =
     let within_numbers : j < length numbers = omega (arith, within, length-map entries (λ (entry : DatasetBytes). entry.dataset), ap length is) in
     let below = rising i j d.dataset less within_numbers in
     let first : get_or numbers i d.dataset ≡ (get_or entries i d).dataset =
-    ap (λ (it : List ℕ). get_or it i d.dataset) (sym is) ∙ get_or-map (λ (entry : DatasetBytes). entry.dataset) entries i d in
+    ap (λ (it : List ℕ). get_or it i d.dataset) (sym is) ∙ get_or-map (λ (entry : DatasetBytes). entry.dataset) entries i d d.dataset (omega (arith, less, within)) in
     let second : get_or numbers j d.dataset ≡ (get_or entries j d).dataset =
-    ap (λ (it : List ℕ). get_or it j d.dataset) (sym is) ∙ get_or-map (λ (entry : DatasetBytes). entry.dataset) entries j d in
+    ap (λ (it : List ℕ). get_or it j d.dataset) (sym is) ∙ get_or-map (λ (entry : DatasetBytes). entry.dataset) entries j d d.dataset within in
     omega (arith, below, first, second, same)
 
 module _ (files : Files) (datasets : List Dataset) where
@@ -106,7 +106,7 @@ module _ (files : Files) (datasets : List Dataset) where
       covers : (atom : Fact Term) (file : DatasetBytes) → Contains query.body atom → Contains all.entries file
           → HasRelation datasets file.dataset atom.relation → Contains own.entries file
       covers atom file inside there (dataset, place, at, less, is) =
-          let needs : Names query.body dataset = (atom, inside, omega (arith, is), omega (arith, is, less)) in
+          let needs : Names query.body dataset = (atom, inside, (omega (arith, is), omega (arith, is, less))) in
           let entry = entry_of own.numbers own.entries own.opened file.dataset ((own.needed.exact file.dataset).1 (dataset, at, needs)) in
           subst (Contains own.entries)
           (one_entry entry.0 file entry.2 (own.opened.opened entry.0 entry.1) (all.opened.opened file there)) entry.1
@@ -128,7 +128,7 @@ have_files : (files : Option Files) (datasets : List Dataset) (facts : List (Fac
 unfolding and_then judges
 have_files files datasets facts (numbers, needed, (given, have, more)) number dataset at =
     let source = sources_there datasets 0 numbers have number ((needed.exact number).1 (dataset, at, tt)) in
-    subst (λ (it : Dataset). IsSome it.file) (same_Some source.0.dataset dataset (sym source.1.there ∙ at)) (subst IsSome (sym source.1.file_is) tt)
+    subst (λ (it : Dataset). IsSome it.file) (same_Some source.0.dataset dataset (sym source.1.there ∙ at)) (subst IsSome (sym source.1.file_is) refl)
 
 -- rows that are the texts of the one are those of the other, where both have the same answers of texts
 texts_over : (query : ConjunctiveQuery) (facts some : List (Fact Term))

@@ -47,9 +47,14 @@ unfolding judges
 data_stops dataset bytes name fault found is = refused (record { cause = tt }) (fault, found, ap (λ it. BadDataset it fault) is)
 
 -- the error that was given is the first fault
-pub fault_found : {A : Type 0} (dataset : Dataset) (bytes : List ℕ) (error : FileError) (fault : FileFault) → error ≡ Fault fault
+pub fault_found : (A : Type 0) (dataset : Dataset) (bytes : List ℕ) (error : FileError) (fault : FileFault) → error ≡ Fault fault
     → FindsFault {A = A} (dataset_fault dataset bytes) (Err error) → dataset_fault dataset bytes ≡ Some fault
-fault_found {A} dataset bytes error fault is found = subst (λ (it : FileError). FindsFault {A = A} (dataset_fault dataset bytes) (Err it)) is found
+fault_found A dataset bytes error fault is found = subst (λ (it : FileError). FindsFault {A = A} (dataset_fault dataset bytes) (Err it)) is found
+
+-- the name of the dataset at the number
+pub own_name : (datasets : List Dataset) (number : ℕ) (dataset own : Dataset) → slice_get datasets number ≡ Some dataset
+    → slice_get datasets number ≡ Some own → own.name ≡ dataset.name
+own_name datasets number dataset own at is = ap (λ (it : Dataset). it.name) (same_Some own dataset (sym is ∙ at))
 
 -- ---- one file
 
@@ -179,7 +184,7 @@ file_absent datasets number place dataset name at none is =
 
 source_of : (datasets : List Dataset) (number : ℕ) (dataset : Dataset) → slice_get datasets number ≡ Some dataset → (file : Option (List ℕ))
     → dataset.file ≡ file → IsSome file → (source : Source) × IsSourceAt datasets number source
-source_of datasets number dataset at None is some = absurd some
+source_of datasets number dataset at None is some = absurd (cc)
 source_of datasets number dataset at (Some name) is some = (record { dataset = dataset; file = name }, record { there = at; file_is = is })
 
 -- where each has a file, each number is that of a source
@@ -199,11 +204,11 @@ module _ (files : Option Files) (datasets : List Dataset) (Needs : Dataset → T
   needed_there number inside = let found = (needed.exact number).0 inside in slice_get_within datasets number found.0 found.1
 
   -- a dataset has no file
-  pub demand_exit : {rose : Type 0} (error : Status) (result : Result Loaded Status) → IsErrAnd result (λ handed. handed ≡ error)
+  pub demand_exit : (rose : Type 0) (error : Status) (result : Result Loaded Status) → IsErrAnd result (λ handed. handed ≡ error)
       → Stops IsWant (IsCaused ⊥) (demands_files datasets numbers) error → Loads (loads files datasets Needs) rose result
   unfolding judges
-  demand_exit error (Ok _) handed stops = absurd handed
-  demand_exit error (Err handed_on) handed stops =
+  demand_exit rose error (Ok _) handed stops = absurd handed
+  demand_exit rose error (Err handed_on) handed stops =
       rw handed (then_stops (judges (AreNeeded datasets Needs) (λ _. ⊥)) _ numbers needed
       (first_stops _ _ (caused_more _ error (caused_weaker (λ none. absurd none)) stops)))
 
@@ -220,10 +225,10 @@ module _ (files : Option Files) (datasets : List Dataset) (Needs : Dataset → T
       (then_stops (demands_files datasets numbers) _ tt have (first_stops _ _ stops))
 
 -- want of memory
-pub loads_wanting : {rose : Type 0} (course : Course Status (List (Fact Term))) (result : Result Loaded Status) → IsErrAnd result (λ handed. handed ≡ OutOfMemory)
+pub loads_wanting : (rose : Type 0) (course : Course Status (List (Fact Term))) (result : Result Loaded Status) → IsErrAnd result (λ handed. handed ≡ OutOfMemory)
     → Loads course rose result
-loads_wanting course (Ok _) handed = absurd handed
-loads_wanting course (Err handed_on) handed = is_free handed
+loads_wanting rose course (Ok _) handed = absurd handed
+loads_wanting rose course (Err handed_on) handed = is_free handed
 
 -- ---- which are needed
 

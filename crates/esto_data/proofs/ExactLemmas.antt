@@ -161,7 +161,7 @@ module _ (laws : DataLaws) (files : Files) (catalogue : Catalogue) where
     goes = λ value goes. tt;
     stops = λ said caused stop. elim stop [
       | inl none ↦ absurd none
-      | inr (dataset, at, without, is) ↦ no_data dataset.name said is
+      | inr (dataset, at, (without, is)) ↦ no_data dataset.name said is
     ];
   }
     where

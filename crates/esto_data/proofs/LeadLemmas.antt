@@ -91,7 +91,7 @@ module _ (files : Option Files) (datasets : List Dataset) where
       elim stops [
         | inl at_once ↦ elim at_once [
           | inl none ↦ none
-          | inr (dataset, at, without, is) ↦
+          | inr (dataset, at, (without, is)) ↦
               without (subst (λ (it : Dataset). IsSome it.file) (same_Some here.dataset dataset (sym here.there ∙ at)) here.file)
         ]
         | inr (next, goes, more) ↦ never_demanded rest (suc counter) next (λ other inside. can other (Contains-rest number rest other inside)) said more
@@ -118,7 +118,8 @@ module _ (files : Option Files) (datasets : List Dataset) where
   loads_never Needs can said caused stops = elim stops [
     | inl none ↦ none
     | inr (numbers, needed, more) ↦
-        let each_can = λ (number : ℕ) inside. let found = (needed.exact number).0 inside in can number found.0 found.1 found.2 in
+        let each_can : (number : ℕ) → Contains numbers number → CanOpen files datasets number =
+        (λ number inside. let found = (needed.exact number).0 inside in can number found.0 found.1 found.2) in
         elim more [
           | inl without ↦ never_demanded numbers 0 tt each_can said without
           | inr (given, have, later) ↦ elim later [
@@ -130,7 +131,7 @@ module _ (files : Option Files) (datasets : List Dataset) where
 
 -- ---- readable files
 
-holds-leads : {A : Type 0} (Accepts Fact : A → Type 0) (Refusal : Status → Type 0) → ((value : A) → Accepts value → Fact value)
+pub holds-leads : {A : Type 0} (Accepts Fact : A → Type 0) (Refusal : Status → Type 0) → ((value : A) → Accepts value → Fact value)
     → Leads (judges Accepts (λ _. ⊥)) Fact Refusal
 holds-leads Accepts Fact Refusal more = leads-more _ Accepts Fact Refusal more (judges-leads Accepts (λ _. ⊥) Refusal (λ said caused never. absurd never))
 
@@ -164,7 +165,7 @@ module _ (files : Files) (datasets : List Dataset) where
   can_open number dataset bytes at readable = record {
     dataset = dataset;
     there = at;
-    file = subst IsSome (sym readable.1) tt;
+    file = subst IsSome (sym readable.1) refl;
     never = (readable_opens number dataset bytes at readable).stops;
   }
 

@@ -16,10 +16,11 @@ use Rattle.esto_ports.specs.Files.{Files}
 use Rattle.esto_ports.specs.declared.file_fault.FileError.{FileError}
 use Rattle.esto_ports.specs.declared.file_fault.FileError.TheVariants.{Fault}
 use Rattle.esto_ports.specs.declared.file_fault.FileFault.{FileFault}
-use Rattle.esto_run.specs.Stores.{GivesRows, IsFileRow, IsRowIn}
+use Rattle.esto_run.specs.Stores.{GivesRows, IsFileRow, IsRowIn, first_fault_in}
 use Rattle.esto_semantics.specs.declared.fact.Fact.{Fact}
 use Rattle.esto_stores.specs.Rows.{Row}
 use Rattle.esto_term.proofs.ListLemmas.{Contains-nil, at_pushed, thing_at}
+use Rattle.esto_views.specs.declared.fragments.FragmentDef.{FragmentDef}
 use Rattle.esto_opening.specs.Answers.{IsWant, IsCaused}
 use Rattle.esto_opening.specs.Fetch.{fetches}
 use Rattle.esto_opening.specs.Fragments.{Stored, IsStoredAt, content_fault, reads_content, opens_stored, opens_fragment, no_contents, with_content, opens_next, opens_fragments}
@@ -46,6 +47,35 @@ rows_refused stored bytes name fault found is = refused (record { cause = tt }) 
 pub fault_given : (Has : Row → Type 0) (found : Option FileFault) (error : FileError) (fault : FileFault) → error ≡ Fault fault
     → GivesRows Has found (Err error) → found ≡ Some fault
 fault_given Has found error fault is gives = subst (λ (it : FileError). GivesRows Has found (Err it)) is gives
+
+-- the fragment and the store that were read are those of the number
+module _ (catalogue : Catalogue) (number : ℕ) (stored : Stored) (at : IsStoredAt catalogue number stored) (own : FragmentDef) (its : Store)
+    (there : slice_get catalogue.fragments number ≡ Some own) (store_there : slice_get catalogue.stores number ≡ Some its) (bytes same : List ℕ)
+    (is : same ≡ bytes) where
+  own_is : own ≡ stored.definition
+  own_is = same_Some own stored.definition (sym there ∙ at.definition)
+
+  its_is : its ≡ stored.store
+  its_is = same_Some its stored.store (sym store_there ∙ at.store)
+
+  given_at : (result : Result (List Row) FileError) → GivesRows (IsRowIn its.shape same) (first_fault_in its.shape (length own.view.head) same) result
+      → GivesRows (IsRowIn stored.store.shape bytes) (content_fault stored bytes) result
+  given_at result gives =
+      subst (λ (it : List ℕ). GivesRows (IsRowIn stored.store.shape it) (content_fault stored it) result) is
+      (subst (λ (it : FragmentDef). GivesRows (IsRowIn stored.store.shape same) (first_fault_in stored.store.shape (length it.view.head) same) result) own_is
+      (subst (λ (it : Store). GivesRows (IsRowIn it.shape same) (first_fault_in it.shape (length own.view.head) same) result) its_is gives))
+
+  pub rows_read_at : (rows : List Row) → GivesRows (IsRowIn its.shape same) (first_fault_in its.shape (length own.view.head) same) (Ok rows)
+      → ReadsRows stored bytes (Ok rows)
+  rows_read_at rows gives = rows_read stored bytes rows (given_at (Ok rows) gives)
+
+  pub rows_refused_at : (error : FileError) (fault : FileFault) → error ≡ Fault fault
+      → GivesRows (IsRowIn its.shape same) (first_fault_in its.shape (length own.view.head) same) (Err error) → (name : List ℕ) → name ≡ own.name
+      → ReadsRows stored bytes (Err (BadFragment name fault))
+  rows_refused_at error fault error_is gives name name_is =
+      rows_refused stored bytes name fault
+      (fault_given (IsRowIn stored.store.shape bytes) (content_fault stored bytes) error fault error_is (given_at (Err error) gives))
+      (name_is ∙ ap (λ (it : FragmentDef). it.name) own_is)
 
 -- ---- one file
 

@@ -1,22 +1,31 @@
 -- The steps of the commands on data.
 use Rattle.std.proofs.Common.{◌≡◌, ◌<◌, ◌≤◌, ◌+◌, ℕ, List, ◌++◌, take, length, get_or, slice_get, Contains, Option, Some, None, Result, Ok, Err, refl, sym, ap, subst, ◌∙◌, arith, inl, inr}
+use Rattle.std.specs.Prelude.{IfSome}
 use Rattle.esto_catalog.specs.declared.catalogue.Catalogue.{Catalogue}
-use Rattle.esto_opening.specs.Fragments.{Stored}
+use Rattle.esto_opening.specs.Fragments.{Stored, IsStoredAt}
 use Rattle.esto_course.specs.Course.{Course, Stops, judges, gives, and_then}
 use Rattle.esto_course.specs.Course.Stops.{is_free, refused}
 use Rattle.esto_course.proofs.Steps.{then_stops, then_goes, first_stops}
-use Rattle.esto_fill.specs.Filled.{Fills}
-use Rattle.esto_fill.specs.Texts.{AreTextsOf, IsFirstNodeColumn}
+use Rattle.esto_catalog.specs.declared.catalogue.Store.{Store}
+use Rattle.esto_fill.specs.Databases.{database_of}
+use Rattle.esto_fill.specs.Filled.{Fills, IsOpenedAs}
+use Rattle.esto_fill.specs.Texts.{AreTextsOf, IsFirstNodeColumn, IsFirstNodeView}
+use Rattle.esto_fill.specs.declared.auditing.Difference.{Difference}
 use Rattle.esto_fill.specs.declared.filled.FillError.{FillError}
 use Rattle.esto_fill.specs.declared.filled.FillError.TheVariants as filled
 use Rattle.esto_ports.specs.Files.{Files}
+use Rattle.esto_query.specs.Making.{query_of}
 use Rattle.esto_query.specs.declared.query.Query.{Query}
+use Rattle.esto_semantics.specs.Queries.{IsAnswer}
+use Rattle.esto_views.specs.Fragments.{views_of}
 use Rattle.esto_semantics.specs.declared.fact.Fact.{Fact}
 use Rattle.esto_stores.specs.Rows.{Row}
 use Rattle.esto_term.specs.declared.term.Term.{Term}
 use Rattle.esto_views.specs.declared.fragments.FragmentDef.{FragmentDef}
 use Rattle.esto_data.specs.Answer.{IsAnswerOfFacts, answers_facts}
 use Rattle.esto_opening.specs.Answers.{IsWant, IsCaused}
+use Rattle.esto_opening.specs.Fetch.{without_mark}
+use Rattle.esto_data.specs.Audit.{AuditsFiles, compares, judges_views}
 use Rattle.esto_data.specs.Fill.{IsFirstOf, IsRowOfView, fill_status, fills_file, finds_fragment, names_of}
 use Rattle.esto_opening.specs.declared.reply.Reply.{Reply}
 use Rattle.esto_opening.specs.declared.status.Status.{Status}
@@ -51,3 +60,50 @@ unfolding judges
 fill_stops stored facts (filled.NodeInRow column) said fills is = rw is (refused (record { cause = tt }) (filled.NodeInRow column, fills, refl))
 fill_stops stored facts (filled.KeyText cell) said fills is = rw is (refused (record { cause = tt }) (filled.KeyText cell, fills, refl))
 fill_stops stored facts filled.OutOfMemory said fills is = is_free is
+
+-- what is said of the fragment and the store at the number is said of them
+both_at : (P : FragmentDef → Store → Type 0) (catalogue : Catalogue) (number : ℕ) (stored : Stored) → IsStoredAt catalogue number stored
+    → IfSome (slice_get catalogue.fragments number) (λ definition. IfSome (slice_get catalogue.stores number) (λ store. P definition store))
+    → P stored.definition stored.store
+both_at P catalogue number stored at holds =
+    subst (λ (it : Option Store). IfSome it (P stored.definition)) at.store
+    (subst (λ (it : Option FragmentDef). IfSome it (λ definition. IfSome (slice_get catalogue.stores number) (P definition))) at.definition holds)
+
+-- what came of filling the file
+pub file_given : (catalogue : Catalogue) (number : ℕ) (stored : Stored) → IsStoredAt catalogue number stored → (facts : List (Fact Term))
+    (result : Result (List ℕ) FillError)
+    → IfSome (slice_get catalogue.fragments number) (λ definition. IfSome (slice_get catalogue.stores number) (λ store.
+    Fills store.shape (IsAnswer (query_of definition.view) (database_of facts)) result))
+    → Fills stored.store.shape (IsRowOfView stored.definition facts) result
+file_given catalogue number stored at facts result =
+    both_at (λ definition store. Fills store.shape (IsAnswer (query_of definition.view) (database_of facts)) result) catalogue number stored at
+
+pub file_filled : (catalogue : Catalogue) (number : ℕ) (stored : Stored) → IsStoredAt catalogue number stored → (facts : List (Fact Term)) (text : List ℕ)
+    → IfSome (slice_get catalogue.fragments number) (λ definition. IfSome (slice_get catalogue.stores number) (λ store.
+    Fills store.shape (IsAnswer (query_of definition.view) (database_of facts)) (Ok text)))
+    → IfSome (slice_get catalogue.fragments number) (λ definition. IfSome (slice_get catalogue.stores number) (λ store.
+    IsOpenedAs store.shape (length definition.view.head) (IsAnswer (query_of definition.view) (database_of facts)) (without_mark text)))
+    → (fills_file stored facts).goes text
+unfolding judges
+file_filled catalogue number stored at facts text filled opened = record {
+  filled = file_given catalogue number stored at facts (Ok text) filled;
+  opened = both_at (λ definition store. IsOpenedAs store.shape (length definition.view.head) (IsAnswer (query_of definition.view) (database_of facts))
+      (without_mark text)) catalogue number stored at opened;
+}
+
+-- ---- `audit`
+
+pub view_stops : (catalogue : Catalogue) (facts : List (Fact Term)) (column : ℕ) → IsFirstNodeView (views_of catalogue.fragments) (database_of facts) column
+    → Stops IsWant (IsCaused ⊥) (judges_views catalogue facts) (status.NodeInRow column)
+unfolding judges
+view_stops catalogue facts column first = refused (record { cause = tt }) (column, first, refl)
+
+pub differs_stops : (catalogue : Catalogue) (facts : List (Fact Term)) (contents : ℕ → List ℕ) (difference : Difference)
+    → AuditsFiles catalogue facts contents (Some difference) → Stops IsWant (IsCaused ⊥) (compares catalogue facts contents) (status.Differs difference)
+unfolding judges
+differs_stops catalogue facts contents difference first = refused (record { cause = tt }) (difference, first, refl)
+
+pub agrees_goes : (catalogue : Catalogue) (facts : List (Fact Term)) (contents : ℕ → List ℕ) → AuditsFiles catalogue facts contents None
+    → (compares catalogue facts contents).goes tt
+unfolding judges
+agrees_goes catalogue facts contents agree = agree
