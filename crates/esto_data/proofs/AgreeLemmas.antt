@@ -1,15 +1,14 @@
 -- The courses of `fill`, `answer` and `audit` agree with themselves, over catalogues that say the same.
-use Rattle.std.proofs.Common.{◌≡◌, ◌≢◌, ◌<◌, ℕ, List, map, length, Contains, Some, None, Option, Result, Ok, Err, refl, sym, ap, subst, ◌∙◌, inl, inr}
+use Rattle.std.proofs.Common.{◌≡◌, ◌≢◌, ℕ, List, map, Contains, Some, None, Option, Result, Ok, Err, refl, sym, ap, subst, ◌∙◌}
 use Rattle.std.specs.List.{range_with_len}
 use Rattle.std.proofs.lemmas.Option.{none-some}
-use Rattle.esto_catalog.specs.Determined.{AreSame, stored_as}
+use Rattle.esto_catalog.specs.Determined.{AreSame}
 use Rattle.esto_catalog.specs.declared.catalogue.Catalogue.{Catalogue}
-use Rattle.esto_catalog.specs.declared.catalogue.Store.{Store}
 use Rattle.esto_catalog.specs.declared.dataset.Dataset.{Dataset}
 use Rattle.esto_constraint.specs.Constraints.{rule_of, rules_of}
 use Rattle.esto_constraint.specs.EncodingRules.{written}
 use Rattle.esto_constraint.specs.declared.rule.Constraint.{Constraint}
-use Rattle.esto_course.specs.Course.{Course, gives, judges, and_then}
+use Rattle.esto_course.specs.Course.{Course, judges}
 use Rattle.esto_course.proofs.Determined.{then_agree, gives_agree, judges_agree}
 use Rattle.esto_fill.specs.Databases.{database_of}
 use Rattle.esto_fill.specs.Filled.{Fills}
@@ -44,7 +43,7 @@ use Rattle.esto_opening.proofs.Steps.{never_wanting}
 use Rattle.esto_data.specs.Answer.{answer_course, answers_facts, answers_query}
 use Rattle.esto_data.specs.Audit.{AuditsFiles, all_fragments, audit_course, audit_text, audits_catalogue, audits_facts, compares, judges_views}
 use Rattle.esto_data.specs.Datasets.{Each, Names, loads}
-use Rattle.esto_data.specs.Fill.{IsFilled, IsFirstOf, fill_course, fill_status, fills_file, fills_fragment, fills_named, finds_fragment, names_of}
+use Rattle.esto_data.specs.Fill.{IsFirstOf, fill_course, fill_status, fills_file, fills_fragment, fills_named, finds_fragment, names_of}
 use Rattle.esto_data.specs.Laws.{IsOne}
 use Rattle.esto_data.proofs.AlikeLemmas.{are_rules, audits_over, first_one, fragments_long, texts_one, same_query, same_rows_text, same_stored, same_view}
 use Rattle.esto_data.proofs.LoadLemmas.{loads_agree, loads_flat}

@@ -1,17 +1,16 @@
 -- Where `audit` has a reply, and what `answer` prints then.
-use Rattle.std.proofs.Common.{◌≡◌, ◌≢◌, ◌↔◌, ◌⊎◌, ◌<◌, ◌≤◌, ◌+◌, ◌-◌, ℕ, List, [], ◌∷◌, map, length, get_or, slice_get, Contains, Option, Some, None, refl, sym, ap, subst, ◌∙◌, arith, inl, inr}
+use Rattle.std.proofs.Common.{◌≡◌, ◌↔◌, ◌<◌, ℕ, List, map, length, get_or, slice_get, Contains, Option, Some, None, refl, sym, ap, subst, ◌∙◌, arith}
 use Rattle.std.specs.Prelude.{AllPairs, IsSome}
 use Rattle.std.proofs.lemmas.List.{get_or-map, length-map}
 use Rattle.std.proofs.lemmas.Option.{same_Some}
 use Rattle.esto_catalog.specs.Determined.{AreSame}
-use Rattle.esto_catalog.specs.Datasets.{relation_count}
 use Rattle.esto_catalog.specs.declared.catalogue.Catalogue.{Catalogue}
 use Rattle.esto_catalog.specs.declared.dataset.Dataset.{Dataset}
-use Rattle.esto_course.specs.Course.{Course, judges, gives, and_then}
+use Rattle.esto_course.specs.Course.{judges, and_then}
 use Rattle.esto_fill.specs.Databases.{database_of}
 use Rattle.esto_fill.specs.Files.{AreApart, HasRelation}
 use Rattle.esto_fill.specs.Laws.{AnswersRestOnDatasets}
-use Rattle.esto_fill.specs.Texts.{AreTextsOf, HaveTextsOnly, IsFirstNodeColumn}
+use Rattle.esto_fill.specs.Texts.{AreTextsOf, HaveTextsOnly}
 use Rattle.esto_fill.specs.declared.datasets.DatasetBytes.{DatasetBytes}
 use Rattle.esto_ports.specs.Files.{Files}
 use Rattle.esto_query.specs.Making.{query_of}
@@ -19,26 +18,20 @@ use Rattle.esto_query.specs.declared.query.Query.{Query}
 use Rattle.esto_run.specs.Answers.{rows_text}
 use Rattle.esto_semantics.specs.Queries.{ConjunctiveQuery, IsAnswer}
 use Rattle.esto_semantics.specs.declared.fact.Fact.{Fact}
-use Rattle.esto_semantics.specs.declared.fact.Value.{Value}
 use Rattle.esto_semantics.specs.declared.fact.Value.TheVariants.{Text}
 use Rattle.esto_stores.specs.Rows.{Row}
 use Rattle.esto_term.proofs.ListLemmas.{Contains-map, Contains-map_from}
 use Rattle.esto_term.specs.declared.term.Term.{Term}
 use Rattle.esto_opening.specs.Alike.{IsSameQuery}
 use Rattle.esto_opening.specs.Calm.{Leads}
-use Rattle.esto_opening.specs.Fragments.{opens_fragment}
-use Rattle.esto_opening.specs.Opening.{opens_catalogue, opens_query}
-use Rattle.esto_opening.specs.declared.reply.Reply.{Reply}
 use Rattle.esto_opening.specs.declared.reply.Reply.TheVariants.{Done}
-use Rattle.esto_opening.specs.declared.status.Status.{Status}
-use Rattle.esto_opening.proofs.LeadLemmas.{then-leads, leads-more, gives-leads, judges-leads}
-use Rattle.esto_data.specs.Answer.{IsAnswerOfFacts, answer_course, answers_facts, answers_query}
-use Rattle.esto_data.specs.Audit.{audit_course, audits_catalogue}
-use Rattle.esto_data.specs.Datasets.{Each, Names, demands_file, demands_files, loads, loads_files, opens_dataset}
+use Rattle.esto_opening.proofs.LeadLemmas.{then-leads, leads-more, gives-leads}
+use Rattle.esto_data.specs.Answer.{IsAnswerOfFacts, answers_facts, answers_query}
+use Rattle.esto_data.specs.Datasets.{Each, Names, loads, opens_dataset}
 use Rattle.esto_data.specs.Exact.{PrintsAnswersOfFacts}
-use Rattle.esto_data.specs.Laws.{AreAudited, RepliesAreAudited}
+use Rattle.esto_data.specs.Laws.{RepliesAreAudited}
 use Rattle.esto_data.proofs.AgreeLemmas.{DataLaws}
-use Rattle.esto_data.proofs.AlikeLemmas.{alike_back, fragments_long, same_query, same_rows_text}
+use Rattle.esto_data.proofs.AlikeLemmas.{fragments_long, same_query, same_rows_text}
 use Rattle.esto_data.proofs.DatasetLemmas.{sources_there}
 use Rattle.esto_data.proofs.ExactLemmas.{agreed-leads, no_node}
 use Rattle.esto_data.proofs.FragmentLemmas.{each_opened, opened_within}

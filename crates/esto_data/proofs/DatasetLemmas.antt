@@ -1,11 +1,11 @@
 -- The files of the datasets that are needed, opened one after the other.
-use Rattle.std.proofs.Common.{◌≡◌, ◌≢◌, ◌↔◌, ◌⊎◌, ◌<◌, ◌≤◌, ◌+◌, ◌-◌, ℕ, zero, suc, List, [], ◌∷◌, ◌++◌, take, drop, length, get_or, drop-cons, add-one, zero-add, Contains, slice_get, Option, Some, None, Result, Ok, Err, refl, sym, ap, subst, ◌∙◌, arith, inl, inr}
+use Rattle.std.proofs.Common.{◌≡◌, ◌↔◌, ◌⊎◌, ◌<◌, ◌≤◌, ◌+◌, ℕ, suc, List, [], ◌∷◌, ◌++◌, drop, length, get_or, Contains, slice_get, Option, Some, None, Result, Ok, Err, refl, sym, ap, subst, ◌∙◌, arith, inl, inr}
 use Rattle.std.specs.Prelude.{AllPairs, IfSome, IsSome}
 use Rattle.std.specs.Result.{IsErrAnd}
-use Rattle.std.proofs.lemmas.List.{get_or_default, take_all}
+use Rattle.std.proofs.lemmas.List.{get_or_default}
 use Rattle.std.proofs.lemmas.List.Elements.{Contains-append_cases, Contains-append_left, Contains-append_right, Contains-get_or}
 use Rattle.std.proofs.lemmas.List.Quantifiers.{all_pairs_push}
-use Rattle.std.proofs.lemmas.Option.{same_Some, slice_get_within}
+use Rattle.std.proofs.lemmas.Option.{same_Some, slice_get-get_or, slice_get_within}
 use Rattle.esto_catalog.specs.declared.dataset.Dataset.{Dataset}
 use Rattle.esto_course.specs.Course.{Course, Stops, judges, demands, gives, and_then, each}
 use Rattle.esto_course.specs.Course.Stops.{is_free, refused}
@@ -21,21 +21,21 @@ use Rattle.esto_ports.specs.declared.file_fault.FileFault.{FileFault}
 use Rattle.esto_semantics.specs.declared.fact.Fact.{Fact}
 use Rattle.esto_term.proofs.ListLemmas.{Contains-cases, Contains-head, Contains-nil}
 use Rattle.esto_term.specs.declared.term.Term.{Term}
-use Rattle.esto_opening.specs.Answers.{IsWant, IsCaused, Answers}
+use Rattle.esto_opening.specs.Answers.{IsWant, IsCaused}
 use Rattle.esto_data.specs.Datasets.{AddsNeeded, AreNeeded, IsSourceAt, Loads, LoadsFiles, LoadsMore, LoadsNext, ReadsData, Source, demands_file, demands_files, loads, loads_files, loads_next, opens_dataset, opens_source, reads_data}
 use Rattle.esto_opening.specs.Fetch.{fetches}
 use Rattle.esto_data.specs.declared.datasets.TheConstants.{DATASET_LIMIT}
 use Rattle.esto_opening.specs.declared.status.Status.{Status}
 use Rattle.esto_opening.specs.declared.status.Status.TheVariants.{BadDataset, NoData, OutOfMemory}
-use Rattle.esto_opening.proofs.Steps.{caused_weaker, later_stops}
+use Rattle.esto_opening.proofs.Steps.{caused_weaker}
 
 -- ---- the content of one file
 
 module _ (datasets : List Dataset) (number : ℕ) (bytes : List ℕ) (dataset : Dataset) (at : slice_get datasets number ≡ Some dataset) where
   -- what is found of the file of the dataset at the number is found of its file
-  pub found_at : {A : Type 0} (result : Result A FileError) → IfSome (slice_get datasets number) (λ it. FindsFault (dataset_fault it bytes) result)
+  pub found_at : (A : Type 0) (result : Result A FileError) → IfSome (slice_get datasets number) (λ it. FindsFault (dataset_fault it bytes) result)
       → FindsFault (dataset_fault dataset bytes) result
-  found_at result found = subst (λ (it : Option Dataset). IfSome it (λ own. FindsFault (dataset_fault own bytes) result)) at found
+  found_at A result found = subst (λ (it : Option Dataset). IfSome it (λ own. FindsFault (dataset_fault own bytes) result)) at found
 
 pub data_goes : (dataset : Dataset) (bytes : List ℕ) → dataset_fault dataset bytes ≡ None → (reads_data dataset bytes).goes tt
 unfolding judges
@@ -299,3 +299,18 @@ needed_all datasets Needs count numbers so_far le = record {
   );
   rising = so_far.rising;
 }
+
+-- the number at a place of the list, as it is read off a slice of it
+pub number_inside : (numbers items : List ℕ) (index : ℕ) → items ≡ numbers → index < length items → Contains numbers (get_or items index 0)
+number_inside numbers items index is below = subst (λ (it : List ℕ). Contains it (get_or items index 0)) is (Contains-get_or items index 0 below)
+
+pub number_read : (numbers items : List ℕ) (index : ℕ) → items ≡ numbers → index < length items
+    → get_or items index 0 ≡ get_or numbers index (get_or items index 0)
+number_read numbers items index is below =
+    get_or_default items index 0 (get_or items index 0) below ∙ ap (λ (it : List ℕ). get_or it index (get_or items index 0)) is
+
+-- the dataset that is read at a place
+pub dataset_read : (datasets items : List Dataset) → items ≡ datasets → (number : ℕ) (dataset : Dataset) → number < length items
+    → dataset ≡ get_or items number dataset → slice_get datasets number ≡ Some dataset
+dataset_read datasets items are number dataset below is =
+    subst (λ (it : List Dataset). slice_get it number ≡ Some dataset) are (slice_get-get_or items number dataset below ∙ ap Some (sym is))

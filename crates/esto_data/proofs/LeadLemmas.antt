@@ -1,9 +1,9 @@
 -- The files of the datasets that are needed, each opened, and their facts.
-use Rattle.std.proofs.Common.{◌≡◌, ◌⊎◌, ℕ, suc, List, [], ◌∷◌, ◌++◌, map, slice_get, Contains, Option, Some, None, refl, sym, ap, subst, ◌∙◌, append_assoc, append-nil, inl, inr}
+use Rattle.std.proofs.Common.{◌≡◌, ℕ, suc, List, [], ◌∷◌, ◌++◌, map, slice_get, Contains, Option, Some, refl, sym, ap, subst, ◌∙◌, append_assoc, append-nil, inl, inr}
 use Rattle.std.specs.Prelude.{IsSome}
 use Rattle.std.proofs.lemmas.Option.{same_Some, none-some}
 use Rattle.esto_catalog.specs.declared.dataset.Dataset.{Dataset}
-use Rattle.esto_course.specs.Course.{Course, judges, demands, gives, and_then, each}
+use Rattle.esto_course.specs.Course.{judges, demands, gives, and_then, each}
 use Rattle.esto_fill.specs.Files.{AreFactsFrom}
 use Rattle.esto_fill.specs.Laws.{FactsAreOne}
 use Rattle.esto_fill.specs.declared.datasets.DatasetBytes.{DatasetBytes}
@@ -16,7 +16,7 @@ use Rattle.esto_opening.specs.Calm.{Leads}
 use Rattle.esto_opening.specs.Fetch.{fetches}
 use Rattle.esto_opening.specs.declared.status.Status.{Status}
 use Rattle.esto_opening.proofs.LeadLemmas.{then-leads, leads-more, gives-leads, judges-leads, fetches-leads}
-use Rattle.esto_data.specs.Datasets.{AreFactsOfFiles, AreNeeded, IsSourceAt, Source, demands_file, demands_files, loads, loads_files, loads_next, opens_dataset, opens_source, reads_data}
+use Rattle.esto_data.specs.Datasets.{AreFactsOfFiles, AreNeeded, IsSourceAt, Source, demands_file, loads, loads_next, opens_dataset, reads_data}
 use Rattle.esto_data.specs.Exact.{HoldFacts, IsReadableDataset, files_of}
 use Rattle.esto_data.specs.declared.datasets.TheConstants.{DATASET_LIMIT}
 use Rattle.esto_data.proofs.LoadLemmas.{needed_one}

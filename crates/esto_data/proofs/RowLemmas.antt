@@ -1,14 +1,12 @@
 -- The rows of the files of all fragments, opened one after the other.
-use Rattle.std.proofs.Common.{◌≡◌, ◌≢◌, ◌↔◌, ◌<◌, ◌≤◌, ◌+◌, ◌==◌, ℕ, zero, suc, true, false, List, [], ◌∷◌, ◌++◌, drop, length, length-append, get_or, slice_get, Contains, Option, Some, None, Result, Ok, Err, refl, sym, ap, subst, ◌∙◌, arith, inl, inr}
-use Rattle.std.specs.Prelude.{IfSome, slice_index_or}
-use Rattle.std.specs.List.{range_with_len}
+use Rattle.std.proofs.Common.{◌≡◌, ◌≢◌, ◌↔◌, ◌<◌, ◌+◌, ◌==◌, ℕ, zero, suc, true, false, List, [], ◌∷◌, ◌++◌, drop, length, length-append, get_or, slice_get, Contains, Option, Some, Result, Ok, Err, refl, sym, ap, subst, ◌∙◌, arith, inl, inr}
 use Rattle.std.specs.Result.{IsErrAnd}
 use Rattle.std.proofs.lemmas.Bool.Decides.{nat_tests}
 use Rattle.std.proofs.lemmas.List.FromFn.{length-range_with_len, get_or-range_with_len}
 use Rattle.std.proofs.lemmas.Option.{same_Some, slice_get_within}
 use Rattle.esto_catalog.specs.declared.catalogue.Catalogue.{Catalogue}
 use Rattle.esto_catalog.specs.declared.catalogue.Store.{Store}
-use Rattle.esto_course.specs.Course.{Course, Stops, judges, gives, and_then, each}
+use Rattle.esto_course.specs.Course.{Stops, judges, gives, each}
 use Rattle.esto_course.specs.Course.Stops.{refused}
 use Rattle.esto_course.proofs.Steps.{Leads, first_stops, then_stops, then_goes, gives_goes, caused_more, each_next, each_stops, each_goes}
 use Rattle.esto_plan.specs.Rows.{IsRowOf, held_by}
@@ -23,7 +21,7 @@ use Rattle.esto_term.proofs.ListLemmas.{Contains-nil, at_pushed, thing_at}
 use Rattle.esto_views.specs.declared.fragments.FragmentDef.{FragmentDef}
 use Rattle.esto_opening.specs.Answers.{IsWant, IsCaused}
 use Rattle.esto_opening.specs.Fetch.{fetches}
-use Rattle.esto_opening.specs.Fragments.{Stored, IsStoredAt, content_fault, reads_content, opens_stored, opens_fragment, no_contents, with_content, opens_next, opens_fragments}
+use Rattle.esto_opening.specs.Fragments.{Stored, IsStoredAt, content_fault, opens_stored, opens_fragment, no_contents, with_content, opens_next, opens_fragments}
 use Rattle.esto_opening.specs.declared.fragments.TheConstants.{FRAGMENT_LIMIT}
 use Rattle.esto_opening.specs.declared.status.Status.{Status}
 use Rattle.esto_opening.specs.declared.status.Status.TheVariants.{BadFragment}
@@ -219,6 +217,16 @@ module _ (files : Option Files) (catalogue : Catalogue) where
           let own = thing_at rows fact.relation within in
           let inside = (so_far.are fact.relation own.0 store own.1 there fact.terms).1 is in
           held_there rows fact.relation own.0 own.1 fact.terms inside
+
+  pub rows_end_at : (number : ℕ) (rows : List (List Row)) → SoFarRows files catalogue number rows → number ≡ length catalogue.fragments
+      → length catalogue.stores ≡ length catalogue.fragments → (rose : Type 0) → OpensRows files catalogue rose (Ok rows)
+  rows_end_at number rows so_far is many rose = rows_end rows (subst (λ (it : ℕ). SoFarRows files catalogue it rows) is so_far) many rose
+
+-- there is a fragment at the number, with the store
+pub stored_at : (catalogue : Catalogue) (number : ℕ) (store : Store) → number < length catalogue.fragments → slice_get catalogue.stores number ≡ Some store
+    → (definition : FragmentDef) × IsStoredAt catalogue number (record { definition = definition; store = store })
+stored_at catalogue number store below is =
+    let found = thing_at catalogue.fragments number below in (found.0, record { definition = found.1; store = is })
 
 -- the error of one file that `?` hands on
 pub all_rows_exit : {rose : Type 0} (files : Option Files) (catalogue : Catalogue) (error : Status) (result : Result (List (List Row)) Status)

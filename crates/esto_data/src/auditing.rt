@@ -86,6 +86,7 @@ fn open_all_rows<S: Shelf>(
     ensures files { S.files shelf.new ≡ S.files shelf.old }
     ensures later { S.faults shelf.old ≤ S.faults shelf.new }
 {
+    catalogues_are_sound();
     let mut rows = List::new(alloc);
     'fragments: for number in 0..catalogue.fragments.len() {
         rows.push(open_rows(alloc, shelf, catalogue, number)?)?;

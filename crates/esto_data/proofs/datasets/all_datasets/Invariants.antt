@@ -1,4 +1,3 @@
-use Rattle.std.proofs.Common.{◌≤◌, length}
 use Rattle.esto_data.specs.Datasets.{Each}
 use Rattle.esto_data.proofs.DatasetLemmas.{AreNeededBelow}
 use Rattle.esto_data.proofs.datasets.all_datasets.Given as goal

@@ -1,5 +1,4 @@
-use Rattle.std.proofs.Common.{ap, refl, subst, sym}
-use Rattle.std.specs.Prelude.{IsSome}
+use Rattle.std.proofs.Common.{refl}
 use Rattle.esto_data.proofs.DatasetLemmas.{file_absent, file_there}
 use Rattle.esto_data.proofs.datasets.demand_file.Goals as goal
 

@@ -1,4 +1,4 @@
-use Rattle.std.proofs.Common.{Err, Ok}
+use Rattle.std.proofs.Common.{Err}
 use Rattle.esto_data.proofs.StepLemmas.{file_filled, file_given, fill_stops}
 use Rattle.esto_data.proofs.filling.text_of.Goals as goal
 
