@@ -1,5 +1,5 @@
 -- Fragments and texts of runs over catalogues that say the same.
-use Rattle.std.proofs.Common.{◌≡◌, ◌↔◌, ℕ, zero, suc, Bool, List, [], ◌∷◌, map, length, slice_get, Option, Some, None, Contains, refl, sym, ap, subst, ◌∙◌}
+use Rattle.std.proofs.Common.{◌≡◌, ℕ, Bool, List, map, length, slice_get, Option, Some, Contains, refl, sym, ap, subst, ◌∙◌}
 use Rattle.std.proofs.lemmas.Option.{same_Some}
 use Rattle.esto_catalog.specs.Determined.{AreSame, StoredAs, as_table, as_documents, as_keys, shape_as, stored_as}
 use Rattle.esto_catalog.specs.declared.catalogue.Shape.{Shape}
@@ -23,9 +23,8 @@ use Rattle.esto_stores.specs.Keys.{key_rows, key_fault}
 use Rattle.esto_stores.specs.Rows.{Row}
 use Rattle.esto_stores.specs.Table.{table_rows, table_fault}
 use Rattle.esto_stores.specs.TableText.{table_text}
-use Rattle.esto_term.specs.declared.term.Term.{Term, out-Term}
+use Rattle.esto_term.specs.declared.term.Term.{out-Term}
 use Rattle.esto_term.proofs.ListLemmas.{map_at, map_at-from}
-use Rattle.esto_views.specs.Plans.{plan_query}
 use Rattle.esto_views.specs.declared.fragments.FragmentDef.{FragmentDef}
 use Rattle.esto_views.specs.declared.plan.Plan.{Plan}
 use Rattle.esto_opening.specs.Fragments.{Stored, IsStoredAt, content_fault}

@@ -1,5 +1,5 @@
 -- The same words over the same files have one status and one text.
-use Rattle.std.proofs.Common.{◌≡◌, ◌≢◌, ℕ, List, ◌++◌, length, Option, Some, None, All, refl, sym, ap, subst, ◌∙◌, inl, inr}
+use Rattle.std.proofs.Common.{◌≡◌, ◌≢◌, ℕ, List, ◌++◌, length, Option, Some, None, sym, ap, subst, ◌∙◌, inl, inr}
 use Rattle.std.specs.Io.KnownBytes.{Appends}
 use Rattle.std.proofs.lemmas.List.{length-map}
 use Rattle.esto_catalog.specs.Determined.{AreSame, CataloguesAreSound, HaveOneCatalogue, HaveNoError, HaveOneError}
@@ -120,14 +120,14 @@ module _ (sound : CataloguesAreSound) (one : HaveOneCatalogue) (apart : HaveNoEr
 
       plans_agree : AgreeCalmly IsSamePlan (plans_query catalogue query) (plans_query other other_query)
       plans_agree = judges_agree _ _ _ _ _ _
-          (λ plan other_plan here there. laws.plan catalogue.core (rules_of catalogue.rules) (views_of catalogue.fragments) query.names (query_of query) plan other_plan
-          rules_are here (planned_moved catalogue other alike query other_query same other_plan there))
+          (λ plan other_plan here there. laws.plan catalogue.core (rules_of catalogue.rules) (views_of catalogue.fragments) query.names (query_of query)
+          plan other_plan rules_are here (planned_moved catalogue other alike query other_query same other_plan there))
           (λ said other_said caused other_caused here there. here.2 ∙ ap status.Unsatisfiable (laws.clash (rules_of catalogue.rules) (query_of query)
           here.0 there.0 rules_are here.1 (clash_moved catalogue other alike query other_query same there.0 there.1)) ∙ sym there.2)
-          (λ plan said caused here there. laws.apart catalogue.core (rules_of catalogue.rules) (views_of catalogue.fragments) query.names (query_of query) plan there.0
-          rules_are here (clash_moved catalogue other alike query other_query same there.0 there.1))
-          (λ plan said caused here there. laws.apart catalogue.core (rules_of catalogue.rules) (views_of catalogue.fragments) query.names (query_of query) plan there.0
-          rules_are (planned_moved catalogue other alike query other_query same plan here) there.1)
+          (λ plan said caused here there. laws.apart catalogue.core (rules_of catalogue.rules) (views_of catalogue.fragments) query.names (query_of query)
+          plan there.0 rules_are here (clash_moved catalogue other alike query other_query same there.0 there.1))
+          (λ plan said caused here there. laws.apart catalogue.core (rules_of catalogue.rules) (views_of catalogue.fragments) query.names (query_of query)
+          plan there.0 rules_are (planned_moved catalogue other alike query other_query same plan here) there.1)
 
       printed_agree : (plan other_plan : Plan) → IsSamePlan plan other_plan
           → AgreeCalmly ◌≡◌ (prints_list catalogue query plan) (prints_list other other_query other_plan)

@@ -1,5 +1,5 @@
 -- The courses of `run` over catalogues that say the same agree.
-use Rattle.std.proofs.Common.{◌≡◌, ◌<◌, ◌-◌, ◌≤◌, ℕ, suc, Bool, List, [], ◌∷◌, length, slice_get, Option, Some, None, refl, sym, ap, subst, ◌∙◌, arith, inl, inr}
+use Rattle.std.proofs.Common.{◌≡◌, ℕ, suc, Bool, List, [], ◌∷◌, length, slice_get, Option, Some, None, refl, sym, ap, subst, ◌∙◌, arith}
 use Rattle.std.proofs.lemmas.List.{length-map}
 use Rattle.std.proofs.lemmas.Option.{same_Some, none-some}
 use Rattle.either.specs.declared.Either.{Either}
@@ -20,7 +20,7 @@ use Rattle.esto_run.specs.Answers.{rows_text}
 use Rattle.esto_run.specs.Laws.{IsAnswerOver}
 use Rattle.esto_run.specs.Stores.{IsFileRow}
 use Rattle.esto_run.specs.Used.{AreUsed}
-use Rattle.esto_semantics.specs.Listed.{IsPick, candidate}
+use Rattle.esto_semantics.specs.Listed.{candidate}
 use Rattle.esto_semantics.specs.ListedLaws.{PickIsOne}
 use Rattle.esto_semantics.specs.Queries.{ConjunctiveQuery}
 use Rattle.esto_semantics.specs.Rules.{AreRules}

@@ -1,16 +1,14 @@
 -- The set that is run, and the text of its rows.
 use Rattle.either.specs.declared.Either.TheVariants.{Left, Right}
-use Rattle.std.proofs.Common.{◌≡◌, ◌≢◌, ◌↔◌, ◌<◌, ◌≤◌, ◌-◌, ℕ, Bool, List, [], ◌∷◌, map, length, All, Contains, slice_get, get_or, Option, Some, None, Result, Ok, Err, refl, sym, ap, subst, ◌∙◌, arith}
-use Rattle.std.specs.List.{AllPairs}
-use Rattle.std.proofs.lemmas.List.Elements.{Contains-get_or}
+use Rattle.std.proofs.Common.{◌≡◌, ◌↔◌, ◌<◌, ◌≤◌, ◌-◌, ℕ, Bool, List, [], length, All, Contains, slice_get, Option, Some, None, refl, sym, ap, subst, ◌∙◌, arith}
 use Rattle.std.proofs.lemmas.List.{length-map}
 use Rattle.std.proofs.lemmas.Option.{slice_get_within, get_or_from_slice_get}
 use Rattle.esto_catalog.specs.declared.catalogue.Catalogue.{Catalogue}
 use Rattle.esto_chase_laws.specs.declared.clash.Clash.{Clash}
-use Rattle.esto_course.specs.Course.{Course, Stops, judges, gives, and_then}
+use Rattle.esto_course.specs.Course.{Stops, judges, gives, and_then}
 use Rattle.esto_course.specs.Course.Stops.{refused}
 use Rattle.esto_course.proofs.Steps.{caused_more, first_stops, then_goes, then_stops}
-use Rattle.esto_list.specs.Items.{sets_of, totals_of}
+use Rattle.esto_list.specs.Items.{totals_of}
 use Rattle.esto_list.specs.declared.listing.Listed.{Listed}
 use Rattle.esto_ports.specs.Files.{Files}
 use Rattle.esto_query.specs.declared.query.Query.{Query}
@@ -21,8 +19,8 @@ use Rattle.esto_run.specs.Stores.{IsFileRow}
 use Rattle.esto_run.specs.Used.{AreUsed}
 use Rattle.esto_plan.specs.Planned.{IsSafeOrder}
 use Rattle.esto_plan.specs.Rows.{IsRowOf, held_by}
-use Rattle.esto_semantics.specs.Access.{IsOrder, IsStatedOrder}
-use Rattle.esto_semantics.specs.Listed.{IsPick, candidate, chosen}
+use Rattle.esto_semantics.specs.Access.{IsStatedOrder}
+use Rattle.esto_semantics.specs.Listed.{IsPick, candidate}
 use Rattle.esto_semantics.specs.ListedLaws.{ChosenAreNamed}
 use Rattle.esto_semantics.specs.declared.fact.Fact.{Fact}
 use Rattle.esto_stores.specs.Rows.{Row}
@@ -32,11 +30,11 @@ use Rattle.esto_views.specs.Fragments.{patterns_of}
 use Rattle.esto_views.specs.Plans.{IsPlanOver, fact_of, plan_query}
 use Rattle.esto_views.specs.declared.fragments.FragmentDef.{FragmentDef}
 use Rattle.esto_views.specs.declared.plan.Plan.{Plan}
-use Rattle.esto_opening.specs.Answers.{IsWant, IsCaused, Answers}
+use Rattle.esto_opening.specs.Answers.{IsWant, IsCaused}
 use Rattle.esto_opening.specs.Fragments.{opens_fragments}
 use Rattle.esto_top.specs.Listing.{IsClash, IsListOf, IsPlanned}
 use Rattle.esto_opening.specs.Opening.{opens_catalogue, opens_query}
-use Rattle.esto_top.specs.Run.{IsItemOf, IsPlace, HasNoPlace, IsRunText, chooses, ends_query, lists_plan, runs_end, run_course, runs_item, runs_plan, runs_query}
+use Rattle.esto_top.specs.Run.{IsItemOf, IsPlace, IsRunText, chooses, ends_query, lists_plan, runs_end, run_course, runs_item, runs_plan, runs_query}
 use Rattle.esto_top.specs.Run.HasNoPlace.{is_empty, is_above}
 use Rattle.esto_opening.specs.declared.reply.Reply.{Reply}
 use Rattle.esto_opening.specs.declared.reply.Reply.TheVariants.{Done, Unsatisfiable}

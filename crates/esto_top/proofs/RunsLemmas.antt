@@ -1,9 +1,8 @@
 -- What `run` answers where the files say a catalogue and a query over it.
-use Rattle.std.proofs.Common.{◌≡◌, ◌≢◌, ◌⊎◌, ◌↔◌, ◌==◌, ◌<◌, ℕ, suc, true, false, Bool, IsTrue, List, [], ◌∷◌, map, length, slice_get, Contains, Option, Some, None, refl, sym, ap, subst, ◌∙◌, inl, inr, arith}
+use Rattle.std.proofs.Common.{◌≡◌, ◌≢◌, ◌⊎◌, ◌↔◌, ◌==◌, ℕ, suc, true, false, Bool, List, [], ◌∷◌, map, length, slice_get, Contains, Option, Some, None, refl, sym, ap, subst, ◌∙◌, inl, inr, arith}
 use Rattle.std.specs.Prelude.{codes}
 use Rattle.std.proofs.lemmas.Bool.Decides.{nat_tests}
 use Rattle.std.proofs.lemmas.Option.{same_Some, none-some}
-use Rattle.either.specs.declared.Either.{Either}
 use Rattle.either.specs.declared.Either.TheVariants.{Left, Right}
 use Rattle.esto_catalog.specs.Determined.{AreSame, CataloguesAreSound, HaveOneCatalogue, HaveNoError}
 use Rattle.esto_catalog.specs.Reading.{IsCatalogueOf}
@@ -11,8 +10,7 @@ use Rattle.esto_catalog.specs.declared.catalogue.Catalogue.{Catalogue}
 use Rattle.esto_catalog.specs.declared.catalogue.Store.{Store}
 use Rattle.esto_chase_laws.specs.declared.clash.Clash.{Clash}
 use Rattle.esto_constraint.specs.Constraints.{rules_of}
-use Rattle.esto_course.specs.Course.{Course, judges, gives, and_then, each}
-use Rattle.esto_list.specs.Items.{sets_of}
+use Rattle.esto_course.specs.Course.{judges, gives, and_then, each}
 use Rattle.esto_list.specs.declared.listing.Listed.{Listed}
 use Rattle.esto_ports.specs.Files.{Files}
 use Rattle.esto_query.specs.Making.{query_of}
@@ -28,7 +26,6 @@ use Rattle.esto_semantics.specs.ListedLaws.{ChosenAreNamed}
 use Rattle.esto_semantics.specs.Queries.{ConjunctiveQuery, IsAnswer}
 use Rattle.esto_semantics.specs.Rules.{Meets}
 use Rattle.esto_semantics.specs.declared.fact.Fact.{Fact}
-use Rattle.esto_semantics.specs.declared.fact.Value.{Value}
 use Rattle.esto_semantics.specs.declared.fact.Value.TheVariants.{Text}
 use Rattle.esto_stores.specs.Rows.{Row}
 use Rattle.esto_term.specs.declared.term.Term.{Term}
@@ -39,16 +36,15 @@ use Rattle.esto_views.specs.declared.plan.Plan.{Plan}
 use Rattle.esto_opening.specs.Answers.{IsCaused}
 use Rattle.esto_opening.specs.Fetch.{FetchStops, fetches}
 use Rattle.esto_opening.specs.Fetch.FetchStops.{fails, is_longer}
-use Rattle.esto_opening.specs.Fragments.{IsStoredAt, content_fault, reads_content, opens_stored, opens_fragment, opens_next, opens_fragments, with_content, no_contents}
-use Rattle.esto_top.specs.Grammar.{course_of, course_of_asked, request_of, is_list_number, value_of}
+use Rattle.esto_opening.specs.Fragments.{IsStoredAt, content_fault, opens_fragment, opens_next, opens_fragments, with_content, no_contents}
+use Rattle.esto_top.specs.Grammar.{course_of, is_list_number}
 use Rattle.esto_top.specs.Headline.{FilesSay, HasAnswers, Rewrites}
 use Rattle.esto_opening.specs.Fetch.{HasWithin}
-use Rattle.esto_opening.specs.Line.{line_of}
 use Rattle.esto_top.specs.Listing.{IsClash, IsListOf, IsPlanned}
 use Rattle.esto_top.specs.Outcome.{Says, CompleteWhereTold, reply_status, reply_text}
 use Rattle.esto_top.specs.Run.{IsPlace, HasNoPlace, IsRunText, runs_query, run_course}
 use Rattle.esto_top.specs.Run.HasNoPlace.{is_empty, is_above}
-use Rattle.esto_top.specs.Runs.{AsksRun, IsReadable, CanRun, PrintsAnswers, PrintsRun, SaidOfRuns, RunsExactly, RefusesRun, NeedsRewriting, IsExactRun, OutcomesAreRuns, RunsWhereTold}
+use Rattle.esto_top.specs.Runs.{AsksRun, IsReadable, CanRun, PrintsAnswers, PrintsRun, IsExactRun, OutcomesAreRuns, RunsWhereTold}
 use Rattle.esto_opening.specs.declared.reply.Reply.{Reply}
 use Rattle.esto_opening.specs.declared.reply.Reply.TheVariants.{Done, Unsatisfiable}
 use Rattle.esto_opening.specs.declared.fragments.TheConstants.{FRAGMENT_LIMIT}

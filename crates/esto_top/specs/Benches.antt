@@ -1,5 +1,5 @@
 -- What is said of an outcome of `bench`.
-use Rattle.std.specs.Prelude.{◌≡◌, ℕ, Bool, true, List, [], ◌∷◌, Option, codes}
+use Rattle.std.specs.Prelude.{◌≡◌, ℕ, true, List, [], ◌∷◌, Option, codes}
 use Rattle.esto_bench.specs.Summary.{IsSummaryOfCase, summary_text}
 use Rattle.esto_bench.specs.declared.summary.Summary.{Summary}
 use Rattle.esto_top.specs.Grammar.{is_made_size, value_of}

@@ -1,4 +1,4 @@
-use Rattle.std.proofs.Common.{◌≡◌, ◌<◌, length, refl, arith}
+use Rattle.std.proofs.Common.{refl, arith}
 use Rattle.esto_top.proofs.ValueLemmas.{below_more, digit_at, number_itself, stays_low, value_more}
 use Rattle.esto_top.proofs.command.value_of.Goals as goal
 

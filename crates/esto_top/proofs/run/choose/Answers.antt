@@ -1,4 +1,4 @@
-use Rattle.std.proofs.Common.{◌≤◌, length, refl, arith}
+use Rattle.std.proofs.Common.{◌≤◌, length, arith}
 use Rattle.esto_top.proofs.RunLemmas.{above, none_listed, numbered, picked}
 use Rattle.esto_top.proofs.run.choose.Goals as goal
 

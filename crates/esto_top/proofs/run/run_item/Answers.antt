@@ -2,7 +2,6 @@ use Rattle.esto_constraint.specs.Constraints.{rules_of}
 use Rattle.esto_query.specs.Making.{query_of}
 use Rattle.esto_run.specs.Opened.{rows_held}
 use Rattle.esto_views.specs.Fragments.{views_of}
-use Rattle.esto_views.specs.Plans.{plan_query}
 use Rattle.esto_course.proofs.Steps.{at_exit}
 use Rattle.esto_top.proofs.FormLemmas.{plan_form}
 use Rattle.esto_top.proofs.RuleLemmas.{are_rules}
@@ -38,8 +37,8 @@ run_text-requires-clause-same_length g c =
 pub run_text-requires-clause-over : goal.run_text-requires-clause-over
 run_text-requires-clause-over g c =
     let catalogue = c.args.catalogue.now in
-    c.printed_plans_are_over_fragments.ensures.over catalogue.core (rules_of catalogue.rules) catalogue.fragments c.args.query.now.names (query_of c.args.query.now)
-    c.args.plan.now (c.catalogues_are_sound.ensures catalogue).fragments_are c.requires.planned
+    c.printed_plans_are_over_fragments.ensures.over catalogue.core (rules_of catalogue.rules) catalogue.fragments c.args.query.now.names
+    (query_of c.args.query.now) c.args.plan.now (c.catalogues_are_sound.ensures catalogue).fragments_are c.requires.planned
 
 pub returns-clause-answer : goal.returns-clause-answer
 returns-clause-answer g c =
