@@ -1,15 +1,14 @@
 -- The courses of `fill`, `answer` and `audit` agree with themselves, over catalogues that say the same.
-use Rattle.std.proofs.Common.{◌≡◌, ◌≢◌, ◌<◌, ℕ, List, map, length, Contains, Some, None, Option, Result, Ok, Err, refl, sym, ap, subst, ◌∙◌, inl, inr}
+use Rattle.std.proofs.Common.{◌≡◌, ◌≢◌, ℕ, List, map, Contains, Some, None, Option, Result, Ok, Err, refl, sym, ap, subst, ◌∙◌}
 use Rattle.std.specs.List.{range_with_len}
 use Rattle.std.proofs.lemmas.Option.{none-some}
-use Rattle.esto_catalog.specs.Determined.{AreSame, stored_as}
+use Rattle.esto_catalog.specs.Determined.{AreSame}
 use Rattle.esto_catalog.specs.declared.catalogue.Catalogue.{Catalogue}
-use Rattle.esto_catalog.specs.declared.catalogue.Store.{Store}
 use Rattle.esto_catalog.specs.declared.dataset.Dataset.{Dataset}
 use Rattle.esto_constraint.specs.Constraints.{rule_of, rules_of}
 use Rattle.esto_constraint.specs.EncodingRules.{written}
 use Rattle.esto_constraint.specs.declared.rule.Constraint.{Constraint}
-use Rattle.esto_course.specs.Course.{Course, gives, judges, and_then}
+use Rattle.esto_course.specs.Course.{Course, judges}
 use Rattle.esto_course.proofs.Determined.{then_agree, gives_agree, judges_agree}
 use Rattle.esto_fill.specs.Databases.{database_of}
 use Rattle.esto_fill.specs.Filled.{Fills}
@@ -18,6 +17,7 @@ use Rattle.esto_fill.specs.Texts.{AreTextsOf, AreTextViews, IsFirstNodeColumn, I
 use Rattle.esto_fill.specs.declared.auditing.Difference.{Difference}
 use Rattle.esto_fill.specs.declared.filled.FillError.{FillError}
 use Rattle.esto_fill.specs.declared.filled.FillError.TheVariants as filled
+use Rattle.esto_fill.specs.declared.rows.AnswerError.{AnswerError}
 use Rattle.esto_fill.specs.declared.rows.AnswerError.TheVariants as answer
 use Rattle.esto_ports.specs.Files.{Files}
 use Rattle.esto_query.specs.Making.{query_of}
@@ -43,7 +43,7 @@ use Rattle.esto_opening.proofs.Steps.{never_wanting}
 use Rattle.esto_data.specs.Answer.{answer_course, answers_facts, answers_query}
 use Rattle.esto_data.specs.Audit.{AuditsFiles, all_fragments, audit_course, audit_text, audits_catalogue, audits_facts, compares, judges_views}
 use Rattle.esto_data.specs.Datasets.{Each, Names, loads}
-use Rattle.esto_data.specs.Fill.{IsFilled, IsFirstOf, fill_course, fill_status, fills_file, fills_fragment, fills_named, finds_fragment, names_of}
+use Rattle.esto_data.specs.Fill.{IsFirstOf, fill_course, fill_status, fills_file, fills_fragment, fills_named, finds_fragment, names_of}
 use Rattle.esto_data.specs.Laws.{IsOne}
 use Rattle.esto_data.proofs.AlikeLemmas.{are_rules, audits_over, first_one, fragments_long, texts_one, same_query, same_rows_text, same_stored, same_view}
 use Rattle.esto_data.proofs.LoadLemmas.{loads_agree, loads_flat}
@@ -66,16 +66,23 @@ pub record DataLaws : Type 0 where
 
 -- ---- results
 
-ok_same : {A E : Type 0} (value other : A) → Ok {E = E} value ≡ Ok other → value ≡ other
+-- a result that is a value, and one that is an error
+abbrev good : (A E : Type 0) → A → Result A E
+good A E value = Ok value
+
+abbrev bad : (A E : Type 0) → E → Result A E
+bad A E error = Err error
+
+ok_same : {A E : Type 0} (value other : A) → good A E value ≡ good A E other → value ≡ other
 ok_same value other same = cc
 
-err_same : {A E : Type 0} (error other : E) → Err {T = A} error ≡ Err other → error ≡ other
+err_same : {A E : Type 0} (error other : E) → bad A E error ≡ bad A E other → error ≡ other
 err_same error other same = cc
 
-pub ok_not_err : {A E : Type 0} (value : A) (error : E) → Ok value ≡ Err error → ⊥
+pub ok_not_err : {A E : Type 0} (value : A) (error : E) → good A E value ≡ bad A E error → ⊥
 ok_not_err value error same = cc
 
-node_not_want : (A : Type 0) (column : ℕ) → Err {T = A} (answer.NodeInRow column) ≢ Err answer.OutOfMemory
+node_not_want : (A : Type 0) (column : ℕ) → bad A AnswerError (answer.NodeInRow column) ≢ bad A AnswerError answer.OutOfMemory
 node_not_want A column same = cc
 
 same_column : (column other : ℕ) → answer.NodeInRow column ≡ answer.NodeInRow other → column ≡ other
@@ -150,7 +157,7 @@ module _ (laws : DataLaws) where
       there : IsStoredAt other number other_stored
 
     module _ (number : ℕ) (stored other_stored : Stored) (are : BothStored number stored other_stored) where
-      no_want : (said : Status) (cause : FillError) → IsCaused ⊥ said → said ≡ fill_status cause → Err {T = List ℕ} cause ≢ Err filled.OutOfMemory
+      no_want : (said : Status) (cause : FillError) → IsCaused ⊥ said → said ≡ fill_status cause → bad (List ℕ) FillError cause ≢ bad (List ℕ) FillError filled.OutOfMemory
       no_want said cause caused is wanting = never_wanting ⊥ said (is ∙ ap fill_status (err_same cause filled.OutOfMemory wanting)) caused
 
       -- the file is filled in one way in both

@@ -1,17 +1,16 @@
 -- Where `audit` has a reply, and what `answer` prints then.
-use Rattle.std.proofs.Common.{◌≡◌, ◌≢◌, ◌↔◌, ◌⊎◌, ◌<◌, ◌≤◌, ◌+◌, ◌-◌, ℕ, List, [], ◌∷◌, map, length, get_or, slice_get, Contains, Option, Some, None, refl, sym, ap, subst, ◌∙◌, arith, inl, inr}
+use Rattle.std.proofs.Common.{◌≡◌, ◌↔◌, ◌<◌, ℕ, List, map, length, get_or, slice_get, Contains, Option, Some, None, refl, sym, ap, subst, ◌∙◌, arith}
 use Rattle.std.specs.Prelude.{AllPairs, IsSome}
 use Rattle.std.proofs.lemmas.List.{get_or-map, length-map}
 use Rattle.std.proofs.lemmas.Option.{same_Some}
 use Rattle.esto_catalog.specs.Determined.{AreSame}
-use Rattle.esto_catalog.specs.Datasets.{relation_count}
 use Rattle.esto_catalog.specs.declared.catalogue.Catalogue.{Catalogue}
 use Rattle.esto_catalog.specs.declared.dataset.Dataset.{Dataset}
-use Rattle.esto_course.specs.Course.{Course, judges, gives, and_then}
+use Rattle.esto_course.specs.Course.{judges, and_then}
 use Rattle.esto_fill.specs.Databases.{database_of}
 use Rattle.esto_fill.specs.Files.{AreApart, HasRelation}
 use Rattle.esto_fill.specs.Laws.{AnswersRestOnDatasets}
-use Rattle.esto_fill.specs.Texts.{AreTextsOf, HaveTextsOnly, IsFirstNodeColumn}
+use Rattle.esto_fill.specs.Texts.{AreTextsOf, HaveTextsOnly}
 use Rattle.esto_fill.specs.declared.datasets.DatasetBytes.{DatasetBytes}
 use Rattle.esto_ports.specs.Files.{Files}
 use Rattle.esto_query.specs.Making.{query_of}
@@ -19,26 +18,20 @@ use Rattle.esto_query.specs.declared.query.Query.{Query}
 use Rattle.esto_run.specs.Answers.{rows_text}
 use Rattle.esto_semantics.specs.Queries.{ConjunctiveQuery, IsAnswer}
 use Rattle.esto_semantics.specs.declared.fact.Fact.{Fact}
-use Rattle.esto_semantics.specs.declared.fact.Value.{Value}
 use Rattle.esto_semantics.specs.declared.fact.Value.TheVariants.{Text}
 use Rattle.esto_stores.specs.Rows.{Row}
 use Rattle.esto_term.proofs.ListLemmas.{Contains-map, Contains-map_from}
 use Rattle.esto_term.specs.declared.term.Term.{Term}
 use Rattle.esto_opening.specs.Alike.{IsSameQuery}
 use Rattle.esto_opening.specs.Calm.{Leads}
-use Rattle.esto_opening.specs.Fragments.{opens_fragment}
-use Rattle.esto_opening.specs.Opening.{opens_catalogue, opens_query}
-use Rattle.esto_opening.specs.declared.reply.Reply.{Reply}
 use Rattle.esto_opening.specs.declared.reply.Reply.TheVariants.{Done}
-use Rattle.esto_opening.specs.declared.status.Status.{Status}
-use Rattle.esto_opening.proofs.LeadLemmas.{then-leads, leads-more, gives-leads, judges-leads}
-use Rattle.esto_data.specs.Answer.{IsAnswerOfFacts, answer_course, answers_facts, answers_query}
-use Rattle.esto_data.specs.Audit.{audit_course, audits_catalogue}
-use Rattle.esto_data.specs.Datasets.{Each, Names, demands_file, demands_files, loads, loads_files, opens_dataset}
+use Rattle.esto_opening.proofs.LeadLemmas.{then-leads, leads-more, gives-leads}
+use Rattle.esto_data.specs.Answer.{IsAnswerOfFacts, answers_facts, answers_query}
+use Rattle.esto_data.specs.Datasets.{Each, Names, loads, opens_dataset}
 use Rattle.esto_data.specs.Exact.{PrintsAnswersOfFacts}
-use Rattle.esto_data.specs.Laws.{AreAudited, RepliesAreAudited}
+use Rattle.esto_data.specs.Laws.{RepliesAreAudited}
 use Rattle.esto_data.proofs.AgreeLemmas.{DataLaws}
-use Rattle.esto_data.proofs.AlikeLemmas.{alike_back, fragments_long, same_query, same_rows_text}
+use Rattle.esto_data.proofs.AlikeLemmas.{fragments_long, same_query, same_rows_text}
 use Rattle.esto_data.proofs.DatasetLemmas.{sources_there}
 use Rattle.esto_data.proofs.ExactLemmas.{agreed-leads, no_node}
 use Rattle.esto_data.proofs.FragmentLemmas.{each_opened, opened_within}
@@ -55,9 +48,9 @@ entries_apart numbers entries is rising i j d less within same =
     let within_numbers : j < length numbers = omega (arith, within, length-map entries (λ (entry : DatasetBytes). entry.dataset), ap length is) in
     let below = rising i j d.dataset less within_numbers in
     let first : get_or numbers i d.dataset ≡ (get_or entries i d).dataset =
-    ap (λ (it : List ℕ). get_or it i d.dataset) (sym is) ∙ get_or-map (λ (entry : DatasetBytes). entry.dataset) entries i d in
+    ap (λ (it : List ℕ). get_or it i d.dataset) (sym is) ∙ get_or-map (λ (entry : DatasetBytes). entry.dataset) entries i d d.dataset (omega (arith, less, within)) in
     let second : get_or numbers j d.dataset ≡ (get_or entries j d).dataset =
-    ap (λ (it : List ℕ). get_or it j d.dataset) (sym is) ∙ get_or-map (λ (entry : DatasetBytes). entry.dataset) entries j d in
+    ap (λ (it : List ℕ). get_or it j d.dataset) (sym is) ∙ get_or-map (λ (entry : DatasetBytes). entry.dataset) entries j d d.dataset within in
     omega (arith, below, first, second, same)
 
 module _ (files : Files) (datasets : List Dataset) where
@@ -106,7 +99,7 @@ module _ (files : Files) (datasets : List Dataset) where
       covers : (atom : Fact Term) (file : DatasetBytes) → Contains query.body atom → Contains all.entries file
           → HasRelation datasets file.dataset atom.relation → Contains own.entries file
       covers atom file inside there (dataset, place, at, less, is) =
-          let needs : Names query.body dataset = (atom, inside, omega (arith, is), omega (arith, is, less)) in
+          let needs : Names query.body dataset = (atom, inside, (omega (arith, is), omega (arith, is, less))) in
           let entry = entry_of own.numbers own.entries own.opened file.dataset ((own.needed.exact file.dataset).1 (dataset, at, needs)) in
           subst (Contains own.entries)
           (one_entry entry.0 file entry.2 (own.opened.opened entry.0 entry.1) (all.opened.opened file there)) entry.1
@@ -128,7 +121,7 @@ have_files : (files : Option Files) (datasets : List Dataset) (facts : List (Fac
 unfolding and_then judges
 have_files files datasets facts (numbers, needed, (given, have, more)) number dataset at =
     let source = sources_there datasets 0 numbers have number ((needed.exact number).1 (dataset, at, tt)) in
-    subst (λ (it : Dataset). IsSome it.file) (same_Some source.0.dataset dataset (sym source.1.there ∙ at)) (subst IsSome (sym source.1.file_is) tt)
+    subst (λ (it : Dataset). IsSome it.file) (same_Some source.0.dataset dataset (sym source.1.there ∙ at)) (subst IsSome (sym source.1.file_is) refl)
 
 -- rows that are the texts of the one are those of the other, where both have the same answers of texts
 texts_over : (query : ConjunctiveQuery) (facts some : List (Fact Term))

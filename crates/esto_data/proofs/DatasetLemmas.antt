@@ -1,11 +1,11 @@
 -- The files of the datasets that are needed, opened one after the other.
-use Rattle.std.proofs.Common.{◌≡◌, ◌≢◌, ◌↔◌, ◌⊎◌, ◌<◌, ◌≤◌, ◌+◌, ◌-◌, ℕ, zero, suc, List, [], ◌∷◌, ◌++◌, take, drop, length, get_or, drop-cons, add-one, zero-add, Contains, slice_get, Option, Some, None, Result, Ok, Err, refl, sym, ap, subst, ◌∙◌, arith, inl, inr}
+use Rattle.std.proofs.Common.{◌≡◌, ◌↔◌, ◌⊎◌, ◌<◌, ◌≤◌, ◌+◌, ℕ, suc, List, [], ◌∷◌, ◌++◌, drop, length, get_or, Contains, slice_get, Option, Some, None, Result, Ok, Err, refl, sym, ap, subst, ◌∙◌, arith, inl, inr}
 use Rattle.std.specs.Prelude.{AllPairs, IfSome, IsSome}
 use Rattle.std.specs.Result.{IsErrAnd}
-use Rattle.std.proofs.lemmas.List.{get_or_default, take_all}
+use Rattle.std.proofs.lemmas.List.{get_or_default}
 use Rattle.std.proofs.lemmas.List.Elements.{Contains-append_cases, Contains-append_left, Contains-append_right, Contains-get_or}
 use Rattle.std.proofs.lemmas.List.Quantifiers.{all_pairs_push}
-use Rattle.std.proofs.lemmas.Option.{same_Some, slice_get_within}
+use Rattle.std.proofs.lemmas.Option.{same_Some, slice_get-get_or, slice_get_within}
 use Rattle.esto_catalog.specs.declared.dataset.Dataset.{Dataset}
 use Rattle.esto_course.specs.Course.{Course, Stops, judges, demands, gives, and_then, each}
 use Rattle.esto_course.specs.Course.Stops.{is_free, refused}
@@ -21,21 +21,21 @@ use Rattle.esto_ports.specs.declared.file_fault.FileFault.{FileFault}
 use Rattle.esto_semantics.specs.declared.fact.Fact.{Fact}
 use Rattle.esto_term.proofs.ListLemmas.{Contains-cases, Contains-head, Contains-nil}
 use Rattle.esto_term.specs.declared.term.Term.{Term}
-use Rattle.esto_opening.specs.Answers.{IsWant, IsCaused, Answers}
+use Rattle.esto_opening.specs.Answers.{IsWant, IsCaused}
 use Rattle.esto_data.specs.Datasets.{AddsNeeded, AreNeeded, IsSourceAt, Loads, LoadsFiles, LoadsMore, LoadsNext, ReadsData, Source, demands_file, demands_files, loads, loads_files, loads_next, opens_dataset, opens_source, reads_data}
 use Rattle.esto_opening.specs.Fetch.{fetches}
 use Rattle.esto_data.specs.declared.datasets.TheConstants.{DATASET_LIMIT}
 use Rattle.esto_opening.specs.declared.status.Status.{Status}
 use Rattle.esto_opening.specs.declared.status.Status.TheVariants.{BadDataset, NoData, OutOfMemory}
-use Rattle.esto_opening.proofs.Steps.{caused_weaker, later_stops}
+use Rattle.esto_opening.proofs.Steps.{caused_weaker}
 
 -- ---- the content of one file
 
 module _ (datasets : List Dataset) (number : ℕ) (bytes : List ℕ) (dataset : Dataset) (at : slice_get datasets number ≡ Some dataset) where
   -- what is found of the file of the dataset at the number is found of its file
-  pub found_at : {A : Type 0} (result : Result A FileError) → IfSome (slice_get datasets number) (λ it. FindsFault (dataset_fault it bytes) result)
+  pub found_at : (A : Type 0) (result : Result A FileError) → IfSome (slice_get datasets number) (λ it. FindsFault (dataset_fault it bytes) result)
       → FindsFault (dataset_fault dataset bytes) result
-  found_at result found = subst (λ (it : Option Dataset). IfSome it (λ own. FindsFault (dataset_fault own bytes) result)) at found
+  found_at A result found = subst (λ (it : Option Dataset). IfSome it (λ own. FindsFault (dataset_fault own bytes) result)) at found
 
 pub data_goes : (dataset : Dataset) (bytes : List ℕ) → dataset_fault dataset bytes ≡ None → (reads_data dataset bytes).goes tt
 unfolding judges
@@ -47,9 +47,14 @@ unfolding judges
 data_stops dataset bytes name fault found is = refused (record { cause = tt }) (fault, found, ap (λ it. BadDataset it fault) is)
 
 -- the error that was given is the first fault
-pub fault_found : {A : Type 0} (dataset : Dataset) (bytes : List ℕ) (error : FileError) (fault : FileFault) → error ≡ Fault fault
+pub fault_found : (A : Type 0) (dataset : Dataset) (bytes : List ℕ) (error : FileError) (fault : FileFault) → error ≡ Fault fault
     → FindsFault {A = A} (dataset_fault dataset bytes) (Err error) → dataset_fault dataset bytes ≡ Some fault
-fault_found {A} dataset bytes error fault is found = subst (λ (it : FileError). FindsFault {A = A} (dataset_fault dataset bytes) (Err it)) is found
+fault_found A dataset bytes error fault is found = subst (λ (it : FileError). FindsFault {A = A} (dataset_fault dataset bytes) (Err it)) is found
+
+-- the name of the dataset at the number
+pub own_name : (datasets : List Dataset) (number : ℕ) (dataset own : Dataset) → slice_get datasets number ≡ Some dataset
+    → slice_get datasets number ≡ Some own → own.name ≡ dataset.name
+own_name datasets number dataset own at is = ap (λ (it : Dataset). it.name) (same_Some own dataset (sym is ∙ at))
 
 -- ---- one file
 
@@ -179,7 +184,7 @@ file_absent datasets number place dataset name at none is =
 
 source_of : (datasets : List Dataset) (number : ℕ) (dataset : Dataset) → slice_get datasets number ≡ Some dataset → (file : Option (List ℕ))
     → dataset.file ≡ file → IsSome file → (source : Source) × IsSourceAt datasets number source
-source_of datasets number dataset at None is some = absurd some
+source_of datasets number dataset at None is some = absurd (cc)
 source_of datasets number dataset at (Some name) is some = (record { dataset = dataset; file = name }, record { there = at; file_is = is })
 
 -- where each has a file, each number is that of a source
@@ -199,11 +204,11 @@ module _ (files : Option Files) (datasets : List Dataset) (Needs : Dataset → T
   needed_there number inside = let found = (needed.exact number).0 inside in slice_get_within datasets number found.0 found.1
 
   -- a dataset has no file
-  pub demand_exit : {rose : Type 0} (error : Status) (result : Result Loaded Status) → IsErrAnd result (λ handed. handed ≡ error)
+  pub demand_exit : (rose : Type 0) (error : Status) (result : Result Loaded Status) → IsErrAnd result (λ handed. handed ≡ error)
       → Stops IsWant (IsCaused ⊥) (demands_files datasets numbers) error → Loads (loads files datasets Needs) rose result
   unfolding judges
-  demand_exit error (Ok _) handed stops = absurd handed
-  demand_exit error (Err handed_on) handed stops =
+  demand_exit rose error (Ok _) handed stops = absurd handed
+  demand_exit rose error (Err handed_on) handed stops =
       rw handed (then_stops (judges (AreNeeded datasets Needs) (λ _. ⊥)) _ numbers needed
       (first_stops _ _ (caused_more _ error (caused_weaker (λ none. absurd none)) stops)))
 
@@ -220,10 +225,10 @@ module _ (files : Option Files) (datasets : List Dataset) (Needs : Dataset → T
       (then_stops (demands_files datasets numbers) _ tt have (first_stops _ _ stops))
 
 -- want of memory
-pub loads_wanting : {rose : Type 0} (course : Course Status (List (Fact Term))) (result : Result Loaded Status) → IsErrAnd result (λ handed. handed ≡ OutOfMemory)
+pub loads_wanting : (rose : Type 0) (course : Course Status (List (Fact Term))) (result : Result Loaded Status) → IsErrAnd result (λ handed. handed ≡ OutOfMemory)
     → Loads course rose result
-loads_wanting course (Ok _) handed = absurd handed
-loads_wanting course (Err handed_on) handed = is_free handed
+loads_wanting rose course (Ok _) handed = absurd handed
+loads_wanting rose course (Err handed_on) handed = is_free handed
 
 -- ---- which are needed
 
@@ -294,3 +299,18 @@ needed_all datasets Needs count numbers so_far le = record {
   );
   rising = so_far.rising;
 }
+
+-- the number at a place of the list, as it is read off a slice of it
+pub number_inside : (numbers items : List ℕ) (index : ℕ) → items ≡ numbers → index < length items → Contains numbers (get_or items index 0)
+number_inside numbers items index is below = subst (λ (it : List ℕ). Contains it (get_or items index 0)) is (Contains-get_or items index 0 below)
+
+pub number_read : (numbers items : List ℕ) (index : ℕ) → items ≡ numbers → index < length items
+    → get_or items index 0 ≡ get_or numbers index (get_or items index 0)
+number_read numbers items index is below =
+    get_or_default items index 0 (get_or items index 0) below ∙ ap (λ (it : List ℕ). get_or it index (get_or items index 0)) is
+
+-- the dataset that is read at a place
+pub dataset_read : (datasets items : List Dataset) → items ≡ datasets → (number : ℕ) (dataset : Dataset) → number < length items
+    → dataset ≡ get_or items number dataset → slice_get datasets number ≡ Some dataset
+dataset_read datasets items are number dataset below is =
+    subst (λ (it : List Dataset). slice_get it number ≡ Some dataset) are (slice_get-get_or items number dataset below ∙ ap Some (sym is))

@@ -1,5 +1,5 @@
 -- What `fill`, `answer` and `audit` answer where nothing is wrong with the files.
-use Rattle.std.proofs.Common.{◌≡◌, ◌≢◌, ◌⊎◌, ◌↔◌, ◌<◌, ◌≤◌, ℕ, suc, List, [], ◌∷◌, ◌++◌, map, length, slice_get, Contains, Option, Some, None, Result, Ok, Err, refl, sym, ap, subst, ◌∙◌, arith, inl, inr}
+use Rattle.std.proofs.Common.{◌≡◌, ◌≢◌, ℕ, suc, List, [], ◌∷◌, ◌++◌, map, length, slice_get, Contains, Option, Some, None, Err, refl, sym, ap, subst, ◌∙◌, arith, inl, inr}
 use Rattle.std.proofs.lemmas.Bool.{cases_order}
 use Rattle.std.proofs.lemmas.Option.{same_Some, none-some}
 use Rattle.esto_catalog.specs.Determined.{AreSame, CataloguesAreSound}
@@ -9,7 +9,7 @@ use Rattle.esto_constraint.specs.Constraints.{rules_of}
 use Rattle.esto_constraint.specs.EncodingRules.{written}
 use Rattle.esto_course.specs.Course.{Course, judges, demands, gives, and_then, each}
 use Rattle.esto_fill.specs.Databases.{database_of}
-use Rattle.esto_fill.specs.Differences.{Agree, Audits, HoldViewRows}
+use Rattle.esto_fill.specs.Differences.{HoldViewRows}
 use Rattle.esto_fill.specs.Filled.{Fills}
 use Rattle.esto_fill.specs.Texts.{AreTextViews, AreTextsOf, HaveTextsOnly, HasNodeIn, IsFirstNodeColumn, IsFirstNodeView, IsTextRow}
 use Rattle.esto_fill.specs.declared.auditing.Difference.{Difference}
@@ -45,16 +45,16 @@ use Rattle.esto_opening.specs.declared.reply.Reply.{Reply}
 use Rattle.esto_opening.specs.declared.reply.Reply.TheVariants.{Done}
 use Rattle.esto_opening.specs.declared.status.Status.{Status}
 use Rattle.esto_opening.specs.declared.status.Status.TheVariants as status
-use Rattle.esto_opening.proofs.LeadLemmas.{then-leads, leads-more, gives-leads, judges-leads}
+use Rattle.esto_opening.proofs.LeadLemmas.{then-leads, leads-more, gives-leads}
 use Rattle.esto_opening.proofs.Steps.{never_wanting, read_cause}
 use Rattle.esto_course.proofs.Steps.{then_goes}
-use Rattle.esto_data.specs.Answer.{IsAnswerOfFacts, answer_course, answers_facts, answers_query}
-use Rattle.esto_data.specs.Audit.{AuditsFiles, all_fragments, audit_course, audit_text, audits_catalogue, compares, judges_views}
-use Rattle.esto_data.specs.Datasets.{AreNeeded, Each, Names, Source, demands_file, demands_files, loads, loads_files, loads_next, opens_dataset, opens_source, reads_data}
+use Rattle.esto_data.specs.Answer.{IsAnswerOfFacts, answer_course, answers_query}
+use Rattle.esto_data.specs.Audit.{AuditsFiles, all_fragments, audit_course, audit_text, audits_catalogue}
+use Rattle.esto_data.specs.Datasets.{Each, Names, demands_file, loads, loads_next, opens_dataset}
 use Rattle.esto_data.specs.declared.datasets.TheConstants.{DATASET_LIMIT}
 use Rattle.esto_data.specs.Exact.{AnswersExactly, AreReadableFragments, AuditsExactly, FilesSayCatalogue, FilesSayQuery, FillsExactly, HoldFacts, IsExactAnswer, IsExactAudit, IsExactFill}
 use Rattle.esto_data.specs.Exact.FillsExactly.{prints, refuses}
-use Rattle.esto_data.specs.Fill.{IsFilled, IsFirstOf, IsRowOfView, fill_course, fill_status, fills_file, fills_fragment, fills_named, finds_fragment, names_of}
+use Rattle.esto_data.specs.Fill.{IsFilled, IsFirstOf, IsRowOfView, fill_course, fill_status, fills_file, fills_named, names_of}
 use Rattle.esto_data.specs.Laws.{Says}
 use Rattle.esto_data.proofs.AgreeLemmas.{DataLaws, listed_not_node}
 use Rattle.esto_data.proofs.AlikeLemmas.{are_rules, audits-moved, first_one}
@@ -161,7 +161,7 @@ module _ (laws : DataLaws) (files : Files) (catalogue : Catalogue) where
     goes = λ value goes. tt;
     stops = λ said caused stop. elim stop [
       | inl none ↦ absurd none
-      | inr (dataset, at, without, is) ↦ no_data dataset.name said is
+      | inr (dataset, at, (without, is)) ↦ no_data dataset.name said is
     ];
   }
     where

@@ -1,19 +1,15 @@
 -- The files of all fragments, opened one after the other.
-use Rattle.std.proofs.Common.{◌≡◌, ◌≢◌, ◌⊎◌, ◌↔◌, ◌<◌, ◌≤◌, ◌+◌, ◌==◌, ℕ, zero, suc, true, false, List, [], ◌∷◌, length, slice_get, Contains, Option, Some, None, refl, sym, ap, subst, ◌∙◌, arith, inl, inr}
+use Rattle.std.proofs.Common.{◌≡◌, ◌⊎◌, ◌↔◌, ◌<◌, ◌≤◌, ◌+◌, ℕ, zero, suc, List, length, slice_get, Option, Some, sym, ap, subst, ◌∙◌, arith, inl, inr}
 use Rattle.std.specs.List.{range_with_len}
-use Rattle.std.proofs.lemmas.Bool.Decides.{nat_tests}
 use Rattle.std.proofs.lemmas.Option.{same_Some, none-some, slice_get_within}
 use Rattle.esto_catalog.specs.declared.catalogue.Catalogue.{Catalogue}
 use Rattle.esto_catalog.specs.declared.catalogue.Store.{Store}
-use Rattle.esto_course.specs.Course.{Course, judges, gives, and_then, each}
+use Rattle.esto_course.specs.Course.{judges, gives, and_then, each}
 use Rattle.esto_ports.specs.Files.{Files}
 use Rattle.esto_run.specs.Stores.{IsFileRow, IsRowIn}
 use Rattle.esto_semantics.specs.declared.fact.Fact.{Fact}
-use Rattle.esto_term.proofs.ListLemmas.{Contains-head, Contains-rest}
-use Rattle.esto_views.specs.declared.fragments.FragmentDef.{FragmentDef}
 use Rattle.esto_opening.specs.Answers.{IsCaused}
 use Rattle.esto_opening.specs.Calm.{Leads}
-use Rattle.esto_opening.specs.Fetch.{fetches}
 use Rattle.esto_opening.specs.Fragments.{Stored, IsStoredAt, reads_content, opens_stored, opens_fragment, opens_next, opens_fragments, no_contents, with_content}
 use Rattle.esto_opening.specs.declared.fragments.TheConstants.{FRAGMENT_LIMIT}
 use Rattle.esto_opening.specs.declared.status.Status.{Status}

@@ -1,9 +1,9 @@
 -- The files of the datasets that are needed, each opened, and their facts.
-use Rattle.std.proofs.Common.{◌≡◌, ◌⊎◌, ℕ, suc, List, [], ◌∷◌, ◌++◌, map, slice_get, Contains, Option, Some, None, refl, sym, ap, subst, ◌∙◌, append_assoc, append-nil, inl, inr}
+use Rattle.std.proofs.Common.{◌≡◌, ℕ, suc, List, [], ◌∷◌, ◌++◌, map, slice_get, Contains, Option, Some, refl, sym, ap, subst, ◌∙◌, append_assoc, append-nil, inl, inr}
 use Rattle.std.specs.Prelude.{IsSome}
 use Rattle.std.proofs.lemmas.Option.{same_Some, none-some}
 use Rattle.esto_catalog.specs.declared.dataset.Dataset.{Dataset}
-use Rattle.esto_course.specs.Course.{Course, judges, demands, gives, and_then, each}
+use Rattle.esto_course.specs.Course.{judges, demands, gives, and_then, each}
 use Rattle.esto_fill.specs.Files.{AreFactsFrom}
 use Rattle.esto_fill.specs.Laws.{FactsAreOne}
 use Rattle.esto_fill.specs.declared.datasets.DatasetBytes.{DatasetBytes}
@@ -16,7 +16,7 @@ use Rattle.esto_opening.specs.Calm.{Leads}
 use Rattle.esto_opening.specs.Fetch.{fetches}
 use Rattle.esto_opening.specs.declared.status.Status.{Status}
 use Rattle.esto_opening.proofs.LeadLemmas.{then-leads, leads-more, gives-leads, judges-leads, fetches-leads}
-use Rattle.esto_data.specs.Datasets.{AreFactsOfFiles, AreNeeded, IsSourceAt, Source, demands_file, demands_files, loads, loads_files, loads_next, opens_dataset, opens_source, reads_data}
+use Rattle.esto_data.specs.Datasets.{AreFactsOfFiles, AreNeeded, IsSourceAt, Source, demands_file, loads, loads_next, opens_dataset, reads_data}
 use Rattle.esto_data.specs.Exact.{HoldFacts, IsReadableDataset, files_of}
 use Rattle.esto_data.specs.declared.datasets.TheConstants.{DATASET_LIMIT}
 use Rattle.esto_data.proofs.LoadLemmas.{needed_one}
@@ -91,7 +91,7 @@ module _ (files : Option Files) (datasets : List Dataset) where
       elim stops [
         | inl at_once ↦ elim at_once [
           | inl none ↦ none
-          | inr (dataset, at, without, is) ↦
+          | inr (dataset, at, (without, is)) ↦
               without (subst (λ (it : Dataset). IsSome it.file) (same_Some here.dataset dataset (sym here.there ∙ at)) here.file)
         ]
         | inr (next, goes, more) ↦ never_demanded rest (suc counter) next (λ other inside. can other (Contains-rest number rest other inside)) said more
@@ -118,7 +118,8 @@ module _ (files : Option Files) (datasets : List Dataset) where
   loads_never Needs can said caused stops = elim stops [
     | inl none ↦ none
     | inr (numbers, needed, more) ↦
-        let each_can = λ (number : ℕ) inside. let found = (needed.exact number).0 inside in can number found.0 found.1 found.2 in
+        let each_can : (number : ℕ) → Contains numbers number → CanOpen files datasets number =
+        (λ number inside. let found = (needed.exact number).0 inside in can number found.0 found.1 found.2) in
         elim more [
           | inl without ↦ never_demanded numbers 0 tt each_can said without
           | inr (given, have, later) ↦ elim later [
@@ -130,7 +131,7 @@ module _ (files : Option Files) (datasets : List Dataset) where
 
 -- ---- readable files
 
-holds-leads : {A : Type 0} (Accepts Fact : A → Type 0) (Refusal : Status → Type 0) → ((value : A) → Accepts value → Fact value)
+pub holds-leads : {A : Type 0} (Accepts Fact : A → Type 0) (Refusal : Status → Type 0) → ((value : A) → Accepts value → Fact value)
     → Leads (judges Accepts (λ _. ⊥)) Fact Refusal
 holds-leads Accepts Fact Refusal more = leads-more _ Accepts Fact Refusal more (judges-leads Accepts (λ _. ⊥) Refusal (λ said caused never. absurd never))
 
@@ -164,7 +165,7 @@ module _ (files : Files) (datasets : List Dataset) where
   can_open number dataset bytes at readable = record {
     dataset = dataset;
     there = at;
-    file = subst IsSome (sym readable.1) tt;
+    file = subst IsSome (sym readable.1) refl;
     never = (readable_opens number dataset bytes at readable).stops;
   }
 

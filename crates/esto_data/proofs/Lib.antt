@@ -2,6 +2,7 @@ pub mod Steps
 pub mod StepLemmas
 pub mod DatasetLemmas
 pub mod RowLemmas
+pub mod FindLemmas
 pub mod AlikeLemmas
 pub mod LoadLemmas
 pub mod AgreeLemmas

@@ -1,7 +1,6 @@
 -- What is exact over a catalogue is exact over one that says the same.
-use Rattle.std.proofs.Common.{◌≡◌, ◌↔◌, ◌<◌, ℕ, List, [], ◌∷◌, map, length, slice_get, Contains, Option, Some, None, Result, Ok, Err, refl, sym, ap, subst, ◌∙◌, arith}
-use Rattle.std.proofs.lemmas.List.{length-map}
-use Rattle.std.proofs.lemmas.Option.{same_Some, slice_get_within}
+use Rattle.std.proofs.Common.{◌≡◌, ◌↔◌, ℕ, List, [], ◌∷◌, map, length, Contains, Option, Some, None, Result, Ok, Err, refl, sym, ap, subst, ◌∙◌, arith}
+use Rattle.std.proofs.lemmas.Option.{same_Some}
 use Rattle.esto_catalog.specs.Determined.{AreSame, stored_as}
 use Rattle.esto_catalog.specs.declared.catalogue.Catalogue.{Catalogue}
 use Rattle.esto_catalog.specs.declared.catalogue.Store.{Store}
@@ -9,7 +8,6 @@ use Rattle.esto_catalog.specs.declared.dataset.Dataset.{Dataset}
 use Rattle.esto_constraint.specs.Constraints.{rules_of}
 use Rattle.esto_constraint.specs.EncodingRules.{written}
 use Rattle.esto_fill.specs.Databases.{database_of}
-use Rattle.esto_fill.specs.Differences.{Agree, Audits}
 use Rattle.esto_fill.specs.Filled.{Fills, IsOpenedAs}
 use Rattle.esto_fill.specs.Texts.{AreTextViews, AreTextsOf, HaveTextsOnly, IsFirstNodeColumn, IsFirstNodeView}
 use Rattle.esto_fill.specs.declared.auditing.Difference.{Difference}
@@ -32,9 +30,9 @@ use Rattle.esto_opening.specs.declared.status.Status.{Status}
 use Rattle.esto_opening.specs.declared.status.Status.TheVariants as status
 use Rattle.esto_data.specs.Audit.{AuditsFiles}
 use Rattle.esto_data.specs.Datasets.{Each, Names}
-use Rattle.esto_data.specs.Exact.{AnswersExactly, AreReadableFragments, AuditsExactly, FillsExactly, HoldFacts, IsExactAnswer, IsExactAudit, IsExactFill}
+use Rattle.esto_data.specs.Exact.{AreReadableFragments, FillsExactly, HoldFacts, IsExactAnswer, IsExactAudit, IsExactFill}
 use Rattle.esto_data.specs.Exact.FillsExactly.{prints, refuses}
-use Rattle.esto_data.specs.Fill.{IsFilled, IsFirstOf, IsRowOfView, names_of}
+use Rattle.esto_data.specs.Fill.{IsFirstOf, IsRowOfView, names_of}
 use Rattle.esto_data.proofs.AlikeLemmas.{alike_back, audits-moved, audits_over, fills_moved, fragments_long, other_stored, texts_one, same_query, same_rows_text, same_stored, same_view}
 
 -- ---- `answer`

@@ -1,15 +1,14 @@
 -- `audit` never stops with Done.
 use Rattle.std.proofs.Common.{◌≡◌, ◌≢◌, ℕ, List, [], ◌∷◌, ◌++◌, Some, sym, ◌∙◌}
-use Rattle.esto_catalog.specs.declared.catalogue.Catalogue.{Catalogue}
 use Rattle.esto_catalog.specs.declared.dataset.Dataset.{Dataset}
 use Rattle.esto_fill.specs.declared.datasets.DatasetBytes.{DatasetBytes}
-use Rattle.esto_course.specs.Course.{Course, demands}
+use Rattle.esto_course.specs.Course.{demands}
 use Rattle.esto_ports.specs.Files.{Files}
 use Rattle.esto_opening.specs.declared.reply.Reply.TheVariants.{Done}
 use Rattle.esto_opening.specs.declared.status.Status.{Status}
 use Rattle.esto_opening.specs.declared.status.Status.TheVariants as status
 use Rattle.esto_opening.proofs.RefusalLemmas.{Refuses, catalogue_refuses, each_refuses, fetch_refuses, fragments_refuse, gives_refuses, judges_refuses, then_refuses}
-use Rattle.esto_data.specs.Audit.{all_fragments, audit_course, audit_text, audits_catalogue}
+use Rattle.esto_data.specs.Audit.{all_fragments, audit_course, audit_text}
 use Rattle.esto_data.specs.Datasets.{Each, demands_file, loads, loads_next, opens_dataset}
 use Rattle.esto_data.specs.declared.datasets.TheConstants.{DATASET_LIMIT}
 

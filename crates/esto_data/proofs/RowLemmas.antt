@@ -1,14 +1,12 @@
 -- The rows of the files of all fragments, opened one after the other.
-use Rattle.std.proofs.Common.{◌≡◌, ◌≢◌, ◌↔◌, ◌<◌, ◌≤◌, ◌+◌, ◌==◌, ℕ, zero, suc, true, false, List, [], ◌∷◌, ◌++◌, drop, length, length-append, get_or, slice_get, Contains, Option, Some, None, Result, Ok, Err, refl, sym, ap, subst, ◌∙◌, arith, inl, inr}
-use Rattle.std.specs.Prelude.{IfSome, slice_index_or}
-use Rattle.std.specs.List.{range_with_len}
+use Rattle.std.proofs.Common.{◌≡◌, ◌≢◌, ◌↔◌, ◌<◌, ◌+◌, ◌==◌, ℕ, zero, suc, true, false, List, [], ◌∷◌, ◌++◌, drop, length, length-append, get_or, slice_get, Contains, Option, Some, Result, Ok, Err, refl, sym, ap, subst, ◌∙◌, arith, inl, inr}
 use Rattle.std.specs.Result.{IsErrAnd}
 use Rattle.std.proofs.lemmas.Bool.Decides.{nat_tests}
 use Rattle.std.proofs.lemmas.List.FromFn.{length-range_with_len, get_or-range_with_len}
 use Rattle.std.proofs.lemmas.Option.{same_Some, slice_get_within}
 use Rattle.esto_catalog.specs.declared.catalogue.Catalogue.{Catalogue}
 use Rattle.esto_catalog.specs.declared.catalogue.Store.{Store}
-use Rattle.esto_course.specs.Course.{Course, Stops, judges, gives, and_then, each}
+use Rattle.esto_course.specs.Course.{Stops, judges, gives, each}
 use Rattle.esto_course.specs.Course.Stops.{refused}
 use Rattle.esto_course.proofs.Steps.{Leads, first_stops, then_stops, then_goes, gives_goes, caused_more, each_next, each_stops, each_goes}
 use Rattle.esto_plan.specs.Rows.{IsRowOf, held_by}
@@ -16,13 +14,14 @@ use Rattle.esto_ports.specs.Files.{Files}
 use Rattle.esto_ports.specs.declared.file_fault.FileError.{FileError}
 use Rattle.esto_ports.specs.declared.file_fault.FileError.TheVariants.{Fault}
 use Rattle.esto_ports.specs.declared.file_fault.FileFault.{FileFault}
-use Rattle.esto_run.specs.Stores.{GivesRows, IsFileRow, IsRowIn}
+use Rattle.esto_run.specs.Stores.{GivesRows, IsFileRow, IsRowIn, first_fault_in}
 use Rattle.esto_semantics.specs.declared.fact.Fact.{Fact}
 use Rattle.esto_stores.specs.Rows.{Row}
 use Rattle.esto_term.proofs.ListLemmas.{Contains-nil, at_pushed, thing_at}
+use Rattle.esto_views.specs.declared.fragments.FragmentDef.{FragmentDef}
 use Rattle.esto_opening.specs.Answers.{IsWant, IsCaused}
 use Rattle.esto_opening.specs.Fetch.{fetches}
-use Rattle.esto_opening.specs.Fragments.{Stored, IsStoredAt, content_fault, reads_content, opens_stored, opens_fragment, no_contents, with_content, opens_next, opens_fragments}
+use Rattle.esto_opening.specs.Fragments.{Stored, IsStoredAt, content_fault, opens_stored, opens_fragment, no_contents, with_content, opens_next, opens_fragments}
 use Rattle.esto_opening.specs.declared.fragments.TheConstants.{FRAGMENT_LIMIT}
 use Rattle.esto_opening.specs.declared.status.Status.{Status}
 use Rattle.esto_opening.specs.declared.status.Status.TheVariants.{BadFragment}
@@ -46,6 +45,35 @@ rows_refused stored bytes name fault found is = refused (record { cause = tt }) 
 pub fault_given : (Has : Row → Type 0) (found : Option FileFault) (error : FileError) (fault : FileFault) → error ≡ Fault fault
     → GivesRows Has found (Err error) → found ≡ Some fault
 fault_given Has found error fault is gives = subst (λ (it : FileError). GivesRows Has found (Err it)) is gives
+
+-- the fragment and the store that were read are those of the number
+module _ (catalogue : Catalogue) (number : ℕ) (stored : Stored) (at : IsStoredAt catalogue number stored) (own : FragmentDef) (its : Store)
+    (there : slice_get catalogue.fragments number ≡ Some own) (store_there : slice_get catalogue.stores number ≡ Some its) (bytes same : List ℕ)
+    (is : same ≡ bytes) where
+  own_is : own ≡ stored.definition
+  own_is = same_Some own stored.definition (sym there ∙ at.definition)
+
+  its_is : its ≡ stored.store
+  its_is = same_Some its stored.store (sym store_there ∙ at.store)
+
+  given_at : (result : Result (List Row) FileError) → GivesRows (IsRowIn its.shape same) (first_fault_in its.shape (length own.view.head) same) result
+      → GivesRows (IsRowIn stored.store.shape bytes) (content_fault stored bytes) result
+  given_at result gives =
+      subst (λ (it : List ℕ). GivesRows (IsRowIn stored.store.shape it) (content_fault stored it) result) is
+      (subst (λ (it : FragmentDef). GivesRows (IsRowIn stored.store.shape same) (first_fault_in stored.store.shape (length it.view.head) same) result) own_is
+      (subst (λ (it : Store). GivesRows (IsRowIn it.shape same) (first_fault_in it.shape (length own.view.head) same) result) its_is gives))
+
+  pub rows_read_at : (rows : List Row) → GivesRows (IsRowIn its.shape same) (first_fault_in its.shape (length own.view.head) same) (Ok rows)
+      → ReadsRows stored bytes (Ok rows)
+  rows_read_at rows gives = rows_read stored bytes rows (given_at (Ok rows) gives)
+
+  pub rows_refused_at : (error : FileError) (fault : FileFault) → error ≡ Fault fault
+      → GivesRows (IsRowIn its.shape same) (first_fault_in its.shape (length own.view.head) same) (Err error) → (name : List ℕ) → name ≡ own.name
+      → ReadsRows stored bytes (Err (BadFragment name fault))
+  rows_refused_at error fault error_is gives name name_is =
+      rows_refused stored bytes name fault
+      (fault_given (IsRowIn stored.store.shape bytes) (content_fault stored bytes) error fault error_is (given_at (Err error) gives))
+      (name_is ∙ ap (λ (it : FragmentDef). it.name) own_is)
 
 -- ---- one file
 
@@ -189,6 +217,16 @@ module _ (files : Option Files) (catalogue : Catalogue) where
           let own = thing_at rows fact.relation within in
           let inside = (so_far.are fact.relation own.0 store own.1 there fact.terms).1 is in
           held_there rows fact.relation own.0 own.1 fact.terms inside
+
+  pub rows_end_at : (number : ℕ) (rows : List (List Row)) → SoFarRows files catalogue number rows → number ≡ length catalogue.fragments
+      → length catalogue.stores ≡ length catalogue.fragments → (rose : Type 0) → OpensRows files catalogue rose (Ok rows)
+  rows_end_at number rows so_far is many rose = rows_end rows (subst (λ (it : ℕ). SoFarRows files catalogue it rows) is so_far) many rose
+
+-- there is a fragment at the number, with the store
+pub stored_at : (catalogue : Catalogue) (number : ℕ) (store : Store) → number < length catalogue.fragments → slice_get catalogue.stores number ≡ Some store
+    → (definition : FragmentDef) × IsStoredAt catalogue number (record { definition = definition; store = store })
+stored_at catalogue number store below is =
+    let found = thing_at catalogue.fragments number below in (found.0, record { definition = found.1; store = is })
 
 -- the error of one file that `?` hands on
 pub all_rows_exit : {rose : Type 0} (files : Option Files) (catalogue : Catalogue) (error : Status) (result : Result (List (List Row)) Status)

@@ -18,7 +18,7 @@ use Rattle.esto_text.specs.declared.fault.TextFault.{TextFault}
 use Rattle.esto_text.specs.declared.fault.TextKind.{TextKind}
 use Rattle.esto_text.specs.declared.fault.TextKind.TheVariants.{Utf8, Syntax, Unknown, Arity, TooLarge, SameVariable, Unsafe, HeadLength}
 use Rattle.esto_opening.specs.declared.status.Status.{Status}
-use Rattle.esto_opening.specs.declared.status.Status.TheVariants.{Done, OutOfMemory, Usage, ReadFault, WriteFault, TooLong, BadCatalogue, BadQuery, NotAcyclic, BadFragment, Unsatisfiable, NoRewriting, NoSuchNumber, NoData, BadDataset, NodeInRow, Differs, KeyText, NotBuilt, NoSuchFragment}
+use Rattle.esto_opening.specs.declared.status.Status.TheVariants.{Done, OutOfMemory, Usage, ReadFault, WriteFault, TooLong, BadCatalogue, BadQuery, NotAcyclic, BadFragment, Unsatisfiable, NoRewriting, NoSuchNumber, NoData, BadDataset, NodeInRow, Differs, KeyText, NoSuchFragment}
 
 -- A cell as the record of this one cell has it, without the line feed that ends the record. The empty cell is two quotes.
 abbrev pub cell_of : List ℕ → List ℕ
@@ -44,7 +44,6 @@ code_of (BadDataset name fault) = 14
 code_of (NodeInRow column) = 15
 code_of (Differs difference) = 16
 code_of (KeyText cell) = 17
-code_of NotBuilt = 18
 code_of (NoSuchFragment name) = 19
 
 -- The word that names a kind of fault.
@@ -141,5 +140,4 @@ line_of (BadDataset name fault) =
 line_of (NodeInRow column) = codes "NodeInRow " ++ (decimal column ++ codes "\n")
 line_of (Differs difference) = codes "Differs " ++ difference_text difference
 line_of (KeyText cell) = codes "KeyText " ++ cell_of cell ++ codes "\n"
-line_of NotBuilt = codes "NotBuilt\n"
 line_of (NoSuchFragment name) = codes "NoSuchFragment " ++ cell_of name ++ codes "\n"

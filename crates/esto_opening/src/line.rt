@@ -366,7 +366,6 @@ pub fn status_line(alloc: Global, status: &Status) -> Result<Bytes, OutOfMemory>
         Status::NodeInRow(column) => node_in_row_line(alloc, *column),
         Status::Differs(difference) => differs_line(alloc, difference),
         Status::KeyText(cell) => named_line(alloc, "KeyText ", cell),
-        Status::NotBuilt => Bytes::from_slice(alloc, b"NotBuilt\n"),
         Status::NoSuchFragment(name) => named_line(alloc, "NoSuchFragment ", name),
     }
 }

@@ -40,8 +40,6 @@ pub enum Status {
     NoRewriting,
     /// The first number was asked for, counted from 1, and so many sets are listed, which are fewer.
     NoSuchNumber(u64, u64),
-    /// The command is not built yet.
-    NotBuilt,
     /// The dataset of this name has no file, and the command needs one.
     NoData(Text),
     /// The content of the file of the dataset of this name has this first fault.
@@ -88,7 +86,6 @@ impl Status {
             Status::NodeInRow(_) => 15,
             Status::Differs(_) => 16,
             Status::KeyText(_) => 17,
-            Status::NotBuilt => 18,
             Status::NoSuchFragment(_) => 19,
         }
     }

@@ -50,7 +50,8 @@ use Rattle.esto_top.specs.Outcome.Says.{replies, refuses}
 use Rattle.esto_top.specs.Run.{HasNoPlace, IsRunText, chooses, ends_query, lists_plan, run_course, runs_end, runs_item, runs_plan, runs_query}
 use Rattle.esto_top.specs.Run.HasNoPlace.{is_empty, is_above}
 use Rattle.esto_top.proofs.RunLemmas.{item_of, same_rows, uses_only}
-use Rattle.esto_top.proofs.RunsLemmas.{RunGoes, content_cases, same_texts, is_run, has_clash, over_same, run_goes, run_words}
+use Rattle.esto_top.proofs.RunsLemmas.{RunGoes, content_cases, same_texts, over_same, query_runs, run_words}
+use Rattle.esto_top.proofs.RunsLemmas.RunGoes.{is_run, has_clash}
 
 -- ---- no run stops with Done
 
@@ -197,7 +198,7 @@ module _ (laws : AgreementLaws) (files : Files) (catalogue_name query_name : Lis
   unfolding and_then
   course_agrees reply ran audits (catalogue, opens, (query, reads, goes)) done said answered says =
       run_agrees laws files catalogue_name query_name catalogue query number (laws.audited files catalogue_name catalogue reply audits opens) reads ran
-      (run_goes files catalogue query number ran goes) done said answered says
+      ((query_runs files catalogue query number).goes ran goes) done said answered says
 
   says_agreed : (audited ran answered : List ℕ) (said : Status) → Says (audit_course (Some files) catalogue_name) ⊥ status.Done audited
       → Says (run_course (Some files) catalogue_name query_name number) ⊥ status.Done ran

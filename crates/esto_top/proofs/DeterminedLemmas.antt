@@ -21,11 +21,12 @@ use Rattle.esto_views.specs.Fragments.{views_of}
 use Rattle.esto_views.specs.declared.plan.Plan.{Plan}
 use Rattle.esto_top.specs.Check.{check_text, check_course, count_lines, rank_lines}
 use Rattle.esto_course.proofs.Determined.{then_agree, gives_agree, refuses_agree, judges_agree}
+use Rattle.esto_data.specs.Laws.{AnswersAreOne, AuditsAreOne, FillsAreOne}
 use Rattle.esto_bench.specs.Summary.{SummariesAreOne}
 use Rattle.esto_opening.specs.Answers.{IsCaused}
 use Rattle.esto_top.specs.Determined.{OutcomesAreDetermined, ExactWhereTold}
 use Rattle.esto_top.specs.Grammar.{Request, request_of, course_of_request, course_of_asked}
-use Rattle.esto_top.specs.Grammar.Request.{CheckOf, ListFor, RunFor, BenchOf, Unbuilt}
+use Rattle.esto_top.specs.Grammar.Request.{CheckOf, ListFor, RunFor, FillFor, AnswerFor, AuditOf, BenchOf}
 use Rattle.esto_top.specs.List.{plans_query, prints_list, lists_query, list_course}
 use Rattle.esto_top.specs.Run.{run_course}
 use Rattle.esto_top.specs.Outcome.{CompleteWhereTold}
@@ -54,8 +55,14 @@ check_one catalogue other alike =
 
 -- ---- the courses
 
+-- the laws by which the commands on data have one outcome
+pub record DataLaws : Type 0 where
+  pub fills : FillsAreOne
+  pub answers : AnswersAreOne
+  pub audits : AuditsAreOne
+
 module _ (sound : CataloguesAreSound) (one : HaveOneCatalogue) (apart : HaveNoError) (one_error : HaveOneError) (one_reading : HaveOneReading)
-    (no_fault : HaveNoFault) (one_fault : HaveOneFault) (laws : ListLaws) (summaries : SummariesAreOne) (files : Files) where
+    (no_fault : HaveNoFault) (one_fault : HaveOneFault) (laws : ListLaws) (summaries : SummariesAreOne) (on_data : DataLaws) (files : Files) where
   -- no cause of a status that has its own is want of memory
   not_wanting : (said : Status) (cause : CatalogueError) → IsCaused ⊥ said → said ≡ status_of cause → cause ≢ error.OutOfMemory
   not_wanting said cause caused is wanting = never_wanting ⊥ said (is ∙ ap status_of wanting) caused
@@ -158,16 +165,18 @@ module _ (sound : CataloguesAreSound) (one : HaveOneCatalogue) (apart : HaveNoEr
   request_agrees (ListFor catalogue_name query_name) = list_agrees catalogue_name query_name
   request_agrees (RunFor catalogue_name query_name number) = run_agrees catalogue_name query_name number
   request_agrees (BenchOf size) = benches-agree summaries size
-  request_agrees Unbuilt = refuses_agree _ _ status.NotBuilt
+  request_agrees (FillFor catalogue_name name) = on_data.fills files catalogue_name name
+  request_agrees (AnswerFor catalogue_name query_name) = on_data.answers files catalogue_name query_name
+  request_agrees (AuditOf name) = on_data.audits files name
 
   pub asked_agrees : (asked : Option Request) → AgreeCalmly ◌≡◌ (course_of_asked (Some files) asked) (course_of_asked (Some files) asked)
   asked_agrees None = refuses_agree _ _ status.Usage
   asked_agrees (Some request) = request_agrees request
 
 pub outcomes_determined : CataloguesAreSound → HaveOneCatalogue → HaveNoError → HaveOneError → HaveOneReading → HaveNoFault → HaveOneFault → ListLaws
-    → SummariesAreOne → OutcomesAreDetermined
-outcomes_determined sound one apart one_error one_reading no_fault one_fault laws summaries words files said other_said text other_text outcome other_outcome =
-    says-agree _ _ said other_said text other_text (asked_agrees sound one apart one_error one_reading no_fault one_fault laws summaries
+    → SummariesAreOne → DataLaws → OutcomesAreDetermined
+outcomes_determined sound one apart one_error one_reading no_fault one_fault laws summaries on_data words files said other_said text other_text outcome other_outcome =
+    says-agree _ _ said other_said text other_text (asked_agrees sound one apart one_error one_reading no_fault one_fault laws summaries on_data
     files (request_of words)) outcome other_outcome
 
 pub exact : OutcomesAreDetermined → (words : List (List ℕ)) (files : Option Files) (rose sink_rose : Type 0) (old new : Option (List ℕ)) (result : Status)

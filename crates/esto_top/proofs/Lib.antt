@@ -19,3 +19,5 @@ pub mod RunsLemmas
 pub mod AgreeLemmas
 pub mod BenchLemmas
 pub mod DeterminedLemmas
+pub mod DataLemmas
+pub mod AgreedLemmas

@@ -185,7 +185,7 @@ module _ (files : Files) (catalogue : Catalogue) where
   opened_other numbers refusal caused stops = (each_other 0 no_contents numbers).stops refusal caused stops
 
 -- with a further content: that of its number, and the others as they were
-content_cases : (contents : ℕ → List ℕ) (number : ℕ) (bytes : List ℕ) (other : ℕ)
+pub content_cases : (contents : ℕ → List ℕ) (number : ℕ) (bytes : List ℕ) (other : ℕ)
     → ((other ≡ number) × (with_content contents number bytes other ≡ bytes)) ⊎ (with_content contents number bytes other ≡ contents other)
 content_cases contents number bytes other = decide (other == number) refl
   where
@@ -265,7 +265,7 @@ module _ (files : Files) (catalogue other : Catalogue) (alike : AreSame catalogu
 
 -- ---- the rows
 
-same_texts : (row other : Row) → map Text row ≡ map Text other → row ≡ other
+pub same_texts : (row other : Row) → map Text row ≡ map Text other → row ≡ other
 same_texts [] [] same = refl
 same_texts [] (text ∷ texts) same = absurd (cc)
 same_texts (text ∷ texts) [] same = absurd (cc)
@@ -278,7 +278,7 @@ same_texts (text ∷ texts) (other ∷ others) same =
     one text other same = cc
 
 -- the answers of a query over files rest on the contents of those that it uses
-over_same : (stores : List Store) (contents others : ℕ → List ℕ) (query : ConjunctiveQuery)
+pub over_same : (stores : List Store) (contents others : ℕ → List ℕ) (query : ConjunctiveQuery)
     → ((atom : Fact Term) → Contains query.body atom → contents atom.relation ≡ others atom.relation)
     → (row : Row) → IsAnswerOver (IsFileRow stores contents) query row → IsAnswerOver (IsFileRow stores others) query row
 over_same stores contents others query same row (m, keeps, sends, is) = (
@@ -518,7 +518,7 @@ module _ (sound : CataloguesAreSound) (one : HaveOneCatalogue) (apart : HaveNoEr
 -- ---- the words
 
 -- words that ask for a run have its course
-run_words : (words : List (List ℕ)) (catalogue_name query_name : List ℕ) (number : Option ℕ) (files : Option Files)
+pub run_words : (words : List (List ℕ)) (catalogue_name query_name : List ℕ) (number : Option ℕ) (files : Option Files)
     → AsksRun words catalogue_name query_name number → course_of words files ≡ run_course files catalogue_name query_name number
 run_words words catalogue_name query_name None files is = ap (λ (it : List (List ℕ)). course_of it files) is
 run_words words catalogue_name query_name (Some number) files (word, is_number, number_is, is) =

@@ -4,6 +4,9 @@ use Rattle.std.specs.Cmp.Lexicographic.{pointwise}
 use Rattle.std.specs.List.{list_all}
 use Rattle.esto_ports.specs.Files.{Files}
 use Rattle.esto_bench.specs.declared.case.TheConstants.{MAX_SIZE}
+use Rattle.esto_data.specs.Answer.{answer_course}
+use Rattle.esto_data.specs.Audit.{audit_course}
+use Rattle.esto_data.specs.Fill.{fill_course}
 use Rattle.esto_top.specs.Bench.{bench_course}
 use Rattle.esto_top.specs.Check.{check_course}
 use Rattle.esto_course.specs.Course.{Course, refuses}
@@ -12,18 +15,21 @@ use Rattle.esto_top.specs.Run.{run_course}
 use Rattle.esto_top.specs.declared.command.Command.{Command}
 use Rattle.esto_top.specs.declared.command.Command.TheVariants as command
 use Rattle.esto_opening.specs.declared.reply.Reply.{Reply}
-use Rattle.esto_opening.specs.declared.status.Status.TheVariants.{Usage, NotBuilt}
+use Rattle.esto_opening.specs.declared.status.Status.TheVariants.{Usage}
 use Rattle.esto_top.specs.declared.command.TheConstants.{MAX_DIGITS}
 use Rattle.esto_opening.specs.declared.status.Status.{Status}
 
 -- What words of the grammar ask for: the check of a catalogue's file; the list for a catalogue's and a query's file; the run for them of the pick, or of the
--- set of a number of the list; the summary of the made case of a size; or what is not built yet.
+-- set of a number of the list; the fill of the fragment of a name, for a catalogue's file; the answers for a catalogue's and a query's file; the audit of a
+-- catalogue's file; or the summary of the made case of a size.
 pub data Request : Type 0 where
   CheckOf : List ℕ → Request
   ListFor : List ℕ → List ℕ → Request
   RunFor : List ℕ → List ℕ → Option ℕ → Request
   BenchOf : ℕ → Request
-  Unbuilt : Request
+  FillFor : List ℕ → List ℕ → Request
+  AnswerFor : List ℕ → List ℕ → Request
+  AuditOf : List ℕ → Request
 
 -- The word has these bytes.
 abbrev pub is_word : List ℕ → List ℕ → Bool
@@ -61,7 +67,7 @@ is_made_size _ = false
 abbrev pub request_of_one : List ℕ → List ℕ → Option Request
 request_of_one verb word =
     if is_word verb (codes "check") then Some (Request.CheckOf word)
-    else if is_word verb (codes "audit") then Some Request.Unbuilt
+    else if is_word verb (codes "audit") then Some (Request.AuditOf word)
     else if is_word verb (codes "bench") && is_made_size word then Some (Request.BenchOf (value_of word))
     else None
 
@@ -70,7 +76,8 @@ abbrev pub request_of_two : List ℕ → List ℕ → List ℕ → Option Reques
 request_of_two verb first second =
     if is_word verb (codes "list") then Some (Request.ListFor first second)
     else if is_word verb (codes "run") then Some (Request.RunFor first second None)
-    else if is_word verb (codes "fill") || is_word verb (codes "answer") then Some Request.Unbuilt
+    else if is_word verb (codes "fill") then Some (Request.FillFor first second)
+    else if is_word verb (codes "answer") then Some (Request.AnswerFor first second)
     else None
 
 -- The command of three words: run C Q N.
@@ -91,7 +98,9 @@ asked (command.Check catalogue) = Request.CheckOf catalogue.now
 asked (command.List catalogue query) = Request.ListFor catalogue.now query.now
 asked (command.Run catalogue query number) = Request.RunFor catalogue.now query.now number
 asked (command.Bench size) = Request.BenchOf size
-asked command.Unbuilt = Request.Unbuilt
+asked (command.Fill catalogue fragment) = Request.FillFor catalogue.now fragment.now
+asked (command.Answer catalogue query) = Request.AnswerFor catalogue.now query.now
+asked (command.Audit catalogue) = Request.AuditOf catalogue.now
 
 -- The size of `bench` is one of the made case.
 abbrev pub IsSized : Command → Type 0
@@ -99,7 +108,9 @@ IsSized (command.Check catalogue) = Unit {0}
 IsSized (command.List catalogue query) = Unit {0}
 IsSized (command.Run catalogue query number) = Unit {0}
 IsSized (command.Bench size) = (0 < size) × (size ≤ MAX_SIZE)
-IsSized command.Unbuilt = Unit {0}
+IsSized (command.Fill catalogue fragment) = Unit {0}
+IsSized (command.Answer catalogue query) = Unit {0}
+IsSized (command.Audit catalogue) = Unit {0}
 
 -- The course of what is asked for.
 abbrev pub course_of_request : Option Files → Request → Course Status Reply
@@ -107,7 +118,9 @@ course_of_request files (Request.CheckOf catalogue) = check_course files catalog
 course_of_request files (Request.ListFor catalogue query) = list_course files catalogue query
 course_of_request files (Request.RunFor catalogue query number) = run_course files catalogue query number
 course_of_request files (Request.BenchOf size) = bench_course size
-course_of_request files Request.Unbuilt = refuses NotBuilt
+course_of_request files (Request.FillFor catalogue fragment) = fill_course files catalogue fragment
+course_of_request files (Request.AnswerFor catalogue query) = answer_course files catalogue query
+course_of_request files (Request.AuditOf catalogue) = audit_course files catalogue
 
 -- The course of the words that ask for something, and the refusal of words outside the grammar.
 abbrev pub course_of_asked : Option Files → Option Request → Course Status Reply

@@ -9,3 +9,4 @@ pub mod Headline
 pub mod Runs
 pub mod Benches
 pub mod Determined
+pub mod DataOutcomes

@@ -10,6 +10,7 @@ use crate::check::check;
 use crate::list::list;
 use crate::run::run;
 use esto_bench::MAX_SIZE;
+use esto_data::{answer, audit, fill};
 use esto_opening::{Reply, Status};
 use esto_ports::Shelf;
 use esto_term::Text;
@@ -30,8 +31,13 @@ pub enum Command<'a> {
     Run(&'a Text, &'a Text, Option<u64>),
     /// `bench N`: the summary of the made case of this size, 1 to `MAX_SIZE`.
     Bench(usize),
-    /// A command that is not built yet: `fill C F`, `answer C Q` or `audit C`.
-    Unbuilt,
+    /// `fill C F`: the text of the file of the fragment of a name, for a catalogue's file.
+    Fill(&'a Text, &'a Text),
+    /// `answer C Q`: the rows over the datasets' files, for a catalogue's file and a query's file.
+    Answer(&'a Text, &'a Text),
+    /// `audit C`: whether the datasets' files meet the constraints and the fragments' files are right, for a catalogue's
+    /// file.
+    Audit(&'a Text),
 }
 
 fn is_word(word: &Text, name: &[u8]) -> bool
@@ -110,7 +116,7 @@ fn command_of_one<'a>(verb: &Text, word: &'a Text) -> Option<Command<'a>>
     if is_word(verb, b"check") {
         Some(Command::Check(word))
     } else if is_word(verb, b"audit") {
-        Some(Command::Unbuilt)
+        Some(Command::Audit(word))
     } else if is_word(verb, b"bench") && is_made_size(word.bytes()) {
         Some(Command::Bench(made_size(word.bytes())))
     } else {
@@ -128,8 +134,10 @@ fn command_of_two<'a>(verb: &Text, first: &'a Text, second: &'a Text) -> Option<
         Some(Command::List(first, second))
     } else if is_word(verb, b"run") {
         Some(Command::Run(first, second, None))
-    } else if is_word(verb, b"fill") || is_word(verb, b"answer") {
-        Some(Command::Unbuilt)
+    } else if is_word(verb, b"fill") {
+        Some(Command::Fill(first, second))
+    } else if is_word(verb, b"answer") {
+        Some(Command::Answer(first, second))
     } else {
         None
     }
@@ -183,6 +191,8 @@ pub fn obey<S: Shelf>(alloc: Global, shelf: &mut S, command: Command<'_>) -> Res
         Command::List(catalogue, query) => list(alloc, shelf, catalogue, query),
         Command::Run(catalogue, query, number) => run(alloc, shelf, catalogue, query, number),
         Command::Bench(size) => bench(alloc, size),
-        Command::Unbuilt => Err(Status::NotBuilt),
+        Command::Fill(catalogue, fragment) => fill(alloc, shelf, catalogue, fragment),
+        Command::Answer(catalogue, query) => answer(alloc, shelf, catalogue, query),
+        Command::Audit(catalogue) => audit(alloc, shelf, catalogue),
     }
 }

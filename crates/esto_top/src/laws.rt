@@ -1,4 +1,5 @@
 //! Laws of outcomes.
+ghost use Rattle.esto_top.specs.DataOutcomes.{OutcomesAgree, OutcomesAreAnswers, OutcomesAreAudits, OutcomesAreFills};
 ghost use Rattle.esto_top.specs.Determined.{OutcomesAreDetermined};
 ghost use Rattle.esto_top.specs.Headline.{OutcomesAreLists, OutcomesAreRefusals};
 ghost use Rattle.esto_top.specs.Runs.{OutcomesAreRuns};
@@ -11,6 +12,8 @@ use esto_core::{
     printed_cores_are_one_for_a_query, printed_plans_are_one, printed_plans_are_universal,
     printed_plans_tell_satisfiable_queries,
 };
+use esto_data::{audited_datasets_answer, data_outcomes_are_exact, data_outcomes_are_one};
+use esto_fill::agreeing_answers_are_one;
 use esto_query::queries_are_sound;
 use esto_read::readings_are_determined;
 use esto_run::{rewritings_answer_queries, rising_rows_are_one, used_fragments_are_one};
@@ -91,4 +94,25 @@ pub fn outcomes_are_determined()
     used_fragments_are_one();
     rising_rows_are_one();
     summaries_are_one();
+    data_outcomes_are_one();
+}
+
+/// A law: where the files say what a command on data needs, each outcome of `fill` is the file of the fragment's view rows,
+/// of `answer` the query's answers over the datasets' files, and of `audit` that all agrees, or the first cause that there is.
+pub(crate) fn data_outcomes_hold()
+    ensures fills { OutcomesAreFills }
+    ensures answers { OutcomesAreAnswers }
+    ensures audits { OutcomesAreAudits }
+{
+    data_outcomes_are_exact();
+}
+
+/// A law: where `audit` and `run` are Done over the same files, each outcome of `answer` is Done with the text of `run`.
+pub fn answers_agree_with_runs()
+    ensures { OutcomesAgree }
+{
+    audited_datasets_answer();
+    agreeing_answers_are_one();
+    rising_rows_are_one();
+    chosen_atoms_are_named();
 }

@@ -10,5 +10,5 @@ mod list;
 mod run;
 mod top;
 
-pub use laws::outcomes_are_determined;
+pub use laws::{answers_agree_with_runs, outcomes_are_determined};
 pub use top::mediate;

@@ -3,6 +3,7 @@ ghost use Rattle.std.specs.Prelude.{◌≡◌, ◌≤◌};
 ghost use Rattle.esto_ports.specs.Faults.{Rises};
 ghost use Rattle.esto_opening.specs.Answers.{Answers};
 ghost use Rattle.esto_top.specs.Benches.{BenchesAlways};
+ghost use Rattle.esto_top.specs.DataOutcomes.{AnswersWhereTold, AuditsWhereTold, FillsWhereTold};
 ghost use Rattle.esto_top.specs.Determined.{ExactWhereTold};
 ghost use Rattle.esto_top.specs.Grammar.{course_of};
 ghost use Rattle.esto_top.specs.Headline.{ListsWhereTold, RefusesWhereTold};
@@ -11,7 +12,7 @@ ghost use Rattle.esto_top.specs.Outcome.{Mediates, CompleteWhereTold, CausedRead
 
 use crate::command::{command_of, obey};
 use crate::ending::finish;
-use crate::laws::{lists_are_exact, outcomes_are_determined, runs_are_exact};
+use crate::laws::{data_outcomes_hold, lists_are_exact, outcomes_are_determined, runs_are_exact};
 use esto_opening::{Reply, Status};
 use esto_ports::{Shelf, Sink};
 use esto_term::Text;
@@ -82,6 +83,20 @@ pub fn mediate<S: Shelf, O: Sink>(
     ensures bench { BenchesAlways words.now (Rises O.faults out.old out.new) (O.written out.old)
         (O.written out.new) result }
 
+    // Where the files say a catalogue, and a query over it, and the files of what a command needs are readable: the text of
+    // `answer` is that of exactly the query's answers over the facts of the datasets that it names, that of `fill` a file
+    // with exactly the rows of the fragment's view, and `audit` is Done exactly where the facts of all datasets meet the
+    // rules and each fragment's file holds exactly the rows of its view; else each tells its first cause.
+    ensures answer { AnswersWhereTold words.now (S.files shelf.old)
+        (Rises S.faults shelf.old shelf.new) (Rises O.faults out.old out.new) (O.written out.old)
+        (O.written out.new) result }
+    ensures fill { FillsWhereTold words.now (S.files shelf.old)
+        (Rises S.faults shelf.old shelf.new) (Rises O.faults out.old out.new) (O.written out.old)
+        (O.written out.new) result }
+    ensures audit { AuditsWhereTold words.now (S.files shelf.old)
+        (Rises S.faults shelf.old shelf.new) (Rises O.faults out.old out.new) (O.written out.old)
+        (O.written out.new) result }
+
     // A fault has its cause.
     ensures read_fault { CausedReadFault (course_of words.now (S.files shelf.old))
         (Rises S.faults shelf.old shelf.new) (O.written out.old) (O.written out.new) result }
@@ -97,6 +112,7 @@ pub fn mediate<S: Shelf, O: Sink>(
     lists_are_exact();
     runs_are_exact();
     outcomes_are_determined();
+    data_outcomes_hold();
     let answer = answer(alloc, words, shelf);
     finish(alloc, answer, out)
 }

@@ -19,3 +19,8 @@ returns c =
       rising = c.rising_rows_are_one.ensures;
     })
     c.summaries_are_one.ensures
+    (record {
+      fills = c.data_outcomes_are_one.ensures.fills;
+      answers = c.data_outcomes_are_one.ensures.answers;
+      audits = c.data_outcomes_are_one.ensures.audits;
+    })

@@ -1,4 +1,5 @@
 use Rattle.esto_top.proofs.BenchLemmas.{benches_always}
+use Rattle.esto_top.proofs.DataLemmas.{answers_where_told, audits_where_told, fills_where_told}
 use Rattle.esto_top.proofs.DeterminedLemmas.{exact}
 use Rattle.esto_top.proofs.HeadlineLemmas.{holds_of_lists}
 use Rattle.esto_top.proofs.RunsLemmas.{runs_where_told}
@@ -39,3 +40,18 @@ returns-clause-run g c =
 
 pub returns-clause-bench : goal.returns-clause-bench
 returns-clause-bench g c = benches_always c.args.words.now _ _ _ _ _ _ (mediates _ _ _ _ _ _ _ c.answer-answer.ensures.answer c.finish.ensures.put)
+
+pub returns-clause-answer : goal.returns-clause-answer
+returns-clause-answer g c =
+    answers_where_told c.args.words.now _ _ _ _ _ c.data_outcomes_hold.ensures.answers _
+    (complete c.args.words.now _ _ _ _ _ _ (mediates _ _ _ _ _ _ _ c.answer-answer.ensures.answer c.finish.ensures.put))
+
+pub returns-clause-fill : goal.returns-clause-fill
+returns-clause-fill g c =
+    fills_where_told c.args.words.now _ _ _ _ _ c.data_outcomes_hold.ensures.fills _
+    (complete c.args.words.now _ _ _ _ _ _ (mediates _ _ _ _ _ _ _ c.answer-answer.ensures.answer c.finish.ensures.put))
+
+pub returns-clause-audit : goal.returns-clause-audit
+returns-clause-audit g c =
+    audits_where_told c.args.words.now _ _ _ _ _ c.data_outcomes_hold.ensures.audits _
+    (complete c.args.words.now _ _ _ _ _ _ (mediates _ _ _ _ _ _ _ c.answer-answer.ensures.answer c.finish.ensures.put))

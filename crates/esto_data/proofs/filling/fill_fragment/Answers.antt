@@ -1,0 +1,27 @@
+use Rattle.std.proofs.Common.{refl}
+use Rattle.esto_course.proofs.Steps.{at_exit}
+use Rattle.esto_opening.specs.declared.reply.Reply.TheVariants.{Done}
+use Rattle.esto_data.proofs.StepLemmas.{fill_goes, fill_unfilled, fill_unloaded, fragment_stored}
+use Rattle.esto_data.proofs.filling.fill_fragment.Goals as goal
+
+pub returns-in_err-loaded-clause-answer : goal.returns-in_err-loaded-clause-answer
+returns-in_err-loaded-clause-answer g c =
+    let stored = fragment_stored c.args.catalogue.now c.args.number c.item-fragment.result.now c.requires c.item-fragment.ensures
+    (c.catalogues_are_sound.ensures c.args.catalogue.now).stored in
+    at_exit _ _ c.from_residual.result c.from_residual.ensures.1
+    (fill_unloaded (g.S.Shelf.files c.args.shelf.now) c.args.catalogue.now c.args.number _ stored.1 _ _ c.in_err-loaded.ensures.answer)
+
+pub returns-in_err-text-clause-answer : goal.returns-in_err-text-clause-answer
+returns-in_err-text-clause-answer g c =
+    let stored = fragment_stored c.args.catalogue.now c.args.number c.item-fragment.result.now c.requires c.item-fragment.ensures
+    (c.catalogues_are_sound.ensures c.args.catalogue.now).stored in
+    at_exit _ _ c.from_residual-in_err-text.result c.from_residual-in_err-text.ensures.1
+    (fill_unfilled (g.S.Shelf.files c.args.shelf.now) c.args.catalogue.now c.args.number _ stored.1 c.in_ok-loaded.loaded.facts c.in_ok-loaded.ensures.answer
+    _ _ (c.in_err-text.ensures _ stored.1))
+
+pub returns-clause-answer : goal.returns-clause-answer
+returns-clause-answer g c =
+    let stored = fragment_stored c.args.catalogue.now c.args.number c.item-fragment.result.now c.requires c.item-fragment.ensures
+    (c.catalogues_are_sound.ensures c.args.catalogue.now).stored in
+    fill_goes (g.S.Shelf.files c.args.shelf.now) c.args.catalogue.now c.args.number _ stored.1 c.in_ok-loaded.loaded.facts c.in_ok-loaded.ensures.answer
+    c.in_ok-text.text (c.in_ok-text.ensures _ stored.1) (Done c.in_ok-text.text) refl
