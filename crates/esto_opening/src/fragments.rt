@@ -5,7 +5,7 @@ ghost use Rattle.esto_run.specs.Opened.{AreRowsFor, rows_held};
 ghost use Rattle.esto_opening.specs.Answers.{Answers};
 ghost use Rattle.esto_opening.specs.Fragments.{Stored, IsStoredAt, OpensAll, OpensNext, Reads};
 
-use crate::fetch::fetch;
+use crate::fetching::fetch;
 use crate::status::Status;
 use esto_catalog::{Catalogue, catalogues_are_sound};
 use esto_ports::{FileError, Shelf};

@@ -3,7 +3,7 @@
 #![tactic(auto)]
 
 mod cell;
-mod fetch;
+mod fetching;
 mod fragments;
 mod line;
 mod opening;
@@ -11,7 +11,7 @@ mod reply;
 mod status;
 
 pub use cell::cell_text;
-pub use fetch::fetch;
+pub use fetching::fetch;
 pub use fragments::{FRAGMENT_LIMIT, open_fragments};
 pub use line::status_line;
 pub use opening::{CATALOGUE_LIMIT, QUERY_LIMIT, open_catalogue, open_query};

@@ -4,7 +4,7 @@ ghost use Rattle.esto_ports.specs.Faults.{Rises};
 ghost use Rattle.esto_opening.specs.Answers.{Answers};
 ghost use Rattle.esto_opening.specs.Opening.{status_of, reads_catalogue, opens_catalogue, reads_query, opens_query};
 
-use crate::fetch::fetch;
+use crate::fetching::fetch;
 use crate::status::Status;
 use esto_catalog::{Catalogue, CatalogueError, catalogues_are_sound, read_catalogue};
 use esto_ports::Shelf;

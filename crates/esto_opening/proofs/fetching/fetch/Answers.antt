@@ -3,7 +3,7 @@ use Rattle.esto_opening.specs.Fetch.{fetches}
 use Rattle.esto_opening.specs.Fetch.FetchStops.{fails, is_longer}
 use Rattle.esto_course.specs.Course.Stops.{refused}
 use Rattle.esto_opening.specs.declared.status.Status.TheVariants.{ReadFault, TooLong}
-use Rattle.esto_opening.proofs.fetch.fetch.Goals as goal
+use Rattle.esto_opening.proofs.fetching.fetch.Goals as goal
 
 pub returns-in_ok-bytes-in-Ok-clause-answer : goal.returns-in_ok-bytes-in-Ok-clause-answer
 unfolding fetches
