@@ -16,7 +16,7 @@ use Rattle.esto_text.specs.declared.fault.TextFault.{TextFault}
 use Rattle.esto_text.specs.declared.fault.TextKind.{TextKind}
 use Rattle.esto_text.specs.declared.fault.TextKind.TheVariants.{Utf8, Syntax, Unknown, Arity, TooLarge, SameVariable, Unsafe, HeadLength}
 use Rattle.esto_opening.specs.declared.status.Status.{Status}
-use Rattle.esto_opening.specs.declared.status.Status.TheVariants.{Done, OutOfMemory, Usage, ReadFault, WriteFault, TooLong, BadCatalogue, BadQuery, NotAcyclic, BadFragment, Unsatisfiable, NoRewriting, NoSuchNumber, NotBuilt}
+use Rattle.esto_opening.specs.declared.status.Status.TheVariants.{Done, OutOfMemory, Usage, ReadFault, WriteFault, TooLong, BadCatalogue, BadQuery, NotAcyclic, BadFragment, Unsatisfiable, NoRewriting, HeadLengths, NoSuchNumber, NotBuilt}
 
 -- A cell as the record of this one cell has it, without the line feed that ends the record. The empty cell is two quotes.
 abbrev pub cell_of : List ℕ → List ℕ
@@ -36,6 +36,7 @@ code_of (NotAcyclic cycle) = 8
 code_of (BadFragment name fault) = 9
 code_of (Unsatisfiable clash) = 10
 code_of NoRewriting = 11
+code_of (HeadLengths one other) = 21
 code_of (NoSuchNumber number listed) = 12
 code_of NotBuilt = 18
 
@@ -119,5 +120,6 @@ line_of (BadFragment name fault) =
     codes "BadFragment " ++ (cell_of name ++ (codes " " ++ (file_word fault.kind ++ (codes " " ++ (decimal fault.place ++ codes "\n")))))
 line_of (Unsatisfiable clash) = codes "Unsatisfiable " ++ clash_text clash ++ codes "\n"
 line_of NoRewriting = codes "NoRewriting\n"
+line_of (HeadLengths one other) = codes "HeadLengths " ++ (decimal one ++ (codes " " ++ (decimal other ++ codes "\n")))
 line_of (NoSuchNumber number listed) = codes "NoSuchNumber " ++ (decimal number ++ (codes " " ++ (decimal listed ++ codes "\n")))
 line_of NotBuilt = codes "NotBuilt\n"

@@ -247,6 +247,14 @@ fn bad_fragment_line(alloc: Global, name: &Text, fault: FileFault) -> Result<Byt
     Ok(line)
 }
 
+// The line of two different lengths of heads.
+fn head_lengths_line(alloc: Global, one: u64, other: u64) -> Result<Bytes, OutOfMemory>
+    ensures { IfOk result (λ line. line ≡ line_of (status.HeadLengths one other)) }
+{
+    let line = format!(in alloc; "HeadLengths {one} {other}\n")?;
+    Bytes::from_slice(alloc, line.as_str().as_bytes())
+}
+
 // The line of a number above the length of the list.
 fn no_such_number_line(alloc: Global, number: u64, listed: u64) -> Result<Bytes, OutOfMemory>
     ensures { IfOk result (λ line. line ≡ line_of (status.NoSuchNumber number listed)) }
@@ -275,6 +283,7 @@ pub fn status_line(alloc: Global, status: &Status) -> Result<Bytes, OutOfMemory>
         Status::BadFragment(name, fault) => bad_fragment_line(alloc, name, *fault),
         Status::Unsatisfiable(clash) => unsatisfiable_line(alloc, clash),
         Status::NoRewriting => Bytes::from_slice(alloc, b"NoRewriting\n"),
+        Status::HeadLengths(one, other) => head_lengths_line(alloc, *one, *other),
         Status::NoSuchNumber(number, listed) => no_such_number_line(alloc, *number, *listed),
         Status::NotBuilt => Bytes::from_slice(alloc, b"NotBuilt\n"),
     }

@@ -37,6 +37,8 @@ pub enum Status {
     Unsatisfiable(Clash),
     /// No executable query over the fragments is equivalent to the query, so no set is listed.
     NoRewriting,
+    /// The heads of two queries, of which one is asked to contain the other, have these different lengths.
+    HeadLengths(u64, u64),
     /// The first number was asked for, counted from 1, and so many sets are listed, which are fewer.
     NoSuchNumber(u64, u64),
     /// The command is not built yet.
@@ -69,6 +71,7 @@ impl Status {
             Status::BadFragment(_, _) => 9,
             Status::Unsatisfiable(_) => 10,
             Status::NoRewriting => 11,
+            Status::HeadLengths(_, _) => 21,
             Status::NoSuchNumber(_, _) => 12,
             Status::NotBuilt => 18,
         }
