@@ -8,4 +8,5 @@ mod text;
 mod weight;
 
 pub use listing::{Listed, Listing};
-pub use printing::put_constant;
+pub use printing::{put_constant, put_number, put_numbers, put_terms};
+pub use text::{meet_terms, put_count};

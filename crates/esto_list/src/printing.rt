@@ -9,7 +9,7 @@ use esto_term::{Bytes, OutOfMemory, Term, Text};
 use std::alloc::Global;
 
 /// Puts a number at the end, in decimal.
-pub(crate) fn put_number(alloc: Global, text: &mut Bytes, number: u128) -> Result<(), OutOfMemory>
+pub fn put_number(alloc: Global, text: &mut Bytes, number: u128) -> Result<(), OutOfMemory>
     ensures { OnOk result (text.new ≡ text.old ++ decimal number) }
 {
     let digits = format!(in alloc; "{number}")?;
@@ -27,7 +27,7 @@ fn put_comma(text: &mut Bytes, place: usize) -> Result<(), OutOfMemory>
 }
 
 /// Puts numbers of atoms at the end, counted from 1 and between commas.
-pub(crate) fn put_numbers(
+pub fn put_numbers(
     alloc: Global,
     text: &mut Bytes,
     numbers: &[usize],
@@ -155,7 +155,7 @@ fn put_each_term(
 }
 
 /// Puts terms at the end, between parentheses.
-pub(crate) fn put_terms(
+pub fn put_terms(
     alloc: Global,
     text: &mut Bytes,
     names: &Names,

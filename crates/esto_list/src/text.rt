@@ -59,7 +59,7 @@ fn meet_term(names: &Names, met: &mut Values<u64>, term: &Term) -> Result<(), Ou
 }
 
 /// Notes the variables of terms that have no name and weren't met.
-fn meet_terms(names: &Names, met: &mut Values<u64>, terms: &[Term]) -> Result<(), OutOfMemory>
+pub fn meet_terms(names: &Names, met: &mut Values<u64>, terms: &[Term]) -> Result<(), OutOfMemory>
     ensures { OnOk result (met.new ≡ met_terms names.now met.old terms.now) }
 {
     'terms: for term in terms {
@@ -81,7 +81,7 @@ fn nameless_variables(alloc: Global, plan: &Plan) -> Result<Values<u64>, OutOfMe
 }
 
 /// Puts a line of a word and a number at the end.
-fn put_count(alloc: Global, text: &mut Bytes, word: &[u8], count: u128) -> Result<(), OutOfMemory>
+pub fn put_count(alloc: Global, text: &mut Bytes, word: &[u8], count: u128) -> Result<(), OutOfMemory>
     ensures { OnOk result (text.new ≡ text.old ++ count_line word.now count) }
 {
     text.append(word)?;

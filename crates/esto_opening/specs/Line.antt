@@ -45,6 +45,7 @@ code_of (NodeInRow column) = 15
 code_of (Differs difference) = 16
 code_of (KeyText cell) = 17
 code_of (NoSuchFragment name) = 19
+code_of (HeadLengths one other) = 21
 
 -- The word that names a kind of fault.
 abbrev pub kind_word : TextKind → List ℕ
@@ -141,3 +142,4 @@ line_of (NodeInRow column) = codes "NodeInRow " ++ (decimal column ++ codes "\n"
 line_of (Differs difference) = codes "Differs " ++ difference_text difference
 line_of (KeyText cell) = codes "KeyText " ++ cell_of cell ++ codes "\n"
 line_of (NoSuchFragment name) = codes "NoSuchFragment " ++ cell_of name ++ codes "\n"
+line_of (HeadLengths one other) = codes "HeadLengths " ++ (decimal one ++ (codes " " ++ (decimal other ++ codes "\n")))

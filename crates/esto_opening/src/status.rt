@@ -52,6 +52,8 @@ pub enum Status {
     KeyText(Text),
     /// The catalogue has no fragment of this name.
     NoSuchFragment(Text),
+    /// The heads of two queries, of which one is asked to contain the other, have these different lengths.
+    HeadLengths(u64, u64),
 }
 
 impl From<OutOfMemory> for Status {
@@ -87,6 +89,7 @@ impl Status {
             Status::Differs(_) => 16,
             Status::KeyText(_) => 17,
             Status::NoSuchFragment(_) => 19,
+            Status::HeadLengths(_, _) => 21,
         }
     }
 }

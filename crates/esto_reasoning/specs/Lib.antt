@@ -1,0 +1,3 @@
+pub mod Texts
+pub mod Contains
+pub mod Minimise

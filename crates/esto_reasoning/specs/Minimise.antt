@@ -1,0 +1,55 @@
+-- The command `minimise`.
+use Rattle.std.specs.Prelude.{◌≡◌, ℕ, Bool, List, Option}
+use Rattle.esto_catalog.specs.declared.catalogue.Catalogue.{Catalogue}
+use Rattle.esto_chase.specs.Chased.{RunClashes}
+use Rattle.esto_chase_laws.specs.Runs.{start_of}
+use Rattle.esto_chase_laws.specs.declared.clash.Clash.{Clash}
+use Rattle.esto_constraint.specs.Constraints.{rules_of}
+use Rattle.esto_contain.specs.Minimised.{instance_of, IsMinimised}
+use Rattle.esto_contain.specs.declared.minimising.Minimal.{Minimal}
+use Rattle.esto_course.specs.Course.{Course, judges, gives, and_then}
+use Rattle.esto_opening.specs.Opening.{opens_catalogue, opens_query}
+use Rattle.esto_opening.specs.declared.reply.Reply.{Reply}
+use Rattle.esto_opening.specs.declared.reply.Reply.TheVariants.{Done}
+use Rattle.esto_opening.specs.declared.status.Status.{Status}
+use Rattle.esto_opening.specs.declared.status.Status.TheVariants.{Unsatisfiable}
+use Rattle.esto_ports.specs.Files.{Files}
+use Rattle.esto_query.specs.Making.{query_of}
+use Rattle.esto_query.specs.Schemas.{names_of}
+use Rattle.esto_query.specs.declared.query.Query.{Query}
+use Rattle.esto_semantics.specs.Listed.{IsEquivalentPart}
+use Rattle.esto_semantics.specs.Sets.{AreListedBy}
+use Rattle.esto_reasoning.specs.Texts.{minimal_text}
+
+-- The text is that of the last facts of the query's run, with its head, and of exactly the minimal sets of these facts that are equivalent to the query, in
+-- the order of a list, each once.
+pub record IsMinimalText (catalogue : Catalogue) (query : Query) (minimal : Minimal) (text : List ℕ) : Type 0 where
+  pub sets : List (List Bool)
+  pub are_listed : AreListedBy (IsEquivalentPart (rules_of catalogue.rules) (query_of query) (instance_of minimal)) sets
+  pub is : text ≡ minimal_text (names_of catalogue.schema) minimal.names minimal.facts minimal.head sets
+
+-- The query has minimal equivalent parts.
+abbrev pub IsMinimisedTo : Catalogue → Query → Minimal → Type 0
+IsMinimisedTo catalogue query = IsMinimised (rules_of catalogue.rules) query.names (query_of query)
+
+-- The query is minimised, or its run ends with a clash.
+abbrev pub minimises_query : Catalogue → Query → Course Status Minimal
+minimises_query catalogue query =
+    judges (IsMinimisedTo catalogue query) (λ refusal. (clash : Clash)
+    × RunClashes (rules_of catalogue.rules) (start_of (query_of query)) clash × (refusal ≡ Unsatisfiable clash))
+
+-- The text of what it is minimised to is made.
+abbrev pub prints_minimal : Catalogue → Query → Minimal → Course Status (List ℕ)
+prints_minimal catalogue query minimal = judges (IsMinimalText catalogue query minimal) (λ _. ⊥)
+
+-- The query is minimised, and the text is made.
+abbrev pub minimises : Catalogue → Query → Course Status (List ℕ)
+minimises catalogue query = and_then (minimises_query catalogue query) (prints_minimal catalogue query)
+
+-- The catalogue is fetched and read, then the query, and the text of what it is minimised to is the reply.
+abbrev pub minimise_course : Option Files → List ℕ → List ℕ → Course Status Reply
+minimise_course files catalogue_name query_name =
+    and_then (opens_catalogue files catalogue_name) (λ catalogue.
+    and_then (opens_query files query_name catalogue) (λ query.
+    and_then (minimises catalogue query) (λ text.
+    gives (Done text))))

@@ -1,0 +1,92 @@
+//! The command `minimise`.
+ghost use Rattle.std.specs.Prelude.{◌≡◌, ◌≤◌, IfOk};
+ghost use Rattle.esto_opening.specs.Answers.{Answers};
+ghost use Rattle.esto_ports.specs.Faults.{Rises};
+ghost use Rattle.esto_reasoning.specs.Minimise.{IsMinimalText, IsMinimisedTo, minimise_course, minimises, minimises_query, prints_minimal};
+
+use crate::printing::minimal_text;
+use either::{Left, Right};
+use esto_catalog::Catalogue;
+use esto_contain::Minimal;
+use esto_opening::{Reply, Status, open_catalogue, open_query};
+use esto_ports::Shelf;
+use esto_query::Query;
+use esto_term::{Bytes, OutOfMemory, Text};
+use std::alloc::Global;
+
+// The query's minimal equivalent parts, or the status of the clash at which its run ends.
+fn minimal_of(alloc: Global, query: &Query, catalogue: &Catalogue) -> Result<Minimal, Status>
+    ensures course { Answers (minimises_query catalogue.now query.now) ⊥ result }
+    ensures minimised { IfOk result (IsMinimisedTo catalogue.now query.now) }
+{
+    match esto_contain::minimise(alloc, query, catalogue)? {
+        Left(minimal) => Ok(minimal),
+        Right(clash) => Err(Status::Unsatisfiable(clash)),
+    }
+}
+
+// The text of minimal equivalent parts.
+fn listed_text(
+    alloc: Global,
+    minimal: &Minimal,
+    query: &Query,
+    catalogue: &Catalogue,
+) -> Result<Bytes, OutOfMemory>
+    requires { IsMinimisedTo catalogue.now query.now minimal.now }
+    ensures { IfOk result (IsMinimalText catalogue.now query.now minimal.now) }
+{
+    let sets = minimal.sets.sorted(alloc)?;
+    let text = minimal_text(
+        alloc,
+        &catalogue.schema,
+        &minimal.names,
+        minimal.facts.items(),
+        minimal.head.items(),
+        &sets,
+    )?;
+    Ok(text)
+}
+
+// The text that the command prints of minimal equivalent parts.
+fn text_of(
+    alloc: Global,
+    minimal: &Minimal,
+    query: &Query,
+    catalogue: &Catalogue,
+) -> Result<Bytes, Status>
+    requires { IsMinimisedTo catalogue.now query.now minimal.now }
+    ensures { Answers (prints_minimal catalogue.now query.now minimal.now) ⊥ result }
+{
+    let text = listed_text(alloc, minimal, query, catalogue)?;
+    Ok(text)
+}
+
+// What the command prints of a query, or the status of the clash at which its run ends.
+#[tactic(auto, using(crate::proofs::Steps::steps))]
+fn minimised(alloc: Global, query: &Query, catalogue: &Catalogue) -> Result<Bytes, Status>
+    ensures { Answers (minimises catalogue.now query.now) ⊥ result }
+{
+    let minimal = minimal_of(alloc, query, catalogue)?;
+    let text = text_of(alloc, &minimal, query, catalogue)?;
+    Ok(text)
+}
+
+/// Fetches and reads the catalogue, then the query, and prints the last facts of the query's run, its head, and the minimal
+/// sets of these facts that are equivalent to the query under the catalogue's rules.
+#[tactic(auto, using(crate::proofs::Steps::steps))]
+pub fn minimise<S: Shelf>(
+    alloc: Global,
+    shelf: &mut S,
+    catalogue: &Text,
+    query: &Text,
+) -> Result<Reply, Status>
+    ensures answer { Answers (minimise_course (S.files shelf.old) catalogue.now query.now)
+        (Rises S.faults shelf.old shelf.new) result }
+    ensures files { S.files shelf.new ≡ S.files shelf.old }
+    ensures later { S.faults shelf.old ≤ S.faults shelf.new }
+{
+    let catalogue = open_catalogue(alloc, shelf, catalogue)?;
+    let query = open_query(alloc, shelf, query, &catalogue)?;
+    let text = minimised(alloc, &query, &catalogue)?;
+    Ok(Reply::Done(text))
+}
