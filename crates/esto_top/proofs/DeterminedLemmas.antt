@@ -113,14 +113,14 @@ module _ (sound : CataloguesAreSound) (one : HaveOneCatalogue) (apart : HaveNoEr
 
       plans_agree : AgreeCalmly IsSamePlan (plans_query catalogue query) (plans_query other other_query)
       plans_agree = judges_agree _ _ _ _ _ _
-          (λ plan other_plan here there. laws.plan catalogue.core (rules_of catalogue.rules) (views_of catalogue.fragments) query.names (query_of query) plan other_plan
-          rules_are here (planned_moved catalogue other alike query other_query same other_plan there))
+          (λ plan other_plan here there. laws.plan catalogue.core (rules_of catalogue.rules) (views_of catalogue.fragments) query.names (query_of query)
+          plan other_plan rules_are here (planned_moved catalogue other alike query other_query same other_plan there))
           (λ said other_said caused other_caused here there. here.2 ∙ ap status.Unsatisfiable (laws.clash (rules_of catalogue.rules) (query_of query)
           here.0 there.0 rules_are here.1 (clash_moved catalogue other alike query other_query same there.0 there.1)) ∙ sym there.2)
-          (λ plan said caused here there. laws.apart catalogue.core (rules_of catalogue.rules) (views_of catalogue.fragments) query.names (query_of query) plan there.0
-          rules_are here (clash_moved catalogue other alike query other_query same there.0 there.1))
-          (λ plan said caused here there. laws.apart catalogue.core (rules_of catalogue.rules) (views_of catalogue.fragments) query.names (query_of query) plan there.0
-          rules_are (planned_moved catalogue other alike query other_query same plan here) there.1)
+          (λ plan said caused here there. laws.apart catalogue.core (rules_of catalogue.rules) (views_of catalogue.fragments) query.names (query_of query)
+          plan there.0 rules_are here (clash_moved catalogue other alike query other_query same there.0 there.1))
+          (λ plan said caused here there. laws.apart catalogue.core (rules_of catalogue.rules) (views_of catalogue.fragments) query.names (query_of query)
+          plan there.0 rules_are (planned_moved catalogue other alike query other_query same plan here) there.1)
 
       printed_agree : (plan other_plan : Plan) → IsSamePlan plan other_plan
           → AgreeCalmly ◌≡◌ (prints_list catalogue query plan) (prints_list other other_query other_plan)

@@ -97,12 +97,14 @@ module _ (laws : ListingLaws) (catalogue : Catalogue) (query : Query) where
     is_for : IsPlanFor (query_of query) (plan_query plan)
     is_for =
         plan_form (λ it. (laws.own it).maps) (rules_of catalogue.rules) (views_of catalogue.fragments) (query_of query) plan (laws.sound plan)
-        (laws.unions catalogue.core (rules_of catalogue.rules) (views_of catalogue.fragments) query.names (query_of query) plan rules_are (laws.queries query).query planned)
+        (laws.unions catalogue.core (rules_of catalogue.rules) (views_of catalogue.fragments) query.names (query_of query) plan rules_are
+        (laws.queries query).query planned)
         plan_tells
 
     universal : IsUniversalPlan (rules_of catalogue.rules) (views_of catalogue.fragments) (query_of query) (plan_query plan)
     universal =
-        laws.universal catalogue.core (rules_of catalogue.rules) (views_of catalogue.fragments) query.names (query_of query) plan rules_are (laws.queries query).query planned
+        laws.universal catalogue.core (rules_of catalogue.rules) (views_of catalogue.fragments) query.names (query_of query) plan rules_are
+        (laws.queries query).query planned
 
     -- the list is empty exactly where there is no executable rewriting
     pub empty-without : (items : List Listed) → IsListOf catalogue query plan items → IsEmptyWithoutRewriting catalogue query items

@@ -9,8 +9,8 @@ pub minimal_sets-requires-clause-over : goal.minimal_sets-requires-clause-over
 minimal_sets-requires-clause-over c =
     let catalogue = c.args.catalogue.now in
     let sound = c.catalogues_are_sound.ensures catalogue in
-    c.printed_plans_are_over_fragments.ensures.over catalogue.core (rules_of catalogue.rules) catalogue.fragments c.args.query.now.names (query_of c.args.query.now)
-    c.args.plan.now sound.fragments_are c.requires
+    c.printed_plans_are_over_fragments.ensures.over catalogue.core (rules_of catalogue.rules) catalogue.fragments c.args.query.now.names
+    (query_of c.args.query.now) c.args.plan.now sound.fragments_are c.requires
 
 pub minimal_sets-requires-clause-satisfiable : goal.minimal_sets-requires-clause-satisfiable
 minimal_sets-requires-clause-satisfiable c =

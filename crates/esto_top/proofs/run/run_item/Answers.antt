@@ -37,8 +37,8 @@ run_text-requires-clause-same_length g c =
 pub run_text-requires-clause-over : goal.run_text-requires-clause-over
 run_text-requires-clause-over g c =
     let catalogue = c.args.catalogue.now in
-    c.printed_plans_are_over_fragments.ensures.over catalogue.core (rules_of catalogue.rules) catalogue.fragments c.args.query.now.names (query_of c.args.query.now)
-    c.args.plan.now (c.catalogues_are_sound.ensures catalogue).fragments_are c.requires.planned
+    c.printed_plans_are_over_fragments.ensures.over catalogue.core (rules_of catalogue.rules) catalogue.fragments c.args.query.now.names
+    (query_of c.args.query.now) c.args.plan.now (c.catalogues_are_sound.ensures catalogue).fragments_are c.requires.planned
 
 pub returns-clause-answer : goal.returns-clause-answer
 returns-clause-answer g c =
