@@ -27,11 +27,7 @@ fn put_comma(text: &mut Bytes, place: usize) -> Result<(), OutOfMemory>
 }
 
 /// Puts numbers of atoms at the end, counted from 1 and between commas.
-pub fn put_numbers(
-    alloc: Global,
-    text: &mut Bytes,
-    numbers: &[usize],
-) -> Result<(), OutOfMemory>
+pub fn put_numbers(alloc: Global, text: &mut Bytes, numbers: &[usize]) -> Result<(), OutOfMemory>
     ensures { OnOk result (text.new ≡ text.old ++ numbers_text numbers.now) }
 {
     'numbers: for (place, number) in numbers.iter().enumerate() {

@@ -81,7 +81,12 @@ fn nameless_variables(alloc: Global, plan: &Plan) -> Result<Values<u64>, OutOfMe
 }
 
 /// Puts a line of a word and a number at the end.
-pub fn put_count(alloc: Global, text: &mut Bytes, word: &[u8], count: u128) -> Result<(), OutOfMemory>
+pub fn put_count(
+    alloc: Global,
+    text: &mut Bytes,
+    word: &[u8],
+    count: u128,
+) -> Result<(), OutOfMemory>
     ensures { OnOk result (text.new ≡ text.old ++ count_line word.now count) }
 {
     text.append(word)?;
