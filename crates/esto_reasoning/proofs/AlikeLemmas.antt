@@ -56,7 +56,7 @@ module _ (renamed_one : RenamedPlanIsOne) (relations : List (List ℕ)) (names :
       is ∙ (λ i. no_text relations (same.1 i) (same.0 i).head (same.0 i).body) ∙ sym is_too
 
 -- the course of what is told, over the rules, the names of the relations, the names of the left query's variables, and the two queries
-abbrev compares_by : List Rule → List (List ℕ) → List Name → ConjunctiveQuery → ConjunctiveQuery → Course Status (List ℕ)
+abbrev pub compares_by : List Rule → List (List ℕ) → List Name → ConjunctiveQuery → ConjunctiveQuery → Course Status (List ℕ)
 compares_by rules relations names left right =
     and_then (demands (length left.head ≡ length right.head) (HeadLengths (length left.head) (length right.head))) (λ _.
     and_then (judges (TellsContained rules left right) (λ _. ⊥)) (λ told. judges (SaysTold relations names told) (λ _. ⊥)))
@@ -101,7 +101,7 @@ IsSameMinimal minimal other = (instance_of minimal ≡ instance_of other) × (mi
 abbrev IsClash : List Rule → ConjunctiveQuery → Status → Type 0
 IsClash rules query refusal = (clash : Clash) × RunClashes rules (start_of query) clash × (refusal ≡ Unsatisfiable clash)
 
-abbrev minimises_by : List Rule → List (List ℕ) → List Name → ConjunctiveQuery → Course Status (List ℕ)
+abbrev pub minimises_by : List Rule → List (List ℕ) → List Name → ConjunctiveQuery → Course Status (List ℕ)
 minimises_by rules relations names query =
     and_then (judges (IsMinimised rules names query) (IsClash rules query)) (λ minimal. judges (IsMinimalText rules relations query minimal) (λ _. ⊥))
 

@@ -2,3 +2,5 @@ pub mod Steps
 pub mod ShownLemmas
 pub mod CourseLemmas
 pub mod AlikeLemmas
+pub mod LeadLemmas
+pub mod ExactLemmas

@@ -1,12 +1,23 @@
--- What the law on the commands on queries says.
-use Rattle.std.specs.Prelude.{◌≡◌}
+-- What laws on the commands on queries say.
+use Rattle.std.specs.Prelude.{◌≡◌, ℕ, List, Some}
 use Rattle.esto_catalog.specs.Determined.{AreSame}
 use Rattle.esto_catalog.specs.declared.catalogue.Catalogue.{Catalogue}
-use Rattle.esto_opening.specs.Calm.{AgreeCalmly}
+use Rattle.esto_course.specs.Course.{Course}
+use Rattle.esto_opening.specs.Calm.{AgreeCalmly, Leads}
+use Rattle.esto_opening.specs.Line.{line_of}
+use Rattle.esto_opening.specs.Opening.{opens_catalogue, opens_query}
+use Rattle.esto_opening.specs.declared.reply.Reply.{Reply}
+use Rattle.esto_opening.specs.declared.reply.Reply.TheVariants.{Done}
+use Rattle.esto_opening.specs.declared.status.Status.{Status}
+use Rattle.esto_opening.specs.declared.status.Status.TheVariants as status
+use Rattle.esto_ports.specs.Files.{Files}
 use Rattle.esto_query.specs.Making.{query_of}
 use Rattle.esto_query.specs.declared.query.Query.{Query}
-use Rattle.esto_reasoning.specs.Contains.{compares}
-use Rattle.esto_reasoning.specs.Minimise.{minimises}
+use Rattle.esto_reasoning.specs.Contains.{compares, contains_course}
+use Rattle.esto_reasoning.specs.Exact.{IsExactContains, IsExactMinimise}
+use Rattle.esto_reasoning.specs.Minimise.{minimise_course, minimises}
+
+-- ---- one text
 
 -- Over catalogues that say the same, what is told of the same two queries has one text, or one refusal.
 abbrev pub ComparedAlike : Type 0
@@ -21,3 +32,36 @@ MinimisedAlike =
     (catalogue other : Catalogue) (query same : Query) → AreSame catalogue other
     → query_of query ≡ query_of same → query.names ≡ same.names
     → AgreeCalmly ◌≡◌ (minimises catalogue query) (minimises other same)
+
+-- ---- one outcome
+
+-- The course over the files agrees with itself where no fetch is at a fault: it has one reply or one refusal.
+abbrev pub IsOne : Course Status Reply → Type 0
+IsOne course = AgreeCalmly ◌≡◌ course course
+
+abbrev pub ContainsIsOne : Type 0
+ContainsIsOne = (files : Files) (catalogue_name left_name right_name : List ℕ) → IsOne (contains_course (Some files) catalogue_name left_name right_name)
+
+abbrev pub MinimiseIsOne : Type 0
+MinimiseIsOne = (files : Files) (catalogue_name query_name : List ℕ) → IsOne (minimise_course (Some files) catalogue_name query_name)
+
+-- ---- which outcome
+
+-- The fact holds of each reply, which is Done with a text, and of each refusal with its line, where no fetch is at a fault.
+abbrev pub Says : Course Status Reply → (Status → List ℕ → Type 0) → Type 0
+Says course Fact = Leads course (λ reply. (text : List ℕ) × (reply ≡ Done text) × Fact status.Done text) (λ said. Fact said (line_of said))
+
+-- What is told of two queries is exact, for each catalogue and for the queries over it that the files say.
+abbrev pub ContainsIsExact : Type 0
+ContainsIsExact =
+    (files : Files) (catalogue_name left_name right_name : List ℕ) (catalogue : Catalogue) (left right : Query)
+    → (opens_catalogue (Some files) catalogue_name).goes catalogue → (opens_query (Some files) left_name catalogue).goes left
+    → (opens_query (Some files) right_name catalogue).goes right
+    → Says (contains_course (Some files) catalogue_name left_name right_name) (IsExactContains catalogue left right)
+
+-- So is what a query is minimised to.
+abbrev pub MinimiseIsExact : Type 0
+MinimiseIsExact =
+    (files : Files) (catalogue_name query_name : List ℕ) (catalogue : Catalogue) (query : Query)
+    → (opens_catalogue (Some files) catalogue_name).goes catalogue → (opens_query (Some files) query_name catalogue).goes query
+    → Says (minimise_course (Some files) catalogue_name query_name) (IsExactMinimise catalogue query)

@@ -1,4 +1,5 @@
 pub mod Texts
 pub mod Contains
 pub mod Minimise
+pub mod Exact
 pub mod Laws

@@ -8,5 +8,5 @@ mod minimising;
 mod printing;
 
 pub use containing::contains;
-pub use laws::reasoned_texts_are_one;
+pub use laws::{reasoned_texts_are_one, reasoning_outcomes_are_exact, reasoning_outcomes_are_one};
 pub use minimising::minimise;
