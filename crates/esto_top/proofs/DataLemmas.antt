@@ -18,7 +18,7 @@ use Rattle.esto_top.specs.Outcome.{CompleteWhereTold, Says, reply_status, reply_
 use Rattle.esto_top.specs.Outcome.Says.{replies, refuses}
 
 -- what holds of the replies and refusals of a course holds of what it says
-says_fact : (course : Course Status Reply) (Fact : Status → List ℕ → Type 0) (said : Status) (text : List ℕ) → SaysAlways course Fact → Says course ⊥ said text
+pub says_fact : (course : Course Status Reply) (Fact : Status → List ℕ → Type 0) (said : Status) (text : List ℕ) → SaysAlways course Fact → Says course ⊥ said text
     → Fact said text
 says_fact course Fact said text always (replies reply goes said_is text_is) =
     let found = always.goes reply goes in
@@ -31,7 +31,7 @@ catalogue_said : (files : Files) (catalogue_name query_name : List ℕ) (catalog
 catalogue_said files catalogue_name query_name catalogue query say =
     record { bytes = say.catalogue_bytes; has = say.has_catalogue; is_catalogue = say.is_catalogue }
 
-query_said : (files : Files) (catalogue_name query_name : List ℕ) (catalogue : Catalogue) (query : Query)
+pub query_said : (files : Files) (catalogue_name query_name : List ℕ) (catalogue : Catalogue) (query : Query)
     → FilesSay files catalogue_name query_name catalogue query → FilesSayQuery files query_name catalogue query
 query_said files catalogue_name query_name catalogue query say =
     record { bytes = say.query_bytes; has = say.has_query; named = say.named; is_query = say.is_query; query_is = say.query_is }

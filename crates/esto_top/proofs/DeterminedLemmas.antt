@@ -23,10 +23,11 @@ use Rattle.esto_top.specs.Check.{check_text, check_course, count_lines, rank_lin
 use Rattle.esto_course.proofs.Determined.{then_agree, gives_agree, refuses_agree, judges_agree}
 use Rattle.esto_data.specs.Laws.{AnswersAreOne, AuditsAreOne, FillsAreOne}
 use Rattle.esto_bench.specs.Summary.{SummariesAreOne}
+use Rattle.esto_reasoning.specs.Laws.{ContainsIsOne, MinimiseIsOne}
 use Rattle.esto_opening.specs.Answers.{IsCaused}
 use Rattle.esto_top.specs.Determined.{OutcomesAreDetermined, ExactWhereTold}
 use Rattle.esto_top.specs.Grammar.{Request, request_of, course_of_request, course_of_asked}
-use Rattle.esto_top.specs.Grammar.Request.{CheckOf, ListFor, RunFor, FillFor, AnswerFor, AuditOf, BenchOf}
+use Rattle.esto_top.specs.Grammar.Request.{CheckOf, ListFor, RunFor, FillFor, AnswerFor, AuditOf, ContainsFor, MinimiseFor, BenchOf}
 use Rattle.esto_top.specs.List.{plans_query, prints_list, lists_query, list_course}
 use Rattle.esto_top.specs.Run.{run_course}
 use Rattle.esto_top.specs.Outcome.{CompleteWhereTold}
@@ -61,8 +62,14 @@ pub record DataLaws : Type 0 where
   pub answers : AnswersAreOne
   pub audits : AuditsAreOne
 
+-- and those by which the commands on queries have
+pub record QueryLaws : Type 0 where
+  pub contains : ContainsIsOne
+  pub minimise : MinimiseIsOne
+
 module _ (sound : CataloguesAreSound) (one : HaveOneCatalogue) (apart : HaveNoError) (one_error : HaveOneError) (one_reading : HaveOneReading)
-    (no_fault : HaveNoFault) (one_fault : HaveOneFault) (laws : ListLaws) (summaries : SummariesAreOne) (on_data : DataLaws) (files : Files) where
+    (no_fault : HaveNoFault) (one_fault : HaveOneFault) (laws : ListLaws) (summaries : SummariesAreOne) (on_data : DataLaws) (on_queries : QueryLaws) (files : Files)
+    where
   -- no cause of a status that has its own is want of memory
   not_wanting : (said : Status) (cause : CatalogueError) → IsCaused ⊥ said → said ≡ status_of cause → cause ≢ error.OutOfMemory
   not_wanting said cause caused is wanting = never_wanting ⊥ said (is ∙ ap status_of wanting) caused
@@ -168,16 +175,19 @@ module _ (sound : CataloguesAreSound) (one : HaveOneCatalogue) (apart : HaveNoEr
   request_agrees (FillFor catalogue_name name) = on_data.fills files catalogue_name name
   request_agrees (AnswerFor catalogue_name query_name) = on_data.answers files catalogue_name query_name
   request_agrees (AuditOf name) = on_data.audits files name
+  request_agrees (ContainsFor catalogue_name left_name right_name) = on_queries.contains files catalogue_name left_name right_name
+  request_agrees (MinimiseFor catalogue_name query_name) = on_queries.minimise files catalogue_name query_name
 
   pub asked_agrees : (asked : Option Request) → AgreeCalmly ◌≡◌ (course_of_asked (Some files) asked) (course_of_asked (Some files) asked)
   asked_agrees None = refuses_agree _ _ status.Usage
   asked_agrees (Some request) = request_agrees request
 
 pub outcomes_determined : CataloguesAreSound → HaveOneCatalogue → HaveNoError → HaveOneError → HaveOneReading → HaveNoFault → HaveOneFault → ListLaws
-    → SummariesAreOne → DataLaws → OutcomesAreDetermined
-outcomes_determined sound one apart one_error one_reading no_fault one_fault laws summaries on_data words files said other_said text other_text outcome other_outcome =
+    → SummariesAreOne → DataLaws → QueryLaws → OutcomesAreDetermined
+outcomes_determined sound one apart one_error one_reading no_fault one_fault laws summaries on_data on_queries words files said other_said text other_text
+    outcome other_outcome =
     says-agree _ _ said other_said text other_text (asked_agrees sound one apart one_error one_reading no_fault one_fault laws summaries on_data
-    files (request_of words)) outcome other_outcome
+    on_queries files (request_of words)) outcome other_outcome
 
 pub exact : OutcomesAreDetermined → (words : List (List ℕ)) (files : Option Files) (rose sink_rose : Type 0) (old new : Option (List ℕ)) (result : Status)
     → CompleteWhereTold words files rose sink_rose old new result → ExactWhereTold words files rose sink_rose old new result

@@ -20,4 +20,5 @@ pub mod AgreeLemmas
 pub mod BenchLemmas
 pub mod DeterminedLemmas
 pub mod DataLemmas
+pub mod ReasoningLemmas
 pub mod AgreedLemmas

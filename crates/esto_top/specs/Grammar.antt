@@ -7,6 +7,8 @@ use Rattle.esto_bench.specs.declared.case.TheConstants.{MAX_SIZE}
 use Rattle.esto_data.specs.Answer.{answer_course}
 use Rattle.esto_data.specs.Audit.{audit_course}
 use Rattle.esto_data.specs.Fill.{fill_course}
+use Rattle.esto_reasoning.specs.Contains.{contains_course}
+use Rattle.esto_reasoning.specs.Minimise.{minimise_course}
 use Rattle.esto_top.specs.Bench.{bench_course}
 use Rattle.esto_top.specs.Check.{check_course}
 use Rattle.esto_course.specs.Course.{Course, refuses}
@@ -21,7 +23,8 @@ use Rattle.esto_opening.specs.declared.status.Status.{Status}
 
 -- What words of the grammar ask for: the check of a catalogue's file; the list for a catalogue's and a query's file; the run for them of the pick, or of the
 -- set of a number of the list; the fill of the fragment of a name, for a catalogue's file; the answers for a catalogue's and a query's file; the audit of a
--- catalogue's file; or the summary of the made case of a size.
+-- catalogue's file; whether one query is contained in another, for a catalogue's and two queries' files; the minimal equivalent parts for a catalogue's and a
+-- query's file; or the summary of the made case of a size.
 pub data Request : Type 0 where
   CheckOf : List ℕ → Request
   ListFor : List ℕ → List ℕ → Request
@@ -30,6 +33,8 @@ pub data Request : Type 0 where
   FillFor : List ℕ → List ℕ → Request
   AnswerFor : List ℕ → List ℕ → Request
   AuditOf : List ℕ → Request
+  ContainsFor : List ℕ → List ℕ → List ℕ → Request
+  MinimiseFor : List ℕ → List ℕ → Request
 
 -- The word has these bytes.
 abbrev pub is_word : List ℕ → List ℕ → Bool
@@ -71,19 +76,22 @@ request_of_one verb word =
     else if is_word verb (codes "bench") && is_made_size word then Some (Request.BenchOf (value_of word))
     else None
 
--- The commands of two words: list C Q, run C Q, fill C F, answer C Q.
+-- The commands of two words: list C Q, run C Q, fill C F, answer C Q, minimise C Q.
 abbrev pub request_of_two : List ℕ → List ℕ → List ℕ → Option Request
 request_of_two verb first second =
     if is_word verb (codes "list") then Some (Request.ListFor first second)
     else if is_word verb (codes "run") then Some (Request.RunFor first second None)
     else if is_word verb (codes "fill") then Some (Request.FillFor first second)
     else if is_word verb (codes "answer") then Some (Request.AnswerFor first second)
+    else if is_word verb (codes "minimise") then Some (Request.MinimiseFor first second)
     else None
 
--- The command of three words: run C Q N.
+-- The commands of three words: contains C L R, run C Q N.
 abbrev pub request_of_three : List ℕ → List ℕ → List ℕ → List ℕ → Option Request
-request_of_three verb first second number =
-    if is_word verb (codes "run") && is_list_number number then Some (Request.RunFor first second (Some (value_of number))) else None
+request_of_three verb first second third =
+    if is_word verb (codes "contains") then Some (Request.ContainsFor first second third)
+    else if is_word verb (codes "run") && is_list_number third then Some (Request.RunFor first second (Some (value_of third)))
+    else None
 
 -- What the words ask for; nothing where they are outside the grammar.
 abbrev pub request_of : List (List ℕ) → Option Request
@@ -101,6 +109,8 @@ asked (command.Bench size) = Request.BenchOf size
 asked (command.Fill catalogue fragment) = Request.FillFor catalogue.now fragment.now
 asked (command.Answer catalogue query) = Request.AnswerFor catalogue.now query.now
 asked (command.Audit catalogue) = Request.AuditOf catalogue.now
+asked (command.Contains catalogue left right) = Request.ContainsFor catalogue.now left.now right.now
+asked (command.Minimise catalogue query) = Request.MinimiseFor catalogue.now query.now
 
 -- The size of `bench` is one of the made case.
 abbrev pub IsSized : Command → Type 0
@@ -111,6 +121,8 @@ IsSized (command.Bench size) = (0 < size) × (size ≤ MAX_SIZE)
 IsSized (command.Fill catalogue fragment) = Unit {0}
 IsSized (command.Answer catalogue query) = Unit {0}
 IsSized (command.Audit catalogue) = Unit {0}
+IsSized (command.Contains catalogue left right) = Unit {0}
+IsSized (command.Minimise catalogue query) = Unit {0}
 
 -- The course of what is asked for.
 abbrev pub course_of_request : Option Files → Request → Course Status Reply
@@ -121,6 +133,8 @@ course_of_request files (Request.BenchOf size) = bench_course size
 course_of_request files (Request.FillFor catalogue fragment) = fill_course files catalogue fragment
 course_of_request files (Request.AnswerFor catalogue query) = answer_course files catalogue query
 course_of_request files (Request.AuditOf catalogue) = audit_course files catalogue
+course_of_request files (Request.ContainsFor catalogue left right) = contains_course files catalogue left right
+course_of_request files (Request.MinimiseFor catalogue query) = minimise_course files catalogue query
 
 -- The course of the words that ask for something, and the refusal of words outside the grammar.
 abbrev pub course_of_asked : Option Files → Option Request → Course Status Reply

@@ -10,3 +10,4 @@ pub mod Runs
 pub mod Benches
 pub mod Determined
 pub mod DataOutcomes
+pub mod ReasoningOutcomes

@@ -13,6 +13,7 @@ use esto_bench::MAX_SIZE;
 use esto_data::{answer, audit, fill};
 use esto_opening::{Reply, Status};
 use esto_ports::Shelf;
+use esto_reasoning::{contains, minimise};
 use esto_term::Text;
 use std::alloc::Global;
 
@@ -38,6 +39,10 @@ pub enum Command<'a> {
     /// `audit C`: whether the datasets' files meet the constraints and the fragments' files are right, for a catalogue's
     /// file.
     Audit(&'a Text),
+    /// `contains C L R`: whether one query is contained in another, for a catalogue's file and two queries' files.
+    Contains(&'a Text, &'a Text, &'a Text),
+    /// `minimise C Q`: the minimal equivalent parts of a query's chase, for a catalogue's file and a query's file.
+    Minimise(&'a Text, &'a Text),
 }
 
 fn is_word(word: &Text, name: &[u8]) -> bool
@@ -138,6 +143,8 @@ fn command_of_two<'a>(verb: &Text, first: &'a Text, second: &'a Text) -> Option<
         Some(Command::Fill(first, second))
     } else if is_word(verb, b"answer") {
         Some(Command::Answer(first, second))
+    } else if is_word(verb, b"minimise") {
+        Some(Command::Minimise(first, second))
     } else {
         None
     }
@@ -148,16 +155,18 @@ fn command_of_three<'a>(
     verb: &Text,
     first: &'a Text,
     second: &'a Text,
-    number: &Text,
+    third: &'a Text,
 ) -> Option<Command<'a>>
     ensures command { MatchOption result
-        (request_of_three verb.now first.now second.now number.now ≡ None)
-        (λ command. request_of_three verb.now first.now second.now number.now
+        (request_of_three verb.now first.now second.now third.now ≡ None)
+        (λ command. request_of_three verb.now first.now second.now third.now
         ≡ Some (asked command)) }
     ensures sized { IfSome result IsSized }
 {
-    if is_word(verb, b"run") && is_list_number(number.bytes()) {
-        let number = value_of(number.bytes());
+    if is_word(verb, b"contains") {
+        Some(Command::Contains(first, second, third))
+    } else if is_word(verb, b"run") && is_list_number(third.bytes()) {
+        let number = value_of(third.bytes());
         Some(Command::Run(first, second, Some(number)))
     } else {
         None
@@ -194,5 +203,7 @@ pub fn obey<S: Shelf>(alloc: Global, shelf: &mut S, command: Command<'_>) -> Res
         Command::Fill(catalogue, fragment) => fill(alloc, shelf, catalogue, fragment),
         Command::Answer(catalogue, query) => answer(alloc, shelf, catalogue, query),
         Command::Audit(catalogue) => audit(alloc, shelf, catalogue),
+        Command::Contains(catalogue, left, right) => contains(alloc, shelf, catalogue, left, right),
+        Command::Minimise(catalogue, query) => minimise(alloc, shelf, catalogue, query),
     }
 }

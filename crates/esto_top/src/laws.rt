@@ -2,6 +2,7 @@
 ghost use Rattle.esto_top.specs.DataOutcomes.{OutcomesAgree, OutcomesAreAnswers, OutcomesAreAudits, OutcomesAreFills};
 ghost use Rattle.esto_top.specs.Determined.{OutcomesAreDetermined};
 ghost use Rattle.esto_top.specs.Headline.{OutcomesAreLists, OutcomesAreRefusals};
+ghost use Rattle.esto_top.specs.ReasoningOutcomes.{OutcomesAreContainments, OutcomesAreMinimised};
 ghost use Rattle.esto_top.specs.Runs.{OutcomesAreRuns};
 
 use esto_backchase::listed_sets_cover_rewritings;
@@ -16,6 +17,7 @@ use esto_data::{audited_datasets_answer, data_outcomes_are_exact, data_outcomes_
 use esto_fill::agreeing_answers_are_one;
 use esto_query::queries_are_sound;
 use esto_read::readings_are_determined;
+use esto_reasoning::{reasoning_outcomes_are_exact, reasoning_outcomes_are_one};
 use esto_run::{rewritings_answer_queries, rising_rows_are_one, used_fragments_are_one};
 use esto_semantics::{
     chosen_atoms_are_named, listed_sets_are_minimal, picks_exist, queries_are_their_own_instances,
@@ -95,6 +97,7 @@ pub fn outcomes_are_determined()
     rising_rows_are_one();
     summaries_are_one();
     data_outcomes_are_one();
+    reasoning_outcomes_are_one();
 }
 
 /// A law: where the files say what a command on data needs, each outcome of `fill` is the file of the fragment's view rows,
@@ -105,6 +108,16 @@ pub(crate) fn data_outcomes_hold()
     ensures audits { OutcomesAreAudits }
 {
     data_outcomes_are_exact();
+}
+
+/// A law: where the files say a catalogue and the queries over it, each outcome of `contains` tells whether the left query is
+/// contained in the right one, or that their heads differ in length; and each of `minimise` prints the query's minimal
+/// equivalent parts, or tells that it is unsatisfiable.
+pub(crate) fn reasoning_outcomes_hold()
+    ensures contains { OutcomesAreContainments }
+    ensures minimise { OutcomesAreMinimised }
+{
+    reasoning_outcomes_are_exact();
 }
 
 /// A law: where `audit` and `run` are Done over the same files, each outcome of `answer` is Done with the text of `run`.

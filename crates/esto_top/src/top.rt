@@ -7,12 +7,16 @@ ghost use Rattle.esto_top.specs.DataOutcomes.{AnswersWhereTold, AuditsWhereTold,
 ghost use Rattle.esto_top.specs.Determined.{ExactWhereTold};
 ghost use Rattle.esto_top.specs.Grammar.{course_of};
 ghost use Rattle.esto_top.specs.Headline.{ListsWhereTold, RefusesWhereTold};
+ghost use Rattle.esto_top.specs.ReasoningOutcomes.{ContainsWhereTold, MinimisesWhereTold};
 ghost use Rattle.esto_top.specs.Runs.{RunsWhereTold};
 ghost use Rattle.esto_top.specs.Outcome.{Mediates, CompleteWhereTold, CausedReadFault, CausedWriteFault};
 
 use crate::command::{command_of, obey};
 use crate::ending::finish;
-use crate::laws::{data_outcomes_hold, lists_are_exact, outcomes_are_determined, runs_are_exact};
+use crate::laws::{
+    data_outcomes_hold, lists_are_exact, outcomes_are_determined, reasoning_outcomes_hold,
+    runs_are_exact,
+};
 use esto_opening::{Reply, Status};
 use esto_ports::{Shelf, Sink};
 use esto_term::Text;
@@ -97,6 +101,22 @@ pub fn mediate<S: Shelf, O: Sink>(
         (Rises S.faults shelf.old shelf.new) (Rises O.faults out.old out.new) (O.written out.old)
         (O.written out.new) result }
 
+    // Where the files say a catalogue and two queries over it, the status of `contains` is HeadLengths, with the lengths of
+    // their heads, exactly where these differ, and else Done. Then the text is `yes` exactly where, over every database that
+    // meets the catalogue's rules, each answer of the left query is one of the right query; else it is that of facts and a
+    // row of them which are a counterexample.
+    ensures contains { ContainsWhereTold words.now (S.files shelf.old)
+        (Rises S.faults shelf.old shelf.new) (Rises O.faults out.old out.new) (O.written out.old)
+        (O.written out.new) result }
+
+    // Where they say a catalogue and a query over it, the status of `minimise` is Unsatisfiable, with the clash of the
+    // query's run, exactly where no database that meets the rules gives the query an answer, and else Done. Then the text
+    // is that of the last facts of the query's run, with its head, and of exactly the minimal sets of these facts that are
+    // equivalent to the query, in order, each once.
+    ensures minimise { MinimisesWhereTold words.now (S.files shelf.old)
+        (Rises S.faults shelf.old shelf.new) (Rises O.faults out.old out.new) (O.written out.old)
+        (O.written out.new) result }
+
     // A fault has its cause.
     ensures read_fault { CausedReadFault (course_of words.now (S.files shelf.old))
         (Rises S.faults shelf.old shelf.new) (O.written out.old) (O.written out.new) result }
@@ -113,6 +133,7 @@ pub fn mediate<S: Shelf, O: Sink>(
     runs_are_exact();
     outcomes_are_determined();
     data_outcomes_hold();
+    reasoning_outcomes_hold();
     let answer = answer(alloc, words, shelf);
     finish(alloc, answer, out)
 }

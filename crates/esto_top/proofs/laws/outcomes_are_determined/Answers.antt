@@ -24,3 +24,4 @@ returns c =
       answers = c.data_outcomes_are_one.ensures.answers;
       audits = c.data_outcomes_are_one.ensures.audits;
     })
+    (record { contains = c.reasoning_outcomes_are_one.ensures.contains; minimise = c.reasoning_outcomes_are_one.ensures.minimise })

@@ -2,6 +2,7 @@ use Rattle.esto_top.proofs.BenchLemmas.{benches_always}
 use Rattle.esto_top.proofs.DataLemmas.{answers_where_told, audits_where_told, fills_where_told}
 use Rattle.esto_top.proofs.DeterminedLemmas.{exact}
 use Rattle.esto_top.proofs.HeadlineLemmas.{holds_of_lists}
+use Rattle.esto_top.proofs.ReasoningLemmas.{contains_where_told, minimises_where_told}
 use Rattle.esto_top.proofs.RunsLemmas.{runs_where_told}
 use Rattle.esto_top.proofs.Mediation.{mediates, complete, read_fault, write_fault}
 use Rattle.esto_top.proofs.top.mediate.Goals as goal
@@ -54,4 +55,14 @@ returns-clause-fill g c =
 pub returns-clause-audit : goal.returns-clause-audit
 returns-clause-audit g c =
     audits_where_told c.args.words.now _ _ _ _ _ c.data_outcomes_hold.ensures.audits _
+    (complete c.args.words.now _ _ _ _ _ _ (mediates _ _ _ _ _ _ _ c.answer-answer.ensures.answer c.finish.ensures.put))
+
+pub returns-clause-contains : goal.returns-clause-contains
+returns-clause-contains g c =
+    contains_where_told c.args.words.now _ _ _ _ _ c.reasoning_outcomes_hold.ensures.contains _
+    (complete c.args.words.now _ _ _ _ _ _ (mediates _ _ _ _ _ _ _ c.answer-answer.ensures.answer c.finish.ensures.put))
+
+pub returns-clause-minimise : goal.returns-clause-minimise
+returns-clause-minimise g c =
+    minimises_where_told c.args.words.now _ _ _ _ _ c.reasoning_outcomes_hold.ensures.minimise _
     (complete c.args.words.now _ _ _ _ _ _ (mediates _ _ _ _ _ _ _ c.answer-answer.ensures.answer c.finish.ensures.put))

@@ -1,0 +1,45 @@
+-- What `contains` and `minimise` answer where nothing is wrong with the files.
+use Rattle.std.specs.Prelude.{◌≡◌, ℕ, List, [], ◌∷◌, Option, Some, None, codes}
+use Rattle.esto_catalog.specs.declared.catalogue.Catalogue.{Catalogue}
+use Rattle.esto_data.specs.Exact.{FilesSayQuery}
+use Rattle.esto_ports.specs.Files.{Files}
+use Rattle.esto_query.specs.declared.query.Query.{Query}
+use Rattle.esto_opening.specs.declared.status.Status.{Status}
+use Rattle.esto_reasoning.specs.Exact.{IsExactContains, IsExactMinimise}
+use Rattle.esto_top.specs.Headline.{FilesSay, HoldsOfPut}
+use Rattle.esto_top.specs.Outcome.{Outcome}
+
+-- ---- outcomes
+
+-- Each outcome of `contains C L R` is exact, where the files say a catalogue and two queries over it.
+abbrev pub OutcomesAreContainments : Type 0
+OutcomesAreContainments =
+    (words : List (List ℕ)) (files : Files) (catalogue_name left_name right_name : List ℕ) (catalogue : Catalogue) (left right : Query) (said : Status)
+    (text : List ℕ) → words ≡ codes "contains" ∷ catalogue_name ∷ left_name ∷ right_name ∷ [] → FilesSay files catalogue_name left_name catalogue left
+    → FilesSayQuery files right_name catalogue right → Outcome words files said text
+    → IsExactContains catalogue left right said text
+
+-- So is each outcome of `minimise C Q`, where they say a catalogue and a query over it.
+abbrev pub OutcomesAreMinimised : Type 0
+OutcomesAreMinimised =
+    (words : List (List ℕ)) (files : Files) (catalogue_name query_name : List ℕ) (catalogue : Catalogue) (query : Query) (said : Status) (text : List ℕ)
+    → words ≡ codes "minimise" ∷ catalogue_name ∷ query_name ∷ [] → FilesSay files catalogue_name query_name catalogue query → Outcome words files said text
+    → IsExactMinimise catalogue query said text
+
+-- ---- what the top call says
+
+-- So it is where the files are told and neither count rose.
+abbrev pub ContainsWhereTold : List (List ℕ) → Option Files → Type 0 → Type 0 → Option (List ℕ) → Option (List ℕ) → Status → Type 0
+ContainsWhereTold words None rose sink_rose old new result = Unit {0}
+ContainsWhereTold words (Some files) rose sink_rose old new result =
+    ¬ rose → ¬ sink_rose → (catalogue_name left_name right_name : List ℕ) (catalogue : Catalogue) (left right : Query)
+    → words ≡ codes "contains" ∷ catalogue_name ∷ left_name ∷ right_name ∷ [] → FilesSay files catalogue_name left_name catalogue left
+    → FilesSayQuery files right_name catalogue right
+    → HoldsOfPut (IsExactContains catalogue left right) old new result
+
+abbrev pub MinimisesWhereTold : List (List ℕ) → Option Files → Type 0 → Type 0 → Option (List ℕ) → Option (List ℕ) → Status → Type 0
+MinimisesWhereTold words None rose sink_rose old new result = Unit {0}
+MinimisesWhereTold words (Some files) rose sink_rose old new result =
+    ¬ rose → ¬ sink_rose → (catalogue_name query_name : List ℕ) (catalogue : Catalogue) (query : Query)
+    → words ≡ codes "minimise" ∷ catalogue_name ∷ query_name ∷ [] → FilesSay files catalogue_name query_name catalogue query
+    → HoldsOfPut (IsExactMinimise catalogue query) old new result
