@@ -1,14 +1,14 @@
 -- The made catalogue keeps what a catalogue keeps.
-use Rattle.std.proofs.Common.{◌≡◌, ◌≢◌, ◌⊎◌, ◌<◌, ◌≤◌, ◌+◌, ◌*◌, ℕ, zero, suc, false, Bool, List, [], ◌∷◌, ◌++◌, map, length, slice_get, Some, Contains, All, AllPairs, refl, sym, ap, subst, ◌∙◌, inl, inr, arith, add-zero}
-use Rattle.std.specs.Prelude.{codes, IsUtf8}
+use Rattle.std.proofs.Common.{◌≡◌, ◌≢◌, ◌<◌, ◌≤◌, ◌+◌, ◌*◌, ℕ, zero, suc, false, List, [], ◌∷◌, map, length, slice_get, Some, Contains, AllPairs, refl, sym, ap, subst, ◌∙◌, inl, inr, arith, add-zero}
+use Rattle.std.specs.Prelude.{codes}
 use Rattle.std.proofs.lemmas.List.{length-map}
 use Rattle.std.proofs.lemmas.List.Elements.{All-map, All-from_get_or, Contains-get_or}
 use Rattle.std.proofs.lemmas.List.FromFn.{length-range_with_len}
 use Rattle.esto_acyclic.specs.Graphs.{AreRanks, IsAcyclic, IsWithin}
 use Rattle.esto_acyclic.specs.Relations.{IsEdge}
-use Rattle.esto_catalog.specs.Datasets.{AreColumns, IsDataset, StandFrom, relations_of, words_of}
+use Rattle.esto_catalog.specs.Datasets.{AreColumns, IsDataset, StandFrom, words_of}
 use Rattle.esto_catalog.specs.Soundness.{AreShapes, FitView, IsShapeFor, IsSoundCatalogue}
-use Rattle.esto_catalog.specs.declared.access.TheConstants.{MAX_PATTERNS, MAX_WEIGHT}
+use Rattle.esto_catalog.specs.declared.access.TheConstants.{MAX_WEIGHT}
 use Rattle.esto_catalog.specs.declared.catalogue.Store.{Store}
 use Rattle.esto_catalog.specs.declared.dataset.Dataset.{Dataset}
 use Rattle.esto_constraint.specs.Constraints.{rules_of}
@@ -18,17 +18,15 @@ use Rattle.esto_query.specs.Schemas.{IsSchema, arities_of, names_of}
 use Rattle.esto_query.specs.declared.schema.Relation.{Relation}
 use Rattle.esto_read.specs.Words.{HasRelations, IsVocabulary}
 use Rattle.esto_read.specs.declared.words.Word.{Word}
-use Rattle.esto_semantics.specs.Facts.{Mentions}
 use Rattle.esto_semantics.specs.Maps.{IsVariable}
 use Rattle.esto_semantics.specs.Queries.{ConjunctiveQuery}
-use Rattle.esto_semantics.specs.Rules.{Rule}
 use Rattle.esto_semantics.specs.WellFormed.{IsQueryOver}
 use Rattle.esto_semantics.specs.declared.fact.Fact.{Fact}
 use Rattle.esto_term.proofs.ListLemmas.{Contains-at, Contains-cases, Contains-map, Contains-map_from, Contains-nil, map_at, map_then, range_at}
 use Rattle.esto_term.proofs.DistinctLemmas.{distinct_cons, distinct_none}
 use Rattle.esto_term.specs.declared.term.Term.{Term}
 use Rattle.esto_term.specs.declared.term.Term.TheVariants.{Const, Plain}
-use Rattle.esto_views.specs.Fragments.{IsFragment, AreFragments, views_of, patterns_of, weights_of}
+use Rattle.esto_views.specs.Fragments.{AreFragments}
 use Rattle.esto_views.specs.declared.fragments.FragmentDef.{FragmentDef}
 use Rattle.esto_bench.specs.Case.{below, made_columns, made_dataset, made_datasets, made_relation, made_schema, made_store, made_stores, made_view, numbered, without_inputs}
 use Rattle.esto_bench.specs.Made.{AreMadeFragments}

@@ -1,5 +1,5 @@
 -- The made fragments, one relation after the other.
-use Rattle.std.proofs.Common.{◌≡◌, ◌+◌, ℕ, List, map, refl}
+use Rattle.std.proofs.Common.{◌+◌, ℕ, List}
 use Rattle.std.specs.Prelude.{codes}
 use Rattle.esto_query.specs.Making.{query_of}
 use Rattle.esto_views.specs.declared.fragments.FragmentDef.{FragmentDef}

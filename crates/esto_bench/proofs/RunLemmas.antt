@@ -1,5 +1,5 @@
 -- The made rows as contents of files, and the query's answers over them.
-use Rattle.std.proofs.Common.{◌≡◌, ◌≢◌, ◌↔◌, ◌⊎◌, ◌<◌, ◌≤◌, ◌+◌, ◌*◌, ◌/◌, ℕ, Bool, List, [], ◌∷◌, ◌++◌, map, length, slice_get, Option, Some, None, Contains, All, AllPairs, Result, Err, refl, sym, ap, subst, ◌∙◌, inl, inr, arith, get_or}
+use Rattle.std.proofs.Common.{◌≡◌, ◌≢◌, ◌↔◌, ◌⊎◌, ◌<◌, ◌+◌, ◌*◌, ◌/◌, ℕ, List, [], ◌∷◌, ◌++◌, map, length, slice_get, Some, None, Contains, All, AllPairs, Err, refl, sym, ap, subst, ◌∙◌, inl, inr, arith, get_or}
 use Rattle.std.specs.Prelude.{codes, IfSome}
 use Rattle.std.specs.Cmp.Lexicographic.{slice_cmp}
 use Rattle.std.specs.Ordering.{nat_cmp}
@@ -12,10 +12,8 @@ use Rattle.std.proofs.lemmas.Option.{slice_get_within}
 use Rattle.esto_catalog.specs.declared.catalogue.Catalogue.{Catalogue}
 use Rattle.esto_catalog.specs.declared.catalogue.Shape.TheVariants.{Table}
 use Rattle.esto_catalog.specs.declared.catalogue.Store.{Store}
-use Rattle.esto_constraint.specs.Constraints.{rules_of}
 use Rattle.esto_lines.specs.Faults.{Gives}
 use Rattle.esto_list.specs.declared.listing.Listed.{Listed}
-use Rattle.esto_plan.specs.Planned.{IsSafeOrder}
 use Rattle.esto_plan.specs.Rows.{IsRowOf, held_by}
 use Rattle.esto_ports.specs.declared.file_fault.FileError.{FileError}
 use Rattle.esto_ports.specs.declared.file_fault.FileError.TheVariants.{Fault}
@@ -24,23 +22,21 @@ use Rattle.esto_run.specs.Answers.{AreRising}
 use Rattle.esto_run.specs.Laws.{AnswersAreOverFiles, FilesHoldViewRows, IsAnswerOver, RewritingsAnswerQueries}
 use Rattle.esto_run.specs.Opened.{AreOpened, AreRowsFor, Held, rows_held}
 use Rattle.esto_run.specs.Stores.{IsFileRow, IsRowIn, first_fault_in}
-use Rattle.esto_semantics.specs.Listed.{candidate, chosen, IsListed}
+use Rattle.esto_semantics.specs.Listed.{candidate}
 use Rattle.esto_semantics.specs.ListedLaws.{ChosenAreNamed}
-use Rattle.esto_semantics.specs.Queries.{ConjunctiveQuery, IsAnswer}
-use Rattle.esto_semantics.specs.Views.{IsViewRow}
+use Rattle.esto_semantics.specs.Queries.{IsAnswer}
 use Rattle.esto_semantics.specs.declared.fact.Fact.{Fact}
 use Rattle.esto_semantics.specs.declared.fact.Value.{Value}
 use Rattle.esto_semantics.specs.declared.fact.Value.TheVariants.{Text}
 use Rattle.esto_stores.specs.Rows.{Row}
 use Rattle.esto_stores.specs.Table.{table_rows, table_fault}
-use Rattle.esto_stores.specs.TableText.{table_text}
 use Rattle.esto_term.proofs.DistinctLemmas.{distinct_map}
 use Rattle.esto_term.proofs.ListLemmas.{Contains-at, Contains-map, Contains-map_from, Contains-nil, thing_at}
 use Rattle.esto_term.specs.declared.term.Term.{Term}
 use Rattle.esto_views.specs.Plans.{fact_of, plan_query, IsPlanOver}
 use Rattle.esto_views.specs.declared.fragments.FragmentDef.{FragmentDef}
 use Rattle.esto_views.specs.declared.plan.Plan.{Plan}
-use Rattle.esto_bench.specs.Case.{IsMadeCatalogue, below, made_columns, made_database, made_patterns, made_query, made_row, made_rows, made_store, made_stores, made_views, numbered}
+use Rattle.esto_bench.specs.Case.{IsMadeCatalogue, below, made_columns, made_database, made_patterns, made_query, made_row, made_rows, made_store, made_views, numbered}
 use Rattle.esto_bench.specs.declared.rows.TheConstants.{ROWS}
 use Rattle.esto_bench.specs.Made.{AreOpenedBelow, CountsAnswers, IsItemOfCase, made_content}
 use Rattle.esto_bench.proofs.BothLemmas.{below_more, below_there, both_from, both_long, mapped_from}

@@ -1,25 +1,19 @@
 -- A query over a catalogue and over a database has one summary.
-use Rattle.std.proofs.Common.{◌≡◌, ◌≢◌, ◌↔◌, ◌≤◌, ℕ, List, [], ◌∷◌, length, get_or, All, AllPairs, Contains, refl, sym, ap, subst, ◌∙◌, arith}
+use Rattle.std.proofs.Common.{◌≡◌, ◌≢◌, ◌↔◌, ℕ, List, [], ◌∷◌, length, get_or, All, AllPairs, Contains, refl, sym, ap, subst, ◌∙◌, arith}
 use Rattle.std.proofs.lemmas.List.{length-map}
 use Rattle.std.proofs.lemmas.List.Elements.{All-head, All-tail}
 use Rattle.esto_list.specs.Items.{sets_of, totals_of}
 use Rattle.esto_list.specs.declared.listing.Listed.{Listed}
-use Rattle.esto_query.specs.declared.query.Name.{Name}
-use Rattle.esto_semantics.specs.Access.{Patterns}
-use Rattle.esto_semantics.specs.Facts.{Database}
 use Rattle.esto_semantics.specs.Listed.{chosen, AreListed, IsPick, IsWeight}
 use Rattle.esto_semantics.specs.ListedLaws.{ListedIsOne, PickIsOne, WeightIsOne}
 use Rattle.esto_semantics.specs.Queries.{ConjunctiveQuery}
-use Rattle.esto_semantics.specs.Rules.{Rule, AreRules}
 use Rattle.esto_semantics.specs.declared.fact.Fact.{Fact}
 use Rattle.esto_semantics.specs.declared.fact.Value.{Value}
 use Rattle.esto_term.proofs.DistinctLemmas.{no_more_than}
 use Rattle.esto_term.specs.declared.term.Term.{Term}
 use Rattle.esto_universal.specs.PlannedLaws.{PlanOfRunIsOne}
 use Rattle.esto_views.specs.Plans.{fact_of, plan_query}
-use Rattle.esto_views.specs.declared.plan.Plan.{Plan}
-use Rattle.esto_bench.specs.Summary.{SumsUp, SummariesAreOne}
-use Rattle.esto_bench.specs.declared.summary.Summary.{Summary}
+use Rattle.esto_bench.specs.Summary.{SummariesAreOne}
 
 first_same : {A : Type 0} (one other : A) (rest others : List A) → one ∷ rest ≡ other ∷ others → one ≡ other
 first_same one other rest others same = cc

@@ -24,7 +24,6 @@ use Rattle.esto_semantics.specs.declared.fact.Fact.{Fact}
 use Rattle.esto_semantics.specs.declared.fact.Value.{Value}
 use Rattle.esto_semantics.specs.declared.fact.Value.TheVariants.{Text}
 use Rattle.esto_views.specs.Fragments.{views_of, patterns_of, weights_of}
-use Rattle.esto_views.specs.declared.fragments.FragmentDef.{FragmentDef}
 use Rattle.esto_bench.specs.declared.rows.TheConstants.{ROWS}
 
 -- The numbers below a count, in order.
@@ -126,7 +125,7 @@ made_store letter relation = record { shape = Table made_columns; file = numbere
 abbrev pub made_stores : ℕ → List Store
 made_stores size = of_both (made_store (codes "A")) (made_store (codes "B")) size
 
--- The catalogue has the made relations and datasets, fragments, binding patterns, weights and stores, and no rules.
+-- The catalogue has the made relations and datasets, fragments, binding patterns, weights and stores, and no rules; it doesn't ask for the core of a plan.
 pub record IsMadeCatalogue (size : ℕ) (catalogue : Catalogue) : Type 0 where
   pub schema : catalogue.schema ≡ made_schema size
   pub names : map (λ fragment. fragment.name) catalogue.fragments ≡ made_fragment_names size
@@ -136,6 +135,7 @@ pub record IsMadeCatalogue (size : ℕ) (catalogue : Catalogue) : Type 0 where
   pub datasets : catalogue.datasets ≡ made_datasets size
   pub stores : catalogue.stores ≡ made_stores size
   pub rules : rules_of catalogue.rules ≡ []
+  pub core : catalogue.core ≡ false
 
 -- The query is the made one, with its names.
 pub record IsMadeQuery (size : ℕ) (query : Query) : Type 0 where

@@ -118,6 +118,7 @@ pub fn made_catalogue(alloc: Global, size: usize) -> Result<Catalogue, OutOfMemo
             rules,
             given: 0,
             ranks,
+            core: false,
         }),
         Right(_) => unreachable!(),
     }

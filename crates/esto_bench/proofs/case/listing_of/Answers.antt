@@ -1,4 +1,4 @@
-use Rattle.std.proofs.Common.{All, sym, subst}
+use Rattle.std.proofs.Common.{All, subst}
 use Rattle.esto_list.specs.declared.listing.Listed.{Listed}
 use Rattle.esto_semantics.specs.Access.{IsStatedOrder}
 use Rattle.esto_semantics.specs.Listed.{chosen, IsWeight}
@@ -6,6 +6,7 @@ use Rattle.esto_views.specs.Plans.{plan_query}
 use Rattle.esto_constraint.specs.Constraints.{rules_of}
 use Rattle.esto_query.specs.Making.{query_of}
 use Rattle.esto_views.specs.Fragments.{views_of}
+use Rattle.esto_bench.proofs.FormLemmas.{plan_form}
 use Rattle.esto_bench.proofs.PlanLemmas.{list_of_case, none_are_rules, planned_by}
 use Rattle.esto_bench.proofs.case.listing_of.Goals as goal
 
@@ -29,6 +30,20 @@ minimal_sets-requires-clause-satisfiable c =
     c.plans_tell_satisfiable_queries.ensures.plan (rules_of catalogue.rules) (views_of catalogue.fragments) c.args.query.now.names
     (query_of c.args.query.now) c.args.plan.now (none_are_rules catalogue c.requires.catalogue.rules) (c.queries_are_sound.ensures c.args.query.now).query
     (planned_by c.args.size catalogue c.requires.catalogue c.args.query.now c.requires.query c.args.plan.now c.requires.planned)
+
+pub minimal_sets-requires-clause-same_length : goal.minimal_sets-requires-clause-same_length
+minimal_sets-requires-clause-same_length c =
+    let catalogue = c.args.catalogue.now in
+    let planned = planned_by c.args.size catalogue c.requires.catalogue c.args.query.now c.requires.query c.args.plan.now c.requires.planned in
+    let rules = none_are_rules catalogue c.requires.catalogue.rules in
+    let is_query = (c.queries_are_sound.ensures c.args.query.now).query in
+    let form = plan_form (λ it. (c.queries_are_their_own_instances.ensures.universal it).maps) (rules_of catalogue.rules) (views_of catalogue.fragments)
+    (query_of c.args.query.now) c.args.plan.now (c.plans_are_sound.ensures c.args.plan.now)
+    (c.plans_of_runs_are_universal.ensures.unions (rules_of catalogue.rules) (views_of catalogue.fragments) c.args.query.now.names
+    (query_of c.args.query.now) c.args.plan.now rules is_query planned)
+    (c.plans_tell_satisfiable_queries.ensures.plan (rules_of catalogue.rules) (views_of catalogue.fragments) c.args.query.now.names
+    (query_of c.args.query.now) c.args.plan.now rules is_query planned) in
+    form.same_length
 
 pub returns : goal.returns
 returns c =

@@ -1,4 +1,4 @@
-use Rattle.std.proofs.Common.{◌≡◌, List, [], length, ap, subst, ◌∙◌}
+use Rattle.std.proofs.Common.{List, [], length, ap, subst, ◌∙◌}
 use Rattle.esto_acyclic.specs.Graphs.{AreRanks, IsAcyclic}
 use Rattle.esto_acyclic.specs.Relations.{IsEdge}
 use Rattle.esto_catalog.specs.Datasets.{words_of}

@@ -1,4 +1,3 @@
-use Rattle.std.proofs.Common.{refl}
 use Rattle.esto_bench.proofs.FragmentLemmas.{fragments_more}
 use Rattle.esto_bench.proofs.fragments.made_fragments.Goals as goal
 
