@@ -11,7 +11,10 @@ use Rattle.esto_opening.specs.Fetch.{fetches}
 use Rattle.esto_opening.specs.Opening.{opens_catalogue, opens_query, reads_catalogue, reads_query}
 use Rattle.esto_opening.specs.declared.opening.TheConstants.{CATALOGUE_LIMIT, QUERY_LIMIT}
 use Rattle.esto_opening.specs.declared.status.Status.{Status}
+use Rattle.esto_reasoning.specs.Contains.{contains_course}
+use Rattle.esto_reasoning.specs.Exact.{IsExactContains, IsExactMinimise}
 use Rattle.esto_reasoning.specs.Laws.{ContainsIsExact, MinimiseIsExact}
+use Rattle.esto_reasoning.specs.Minimise.{minimise_course}
 use Rattle.esto_top.specs.Grammar.{course_of}
 use Rattle.esto_top.specs.Headline.{FilesSay}
 use Rattle.esto_top.specs.Outcome.{CompleteWhereTold, Says}
@@ -32,7 +35,7 @@ query_opens files name catalogue query say =
 
 pub outcomes_are_containments : ContainsIsExact → OutcomesAreContainments
 outcomes_are_containments exact words files catalogue_name left_name right_name catalogue left right said text is say say_right outcome =
-    says_fact _ _ said text
+    says_fact (contains_course (Some files) catalogue_name left_name right_name) (IsExactContains catalogue left right) said text
     (exact files catalogue_name left_name right_name catalogue left right (catalogue_opens files catalogue_name left_name catalogue left say)
     (query_opens files left_name catalogue left (query_said files catalogue_name left_name catalogue left say))
     (query_opens files right_name catalogue right say_right))
@@ -40,7 +43,7 @@ outcomes_are_containments exact words files catalogue_name left_name right_name 
 
 pub outcomes_are_minimised : MinimiseIsExact → OutcomesAreMinimised
 outcomes_are_minimised exact words files catalogue_name query_name catalogue query said text is say outcome =
-    says_fact _ _ said text
+    says_fact (minimise_course (Some files) catalogue_name query_name) (IsExactMinimise catalogue query) said text
     (exact files catalogue_name query_name catalogue query (catalogue_opens files catalogue_name query_name catalogue query say)
     (query_opens files query_name catalogue query (query_said files catalogue_name query_name catalogue query say)))
     (subst (λ (it : List (List ℕ)). Says (course_of it (Some files)) ⊥ said text) is outcome)
