@@ -4,3 +4,4 @@ pub mod VisitLemmas
 pub mod CompletionLemmas
 pub mod CompleteLemmas
 pub mod TellLemmas
+pub mod EvidenceLemmas

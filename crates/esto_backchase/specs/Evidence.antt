@@ -1,15 +1,25 @@
 -- What the entries say from which listed sets are read.
-use Rattle.std.specs.Prelude.{◌≡◌, ◌⊎◌, ℕ, Bool, List, length, slice_index}
+use Rattle.std.specs.Prelude.{◌≡◌, ◌⊎◌, ◌↔◌, ℕ, Bool, List, length, slice_index}
 use Rattle.esto_catalog.specs.declared.catalogue.Catalogue.{Catalogue}
 use Rattle.esto_constraint.specs.Constraints.{rules_of}
+use Rattle.esto_query.specs.Making.{query_of}
+use Rattle.esto_query.specs.declared.query.Query.{Query}
+use Rattle.esto_semantics.specs.Access.{HoldsOfPart}
+use Rattle.esto_semantics.specs.Containment.{IsSatisfiable}
+use Rattle.esto_semantics.specs.Plans.{IsUniversalPlan}
 use Rattle.esto_semantics.specs.Rules.{Rule}
+use Rattle.esto_semantics.specs.Sets.{IsMinimal}
+use Rattle.esto_semantics.specs.Unions.{ReceivesUnions}
 use Rattle.esto_views.specs.Expanded.{AreExpanded, Expands}
+use Rattle.esto_views.specs.Fragments.{views_of, patterns_of}
+use Rattle.esto_views.specs.Plans.{plan_query}
 use Rattle.esto_views.specs.declared.expansion.ExpandedFact.{ExpandedFact}
 use Rattle.esto_views.specs.declared.plan.Plan.{Plan}
 use Rattle.esto_world_laws.specs.Derived.{AreDerived}
-use Rattle.esto_world_laws.specs.Laws.{AreGiven, IsSound, IsReceivedNowhere, IsDatabase, AreNestedWithin}
+use Rattle.esto_world_laws.specs.Laws.{AreGiven, HasMatch, IsSound, IsReceivedNowhere, IsDatabase, AreNestedWithin}
 use Rattle.esto_world_laws.specs.Worlds.{InWorld, AreOfCount, IsClosed, IsBroken, IsDenied}
 use Rattle.esto_world_laws.specs.declared.entry.Entry.{Entry}
+use Rattle.esto_backchase.specs.Candidates.{Answers}
 
 -- The entries say of each set of so many atoms what the rules make of its expanded facts, under ranks of the relations: each of these facts stands in the set's
 -- world, which is closed, sound, and a database that meets the rules, or else no such database receives the facts; a term of a fact nests no deeper than the
@@ -30,3 +40,36 @@ AreEntriesOf catalogue plan entries =
     (expanded : List ExpandedFact) × AreExpanded catalogue.fragments 0 (length plan.names) plan.atoms expanded
     × Expands plan catalogue.fragments expanded
     × AreConditional (rules_of catalogue.rules) (slice_index catalogue.ranks) (length plan.atoms) expanded entries
+
+-- In the world of the set the query's body has a match whose head is, place by place, one with the plan's head.
+abbrev pub MatchesIn : Query → Plan → List Entry → List Bool → Type 0
+MatchesIn query plan entries set = HasMatch (InWorld entries set) (query_of query).head (query_of query).body plan.head
+
+-- The entries decide which sets of the plan's atoms answer the query: exactly those in whose worlds it has such a match.
+abbrev pub DecideAnswers : Catalogue → Query → Plan → List Entry → Type 0
+DecideAnswers catalogue query plan entries =
+    (set : List Bool) → length set ≡ length plan.atoms → Answers catalogue query plan set ↔ MatchesIn query plan entries set
+
+-- The set is minimal among those of the plan's atoms whose accessible part has a world with such a match.
+abbrev pub IsLeastOfParts : Catalogue → Query → Plan → List Entry → List Bool → Type 0
+IsLeastOfParts catalogue query plan entries set =
+    IsMinimal (HoldsOfPart (patterns_of catalogue.fragments) (plan_query plan).body (MatchesIn query plan entries)) set
+
+-- No set's world makes two different constants one, or has a match of a denial's body.
+abbrev pub AreConsistent : List Rule → List Entry → Type 0
+AreConsistent rules entries = (set : List Bool) → ¬ (IsBroken (InWorld entries set)) × ¬ (IsDenied rules (InWorld entries set))
+
+-- The entries of a plan that is universal for a satisfiable query decide which sets of its atoms answer the query.
+abbrev pub EntriesDecideAnswers : Type 0
+EntriesDecideAnswers =
+    (catalogue : Catalogue) (query : Query) (plan : Plan) (entries : List Entry) → length plan.head ≡ length query.head
+    → IsUniversalPlan (rules_of catalogue.rules) (views_of catalogue.fragments) (query_of query) (plan_query plan)
+    → IsSatisfiable (rules_of catalogue.rules) (query_of query) → AreEntriesOf catalogue plan entries → DecideAnswers catalogue query plan entries
+
+-- The entries of a plan that receives unions for a satisfiable query are consistent.
+abbrev pub EntriesAreConsistent : Type 0
+EntriesAreConsistent =
+    (catalogue : Catalogue) (query : Query) (plan : Plan) (entries : List Entry)
+    → IsSatisfiable (rules_of catalogue.rules) (query_of query) → AreEntriesOf catalogue plan entries
+    → ReceivesUnions (rules_of catalogue.rules) (views_of catalogue.fragments) (query_of query) (plan_query plan)
+    → AreConsistent (rules_of catalogue.rules) entries

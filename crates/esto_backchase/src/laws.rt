@@ -1,13 +1,23 @@
-//! Laws of listed sets and of completions.
+//! Laws of listed sets, of completions and of entries.
 ghost use Rattle.std.specs.Prelude.{List, Bool, IsTrue};
 ghost use Rattle.esto_term.specs.declared.term.Term.{Term};
 ghost use Rattle.esto_semantics.specs.Access.{Patterns};
 ghost use Rattle.esto_semantics.specs.Sets.{Covers};
 ghost use Rattle.esto_semantics.specs.declared.fact.Fact.{Fact};
 ghost use Rattle.esto_backchase.specs.Completion.{MinimalCompletions};
+ghost use Rattle.esto_backchase.specs.Evidence.{EntriesAreConsistent, EntriesDecideAnswers};
 ghost use Rattle.esto_backchase.specs.Listing.{ListedCoverRewritings};
 
-use esto_semantics::{executable_sets_unite, listed_sets_are_minimal, rewritings_map_onto_sets};
+use esto_chase_laws::queries_have_starts;
+use esto_constraint::rules_are_sound;
+use esto_query::queries_are_sound;
+use esto_semantics::{
+    an_expansion_means_the_same, an_expansion_of_a_plan_expands_its_candidates,
+    candidates_contain_the_query, chosen_atoms_are_named, executable_sets_unite,
+    listed_sets_are_minimal, rewritings_map_onto_sets,
+};
+use esto_views::plans_are_sound;
+use esto_world_laws::{matches_decide_containment, matches_rest_on_atoms};
 
 /// A law: each query over fragments that is an executable rewriting of a satisfiable query maps to a universal plan of
 /// it, head to head, and onto a set of the plan's atoms that has one of the sets within it, where these are exactly the
@@ -29,4 +39,24 @@ pub fn minimal_completions_are_executable()
         → MinimalCompletions patterns atoms (Covers family) }
 {
     executable_sets_unite();
+}
+
+/// A law: a set of the atoms of a plan that is universal for a satisfiable query answers the query exactly where the set's
+/// world, by the entries, has a match of the query's body whose head is, place by place, one with the plan's head. Where
+/// the plan receives unions for the query, no set's world makes two different constants one or has a match of a denial's
+/// body.
+pub fn entries_decide_answers()
+    ensures decide { EntriesDecideAnswers }
+    ensures consistent { EntriesAreConsistent }
+{
+    plans_are_sound();
+    rules_are_sound();
+    queries_are_sound();
+    queries_have_starts();
+    matches_decide_containment();
+    matches_rest_on_atoms();
+    chosen_atoms_are_named();
+    candidates_contain_the_query();
+    an_expansion_means_the_same();
+    an_expansion_of_a_plan_expands_its_candidates();
 }

@@ -11,6 +11,8 @@ mod safety;
 mod search;
 
 pub use completion::{complete, executable_products};
-pub use laws::{listed_sets_cover_rewritings, minimal_completions_are_executable};
+pub use laws::{
+    entries_decide_answers, listed_sets_cover_rewritings, minimal_completions_are_executable,
+};
 pub use listing::minimal_sets_plain;
 pub use products::{Backchase, minimal_sets};

@@ -5,31 +5,26 @@ ghost use Rattle.esto_semantics.specs.Listed.{IsListed, IsExecutableRewriting};
 ghost use Rattle.esto_semantics.specs.Plans.{IsUniversalPlan};
 ghost use Rattle.esto_semantics.specs.Queries.{ConjunctiveQuery};
 ghost use Rattle.esto_semantics.specs.Sets.{TellHolds};
+ghost use Rattle.esto_semantics.specs.Unions.{ReceivesUnions};
 ghost use Rattle.esto_constraint.specs.Constraints.{rules_of};
 ghost use Rattle.esto_query.specs.Making.{query_of};
 ghost use Rattle.esto_views.specs.Fragments.{views_of, patterns_of};
 ghost use Rattle.esto_views.specs.Plans.{plan_query, IsPlanOver};
 ghost use Rattle.esto_world_laws.specs.Steps.{AreJoined};
 ghost use Rattle.esto_backchase.specs.Candidates.{Answers};
-ghost use Rattle.esto_backchase.specs.Evidence.{AreEntriesOf};
+ghost use Rattle.esto_backchase.specs.Evidence.{AreConsistent, AreEntriesOf, DecideAnswers, IsLeastOfParts};
 ghost use Rattle.esto_backchase.specs.Listing.{MapsOntoOne};
 
 use crate::completion::executable_products;
+use crate::laws::entries_decide_answers;
 use esto_bits::Products;
 use esto_catalog::{Catalogue, catalogues_are_sound};
-use esto_chase_laws::queries_have_starts;
 use esto_condchase::{chase_with_products, products_of_matches};
-use esto_constraint::rules_are_sound;
 use esto_prov::Entries;
-use esto_query::{Query, queries_are_sound};
-use esto_semantics::{
-    an_expansion_means_the_same, an_expansion_of_a_plan_expands_its_candidates,
-    candidates_contain_the_query, chosen_atoms_are_named, listed_sets_are_executable,
-    rewritings_map_onto_sets,
-};
+use esto_query::Query;
+use esto_semantics::{listed_sets_are_executable, rewritings_map_onto_sets};
 use esto_term::{List, OutOfMemory};
 use esto_views::{Plan, expand, plans_are_sound};
-use esto_world_laws::{matches_decide_containment, matches_rest_on_atoms};
 use std::alloc::Global;
 
 /// The listed sets of a plan, with the entries that they come from.
@@ -76,16 +71,7 @@ fn answering_products(
     ensures tell { IfOk result (λ it. TellHolds (length plan.now.atoms)
         (Answers catalogue.now query.now plan.now) it.sets) }
 {
-    plans_are_sound();
-    rules_are_sound();
-    queries_are_sound();
-    queries_have_starts();
-    matches_decide_containment();
-    matches_rest_on_atoms();
-    chosen_atoms_are_named();
-    candidates_contain_the_query();
-    an_expansion_means_the_same();
-    an_expansion_of_a_plan_expands_its_candidates();
+    entries_decide_answers();
     let found = products_of_matches(
         alloc,
         entries.items(),
@@ -122,10 +108,18 @@ pub fn minimal_sets(
         → IsExecutableRewriting (rules_of catalogue.now.rules) (views_of catalogue.now.fragments)
         (patterns_of catalogue.now.fragments) (query_of query.now) other
         → MapsOntoOne other (plan_query plan.now) it.sets.sets) }
+    ensures decided { IfOk result (λ it.
+        DecideAnswers catalogue.now query.now plan.now it.entries) }
+    ensures of_parts { IfOk result (λ it. (set : List Bool) → Contains it.sets.sets set
+        ↔ IsLeastOfParts catalogue.now query.now plan.now it.entries set) }
+    ensures consistent { IfOk result (λ it. ReceivesUnions (rules_of catalogue.now.rules)
+        (views_of catalogue.now.fragments) (query_of query.now) (plan_query plan.now)
+        → AreConsistent (rules_of catalogue.now.rules) it.entries) }
 {
     plans_are_sound();
     listed_sets_are_executable();
     rewritings_map_onto_sets();
+    entries_decide_answers();
     let entries = entries_of(alloc, plan, catalogue)?;
     let answering = answering_products(alloc, plan, query, catalogue, &entries)?;
     let sets = executable_products(alloc, plan, &catalogue.fragments, &answering)?;

@@ -42,7 +42,7 @@ use Rattle.esto_opening.specs.declared.status.Status.TheVariants as status
 use Rattle.esto_opening.proofs.Steps.{never_wanting}
 use Rattle.esto_data.specs.Answer.{answer_course, answers_facts, answers_query}
 use Rattle.esto_data.specs.Audit.{AuditsFiles, all_fragments, audit_course, audit_text, audits_catalogue, audits_facts, compares, judges_views}
-use Rattle.esto_data.specs.Datasets.{Each, Names, loads}
+use Rattle.esto_data.specs.Datasets.{IsAny, Names, loads}
 use Rattle.esto_data.specs.Fill.{IsFirstOf, fill_course, fill_status, fills_file, fills_fragment, fills_named, finds_fragment, names_of}
 use Rattle.esto_data.specs.Laws.{IsOne}
 use Rattle.esto_data.proofs.AlikeLemmas.{are_rules, audits_over, first_one, fragments_long, texts_one, same_query, same_rows_text, same_stored, same_view}
@@ -260,11 +260,11 @@ module _ (laws : DataLaws) where
     catalogue_agree : AgreeCalmly ◌≡◌ (audits_catalogue (Some files) catalogue) (audits_catalogue (Some files) other)
     catalogue_agree =
         then_agree _ ◌≡◌ ◌≡◌ _ _ _ _
-        (subst (λ (it : List Dataset). AgreeCalmly ◌≡◌ (loads (Some files) catalogue.datasets Each) (loads (Some files) it Each)) alike.datasets
-        (loads_agree files catalogue.datasets laws.facts Each))
+        (subst (λ (it : List Dataset). AgreeCalmly ◌≡◌ (loads (Some files) catalogue.datasets IsAny) (loads (Some files) it IsAny)) alike.datasets
+        (loads_agree files catalogue.datasets laws.facts IsAny))
         (λ facts others goes one. subst (λ (it : List (Fact Term)). AgreeCalmly ◌≡◌ (audits_facts (Some files) catalogue facts)
         (audits_facts (Some files) other it)) one
-        (audited_agree (are_rules laws.rules catalogue.rules) facts (loads_flat (Some files) catalogue.datasets Each facts goes)))
+        (audited_agree (are_rules laws.rules catalogue.rules) facts (loads_flat (Some files) catalogue.datasets IsAny facts goes)))
 
   -- ---- the commands
 

@@ -27,7 +27,7 @@ use Rattle.esto_opening.specs.Calm.{Leads}
 use Rattle.esto_opening.specs.declared.reply.Reply.TheVariants.{Done}
 use Rattle.esto_opening.proofs.LeadLemmas.{then-leads, leads-more, gives-leads}
 use Rattle.esto_data.specs.Answer.{IsAnswerOfFacts, answers_facts, answers_query}
-use Rattle.esto_data.specs.Datasets.{Each, Names, loads, opens_dataset}
+use Rattle.esto_data.specs.Datasets.{IsAny, Names, loads, opens_dataset}
 use Rattle.esto_data.specs.Exact.{PrintsAnswersOfFacts}
 use Rattle.esto_data.specs.Laws.{RepliesAreAudited}
 use Rattle.esto_data.proofs.AgreeLemmas.{DataLaws}
@@ -75,7 +75,7 @@ module _ (files : Files) (datasets : List Dataset) where
       (subst (λ (it : ℕ). (opens_dataset (Some files) datasets it).goes entry.bytes) same here) there in
       λ i. record { dataset = same i; bytes = bytes i }
 
-  module _ (facts : List (Fact Term)) (all : AreLoaded (Some files) datasets Each facts) where
+  module _ (facts : List (Fact Term)) (all : AreLoaded (Some files) datasets IsAny facts) where
     -- a dataset whose file was loaded can be opened
     each_can : ((number : ℕ) (dataset : Dataset) → slice_get datasets number ≡ Some dataset → IsSome dataset.file) → (Needs : Dataset → Type 0)
         → (number : ℕ) (dataset : Dataset) → slice_get datasets number ≡ Some dataset → Needs dataset → CanOpen (Some files) datasets number
@@ -116,7 +116,7 @@ module _ (files : Files) (datasets : List Dataset) where
 -- ---- the answers
 
 -- each dataset has a file where all are loaded
-have_files : (files : Option Files) (datasets : List Dataset) (facts : List (Fact Term)) → (loads files datasets Each).goes facts
+have_files : (files : Option Files) (datasets : List Dataset) (facts : List (Fact Term)) → (loads files datasets IsAny).goes facts
     → (number : ℕ) (dataset : Dataset) → slice_get datasets number ≡ Some dataset → IsSome dataset.file
 unfolding and_then judges
 have_files files datasets facts (numbers, needed, (given, have, more)) number dataset at =
@@ -141,13 +141,13 @@ texts_over query facts some same texts rows are = record {
 }
 
 module _ (laws : DataLaws) (rest : AnswersRestOnDatasets) (files : Files) (datasets : List Dataset) (facts : List (Fact Term))
-    (loaded : (loads (Some files) datasets Each).goes facts) where
+    (loaded : (loads (Some files) datasets IsAny).goes facts) where
   module _ (query : Query) (texts : HaveTextsOnly (IsAnswerOfFacts query facts)) where
     rows_lead : (some : List (Fact Term)) → (loads (Some files) datasets (Names (query_of query).body)).goes some
         → Leads (answers_facts query some) (AreTextsOf (IsAnswerOfFacts query facts)) (λ _. ⊥)
     unfolding judges
     rows_lead some goes =
-        let same = same_answers files datasets facts (are_loaded (Some files) datasets Each facts loaded) (query_of query) some
+        let same = same_answers files datasets facts (are_loaded (Some files) datasets IsAny facts loaded) (query_of query) some
         (are_loaded (Some files) datasets (Names (query_of query).body) some goes) rest in record {
           goes = λ rows are. texts_over (query_of query) facts some same.0 texts rows are;
           stops = λ said caused (column, first, is). no_node (IsAnswerOfFacts query some) column (same.1 texts) first;
@@ -158,7 +158,7 @@ module _ (laws : DataLaws) (rest : AnswersRestOnDatasets) (files : Files) (datas
     loads_lead = record {
       goes = λ some goes. goes;
       stops = loads_never (Some files) datasets (Names (query_of query).body)
-          (each_can files datasets facts (are_loaded (Some files) datasets Each facts loaded) (have_files (Some files) datasets facts loaded)
+          (each_can files datasets facts (are_loaded (Some files) datasets IsAny facts loaded) (have_files (Some files) datasets facts loaded)
           (Names (query_of query).body));
     }
 

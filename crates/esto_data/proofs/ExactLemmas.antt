@@ -1,5 +1,5 @@
 -- What `fill`, `answer` and `audit` answer where nothing is wrong with the files.
-use Rattle.std.proofs.Common.{◌≡◌, ◌≢◌, ℕ, suc, List, [], ◌∷◌, ◌++◌, map, length, slice_get, Contains, Option, Some, None, Err, refl, sym, ap, subst, ◌∙◌, arith, inl, inr}
+use Rattle.std.proofs.Common.{◌≡◌, ◌≢◌, ◌↔◌, ℕ, suc, List, [], ◌∷◌, ◌++◌, map, length, slice_get, Contains, Option, Some, None, Err, refl, sym, ap, subst, ◌∙◌, arith, inl, inr}
 use Rattle.std.proofs.lemmas.Bool.{cases_order}
 use Rattle.std.proofs.lemmas.Option.{same_Some, none-some}
 use Rattle.esto_catalog.specs.Determined.{AreSame, CataloguesAreSound}
@@ -50,10 +50,10 @@ use Rattle.esto_opening.proofs.Steps.{never_wanting, read_cause}
 use Rattle.esto_course.proofs.Steps.{then_goes}
 use Rattle.esto_data.specs.Answer.{IsAnswerOfFacts, answer_course, answers_query}
 use Rattle.esto_data.specs.Audit.{AuditsFiles, all_fragments, audit_course, audit_text, audits_catalogue}
-use Rattle.esto_data.specs.Datasets.{Each, Names, demands_file, loads, loads_next, opens_dataset}
+use Rattle.esto_data.specs.Datasets.{IsAny, Names, demands_file, loads, loads_next, opens_dataset}
 use Rattle.esto_data.specs.declared.datasets.TheConstants.{DATASET_LIMIT}
 use Rattle.esto_data.specs.Exact.{AnswersExactly, AreReadableFragments, AuditsExactly, FilesSayCatalogue, FilesSayQuery, FillsExactly, HoldFacts, IsExactAnswer, IsExactAudit, IsExactFill}
-use Rattle.esto_data.specs.Exact.FillsExactly.{prints, refuses}
+use Rattle.esto_data.specs.Exact.FillsExactly.{prints, tells_key, tells_node}
 use Rattle.esto_data.specs.Fill.{IsFilled, IsFirstOf, IsRowOfView, fill_course, fill_status, fills_file, fills_named, names_of}
 use Rattle.esto_data.specs.Laws.{Says}
 use Rattle.esto_data.proofs.AgreeLemmas.{DataLaws, listed_not_node}
@@ -62,6 +62,7 @@ use Rattle.esto_data.proofs.FragmentLemmas.{fragments_never, rows_same}
 use Rattle.esto_data.proofs.LeadLemmas.{holds-leads, holds_leads}
 use Rattle.esto_data.proofs.LoadLemmas.{loads_flat}
 use Rattle.esto_data.proofs.MovedLemmas.{answer_moved, audit_moved, fill_moved}
+use Rattle.esto_data.proofs.NodeLemmas.{TellsNoNode, opened_without_node}
 
 -- ---- the catalogue and the query that the files say
 
@@ -111,6 +112,12 @@ pub one_column : (Rows : List Value → Type 0) (column other : ℕ) → IsFirst
 one_column Rows column other here there =
     omega (arith, here.least there.values other there.there there.node, there.least here.values column here.there here.node)
 
+done_not_node : (column : ℕ) → status.Done ≡ status.NodeInRow column → ⊥
+done_not_node column same = cc
+
+node_same : (column other : ℕ) → status.NodeInRow column ≡ status.NodeInRow other → column ≡ other
+node_same column other same = cc
+
 -- ---- `answer`
 
 module _ (laws : DataLaws) (files : Files) (catalogue : Catalogue) where
@@ -119,14 +126,20 @@ module _ (laws : DataLaws) (files : Files) (catalogue : Catalogue) where
         → AnswersExactly query facts status.Done (rows_text query rows)
     answered facts rows texts = record {
       prints = λ only. (refl, (rows, texts, refl));
-      node = λ column first. absurd (listed_not_node laws (query_of query) facts rows column texts first);
+      node = λ column. (
+        (λ same. absurd (done_not_node column same)),
+        (λ first. absurd (listed_not_node laws (query_of query) facts rows column texts first)),
+      );
     }
 
     refused : (facts : List (Fact Term)) (column : ℕ) (said : Status) (text : List ℕ) → IsFirstNodeColumn (IsAnswerOfFacts query facts) column
         → said ≡ status.NodeInRow column → AnswersExactly query facts said text
     refused facts column said text first is = record {
       prints = λ only. absurd (no_node (IsAnswerOfFacts query facts) column only first);
-      node = λ other its. is ∙ ap status.NodeInRow (one_column (IsAnswerOfFacts query facts) column other first its);
+      node = λ other. (
+        (λ same. subst (IsFirstNodeColumn (IsAnswerOfFacts query facts)) (node_same column other (sym is ∙ same)) first),
+        (λ its. is ∙ ap status.NodeInRow (one_column (IsAnswerOfFacts query facts) column other first its)),
+      );
     }
 
     answer_says : Says (answers_query (Some files) catalogue query) (IsExactAnswer files catalogue query)
@@ -259,6 +272,12 @@ module _ (laws : DataLaws) (files : Files) (catalogue : Catalogue) where
         (holds_leads files catalogue.datasets (Names (query_of stored.definition.view).body) facts holds laws.facts).goes others loaded in
         prints refl (subst (λ (it : List (Fact Term)). IsFilled stored it text) same filled)
 
+    told : (cause : FillError) (said : Status) (text : List ℕ) → Fills stored.store.shape (IsRowOfView stored.definition facts) (Err cause)
+        → said ≡ fill_status cause → ¬ (said ≡ status.OutOfMemory) → FillsExactly stored facts said text
+    told (filled.NodeInRow column) said text fills is wanting = tells_node column fills is
+    told (filled.KeyText cell) said text fills is wanting = tells_key cell fills is
+    told filled.OutOfMemory said text fills is wanting = absurd (wanting is)
+
     from_stops : (said : Status) → IsCaused ⊥ said → (fills_from stored).stops said → FillsExactly stored facts said (line_of said)
     unfolding and_then judges gives
     from_stops said caused stop =
@@ -266,7 +285,7 @@ module _ (laws : DataLaws) (files : Files) (catalogue : Catalogue) where
         elim stop [
           | inl unloaded ↦ absurd (leads.stops said caused unloaded)
           | inr (others, loaded, more) ↦ elim more [
-            | inl (cause, fills, is) ↦ refuses cause
+            | inl (cause, fills, is) ↦ told cause said (line_of said)
                 (subst (λ (it : List (Fact Term)). Fills stored.store.shape (IsRowOfView stored.definition it) (Err cause)) (leads.goes others loaded) fills)
                 is (λ wanting. never_wanting ⊥ said wanting caused)
             | inr (text, filled, none) ↦ absurd none
@@ -348,11 +367,11 @@ some_same difference other same = cc
 differs_same : (difference other : Difference) → status.Differs difference ≡ status.Differs other → difference ≡ other
 differs_same difference other same = cc
 
+differs_not_node : (difference : Difference) (column : ℕ) → status.Differs difference ≡ status.NodeInRow column → ⊥
+differs_not_node difference column same = cc
+
 done_not_differs : (difference : Difference) → status.Done ≡ status.Differs difference → ⊥
 done_not_differs difference same = cc
-
-done_not_node : (column : ℕ) → status.Done ≡ status.NodeInRow column → ⊥
-done_not_node column same = cc
 
 module _ (laws : DataLaws) (catalogue : Catalogue) (facts : List (Fact Term)) (flat : AreFlat facts) (contents : ℕ → List ℕ) where
   ends_one : (outcome other : Option Difference) → AuditsFiles catalogue facts contents outcome → AuditsFiles catalogue facts contents other → outcome ≡ other
@@ -364,8 +383,6 @@ module _ (laws : DataLaws) (catalogue : Catalogue) (facts : List (Fact Term)) (f
   agreed agree = record {
     done = ((λ same. agree), (λ same. refl));
     prints = λ same. refl;
-    node = λ column first. absurd (texts_not_view (views_of catalogue.fragments) (database_of facts) column
-        (agree_texts (views_of catalogue.fragments) (database_of facts) (IsFileRow catalogue.stores contents) agree.rows) first);
     differs = λ texts difference. (
       (λ same. absurd (done_not_differs difference same)),
       (λ first. absurd (none-some difference (ends_one None (Some difference) agree first))),
@@ -382,7 +399,6 @@ module _ (laws : DataLaws) (catalogue : Catalogue) (facts : List (Fact Term)) (f
         (λ agree. absurd (none-some difference (ends_one None (Some difference) agree first))),
       );
       prints = λ same. absurd (done_not_differs difference (sym same ∙ is));
-      node = λ column node. absurd (texts_not_view (views_of catalogue.fragments) (database_of facts) column texts node);
       differs = λ only other. (
         (λ same. subst (λ (it : Difference). AuditsFiles catalogue facts contents (Some it)) (differs_same difference other (sym is ∙ same)) first),
         (λ its. is ∙ ap status.Differs (some_same difference other (ends_one (Some difference) (Some other) first its))),
@@ -398,47 +414,85 @@ module _ (laws : DataLaws) (catalogue : Catalogue) (facts : List (Fact Term)) (f
             (agree_texts (views_of catalogue.fragments) (database_of facts) (IsFileRow catalogue.stores contents) agree.rows) first)),
       );
       prints = λ same. absurd (done_not_node column (sym same ∙ is));
-      node = λ other its. is ∙ ap status.NodeInRow (one_view_column (views_of catalogue.fragments) (database_of facts) column other first its);
       differs = λ texts difference. absurd (texts_not_view (views_of catalogue.fragments) (database_of facts) column texts first);
     }
 
 module _ (laws : DataLaws) (files : Files) (catalogue : Catalogue) (many : length catalogue.stores ≡ length catalogue.fragments) where
-  module _ (facts : List (Fact Term)) (contents : ℕ → List ℕ) (holds : HoldFacts files catalogue.datasets Each facts)
-      (readable : AreReadableFragments files catalogue contents) where
-    loaded_is : (others : List (Fact Term)) → (loads (Some files) catalogue.datasets Each).goes others → others ≡ facts
-    loaded_is others loaded = (holds_leads files catalogue.datasets Each facts holds laws.facts).goes others loaded
+  module _ (facts : List (Fact Term)) (holds : HoldFacts files catalogue.datasets IsAny facts) where
+    loaded_is : (others : List (Fact Term)) → (loads (Some files) catalogue.datasets IsAny).goes others → others ≡ facts
+    loaded_is others loaded = (holds_leads files catalogue.datasets IsAny facts holds laws.facts).goes others loaded
 
-    -- an audit over what was loaded and opened is one over the readable files
-    ends_moved : (others : List (Fact Term)) (their : ℕ → List ℕ) (outcome : Option Difference) → (loads (Some files) catalogue.datasets Each).goes others
-        → (opens_fragments (Some files) catalogue (all_fragments catalogue)).goes their → AuditsFiles catalogue others their outcome
-        → AuditsFiles catalogue facts contents outcome
-    ends_moved others their outcome loaded opened audits =
-        audits-moved (rules_of catalogue.rules) (map written catalogue.rules) (names_of catalogue.fragments) (views_of catalogue.fragments) facts
-        (IsFileRow catalogue.stores their) (IsFileRow catalogue.stores contents) (rows_same files catalogue contents readable their opened many) outcome
-        (subst (λ (it : List (Fact Term)). AuditsFiles catalogue it their outcome) (loaded_is others loaded) audits)
+    flat_facts : (others : List (Fact Term)) → (loads (Some files) catalogue.datasets IsAny).goes others → AreFlat facts
+    flat_facts others loaded = subst AreFlat (loaded_is others loaded) (loads_flat (Some files) catalogue.datasets IsAny others loaded)
 
-    flat_facts : (others : List (Fact Term)) → (loads (Some files) catalogue.datasets Each).goes others → AreFlat facts
-    flat_facts others loaded = subst AreFlat (loaded_is others loaded) (loads_flat (Some files) catalogue.datasets Each others loaded)
+    -- where the views' rows are of texts, no node is told; where they are not, that of the first such view
+    node_none : (said : Status) → AreTextViews (views_of catalogue.fragments) (database_of facts) → TellsNoNode said → (column : ℕ)
+        → (said ≡ status.NodeInRow column) ↔ IsFirstNodeView (views_of catalogue.fragments) (database_of facts) column
+    node_none said texts other column = (
+      (λ same. absurd (other column same)),
+      (λ first. absurd (texts_not_view (views_of catalogue.fragments) (database_of facts) column texts first)),
+    )
 
-    audit_stops : (said : Status) → IsCaused ⊥ said → (audits_catalogue (Some files) catalogue).stops said
-        → AuditsExactly catalogue facts contents said (line_of said)
+    node_told : (said : Status) (column : ℕ) → IsFirstNodeView (views_of catalogue.fragments) (database_of facts) column
+        → said ≡ status.NodeInRow column → (other : ℕ)
+        → (said ≡ status.NodeInRow other) ↔ IsFirstNodeView (views_of catalogue.fragments) (database_of facts) other
+    node_told said column first is other = (
+      (λ same. subst (IsFirstNodeView (views_of catalogue.fragments) (database_of facts)) (node_same column other (sym is ∙ same)) first),
+      (λ its. is ∙ ap status.NodeInRow (one_view_column (views_of catalogue.fragments) (database_of facts) column other first its)),
+    )
+
+    texts_moved : (others : List (Fact Term)) → (loads (Some files) catalogue.datasets IsAny).goes others
+        → AreTextViews (views_of catalogue.fragments) (database_of others) → AreTextViews (views_of catalogue.fragments) (database_of facts)
+    texts_moved others loaded texts =
+        subst (λ (it : List (Fact Term)). AreTextViews (views_of catalogue.fragments) (database_of it)) (loaded_is others loaded) texts
+
+    node_stops : (said : Status) → IsCaused ⊥ said → (audits_catalogue (Some files) catalogue).stops said → (column : ℕ)
+        → (said ≡ status.NodeInRow column) ↔ IsFirstNodeView (views_of catalogue.fragments) (database_of facts) column
     unfolding and_then judges gives
-    audit_stops said caused stop = elim stop [
-      | inl unloaded ↦ absurd ((holds_leads files catalogue.datasets Each facts holds laws.facts).stops said caused unloaded)
+    node_stops said caused stop = elim stop [
+      | inl unloaded ↦ absurd ((holds_leads files catalogue.datasets IsAny facts holds laws.facts).stops said caused unloaded)
       | inr (others, loaded, more) ↦ elim more [
-        | inl (column, first, is) ↦ noded laws catalogue facts (flat_facts others loaded) contents said column
+        | inl (column, first, is) ↦ node_told said column
             (subst (λ (it : List (Fact Term)). IsFirstNodeView (views_of catalogue.fragments) (database_of it) column) (loaded_is others loaded) first) is
-        | inr (value, texts, later) ↦ elim later [
-          | inl unopened ↦ absurd (fragments_never files catalogue contents readable said caused unopened)
+        | inr (value, texts, later) ↦ node_none said (texts_moved others loaded texts) (elim later [
+          | inl unopened ↦ (opened_without_node files catalogue (all_fragments catalogue)).stops said caused unopened
           | inr (their, opened, last) ↦ elim last [
-            | inl (difference, first, is) ↦ differing laws catalogue facts (flat_facts others loaded) contents said difference
-                (subst (λ (it : List (Fact Term)). AreTextViews (views_of catalogue.fragments) (database_of it)) (loaded_is others loaded) texts)
-                (ends_moved others their (Some difference) loaded opened first) is
+            | inl (difference, first, is) ↦ (λ column same. differs_not_node difference column (sym is ∙ same))
             | inr (given, agree, none) ↦ absurd none
+          ]
+        ])
+      ]
+    ]
+
+    module _ (contents : ℕ → List ℕ) (readable : AreReadableFragments files catalogue contents) where
+      -- an audit over what was loaded and opened is one over the readable files
+      ends_moved : (others : List (Fact Term)) (their : ℕ → List ℕ) (outcome : Option Difference) → (loads (Some files) catalogue.datasets IsAny).goes others
+          → (opens_fragments (Some files) catalogue (all_fragments catalogue)).goes their → AuditsFiles catalogue others their outcome
+          → AuditsFiles catalogue facts contents outcome
+      ends_moved others their outcome loaded opened audits =
+          audits-moved (rules_of catalogue.rules) (map written catalogue.rules) (names_of catalogue.fragments) (views_of catalogue.fragments) facts
+          (IsFileRow catalogue.stores their) (IsFileRow catalogue.stores contents) (rows_same files catalogue contents readable their opened many) outcome
+          (subst (λ (it : List (Fact Term)). AuditsFiles catalogue it their outcome) (loaded_is others loaded) audits)
+
+      audit_stops : (said : Status) → IsCaused ⊥ said → (audits_catalogue (Some files) catalogue).stops said
+          → AuditsExactly catalogue facts contents said (line_of said)
+      unfolding and_then judges gives
+      audit_stops said caused stop = elim stop [
+        | inl unloaded ↦ absurd ((holds_leads files catalogue.datasets IsAny facts holds laws.facts).stops said caused unloaded)
+        | inr (others, loaded, more) ↦ elim more [
+          | inl (column, first, is) ↦ noded laws catalogue facts (flat_facts others loaded) contents said column
+              (subst (λ (it : List (Fact Term)). IsFirstNodeView (views_of catalogue.fragments) (database_of it) column) (loaded_is others loaded) first) is
+          | inr (value, texts, later) ↦ elim later [
+            | inl unopened ↦ absurd (fragments_never files catalogue contents readable said caused unopened)
+            | inr (their, opened, last) ↦ elim last [
+              | inl (difference, first, is) ↦ differing laws catalogue facts (flat_facts others loaded) contents said difference
+                  (texts_moved others loaded texts)
+                  (ends_moved others their (Some difference) loaded opened first) is
+              | inr (given, agree, none) ↦ absurd none
+            ]
           ]
         ]
       ]
-    ]
 
   audit_says : Says (audits_catalogue (Some files) catalogue) (IsExactAudit files catalogue)
   unfolding and_then judges gives
@@ -446,11 +500,17 @@ module _ (laws : DataLaws) (files : Files) (catalogue : Catalogue) (many : lengt
     goes = λ reply (others, loaded, (value, texts, (their, opened, (given, agree, done)))). (
       audit_text catalogue,
       done,
-      (λ facts contents holds readable.
-          agreed laws catalogue facts (flat_facts facts contents holds readable others loaded) contents
-          (ends_moved facts contents holds readable others their None loaded opened agree)),
+      record {
+        node = λ facts holds. node_none facts holds status.Done (texts_moved facts holds others loaded texts) (λ column same. done_not_node column same);
+        audits = λ facts contents holds readable.
+            agreed laws catalogue facts (flat_facts facts holds others loaded) contents
+            (ends_moved facts holds contents readable others their None loaded opened agree);
+      },
     );
-    stops = λ said caused stop facts contents holds readable. audit_stops facts contents holds readable said caused stop;
+    stops = λ said caused stop. record {
+      node = λ facts holds. node_stops facts holds said caused stop;
+      audits = λ facts contents holds readable. audit_stops facts holds contents readable said caused stop;
+    };
   }
 
 -- ---- the commands

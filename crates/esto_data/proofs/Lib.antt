@@ -8,6 +8,7 @@ pub mod LoadLemmas
 pub mod AgreeLemmas
 pub mod LeadLemmas
 pub mod FragmentLemmas
+pub mod NodeLemmas
 pub mod MovedLemmas
 pub mod ExactLemmas
 pub mod AuditedLemmas

@@ -12,6 +12,7 @@ use Rattle.esto_fill.specs.Filled.{Fills, IsOpenedAs}
 use Rattle.esto_fill.specs.Texts.{AreTextViews, AreTextsOf, HaveTextsOnly, IsFirstNodeColumn, IsFirstNodeView}
 use Rattle.esto_fill.specs.declared.auditing.Difference.{Difference}
 use Rattle.esto_fill.specs.declared.filled.FillError.{FillError}
+use Rattle.esto_fill.specs.declared.filled.FillError.TheVariants as filled
 use Rattle.esto_ports.specs.Files.{Files}
 use Rattle.esto_query.specs.Making.{query_of}
 use Rattle.esto_query.specs.declared.query.Query.{Query}
@@ -29,9 +30,9 @@ use Rattle.esto_opening.specs.declared.fragments.TheConstants.{FRAGMENT_LIMIT}
 use Rattle.esto_opening.specs.declared.status.Status.{Status}
 use Rattle.esto_opening.specs.declared.status.Status.TheVariants as status
 use Rattle.esto_data.specs.Audit.{AuditsFiles}
-use Rattle.esto_data.specs.Datasets.{Each, Names}
+use Rattle.esto_data.specs.Datasets.{IsAny, Names}
 use Rattle.esto_data.specs.Exact.{AreReadableFragments, FillsExactly, HoldFacts, IsExactAnswer, IsExactAudit, IsExactFill}
-use Rattle.esto_data.specs.Exact.FillsExactly.{prints, refuses}
+use Rattle.esto_data.specs.Exact.FillsExactly.{prints, tells_key, tells_node}
 use Rattle.esto_data.specs.Fill.{IsFirstOf, IsRowOfView, names_of}
 use Rattle.esto_data.proofs.AlikeLemmas.{alike_back, audits-moved, audits_over, fills_moved, fragments_long, other_stored, texts_one, same_query, same_rows_text, same_stored, same_view}
 
@@ -62,7 +63,10 @@ module _ (files : Files) (catalogue other : Catalogue) (alike : AreSame catalogu
                 found.1.2 ∙ sym (same_rows_text query other_query same found.1.0),
               ),
             );
-        node = λ column first. answers.node column (subst (λ (it : ConjunctiveQuery). IsFirstNodeColumn (IsAnswer it (database_of facts)) column) is first);
+        node = λ column. (
+          (λ told. subst (λ (it : ConjunctiveQuery). IsFirstNodeColumn (IsAnswer it (database_of facts)) column) (sym is) ((answers.node column).0 told)),
+          (λ first. (answers.node column).1 (subst (λ (it : ConjunctiveQuery). IsFirstNodeColumn (IsAnswer it (database_of facts)) column) is first)),
+        );
       }
 
   -- ---- `fill`
@@ -110,7 +114,8 @@ module _ (files : Files) (catalogue other : Catalogue) (alike : AreSame catalogu
       filled_moved : (said : Status) (text : List ℕ) → FillsExactly its facts said text → FillsExactly stored facts said text
       filled_moved said text (prints done is) =
           prints done (record { filled = result_moved (Ok text) is.filled; opened = opened_moved (without_mark text) is.opened })
-      filled_moved said text (refuses cause fills is wanting) = refuses cause (result_moved (Err cause) fills) is wanting
+      filled_moved said text (tells_node column first is) = tells_node column (result_moved (Err (filled.NodeInRow column)) first) is
+      filled_moved said text (tells_key cell fills is) = tells_key cell (result_moved (Err (filled.KeyText cell)) fills) is
 
       -- the content of the file has the same first fault
       pub content_same : (bytes : List ℕ) → content_fault stored bytes ≡ content_fault its bytes
@@ -161,18 +166,23 @@ module _ (files : Files) (catalogue other : Catalogue) (alike : AreSame catalogu
           (λ fact. ((same_rows contents fact).1, (same_rows contents fact).0)) outcome audits)
 
       pub audit_moved : (said : Status) (text : List ℕ) → IsExactAudit files other said text → IsExactAudit files catalogue said text
-      audit_moved said text exact facts contents holds readable =
-          let audits = exact facts contents (holds_moved Each facts holds) (readable_moved contents readable) in record {
-            done = (
-              (λ done. over_this facts contents None (audits.done.0 done)),
-              (λ agree. audits.done.1 (over_other facts contents None agree)),
+      audit_moved said text exact = record {
+        node = λ facts holds column.
+            let found = exact.node facts (holds_moved IsAny facts holds) column in (
+              (λ told. subst (λ (it : List ConjunctiveQuery). IsFirstNodeView it (database_of facts) column) (sym alike.views) (found.0 told)),
+              (λ first. found.1 (subst (λ (it : List ConjunctiveQuery). IsFirstNodeView it (database_of facts) column) alike.views first)),
             );
-            prints = λ done. audits.prints done ∙ sym (texts_one catalogue other alike);
-            node = λ column first. audits.node column
-                (subst (λ (it : List ConjunctiveQuery). IsFirstNodeView it (database_of facts) column) alike.views first);
-            differs = λ texts difference.
-                let found = audits.differs (subst (λ (it : List ConjunctiveQuery). AreTextViews it (database_of facts)) alike.views texts) difference in (
-                  (λ is. over_this facts contents (Some difference) (found.0 is)),
-                  (λ first. found.1 (over_other facts contents (Some difference) first)),
-                );
-          }
+        audits = λ facts contents holds readable.
+            let audits = exact.audits facts contents (holds_moved IsAny facts holds) (readable_moved contents readable) in record {
+              done = (
+                (λ done. over_this facts contents None (audits.done.0 done)),
+                (λ agree. audits.done.1 (over_other facts contents None agree)),
+              );
+              prints = λ done. audits.prints done ∙ sym (texts_one catalogue other alike);
+              differs = λ texts difference.
+                  let found = audits.differs (subst (λ (it : List ConjunctiveQuery). AreTextViews it (database_of facts)) alike.views texts) difference in (
+                    (λ is. over_this facts contents (Some difference) (found.0 is)),
+                    (λ first. found.1 (over_other facts contents (Some difference) first)),
+                  );
+            };
+      }

@@ -9,7 +9,7 @@ use Rattle.esto_opening.specs.declared.status.Status.{Status}
 use Rattle.esto_opening.specs.declared.status.Status.TheVariants as status
 use Rattle.esto_opening.proofs.RefusalLemmas.{Refuses, catalogue_refuses, each_refuses, fetch_refuses, fragments_refuse, gives_refuses, judges_refuses, then_refuses}
 use Rattle.esto_data.specs.Audit.{all_fragments, audit_course, audit_text}
-use Rattle.esto_data.specs.Datasets.{Each, demands_file, loads, loads_next, opens_dataset}
+use Rattle.esto_data.specs.Datasets.{IsAny, demands_file, loads, loads_next, opens_dataset}
 use Rattle.esto_data.specs.declared.datasets.TheConstants.{DATASET_LIMIT}
 
 demands_refuses : (condition : Type 0) (said : Status) → said ≢ status.Done → Refuses (demands condition said)
@@ -43,7 +43,7 @@ module _ (files : Files) (datasets : List Dataset) where
 
 pub audit_refuses : (files : Files) (name : List ℕ) → Refuses (audit_course (Some files) name)
 audit_refuses files name = then_refuses _ _ (catalogue_refuses files name)
-    (λ catalogue. then_refuses _ _ (loads_refuse files catalogue.datasets Each)
+    (λ catalogue. then_refuses _ _ (loads_refuse files catalogue.datasets IsAny)
     (λ facts. then_refuses _ _ (judges_refuses _ _ (λ said (column, first, is). λ done. let h : status.NodeInRow column ≡ status.Done = sym is ∙ done in cc))
     (λ value. then_refuses _ _ (fragments_refuse files catalogue (all_fragments catalogue))
     (λ contents. then_refuses _ _ (judges_refuses _ _ (λ said (difference, first, is).

@@ -20,7 +20,7 @@ use Rattle.esto_stores.specs.Rows.{Row}
 use Rattle.esto_term.specs.declared.term.Term.{Term}
 use Rattle.esto_views.specs.Fragments.{views_of}
 use Rattle.esto_opening.specs.Answers.{IsWant, IsCaused}
-use Rattle.esto_data.specs.Datasets.{Each, loads}
+use Rattle.esto_data.specs.Datasets.{IsAny, loads}
 use Rattle.esto_data.specs.Fill.{names_of}
 use Rattle.esto_opening.specs.Fragments.{opens_fragment, opens_fragments, reads_content}
 use Rattle.esto_opening.specs.Opening.{opens_catalogue}
@@ -70,7 +70,7 @@ audits_facts files catalogue facts =
 
 -- All datasets are loaded, and audited.
 abbrev pub audits_catalogue : Option Files → Catalogue → Course Status Reply
-audits_catalogue files catalogue = and_then (loads files catalogue.datasets Each) (audits_facts files catalogue)
+audits_catalogue files catalogue = and_then (loads files catalogue.datasets IsAny) (audits_facts files catalogue)
 
 -- The catalogue is fetched and read, and audited.
 abbrev pub audit_course : Option Files → List ℕ → Course Status Reply

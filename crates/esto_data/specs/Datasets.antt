@@ -28,9 +28,9 @@ HasRelation dataset relation = (dataset.base ≤ relation) × (relation < datase
 abbrev pub Names : List (Fact Term) → Dataset → Type 0
 Names body dataset = (atom : Fact Term) × Contains body atom × HasRelation dataset atom.relation
 
--- Each dataset.
-abbrev pub Each : Dataset → Type 0
-Each dataset = Unit {0}
+-- Any dataset.
+abbrev pub IsAny : Dataset → Type 0
+IsAny dataset = Unit {0}
 
 -- These are the numbers of the datasets that are needed, in order.
 pub record AreNeeded (datasets : List Dataset) (Needs : Dataset → Type 0) (numbers : List ℕ) : Type 0 where

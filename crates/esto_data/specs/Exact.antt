@@ -12,7 +12,7 @@ use Rattle.esto_fill.specs.Filled.{Fills}
 use Rattle.esto_fill.specs.Texts.{AreTextViews, AreTextsOf, HaveTextsOnly, IsFirstNodeColumn, IsFirstNodeView}
 use Rattle.esto_fill.specs.declared.auditing.Difference.{Difference}
 use Rattle.esto_fill.specs.declared.datasets.DatasetBytes.{DatasetBytes}
-use Rattle.esto_fill.specs.declared.filled.FillError.{FillError}
+use Rattle.esto_fill.specs.declared.filled.FillError.TheVariants.{KeyText}
 use Rattle.esto_ports.specs.Files.{Files}
 use Rattle.esto_query.specs.Making.{query_of}
 use Rattle.esto_query.specs.Schemas.{arities_of}
@@ -34,8 +34,8 @@ use Rattle.esto_opening.specs.declared.status.Status.{Status}
 use Rattle.esto_opening.specs.declared.status.Status.TheVariants as status
 use Rattle.esto_data.specs.Answer.{IsAnswerOfFacts}
 use Rattle.esto_data.specs.Audit.{audit_text}
-use Rattle.esto_data.specs.Datasets.{AreFactsOfFiles, AreNeeded, Each, Names}
-use Rattle.esto_data.specs.Fill.{IsFilled, IsFirstOf, IsRowOfView, fill_status, names_of}
+use Rattle.esto_data.specs.Datasets.{AreFactsOfFiles, AreNeeded, IsAny, Names}
+use Rattle.esto_data.specs.Fill.{IsFilled, IsFirstOf, IsRowOfView, names_of}
 use Rattle.esto_data.specs.declared.datasets.TheConstants.{DATASET_LIMIT}
 
 -- ---- the files
@@ -88,11 +88,11 @@ AreReadableFragments files catalogue contents =
 abbrev pub PrintsAnswersOfFacts : Query → List (Fact Term) → List ℕ → Type 0
 PrintsAnswersOfFacts query facts text = (rows : List Row) × AreTextsOf (IsAnswerOfFacts query facts) rows × (text ≡ rows_text query rows)
 
--- Where each answer of the query over the facts is a row of texts, the status is Done and the text prints exactly the answers; where one holds a node, the
--- status tells the least column that has one.
+-- Where each answer of the query over the facts is a row of texts, the status is Done and the text prints exactly the answers. The status tells of a node
+-- exactly where an answer holds one, with the least column that has one.
 pub record AnswersExactly (query : Query) (facts : List (Fact Term)) (said : Status) (text : List ℕ) : Type 0 where
   pub prints : HaveTextsOnly (IsAnswerOfFacts query facts) → (said ≡ status.Done) × PrintsAnswersOfFacts query facts text
-  pub node : (column : ℕ) → IsFirstNodeColumn (IsAnswerOfFacts query facts) column → said ≡ status.NodeInRow column
+  pub node : (column : ℕ) → (said ≡ status.NodeInRow column) ↔ IsFirstNodeColumn (IsAnswerOfFacts query facts) column
 
 -- So it is where the files of the datasets that the query names are readable. No rule is asked of their facts.
 abbrev pub IsExactAnswer : Files → Catalogue → Query → Status → List ℕ → Type 0
@@ -101,12 +101,14 @@ IsExactAnswer files catalogue query said text =
 
 -- ---- `fill`
 
--- The status is Done and the text is that of a file with exactly the rows of the fragment's view over the facts, which says these rows when it is read; or the
--- status tells why there is none: the least column in which a row holds a node, or the first cell that a key file cannot hold.
+-- The status is Done and the text is that of a file with exactly the rows of the fragment's view over the facts, which says these rows when it is read; or a
+-- row holds a node, and the status tells the least column that has one; or the file is one of keys, and the status tells the first cell that it can't hold.
 pub data FillsExactly (stored : Stored) (facts : List (Fact Term)) (said : Status) (text : List ℕ) : Type 0 where
   prints : said ≡ status.Done → IsFilled stored facts text → FillsExactly stored facts said text
-  refuses : (cause : FillError) → Fills stored.store.shape (IsRowOfView stored.definition facts) (Err cause) → said ≡ fill_status cause
-      → ¬ (said ≡ status.OutOfMemory) → FillsExactly stored facts said text
+  tells_node : (column : ℕ) → IsFirstNodeColumn (IsRowOfView stored.definition facts) column → said ≡ status.NodeInRow column
+      → FillsExactly stored facts said text
+  tells_key : (cell : List ℕ) → Fills stored.store.shape (IsRowOfView stored.definition facts) (Err (KeyText cell)) → said ≡ status.KeyText cell
+      → FillsExactly stored facts said text
 
 -- So it is where the catalogue has a fragment of the name, the first of which this is, and the files of the datasets that its view names are readable. The
 -- status is NoSuchFragment exactly where it has none.
@@ -119,19 +121,20 @@ pub record IsExactFill (files : Files) (catalogue : Catalogue) (name : List ℕ)
 -- ---- `audit`
 
 -- The status is Done exactly where the facts meet the rules and each fragment's file holds exactly the rows of its view over them, and then the text says so.
--- Where the rows of a view hold a node, the status tells the least column of the first such view; else, where there is a difference, the first.
+-- Where the rows of all views are of texts and there is a difference, the status tells the first.
 pub record AuditsExactly (catalogue : Catalogue) (facts : List (Fact Term)) (contents : ℕ → List ℕ) (said : Status) (text : List ℕ) : Type 0 where
   pub done : (said ≡ status.Done)
       ↔ Agree (rules_of catalogue.rules) (views_of catalogue.fragments) (database_of facts) (IsFileRow catalogue.stores contents)
   pub prints : said ≡ status.Done → text ≡ audit_text catalogue
-  pub node : (column : ℕ) → IsFirstNodeView (views_of catalogue.fragments) (database_of facts) column → said ≡ status.NodeInRow column
   pub differs : AreTextViews (views_of catalogue.fragments) (database_of facts) → (difference : Difference)
       → (said ≡ status.Differs difference)
       ↔ IsFirstDifference (rules_of catalogue.rules) (map written catalogue.rules) (names_of catalogue.fragments) (views_of catalogue.fragments) facts
       (IsFileRow catalogue.stores contents) difference
 
--- So it is where the files of all datasets and of all fragments are readable.
-abbrev pub IsExactAudit : Files → Catalogue → Status → List ℕ → Type 0
-IsExactAudit files catalogue said text =
-    (facts : List (Fact Term)) (contents : ℕ → List ℕ) → HoldFacts files catalogue.datasets Each facts → AreReadableFragments files catalogue contents
-    → AuditsExactly catalogue facts contents said text
+-- Where the files of all datasets are readable, the status tells of a node exactly where the rows of a view hold one, with the least column of the first such
+-- view, whatever the files of fragments are. Where those are readable too, the audit is exact.
+pub record IsExactAudit (files : Files) (catalogue : Catalogue) (said : Status) (text : List ℕ) : Type 0 where
+  pub node : (facts : List (Fact Term)) → HoldFacts files catalogue.datasets IsAny facts → (column : ℕ)
+      → (said ≡ status.NodeInRow column) ↔ IsFirstNodeView (views_of catalogue.fragments) (database_of facts) column
+  pub audits : (facts : List (Fact Term)) (contents : ℕ → List ℕ) → HoldFacts files catalogue.datasets IsAny facts
+      → AreReadableFragments files catalogue contents → AuditsExactly catalogue facts contents said text

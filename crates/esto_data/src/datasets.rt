@@ -5,7 +5,7 @@ ghost use Rattle.esto_catalog.specs.Datasets.{relation_count};
 ghost use Rattle.esto_catalog.specs.declared.dataset.Dataset.{Dataset};
 ghost use Rattle.esto_ports.specs.Faults.{Rises};
 ghost use Rattle.esto_opening.specs.Answers.{Answers};
-ghost use Rattle.esto_data.specs.Datasets.{AddsNeeded, AreNeeded, Each, HasRelation, IsSourceAt, Loads, LoadsFiles, LoadsNext, Names, ReadsData, Source, demands_file, demands_files, loads};
+ghost use Rattle.esto_data.specs.Datasets.{AddsNeeded, AreNeeded, IsAny, HasRelation, IsSourceAt, Loads, LoadsFiles, LoadsNext, Names, ReadsData, Source, demands_file, demands_files, loads};
 
 use esto_catalog::{Catalogue, Dataset, Datasets};
 use esto_fill::{Loaded, load_dataset, loaded_facts_are_flat, nothing_loaded};
@@ -77,7 +77,7 @@ fn named_datasets(alloc: Global, datasets: &Datasets, body: &Atoms) -> Result<Pl
 
 // The numbers of all datasets, in order.
 fn all_datasets(alloc: Global, datasets: &Datasets) -> Result<Places, OutOfMemory>
-    ensures { IfOk result (AreNeeded datasets.now Each) }
+    ensures { IfOk result (AreNeeded datasets.now IsAny) }
 {
     let mut numbers = Values::new(alloc);
     'datasets: for number in 0..datasets.len() {
@@ -199,7 +199,7 @@ pub fn load_all<S: Shelf>(
     shelf: &mut S,
     catalogue: &Catalogue,
 ) -> Result<Loaded, Status>
-    ensures answer { Loads (loads (S.files shelf.old) catalogue.now.datasets Each)
+    ensures answer { Loads (loads (S.files shelf.old) catalogue.now.datasets IsAny)
         (Rises S.faults shelf.old shelf.new) result }
     ensures files { S.files shelf.new ≡ S.files shelf.old }
     ensures later { S.faults shelf.old ≤ S.faults shelf.new }

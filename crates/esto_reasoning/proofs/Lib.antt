@@ -1,3 +1,4 @@
 pub mod Steps
 pub mod ShownLemmas
 pub mod CourseLemmas
+pub mod AlikeLemmas

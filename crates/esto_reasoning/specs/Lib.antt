@@ -1,3 +1,4 @@
 pub mod Texts
 pub mod Contains
 pub mod Minimise
+pub mod Laws

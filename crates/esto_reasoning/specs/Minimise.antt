@@ -18,15 +18,17 @@ use Rattle.esto_query.specs.Making.{query_of}
 use Rattle.esto_query.specs.Schemas.{names_of}
 use Rattle.esto_query.specs.declared.query.Query.{Query}
 use Rattle.esto_semantics.specs.Listed.{IsEquivalentPart}
+use Rattle.esto_semantics.specs.Queries.{ConjunctiveQuery}
+use Rattle.esto_semantics.specs.Rules.{Rule}
 use Rattle.esto_semantics.specs.Sets.{AreListedBy}
 use Rattle.esto_reasoning.specs.Texts.{minimal_text}
 
 -- The text is that of the last facts of the query's run, with its head, and of exactly the minimal sets of these facts that are equivalent to the query, in
 -- the order of a list, each once.
-pub record IsMinimalText (catalogue : Catalogue) (query : Query) (minimal : Minimal) (text : List ℕ) : Type 0 where
+pub record IsMinimalText (rules : List Rule) (relations : List (List ℕ)) (query : ConjunctiveQuery) (minimal : Minimal) (text : List ℕ) : Type 0 where
   pub sets : List (List Bool)
-  pub are_listed : AreListedBy (IsEquivalentPart (rules_of catalogue.rules) (query_of query) (instance_of minimal)) sets
-  pub is : text ≡ minimal_text (names_of catalogue.schema) minimal.names minimal.facts minimal.head sets
+  pub are_listed : AreListedBy (IsEquivalentPart rules query (instance_of minimal)) sets
+  pub is : text ≡ minimal_text relations minimal.names minimal.facts minimal.head sets
 
 -- The query has minimal equivalent parts.
 abbrev pub IsMinimisedTo : Catalogue → Query → Minimal → Type 0
@@ -40,7 +42,7 @@ minimises_query catalogue query =
 
 -- The text of what it is minimised to is made.
 abbrev pub prints_minimal : Catalogue → Query → Minimal → Course Status (List ℕ)
-prints_minimal catalogue query minimal = judges (IsMinimalText catalogue query minimal) (λ _. ⊥)
+prints_minimal catalogue query minimal = judges (IsMinimalText (rules_of catalogue.rules) (names_of catalogue.schema) (query_of query) minimal) (λ _. ⊥)
 
 -- The query is minimised, and the text is made.
 abbrev pub minimises : Catalogue → Query → Course Status (List ℕ)

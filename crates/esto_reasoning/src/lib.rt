@@ -3,8 +3,10 @@
 #![tactic(auto)]
 
 mod containing;
+mod laws;
 mod minimising;
 mod printing;
 
 pub use containing::contains;
+pub use laws::reasoned_texts_are_one;
 pub use minimising::minimise;

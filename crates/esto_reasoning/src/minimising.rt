@@ -1,7 +1,10 @@
 //! The command `minimise`.
 ghost use Rattle.std.specs.Prelude.{◌≡◌, ◌≤◌, IfOk};
+ghost use Rattle.esto_constraint.specs.Constraints.{rules_of};
 ghost use Rattle.esto_opening.specs.Answers.{Answers};
 ghost use Rattle.esto_ports.specs.Faults.{Rises};
+ghost use Rattle.esto_query.specs.Making.{query_of};
+ghost use Rattle.esto_query.specs.Schemas.{names_of};
 ghost use Rattle.esto_reasoning.specs.Minimise.{IsMinimalText, IsMinimisedTo, minimise_course, minimises, minimises_query, prints_minimal};
 
 use crate::printing::minimal_text;
@@ -33,7 +36,8 @@ fn listed_text(
     catalogue: &Catalogue,
 ) -> Result<Bytes, OutOfMemory>
     requires { IsMinimisedTo catalogue.now query.now minimal.now }
-    ensures { IfOk result (IsMinimalText catalogue.now query.now minimal.now) }
+    ensures { IfOk result (IsMinimalText (rules_of catalogue.now.rules)
+        (names_of catalogue.now.schema) (query_of query.now) minimal.now) }
 {
     let sets = minimal.sets.sorted(alloc)?;
     let text = minimal_text(

@@ -1,14 +1,12 @@
 -- Where `audit` and `run` are Done over the same files, `answer` is Done with the text of `run`.
-use Rattle.std.proofs.Common.{◌≡◌, ◌≢◌, ◌⊎◌, ◌↔◌, ◌==◌, arith, ℕ, suc, true, false, Bool, List, [], ◌∷◌, map, length, slice_get, Contains, Option, Some, None, refl, sym, ap, subst, ◌∙◌, inl, inr}
-use Rattle.std.specs.Prelude.{codes}
+use Rattle.std.proofs.Common.{◌≡◌, ◌≢◌, ◌⊎◌, ◌==◌, arith, ℕ, suc, true, List, [], ◌∷◌, map, length, slice_get, Contains, Option, Some, refl, sym, ap, subst, ◌∙◌, inl, inr}
 use Rattle.std.proofs.lemmas.Bool.Decides.{nat_tests}
 use Rattle.either.specs.declared.Either.{Either}
 use Rattle.either.specs.declared.Either.TheVariants.{Left, Right}
 use Rattle.esto_catalog.specs.declared.catalogue.Catalogue.{Catalogue}
-use Rattle.esto_catalog.specs.declared.catalogue.Store.{Store}
 use Rattle.esto_chase_laws.specs.declared.clash.Clash.{Clash}
 use Rattle.esto_constraint.specs.Constraints.{rules_of}
-use Rattle.esto_course.specs.Course.{Course, and_then, each, gives, judges}
+use Rattle.esto_course.specs.Course.{and_then, each, gives}
 use Rattle.esto_data.specs.Answer.{IsAnswerOfFacts, answer_course}
 use Rattle.esto_data.specs.Audit.{audit_course}
 use Rattle.esto_data.specs.Exact.{PrintsAnswersOfFacts}
@@ -23,7 +21,8 @@ use Rattle.esto_query.specs.declared.query.Query.{Query}
 use Rattle.esto_run.specs.Answers.{rows_text}
 use Rattle.esto_run.specs.Laws.{IsAnswerOver, RisingRowsAreOne}
 use Rattle.esto_run.specs.Stores.{IsFileRow}
-use Rattle.esto_run.specs.Used.{AreUsed, ChosenAreNamed}
+use Rattle.esto_run.specs.Used.{AreUsed}
+use Rattle.esto_semantics.specs.ListedLaws.{ChosenAreNamed}
 use Rattle.esto_semantics.specs.Listed.{candidate}
 use Rattle.esto_semantics.specs.declared.fact.Fact.{Fact}
 use Rattle.esto_semantics.specs.declared.fact.Value.TheVariants.{Text}
@@ -33,21 +32,18 @@ use Rattle.esto_term.specs.declared.term.Term.{Term}
 use Rattle.esto_views.specs.Fragments.{views_of, patterns_of}
 use Rattle.esto_views.specs.Plans.{plan_query}
 use Rattle.esto_views.specs.declared.plan.Plan.{Plan}
-use Rattle.esto_opening.specs.Answers.{IsCaused}
-use Rattle.esto_opening.specs.Calm.{Leads}
 use Rattle.esto_opening.specs.Fragments.{opens_fragment, opens_fragments, opens_next, no_contents, with_content}
-use Rattle.esto_opening.specs.Opening.{opens_catalogue, opens_query}
+use Rattle.esto_opening.specs.Opening.{opens_query}
 use Rattle.esto_opening.specs.declared.reply.Reply.{Reply}
 use Rattle.esto_opening.specs.declared.reply.Reply.TheVariants.{Done, Unsatisfiable}
 use Rattle.esto_opening.specs.declared.status.Status.{Status}
 use Rattle.esto_opening.specs.declared.status.Status.TheVariants as status
 use Rattle.esto_opening.proofs.RefusalLemmas.{Refuses, catalogue_refuses, fragments_refuse, gives_refuses, judges_refuses, query_refuses, then_refuses}
 use Rattle.esto_top.specs.DataOutcomes.{OutcomesAgree}
-use Rattle.esto_top.specs.Grammar.{course_of}
 use Rattle.esto_top.specs.Listing.{IsListOf}
 use Rattle.esto_top.specs.Outcome.{Says, reply_status, reply_text}
 use Rattle.esto_top.specs.Outcome.Says.{replies, refuses}
-use Rattle.esto_top.specs.Run.{HasNoPlace, IsRunText, chooses, ends_query, lists_plan, run_course, runs_end, runs_item, runs_plan, runs_query}
+use Rattle.esto_top.specs.Run.{HasNoPlace, IsRunText, run_course, runs_end, runs_item, runs_query}
 use Rattle.esto_top.specs.Run.HasNoPlace.{is_empty, is_above}
 use Rattle.esto_top.proofs.RunLemmas.{item_of, same_rows, uses_only}
 use Rattle.esto_top.proofs.RunsLemmas.{RunGoes, content_cases, same_texts, over_same, query_runs, run_words}

@@ -1,16 +1,16 @@
 -- What `fill`, `answer` and `audit` answer where nothing is wrong with the files.
-use Rattle.std.proofs.Common.{◌≡◌, ℕ, List, [], ◌∷◌, Option, Some, None, refl, sym, ap, subst, ◌∙◌, inl, inr}
-use Rattle.std.specs.Prelude.{codes}
+use Rattle.std.proofs.Common.{ℕ, List, Option, Some, None, sym, ap, subst, ◌∙◌, inl, inr}
 use Rattle.esto_course.specs.Course.{Course}
-use Rattle.esto_data.specs.Exact.{FilesSayCatalogue, FilesSayQuery}
+use Rattle.esto_data.specs.Answer.{answer_course}
+use Rattle.esto_data.specs.Audit.{audit_course}
+use Rattle.esto_data.specs.Exact.{FilesSayCatalogue, FilesSayQuery, IsExactAnswer, IsExactAudit, IsExactFill}
+use Rattle.esto_data.specs.Fill.{fill_course}
 use Rattle.esto_data.specs.Laws.{AnswersAreExact, AuditsAreExact, FillsAreExact, Says as SaysAlways}
 use Rattle.esto_catalog.specs.declared.catalogue.Catalogue.{Catalogue}
 use Rattle.esto_ports.specs.Files.{Files}
 use Rattle.esto_query.specs.declared.query.Query.{Query}
-use Rattle.esto_opening.specs.Line.{line_of}
 use Rattle.esto_opening.specs.declared.reply.Reply.{Reply}
 use Rattle.esto_opening.specs.declared.status.Status.{Status}
-use Rattle.esto_opening.specs.declared.status.Status.TheVariants as status
 use Rattle.esto_top.specs.DataOutcomes.{AnswersWhereTold, AuditsWhereTold, FillsWhereTold, OutcomesAreAnswers, OutcomesAreAudits, OutcomesAreFills}
 use Rattle.esto_top.specs.Grammar.{course_of}
 use Rattle.esto_top.specs.Headline.{FilesSay}
@@ -38,19 +38,19 @@ query_said files catalogue_name query_name catalogue query say =
 
 pub outcomes_are_fills : FillsAreExact → OutcomesAreFills
 outcomes_are_fills exact words files catalogue_name name catalogue said text is say outcome =
-    says_fact _ _ said text (exact files catalogue_name name catalogue say)
+    says_fact (fill_course (Some files) catalogue_name name) (IsExactFill files catalogue name) said text (exact files catalogue_name name catalogue say)
     (subst (λ (it : List (List ℕ)). Says (course_of it (Some files)) ⊥ said text) is outcome)
 
 pub outcomes_are_answers : AnswersAreExact → OutcomesAreAnswers
 outcomes_are_answers exact words files catalogue_name query_name catalogue query said text is say outcome =
-    says_fact _ _ said text
+    says_fact (answer_course (Some files) catalogue_name query_name) (IsExactAnswer files catalogue query) said text
     (exact files catalogue_name query_name catalogue query (catalogue_said files catalogue_name query_name catalogue query say)
     (query_said files catalogue_name query_name catalogue query say))
     (subst (λ (it : List (List ℕ)). Says (course_of it (Some files)) ⊥ said text) is outcome)
 
 pub outcomes_are_audits : AuditsAreExact → OutcomesAreAudits
 outcomes_are_audits exact words files name catalogue said text is say outcome =
-    says_fact _ _ said text (exact files name catalogue say)
+    says_fact (audit_course (Some files) name) (IsExactAudit files catalogue) said text (exact files name catalogue say)
     (subst (λ (it : List (List ℕ)). Says (course_of it (Some files)) ⊥ said text) is outcome)
 
 -- ---- where the files are told

@@ -1,4 +1,4 @@
-use Rattle.std.proofs.Common.{length, subst, sym}
+use Rattle.std.proofs.Common.{◌≡◌, ◌↔◌, ◌∙◌, Bool, List, length, subst, sym}
 use Rattle.std.proofs.lemmas.List.{length-map}
 use Rattle.esto_semantics.specs.Listed.{IsRewriting, AnswersQuery}
 use Rattle.esto_semantics.specs.Sets.{TellHolds}
@@ -8,6 +8,9 @@ use Rattle.esto_query.specs.Making.{query_of}
 use Rattle.esto_views.specs.Fragments.{views_of, patterns_of}
 use Rattle.esto_views.specs.Plans.{fact_of, plan_query}
 use Rattle.esto_backchase.proofs.CandidateLemmas.{plan-flat}
+use Rattle.esto_backchase.proofs.EvidenceLemmas.{of_parts_as}
+use Rattle.esto_backchase.specs.Candidates.{Answers}
+use Rattle.esto_backchase.specs.Evidence.{MatchesIn}
 use Rattle.esto_backchase.proofs.products.minimal_sets.Goals as goal
 
 pub returns-clause-listed : goal.returns-clause-listed
@@ -38,3 +41,30 @@ returns-clause-complete c other rewriting =
       minimal-cover (IsRewriting rules views patterns query plan) (length plan.body) (λ set is. is.has_candidate.over) c.in_ok-sets.sets.sets
           (returns-clause-listed c) onto.0 onto.1,
     )
+
+pub returns-clause-decided : goal.returns-clause-decided
+returns-clause-decided c =
+    c.entries_decide_answers.ensures.decide c.args.catalogue.now c.args.query.now c.args.plan.now c.in_ok-entries.entries c.requires.same_length
+    c.requires.universal c.requires.satisfiable c.in_ok-entries.ensures.entries
+
+pub returns-clause-of_parts : goal.returns-clause-of_parts
+returns-clause-of_parts c set =
+    let query = query_of c.args.query.now in
+    let plan = plan_query c.args.plan.now in
+    let rules = rules_of c.args.catalogue.now.rules in
+    let views = views_of c.args.catalogue.now.fragments in
+    let patterns = patterns_of c.args.catalogue.now.fragments in
+    let Answering = Answers c.args.catalogue.now c.args.query.now c.args.plan.now in
+    let Matching = MatchesIn c.args.query.now c.args.plan.now c.in_ok-entries.entries in
+    let same : (it : List Bool) → length it ≡ length plan.body → Answering it ↔ Matching it =
+    λ it over. returns-clause-decided c it (over ∙ length-map c.args.plan.now.atoms fact_of) in
+    let listed = returns-clause-listed c set in
+    let parts = c.listed_sets_are_executable.ensures.parts rules views patterns query plan set in (
+      λ inside. of_parts_as patterns plan.body Answering Matching same set (parts.0 (listed.0 inside)),
+      λ least. listed.1 (parts.1 (of_parts_as patterns plan.body Matching Answering (λ it over. ((same it over).1, (same it over).0)) set least)),
+    )
+
+pub returns-clause-consistent : goal.returns-clause-consistent
+returns-clause-consistent c =
+    c.entries_decide_answers.ensures.consistent c.args.catalogue.now c.args.query.now c.args.plan.now c.in_ok-entries.entries
+    c.requires.satisfiable c.in_ok-entries.ensures.entries

@@ -1,14 +1,14 @@
-use Rattle.esto_data.specs.Datasets.{Each}
+use Rattle.esto_data.specs.Datasets.{IsAny}
 use Rattle.esto_data.proofs.DatasetLemmas.{demand_exit, loads_by, needed_there, sources_there}
 use Rattle.esto_data.proofs.datasets.load_all.Goals as goal
 
 pub demand_files-requires : goal.demand_files-requires
 demand_files-requires g c =
-    needed_there (g.S.Shelf.files c.args.shelf.now) c.args.catalogue.now.datasets Each c.in_ok-numbers.numbers c.in_ok-numbers.ensures
+    needed_there (g.S.Shelf.files c.args.shelf.now) c.args.catalogue.now.datasets IsAny c.in_ok-numbers.numbers c.in_ok-numbers.ensures
 
 pub returns-in_err-demand_files-clause-answer : goal.returns-in_err-demand_files-clause-answer
 returns-in_err-demand_files-clause-answer g c =
-    demand_exit (g.S.Shelf.files c.args.shelf.now) c.args.catalogue.now.datasets Each c.in_ok-numbers.numbers c.in_ok-numbers.ensures _ _
+    demand_exit (g.S.Shelf.files c.args.shelf.now) c.args.catalogue.now.datasets IsAny c.in_ok-numbers.numbers c.in_ok-numbers.ensures _ _
     c.from_residual-in_err-demand_files.result c.from_residual-in_err-demand_files.ensures.1 c.in_err-demand_files.ensures
 
 pub load_files-requires : goal.load_files-requires
@@ -17,5 +17,5 @@ load_files-requires g c =
 
 pub returns-clause-answer : goal.returns-clause-answer
 returns-clause-answer g c =
-    loads_by (g.S.Shelf.files c.args.shelf.now) c.args.catalogue.now.datasets Each c.in_ok-numbers.numbers c.in_ok-numbers.ensures
+    loads_by (g.S.Shelf.files c.args.shelf.now) c.args.catalogue.now.datasets IsAny c.in_ok-numbers.numbers c.in_ok-numbers.ensures
     c.loaded_facts_are_flat.ensures c.in_ok-demand_files.ensures _ c.load_files.result c.load_files.ensures.answer
