@@ -7,9 +7,9 @@ use either::{Left, Right};
 use esto_backchase::{Backchase, minimal_sets, minimal_sets_plain};
 use esto_bits::{Products, RowBits};
 use esto_catalog::Catalogue;
+use esto_core::printed_plan;
 use esto_prov::{Claim, Entries, Entry, Reason, Why};
 use esto_query::Query;
-use esto_universal::universal;
 use std::alloc::Global;
 
 // Whether the sets are the same, in the same order.
@@ -44,15 +44,15 @@ fn put_compared<R: Print>(
     Ok(())
 }
 
-/// The sets of the query's list, sorted, and whether the plain search finds the same ones. The answer has the entries that
-/// the list comes from. A query that is not satisfiable has none.
+/// The sets of the query's list over its printed plan, sorted, and whether the plain search finds the same ones. The answer
+/// has the entries that the list comes from. A query that is not satisfiable has none.
 pub fn put_listed<R: Print>(
     rt: &R,
     alloc: Global,
     catalogue: &Catalogue,
     query: &Query,
 ) -> Result<Entries, Refused> {
-    match universal(alloc, query, catalogue)? {
+    match printed_plan(alloc, query, catalogue)? {
         Left(plan) => {
             if plan.head.len() != query.head.len() {
                 return Err(Refused);

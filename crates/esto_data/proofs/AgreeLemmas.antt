@@ -110,7 +110,8 @@ module _ (laws : DataLaws) where
         (λ same. ok_not_err others answer.OutOfMemory same)))
         (λ said other caused other_caused here there. here.2 ∙ ap status.NodeInRow (same_column here.0 there.0
         (err_same (answer.NodeInRow here.0) (answer.NodeInRow there.0)
-        (laws.answers query (database_of facts) (Err (answer.NodeInRow here.0)) (Err (answer.NodeInRow there.0)) here.1 there.1 (node_not_want (List Row) here.0)
+        (laws.answers query (database_of facts) (Err (answer.NodeInRow here.0)) (Err (answer.NodeInRow there.0)) here.1 there.1
+        (node_not_want (List Row) here.0)
         (node_not_want (List Row) there.0)))) ∙ sym there.2)
         (λ rows said caused here there. listed_not_node rows there.0 here there.1) (λ rows said caused here there. listed_not_node rows there.0 here there.1)
 
@@ -157,7 +158,8 @@ module _ (laws : DataLaws) where
       there : IsStoredAt other number other_stored
 
     module _ (number : ℕ) (stored other_stored : Stored) (are : BothStored number stored other_stored) where
-      no_want : (said : Status) (cause : FillError) → IsCaused ⊥ said → said ≡ fill_status cause → bad (List ℕ) FillError cause ≢ bad (List ℕ) FillError filled.OutOfMemory
+      no_want : (said : Status) (cause : FillError) → IsCaused ⊥ said → said ≡ fill_status cause
+          → bad (List ℕ) FillError cause ≢ bad (List ℕ) FillError filled.OutOfMemory
       no_want said cause caused is wanting = never_wanting ⊥ said (is ∙ ap fill_status (err_same cause filled.OutOfMemory wanting)) caused
 
       -- the file is filled in one way in both
@@ -222,7 +224,8 @@ module _ (laws : DataLaws) where
         (judges_agree _ _ _ _ _ _ (λ value other_value here there. refl)
         (λ said other_said caused other_caused here there.
         here.2 ∙ ap status.NodeInRow (same_column here.0 there.0 (err_same (answer.NodeInRow here.0) (answer.NodeInRow there.0)
-        (laws.judgements views (database_of facts) (Err (answer.NodeInRow here.0)) (Err (answer.NodeInRow there.0)) here.1 there.1 (node_not_want (Unit {0}) here.0)
+        (laws.judgements views (database_of facts) (Err (answer.NodeInRow here.0)) (Err (answer.NodeInRow there.0)) here.1 there.1
+        (node_not_want (Unit {0}) here.0)
         (node_not_want (Unit {0}) there.0)))) ∙ sym there.2)
         (λ value said caused here there. texts_not_node views facts there.0 here there.1)
         (λ value said caused here there. texts_not_node views facts there.0 here there.1))
@@ -244,7 +247,8 @@ module _ (laws : DataLaws) where
           (λ value said caused here there. none-some there.0 (sym (one_audit rules (Some there.0) None there.1 here)))
 
     module _ (rules : AreRules (rules_of catalogue.rules)) where
-      audited_agree : (facts : List (Fact Term)) → AreFlat facts → AgreeCalmly ◌≡◌ (audits_facts (Some files) catalogue facts) (audits_facts (Some files) other facts)
+      audited_agree : (facts : List (Fact Term)) → AreFlat facts
+          → AgreeCalmly ◌≡◌ (audits_facts (Some files) catalogue facts) (audits_facts (Some files) other facts)
       audited_agree facts flat =
           then_agree _ ◌≡◌ ◌≡◌ _ _ _ _ (views_agree facts) (λ value other_value goes same.
           then_agree _ ◌≡◌ ◌≡◌ _ _ _ _
@@ -255,7 +259,8 @@ module _ (laws : DataLaws) where
           then_agree _ ◌≡◌ ◌≡◌ _ _ _ _
           (subst (λ (it : ℕ → List ℕ). AgreeCalmly ◌≡◌ (compares catalogue facts contents) (compares other facts it)) same1
           (compared_agree facts flat contents rules))
-          (λ value1 other_value1 goes2 same2. gives_agree _ (Done (audit_text catalogue)) (Done (audit_text other)) (ap Done (texts_one catalogue other alike)))))
+          (λ value1 other_value1 goes2 same2. gives_agree _ (Done (audit_text catalogue)) (Done (audit_text other))
+          (ap Done (texts_one catalogue other alike)))))
 
     catalogue_agree : AgreeCalmly ◌≡◌ (audits_catalogue (Some files) catalogue) (audits_catalogue (Some files) other)
     catalogue_agree =

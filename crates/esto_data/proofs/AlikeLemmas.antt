@@ -102,7 +102,8 @@ module _ (First Second First_too Second_too : ℕ → Row → Type 0) (first_sam
     | inr here ↦ inr ((second_same number row).1 here.0, (λ there. here.1 ((first_same number row).0 there)))
   ]
 
-  apart-moved : (names : List (List ℕ)) (name : List ℕ) (row : Row) → IsFirstApart names First Second name row → IsFirstApart names First_too Second_too name row
+  apart-moved : (names : List (List ℕ)) (name : List ℕ) (row : Row) → IsFirstApart names First Second name row
+      → IsFirstApart names First_too Second_too name row
   apart-moved names name row first = record {
     number = first.number;
     named = first.named;
@@ -122,7 +123,8 @@ module _ (rules : List Rule) (names : List (List Name)) (fragments : List (List 
   own_row : (number : ℕ) (row : Row) → Holds (at number row) ↔ Holds_too (at number row)
   own_row number row = same (at number row)
 
-  pub audits-moved : (outcome : Option Difference) → Audits rules names fragments views facts Holds outcome → Audits rules names fragments views facts Holds_too outcome
+  pub audits-moved : (outcome : Option Difference) → Audits rules names fragments views facts Holds outcome
+      → Audits rules names fragments views facts Holds_too outcome
   audits-moved None agree = record {
     meets = agree.meets;
     rows = λ fact. (

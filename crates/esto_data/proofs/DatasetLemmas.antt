@@ -213,7 +213,8 @@ module _ (files : Option Files) (datasets : List Dataset) (Needs : Dataset → T
       (first_stops _ _ (caused_more _ error (caused_weaker (λ none. absurd none)) stops)))
 
   -- all have one, and the files are opened
-  pub loads_by : LoadedAreFlat → (demands_files datasets numbers).goes tt → (rose : Type 0) (result : Result Loaded Status) → LoadsFiles files datasets numbers rose result
+  pub loads_by : LoadedAreFlat → (demands_files datasets numbers).goes tt → (rose : Type 0) (result : Result Loaded Status)
+      → LoadsFiles files datasets numbers rose result
       → Loads (loads files datasets Needs) rose result
   unfolding judges
   loads_by flat have rose (Ok loaded) (contents, goes, are) =
@@ -225,7 +226,8 @@ module _ (files : Option Files) (datasets : List Dataset) (Needs : Dataset → T
       (then_stops (demands_files datasets numbers) _ tt have (first_stops _ _ stops))
 
 -- want of memory
-pub loads_wanting : (rose : Type 0) (course : Course Status (List (Fact Term))) (result : Result Loaded Status) → IsErrAnd result (λ handed. handed ≡ OutOfMemory)
+pub loads_wanting : (rose : Type 0) (course : Course Status (List (Fact Term))) (result : Result Loaded Status)
+    → IsErrAnd result (λ handed. handed ≡ OutOfMemory)
     → Loads course rose result
 loads_wanting rose course (Ok _) handed = absurd handed
 loads_wanting rose course (Err handed_on) handed = is_free handed

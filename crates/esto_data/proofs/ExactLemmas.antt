@@ -377,7 +377,8 @@ module _ (laws : DataLaws) (catalogue : Catalogue) (facts : List (Fact Term)) (f
   ends_one : (outcome other : Option Difference) → AuditsFiles catalogue facts contents outcome → AuditsFiles catalogue facts contents other → outcome ≡ other
   ends_one outcome other here there =
       laws.audits (rules_of catalogue.rules) (map written catalogue.rules) (names_of catalogue.fragments) (views_of catalogue.fragments) facts
-      catalogue.stores catalogue.stores contents contents outcome other (are_rules laws.rules catalogue.rules) flat (λ fact. ((λ is. is), (λ is. is))) here there
+      catalogue.stores catalogue.stores contents contents outcome other (are_rules laws.rules catalogue.rules) flat (λ fact. ((λ is. is), (λ is. is)))
+      here there
 
   agreed : AuditsFiles catalogue facts contents None → AuditsExactly catalogue facts contents status.Done (audit_text catalogue)
   agreed agree = record {

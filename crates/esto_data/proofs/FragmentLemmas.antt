@@ -46,7 +46,8 @@ module _ (files : Option Files) (catalogue : Catalogue) where
       ];
     }
 
-  opened_from : (count first counter : ℕ) (old contents : ℕ → List ℕ) → (each (opens_next files catalogue) counter old (range_with_len first count)).goes contents
+  opened_from : (count first counter : ℕ) (old contents : ℕ → List ℕ)
+      → (each (opens_next files catalogue) counter old (range_with_len first count)).goes contents
       → AreOpenedFrom files catalogue first count old contents
   unfolding and_then gives
   opened_from zero first counter old contents is = record {

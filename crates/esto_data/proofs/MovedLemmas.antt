@@ -8,7 +8,7 @@ use Rattle.esto_catalog.specs.declared.dataset.Dataset.{Dataset}
 use Rattle.esto_constraint.specs.Constraints.{rules_of}
 use Rattle.esto_constraint.specs.EncodingRules.{written}
 use Rattle.esto_fill.specs.Databases.{database_of}
-use Rattle.esto_fill.specs.Filled.{Fills, IsOpenedAs}
+use Rattle.esto_fill.specs.Filled.{Fills, IsOpenedAs, without_mark}
 use Rattle.esto_fill.specs.Texts.{AreTextViews, AreTextsOf, HaveTextsOnly, IsFirstNodeColumn, IsFirstNodeView}
 use Rattle.esto_fill.specs.declared.auditing.Difference.{Difference}
 use Rattle.esto_fill.specs.declared.filled.FillError.{FillError}
@@ -24,7 +24,7 @@ use Rattle.esto_stores.specs.Rows.{Row}
 use Rattle.esto_term.specs.declared.term.Term.{Term}
 use Rattle.esto_views.specs.Fragments.{views_of}
 use Rattle.esto_opening.specs.Alike.{IsSameQuery, StoresHaveOneContent, StoresHaveOneFault, StoresHaveOneFile}
-use Rattle.esto_opening.specs.Fetch.{HasWithin, without_mark}
+use Rattle.esto_opening.specs.Fetch.{HasWithin}
 use Rattle.esto_opening.specs.Fragments.{Stored, IsStoredAt, content_fault}
 use Rattle.esto_opening.specs.declared.fragments.TheConstants.{FRAGMENT_LIMIT}
 use Rattle.esto_opening.specs.declared.status.Status.{Status}
@@ -72,7 +72,8 @@ module _ (files : Files) (catalogue other : Catalogue) (alike : AreSame catalogu
   -- ---- `fill`
 
   module _ (one_fault : StoresHaveOneFault) (one_content : StoresHaveOneContent) where
-    module _ (number : ℕ) (stored its : Stored) (here : IsStoredAt catalogue number stored) (there : IsStoredAt other number its) (facts : List (Fact Term)) where
+    module _ (number : ℕ) (stored its : Stored) (here : IsStoredAt catalogue number stored) (there : IsStoredAt other number its)
+        (facts : List (Fact Term)) where
       stores_same : stored_as stored.store ≡ stored_as its.store
       stores_same = same_stored catalogue other alike number stored its here there
 

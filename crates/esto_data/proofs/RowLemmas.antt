@@ -171,7 +171,8 @@ module _ (files : Option Files) (catalogue : Catalogue) where
         longer : length (rows ++ own ∷ []) ≡ index + 1
         longer = length-append rows (own ∷ []) ∙ ap (λ (it : ℕ). it + 1) so_far.long
 
-        pushed_rows : (number : ℕ) (its : List Row) (store : Store) → slice_get (rows ++ own ∷ []) number ≡ Some its → slice_get catalogue.stores number ≡ Some store
+        pushed_rows : (number : ℕ) (its : List Row) (store : Store) → slice_get (rows ++ own ∷ []) number ≡ Some its
+            → slice_get catalogue.stores number ≡ Some store
             → (row : Row) → Contains its row ↔ IsRowIn store.shape (with_content so_far.contents index bytes number) row
         pushed_rows number its store at there row = elim (at_pushed rows own number its at) [
           | inl earlier ↦

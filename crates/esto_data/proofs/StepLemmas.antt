@@ -10,7 +10,7 @@ use Rattle.esto_course.specs.Course.Stops.{is_free, refused}
 use Rattle.esto_course.proofs.Steps.{then_stops, then_goes, first_stops, gives_goes}
 use Rattle.esto_catalog.specs.declared.catalogue.Store.{Store}
 use Rattle.esto_fill.specs.Databases.{database_of}
-use Rattle.esto_fill.specs.Filled.{Fills, IsOpenedAs}
+use Rattle.esto_fill.specs.Filled.{Fills, IsOpenedAs, without_mark}
 use Rattle.esto_fill.specs.Texts.{IsFirstNodeColumn, IsFirstNodeView}
 use Rattle.esto_fill.specs.declared.auditing.Difference.{Difference}
 use Rattle.esto_fill.specs.declared.filled.FillError.{FillError}
@@ -27,7 +27,6 @@ use Rattle.esto_term.specs.declared.term.Term.{Term}
 use Rattle.esto_views.specs.declared.fragments.FragmentDef.{FragmentDef}
 use Rattle.esto_data.specs.Answer.{IsAnswerOfFacts, answers_facts}
 use Rattle.esto_opening.specs.Answers.{IsWant, IsCaused}
-use Rattle.esto_opening.specs.Fetch.{without_mark}
 use Rattle.esto_data.specs.Audit.{AuditsFiles, all_fragments, audit_text, audits_facts, compares, judges_views}
 use Rattle.esto_data.specs.Datasets.{Names, loads}
 use Rattle.esto_data.specs.Fill.{IsRowOfView, fill_status, fills_file, fills_fragment}

@@ -4,7 +4,7 @@ use Rattle.esto_catalog.specs.declared.catalogue.Catalogue.{Catalogue}
 use Rattle.esto_opening.specs.Fragments.{Stored}
 use Rattle.esto_course.specs.Course.{Course, judges, gives, and_then}
 use Rattle.esto_fill.specs.Databases.{database_of}
-use Rattle.esto_fill.specs.Filled.{Fills, IsOpenedAs}
+use Rattle.esto_fill.specs.Filled.{Fills, IsOpenedAs, without_mark}
 use Rattle.esto_fill.specs.declared.filled.FillError.{FillError}
 use Rattle.esto_fill.specs.declared.filled.FillError.TheVariants as filled
 use Rattle.esto_ports.specs.Files.{Files}
@@ -16,7 +16,6 @@ use Rattle.esto_term.specs.declared.term.Term.{Term}
 use Rattle.esto_views.specs.declared.fragments.FragmentDef.{FragmentDef}
 use Rattle.esto_data.specs.Datasets.{Names, loads}
 use Rattle.esto_opening.specs.Fragments.{IsStoredAt}
-use Rattle.esto_opening.specs.Fetch.{without_mark}
 use Rattle.esto_opening.specs.Opening.{opens_catalogue}
 use Rattle.esto_opening.specs.declared.reply.Reply.{Reply}
 use Rattle.esto_opening.specs.declared.reply.Reply.TheVariants.{Done}

@@ -4,7 +4,8 @@ use Rattle.std.specs.FinMap.{get}
 use Rattle.esto_ports.specs.Files.{Files}
 use Rattle.esto_opening.specs.Answers.{IsCaused}
 use Rattle.esto_opening.specs.Calm.{AgreeCalmly}
-use Rattle.esto_opening.specs.Fetch.{FetchStops, fetches, without_mark}
+use Rattle.esto_fill.specs.Filled.{without_mark}
+use Rattle.esto_opening.specs.Fetch.{FetchStops, fetches}
 use Rattle.esto_opening.specs.Fetch.FetchStops.{fails, is_longer}
 use Rattle.esto_opening.specs.declared.status.Status.{Status}
 use Rattle.esto_opening.specs.declared.status.Status.TheVariants as status

@@ -1,16 +1,11 @@
 -- The fetch of a file, as a step.
-use Rattle.std.specs.Prelude.{◌≡◌, ℕ, ◌<◌, ◌≤◌, List, length, drop, nat_eq, if◌then◌else◌, Option, Some}
+use Rattle.std.specs.Prelude.{◌≡◌, ℕ, ◌<◌, ◌≤◌, List, length, Option, Some}
 use Rattle.std.specs.FinMap.{get}
-use Rattle.std.specs.List.{starts_with}
 use Rattle.esto_ports.specs.Files.{Files, Holds}
 use Rattle.esto_course.specs.Course.{Course}
+use Rattle.esto_fill.specs.Filled.{without_mark}
 use Rattle.esto_opening.specs.declared.status.Status.{Status}
 use Rattle.esto_opening.specs.declared.status.Status.TheVariants.{ReadFault, TooLong}
-use Rattle.esto_catalog.specs.declared.columns.TheConstants.{MARK}
-
--- The bytes after the one byte-order mark with which they may begin.
-abbrev pub without_mark : List ℕ → List ℕ
-without_mark bytes = if starts_with nat_eq bytes MARK then drop (length MARK) bytes else bytes
 
 -- The fetch is at a fault, whose cause is asked for where the status is said; or the file is longer than the limit.
 pub data FetchStops (files : Option Files) (name : List ℕ) (limit : ℕ) (status : Status) : Type 0 where

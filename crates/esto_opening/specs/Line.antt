@@ -18,7 +18,7 @@ use Rattle.esto_text.specs.declared.fault.TextFault.{TextFault}
 use Rattle.esto_text.specs.declared.fault.TextKind.{TextKind}
 use Rattle.esto_text.specs.declared.fault.TextKind.TheVariants.{Utf8, Syntax, Unknown, Arity, TooLarge, SameVariable, Unsafe, HeadLength}
 use Rattle.esto_opening.specs.declared.status.Status.{Status}
-use Rattle.esto_opening.specs.declared.status.Status.TheVariants.{Done, OutOfMemory, Usage, ReadFault, WriteFault, TooLong, BadCatalogue, BadQuery, NotAcyclic, BadFragment, Unsatisfiable, NoRewriting, NoSuchNumber, NoData, BadDataset, NodeInRow, Differs, KeyText, NoSuchFragment}
+use Rattle.esto_opening.specs.declared.status.Status.TheVariants.{Done, OutOfMemory, Usage, ReadFault, WriteFault, TooLong, BadCatalogue, BadQuery, NotAcyclic, BadFragment, Unsatisfiable, NoRewriting, NoSuchNumber, NoData, BadDataset, NodeInRow, Differs, KeyText, NoSuchFragment, HeadLengths}
 
 -- A cell as the record of this one cell has it, without the line feed that ends the record. The empty cell is two quotes.
 abbrev pub cell_of : List ℕ → List ℕ

@@ -2,7 +2,8 @@
 ghost use Rattle.std.specs.Prelude.{◌≡◌, ◌<◌, ◌≤◌, ◌^◌, IfOk};
 ghost use Rattle.esto_ports.specs.Faults.{Rises};
 ghost use Rattle.esto_opening.specs.Answers.{Answers};
-ghost use Rattle.esto_opening.specs.Fetch.{without_mark, fetches};
+ghost use Rattle.esto_fill.specs.Filled.{without_mark};
+ghost use Rattle.esto_opening.specs.Fetch.{fetches};
 
 use crate::status::Status;
 use esto_catalog::MARK;
