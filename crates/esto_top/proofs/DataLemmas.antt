@@ -18,8 +18,8 @@ use Rattle.esto_top.specs.Outcome.{CompleteWhereTold, Says, reply_status, reply_
 use Rattle.esto_top.specs.Outcome.Says.{replies, refuses}
 
 -- what holds of the replies and refusals of a course holds of what it says
-pub says_fact : (course : Course Status Reply) (Fact : Status → List ℕ → Type 0) (said : Status) (text : List ℕ) → SaysAlways course Fact → Says course ⊥ said text
-    → Fact said text
+pub says_fact : (course : Course Status Reply) (Fact : Status → List ℕ → Type 0) (said : Status) (text : List ℕ) → SaysAlways course Fact
+    → Says course ⊥ said text → Fact said text
 says_fact course Fact said text always (replies reply goes said_is text_is) =
     let found = always.goes reply goes in
     subst (λ (it : List ℕ). Fact said it) (sym (text_is ∙ ap reply_text found.1))

@@ -23,5 +23,6 @@ returns c =
       fills = c.data_outcomes_are_one.ensures.fills;
       answers = c.data_outcomes_are_one.ensures.answers;
       audits = c.data_outcomes_are_one.ensures.audits;
+      contains = c.reasoning_outcomes_are_one.ensures.contains;
+      minimise = c.reasoning_outcomes_are_one.ensures.minimise;
     })
-    (record { contains = c.reasoning_outcomes_are_one.ensures.contains; minimise = c.reasoning_outcomes_are_one.ensures.minimise })
