@@ -1,6 +1,5 @@
 -- What `contains` and `minimise` answer where nothing is wrong with the files.
-use Rattle.std.proofs.Common.{◌≡◌, ℕ, List, [], ◌∷◌, Option, Some, None, subst, inl, inr}
-use Rattle.std.specs.Prelude.{codes}
+use Rattle.std.proofs.Common.{ℕ, List, Option, Some, None, subst, inl, inr}
 use Rattle.esto_catalog.specs.declared.catalogue.Catalogue.{Catalogue}
 use Rattle.esto_course.specs.Course.{judges}
 use Rattle.esto_course.proofs.Steps.{then_goes}
