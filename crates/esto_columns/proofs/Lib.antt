@@ -1,9 +1,8 @@
-pub mod NumberLemmas
 pub mod RowLemmas
 pub mod PickLemmas
 pub mod StoredLemmas
-pub mod CodeLemmas
 pub mod CodingLemmas
 pub mod SortedLemmas
 pub mod IndexLemmas
 pub mod RowIndexLemmas
+pub mod TextLemmas
