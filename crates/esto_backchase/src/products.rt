@@ -34,8 +34,8 @@ pub struct Backchase {
     pub sets: Products,
 }
 
-/// The entries of the conditional chase of the plan's expansion, under the catalogue's rules.
-fn entries_of(alloc: Global, plan: &Plan, catalogue: &Catalogue) -> Result<Entries, OutOfMemory>
+/// The entries of the conditional chase of the plan's expansion, under the catalogue's rules. Their links are joined.
+pub fn entries_of(alloc: Global, plan: &Plan, catalogue: &Catalogue) -> Result<Entries, OutOfMemory>
     requires { IsPlanOver plan.now catalogue.now.fragments }
     ensures entries { IfOk result (AreEntriesOf catalogue.now plan.now) }
     ensures joined { IfOk result (λ entries. AreJoined entries entries) }
