@@ -4,5 +4,6 @@ pub mod VisitLemmas
 pub mod CompletionLemmas
 pub mod CompleteLemmas
 pub mod ReadLemmas
+pub mod FoundLemmas
 pub mod TellLemmas
 pub mod EvidenceLemmas

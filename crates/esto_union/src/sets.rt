@@ -1,55 +1,18 @@
 //! The sets of a plan's atoms that are listed in a union.
 ghost use Rattle.std.specs.Prelude.{◌≡◌, ◌↔◌, List, Bool, Contains, IfOk, length};
 ghost use Rattle.esto_semantics.specs.Queries.{ConjunctiveQuery};
-ghost use Rattle.esto_semantics.specs.Sets.{Covers, TellHolds};
 ghost use Rattle.esto_query.specs.declared.query.Query.{Query};
 ghost use Rattle.esto_views.specs.Plans.{plan_query, IsPlanOver};
-ghost use Rattle.esto_world_laws.specs.Steps.{AreJoined};
-ghost use Rattle.esto_backchase.specs.Evidence.{AreEntriesOf, OneMatchesIn};
-ghost use Rattle.esto_union.specs.Unions.{AnswersPart, AreRewritingOf, IsListedIn, IsPlanOfOne, OneMapsOntoOne};
+ghost use Rattle.esto_union.specs.Unions.{AreRewritingOf, IsListedIn, IsPlanOfOne, OneMapsOntoOne};
 
-use esto_backchase::{entries_decide_answers, entries_of, executable_products};
+use esto_backchase::{entries_decide_answers, entries_of, executable_products, matching_products};
 use esto_bits::Products;
 use esto_catalog::Catalogue;
-use esto_condchase::products_of_matches;
 use esto_plan_laws::{executable_unions_map_onto_sets, sets_listed_in_unions_are_executable};
-use esto_prov::Entries;
 use esto_query::Query;
 use esto_term::OutOfMemory;
 use esto_views::Plan;
 use std::alloc::Global;
-
-/// The minimal sets of the plan's atoms in whose worlds one of the queries has a match, head to head with the plan's head:
-/// the world of a set has one exactly where one of these is a subset of the set.
-fn matching_products(
-    alloc: Global,
-    plan: &Plan,
-    queries: &[Query],
-    catalogue: &Catalogue,
-    entries: &Entries,
-) -> Result<Products, OutOfMemory>
-    requires same_lengths { (query : Query) → Contains queries.now query
-        → length plan.now.head ≡ length query.head }
-    requires entries { AreEntriesOf catalogue.now plan.now entries.now }
-    requires joined { AreJoined entries.now entries.now }
-    ensures count { IfOk result (λ it. it.count ≡ length plan.now.atoms) }
-    ensures tell { IfOk result (λ it. (set : List Bool) → Covers it.sets set
-        ↔ OneMatchesIn queries.now plan.now entries.now set) }
-{
-    let mut found = Products::new(alloc, plan.atoms.len());
-    'queries: for query in queries {
-        let own = products_of_matches(
-            alloc,
-            entries.items(),
-            &query.head,
-            query.body.items(),
-            plan.head.items(),
-            plan.atoms.len(),
-        )?;
-        found.add_all(alloc, &own)?;
-    }
-    Ok(found)
-}
 
 /// The sets of the plan's atoms that are listed in the union of the queries under the catalogue's rules: the minimal sets
 /// that are safe and executable, and whose candidate is contained in the union. The plan receives unions for one of the

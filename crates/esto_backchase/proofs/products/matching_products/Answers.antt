@@ -2,8 +2,8 @@ use Rattle.std.proofs.Common.{sym, subst, ◌∙◌}
 use Rattle.esto_query.specs.declared.query.Query.{Query}
 use Rattle.esto_backchase.specs.Evidence.{MatchesIn}
 use Rattle.esto_world_laws.specs.Steps.{AreJoined}
-use Rattle.esto_union.proofs.FoundLemmas.{at_turn, found_all, found_more, handed_over}
-use Rattle.esto_union.proofs.sets.matching_products.Goals as goal
+use Rattle.esto_backchase.proofs.FoundLemmas.{at_turn, found_all, found_more, handed_over}
+use Rattle.esto_backchase.proofs.products.matching_products.Goals as goal
 
 pub products_of_matches-requires-clause-joined : goal.products_of_matches-requires-clause-joined
 products_of_matches-requires-clause-joined c = subst (λ it. AreJoined it it) (sym c.items.ensures) c.requires.joined

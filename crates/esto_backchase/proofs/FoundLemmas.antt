@@ -1,8 +1,8 @@
 -- What is found for the first few queries of a union, and for all of them.
-use Rattle.std.proofs.Common.{◌≡◌, ◌↔◌, ◌≤◌, ◌<◌, ℕ, ◌+◌, inl, inr, Bool, List, [], Some, length, get_or, slice_get, Contains, ap, subst, sym, ◌∙◌}
+use Rattle.std.proofs.Common.{◌≡◌, ◌↔◌, ◌≤◌, ◌<◌, ℕ, ◌+◌, inl, inr, Bool, List, [], ◌∷◌, Some, length, get_or, slice_get, Contains, ap, subst, sym, ◌∙◌}
 use Rattle.std.proofs.lemmas.Option.{slice_get-get_or}
 use Rattle.esto_term.specs.declared.term.Term.{Term}
-use Rattle.esto_term.proofs.ListLemmas.{Contains-nil, SomeBelow, some_contained, some_none, some_step}
+use Rattle.esto_term.proofs.ListLemmas.{Contains-cases, Contains-head, Contains-nil, SomeBelow, some_contained, some_step}
 use Rattle.esto_semantics.specs.Sets.{Covers}
 use Rattle.esto_bits.specs.Kept.{CoversEither}
 use Rattle.esto_query.specs.declared.query.Query.{Query}
@@ -15,12 +15,6 @@ module _ (Matches : Query → List Bool → Type 0) (queries : List Query) where
   -- the sets cover just what one of the first few queries has a match in
   abbrev pub AreFoundBelow : ℕ → List (List Bool) → Type 0
   AreFoundBelow count found = (set : List Bool) → Covers found set ↔ SomeBelow (λ _ query. Matches query set) queries count
-
-  pub found_none : (found : List (List Bool)) → found ≡ [] → AreFoundBelow 0 found
-  found_none found none set = (
-    λ (other, inside, within). absurd (Contains-nil other (subst (λ it. Contains it other) none inside)),
-    λ some. absurd (some_none (λ _ query. Matches query set) queries some),
-  )
 
   pub found_more : (count : ℕ) (query : Query) → slice_get queries count ≡ Some query → (found own after : List (List Bool))
       → ((set : List Bool) → Covers own set ↔ Matches query set) → CoversEither found own after → AreFoundBelow count found → AreFoundBelow (count + 1) after
@@ -49,3 +43,21 @@ handed_over sets set entries its head body atoms targets terms same same_body sa
     subst (λ it. Covers sets set ↔ HasMatch (InWorld it set) head body targets) same
     (subst (λ it. Covers sets set ↔ HasMatch (InWorld its set) head it targets) same_body
     (subst (λ it. Covers sets set ↔ HasMatch (InWorld its set) head atoms it) same_targets tell))
+
+-- one query alone is the case of a list of one
+pub of_one : (Matches : Query → Type 0) (query : Query) (queries : List Query) → queries ≡ query ∷ []
+    → ((it : Query) × Contains queries it × Matches it) ↔ Matches query
+of_one Matches query queries same = (
+  λ (it, inside, matches). elim (Contains-cases query [] it (subst (λ its. Contains its it) same inside)) [
+    | inl is ↦ subst Matches (sym is) matches
+    | inr none ↦ absurd (Contains-nil it none)
+  ],
+  λ matches. (query, subst (λ its. Contains its query) (sym same) (Contains-head query []), matches),
+)
+
+pub lengths_of_one : (count : ℕ) (query : Query) (queries : List Query) → queries ≡ query ∷ [] → count ≡ length query.head
+    → (it : Query) → Contains queries it → count ≡ length it.head
+lengths_of_one count query queries same lengths it inside = elim (Contains-cases query [] it (subst (λ its. Contains its it) same inside)) [
+  | inl is ↦ subst (λ (other : Query). count ≡ length other.head) is lengths
+  | inr none ↦ absurd (Contains-nil it none)
+]

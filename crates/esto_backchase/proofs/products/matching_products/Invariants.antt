@@ -1,8 +1,8 @@
 use Rattle.std.proofs.Common.{◌≡◌, length}
 use Rattle.esto_backchase.specs.Evidence.{MatchesIn}
 use Rattle.esto_query.specs.declared.query.Query.{Query}
-use Rattle.esto_union.proofs.FoundLemmas.{AreFoundBelow}
-use Rattle.esto_union.proofs.sets.matching_products.Given as goal
+use Rattle.esto_backchase.proofs.FoundLemmas.{AreFoundBelow}
+use Rattle.esto_backchase.proofs.products.matching_products.Given as goal
 
 -- the products of the queries so far are found
 abbrev pub invariant-queries : goal.invariant-queries
