@@ -1,5 +1,5 @@
 -- Members of a union, and picks of them.
-use Rattle.std.proofs.Common.{◌⊎◌, ◌↔◌, inl, inr, Bool, List, [], ◌∷◌, Contains, sym, subst}
+use Rattle.std.proofs.Common.{◌≡◌, ◌⊎◌, ◌↔◌, inl, inr, Bool, List, [], ◌∷◌, length, Contains, sym, subst}
 use Rattle.esto_term.proofs.ListLemmas.{Contains-cases, Contains-head, Contains-map, Contains-map_from, Contains-nil, Contains-rest}
 use Rattle.esto_catalog.specs.declared.catalogue.Catalogue.{Catalogue}
 use Rattle.esto_constraint.specs.Constraints.{rules_of}
@@ -59,14 +59,14 @@ module _ (sound : (plan : Plan) → IsSoundPlan plan.atoms plan.head plan.names)
         | inr (number, is, below) ↦ inr (number, is)
       ]
 
-  module _ (query : Query) (plan : Plan) (sets : List (List Bool)) (member : IsMember catalogue queries query plan sets) where
-    form : IsPlanFor (query_of query) (plan_query plan)
-    form = record { same_length = member.same_length; has_head = (sound plan).has_head; flat_body = plan-flat plan }
+  pub form : (query : Query) (plan : Plan) → length plan.head ≡ length query.head → IsPlanFor (query_of query) (plan_query plan)
+  form query plan same = record { same_length = same; has_head = (sound plan).has_head; flat_body = plan-flat plan }
 
+  module _ (query : Query) (plan : Plan) (sets : List (List Bool)) (member : IsMember catalogue queries query plan sets) where
     -- a listed set is one that may be chosen
     option : (set : List Bool) → Contains sets set → IsOption rules views patterns (queries_of queries) (query_of query) (plan_query plan) set
     option set inside = record {
-      form = form;
+      form = form query plan member.same_length;
       universal = receiving rules views (query_of query) (plan_query plan) member.plan_of.receives;
       rewriting = ((member.listed set).0 inside).0;
     }

@@ -1,18 +1,18 @@
 -- Laws of the sets that are listed in a union.
-use Rattle.std.specs.Prelude.{◌≡◌, ◌⊎◌, ◌↔◌, Bool, List, [], length, Contains}
+use Rattle.std.specs.Prelude.{◌≡◌, ◌⊎◌, ◌↔◌, Bool, List, [], ◌∷◌, length, Contains}
 use Rattle.esto_catalog.specs.declared.catalogue.Catalogue.{Catalogue}
 use Rattle.esto_constraint.specs.Constraints.{rules_of}
 use Rattle.esto_query.specs.Making.{query_of}
 use Rattle.esto_query.specs.declared.query.Query.{Query}
 use Rattle.esto_semantics.specs.Containment.{IsSatisfiable}
 use Rattle.esto_semantics.specs.Facts.{Database}
-use Rattle.esto_semantics.specs.Listed.{candidate}
+use Rattle.esto_semantics.specs.Listed.{candidate, IsListed}
 use Rattle.esto_semantics.specs.Queries.{ConjunctiveQuery}
 use Rattle.esto_semantics.specs.Rules.{Meets}
 use Rattle.esto_semantics.specs.Sets.{AreInOrder}
 use Rattle.esto_semantics.specs.Unions.{IsUnionAnswer, IsUnionFragmentAnswer}
 use Rattle.esto_semantics.specs.declared.fact.Value.{Value}
-use Rattle.esto_views.specs.Fragments.{views_of}
+use Rattle.esto_views.specs.Fragments.{views_of, patterns_of}
 use Rattle.esto_views.specs.Plans.{plan_query}
 use Rattle.esto_views.specs.declared.plan.Plan.{Plan}
 use Rattle.esto_union.specs.Unions.{queries_of, AreRewritingOf, IsListedIn, IsPlanOfSatisfiable}
@@ -70,3 +70,11 @@ ListedInUnionIsOne =
     (catalogue : Catalogue) (queries : List Query) (plan : Plan) (sets others : List (List Bool)) → AreInOrder sets → AreInOrder others
     → ((set : List Bool) → Contains sets set ↔ IsListedIn catalogue queries plan set)
     → ((set : List Bool) → Contains others set ↔ IsListedIn catalogue queries plan set) → sets ≡ others
+
+-- In a union of one query a plan of it has the query's listed sets.
+abbrev pub OneHasItsListedSets : Type 0
+OneHasItsListedSets =
+    (catalogue : Catalogue) (query : Query) (plan : Plan) (set : List Bool) → length plan.head ≡ length query.head
+    → IsPlanOfSatisfiable catalogue plan query
+    → IsListedIn catalogue (query ∷ []) plan set
+    ↔ IsListed (rules_of catalogue.rules) (views_of catalogue.fragments) (patterns_of catalogue.fragments) (query_of query) (plan_query plan) set

@@ -1,9 +1,9 @@
 //! Laws of the sets that are listed in a union.
-ghost use Rattle.esto_union.specs.Laws.{ListedInUnionIsOne, NoRewritingIsTold, PicksAnswerUnion, PicksAreRewriting};
+ghost use Rattle.esto_union.specs.Laws.{ListedInUnionIsOne, NoRewritingIsTold, OneHasItsListedSets, PicksAnswerUnion, PicksAreRewriting};
 
 use esto_plan_laws::{
     choices_are_executable_unions, executable_unions_exist, executable_unions_map_onto_sets,
-    plans_receive_unions,
+    plans_receive_unions, unions_of_one,
 };
 use esto_views::plans_are_sound;
 
@@ -34,4 +34,13 @@ pub fn picks_answer_unions()
     plans_are_sound();
     plans_receive_unions();
     choices_are_executable_unions();
+}
+
+/// A law: the sets that are listed in a union of one query are the query's listed sets.
+pub fn one_query_has_its_listed_sets()
+    ensures { OneHasItsListedSets }
+{
+    plans_are_sound();
+    plans_receive_unions();
+    unions_of_one();
 }

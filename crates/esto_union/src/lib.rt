@@ -4,5 +4,8 @@
 mod laws;
 mod sets;
 
-pub use laws::{listed_in_unions_are_one, no_union_rewriting_is_told, picks_answer_unions};
+pub use laws::{
+    listed_in_unions_are_one, no_union_rewriting_is_told, one_query_has_its_listed_sets,
+    picks_answer_unions,
+};
 pub use sets::union_sets;
