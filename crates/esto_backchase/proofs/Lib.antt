@@ -3,5 +3,7 @@ pub mod CandidateLemmas
 pub mod VisitLemmas
 pub mod CompletionLemmas
 pub mod CompleteLemmas
+pub mod ReadLemmas
+pub mod FoundLemmas
 pub mod TellLemmas
 pub mod EvidenceLemmas

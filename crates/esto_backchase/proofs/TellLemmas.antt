@@ -1,13 +1,15 @@
--- A set answers the query exactly where its world has a match of the query, head to head with the plan's head.
-use Rattle.std.proofs.Common.{◌≡◌, ◌⊎◌, ◌↔◌, ◌<◌, inl, inr, ℕ, Bool, List, length, map, Contains, refl, sym, ap, subst, ◌∙◌}
+-- A set answers a query, or a part of a union, exactly where its world has a match of the query, or of one of the union's queries, head to head with the
+-- plan's head.
+use Rattle.std.proofs.Common.{◌≡◌, ◌⊎◌, ◌↔◌, ◌<◌, inl, inr, ℕ, Bool, List, Some, length, map, slice_get, Contains, refl, sym, ap, subst, ◌∙◌, arith}
 use Rattle.std.proofs.lemmas.List.{length-map}
 use Rattle.esto_term.specs.declared.term.Term.{Term}
 use Rattle.esto_term.specs.declared.term.Term.TheVariants.{Plain}
 use Rattle.esto_term.proofs.ChoiceLemmas.{Decided}
 use Rattle.esto_term.proofs.DistinctLemmas.{decided_contains}
-use Rattle.esto_term.proofs.ListLemmas.{Contains-at, Contains-map, Contains-map_from, thing_at}
+use Rattle.esto_term.proofs.ListLemmas.{Contains-at, Contains-map, Contains-map_from, place-from_Contains, thing_at}
 use Rattle.esto_semantics.specs.Containment.{IsContained, IsSatisfiable}
 use Rattle.esto_semantics.specs.ExpansionLaws.{ExpansionAnswers, PartExpandsCandidate}
+use Rattle.esto_semantics.specs.Facts.{image}
 use Rattle.esto_semantics.specs.Listed.{candidate, chosen, AnswersQuery, HasCandidate, IsSafe}
 use Rattle.esto_semantics.specs.ListedLaws.{ChosenAreNamed}
 use Rattle.esto_semantics.specs.Maps.{IsConstant, IsFixedBy}
@@ -19,7 +21,11 @@ use Rattle.esto_semantics.specs.Rules.{Rule, AreRules}
 use Rattle.esto_semantics.specs.Sets.{Has}
 use Rattle.esto_semantics.specs.Views.{IsFragmentAnswer}
 use Rattle.esto_semantics.specs.declared.fact.Fact.{Fact}
+use Rattle.esto_semantics.proofs.SetLemmas.{beyond}
 use Rattle.esto_semantics.proofs.TermLemmas.{Const-apart-Made, Const-apart-Plain, decided_term, term_cases}
+use Rattle.esto_plan_laws.specs.UnionSets.{AnswersUnion}
+use Rattle.esto_query.specs.Making.{query_of}
+use Rattle.esto_query.specs.declared.query.Query.{Query}
 use Rattle.esto_chase_laws.specs.RunLaws.{StartsHaveTheBody}
 use Rattle.esto_views.specs.Expanded.{Expands}
 use Rattle.esto_views.specs.Fragments.{views_of}
@@ -31,9 +37,11 @@ use Rattle.esto_views.specs.declared.plan.Plan.{Plan}
 use Rattle.esto_world_laws.specs.Laws.{AreFactsOf, HasGivenHead, HasMatch, RestsOn, ContainmentShowsMatches, MatchesRestOnAtoms, MatchesShowContainment}
 use Rattle.esto_world_laws.specs.Worlds.{InWorld, IsBroken, IsDenied}
 use Rattle.esto_world_laws.specs.declared.entry.Claim.{Claim}
+use Rattle.esto_world_laws.specs.declared.entry.Claim.TheVariants.{Fact as Stated}
 use Rattle.esto_world_laws.specs.declared.entry.Entry.{Entry}
 use Rattle.esto_backchase.specs.Candidates.{facts_chosen}
 use Rattle.esto_backchase.specs.Evidence.{AreConditional}
+use Rattle.esto_backchase.proofs.ReadLemmas.{answer_matches}
 use Rattle.esto_backchase.proofs.CandidateLemmas.{chosen_start, chosen-expands, chosen-from, chosen-in_start, from-chosen, named-flat}
 
 -- ---- terms
@@ -43,24 +51,16 @@ decided_constant = term_cases (λ term. Decided (IsConstant term)) (λ text. inl
     (λ number. inr (λ constant. Const-apart-Plain constant.0 number (sym constant.1)))
     (λ rule variable frontier. inr (λ constant. Const-apart-Made constant.0 rule variable frontier (sym constant.1)))
 
-module _ (rules : List Rule) (fragments : List FragmentDef) (rank : ℕ → ℕ) (query : ConjunctiveQuery) (plan : Plan) (expanded : List ExpandedFact)
+module _ (rules : List Rule) (fragments : List FragmentDef) (rank : ℕ → ℕ) (plan : Plan) (expanded : List ExpandedFact)
     (expands : Expands plan fragments expanded) (entries : List Entry) (are : AreConditional rules rank (length plan.atoms) expanded entries)
-    (are_rules : AreRules rules) (is_query : IsQuery query) (sound_plan : IsSoundPlan plan.atoms plan.head plan.names)
-    (is_plan : IsPlanFor query (plan_query plan)) (universal : IsUniversalPlan rules (views_of fragments) query (plan_query plan))
-    (begin : StartsHaveTheBody) (expand_candidates : PartExpandsCandidate) (means : ExpansionAnswers) (named : ChosenAreNamed)
-    (equivalent : ContainedCandidateIsEquivalent) (shown : MatchesShowContainment) (found : ContainmentShowsMatches) (rest : MatchesRestOnAtoms)
-    (set : List Bool) (over : length set ≡ length plan.atoms) where
+    (are_rules : AreRules rules) (sound_plan : IsSoundPlan plan.atoms plan.head plan.names) (begin : StartsHaveTheBody)
+    (expand_candidates : PartExpandsCandidate) (means : ExpansionAnswers) (named : ChosenAreNamed) (shown : MatchesShowContainment)
+    (rest : MatchesRestOnAtoms) (set : List Bool) (over : length set ≡ length plan.atoms) where
   abbrev start : ConjunctiveQuery
   start = chosen_start plan fragments expanded expands set over begin
 
   abbrev Holds : Claim → Type 0
   Holds = InWorld entries set
-
-  abbrev Matched : Type 0
-  Matched = HasMatch Holds query.head query.body plan.head
-
-  abbrev Contained : Type 0
-  Contained = IsContained rules (IsFragmentAnswer (views_of fragments) (candidate (plan_query plan) set)) (IsAnswer query)
 
   are_facts : AreFactsOf expanded set start.body
   are_facts fact = (
@@ -76,79 +76,167 @@ module _ (rules : List Rule) (fragments : List FragmentDef) (rank : ℕ → ℕ)
       → IsFragmentAnswer (views_of fragments) (candidate (plan_query plan) set) database row ↔ IsAnswer start database row
   fragment_answers database row =
       means (views_of fragments) (candidate (plan_query plan) set) start.body
-      (chosen-expands plan fragments expanded expands set over begin rules query expand_candidates) database row
+      (chosen-expands plan fragments expanded expands set over begin rules (plan_query plan) expand_candidates) database row
 
-  contained_start : Contained ↔ IsContained rules (IsAnswer start) (IsAnswer query)
-  contained_start = (
-    λ contained database meets row answer. contained database meets row ((fragment_answers database row).1 answer),
-    λ contained database meets row answer. contained database meets row ((fragment_answers database row).0 answer),
-  )
+  module _ (query : ConjunctiveQuery) (is_query : IsQuery query) where
+    abbrev Matched : Type 0
+    Matched = HasMatch Holds query.head query.body plan.head
 
-  rests : Matched → RestsOn expanded (Contains plan.head) set
-  rests matched = rest expanded rules entries set query plan.head are_rules are.derived is_query matched
+    abbrev Contained : Type 0
+    Contained = IsContained rules (IsFragmentAnswer (views_of fragments) (candidate (plan_query plan) set)) (IsAnswer query)
 
-  -- ---- a match is safe, and has an atom
+    contained_start : Contained ↔ IsContained rules (IsAnswer start) (IsAnswer query)
+    contained_start = (
+      λ contained database meets row answer. contained database meets row ((fragment_answers database row).1 answer),
+      λ contained database meets row answer. contained database meets row ((fragment_answers database row).0 answer),
+    )
 
-  -- a head term that stands in an expanded fact of an atom stands in the atom
-  in_atom : (variable : ℕ) → Contains plan.head (Plain variable) → (fact : ExpandedFact) → Contains expanded fact → Has set fact.atom
-      → Contains fact.fact.terms (Plain variable) → IsFixedBy (chosen set (plan_query plan).body) (Plain variable)
-  in_atom variable in_head fact inside has in_fact =
-      let told = (expands.exact fact).0 inside in
-      let small : fact.atom < length (plan_query plan).body = rw length-map told.0 in
-      let atom = thing_at (plan_query plan).body fact.atom small in
-      let part = told.1.0 in
-      let view = expands.of.view fact.atom in
-      let spread = expands.of.spread fact.atom in
-      let from = Contains-map_from spread part.terms (Plain variable)
-      (subst (λ (it : Fact Term). Contains it.terms (Plain variable)) (sym told.1.2) in_fact) in
-      elim (decided_constant from.0) [
-        | inl constant ↦ absurd (Const-apart-Plain constant.0 variable
-            (sym (expands.of.keeps fact.atom constant.0) ∙ ap spread (sym constant.1) ∙ from.2))
-        | inr variable_is ↦ elim (decided_contains decided_term view.head from.0) [
-          | inl in_view ↦ inr (
-            atom.0,
-            (named set (plan_query plan).body atom.0).1 (fact.atom, has, atom.1),
-            subst (λ row. Contains row (Plain variable)) (expands.of.head fact.atom atom.0 atom.1)
-                (subst (Contains (map spread view.head)) from.2 (Contains-map spread view.head from.0 in_view)),
-          )
-          | inr inner ↦ absurd (expands.of.outside fact.atom from.0 small
-              (record { in_body = (part, Contains-at view.body fact.place part told.1.1, from.1); no_constant = variable_is; not_in_head = inner })
-              (inr (subst (Contains plan.head) (sym from.2) in_head)))
+    rests : Matched → RestsOn expanded (Contains plan.head) set
+    rests matched = rest expanded rules entries set query plan.head are_rules are.derived is_query matched
+
+    -- ---- a match is safe, and has an atom
+
+    -- a head term that stands in an expanded fact of an atom stands in the atom
+    in_atom : (variable : ℕ) → Contains plan.head (Plain variable) → (fact : ExpandedFact) → Contains expanded fact → Has set fact.atom
+        → Contains fact.fact.terms (Plain variable) → IsFixedBy (chosen set (plan_query plan).body) (Plain variable)
+    in_atom variable in_head fact inside has in_fact =
+        let told = (expands.exact fact).0 inside in
+        let small : fact.atom < length (plan_query plan).body = rw length-map told.0 in
+        let atom = thing_at (plan_query plan).body fact.atom small in
+        let part = told.1.0 in
+        let view = expands.of.view fact.atom in
+        let spread = expands.of.spread fact.atom in
+        let from = Contains-map_from spread part.terms (Plain variable)
+        (subst (λ (it : Fact Term). Contains it.terms (Plain variable)) (sym told.1.2) in_fact) in
+        elim (decided_constant from.0) [
+          | inl constant ↦ absurd (Const-apart-Plain constant.0 variable
+              (sym (expands.of.keeps fact.atom constant.0) ∙ ap spread (sym constant.1) ∙ from.2))
+          | inr variable_is ↦ elim (decided_contains decided_term view.head from.0) [
+            | inl in_view ↦ inr (
+              atom.0,
+              (named set (plan_query plan).body atom.0).1 (fact.atom, has, atom.1),
+              subst (λ row. Contains row (Plain variable)) (expands.of.head fact.atom atom.0 atom.1)
+                  (subst (Contains (map spread view.head)) from.2 (Contains-map spread view.head from.0 in_view)),
+            )
+            | inr inner ↦ absurd (expands.of.outside fact.atom from.0 small
+                (record { in_body = (part, Contains-at view.body fact.place part told.1.1, from.1); no_constant = variable_is; not_in_head = inner })
+                (inr (subst (Contains plan.head) (sym from.2) in_head)))
+          ]
         ]
-      ]
 
-  match_safe : Matched → IsSafe (plan_query plan) set
-  match_safe matched term inside = elim (named-flat plan term (sound_plan.named_head term inside)) [
-    | inl constant ↦ inl constant
-    | inr (variable, is) ↦ subst (IsFixedBy (chosen set (plan_query plan).body)) (sym is) (by variable is)
-  ]
-    where
-      by : (variable : ℕ) → term ≡ Plain variable → IsFixedBy (chosen set (plan_query plan).body) (Plain variable)
-      by variable is =
-          let in_head : Contains plan.head (Plain variable) = subst (Contains plan.head) is inside in
-          let (fact, there, has, in_fact) = (rests matched).variables variable in_head in
-          in_atom variable in_head fact there has in_fact
+    match_safe : Matched → IsSafe (plan_query plan) set
+    match_safe matched term inside = elim (named-flat plan term (sound_plan.named_head term inside)) [
+      | inl constant ↦ inl constant
+      | inr (variable, is) ↦ subst (IsFixedBy (chosen set (plan_query plan).body)) (sym is) (by variable is)
+    ]
+      where
+        by : (variable : ℕ) → term ≡ Plain variable → IsFixedBy (chosen set (plan_query plan).body) (Plain variable)
+        by variable is =
+            let in_head : Contains plan.head (Plain variable) = subst (Contains plan.head) is inside in
+            let (fact, there, has, in_fact) = (rests matched).variables variable in_head in
+            in_atom variable in_head fact there has in_fact
 
-  -- ---- both ways
+    has_candidate : Matched → HasCandidate (plan_query plan) set
+    has_candidate matched = record { over = over ∙ sym (length-map plan.atoms fact_of); some = (rests matched).some }
 
-  to_answers : Matched → AnswersQuery rules (views_of fragments) query (plan_query plan) set
-  to_answers matched =
-      let has_candidate : HasCandidate (plan_query plan) set = record { over = over ∙ sym (length-map plan.atoms fact_of); some = (rests matched).some } in
-      let safe = match_safe matched in
-      record {
-        has_candidate = has_candidate;
-        safe = safe;
-        equivalent = (equivalent rules (views_of fragments) query (plan_query plan) set is_plan universal has_candidate safe).1
-            (contained_start.1 (shown expanded rules entries set start query are_facts given_head (are.sound set) matched));
-      }
+    contained : Matched → Contained
+    contained matched = contained_start.1 (shown expanded rules entries set start query are_facts given_head (are.sound set) matched)
 
-  from_answers : IsSatisfiable rules query → AnswersQuery rules (views_of fragments) query (plan_query plan) set → Matched
-  from_answers (database, meets, (row, answer)) answers =
-      let given = (fragment_answers database row).0 (answers.equivalent.1 database meets row answer) in
-      let received : (IsBroken Holds ⊎ IsDenied rules Holds) → ⊥ =
-      (λ which. are.nowhere set which start.body are_facts database meets given.0 given.1 given.2) in
-      found expanded rules entries set start query are_rules are_facts given_head are.given (are.sound set) (are.closed set)
-      (λ broken. received (inl broken)) (λ denied. received (inr denied)) (contained_start.0 answers.equivalent.0)
+    -- ---- both ways
 
-  pub told : IsSatisfiable rules query → Matched ↔ AnswersQuery rules (views_of fragments) query (plan_query plan) set
-  told satisfiable = (to_answers, from_answers satisfiable)
+    module _ (is_plan : IsPlanFor query (plan_query plan)) (universal : IsUniversalPlan rules (views_of fragments) query (plan_query plan))
+        (equivalent : ContainedCandidateIsEquivalent) (found : ContainmentShowsMatches) where
+      to_answers : Matched → AnswersQuery rules (views_of fragments) query (plan_query plan) set
+      to_answers matched =
+          let own = has_candidate matched in
+          let safe = match_safe matched in
+          record {
+            has_candidate = own;
+            safe = safe;
+            equivalent = (equivalent rules (views_of fragments) query (plan_query plan) set is_plan universal own safe).1 (contained matched);
+          }
+
+      from_answers : IsSatisfiable rules query → AnswersQuery rules (views_of fragments) query (plan_query plan) set → Matched
+      from_answers (database, meets, (row, answer)) answers =
+          let given = (fragment_answers database row).0 (answers.equivalent.1 database meets row answer) in
+          let received : (IsBroken Holds ⊎ IsDenied rules Holds) → ⊥ =
+          (λ which. are.nowhere set which start.body are_facts database meets given.0 given.1 given.2) in
+          found expanded rules entries set start query are_rules are_facts given_head are.given (are.sound set) (are.closed set)
+          (λ broken. received (inl broken)) (λ denied. received (inr denied)) (contained_start.0 answers.equivalent.0)
+
+      pub told : IsSatisfiable rules query → Matched ↔ AnswersQuery rules (views_of fragments) query (plan_query plan) set
+      told satisfiable = (to_answers, from_answers satisfiable)
+
+  -- ---- a part of a union
+
+  module _ (are_queries : (query : Query) → IsQuery (query_of query)) (queries : List Query) where
+    abbrev OneMatched : Type 0
+    OneMatched = (query : Query) × Contains queries query × HasMatch Holds query.head query.body plan.head
+
+    abbrev OfUnion : Type 0
+    OfUnion = AnswersUnion rules (views_of fragments) (map query_of queries) (plan_query plan) set
+
+    to_union : OneMatched → OfUnion
+    to_union (query, inside, matched) = record {
+      has_candidate = has_candidate (query_of query) (are_queries query) matched;
+      safe = match_safe (query_of query) (are_queries query) matched;
+      contained = λ database meets row answer. (
+        query_of query,
+        Contains-map query_of queries query inside,
+        contained (query_of query) (are_queries query) matched database meets row answer,
+      );
+    }
+
+    -- a term of an atom of the set is a constant, or it stands in a fact of the world
+    in_world : (number : ℕ) (atom : Fact Term) → Has set number → slice_get (plan_query plan).body number ≡ Some atom
+        → (term : Term) → Contains atom.terms term → IsConstant term ⊎ ((fact : Fact Term) × Holds (Stated fact) × Contains fact.terms term)
+    in_world number atom has at term inside =
+        let spread = expands.of.spread number in
+        let view = expands.of.view number in
+        let own = Contains-map_from spread view.head term (subst (λ row. Contains row term) (sym (expands.of.head number atom at)) inside) in
+        let from = Contains-map_from (λ (it : FragmentDef). query_of it.view) fragments view
+        (Contains-at (views_of fragments) atom.relation view (expands.of.has_view number atom at)) in
+        let is_view : IsQuery view = subst IsQuery from.2 (are_queries from.0.view) in
+        elim (is_view.safe own.0 own.1) [
+          | inl (text, is) ↦ inl (text, sym own.2 ∙ ap spread is ∙ expands.of.keeps number text)
+          | inr (part, in_body, in_part) ↦ (let at_place = place-from_Contains view.body part in_body in
+              let whole : ExpandedFact = record { atom = number; place = at_place.0; fact = image spread part } in
+              let small : number < length plan.atoms = omega (arith, beyond set number has, over) in
+              inr (
+                image spread part,
+                are.given whole ((expands.exact whole).1 (small, (part, at_place.1, refl))) set has,
+                subst (Contains (map spread part.terms)) own.2 (Contains-map spread part.terms own.0 in_part),
+              ))
+        ]
+
+    placed : OfUnion → (term : Term) → Contains plan.head term
+        → IsConstant term ⊎ ((fact : Fact Term) × Holds (Stated fact) × Contains fact.terms term)
+    placed answers term inside = elim (answers.safe term inside) [
+      | inl constant ↦ inl constant
+      | inr (atom, in_chosen, in_atom) ↦ (let at = (named set (plan_query plan).body atom).0 in_chosen in
+          in_world at.0 atom at.1 at.2 term in_atom)
+    ]
+
+    from_union : ¬ (IsBroken Holds) → ¬ (IsDenied rules Holds) → OfUnion → OneMatched
+    from_union whole undenied answers =
+        let (database, value, read, meets) = are.database set whole undenied in
+        let own : IsAnswer start database (map value plan.head) = (
+          value,
+          read.keeps,
+          (λ fact inside.
+              let from = (are_facts fact).0 inside in
+              read.facts fact (subst (λ it. Holds (Stated it)) from.3 (are.given from.0 from.1 set from.2))),
+          refl,
+        ) in
+        let (query, inside, (m, keeps, sends, is)) = answers.contained database meets (map value plan.head)
+        ((fragment_answers database (map value plan.head)).1 own) in
+        let from = Contains-map_from query_of queries query inside in
+        let is_query : IsQuery query = subst IsQuery from.2 (are_queries from.0) in (
+          from.0,
+          from.1,
+          subst (λ (it : ConjunctiveQuery). HasMatch Holds it.head it.body plan.head) (sym from.2)
+              (answer_matches Holds database value read query m keeps sends plan.head (placed answers) is_query.safe is),
+        )
+
+    pub union_told : ¬ (IsBroken Holds) → ¬ (IsDenied rules Holds) → OfUnion ↔ OneMatched
+    union_told whole undenied = (from_union whole undenied, to_union)

@@ -1,7 +1,8 @@
 -- What the entries say from which listed sets are read.
-use Rattle.std.specs.Prelude.{◌≡◌, ◌⊎◌, ◌↔◌, ℕ, Bool, List, length, slice_index}
+use Rattle.std.specs.Prelude.{◌≡◌, ◌⊎◌, ◌↔◌, ℕ, Bool, List, length, map, slice_index, Contains}
 use Rattle.esto_catalog.specs.declared.catalogue.Catalogue.{Catalogue}
 use Rattle.esto_constraint.specs.Constraints.{rules_of}
+use Rattle.esto_plan_laws.specs.UnionSets.{AnswersUnion}
 use Rattle.esto_query.specs.Making.{query_of}
 use Rattle.esto_query.specs.declared.query.Query.{Query}
 use Rattle.esto_semantics.specs.Access.{HoldsOfPart}
@@ -50,6 +51,10 @@ abbrev pub DecideAnswers : Catalogue → Query → Plan → List Entry → Type 
 DecideAnswers catalogue query plan entries =
     (set : List Bool) → length set ≡ length plan.atoms → Answers catalogue query plan set ↔ MatchesIn query plan entries set
 
+-- In the world of the set one of the queries has such a match.
+abbrev pub OneMatchesIn : List Query → Plan → List Entry → List Bool → Type 0
+OneMatchesIn queries plan entries set = (query : Query) × Contains queries query × MatchesIn query plan entries set
+
 -- The set is minimal among those of the plan's atoms whose accessible part has a world with such a match.
 abbrev pub IsLeastOfParts : Catalogue → Query → Plan → List Entry → List Bool → Type 0
 IsLeastOfParts catalogue query plan entries set =
@@ -73,3 +78,12 @@ EntriesAreConsistent =
     → IsSatisfiable (rules_of catalogue.rules) (query_of query) → AreEntriesOf catalogue plan entries
     → ReceivesUnions (rules_of catalogue.rules) (views_of catalogue.fragments) (query_of query) (plan_query plan)
     → AreConsistent (rules_of catalogue.rules) entries
+
+-- The entries of a plan, where they are consistent, decide which sets of its atoms answer a part of a union: exactly those in whose worlds one of the union's
+-- queries has such a match.
+abbrev pub EntriesDecideUnions : Type 0
+EntriesDecideUnions =
+    (catalogue : Catalogue) (queries : List Query) (plan : Plan) (entries : List Entry) → AreEntriesOf catalogue plan entries
+    → AreConsistent (rules_of catalogue.rules) entries → (set : List Bool) → length set ≡ length plan.atoms
+    → AnswersUnion (rules_of catalogue.rules) (views_of catalogue.fragments) (map query_of queries) (plan_query plan) set
+    ↔ OneMatchesIn queries plan entries set

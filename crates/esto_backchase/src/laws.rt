@@ -5,7 +5,7 @@ ghost use Rattle.esto_semantics.specs.Access.{Patterns};
 ghost use Rattle.esto_semantics.specs.Sets.{Covers};
 ghost use Rattle.esto_semantics.specs.declared.fact.Fact.{Fact};
 ghost use Rattle.esto_backchase.specs.Completion.{MinimalCompletions};
-ghost use Rattle.esto_backchase.specs.Evidence.{EntriesAreConsistent, EntriesDecideAnswers};
+ghost use Rattle.esto_backchase.specs.Evidence.{EntriesAreConsistent, EntriesDecideAnswers, EntriesDecideUnions};
 ghost use Rattle.esto_backchase.specs.Listing.{ListedCoverRewritings};
 
 use esto_chase_laws::queries_have_starts;
@@ -44,9 +44,11 @@ pub fn minimal_completions_are_executable()
 /// A law: a set of the atoms of a plan that is universal for a satisfiable query answers the query exactly where the set's
 /// world, by the entries, has a match of the query's body whose head is, place by place, one with the plan's head. Where
 /// the plan receives unions for the query, no set's world makes two different constants one or has a match of a denial's
-/// body.
+/// body. Where that is so, a set answers a part of a union exactly where its world has such a match of one of the union's
+/// queries.
 pub fn entries_decide_answers()
     ensures decide { EntriesDecideAnswers }
+    ensures unions { EntriesDecideUnions }
     ensures consistent { EntriesAreConsistent }
 {
     plans_are_sound();

@@ -1,5 +1,5 @@
 //! The listed sets of a plan: the minimal sets of its atoms that are rewritings of the query. Start from
-//! `minimal_sets`, `minimal_sets_plain`, `executable_products` and `complete`.
+//! `minimal_sets`, `minimal_sets_plain`, `entries_of`, `matching_products`, `executable_products` and `complete`.
 #![tactic(auto)]
 
 mod candidates;
@@ -15,4 +15,4 @@ pub use laws::{
     entries_decide_answers, listed_sets_cover_rewritings, minimal_completions_are_executable,
 };
 pub use listing::minimal_sets_plain;
-pub use products::{Backchase, minimal_sets};
+pub use products::{Backchase, entries_of, matching_products, minimal_sets};

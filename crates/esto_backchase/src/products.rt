@@ -4,7 +4,8 @@ ghost use Rattle.esto_semantics.specs.Containment.{IsSatisfiable};
 ghost use Rattle.esto_semantics.specs.Listed.{IsListed, IsExecutableRewriting};
 ghost use Rattle.esto_semantics.specs.Plans.{IsUniversalPlan};
 ghost use Rattle.esto_semantics.specs.Queries.{ConjunctiveQuery};
-ghost use Rattle.esto_semantics.specs.Sets.{TellHolds};
+ghost use Rattle.esto_semantics.specs.Sets.{Covers, TellHolds};
+ghost use Rattle.esto_query.specs.declared.query.Query.{Query};
 ghost use Rattle.esto_semantics.specs.Unions.{ReceivesUnions};
 ghost use Rattle.esto_constraint.specs.Constraints.{rules_of};
 ghost use Rattle.esto_query.specs.Making.{query_of};
@@ -12,7 +13,7 @@ ghost use Rattle.esto_views.specs.Fragments.{views_of, patterns_of};
 ghost use Rattle.esto_views.specs.Plans.{plan_query, IsPlanOver};
 ghost use Rattle.esto_world_laws.specs.Steps.{AreJoined};
 ghost use Rattle.esto_backchase.specs.Candidates.{Answers};
-ghost use Rattle.esto_backchase.specs.Evidence.{AreConsistent, AreEntriesOf, DecideAnswers, IsLeastOfParts};
+ghost use Rattle.esto_backchase.specs.Evidence.{AreConsistent, AreEntriesOf, DecideAnswers, IsLeastOfParts, OneMatchesIn};
 ghost use Rattle.esto_backchase.specs.Listing.{MapsOntoOne};
 
 use crate::completion::executable_products;
@@ -26,6 +27,7 @@ use esto_semantics::{listed_sets_are_executable, rewritings_map_onto_sets};
 use esto_term::{List, OutOfMemory};
 use esto_views::{Plan, expand, plans_are_sound};
 use std::alloc::Global;
+use std::slice;
 
 /// The listed sets of a plan, with the entries that they come from.
 #[derive(Debug, Drop)]
@@ -34,8 +36,8 @@ pub struct Backchase {
     pub sets: Products,
 }
 
-/// The entries of the conditional chase of the plan's expansion, under the catalogue's rules.
-fn entries_of(alloc: Global, plan: &Plan, catalogue: &Catalogue) -> Result<Entries, OutOfMemory>
+/// The entries of the conditional chase of the plan's expansion, under the catalogue's rules. Their links are joined.
+pub fn entries_of(alloc: Global, plan: &Plan, catalogue: &Catalogue) -> Result<Entries, OutOfMemory>
     requires { IsPlanOver plan.now catalogue.now.fragments }
     ensures entries { IfOk result (AreEntriesOf catalogue.now plan.now) }
     ensures joined { IfOk result (λ entries. AreJoined entries entries) }
@@ -52,8 +54,39 @@ fn entries_of(alloc: Global, plan: &Plan, catalogue: &Catalogue) -> Result<Entri
     Ok(entries)
 }
 
-/// Sets of the plan's atoms that tell which of them answer the query: the products of the query's matches among the
-/// entries, head to head with the plan's head.
+/// The minimal sets of the plan's atoms in whose worlds one of the queries has a match, head to head with the plan's head:
+/// the world of a set has one exactly where one of these is a subset of the set.
+pub fn matching_products(
+    alloc: Global,
+    plan: &Plan,
+    queries: &[Query],
+    catalogue: &Catalogue,
+    entries: &Entries,
+) -> Result<Products, OutOfMemory>
+    requires same_lengths { (query : Query) → Contains queries.now query
+        → length plan.now.head ≡ length query.head }
+    requires entries { AreEntriesOf catalogue.now plan.now entries.now }
+    requires joined { AreJoined entries.now entries.now }
+    ensures count { IfOk result (λ it. it.count ≡ length plan.now.atoms) }
+    ensures tell { IfOk result (λ it. (set : List Bool) → Covers it.sets set
+        ↔ OneMatchesIn queries.now plan.now entries.now set) }
+{
+    let mut found = Products::new(alloc, plan.atoms.len());
+    'queries: for query in queries {
+        let own = products_of_matches(
+            alloc,
+            entries.items(),
+            &query.head,
+            query.body.items(),
+            plan.head.items(),
+            plan.atoms.len(),
+        )?;
+        found.add_all(alloc, &own)?;
+    }
+    Ok(found)
+}
+
+/// Sets of the plan's atoms that tell which of them answer the query: the products of the query's matches.
 fn answering_products(
     alloc: Global,
     plan: &Plan,
@@ -72,14 +105,7 @@ fn answering_products(
         (Answers catalogue.now query.now plan.now) it.sets) }
 {
     entries_decide_answers();
-    let found = products_of_matches(
-        alloc,
-        entries.items(),
-        &query.head,
-        query.body.items(),
-        plan.head.items(),
-        plan.atoms.len(),
-    )?;
+    let found = matching_products(alloc, plan, slice::from_ref(query), catalogue, entries)?;
     Ok(found)
 }
 

@@ -4,7 +4,7 @@ use Rattle.esto_semantics.specs.Rewritings.{IsPlanFor}
 use Rattle.esto_views.specs.Plans.{plan_query}
 use Rattle.esto_backchase.proofs.CandidateLemmas.{plan-flat, rules-are}
 use Rattle.esto_backchase.proofs.EvidenceLemmas.{consistent}
-use Rattle.esto_backchase.proofs.TellLemmas.{told}
+use Rattle.esto_backchase.proofs.TellLemmas.{told, union_told}
 use Rattle.esto_backchase.proofs.laws.entries_decide_answers.Goals as goal
 
 pub returns : goal.returns
@@ -14,12 +14,19 @@ returns c = record {
       let is_query = (c.queries_are_sound.ensures query).query in
       let is_plan : IsPlanFor (query_of query) (plan_query plan) = record
       { same_length = same_length; has_head = sound_plan.has_head; flat_body = plan-flat plan sound_plan } in
-      let decided = told (rules_of catalogue.rules) catalogue.fragments _ (query_of query) plan expanded expands entries are
-      (rules-are catalogue.rules c.rules_are_sound.ensures.rules) is_query sound_plan is_plan universal
+      let decided = told (rules_of catalogue.rules) catalogue.fragments _ plan expanded expands entries are
+      (rules-are catalogue.rules c.rules_are_sound.ensures.rules) sound_plan
       c.queries_have_starts.ensures.body c.an_expansion_of_a_plan_expands_its_candidates.ensures c.an_expansion_means_the_same.ensures.answers
-      c.chosen_atoms_are_named.ensures c.candidates_contain_the_query.ensures.equivalent c.matches_decide_containment.ensures.shown
-      c.matches_decide_containment.ensures.found c.matches_rest_on_atoms.ensures set over satisfiable in
+      c.chosen_atoms_are_named.ensures c.matches_decide_containment.ensures.shown c.matches_rest_on_atoms.ensures set over
+      (query_of query) is_query is_plan universal c.candidates_contain_the_query.ensures.equivalent
+      c.matches_decide_containment.ensures.found satisfiable in
       (decided.1, decided.0);
+  unions = λ catalogue queries plan entries (expanded, exact, expands, are) agree set over.
+      union_told (rules_of catalogue.rules) catalogue.fragments _ plan expanded expands entries are
+      (rules-are catalogue.rules c.rules_are_sound.ensures.rules) (c.plans_are_sound.ensures plan)
+      c.queries_have_starts.ensures.body c.an_expansion_of_a_plan_expands_its_candidates.ensures c.an_expansion_means_the_same.ensures.answers
+      c.chosen_atoms_are_named.ensures c.matches_decide_containment.ensures.shown c.matches_rest_on_atoms.ensures set over
+      (λ query. (c.queries_are_sound.ensures query).query) queries (agree set).0 (agree set).1;
   consistent = λ catalogue query plan entries satisfiable (expanded, exact, expands, are) receives.
       consistent (rules_of catalogue.rules) catalogue.fragments _ (query_of query) plan expanded expands entries are
       c.an_expansion_means_the_same.ensures.answers satisfiable receives;

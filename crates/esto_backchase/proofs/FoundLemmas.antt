@@ -1,0 +1,63 @@
+-- What is found for the first few queries of a union, and for all of them.
+use Rattle.std.proofs.Common.{◌≡◌, ◌↔◌, ◌≤◌, ◌<◌, ℕ, ◌+◌, inl, inr, Bool, List, [], ◌∷◌, Some, length, get_or, slice_get, Contains, ap, subst, sym, ◌∙◌}
+use Rattle.std.proofs.lemmas.Option.{slice_get-get_or}
+use Rattle.esto_term.specs.declared.term.Term.{Term}
+use Rattle.esto_term.proofs.ListLemmas.{Contains-cases, Contains-head, Contains-nil, SomeBelow, some_contained, some_step}
+use Rattle.esto_semantics.specs.Sets.{Covers}
+use Rattle.esto_bits.specs.Kept.{CoversEither}
+use Rattle.esto_query.specs.declared.query.Query.{Query}
+use Rattle.esto_semantics.specs.declared.fact.Fact.{Fact}
+use Rattle.esto_world_laws.specs.Laws.{HasMatch}
+use Rattle.esto_world_laws.specs.Worlds.{InWorld}
+use Rattle.esto_world_laws.specs.declared.entry.Entry.{Entry}
+
+module _ (Matches : Query → List Bool → Type 0) (queries : List Query) where
+  -- the sets cover just what one of the first few queries has a match in
+  abbrev pub AreFoundBelow : ℕ → List (List Bool) → Type 0
+  AreFoundBelow count found = (set : List Bool) → Covers found set ↔ SomeBelow (λ _ query. Matches query set) queries count
+
+  pub found_more : (count : ℕ) (query : Query) → slice_get queries count ≡ Some query → (found own after : List (List Bool))
+      → ((set : List Bool) → Covers own set ↔ Matches query set) → CoversEither found own after → AreFoundBelow count found → AreFoundBelow (count + 1) after
+  found_more count query at found own after tell either before set =
+      let step = some_step (λ _ it. Matches it set) queries count query at in (
+        λ covers. step.1 (elim ((either set).0 covers) [ inl earlier ↦ inl ((before set).0 earlier) | inr now ↦ inr ((tell set).0 now) ]),
+        λ some. (either set).1 (elim (step.0 some) [ inl earlier ↦ inl ((before set).1 earlier) | inr now ↦ inr ((tell set).1 now) ]),
+      )
+
+  pub found_all : (count : ℕ) → length queries ≤ count → (found : List (List Bool)) → AreFoundBelow count found
+      → (set : List Bool) → Covers found set ↔ ((query : Query) × Contains queries query × Matches query set)
+  found_all count all found before set =
+      let whole = some_contained (λ (query : Query). Matches query set) queries count all in
+      (λ covers. whole.0 ((before set).0 covers), λ some. (before set).1 (whole.1 some))
+
+-- the item of a loop's turn stands at the turn's place
+pub at_turn : (queries : List Query) (count : ℕ) (query : Query) → count < length queries → query ≡ get_or queries count query
+    → slice_get queries count ≡ Some query
+at_turn queries count query below is = slice_get-get_or queries count query below ∙ ap Some (sym is)
+
+-- what is handed over are the entries, the body and the targets
+pub handed_over : (sets : List (List Bool)) (set : List Bool) (entries its : List Entry) (head : List Term) (body atoms : List (Fact Term))
+    (targets terms : List Term) → its ≡ entries → atoms ≡ body → terms ≡ targets
+    → Covers sets set ↔ HasMatch (InWorld its set) head atoms terms → Covers sets set ↔ HasMatch (InWorld entries set) head body targets
+handed_over sets set entries its head body atoms targets terms same same_body same_targets tell =
+    subst (λ it. Covers sets set ↔ HasMatch (InWorld it set) head body targets) same
+    (subst (λ it. Covers sets set ↔ HasMatch (InWorld its set) head it targets) same_body
+    (subst (λ it. Covers sets set ↔ HasMatch (InWorld its set) head atoms it) same_targets tell))
+
+-- one query alone is the case of a list of one
+pub of_one : (Matches : Query → Type 0) (query : Query) (queries : List Query) → queries ≡ query ∷ []
+    → ((it : Query) × Contains queries it × Matches it) ↔ Matches query
+of_one Matches query queries same = (
+  λ (it, inside, matches). elim (Contains-cases query [] it (subst (λ its. Contains its it) same inside)) [
+    | inl is ↦ subst Matches (sym is) matches
+    | inr none ↦ absurd (Contains-nil it none)
+  ],
+  λ matches. (query, subst (λ its. Contains its query) (sym same) (Contains-head query []), matches),
+)
+
+pub lengths_of_one : (count : ℕ) (query : Query) (queries : List Query) → queries ≡ query ∷ [] → count ≡ length query.head
+    → (it : Query) → Contains queries it → count ≡ length it.head
+lengths_of_one count query queries same lengths it inside = elim (Contains-cases query [] it (subst (λ its. Contains its it) same inside)) [
+  | inl is ↦ subst (λ (other : Query). count ≡ length other.head) is lengths
+  | inr none ↦ absurd (Contains-nil it none)
+]
