@@ -1,12 +1,13 @@
 //! The index of a list of facts.
 ghost use Rattle.std.specs.Prelude.{◌≡◌, ◌+◌, length, IfOk, OnOk, IfSome};
+ghost use Rattle.std.specs.List.Sorted.{IsNonDecreasingBy};
 ghost use Rattle.esto_term.specs.declared.term.Term.{Term};
 ghost use Rattle.esto_term.specs.declared.term.Term.TheVariants.{Const};
 ghost use Rattle.esto_semantics.specs.Maps.{Keeps};
 ghost use Rattle.esto_query.specs.Valuations.{Extends};
 ghost use Rattle.esto_query.specs.Trails.{with_trail};
 ghost use Rattle.esto_query.specs.Keys.{key_of, key_at, key_cmp, entry_cmp, key_terms, entry_terms};
-ghost use Rattle.esto_query.specs.Indexes.{AddsEntries, AreListed, IsInOrder, IsIndex, IsRangeOf, AreCandidates};
+ghost use Rattle.esto_query.specs.Indexes.{AddsEntries, AreListed, IsInOrder, IsIndex, IsRangeOf, AreCandidates, AreFrom};
 
 use crate::trail::{Binding, value};
 use crate::valuation::Valuation;
@@ -122,6 +123,15 @@ fn range_of<'b>(facts: &[Atom], index: &'b [Entry], key: &Key) -> &'b [Entry]
     let from = &index[low..];
     let count = from.partition_point(|entry| compare_keys(key, &key_at(facts, entry)).is_ge());
     &from[..count]
+}
+
+/// The entries with a place at or after the given one.
+pub fn entries_from(entries: &[Entry], least: usize) -> &[Entry]
+    requires { IsNonDecreasingBy (λ entry. entry.place) entries.now }
+    ensures { AreFrom least entries.now result.now }
+{
+    let low = entries.partition_point(|entry| entry.place < least);
+    &entries[low..]
 }
 
 /// The term that each map which extends the trail sends this one to.
