@@ -1,7 +1,8 @@
 -- An index of a list of facts: its order, the entries of a key, and the candidates of an atom.
-use Rattle.std.proofs.Common.{◌≡◌, ◌≢◌, ℕ, zero, suc, ◌+◌, ◌-◌, ◌<◌, ◌≤◌, ◌⊎◌, Bool, true, false, List, [], ◌∷◌, ◌++◌, length, get_or, take, drop, map, Contains, Some, ltb, refl, sym, ap, subst, ◌∙◌, inl, inr, Bor, arith}
+use Rattle.std.proofs.Common.{◌≡◌, ◌≢◌, ℕ, zero, suc, ◌+◌, ◌-◌, ◌<◌, ◌≤◌, ◌⊎◌, Bool, true, false, List, [], ◌∷◌, ◌++◌, length, get_or, take, drop, map, Contains, Option, None, Some, ltb, refl, sym, ap, subst, ◌∙◌, inl, inr, Bor, arith}
 use Rattle.std.specs.List.{slice_get}
 use Rattle.std.specs.List.Sorted.{IsNonDecreasingBy, IsPermutation, IsPartitionedBy, IsPartitionPoint, IsSortedBy}
+use Rattle.std.specs.Option.{IfSome, MatchOption}
 use Rattle.std.specs.declared.cmp.Ordering.{Ordering}
 use Rattle.std.specs.declared.cmp.Ordering.TheVariants.{Less, Equal, Greater}
 use Rattle.std.specs.Ordering.{nat_cmp, ordering_then, ordering_reverse, is_lt, is_ge}
@@ -318,6 +319,17 @@ candidates-range facts index range atom known key is of r l t = record { complet
         let same : key_cmp (key_at facts has.0) key ≡ Equal =
         key_same (key_at facts has.0) key (has.2.relation ∙ sym r) has.2.number (reads ∙ t m keeps extends) in
         (has.0, of.complete has.0 has.1 same, has.2.place)
+
+-- the shorter of two lists of candidates is one
+pub candidates-shorter : (facts : List (Fact Term)) (atom : Fact Term) (known : Assignment) (best : Option (Bor (List Entry))) (found result : List Entry)
+    → IfSome best (λ (entries : Bor (List Entry)). AreCandidates facts atom known entries.now) → AreCandidates facts atom known found
+    → MatchOption best (result ≡ found) (λ (entries : Bor (List Entry)). (result ≡ entries.now) ⊎ (result ≡ found))
+    → AreCandidates facts atom known result
+candidates-shorter facts atom known None found result before serves is = subst (AreCandidates facts atom known) (sym is) serves
+candidates-shorter facts atom known (Some entries) found result before serves is = elim is [
+  | inl old ↦ subst (AreCandidates facts atom known) (sym old) before
+  | inr new ↦ subst (AreCandidates facts atom known) (sym new) serves
+]
 
 pub one_term : (m : Term → Term) (terms : List Term) (c : ℕ) (term : Term) → c < length terms → term ≡ get_or terms c term
     → key_terms (map m terms) (c + 1) ≡ m term ∷ []
