@@ -1,7 +1,8 @@
 -- An index of a list of facts: its order, the entries of a key, and the candidates of an atom.
-use Rattle.std.proofs.Common.{◌≡◌, ◌≢◌, ℕ, zero, suc, ◌+◌, ◌-◌, ◌<◌, ◌≤◌, ◌⊎◌, Bool, true, false, List, [], ◌∷◌, ◌++◌, length, get_or, take, drop, map, Contains, Some, refl, sym, ap, subst, ◌∙◌, inl, inr, Bor, arith}
+use Rattle.std.proofs.Common.{◌≡◌, ◌≢◌, ℕ, zero, suc, ◌+◌, ◌-◌, ◌<◌, ◌≤◌, ◌⊎◌, Bool, true, false, List, [], ◌∷◌, ◌++◌, length, get_or, take, drop, map, Contains, Option, None, Some, ltb, refl, sym, ap, subst, ◌∙◌, inl, inr, Bor, arith}
 use Rattle.std.specs.List.{slice_get}
 use Rattle.std.specs.List.Sorted.{IsNonDecreasingBy, IsPermutation, IsPartitionedBy, IsPartitionPoint, IsSortedBy}
+use Rattle.std.specs.Option.{IfSome, MatchOption}
 use Rattle.std.specs.declared.cmp.Ordering.{Ordering}
 use Rattle.std.specs.declared.cmp.Ordering.TheVariants.{Less, Equal, Greater}
 use Rattle.std.specs.Ordering.{nat_cmp, ordering_then, ordering_reverse, is_lt, is_ge}
@@ -9,10 +10,10 @@ use Rattle.std.specs.Cmp.{IsTotalOrder, IsStrictWeakOrder}
 use Rattle.std.proofs.lemmas.Cmp.{lists_total, nat_cmp_total, on_total, then_total, tied_itself}
 use Rattle.std.specs.Fn.{Mut, Called, ComparesAs}
 use Rattle.std.proofs.lemmas.Fn.{always_returns_same}
-use Rattle.std.proofs.lemmas.Bool.{false≢true}
+use Rattle.std.proofs.lemmas.Bool.{false≢true, ltb-true, ltb-false}
 use Rattle.std.proofs.lemmas.Bool.Decides.{nat_tests}
 use Rattle.std.proofs.lemmas.List.{get_or_default, length-take-le, length-drop, length-map, get_or-take, get_or-drop}
-use Rattle.std.proofs.lemmas.List.Sorted.{ranks_by, sorted_far, Contains-permutation}
+use Rattle.std.proofs.lemmas.List.Sorted.{ranks_by, sorted_far, Contains-permutation, IsNonDecreasingBy-take, IsNonDecreasingBy-drop}
 use Rattle.std.proofs.lemmas.List.Elements.{Contains-append_left, Contains-push}
 use Rattle.std.proofs.lemmas.Option.{same_Some, slice_get_within}
 use Rattle.esto_term.specs.declared.term.Term.{Term}
@@ -24,7 +25,7 @@ use Rattle.esto_semantics.specs.declared.fact.Fact.{Fact}
 use Rattle.esto_query.specs.Valuations.{Assignment, Extends}
 use Rattle.esto_query.specs.Rows.{row_cmp}
 use Rattle.esto_query.specs.Keys.{FactKey, key_cmp, key_at, entry_cmp, key_terms, terms_in}
-use Rattle.esto_query.specs.Indexes.{IsEntry, AddsEntries, AreListed, IsInOrder, IsIndex, HasPlace, IsRangeOf, AreCandidates}
+use Rattle.esto_query.specs.Indexes.{IsEntry, AddsEntries, AreListed, IsInOrder, IsIndex, HasPlace, IsRangeOf, AreCandidates, AreFrom}
 use Rattle.esto_query.specs.declared.index.Entry.{Entry}
 
 -- ---- total orders
@@ -213,6 +214,35 @@ range_is facts xs key low count order lows bound highs = record { complete = com
         (order (low + i) (low + j) d (omega arith) (omega (arith, long))) in
         omega (arith, up, ap (λ (e : Entry). e.place) (read_at i d (omega arith)), ap (λ (e : Entry). e.place) (read_at j d below))
 
+-- ---- the entries from a place on
+
+pub from_is : (xs : List Entry) (least low : ℕ) → IsNonDecreasingBy (λ (entry : Entry). entry.place) xs
+    → IsPartitionPoint (λ (e : Entry). ltb e.place least ≡ true) (λ (e : Entry). ltb e.place least ≡ false) xs low
+    → AreFrom least xs (take (length xs - low) (drop low xs))
+from_is xs least low up point = record { complete = complete; within = within; rising = rising }
+  where
+    long : length (take (length xs - low) (drop low xs)) ≡ length xs - low
+    long = tail_length xs low
+
+    complete : (entry : Entry) → Contains xs entry → least ≤ entry.place → Contains (take (length xs - low) (drop low xs)) entry
+    complete entry (k, l, read) most = elim (cases_lt k low) [
+      | inl before ↦
+          let below = ltb-true entry.place least (subst (λ (e : Entry). ltb e.place least ≡ true) read (point.0 k entry (omega arith) before)) in
+          absurd (omega arith)
+      | inr from ↦
+          let here : low + (k - low) ≡ k = omega arith in
+          (k - low, omega (arith, long), tail_read xs low (k - low) entry (omega arith) ∙ ap (λ n. get_or xs n entry) here ∙ read)
+    ]
+
+    within : (entry : Entry) → Contains (take (length xs - low) (drop low xs)) entry → least ≤ entry.place
+    within entry (k, l, read) =
+        let at : get_or xs (low + k) entry ≡ entry = sym (tail_read xs low k entry (omega (arith, long))) ∙ read in
+        ltb-false entry.place least (subst (λ (e : Entry). ltb e.place least ≡ false) at (point.1 (low + k) entry (omega arith) (omega (arith, long))))
+
+    rising : IsNonDecreasingBy (λ (entry : Entry). entry.place) (take (length xs - low) (drop low xs))
+    rising = IsNonDecreasingBy-take (λ (entry : Entry). entry.place) (length xs - low) (drop low xs)
+        (IsNonDecreasingBy-drop (λ (entry : Entry). entry.place) low xs up)
+
 -- ---- the entries of facts
 
 pub AddsEntries-none : (fact : Fact Term) (place : ℕ) (old : List Entry) → AddsEntries fact place 0 old old
@@ -260,6 +290,9 @@ entry_at found i = get_or found i (record { relation = 0; column = 0; place = 0 
 pub entry_read : (found : List Entry) (i : ℕ) → i < length found → entry_at found i ≡ get_or found i (entry_at found i)
 entry_read found i within = get_or_default found i (record { relation = 0; column = 0; place = 0 }) (entry_at found i) within
 
+pub entry_inside : (found : List Entry) (i : ℕ) → i < length found → Contains found (entry_at found i)
+entry_inside found i within = (i, within, sym (entry_read found i within))
+
 key_same : (a b : FactKey) → a.relation ≡ b.relation → a.number ≡ b.number → a.terms ≡ b.terms → key_cmp a b ≡ Equal
 key_same a b r c t =
     ap (λ x. ordering_then (ordering_then (nat_cmp x b.relation) (nat_cmp a.number b.number)) (row_cmp a.terms b.terms)) r
@@ -286,6 +319,17 @@ candidates-range facts index range atom known key is of r l t = record { complet
         let same : key_cmp (key_at facts has.0) key ≡ Equal =
         key_same (key_at facts has.0) key (has.2.relation ∙ sym r) has.2.number (reads ∙ t m keeps extends) in
         (has.0, of.complete has.0 has.1 same, has.2.place)
+
+-- the shorter of two lists of candidates is one
+pub candidates-shorter : (facts : List (Fact Term)) (atom : Fact Term) (known : Assignment) (best : Option (Bor (List Entry))) (found result : List Entry)
+    → IfSome best (λ (entries : Bor (List Entry)). AreCandidates facts atom known entries.now) → AreCandidates facts atom known found
+    → MatchOption best (result ≡ found) (λ (entries : Bor (List Entry)). (result ≡ entries.now) ⊎ (result ≡ found))
+    → AreCandidates facts atom known result
+candidates-shorter facts atom known None found result before serves is = subst (AreCandidates facts atom known) (sym is) serves
+candidates-shorter facts atom known (Some entries) found result before serves is = elim is [
+  | inl old ↦ subst (AreCandidates facts atom known) (sym old) before
+  | inr new ↦ subst (AreCandidates facts atom known) (sym new) serves
+]
 
 pub one_term : (m : Term → Term) (terms : List Term) (c : ℕ) (term : Term) → c < length terms → term ≡ get_or terms c term
     → key_terms (map m terms) (c + 1) ≡ m term ∷ []

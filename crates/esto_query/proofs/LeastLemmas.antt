@@ -1,6 +1,7 @@
 -- A search for the least match, by the place of the first atom.
-use Rattle.std.proofs.Common.{◌≡◌, ℕ, ◌+◌, ◌-◌, ◌<◌, ◌≤◌, ◌++◌, ◌⊎◌, ◌↔◌, Bool, true, false, eqb, List, [], ◌∷◌, length, get_or, drop, All, Contains, Option, Some, None, refl, sym, ap, subst, ◌∙◌, inl, inr, arith}
+use Rattle.std.proofs.Common.{◌≡◌, ℕ, ◌+◌, ◌-◌, ◌<◌, ◌≤◌, ◌++◌, ◌↔◌, Bool, true, false, eqb, List, [], ◌∷◌, length, get_or, drop, All, Contains, Option, Some, None, refl, sym, ap, subst, ◌∙◌, inl, inr, arith}
 use Rattle.std.specs.List.{slice_get}
+use Rattle.std.specs.List.Sorted.{IsNonDecreasingBy}
 use Rattle.std.specs.Option.{IfSome, IfNone}
 use Rattle.std.specs.declared.cmp.Ordering.TheVariants.{Less, Equal, Greater}
 use Rattle.std.proofs.lemmas.Bool.Decides.{nat_tests}
@@ -19,7 +20,7 @@ use Rattle.esto_query.specs.Trails.{with_trail, Narrows, Excludes, Tries}
 use Rattle.esto_query.specs.Searches.{IsLeastFrom, Searched, Follows, first_from, rest_from}
 use Rattle.esto_query.specs.declared.trail.Binding.{Binding}
 use Rattle.esto_query.specs.declared.matches.Found.{Found}
-use Rattle.esto_query.specs.Indexes.{HasPlace, AreCandidates}
+use Rattle.esto_query.specs.Indexes.{HasPlace, AreCandidates, AreFrom}
 use Rattle.esto_query.specs.declared.index.Entry.{Entry}
 use Rattle.esto_query.proofs.ValuationLemmas.{Keeps-map_of, Extends-map_of}
 use Rattle.esto_query.proofs.TrailLemmas.{Grew-same, Grew-then}
@@ -79,11 +80,18 @@ pub record AreLeft (atom : Fact Term) (rest facts : List (Fact Term)) (known : A
   pub among : (m : Term → Term) (place : ℕ) (places : List ℕ) → Keeps Const m → Extends m known → IsMatch m (atom ∷ rest) facts (place ∷ places)
       → IsAtMost from (place ∷ places) → HasPlace left place
 
-module _ (atom : Fact Term) (rest facts : List (Fact Term)) (known : Assignment) (from : List ℕ) (found : List Entry)
-    (served : AreCandidates facts atom known found) where
-  pub AreLeft-first : AreLeft atom rest facts known from found
-  AreLeft-first = record { among = λ m place places keeps extends match after. served.complete m place keeps extends match.0 }
+pub AreLeft-first : (atom : Fact Term) (rest facts : List (Fact Term)) (known : Assignment) (from : List ℕ) (all found : List Entry)
+    → AreCandidates facts atom known all → AreFrom (first_from from) all found → AreLeft atom rest facts known from found
+AreLeft-first atom rest facts known from all found served cut = record { among = among }
+  where
+    among : (m : Term → Term) (place : ℕ) (places : List ℕ) → Keeps Const m → Extends m known → IsMatch m (atom ∷ rest) facts (place ∷ places)
+        → IsAtMost from (place ∷ places) → HasPlace found place
+    among m place places keeps extends match after =
+        let has = served.complete m place keeps extends match.0 in
+        let least = first_is_least from place places after in (has.0, cut.complete has.0 has.1 (omega (arith, least, has.2)), has.2)
 
+module _ (atom : Fact Term) (rest facts : List (Fact Term)) (known : Assignment) (from : List ℕ) (found : List Entry)
+    (rising : IsNonDecreasingBy (λ (entry : Entry). entry.place) found) where
   module _ (i : ℕ) (left : AreLeft atom rest facts known from (drop i found)) where
     pub AreLeft-end : length found ≤ i → HasNoMatch (atom ∷ rest) facts known (IsAtMost from)
     AreLeft-end end m [] keeps extends match after = match
@@ -120,14 +128,13 @@ module _ (atom : Fact Term) (rest facts : List (Fact Term)) (known : Assignment)
               let at : get_or found (i + has.1.0) has.0 ≡ has.0 = sym (get_or-drop i found has.1.0 has.0) ∙ has.1.2 in
               let long : has.1.0 < length found - i = omega (arith, has.1.1, length-drop i found) in
               let here : get_or found i has.0 ≡ entry = sym (get_or_read found i entry within read has.0) in
-              let up = served.rising i (i + has.1.0) has.0 (omega arith) (omega (arith, long)) in
+              let up = rising i (i + has.1.0) has.0 (omega arith) (omega (arith, long)) in
               omega (arith, up, ap (λ (e : Entry). e.place) at, ap (λ (e : Entry). e.place) here, has.2)
 
--- a place that is out of the range has no match
-pub NoneAt-out : (atom : Fact Term) (rest facts : List (Fact Term)) (known : Assignment) (from : List ℕ) (here : ℕ)
-    → (here < first_from from) ⊎ (length facts ≤ here) → NoneAt atom rest facts known from here
-NoneAt-out atom rest facts known from here (inl below) m places keeps extends match after = let least = first_is_least from here places after in omega arith
-NoneAt-out atom rest facts known from here (inr out) m places keeps extends match after = let within = slice_get_within facts here _ match.0 in omega arith
+-- a place where there is no fact has no match
+pub NoneAt-out : (atom : Fact Term) (rest facts : List (Fact Term)) (known : Assignment) (from : List ℕ) (here : ℕ) → length facts ≤ here
+    → NoneAt atom rest facts known from here
+NoneAt-out atom rest facts known from here out m places keeps extends match after = let within = slice_get_within facts here _ match.0 in omega arith
 
 -- ---- what a search leaves
 

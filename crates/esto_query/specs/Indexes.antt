@@ -55,3 +55,9 @@ pub record IsRangeOf (facts : List (Fact Term)) (index : List Entry) (key : Fact
 pub record AreCandidates (facts : List (Fact Term)) (atom : Fact Term) (known : Assignment) (entries : List Entry) : Type 0 where
   pub complete : (m : Term → Term) (place : ℕ) → Keeps Const m → Extends m known → slice_get facts place ≡ Some (image m atom) → HasPlace entries place
   pub rising : IsNonDecreasingBy (λ (entry : Entry). entry.place) entries
+
+-- Exactly the entries with a place at or after the given one are left, and their places rise.
+pub record AreFrom (least : ℕ) (entries left : List Entry) : Type 0 where
+  pub complete : (entry : Entry) → Contains entries entry → least ≤ entry.place → Contains left entry
+  pub within : (entry : Entry) → Contains left entry → least ≤ entry.place
+  pub rising : IsNonDecreasingBy (λ (entry : Entry). entry.place) left

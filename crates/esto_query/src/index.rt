@@ -1,12 +1,13 @@
 //! The index of a list of facts.
-ghost use Rattle.std.specs.Prelude.{◌≡◌, ◌+◌, length, IfOk, OnOk, IfSome};
+ghost use Rattle.std.specs.Prelude.{◌≡◌, ◌+◌, ◌⊎◌, length, IfOk, OnOk, IfSome, MatchOption};
+ghost use Rattle.std.specs.List.Sorted.{IsNonDecreasingBy};
 ghost use Rattle.esto_term.specs.declared.term.Term.{Term};
 ghost use Rattle.esto_term.specs.declared.term.Term.TheVariants.{Const};
 ghost use Rattle.esto_semantics.specs.Maps.{Keeps};
 ghost use Rattle.esto_query.specs.Valuations.{Extends};
 ghost use Rattle.esto_query.specs.Trails.{with_trail};
 ghost use Rattle.esto_query.specs.Keys.{key_of, key_at, key_cmp, entry_cmp, key_terms, entry_terms};
-ghost use Rattle.esto_query.specs.Indexes.{AddsEntries, AreListed, IsInOrder, IsIndex, IsRangeOf, AreCandidates};
+ghost use Rattle.esto_query.specs.Indexes.{AddsEntries, AreListed, IsInOrder, IsIndex, IsRangeOf, AreCandidates, AreFrom};
 
 use crate::trail::{Binding, value};
 use crate::valuation::Valuation;
@@ -37,10 +38,15 @@ pub struct Entry {
 fn compare_keys(key: &Key, other: &Key) -> Ordering
     ensures { result ≡ key_cmp (key_of key.now) (key_of other.now) }
 {
-    key.relation
+    let order = key
+        .relation
         .cmp(&other.relation)
-        .then(key.column.cmp(&other.column))
-        .then(compare_terms(key.terms, other.terms))
+        .then(key.column.cmp(&other.column));
+    match order {
+        Ordering::Less => Ordering::Less,
+        Ordering::Equal => compare_terms(key.terms, other.terms),
+        Ordering::Greater => Ordering::Greater,
+    }
 }
 
 /// The terms of the key with that number: none, or the term of a column.
@@ -58,7 +64,7 @@ fn key_terms(terms: &[Term], column: usize) -> &[Term]
 fn entry_terms<'a>(facts: &'a [Atom], entry: &Entry) -> &'a [Term]
     ensures { result.now ≡ entry_terms facts.now entry.now }
 {
-    if entry.place >= facts.len() {
+    if entry.column == 0 || entry.place >= facts.len() {
         return &[];
     }
     key_terms(facts[entry.place].terms.items(), entry.column)
@@ -124,6 +130,15 @@ fn range_of<'b>(facts: &[Atom], index: &'b [Entry], key: &Key) -> &'b [Entry]
     &from[..count]
 }
 
+/// The entries with a place at or after the given one.
+pub fn entries_from(entries: &[Entry], least: usize) -> &[Entry]
+    requires { IsNonDecreasingBy (λ entry. entry.place) entries.now }
+    ensures { AreFrom least entries.now result.now }
+{
+    let low = entries.partition_point(|entry| entry.place < least);
+    &entries[low..]
+}
+
 /// The term that each map which extends the trail sends this one to.
 fn bound_to<'b, 'a: 'b>(
     start: &'b Valuation,
@@ -149,8 +164,19 @@ pub fn index_of(alloc: Global, facts: &[Atom]) -> Result<Vec<Entry>, OutOfMemory
     Ok(entries)
 }
 
-/// The entries of the places to which the atom can go: those of its relation, or of one of its bound columns where
-/// there are fewer.
+/// The shorter list, where there are two.
+fn shorter<'b>(best: Option<&'b [Entry]>, found: &'b [Entry]) -> &'b [Entry]
+    ensures { MatchOption best.entry (result.now ≡ found.now) (λ entries.
+        (result.now ≡ entries.now) ⊎ (result.now ≡ found.now)) }
+{
+    match best {
+        Some(entries) if entries.len() <= found.len() => entries,
+        _ => found,
+    }
+}
+
+/// The entries of the places to which the atom can go: those of the one of its bound columns that has fewest, or of
+/// its relation where no column is bound.
 pub fn places_for<'b, 'c, 'a: 'c>(
     start: &'c Valuation,
     facts: &[Atom],
@@ -161,12 +187,7 @@ pub fn places_for<'b, 'c, 'a: 'c>(
     requires { IsIndex facts.now index.now }
     ensures { AreCandidates facts.now atom.now (with_trail start.now trail.now) result.now }
 {
-    let key = Key {
-        relation: atom.relation,
-        column: 0,
-        terms: &[],
-    };
-    let mut best = range_of(facts, index, &key);
+    let mut best = None;
     let terms = atom.terms.items();
     for column in 0..terms.len() {
         if let Some(bound) = bound_to(start, trail, &terms[column]) {
@@ -175,11 +196,16 @@ pub fn places_for<'b, 'c, 'a: 'c>(
                 column: column + 1,
                 terms: from_ref(bound),
             };
-            let found = range_of(facts, index, &key);
-            if found.len() < best.len() {
-                best = found;
-            }
+            best = Some(shorter(best, range_of(facts, index, &key)));
         }
     }
-    best
+    if let Some(entries) = best {
+        return entries;
+    }
+    let key = Key {
+        relation: atom.relation,
+        column: 0,
+        terms: &[],
+    };
+    range_of(facts, index, &key)
 }

@@ -3,6 +3,7 @@ ghost use Rattle.std.specs.Prelude.{◌≡◌, IfOk};
 ghost use Rattle.esto_semantics.specs.Maps.{AreFlat};
 ghost use Rattle.esto_query.specs.Searches.{Searched, first_from, rest_from};
 
+use crate::index::entries_from;
 use crate::indexed::{IndexedFacts, candidates};
 use crate::trail::{Binding, bind_atom};
 use crate::valuation::Valuation;
@@ -47,12 +48,12 @@ pub fn search<'a>(
     };
     let mark = trail.len();
     let depth = places.len();
-    let least = least_first(from);
     let items = facts.items();
     let found = candidates(start, facts, trail, atom);
-    for entry in found {
+    let left = entries_from(found, least_first(from));
+    for entry in left {
         let place = entry.place;
-        if place < least || place >= items.len() {
+        if place >= items.len() {
             continue;
         }
         if bind_atom(start, trail, atom, &items[place])? {

@@ -1,13 +1,13 @@
-use Rattle.std.proofs.Common.{length, ◌≡◌, ◌∷◌, [], refl, ap, ◌∙◌, subst, inl, inr, arith, rules}
+use Rattle.std.proofs.Common.{length, ◌≡◌, ◌∷◌, [], refl, ap, ◌∙◌, subst, ◌≤◌, arith, rules}
 use Rattle.std.proofs.lemmas.List.{nil_from_length}
 use Rattle.std.proofs.lemmas.Option.{slice_get_read}
 use Rattle.esto_semantics.specs.Maps.{AreFlat}
 use Rattle.esto_query.specs.Trails.{with_trail}
-use Rattle.esto_query.proofs.IndexLemmas.{entry_at, entry_read}
+use Rattle.esto_query.proofs.IndexLemmas.{entry_at, entry_read, entry_inside}
 use Rattle.esto_query.proofs.TrailLemmas.{undone}
 use Rattle.esto_query.proofs.LeastLemmas.{AreLeft-first, AreLeft-next, AreLeft-low, AreLeft-end, NoneAt-out, NoneAt-back, NoneAt-skip, Searched-nil, Searched-found, Searched-none, flat_first, flat_rest}
 use Rattle.esto_query.proofs.search.+search.Goals as goal
-use Rattle.esto_query.proofs.search.+search.Goals.{then-branch+in_ok-push+in_ok-search+else-branch-2, else-branch, then-place-least-via-then-place-least, then-place-least-via-else-place-least+then-place-items}
+use Rattle.esto_query.proofs.search.+search.Goals.{then-branch+in_ok-push+in_ok-search+else-branch-2, else-branch}
 
 pub returns-in_default : goal.returns-in_default
 returns-in_default t c =
@@ -17,30 +17,31 @@ returns-in_default t c =
 pub loop-entry-init : goal.loop-entry-init
 loop-entry-init t c =
     let serves = rw c.deref.ensures.value at c.candidates-found.ensures in
+    let cut = rw c.least_first.ensures at c.entries_from-left.ensures in
     record {
       split = search rules;
       trail = refl;
       places = refl;
-      left = AreLeft-first c.in-Some.atom.now c.in-Some.rest.now c.args.facts.now
-          (with_trail c.args.start.now c.args.trail.now.items) c.args.from.now c.candidates-found.result.now serves;
+      left = AreLeft-first c.in-Some.atom.now c.in-Some.rest.now c.args.facts.now (with_trail c.args.start.now c.args.trail.now.items)
+          c.args.from.now c.candidates-found.result.now c.entries_from-left.result.now serves cut;
     }
 
-pub loop-entry-preserved-then-place-least : goal.loop-entry-preserved-then-place-least
-loop-entry-preserved-then-place-least t c =
-    let serves = rw c.deref.ensures.value at c.candidates-found.ensures in
+pub entries_from-left-requires : goal.entries_from-left-requires
+entries_from-left-requires t c = c.candidates-found.ensures.rising
+
+pub loop-entry-preserved-then-place-items : goal.loop-entry-preserved-then-place-items
+loop-entry-preserved-then-place-items t c =
+    let rising = c.entries_from-left.ensures.rising in
     record {
       split = c.loop-entry.invariant.split;
       trail = c.loop-entry.invariant.trail;
       places = c.loop-entry.invariant.places;
       left = AreLeft-next c.in-Some.atom.now c.in-Some.rest.now c.args.facts.now
-          (with_trail c.args.start.now c.args.trail.now.items) c.args.from.now c.candidates-found.result.now serves c.loop-entry.entry-index
-          c.loop-entry.invariant.left (entry_at c.candidates-found.result.now c.loop-entry.entry-index) c.loop-entry-test.true
-          (entry_read c.candidates-found.result.now c.loop-entry.entry-index c.loop-entry-test.true)
+          (with_trail c.args.start.now c.args.trail.now.items) c.args.from.now c.entries_from-left.result.now rising c.loop-entry.entry-index
+          c.loop-entry.invariant.left (entry_at c.entries_from-left.result.now c.loop-entry.entry-index) c.loop-entry-test.true
+          (entry_read c.entries_from-left.result.now c.loop-entry.entry-index c.loop-entry-test.true)
           (NoneAt-out c.in-Some.atom.now c.in-Some.rest.now c.args.facts.now (with_trail c.args.start.now c.args.trail.now.items) c.args.from.now
-          (entry_at c.candidates-found.result.now c.loop-entry.entry-index).place (elim c.then-place-least.branch [
-            | then-place-least-via-then-place-least w ↦ inl (omega (arith, w.if-place-least.true, c.least_first-least.ensures))
-            | then-place-least-via-else-place-least+then-place-items w ↦ inr (rw c.items-items.ensures at w.if-place-items.true)
-          ]));
+          (entry_at c.entries_from-left.result.now c.loop-entry.entry-index).place (rw c.items-items.ensures at c.if-place-items.true));
     }
 
 pub bind_atom-requires : goal.bind_atom-requires
@@ -51,34 +52,37 @@ search-requires t c = (search rules, flat_rest c.in-Some.atom.now _ (subst AreFl
 
 pub returns-then-branch-2 : goal.returns-then-branch-2
 returns-then-branch-2 t c =
-    let serves = rw c.deref.ensures.value at c.candidates-found.ensures in
+    let rising = c.entries_from-left.ensures.rising in
     let low = AreLeft-low c.in-Some.atom.now c.in-Some.rest.now c.args.facts.now
-    (with_trail c.args.start.now c.args.trail.now.items) c.args.from.now c.candidates-found.result.now serves c.loop-entry.entry-index
-    c.loop-entry.invariant.left (entry_at c.candidates-found.result.now c.loop-entry.entry-index) c.loop-entry-test.true
-    (entry_read c.candidates-found.result.now c.loop-entry.entry-index c.loop-entry-test.true) in
+    (with_trail c.args.start.now c.args.trail.now.items) c.args.from.now c.entries_from-left.result.now rising c.loop-entry.entry-index
+    c.loop-entry.invariant.left (entry_at c.entries_from-left.result.now c.loop-entry.entry-index) c.loop-entry-test.true
+    (entry_read c.entries_from-left.result.now c.loop-entry.entry-index c.loop-entry-test.true) in
+    let after = subst (λ n. n ≤ (entry_at c.entries_from-left.result.now c.loop-entry.entry-index).place) c.least_first.ensures
+    (c.entries_from-left.ensures.within (entry_at c.entries_from-left.result.now c.loop-entry.entry-index)
+    (entry_inside c.entries_from-left.result.now c.loop-entry.entry-index c.loop-entry-test.true)) in
     let found = rw c.if-branch-2.true at c.in_ok-search.ensures in
     let tried = rw c.if-branch.true at c.in_ok-bind_atom.ensures in
-    let at = slice_get_read c.args.facts.now _ (entry_at c.candidates-found.result.now c.loop-entry.entry-index).place _ refl
+    let at = slice_get_read c.args.facts.now _ (entry_at c.entries_from-left.result.now c.loop-entry.entry-index).place _ refl
     (omega (arith, ap length c.items-items.ensures, c.if-place-items.false)) (rw c.items-items.ensures at c.index-items-place.is) in
     rw c.loop-entry.invariant.split
     (Searched-found c.args.start.now c.in-Some.atom.now c.index-items-place.result c.in-Some.rest.now c.args.facts.now c.args.from.now
-    (entry_at c.candidates-found.result.now c.loop-entry.entry-index).place at
+    (entry_at c.entries_from-left.result.now c.loop-entry.entry-index).place at
     c.args.trail.now.items c.loop-entry.trail.items c.loop-entry.invariant.trail low
     c.bind_atom.new.trail.items c.search.new.trail.items c.from_after.result.now c.args.places.now c.loop-entry.places c.push.new.self c.search.new.places
-    c.loop-entry.invariant.places c.from_after.ensures c.in_ok-push.ensures.ok (omega (arith, c.least_first-least.ensures, c.if-place-least.false)) tried found)
+    c.loop-entry.invariant.places c.from_after.ensures c.in_ok-push.ensures.ok after tried found)
 
 pub loop-entry-preserved : goal.loop-entry-preserved
 loop-entry-preserved t c =
-    let serves = rw c.deref.ensures.value at c.candidates-found.ensures in
+    let rising = c.entries_from-left.ensures.rising in
     let next = AreLeft-next c.in-Some.atom.now c.in-Some.rest.now c.args.facts.now
-    (with_trail c.args.start.now c.args.trail.now.items) c.args.from.now c.candidates-found.result.now serves c.loop-entry.entry-index
-    c.loop-entry.invariant.left (entry_at c.candidates-found.result.now c.loop-entry.entry-index) c.loop-entry-test.true
-    (entry_read c.candidates-found.result.now c.loop-entry.entry-index c.loop-entry-test.true) in
+    (with_trail c.args.start.now c.args.trail.now.items) c.args.from.now c.entries_from-left.result.now rising c.loop-entry.entry-index
+    c.loop-entry.invariant.left (entry_at c.entries_from-left.result.now c.loop-entry.entry-index) c.loop-entry-test.true
+    (entry_read c.entries_from-left.result.now c.loop-entry.entry-index c.loop-entry-test.true) in
     let low = AreLeft-low c.in-Some.atom.now c.in-Some.rest.now c.args.facts.now
-    (with_trail c.args.start.now c.args.trail.now.items) c.args.from.now c.candidates-found.result.now serves c.loop-entry.entry-index
-    c.loop-entry.invariant.left (entry_at c.candidates-found.result.now c.loop-entry.entry-index) c.loop-entry-test.true
-    (entry_read c.candidates-found.result.now c.loop-entry.entry-index c.loop-entry-test.true) in
-    let at = slice_get_read c.args.facts.now _ (entry_at c.candidates-found.result.now c.loop-entry.entry-index).place _ refl
+    (with_trail c.args.start.now c.args.trail.now.items) c.args.from.now c.entries_from-left.result.now rising c.loop-entry.entry-index
+    c.loop-entry.invariant.left (entry_at c.entries_from-left.result.now c.loop-entry.entry-index) c.loop-entry-test.true
+    (entry_read c.entries_from-left.result.now c.loop-entry.entry-index c.loop-entry-test.true) in
+    let at = slice_get_read c.args.facts.now _ (entry_at c.entries_from-left.result.now c.loop-entry.entry-index).place _ refl
     (omega (arith, ap length c.items-items.ensures, c.if-place-items.false)) (rw c.items-items.ensures at c.index-items-place.is) in
     elim c.if-branch.branch [
       | then-branch+in_ok-push+in_ok-search+else-branch-2 w ↦
@@ -90,9 +94,9 @@ loop-entry-preserved t c =
                 ∙ undone _ _ _ _ _ _ (omega (arith, c.args.trail.now.ok.0, c.len-mark.ensures)) c.loop-entry.invariant.trail tried.0 missed.1
                 w.truncate-then-branch.ensures.items;
             places = w.places-is ∙ undone _ _ _ _ _ _ (omega (arith, c.len-depth.ensures)) c.loop-entry.invariant.places
-                ((entry_at c.candidates-found.result.now c.loop-entry.entry-index).place ∷ [], w.in_ok-push.ensures.ok) missed.0 w.truncate.ensures;
+                ((entry_at c.entries_from-left.result.now c.loop-entry.entry-index).place ∷ [], w.in_ok-push.ensures.ok) missed.0 w.truncate.ensures;
             left = next (NoneAt-back c.args.start.now c.in-Some.atom.now c.index-items-place.result c.in-Some.rest.now c.args.facts.now c.args.from.now
-                (entry_at c.candidates-found.result.now c.loop-entry.entry-index).place at
+                (entry_at c.entries_from-left.result.now c.loop-entry.entry-index).place at
                 c.args.trail.now.items c.loop-entry.trail.items c.loop-entry.invariant.trail low
                 c.bind_atom.new.trail.items w.search.new.trail.items w.from_after.result.now w.push.new.self w.search.new.places w.from_after.ensures tried
                 missed);
@@ -104,16 +108,16 @@ loop-entry-preserved t c =
             trail = ap (λ v. v.items) w.trail-is ∙ tried.0 ∙ c.loop-entry.invariant.trail;
             places = w.places-is ∙ c.loop-entry.invariant.places;
             left = next (NoneAt-skip c.args.start.now c.in-Some.atom.now c.index-items-place.result c.in-Some.rest.now c.args.facts.now c.args.from.now
-                (entry_at c.candidates-found.result.now c.loop-entry.entry-index).place at
+                (entry_at c.entries_from-left.result.now c.loop-entry.entry-index).place at
                 c.args.trail.now.items c.loop-entry.trail.items c.loop-entry.invariant.trail low c.bind_atom.new.trail.items tried);
           }
     ]
 
 pub returns : goal.returns
 returns t c =
-    let serves = rw c.deref.ensures.value at c.candidates-found.ensures in
+    let rising = c.entries_from-left.ensures.rising in
     rw c.loop-entry.invariant.split (Searched-none c.args.start.now c.in-Some.atom.now c.in-Some.rest.now c.args.facts.now c.args.from.now
     c.args.trail.now.items c.loop-entry.trail.items c.args.places.now c.loop-entry.places c.loop-entry.invariant.places c.loop-entry.invariant.trail
     (AreLeft-end c.in-Some.atom.now c.in-Some.rest.now c.args.facts.now
-    (with_trail c.args.start.now c.args.trail.now.items) c.args.from.now c.candidates-found.result.now serves c.loop-entry.entry-index
+    (with_trail c.args.start.now c.args.trail.now.items) c.args.from.now c.entries_from-left.result.now rising c.loop-entry.entry-index
     c.loop-entry.invariant.left c.loop-entry-test.false))

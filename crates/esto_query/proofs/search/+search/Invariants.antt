@@ -11,5 +11,5 @@ invariant-loop-entry l = record {
   split : l.fn.body ≡ l.atom ∷ l.rest;
   trail : l.trail.items ≡ l.fn.trail.items;
   places : l.places ≡ l.fn.places;
-  left : AreLeft l.atom l.rest l.facts (with_trail l.start l.fn.trail.items) l.fn.from (drop l.entry-index l.found);
+  left : AreLeft l.atom l.rest l.facts (with_trail l.start l.fn.trail.items) l.fn.from (drop l.entry-index l.left);
 }
