@@ -4,6 +4,7 @@ ghost use Rattle.esto_semantics.specs.Containment.{IsSatisfiable};
 ghost use Rattle.esto_semantics.specs.Listed.{IsListed, IsExecutableRewriting};
 ghost use Rattle.esto_semantics.specs.Plans.{IsUniversalPlan};
 ghost use Rattle.esto_semantics.specs.Queries.{ConjunctiveQuery};
+ghost use Rattle.esto_bits.specs.Kept.{CoversEither};
 ghost use Rattle.esto_semantics.specs.Sets.{Covers, TellHolds};
 ghost use Rattle.esto_query.specs.declared.query.Query.{Query};
 ghost use Rattle.esto_semantics.specs.Unions.{ReceivesUnions};
@@ -54,6 +55,20 @@ pub fn entries_of(alloc: Global, plan: &Plan, catalogue: &Catalogue) -> Result<E
     Ok(entries)
 }
 
+/// The products with each set of the others added. Where there are none, the others are taken as they are.
+fn with_others(alloc: Global, products: Products, others: Products) -> Result<Products, OutOfMemory>
+    requires { others.count ≡ products.count }
+    ensures count { IfOk result (λ it. it.count ≡ products.count) }
+    ensures covers { IfOk result (λ it. CoversEither products.sets others.sets it.sets) }
+{
+    if products.is_empty() {
+        return Ok(others);
+    }
+    let mut joined = products;
+    joined.add_all(alloc, &others)?;
+    Ok(joined)
+}
+
 /// The minimal sets of the plan's atoms in whose worlds one of the queries has a match, head to head with the plan's head:
 /// the world of a set has one exactly where one of these is a subset of the set.
 pub fn matching_products(
@@ -81,7 +96,7 @@ pub fn matching_products(
             plan.head.items(),
             plan.atoms.len(),
         )?;
-        found.add_all(alloc, &own)?;
+        found = with_others(alloc, found, own)?;
     }
     Ok(found)
 }
