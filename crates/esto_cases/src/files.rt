@@ -3,7 +3,7 @@
 use crate::printing::put_bytes;
 use crate::reading::{Refused, number, text};
 use esto_ports::{FolderShelf, MemoryShelf, MemorySink, OutSink};
-use esto_term::{Bytes, List, Replicate, Text};
+use esto_term::{Bytes, List, Replicate, Text, TextRow};
 use esto_top::mediate;
 use std::alloc::Global;
 use std::mem;
@@ -16,27 +16,33 @@ struct File {
     bytes: Bytes,
 }
 
-/// What is to fail in the next run: which fetch, and which put after how many bytes. They are counted from 1, and 0 is
-/// none.
+/// What is to fail in the next run: which fetch, and which put after how many bytes; and at which fetch and which put
+/// memory is to be wanting. They are counted from 1, and 0 is none.
 #[derive(Clone, Copy)]
 struct Failure {
     fetch: u64,
     put: u64,
     kept: u64,
+    refused_fetch: u64,
+    refused_put: u64,
 }
 
 const NONE: Failure = Failure {
     fetch: 0,
     put: 0,
     kept: 0,
+    refused_fetch: 0,
+    refused_put: 0,
 };
 
-/// The files in memory, the content of the next one, and what is to fail in the next run.
+/// The files in memory, the content of the next one, what is to fail in the next run, and what the last one asked for.
 #[derive(Drop)]
 pub struct FileSet {
     files: List<File>,
     pub content: Bytes,
     failure: Failure,
+    asked: TextRow,
+    puts: u64,
 }
 
 // The words of a command line, between single blanks; an empty line has none.
@@ -68,6 +74,8 @@ impl FileSet {
             files: List::new(alloc),
             content: Bytes::new(alloc),
             failure: NONE,
+            asked: List::new(alloc),
+            puts: 0,
         }
     }
 
@@ -96,6 +104,27 @@ impl FileSet {
         self.failure.kept = number(kept);
     }
 
+    /// At the fetch of this number memory is to be wanting.
+    pub fn refuse_fetch(&mut self, word: &str) {
+        self.failure.refused_fetch = number(word);
+    }
+
+    /// At the put of this number memory is to be wanting.
+    pub fn refuse_put(&mut self, word: &str) {
+        self.failure.refused_put = number(word);
+    }
+
+    /// Prints the names that the last run asked for, in order, and how many puts it did.
+    pub fn put_asked<R: Print>(&self, rt: &R) -> Result<(), Refused> {
+        'names: for name in self.asked.items() {
+            let name = name.as_str();
+            let _ = print!(rt; "{name} ");
+        }
+        let puts = self.puts;
+        let _ = println!(rt; "puts {puts}");
+        Ok(())
+    }
+
     /// Runs a command line over the files, and prints what was put and the status. Nothing is to fail after it.
     pub fn run<R: Print>(&mut self, rt: &R, alloc: Global, line: &str) -> Result<(), Refused> {
         let failure = mem::replace(&mut self.failure, NONE);
@@ -104,7 +133,11 @@ impl FileSet {
         let mut out = MemorySink::new(alloc);
         shelf.fail_at(failure.fetch)?;
         out.fail_at(failure.put, failure.kept)?;
+        shelf.refuse_at(failure.refused_fetch)?;
+        out.refuse_at(failure.refused_put)?;
         let code = mediate(alloc, words.items(), &mut shelf, &mut out).code();
+        self.asked = shelf.asked().copy(alloc)?;
+        self.puts = out.puts();
         put_bytes(rt, out.written());
         let _ = println!(rt; "status {code}");
         Ok(())

@@ -23,6 +23,8 @@ fn is_setting(word: &str) -> bool {
         "keep",
         "fetch",
         "put",
+        "refuse_fetch",
+        "refuse_put",
         "dataset",
         "fragment",
         "constraint",
@@ -56,6 +58,8 @@ impl Script {
             "keep" => return self.files.keep(alloc, rest),
             "fetch" => self.files.fail_fetch(rest),
             "put" => self.files.fail_put(rest),
+            "refuse_fetch" => self.files.refuse_fetch(rest),
+            "refuse_put" => self.files.refuse_put(rest),
             "dataset" => return put_dataset(alloc, &mut self.files.content, rest),
             "fragment" => return put_fragment(alloc, &mut self.files.content, rest),
             "constraint" => return put_constraint(alloc, &mut self.files.content, rest),
@@ -79,6 +83,7 @@ impl Script {
     ) -> Result<(), Refused> {
         match word {
             "run" => self.files.run(rt, alloc, rest),
+            "asked" => self.files.put_asked(rt),
             "machine" => run_on_machine(rt, alloc, rest),
             "terms" => put_terms(rt, alloc),
             "table" => put_table(rt, alloc, rest),

@@ -3,7 +3,7 @@ ghost use Rattle.std.specs.Prelude.{◌≡◌, ◌<◌, ◌≤◌, ◌^◌, IfOk
 ghost use Rattle.esto_ports.specs.Faults.{Rises};
 ghost use Rattle.esto_top.specs.Answers.{Answers};
 ghost use Rattle.esto_top.specs.Fetch.{without_mark, fetches};
-ghost use Rattle.esto_top.specs.Outcome.{IsSaid, Finishes};
+ghost use Rattle.esto_top.specs.Outcome.{IsSaid, Finishes, PutsOnce};
 
 use crate::line::status_line;
 use crate::status::Status;
@@ -93,6 +93,7 @@ fn said(alloc: Global, answer: Result<Reply, Status>) -> Option<(Status, Bytes)>
 pub fn finish<O: Sink>(alloc: Global, answer: Result<Reply, Status>, out: &mut O) -> Status
     ensures put { Finishes answer (O.written out.old) (O.written out.new)
         (Rises O.faults out.old out.new) result }
+    ensures puts { PutsOnce (O.puts out.old) (O.puts out.new) result }
     ensures later { O.faults out.old ≤ O.faults out.new }
 {
     match said(alloc, answer) {

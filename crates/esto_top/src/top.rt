@@ -6,7 +6,7 @@ ghost use Rattle.esto_top.specs.Determined.{ExactWhereTold};
 ghost use Rattle.esto_top.specs.Grammar.{course_of};
 ghost use Rattle.esto_top.specs.Headline.{ListsWhereTold, RefusesWhereTold};
 ghost use Rattle.esto_top.specs.Runs.{RunsWhereTold};
-ghost use Rattle.esto_top.specs.Outcome.{Mediates, CompleteWhereTold, CausedReadFault, CausedWriteFault};
+ghost use Rattle.esto_top.specs.Outcome.{Mediates, CompleteWhereTold, CausedReadFault, CausedWriteFault, PutsOnce};
 
 use crate::command::{command_of, obey};
 use crate::ending::{Reply, finish};
@@ -81,6 +81,9 @@ pub fn mediate<S: Shelf, O: Sink>(
     ensures write_fault { CausedWriteFault (course_of words.now (S.files shelf.old))
         (Rises S.faults shelf.old shelf.new) (Rises O.faults out.old out.new) (O.written out.old)
         (O.written out.new) result }
+
+    // One text is put by one put, where the sink tells how many there were; where memory is refused, it may be none.
+    ensures puts { PutsOnce (O.puts out.old) (O.puts out.new) result }
 
     // The files stay, and no count falls.
     ensures files { S.files shelf.new ≡ S.files shelf.old }
