@@ -39,7 +39,7 @@ HasFile files fails call name bytes = (fails_at files fails call name ≡ false)
 abbrev pub is_failing : ShelfState → List ℕ → Bool
 is_failing s name = fails_at s.files s.fails (next_count s.calls) name
 
--- Memory is to be wanting at the next call.
+-- The next call is listed to be refused.
 abbrev pub is_refused : ShelfState → Bool
 is_refused s = list_any (λ c. c == next_count s.calls) s.refuses
 
@@ -47,14 +47,16 @@ is_refused s = list_any (λ c. c == next_count s.calls) s.refuses
 abbrev pub after_call : ShelfState → List ℕ → ShelfState
 after_call s name = record s { calls = next_count s.calls; asked = s.asked ++ name ∷ [] }
 
--- Each fetch is one more call, and its name comes to those that were asked for; at want of memory it may not. Failed is one more fault.
+-- Each fetch is one more call, and its name comes to those that were asked for. Failed is one more fault. Where memory is wanting the name may not come, and
+-- if it does, the call is not one that fails.
 abbrev pub AfterFetch : ShelfState → List ℕ → Result (List ℕ) ShelfError → ShelfState → Type 0
 AfterFetch s name (Ok _) new = new ≡ after_call s name
 AfterFetch s name (Err Failed) new = new ≡ record (after_call s name) { faults = next_count s.faults }
 AfterFetch s name (Err (TooLong _)) new = new ≡ after_call s name
-AfterFetch s name (Err OutOfMemory) new = (new ≡ after_call s name) ⊎ (new ≡ record s { calls = next_count s.calls })
+AfterFetch s name (Err OutOfMemory) new = ((is_failing s name ≡ false) × (new ≡ after_call s name)) ⊎ (new ≡ record s { calls = next_count s.calls })
 
--- Failed comes only where the call fails. Else the answer is the file, or that it is too long, and the call is not to be refused. Memory may always be wanting.
+-- Where the call fails Failed comes, also where it is listed to be refused. Else the answer is the file, or that it is too long, and the call is not listed to be
+-- refused. Memory may always be wanting.
 abbrev pub AnswersFetch : ShelfState → List ℕ → ℕ → Result (List ℕ) ShelfError → Type 0
 AnswersFetch s name limit (Ok bytes) =
     (is_failing s name ≡ false) × (is_refused s ≡ false) × (map.get s.files name ≡ Some bytes) × (length bytes ≤ limit)

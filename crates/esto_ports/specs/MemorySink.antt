@@ -1,5 +1,5 @@
 -- A sink in memory.
-use Rattle.std.specs.Prelude.{◌≡◌, ◌==◌, ℕ, Bool, false, List, ◌++◌, take, Option, None, Some, Result, Ok, Err, refl}
+use Rattle.std.specs.Prelude.{◌≡◌, ◌⊎◌, ◌==◌, ℕ, Bool, true, false, List, ◌++◌, take, Option, None, Some, Result, Ok, Err, refl}
 use Rattle.std.specs.List.{list_any}
 use Rattle.std.specs.Ordering.{nat_cmp}
 use Rattle.std.specs.Coded.{Coded, code_by, coded×, coded_ℕ, coded_list}
@@ -29,19 +29,20 @@ sink_code =
 abbrev pub next_kept : SinkState → Option ℕ
 next_kept s = map.get s.fails (next_count s.calls)
 
--- Memory is to be wanting at the next call.
+-- The next call is listed to be refused.
 abbrev pub is_refused : SinkState → Bool
 is_refused s = list_any (λ c. c == next_count s.calls) s.refuses
 
--- Failed comes only where the call fails, and then what it keeps was put. Else all bytes were put, and the call is not to be refused. Each put is one more call,
--- and is counted as a put; where memory is wanting it is not, and does nothing else.
+-- The state after a put of these bytes, which was one more call.
+abbrev pub after_call : SinkState → List ℕ → SinkState
+after_call s bytes = record s { calls = next_count s.calls; puts = next_count s.puts; written = s.written ++ bytes }
+
+-- Where the call fails, Failed comes, also where it is listed to be refused, and what it keeps was put. Else all bytes were put, and the call is not listed to be
+-- refused. Where memory is wanting, nothing was put; a call that is refused by the list alone is not counted as a put.
 abbrev pub AfterPut : SinkState → List ℕ → Result (Unit {0}) SinkError → SinkState → Type 0
-AfterPut s bytes (Ok _) new = (next_kept s ≡ None) × (is_refused s ≡ false)
-    × (new ≡ record s { calls = next_count s.calls; puts = next_count s.puts; written = s.written ++ bytes })
-AfterPut s bytes (Err Failed) new = (kept : ℕ) × (next_kept s ≡ Some kept) × (new ≡ record s {
-  calls = next_count s.calls;
-  faults = next_count s.faults;
-  puts = next_count s.puts;
-  written = s.written ++ take kept bytes;
-})
-AfterPut s bytes (Err OutOfMemory) new = new ≡ record s { calls = next_count s.calls }
+AfterPut s bytes (Ok _) new = (next_kept s ≡ None) × (is_refused s ≡ false) × (new ≡ after_call s bytes)
+AfterPut s bytes (Err Failed) new =
+    (kept : ℕ) × (next_kept s ≡ Some kept) × (new ≡ record (after_call s (take kept bytes)) { faults = next_count s.faults })
+AfterPut s bytes (Err OutOfMemory) new =
+    ((next_kept s ≡ None) × (is_refused s ≡ true) × (new ≡ record s { calls = next_count s.calls }))
+    ⊎ (new ≡ record s { calls = next_count s.calls; puts = next_count s.puts })

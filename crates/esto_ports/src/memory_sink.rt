@@ -141,16 +141,16 @@ impl Sink for MemorySink {
     {
         self.calls = self.calls.saturating_add(1);
         if let Some(kept) = find_kept(self.fails.items(), self.calls) {
+            self.puts = self.puts.saturating_add(1);
             self.written.append(first(bytes, kept))?;
             self.faults = self.faults.saturating_add(1);
-            self.puts = self.puts.saturating_add(1);
             return Err(SinkError::Failed);
         }
         if is_listed(self.refuses.items(), self.calls) {
             return Err(SinkError::OutOfMemory);
         }
-        self.written.append(bytes)?;
         self.puts = self.puts.saturating_add(1);
+        self.written.append(bytes)?;
         Ok(())
     }
 }
