@@ -1,5 +1,6 @@
 pub mod Faults
 pub mod Files
+pub mod Asked
 pub mod Fetch
 pub mod Put
 pub mod MemoryShelf

@@ -88,6 +88,8 @@ impl<'a, R: Files> Shelf for FolderShelf<'a, R> {
 
     ghost faults = { λ s. s };
 
+    ghost asked = { λ _. None };
+
     /// The count rises at Failed alone. At its last value every fetch fails, and the machine isn't asked.
     fn fetch(&mut self, alloc: Global, name: &Text, limit: u64) -> Result<Bytes, ShelfError>
         requires { limit < 2 ^ 32 }

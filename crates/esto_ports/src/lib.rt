@@ -2,6 +2,7 @@
 //! shelf and sink are exact; over the machine only the count of faults is known.
 #![tactic(auto)]
 
+mod calls;
 mod file_fault;
 mod folder_shelf;
 mod memory_shelf;

@@ -48,6 +48,8 @@ impl<'a, R: Print> Sink for OutSink<'a, R> {
 
     ghost faults = { λ s. s };
 
+    ghost puts = { λ _. None };
+
     /// The count rises at Failed alone. At its last value every put fails, and the machine isn't asked.
     fn put(&mut self, bytes: &[u8]) -> Result<(), SinkError>
         ensures answer { Puts None None self.old self.new bytes.now result }

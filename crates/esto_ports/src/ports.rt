@@ -1,5 +1,6 @@
 //! Where files are fetched from and text is put, and why that fails.
 ghost use Rattle.std.specs.Prelude.{◌≡◌, ◌<◌, ◌≤◌, ◌^◌, List, ℕ, Option};
+ghost use Rattle.esto_ports.specs.Asked.{Asks, CountsOne};
 ghost use Rattle.esto_ports.specs.Files.{Files};
 ghost use Rattle.esto_ports.specs.Fetch.{Fetches};
 ghost use Rattle.esto_ports.specs.Put.{Puts};
@@ -57,14 +58,19 @@ pub trait Shelf {
     /// How many fetches were at a fault. The count stays at 2^64 - 1.
     ghost faults: { Self → ℕ };
 
+    /// The names that were asked for, in order, where the shelf tells them.
+    ghost asked: { Self → Option (List (List ℕ)) };
+
     /// The bytes of the file of that name, which are at most `limit`. Failed comes only where the count of
     /// faults rose. Where the files are told, TooLong comes exactly where the fetch isn't at a fault and the
-    /// file is longer than `limit`; want of memory aside.
+    /// file is longer than `limit`; want of memory aside. The name comes to those that were asked for, where they
+    /// are told; at OutOfMemory it may not.
     fn fetch(&mut self, alloc: Global, name: &Text, limit: u64) -> Result<Bytes, ShelfError>
         requires { limit < 2 ^ 32 }
         ensures answer { Fetches (files self.old) name.now limit
             (faults self.old) (faults self.new) result }
         ensures files { files self.new ≡ files self.old }
+        ensures asked { Asks (asked self.old) (asked self.new) name.now result }
         ensures later { faults self.old ≤ faults self.new };
 }
 
@@ -76,10 +82,14 @@ pub trait Sink {
     /// How many puts were at a fault. The count stays at 2^64 - 1.
     ghost faults: { Self → ℕ };
 
+    /// How many puts there were, where the sink tells it. The count stays at 2^64 - 1.
+    ghost puts: { Self → Option ℕ };
+
     /// Puts the bytes at the end of what was written. Failed comes only where the count of faults rose, and
-    /// a prefix of the bytes was put. At OutOfMemory nothing was.
+    /// a prefix of the bytes was put. At OutOfMemory nothing was, and the put may not be counted.
     fn put(&mut self, bytes: &[u8]) -> Result<(), SinkError>
         ensures answer { Puts (written self.old) (written self.new)
             (faults self.old) (faults self.new) bytes.now result }
+        ensures puts { CountsOne (puts self.old) (puts self.new) result }
         ensures later { faults self.old ≤ faults self.new };
 }
