@@ -55,13 +55,14 @@ equalities_at claims (number ∷ numbers) = with_item (equality_of (numbered cla
 
 -- The claims of the numbers `facts` state the chosen facts, and those of `links` the equalities; the facts match the body where terms that these equalities
 -- link count as one.
-pub record Matches (claims : List Claim) (body : List (Fact Term)) (facts links : List ℕ) (chosen : List (Fact Term)) (equalities : List Equality) : Type 0 where
+pub record Matches (claims : List Claim) (body : List (Fact Term)) (facts links : List ℕ) (chosen : List (Fact Term))
+    (equalities : List Equality) : Type 0 where
   pub stated : facts_at claims facts ≡ Some chosen
   pub named : equalities_at claims links ≡ Some equalities
   pub fits : IsMatch (IsAmong chosen equalities) body chosen
 
--- What the rule of that number makes at a place: a tuple rule the fact of the head's atom of that number, counted from 1, an equality rule, at 0, that its sides
--- are one, and a denial nothing.
+-- What the rule of that number makes at a place: a tuple rule the fact of the head's atom of that number, counted from 1, an equality rule, at 0, that its
+-- sides are one, and a denial nothing.
 abbrev pub made_at : ℕ → ℕ → Rule → (Term → Term) → Option Claim
 made_at place number (tuple body head) m = option_map (λ atom. Stated (image (extended number body head m) atom)) (numbered head place)
 made_at place number (equality body left right) m = cond (place == 0) (Some (Same (m left) (m right))) None
@@ -71,8 +72,8 @@ made_at place number (denial body) m = None
 abbrev pub IsNamed : List Bool → ℕ → ℕ → ExpandedFact → Type 0
 IsNamed set atom place fact = (atom ≡ fact.atom + 1) × (place ≡ fact.place + 1) × Has set fact.atom
 
--- After lines with these claims, a line may make the claim: it is the expanded fact of an atom of the set at a place, both counted from 1; or what a rule makes at
--- a match among the named lines.
+-- After lines with these claims, a line may make the claim: it is the expanded fact of an atom of the set at a place, both counted from 1; or what a rule
+-- makes at a match among the named lines.
 abbrev pub MayClaim : Case → List Claim → Line → Claim → Type 0
 MayClaim case claims (Expanded atom place) claim =
     (fact : ExpandedFact) × Contains case.expanded fact × IsNamed case.set atom place fact × (claim ≡ Stated fact.fact)

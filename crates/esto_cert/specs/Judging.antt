@@ -23,7 +23,13 @@ use Rattle.esto_cert.specs.declared.check.CertError.TheVariants.{Rejected, OutOf
 -- The case without references and names.
 abbrev pub case_of : Given → Case
 case_of given =
-    record { expanded = given.expanded.now; set = given.set.now; rules = rules_of given.rules.now; query = query_of given.query.now; targets = given.targets.now }
+    record {
+      expanded = given.expanded.now;
+      set = given.set.now;
+      rules = rules_of given.rules.now;
+      query = query_of given.query.now;
+      targets = given.targets.now;
+    }
 
 -- Each expanded fact is of an atom that has a place in the set.
 abbrev pub AreNumbersOf : List Bool → List ExpandedFact → Type 0

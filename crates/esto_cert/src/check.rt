@@ -72,8 +72,7 @@ fn verdict(alloc: Global, case: &Case<'_>, parts: &[&[u8]]) -> Result<Option<u64
 }
 
 /// Checks a certificate for a set of a plan's atoms: the first line that does not follow from those before it, or that is
-/// no line, is the one at which it is rejected. What is accepted shows that the set is safe and that its candidate is
-/// contained in the query.
+/// no line, is the one at which it is rejected.
 pub fn check_certificate(
     alloc: Global,
     bytes: &[u8],

@@ -1,7 +1,8 @@
 //! Reading the lines of a certificate.
 ghost use Rattle.std.specs.Prelude.{◌≡◌, ◌==◌, ◌∷◌, [], length, map, IfOk};
 ghost use Rattle.std.specs.List.{slice_split};
-ghost use Rattle.esto_cert.specs.Lines.{number_after, number_of, numbers_of, list_of, links_of, is_word, expanded_of, match_of, step_of, line_of_words, line_of};
+ghost use Rattle.esto_cert.specs.Lines.{number_after, number_of, numbers_of, list_of, links_of, is_word};
+ghost use Rattle.esto_cert.specs.Lines.{expanded_of, match_of, step_of, line_of_words, line_of};
 
 use crate::line::{Line, Numbers};
 use esto_term::{OutOfMemory, Values};
