@@ -1,0 +1,104 @@
+-- Matches that are found are those that there are.
+use Rattle.std.proofs.Common.{◌≡◌, ℕ, List, [], ◌∷◌, map, Some, Contains, subst, sym, ap, ◌∙◌}
+use Rattle.std.specs.List.{AllZip}
+use Rattle.esto_term.proofs.ListLemmas.{Contains-head, Contains-rest}
+use Rattle.esto_term.specs.declared.term.Term.{Term}
+use Rattle.esto_semantics.specs.Facts.{terms_of}
+use Rattle.esto_semantics.specs.declared.fact.Fact.{Fact}
+use Rattle.esto_world_laws.specs.Worlds.{Linked}
+use Rattle.esto_world_laws.specs.Matches.{taken, AreChosen, IsMatch}
+use Rattle.esto_world_laws.specs.declared.entry.Claim.{Claim}
+use Rattle.esto_world_laws.specs.declared.entry.Claim.TheVariants.{Fact as Stated}
+use Rattle.esto_cert.specs.Certificates.{facts_at, equalities_at, Matches}
+use Rattle.esto_cert.specs.Linking.{IsAmong, Tells, StandsAsOne}
+use Rattle.esto_cert.specs.Matching.{IsLike, Fits}
+use Rattle.esto_cert.specs.declared.linking.Equality.{Equality}
+
+pub zip_weaker : {A B : Type 0} {P Q : A → B → Type 0} → ((x : A) (y : B) → P x y → Q x y) → (xs : List A) (ys : List B) → AllZip P xs ys → AllZip Q xs ys
+zip_weaker weaker [] [] all = all
+zip_weaker weaker [] (y ∷ ys) all = absurd all
+zip_weaker weaker (x ∷ xs) [] all = absurd all
+zip_weaker weaker (x ∷ xs) (y ∷ ys) all = (weaker x y all.0, zip_weaker weaker xs ys all.1)
+
+pub some_one : {A : Type 0} {one other : A} → Some one ≡ Some other → one ≡ other
+some_one same = cc
+
+are_chosen : (Holds : Claim → Type 0) (body chosen : List (Fact Term)) → ((fact : Fact Term) → Contains chosen fact → Holds (Stated fact))
+    → AllZip IsLike body chosen → AreChosen Holds body chosen
+are_chosen Holds [] [] holds all = all
+are_chosen Holds [] (fact ∷ chosen) holds all = absurd all
+are_chosen Holds (atom ∷ body) [] holds all = absurd all
+are_chosen Holds (atom ∷ body) (fact ∷ chosen) holds all = (
+  (holds fact (Contains-head fact chosen), all.0.0, all.0.1),
+  are_chosen Holds body chosen (λ other inside. holds other (Contains-rest fact chosen other inside)) all.1,
+)
+
+are_like : (Holds : Claim → Type 0) (body chosen : List (Fact Term)) → AreChosen Holds body chosen → AllZip IsLike body chosen
+are_like Holds [] [] all = all
+are_like Holds [] (fact ∷ chosen) all = absurd all
+are_like Holds (atom ∷ body) [] all = absurd all
+are_like Holds (atom ∷ body) (fact ∷ chosen) all = ((all.0.1, all.0.2), are_like Holds body chosen all.1)
+
+module _ (claims : List Claim) (body : List (Fact Term)) (facts links : List ℕ) (chosen : List (Fact Term)) (equalities renamings : List Equality)
+    (from to : List Term) (stated : facts_at claims facts ≡ Some chosen) (named : equalities_at claims links ≡ Some equalities)
+    (tells : (others : List (Fact Term)) → Tells renamings (IsAmong others equalities)) (from_is : from ≡ terms_of body) (to_is : to ≡ terms_of chosen) where
+  one_of : (term other : Term) → StandsAsOne renamings term other → Linked (IsAmong chosen equalities) term other
+  one_of term other same = (tells chosen term other).1 same
+
+  of_one : (term other : Term) → Linked (IsAmong chosen equalities) term other → StandsAsOne renamings term other
+  of_one term other linked = (tells chosen term other).0 linked
+
+  at_terms : AllZip (StandsAsOne renamings) to (map (taken from to) from)
+      → AllZip (StandsAsOne renamings) (terms_of chosen) (map (taken (terms_of body) (terms_of chosen)) (terms_of body))
+  at_terms all = subst (λ (it : List Term). AllZip (StandsAsOne renamings) it (map (taken (terms_of body) it) (terms_of body))) to_is
+      (subst (λ (it : List Term). AllZip (StandsAsOne renamings) to (map (taken it to) it)) from_is all)
+
+  of_terms : AllZip (StandsAsOne renamings) (terms_of chosen) (map (taken (terms_of body) (terms_of chosen)) (terms_of body))
+      → AllZip (StandsAsOne renamings) to (map (taken from to) from)
+  of_terms all = subst (λ (it : List Term). AllZip (StandsAsOne renamings) to (map (taken it to) it)) (sym from_is)
+      (subst (λ (it : List Term). AllZip (StandsAsOne renamings) it (map (taken (terms_of body) it) (terms_of body))) (sym to_is) all)
+
+  pub match_there : Fits (StandsAsOne renamings) body chosen from to → Matches claims body facts links chosen equalities
+  match_there fits = record {
+    stated = stated;
+    named = named;
+    fits = (are_chosen (IsAmong chosen equalities) body chosen (λ fact inside. inside) fits.0, zip_weaker one_of _ _ (at_terms fits.1));
+  }
+
+  fits_of : IsMatch (IsAmong chosen equalities) body chosen → Fits (StandsAsOne renamings) body chosen from to
+  fits_of is = (are_like (IsAmong chosen equalities) body chosen is.0, of_terms (zip_weaker of_one _ _ is.1))
+
+  pub no_match : ¬ (Fits (StandsAsOne renamings) body chosen from to) → (other : List (Fact Term)) (others : List Equality)
+      → ¬ (Matches claims body facts links other others)
+  no_match wrong other others it =
+      let same : other ≡ chosen = some_one (sym it.stated ∙ stated) in
+      let same_too : others ≡ equalities = some_one (sym it.named ∙ named) in
+      wrong (fits_of (subst (λ (facts_too : List (Fact Term)). IsMatch (IsAmong facts_too equalities) body facts_too) same
+      (subst (λ (them : List Equality). IsMatch (IsAmong other them) body other) same_too it.fits)))
+
+-- ---- the match that is found
+
+module _ (claims : List Claim) (body : List (Fact Term)) (facts links : List ℕ) (chosen shown : List (Fact Term)) (equalities them renamings : List Equality)
+    (from to : List Term) (stated : facts_at claims facts ≡ Some chosen) (named : equalities_at claims links ≡ Some equalities)
+    (shown_is : shown ≡ chosen) (them_is : them ≡ equalities) (tells : (others : List (Fact Term)) → Tells renamings (IsAmong others them))
+    (from_is : from ≡ terms_of body) (to_is : to ≡ terms_of shown) where
+  all_told : (others : List (Fact Term)) → Tells renamings (IsAmong others equalities)
+  all_told = subst (λ (it : List Equality). (others : List (Fact Term)) → Tells renamings (IsAmong others it)) them_is tells
+
+  to_chosen : to ≡ terms_of chosen
+  to_chosen = to_is ∙ ap terms_of shown_is
+
+  pub found_there : Fits (StandsAsOne renamings) body chosen from to
+      → (its : List Equality) × Matches claims body facts links chosen its × Tells renamings (IsAmong chosen its) × (from ≡ terms_of body)
+      × (to ≡ terms_of chosen)
+  found_there fits = (
+    equalities,
+    match_there claims body facts links chosen equalities renamings from to stated named all_told from_is to_chosen fits,
+    all_told chosen,
+    from_is,
+    to_chosen,
+  )
+
+  pub none_there : ¬ (Fits (StandsAsOne renamings) body chosen from to) → (other : List (Fact Term)) (others : List Equality)
+      → ¬ (Matches claims body facts links other others)
+  none_there = no_match claims body facts links chosen equalities renamings from to stated named all_told from_is to_chosen

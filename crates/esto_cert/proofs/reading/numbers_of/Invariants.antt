@@ -1,0 +1,7 @@
+use Rattle.std.proofs.Common.{◌≡◌, drop, map}
+use Rattle.esto_cert.specs.Lines.{numbers_of}
+use Rattle.esto_cert.proofs.ReadLemmas.{after}
+use Rattle.esto_cert.proofs.reading.numbers_of.Given as goal
+
+abbrev pub invariant-parts : goal.invariant-parts
+invariant-parts l = after l.numbers (numbers_of (map (λ part. part.now) (drop l.part-index l.parts))) ≡ numbers_of (map (λ part. part.now) l.parts)

@@ -1,0 +1,104 @@
+//! Checking certificates.
+ghost use Rattle.std.specs.Prelude.{◌≡◌, ◌<◌, [], length, map, IfOk};
+ghost use Rattle.esto_views.specs.Plans.{IsPlanOver};
+ghost use Rattle.esto_cert.specs.Judging.{after_end, case_of, AreNumbersOf, Verdict, DecidesFor, Answers};
+ghost use Rattle.esto_cert.specs.declared.check.CertError.TheVariants as error;
+
+use crate::judging::{Case, Judged};
+use crate::reading::lines_and_rest;
+use esto_bits::RowBits;
+use esto_constraint::Rules;
+use esto_query::Query;
+use esto_term::{List, OutOfMemory};
+use esto_views::{FragmentDefs, Plan, expand};
+use std::alloc::Global;
+use thiserror::Error;
+
+/// Why a certificate is not accepted.
+#[derive(Debug, Drop, Error)]
+pub enum CertError {
+    /// The line of that number, counted from 1, is the first that is not so.
+    #[error("line {0} does not follow")]
+    Rejected(u64),
+    #[error("out of memory")]
+    OutOfMemory,
+}
+
+impl From<OutOfMemory> for CertError {
+    ghost from_gives = { λ _ e. e ≡ error.OutOfMemory };
+
+    fn from(_: OutOfMemory) -> CertError {
+        CertError::OutOfMemory
+    }
+}
+
+/// The number of the first line that is not so where the line of that number may be the last.
+fn after_end(number: u64, rest: &[&[u8]]) -> Option<u64>
+    requires { number < 18446744073709551615 }
+    ensures { result ≡ after_end number (map (λ part. part.now) rest.now) }
+{
+    match rest {
+        [last] => {
+            if last.is_empty() {
+                None
+            } else {
+                Some(number + 1)
+            }
+        }
+        _ => Some(number + 1),
+    }
+}
+
+/// The number of the first line that is not so, if there is one.
+fn verdict(alloc: Global, case: &Case<'_>, parts: &[&[u8]]) -> Result<Option<u64>, OutOfMemory>
+    requires { AreNumbersOf case.now.set.now case.now.expanded.now }
+    ensures { IfOk result
+        (Verdict (case_of case.now) [] 1 (map (λ part. part.now) parts.now)) }
+{
+    let mut claims = List::new(alloc);
+    'lines: for place in 0..parts.len() {
+        let number = place as u64 + 1;
+        if place + 1 == parts.len() {
+            return Ok(Some(number));
+        }
+        let part = &parts[place];
+        match case.judge_text(alloc, claims.items(), part)? {
+            Judged::Claims(claim) => claims.push(claim)?,
+            Judged::Ends => return Ok(after_end(number, &parts[place + 1..])),
+            Judged::Refused => return Ok(Some(number)),
+        }
+    }
+    Ok(Some(1))
+}
+
+/// Checks a certificate for a set of a plan's atoms: the first line that does not follow from those before it, or that is
+/// no line, is the one at which it is rejected.
+pub fn check_certificate(
+    alloc: Global,
+    bytes: &[u8],
+    set: &RowBits,
+    plan: &Plan,
+    query: &Query,
+    fragments: &FragmentDefs,
+    rules: &Rules,
+) -> Result<(), CertError>
+    requires over { IsPlanOver plan.now fragments.now }
+    requires count { length set.now ≡ length plan.now.atoms }
+    requires same_length { length plan.now.head ≡ length query.now.head }
+    ensures exact { Answers (DecidesFor plan.now fragments.now set.now rules.now
+        query.now bytes.now) result }
+{
+    let expanded = expand(alloc, plan, fragments)?;
+    let parts = lines_and_rest(alloc, bytes)?;
+    let case = Case {
+        expanded: expanded.items(),
+        set,
+        rules: rules.items(),
+        query,
+        targets: plan.head.items(),
+    };
+    match verdict(alloc, &case, parts.as_slice())? {
+        Some(line) => Err(CertError::Rejected(line)),
+        None => Ok(()),
+    }
+}

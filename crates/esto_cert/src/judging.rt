@@ -1,0 +1,233 @@
+//! What a line may claim after others, and which line may be the last.
+ghost use Rattle.std.specs.Prelude.{◌≡◌, ◌↔◌, ◌<◌, List, length, IsTrue, IfOk};
+ghost use Rattle.esto_constraint.specs.Constraints.{rule_of};
+ghost use Rattle.esto_semantics.specs.Facts.{terms_of};
+ghost use Rattle.esto_semantics.specs.Rules.{tuple, equality, body_of};
+ghost use Rattle.esto_world_laws.specs.Matches.{taken};
+ghost use Rattle.esto_world_laws.specs.declared.entry.Claim.{Claim};
+ghost use Rattle.esto_cert.specs.Certificates.{made_at, IsNamed};
+ghost use Rattle.esto_cert.specs.Judging.{case_of, AreNumbersOf, IsJudged, IsJudgedText};
+ghost use Rattle.esto_cert.specs.Lines.{line_of};
+ghost use Rattle.esto_cert.specs.declared.line.Line.TheVariants.{Expanded, Step, Match};
+
+use crate::line::Line;
+use crate::linking::stand_as_one;
+use crate::matching::{Found, find_match};
+use crate::naming::numbered;
+use crate::reading::read_line;
+use crate::taking::{made_fact, taken_term, taken_terms};
+use esto_bits::RowBits;
+use esto_chase::frontier_of;
+use esto_constraint::{Constraint, Egd, Tgd};
+use esto_query::Query;
+use esto_semantics::Atom;
+use esto_term::{OutOfMemory, Replicate, Term};
+use esto_views::ExpandedFact;
+use esto_world_laws::Claim;
+use std::alloc::Global;
+
+/// What is judged of a line.
+#[derive(Debug, Drop)]
+pub enum Judged {
+    /// It may make the claim.
+    Claims(Claim),
+    /// It may be the last.
+    Ends,
+    /// It may do neither.
+    Refused,
+}
+
+/// The body of a rule.
+fn body_of(rule: &Constraint) -> &[Atom]
+    ensures { result.now ≡ body_of (rule_of rule.now) }
+{
+    match rule {
+        Constraint::Tuple(tuple) => tuple.body.items(),
+        Constraint::Equal(equality) => equality.body.items(),
+        Constraint::Never(denial) => denial.body.items(),
+    }
+}
+
+/// The fact that a tuple rule makes at a place of its head.
+fn made_of_tuple(
+    alloc: Global,
+    place: u64,
+    number: usize,
+    rule: &Tgd,
+    found: &Found,
+) -> Result<Option<Claim>, OutOfMemory>
+    requires { found.now.from ≡ terms_of rule.now.body }
+    ensures { IfOk result (λ it. it ≡ made_at place number (tuple rule.now.body rule.now.head)
+        (taken found.now.from found.now.to)) }
+{
+    let Some(atom) = numbered(rule.head.items(), place) else {
+        return Ok(None);
+    };
+    let from = found.from.items();
+    let to = found.to.items();
+    let shared = frontier_of(alloc, rule.body.items(), rule.head.items())?;
+    let values = taken_terms(alloc, from, to, shared.items())?;
+    let fact = made_fact(alloc, number, from, to, &values, atom)?;
+    Ok(Some(Claim::Fact(fact)))
+}
+
+/// The equality that an equality rule makes.
+fn made_of_equality(
+    alloc: Global,
+    place: u64,
+    number: usize,
+    rule: &Egd,
+    found: &Found,
+) -> Result<Option<Claim>, OutOfMemory>
+    ensures { IfOk result (λ it. it ≡ made_at place number
+        (equality rule.now.body rule.now.left rule.now.right)
+        (taken found.now.from found.now.to)) }
+{
+    if place != 0 {
+        return Ok(None);
+    }
+    let from = found.from.items();
+    let to = found.to.items();
+    let left = taken_term(from, to, &rule.left).copy(alloc)?;
+    let right = taken_term(from, to, &rule.right).copy(alloc)?;
+    Ok(Some(Claim::Same(left, right)))
+}
+
+/// What the rule makes at a place.
+fn made_at(
+    alloc: Global,
+    place: u64,
+    number: usize,
+    rule: &Constraint,
+    found: &Found,
+) -> Result<Option<Claim>, OutOfMemory>
+    requires { found.now.from ≡ terms_of (body_of (rule_of rule.now)) }
+    ensures { IfOk result (λ it. it ≡ made_at place number (rule_of rule.now)
+        (taken found.now.from found.now.to)) }
+{
+    match rule {
+        Constraint::Tuple(tuple) => made_of_tuple(alloc, place, number, tuple, found),
+        Constraint::Equal(equality) => made_of_equality(alloc, place, number, equality, found),
+        Constraint::Never(_) => Ok(None),
+    }
+}
+
+/// What a certificate is for: the expanded facts of a plan, a set of its atoms, the rules, the query, and the plan's head.
+#[derive(Clone, Copy)]
+pub struct Case<'a> {
+    pub expanded: &'a [ExpandedFact],
+    pub set: &'a RowBits,
+    pub rules: &'a [Constraint],
+    pub query: &'a Query,
+    pub targets: &'a [Term],
+}
+
+impl Case<'_> {
+    /// Whether the fact is that of the atom at the place, both counted from 1, and the set has the atom.
+    fn is_named(&self, atom: u64, place: u64, fact: &ExpandedFact) -> bool
+        requires { fact.now.atom < length self.now.set.now }
+        ensures { IsTrue result ↔ IsNamed self.now.set.now atom place fact.now }
+    {
+        if atom == 0 || place == 0 {
+            return false;
+        }
+        if fact.atom as u64 != atom - 1 || fact.place as u64 != place - 1 {
+            return false;
+        }
+        self.set.has(fact.atom)
+    }
+
+    /// Judges the line of an expanded fact.
+    fn judge_expanded(&self, alloc: Global, atom: u64, place: u64) -> Result<Judged, OutOfMemory>
+        requires { AreNumbersOf self.now.set.now self.now.expanded.now }
+        ensures { IfOk result (λ judged. (claims : List Claim)
+            → IsJudged (case_of self.now) claims (Expanded atom place) judged) }
+    {
+        'facts: for fact in self.expanded {
+            if self.is_named(atom, place, fact) {
+                let claimed = fact.fact.copy(alloc)?;
+                return Ok(Judged::Claims(Claim::Fact(claimed)));
+            }
+        }
+        Ok(Judged::Refused)
+    }
+
+    /// Judges the line of a step.
+    fn judge_step(
+        &self,
+        alloc: Global,
+        claims: &[Claim],
+        number: u64,
+        place: u64,
+        facts: &[u64],
+        links: &[u64],
+    ) -> Result<Judged, OutOfMemory>
+        ensures { IfOk result
+            (IsJudged (case_of self.now) claims.now (Step number place facts.now links.now)) }
+    {
+        let Some(rule) = numbered(self.rules, number) else {
+            return Ok(Judged::Refused);
+        };
+        let Some(it) = find_match(alloc, claims, body_of(rule), facts, links)? else {
+            return Ok(Judged::Refused);
+        };
+        match made_at(alloc, place, (number - 1) as usize, rule, &it)? {
+            Some(claim) => Ok(Judged::Claims(claim)),
+            None => Ok(Judged::Refused),
+        }
+    }
+
+    /// Judges the line of a match.
+    fn judge_match(
+        &self,
+        alloc: Global,
+        claims: &[Claim],
+        facts: &[u64],
+        links: &[u64],
+    ) -> Result<Judged, OutOfMemory>
+        ensures { IfOk result (IsJudged (case_of self.now) claims.now (Match facts.now links.now)) }
+    {
+        let body = self.query.body.items();
+        let Some(it) = find_match(alloc, claims, body, facts, links)? else {
+            return Ok(Judged::Refused);
+        };
+        let head = self.query.head.items();
+        let met = taken_terms(alloc, it.from.items(), it.to.items(), head)?;
+        if stand_as_one(it.renamings.items(), self.targets, met.items()) {
+            return Ok(Judged::Ends);
+        }
+        Ok(Judged::Refused)
+    }
+
+    /// Judges a line.
+    fn judge(&self, alloc: Global, claims: &[Claim], line: &Line) -> Result<Judged, OutOfMemory>
+        requires { AreNumbersOf self.now.set.now self.now.expanded.now }
+        ensures { IfOk result (IsJudged (case_of self.now) claims.now line.now) }
+    {
+        match line {
+            Line::Expanded(atom, place) => self.judge_expanded(alloc, *atom, *place),
+            Line::Step(number, place, facts, links) => {
+                self.judge_step(alloc, claims, *number, *place, facts.items(), links.items())
+            }
+            Line::Match(facts, links) => {
+                self.judge_match(alloc, claims, facts.items(), links.items())
+            }
+        }
+    }
+
+    /// Judges what the bytes of a line say, and refuses bytes that say nothing.
+    pub fn judge_text(
+        &self,
+        alloc: Global,
+        claims: &[Claim],
+        bytes: &[u8],
+    ) -> Result<Judged, OutOfMemory>
+        requires { AreNumbersOf self.now.set.now self.now.expanded.now }
+        ensures { IfOk result (IsJudgedText (case_of self.now) claims.now (line_of bytes.now)) }
+    {
+        match read_line(alloc, bytes)? {
+            Some(line) => self.judge(alloc, claims, &line),
+            None => Ok(Judged::Refused),
+        }
+    }
+}

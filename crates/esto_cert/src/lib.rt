@@ -1,0 +1,15 @@
+//! Certificates: lines that derive, from the expanded facts of some of a plan's atoms, a match of a query whose head is
+//! the plan's. A checker decides exactly which line is the first that does not follow.
+#![tactic(auto)]
+
+mod check;
+mod judging;
+mod line;
+mod linking;
+mod matching;
+mod naming;
+mod reading;
+mod taking;
+
+pub use check::{CertError, check_certificate};
+pub use line::{Line, Numbers};

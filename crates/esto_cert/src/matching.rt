@@ -1,0 +1,84 @@
+//! Matches of a body in what lines claim.
+ghost use Rattle.std.specs.Prelude.{◌≡◌, ◌↔◌, map, IsTrue, IfOk};
+ghost use Rattle.std.specs.List.{AllZip};
+ghost use Rattle.esto_cert.specs.Linking.{StandsAsOne, Tells, IsAmong};
+ghost use Rattle.esto_cert.specs.Matching.{IsLike, IsFound, Fits};
+
+use crate::linking::{Equalities, renamings_of, stand_as_one};
+use crate::naming::{equalities_at, facts_at};
+use crate::taking::{taken_terms, terms_of};
+use esto_semantics::{Atom, Atoms};
+use esto_term::{OutOfMemory, Terms};
+use esto_world_laws::Claim;
+use std::alloc::Global;
+
+/// A match: the chosen facts, the terms of the body and of the facts, and renamings that tell which terms are linked.
+#[derive(Debug, Drop)]
+pub struct Found {
+    pub chosen: Atoms,
+    pub from: Terms,
+    pub to: Terms,
+    pub renamings: Equalities,
+}
+
+/// Whether the fact has the atom's relation and length.
+fn is_like(atom: &Atom, fact: &Atom) -> bool
+    ensures { IsTrue result ↔ IsLike atom.now fact.now }
+{
+    fact.relation == atom.relation && fact.terms.len() == atom.terms.len()
+}
+
+/// Whether there is for each atom a fact of its relation and length.
+fn are_like(body: &[Atom], chosen: &[Atom]) -> bool
+    ensures { IsTrue result ↔ AllZip IsLike body.now chosen.now }
+{
+    if body.len() != chosen.len() {
+        return false;
+    }
+    'atoms: for place in 0..body.len() {
+        if !is_like(&body[place], &chosen[place]) {
+            return false;
+        }
+    }
+    true
+}
+
+/// Whether the facts match the body, where linked terms count as one.
+fn fits(alloc: Global, body: &[Atom], it: &Found) -> Result<bool, OutOfMemory>
+    ensures { IfOk result (λ answer. IsTrue answer
+        ↔ Fits (StandsAsOne it.now.renamings) body.now it.now.chosen it.now.from it.now.to) }
+{
+    if !are_like(body, it.chosen.items()) {
+        return Ok(false);
+    }
+    let met = taken_terms(alloc, it.from.items(), it.to.items(), it.from.items())?;
+    Ok(stand_as_one(it.renamings.items(), it.to.items(), met.items()))
+}
+
+/// The match of the body by the facts and the equalities that the claims of these numbers state, if it is one.
+pub fn find_match(
+    alloc: Global,
+    claims: &[Claim],
+    body: &[Atom],
+    facts: &[u64],
+    links: &[u64],
+) -> Result<Option<Found>, OutOfMemory>
+    ensures { IfOk result (IsFound claims.now body.now facts.now links.now) }
+{
+    let Some(chosen) = facts_at(alloc, claims, facts)? else {
+        return Ok(None);
+    };
+    let Some(equalities) = equalities_at(alloc, claims, links)? else {
+        return Ok(None);
+    };
+    let it = Found {
+        from: terms_of(alloc, body)?,
+        to: terms_of(alloc, chosen.items())?,
+        renamings: renamings_of(alloc, equalities.items())?,
+        chosen,
+    };
+    if fits(alloc, body, &it)? {
+        return Ok(Some(it));
+    }
+    Ok(None)
+}
