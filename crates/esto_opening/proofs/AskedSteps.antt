@@ -2,13 +2,13 @@
 use Rattle.std.proofs.Common.{◌≡◌, ◌⊎◌, ℕ, List, [], ◌∷◌, ◌++◌, Option, Some, None, Result, Ok, Err, inl, inr, refl, sym, ap, subst, ◌∙◌, append-nil}
 use Rattle.std.specs.Result.{IsErrAnd}
 use Rattle.std.proofs.lemmas.List.{append_assoc}
-use Rattle.esto_course.specs.Course.{Course, Names, Point, IsQuiet, and_then}
+use Rattle.esto_course.specs.Course.{Course, Names, IsQuiet, and_then}
 use Rattle.esto_course.specs.Course.Point.{went, stopped, underway}
 use Rattle.esto_course.specs.Course.Stops.{is_free, refused}
 use Rattle.esto_course.proofs.Asking.{first_stop_asks, first_way_asks, then_asks, quiet_judges, quiet_gives, quiet_refuses, quiet_demands, quiet_then}
 use Rattle.esto_ports.specs.Asked.{Asks, AsksFor}
 use Rattle.esto_ports.specs.declared.ports.ShelfError.TheVariants as shelf
-use Rattle.esto_opening.specs.Answers.{Answers, IsCaused, IsWant}
+use Rattle.esto_opening.specs.Answers.{Answers, IsWant}
 use Rattle.esto_opening.specs.Fetch.{FetchStops, fetches}
 use Rattle.esto_opening.specs.Fetch.FetchStops.{fails, is_longer}
 use Rattle.esto_ports.specs.Files.{Files}

@@ -1,5 +1,5 @@
 -- The files of the fragments that a set uses, opened one after the other.
-use Rattle.std.proofs.Common.{◌≡◌, ◌≢◌, ◌↔◌, ◌<◌, ◌≤◌, ◌+◌, ◌==◌, ℕ, suc, true, false, cond, List, [], ◌∷◌, ◌++◌, take, drop, length, get_or, drop-cons, add-one, Contains, slice_get, Option, Some, None, Result, Ok, Err, refl, sym, ap, subst, ◌∙◌, arith, inl, inr, append-nil}
+use Rattle.std.proofs.Common.{◌≡◌, ◌≢◌, ◌↔◌, ◌<◌, ◌≤◌, ◌+◌, ◌==◌, ℕ, suc, true, false, List, [], ◌∷◌, ◌++◌, take, drop, length, get_or, drop-cons, add-one, Contains, slice_get, Option, Some, None, Result, Ok, Err, refl, sym, ap, subst, ◌∙◌, arith, append-nil}
 use Rattle.std.proofs.lemmas.Bool.Decides.{nat_tests}
 use Rattle.std.specs.Prelude.{IfSome}
 use Rattle.std.specs.List.{AllPairs}
@@ -10,7 +10,7 @@ use Rattle.std.proofs.lemmas.Option.{same_Some}
 use Rattle.esto_catalog.specs.declared.catalogue.Catalogue.{Catalogue}
 use Rattle.esto_catalog.specs.declared.catalogue.Store.{Store}
 use Rattle.esto_course.specs.Course.{Course, Stops, judges, gives, and_then, each}
-use Rattle.esto_course.specs.Course.Stops.{is_free, refused}
+use Rattle.esto_course.specs.Course.Stops.{refused}
 use Rattle.esto_course.proofs.Steps.{Leads, first_stops, then_stops, then_goes, gives_goes, caused_more, each_next, each_stops, each_goes}
 use Rattle.esto_lines.specs.Faults.{Gives}
 use Rattle.esto_ports.specs.Files.{Files}
@@ -19,18 +19,17 @@ use Rattle.esto_ports.specs.declared.file_fault.FileError.TheVariants.{Fault}
 use Rattle.esto_ports.specs.declared.file_fault.FileFault.{FileFault}
 use Rattle.esto_plan.specs.Rows.{IsRowOf, held_by}
 use Rattle.esto_run.specs.Opened.{Held, AreOpened, AreRowsFor, rows_held}
-use Rattle.esto_run.specs.Stores.{IsFileRow, IsRowIn, first_fault_in}
-use Rattle.esto_semantics.specs.declared.fact.Fact.{Fact}
+use Rattle.esto_run.specs.Stores.{IsRowIn, first_fault_in}
 use Rattle.esto_stores.specs.Rows.{Row}
 use Rattle.esto_term.proofs.DistinctLemmas.{outside}
 use Rattle.esto_term.proofs.ListLemmas.{thing_at}
 use Rattle.esto_views.specs.declared.fragments.FragmentDef.{FragmentDef}
-use Rattle.esto_opening.specs.Answers.{IsWant, IsCaused, Answers}
+use Rattle.esto_opening.specs.Answers.{IsWant, IsCaused}
 use Rattle.esto_opening.specs.Fetch.{fetches}
 use Rattle.esto_opening.specs.Fragments.{Stored, IsStoredAt, content_fault, reads_content, opens_stored, opens_fragment, no_contents, with_content, opens_next, opens_fragments, Takes, Reads, OpensNext, OpensAll}
 use Rattle.esto_opening.specs.declared.fragments.TheConstants.{FRAGMENT_LIMIT}
 use Rattle.esto_opening.specs.declared.status.Status.{Status}
-use Rattle.esto_opening.specs.declared.status.Status.TheVariants.{BadFragment, OutOfMemory}
+use Rattle.esto_opening.specs.declared.status.Status.TheVariants.{BadFragment}
 use Rattle.esto_course.specs.Course.{Names}
 use Rattle.esto_course.specs.Course.Point.{went, underway}
 use Rattle.esto_course.proofs.Asking.{LeadsAsking, each_asks_next, each_asks_end, each_stop_asks, each_way_asks, first_stop_asks, first_way_asks, then_asks, quiet_gives, quiet_judges}
@@ -38,7 +37,7 @@ use Rattle.esto_ports.specs.Asked.{AsksFor}
 use Rattle.esto_opening.specs.Asked.{AsksIn, AsksToStop}
 use Rattle.esto_opening.specs.Asked.AsksToStop.{wanting, stopping}
 use Rattle.esto_opening.proofs.AskedSteps.{ends_after, exit_asks, later_asks, quiet_asks, told_both, told_nothing}
-use Rattle.esto_opening.proofs.Steps.{caused_weaker, later_stops}
+use Rattle.esto_opening.proofs.Steps.{caused_weaker}
 
 -- ---- the content of one file
 
