@@ -55,8 +55,8 @@ AfterFetch s name (Err Failed) new = new ≡ record (after_call s name) { faults
 AfterFetch s name (Err (TooLong _)) new = new ≡ after_call s name
 AfterFetch s name (Err OutOfMemory) new = ((is_failing s name ≡ false) × (new ≡ after_call s name)) ⊎ (new ≡ record s { calls = next_count s.calls })
 
--- Where the call fails Failed comes, also where it is listed to be refused. Else the answer is the file, or that it is too long, and the call is not listed to be
--- refused. Memory may always be wanting.
+-- Where the call fails Failed comes, also where it is listed to be refused. Else the answer is the file, or that it is too long, and the call is not
+-- listed to be refused. Memory may always be wanting.
 abbrev pub AnswersFetch : ShelfState → List ℕ → ℕ → Result (List ℕ) ShelfError → Type 0
 AnswersFetch s name limit (Ok bytes) =
     (is_failing s name ≡ false) × (is_refused s ≡ false) × (map.get s.files name ≡ Some bytes) × (length bytes ≤ limit)

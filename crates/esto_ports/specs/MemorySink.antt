@@ -37,8 +37,8 @@ is_refused s = list_any (λ c. c == next_count s.calls) s.refuses
 abbrev pub after_call : SinkState → List ℕ → SinkState
 after_call s bytes = record s { calls = next_count s.calls; puts = next_count s.puts; written = s.written ++ bytes }
 
--- Where the call fails, Failed comes, also where it is listed to be refused, and what it keeps was put. Else all bytes were put, and the call is not listed to be
--- refused. Where memory is wanting, nothing was put; a call that is refused by the list alone is not counted as a put.
+-- Where the call fails, Failed comes, also where it is listed to be refused, and what it keeps was put. Else all bytes were put, and the call is not
+-- listed to be refused. Where memory is wanting, nothing was put; a call that is refused by the list alone is not counted as a put.
 abbrev pub AfterPut : SinkState → List ℕ → Result (Unit {0}) SinkError → SinkState → Type 0
 AfterPut s bytes (Ok _) new = (next_kept s ≡ None) × (is_refused s ≡ false) × (new ≡ after_call s bytes)
 AfterPut s bytes (Err Failed) new =
