@@ -14,6 +14,7 @@ use Rattle.esto_constraint.specs.Soundness.{IsSoundTuple, IsSoundEquality, IsSou
 use Rattle.esto_constraint.specs.declared.rule.Constraint.{Constraint}
 use Rattle.esto_constraint.specs.declared.rule.Constraint.TheVariants.{Tuple, Equal as Equality, Never}
 use Rattle.esto_course.specs.Agreement.{Agree, IsDetermined, IsDeterminedUpTo}
+use Rattle.esto_course.proofs.Alike.{nothing_alike, then_alike}
 use Rattle.esto_course.proofs.Determined.{then_agree, judges_agree, then_determined, gives_determined, refuses_determined, demands_determined, judges_determined, each_determined}
 use Rattle.esto_course.specs.Course.{Course, Stops, and_then, demands, each, gives}
 use Rattle.esto_course.specs.Course.Stops.{is_free, refused}
@@ -296,6 +297,7 @@ gives_alike caused Same value other alike = record {
   one_stop = λ error other_error because because' here there. absurd here;
   apart = λ one error because here there. there;
   other_apart = λ one error because here there. there;
+  alike = nothing_alike caused (λ it. it ≡ value) (λ it. it ≡ other) (λ _. ⊥) (λ _. ⊥);
 }
 
 stopped : (place : Place) (view : Query) (pattern : Pattern) (error : CatalogueError) → (checks place view pattern).stops error
@@ -314,6 +316,14 @@ checked place view pattern other alike = record {
   apart = λ value error because (u, holds, is) stops. (stopped place view other error stops).0 (subst (IsLayout (length view.head)) alike holds);
   other_apart = λ value error because (u, holds, is) stops.
       (stopped place view pattern error stops).0 (subst (IsLayout (length view.head)) (sym alike) holds);
+  alike =
+      let fault = fault_at BadPattern place (codes "pattern") in
+      let fits : Pattern → Type 0 = λ it. IsLayout (length view.head) (entries_of it.entries) in
+      then_alike (λ _. Unit {0}) (λ _ _. Unit {0}) (demands (fits pattern) fault) (demands (fits other) fault) (λ _. gives pattern) (λ _. gives other)
+      (λ _ _ _ _. tt) (λ _ error because holds stop. stop.0 (subst (IsLayout (length view.head)) alike holds))
+      (λ _ error because holds stop. stop.0 (subst (IsLayout (length view.head)) (sym alike) holds))
+      (nothing_alike (λ _. Unit {0}) (λ _. fits pattern) (λ _. fits other) (λ it. ¬ (fits pattern) × (it ≡ fault)) (λ it. ¬ (fits other) × (it ≡ fault)))
+      (λ _ _ _ _. nothing_alike (λ _. Unit {0}) (λ it. it ≡ pattern) (λ it. it ≡ other) (λ _. ⊥) (λ _. ⊥));
 }
 
 shape_agree : (shape other : Shape) → AreSameShape shape other → Agree (λ _. Unit {0}) AreSameShape (gives {E = CatalogueError} shape) (gives other)

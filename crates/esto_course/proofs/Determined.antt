@@ -1,6 +1,7 @@
 -- Courses that agree, and courses that go on with at most one value or stop with at most one error.
 use Rattle.std.proofs.Common.{◌≡◌, ℕ, suc, List, [], ◌∷◌, inl, inr, refl, sym, subst, ◌∙◌}
 use Rattle.esto_course.specs.Agreement.{Agree, IsDetermined, IsDeterminedUpTo}
+use Rattle.esto_course.proofs.Alike.{then_alike, nothing_alike}
 use Rattle.esto_course.specs.Course.{Course, judges, gives, refuses, demands, and_then, each}
 
 module _ {E A B : Type 0} (caused : E → Type 0) (Same : A → A → Type 0) (Result : B → B → Type 0) (first other : Course E A)
@@ -31,6 +32,8 @@ module _ {E A B : Type 0} (caused : E → Type 0) (Same : A → A → Type 0) (R
       | inl at_once ↦ here.other_apart late error because follows at_once
       | inr (early, goes, more) ↦ (there early late goes (here.one early late goes follows)).other_apart value error because most more
     ];
+    alike = then_alike caused Same first other next other_next here.one here.apart here.other_apart here.alike
+        (λ early late goes same. (there early late goes same).alike);
   }
 
 module _ {E : Type 0} (caused : E → Type 0) where
@@ -41,6 +44,7 @@ module _ {E : Type 0} (caused : E → Type 0) where
     one_stop = λ error other_error because because' here there. absurd here;
     apart = λ one error because here there. there;
     other_apart = λ one error because here there. there;
+    alike = nothing_alike caused (λ it. it ≡ value) (λ it. it ≡ other) (λ _. ⊥) (λ _. ⊥);
   }
 
   pub refuses_agree : (A : Type 0) (error : E) → Agree caused ◌≡◌ (refuses {A = A} error) (refuses {A = A} error)
@@ -50,6 +54,7 @@ module _ {E : Type 0} (caused : E → Type 0) where
     one_stop = λ one two because because' here there. here ∙ sym there;
     apart = λ one error because here there. here;
     other_apart = λ one error because here there. here;
+    alike = nothing_alike caused (λ _. ⊥) (λ _. ⊥) (λ it. it ≡ error) (λ it. it ≡ error);
   }
 
   pub judges_agree : {A : Type 0} (Same : A → A → Type 0) (Accepts Others : A → Type 0) (Refuses OtherRefuses : E → Type 0)
@@ -60,7 +65,13 @@ module _ {E : Type 0} (caused : E → Type 0) where
       → Agree caused Same (judges Accepts Refuses) (judges Others OtherRefuses)
   unfolding judges
   judges_agree Same Accepts Others Refuses OtherRefuses one one_stop apart other_apart =
-      record { one = one; one_stop = one_stop; apart = apart; other_apart = other_apart }
+      record {
+        one = one;
+        one_stop = one_stop;
+        apart = apart;
+        other_apart = other_apart;
+        alike = nothing_alike caused Accepts Others Refuses OtherRefuses;
+      }
 
 pub then_determined : {E A B : Type 0} (Same : B → B → Type 0) (first : Course E A) (next : A → Course E B) → IsDetermined first
     → ((value : A) → first.goes value → IsDeterminedUpTo Same (next value))
@@ -81,6 +92,7 @@ demands_determined condition error = record {
   one_stop = λ s t because because' h k. h.1 ∙ sym k.1;
   apart = λ v s because h k. k.0 h;
   other_apart = λ v s because h k. k.0 h;
+  alike = nothing_alike (λ _. Unit {0}) (λ _. condition) (λ _. condition) (λ it. ¬ condition × (it ≡ error)) (λ it. ¬ condition × (it ≡ error));
 }
 
 pub judges_determined : {E A : Type 0} (Same : A → A → Type 0) (accepts : A → Type 0) (refused : E → Type 0)

@@ -1,2 +1,4 @@
 pub mod Steps
+pub mod Asking
+pub mod Alike
 pub mod Determined

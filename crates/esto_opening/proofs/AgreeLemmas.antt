@@ -4,6 +4,7 @@ use Rattle.std.specs.FinMap.{get}
 use Rattle.esto_ports.specs.Files.{Files}
 use Rattle.esto_opening.specs.Answers.{IsCaused}
 use Rattle.esto_opening.specs.Calm.{AgreeCalmly}
+use Rattle.esto_course.proofs.Alike.{once_alike}
 use Rattle.esto_fill.specs.Filled.{without_mark}
 use Rattle.esto_opening.specs.Fetch.{FetchStops, fetches}
 use Rattle.esto_opening.specs.Fetch.FetchStops.{fails, is_longer}
@@ -26,6 +27,7 @@ module _ (files : Files) (name : List ℕ) (limit : ℕ) where
     one_stop = λ said other_said caused other_caused here there. (longer said caused here).3 ∙ sym (longer other_said other_caused there).3;
     apart = λ bytes said caused here there. never bytes said caused here there;
     other_apart = λ bytes said caused here there. never bytes said caused here there;
+    alike = once_alike (IsCaused ⊥) _ _ _ _ name;
   }
     where
       never : (bytes : List ℕ) (said : Status) → IsCaused ⊥ said → (fetches (Some files) name limit).goes bytes

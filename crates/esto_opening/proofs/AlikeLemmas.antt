@@ -1,12 +1,12 @@
 -- What is opened over catalogues that say the same agrees.
-use Rattle.std.proofs.Common.{◌≡◌, ◌≢◌, ℕ, suc, List, [], ◌∷◌, length, Some, None, refl, sym, ap, subst, ◌∙◌}
+use Rattle.std.proofs.Common.{◌≡◌, ◌≢◌, ℕ, suc, List, [], ◌∷◌, Some, refl, sym, ap, subst, ◌∙◌}
 use Rattle.std.proofs.lemmas.Option.{same_Some, none-some}
 use Rattle.esto_catalog.specs.Determined.{AreSame, CataloguesAreSound, HaveOneCatalogue, HaveNoError, HaveOneError}
 use Rattle.esto_catalog.specs.Reading.{IsCatalogueOf, IsCatalogueError}
 use Rattle.esto_catalog.specs.declared.catalogue.Catalogue.{Catalogue}
 use Rattle.esto_catalog.specs.declared.fault.CatalogueError.{CatalogueError}
 use Rattle.esto_catalog.specs.declared.fault.CatalogueError.TheVariants as error
-use Rattle.esto_course.specs.Course.{Course, each, gives, judges, and_then}
+use Rattle.esto_course.specs.Course.{Course, each, gives, and_then}
 use Rattle.esto_course.proofs.Determined.{then_agree, gives_agree, judges_agree}
 use Rattle.esto_ports.specs.Files.{Files}
 use Rattle.esto_ports.specs.declared.file_fault.FileFault.{FileFault}

@@ -1,4 +1,5 @@
 pub mod Steps
+pub mod AskedSteps
 pub mod OpeningLemmas
 pub mod FragmentLemmas
 pub mod LeadLemmas

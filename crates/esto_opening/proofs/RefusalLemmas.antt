@@ -8,7 +8,7 @@ use Rattle.esto_ports.specs.Files.{Files}
 use Rattle.esto_opening.specs.Calm.{Leads}
 use Rattle.esto_opening.specs.Fetch.{FetchStops, fetches}
 use Rattle.esto_opening.specs.Fetch.FetchStops.{fails, is_longer}
-use Rattle.esto_opening.specs.Fragments.{IsStoredAt, opens_fragment, opens_fragments, opens_next, no_contents, with_content}
+use Rattle.esto_opening.specs.Fragments.{opens_fragment, opens_fragments, opens_next, no_contents, with_content}
 use Rattle.esto_opening.specs.Opening.{opens_catalogue, opens_query, status_of}
 use Rattle.esto_opening.specs.declared.fragments.TheConstants.{FRAGMENT_LIMIT}
 use Rattle.esto_opening.specs.declared.opening.TheConstants.{CATALOGUE_LIMIT, QUERY_LIMIT}

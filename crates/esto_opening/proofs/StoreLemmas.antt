@@ -1,5 +1,5 @@
 -- Stores and fragments of catalogues that say the same.
-use Rattle.std.proofs.Common.{◌≡◌, ◌↔◌, ℕ, List, map, length, slice_get, Option, Some, Contains, refl, sym, ap, subst, ◌∙◌}
+use Rattle.std.proofs.Common.{◌≡◌, ℕ, List, map, length, slice_get, Option, Some, Contains, refl, sym, ap, subst, ◌∙◌}
 use Rattle.std.proofs.lemmas.Option.{same_Some}
 use Rattle.esto_catalog.specs.Determined.{AreSame, StoredAs, as_table, as_documents, as_keys, shape_as, stored_as}
 use Rattle.esto_catalog.specs.declared.catalogue.Catalogue.{Catalogue}

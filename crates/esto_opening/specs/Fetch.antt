@@ -2,7 +2,7 @@
 use Rattle.std.specs.Prelude.{◌≡◌, ℕ, ◌<◌, ◌≤◌, List, length, Option, Some}
 use Rattle.std.specs.FinMap.{get}
 use Rattle.esto_ports.specs.Files.{Files, Holds}
-use Rattle.esto_course.specs.Course.{Course}
+use Rattle.esto_course.specs.Course.{Course, asking_once}
 use Rattle.esto_fill.specs.Filled.{without_mark}
 use Rattle.esto_opening.specs.declared.status.Status.{Status}
 use Rattle.esto_opening.specs.declared.status.Status.TheVariants.{ReadFault, TooLong}
@@ -12,12 +12,10 @@ pub data FetchStops (files : Option Files) (name : List ℕ) (limit : ℕ) (stat
   fails : status ≡ ReadFault name → FetchStops files name limit status
   is_longer : (file : List ℕ) → Holds files name file → limit < length file → status ≡ TooLong name limit → FetchStops files name limit status
 
--- It goes on with the file's bytes after one leading byte-order mark. The limit counts the file as it is.
+-- It asks for the name, and goes on with the file's bytes after one leading byte-order mark. The limit counts the file as it is.
 unfoldable pub fetches : Option Files → List ℕ → ℕ → Course Status (List ℕ)
-fetches files name limit = record {
-  goes = λ bytes. (file : List ℕ) × Holds files name file × (length file ≤ limit) × (bytes ≡ without_mark file);
-  stops = λ status. FetchStops files name limit status;
-}
+fetches files name limit =
+    asking_once name (λ bytes. (file : List ℕ) × Holds files name file × (length file ≤ limit) × (bytes ≡ without_mark file)) (FetchStops files name limit)
 
 -- The file of that name has at most so many bytes, and these after one leading mark.
 abbrev pub HasWithin : Files → List ℕ → ℕ → List ℕ → Type 0

@@ -2,7 +2,7 @@
 use Rattle.std.specs.Prelude.{◌≡◌, ℕ, ◌==◌, if◌then◌else◌, List, [], ◌∷◌, ◌++◌, length, slice_get, Option, Some, None, Result, Ok, Err}
 use Rattle.esto_catalog.specs.declared.catalogue.Catalogue.{Catalogue}
 use Rattle.esto_catalog.specs.declared.catalogue.Store.{Store}
-use Rattle.esto_course.specs.Course.{Course, Stops, judges, gives, and_then, each}
+use Rattle.esto_course.specs.Course.{Course, Names, Stops, judges, gives, and_then, each}
 use Rattle.esto_ports.specs.Files.{Files}
 use Rattle.esto_ports.specs.declared.file_fault.FileFault.{FileFault}
 use Rattle.esto_run.specs.Opened.{Held, AreOpened, AreRowsFor, rows_held}
@@ -10,6 +10,7 @@ use Rattle.esto_run.specs.Stores.{first_fault_in}
 use Rattle.esto_stores.specs.Rows.{Row}
 use Rattle.esto_views.specs.declared.fragments.FragmentDef.{FragmentDef}
 use Rattle.esto_opening.specs.Answers.{IsWant, IsCaused}
+use Rattle.esto_opening.specs.Asked.{AsksIn}
 use Rattle.esto_opening.specs.Fetch.{fetches}
 use Rattle.esto_opening.specs.declared.fragments.TheConstants.{FRAGMENT_LIMIT}
 use Rattle.esto_opening.specs.declared.status.Status.{Status}
@@ -72,15 +73,20 @@ abbrev pub Reads : Catalogue → ℕ → Stored → List ℕ → List (List Row)
 Reads catalogue number stored bytes old new (Ok _) = (reads_content stored bytes).goes tt × Takes catalogue number bytes old new
 Reads catalogue number stored bytes old new (Err refusal) = Stops IsWant (IsCaused ⊥) (reads_content stored bytes) refusal
 
--- The file of the fragment of the number was opened, and its rows taken; or the course stops.
-abbrev pub OpensNext : Option Files → Catalogue → ℕ → List (List Row) → List (List Row) → Type 0 → Result (Unit {0}) Status → Type 0
-OpensNext files catalogue number old new rose (Ok _) =
+-- The file of the fragment of the number was opened, and its rows taken; or the course stops. To the names that were asked for came those for which it asked.
+abbrev pub OpensNext : Option Files → Catalogue → ℕ → List (List Row) → List (List Row) → Type 0 → Option Names → Option Names → Result (Unit {0}) Status → Type 0
+OpensNext files catalogue number old new rose before after (Ok _) =
     (bytes : List ℕ) × (opens_fragment files catalogue number).goes bytes × Takes catalogue number bytes old new
-OpensNext files catalogue number old new rose (Err refusal) = Stops IsWant (IsCaused rose) (opens_fragment files catalogue number) refusal
+    × AsksIn before after (opens_fragment files catalogue number) (Ok bytes)
+OpensNext files catalogue number old new rose before after (Err refusal) =
+    Stops IsWant (IsCaused rose) (opens_fragment files catalogue number) refusal × AsksIn before after (opens_fragment files catalogue number) (Err refusal)
 
--- The rows are those of the files of the fragments of the numbers, all of which were opened; or the course stops.
-abbrev pub OpensAll : Option Files → Catalogue → List ℕ → Type 0 → Result (List Held) Status → Type 0
-OpensAll files catalogue numbers rose (Ok opened) =
+-- The rows are those of the files of the fragments of the numbers, all of which were opened; or the course stops. To the names that were asked for came those for
+-- which it asked.
+abbrev pub OpensAll : Option Files → Catalogue → List ℕ → Type 0 → Option Names → Option Names → Result (List Held) Status → Type 0
+OpensAll files catalogue numbers rose before after (Ok opened) =
     (contents : ℕ → List ℕ) × (opens_fragments files catalogue numbers).goes contents × AreOpened catalogue.stores contents numbers (rows_held opened)
-    × AreRowsFor catalogue.fragments opened
-OpensAll files catalogue numbers rose (Err refusal) = Stops IsWant (IsCaused rose) (opens_fragments files catalogue numbers) refusal
+    × AreRowsFor catalogue.fragments opened × AsksIn before after (opens_fragments files catalogue numbers) (Ok contents)
+OpensAll files catalogue numbers rose before after (Err refusal) =
+    Stops IsWant (IsCaused rose) (opens_fragments files catalogue numbers) refusal
+    × AsksIn before after (opens_fragments files catalogue numbers) (Err refusal)

@@ -2,6 +2,7 @@
 ghost use Rattle.std.specs.Prelude.{◌≡◌, ◌<◌, ◌≤◌, ◌^◌, IfOk};
 ghost use Rattle.esto_ports.specs.Faults.{Rises};
 ghost use Rattle.esto_opening.specs.Answers.{Answers};
+ghost use Rattle.esto_opening.specs.Asked.{AsksIn};
 ghost use Rattle.esto_fill.specs.Filled.{without_mark};
 ghost use Rattle.esto_opening.specs.Fetch.{fetches};
 
@@ -30,7 +31,8 @@ fn opened(alloc: Global, file: &Bytes) -> Result<Bytes, OutOfMemory>
 }
 
 /// Fetches a file, and gives its bytes after one leading byte-order mark, or the status that refuses the command.
-/// The limit counts the file as it is.
+/// The limit counts the file as it is. Its name comes to those that were asked of the shelf; where memory was wanting, it
+/// may not.
 pub fn fetch<S: Shelf>(
     alloc: Global,
     shelf: &mut S,
@@ -40,6 +42,8 @@ pub fn fetch<S: Shelf>(
     requires { limit < 2 ^ 32 }
     ensures answer { Answers (fetches (S.files shelf.old) name.now limit)
         (Rises S.faults shelf.old shelf.new) result }
+    ensures asked { AsksIn (S.asked shelf.old) (S.asked shelf.new)
+        (fetches (S.files shelf.old) name.now limit) result }
     ensures files { S.files shelf.new ≡ S.files shelf.old }
     ensures later { S.faults shelf.old ≤ S.faults shelf.new }
 {

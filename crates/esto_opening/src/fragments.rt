@@ -54,7 +54,8 @@ fn open_next<S: Shelf>(
     requires rows { AreRowsFor catalogue.now.fragments opened.old }
     ensures rows { AreRowsFor catalogue.now.fragments opened.new }
     ensures answer { OpensNext (S.files shelf.old) catalogue.now number (rows_held opened.old)
-        (rows_held opened.new) (Rises S.faults shelf.old shelf.new) result }
+        (rows_held opened.new) (Rises S.faults shelf.old shelf.new) (S.asked shelf.old)
+        (S.asked shelf.new) result }
     ensures files { S.files shelf.new ≡ S.files shelf.old }
     ensures later { S.faults shelf.old ≤ S.faults shelf.new }
 {
@@ -76,7 +77,7 @@ pub fn open_fragments<S: Shelf>(
         → number < length catalogue.now.fragments }
     requires distinct { AllPairs ◌≢◌ numbers.now }
     ensures answer { OpensAll (S.files shelf.old) catalogue.now numbers.now
-        (Rises S.faults shelf.old shelf.new) result }
+        (Rises S.faults shelf.old shelf.new) (S.asked shelf.old) (S.asked shelf.new) result }
     ensures files { S.files shelf.new ≡ S.files shelf.old }
     ensures later { S.faults shelf.old ≤ S.faults shelf.new }
 {

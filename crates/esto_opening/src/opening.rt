@@ -2,6 +2,7 @@
 ghost use Rattle.std.specs.Prelude.{◌≡◌, ◌≤◌};
 ghost use Rattle.esto_ports.specs.Faults.{Rises};
 ghost use Rattle.esto_opening.specs.Answers.{Answers};
+ghost use Rattle.esto_opening.specs.Asked.{AsksIn};
 ghost use Rattle.esto_opening.specs.Opening.{status_of, reads_catalogue, opens_catalogue, reads_query, opens_query};
 
 use crate::fetching::fetch;
@@ -42,7 +43,7 @@ fn catalogue_of(alloc: Global, bytes: &Bytes) -> Result<Catalogue, Status>
 }
 
 /// Fetches and reads a catalogue.
-#[tactic(auto, using(crate::proofs::Steps::steps))]
+#[tactic(auto, using(crate::proofs::Steps::steps, crate::proofs::AskedSteps::asked_steps))]
 pub fn open_catalogue<S: Shelf>(
     alloc: Global,
     shelf: &mut S,
@@ -50,6 +51,8 @@ pub fn open_catalogue<S: Shelf>(
 ) -> Result<Catalogue, Status>
     ensures answer { Answers (opens_catalogue (S.files shelf.old) name.now)
         (Rises S.faults shelf.old shelf.new) result }
+    ensures asked { AsksIn (S.asked shelf.old) (S.asked shelf.new)
+        (opens_catalogue (S.files shelf.old) name.now) result }
     ensures files { S.files shelf.new ≡ S.files shelf.old }
     ensures later { S.faults shelf.old ≤ S.faults shelf.new }
 {
@@ -71,7 +74,7 @@ fn query_of(alloc: Global, bytes: &Bytes, catalogue: &Catalogue) -> Result<Query
 }
 
 /// Fetches and reads a query over a catalogue.
-#[tactic(auto, using(crate::proofs::Steps::steps))]
+#[tactic(auto, using(crate::proofs::Steps::steps, crate::proofs::AskedSteps::asked_steps))]
 pub fn open_query<S: Shelf>(
     alloc: Global,
     shelf: &mut S,
@@ -80,6 +83,8 @@ pub fn open_query<S: Shelf>(
 ) -> Result<Query, Status>
     ensures answer { Answers (opens_query (S.files shelf.old) name.now catalogue.now)
         (Rises S.faults shelf.old shelf.new) result }
+    ensures asked { AsksIn (S.asked shelf.old) (S.asked shelf.new)
+        (opens_query (S.files shelf.old) name.now catalogue.now) result }
     ensures files { S.files shelf.new ≡ S.files shelf.old }
     ensures later { S.faults shelf.old ≤ S.faults shelf.new }
 {

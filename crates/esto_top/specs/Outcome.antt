@@ -1,6 +1,7 @@
 -- What the program answers to a command line.
 use Rattle.std.specs.Prelude.{◌≡◌, ◌≢◌, ◌⊎◌, ℕ, List, take, Option, Some, None, Result, Ok, Err}
 use Rattle.std.specs.Io.KnownBytes.{Appends, Keeps}
+use Rattle.esto_ports.specs.Asked.{CountGoes, CountStays}
 use Rattle.esto_ports.specs.Files.{Files}
 use Rattle.esto_opening.specs.Line.{line_of}
 use Rattle.esto_course.specs.Course.{Course}
@@ -48,6 +49,10 @@ pub data Finishes (answer : Result Reply Status) (old new : Option (List ℕ)) (
   cut : (said : Status) (text : List ℕ) (kept : ℕ) → IsSaid answer said text → sink_rose → Appends old new (take kept text) → result ≡ status.WriteFault
       → Finishes answer old new sink_rose result
   memory : Keeps old new → result ≡ status.OutOfMemory → Finishes answer old new sink_rose result
+
+-- One put was counted, where puts are told; where memory is wanting it may be none.
+abbrev pub PutsOnce : Option ℕ → Option ℕ → Status → Type 0
+PutsOnce old new result = CountGoes old new ⊎ ((result ≡ status.OutOfMemory) × CountStays old new)
 
 -- The answer is an outcome of the words and the files with its whole text, or want of memory and nothing.
 abbrev pub IsComplete : List (List ℕ) → Files → Option (List ℕ) → Option (List ℕ) → Status → Type 0

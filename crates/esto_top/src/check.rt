@@ -4,6 +4,7 @@ ghost use Rattle.esto_ports.specs.Faults.{Rises};
 ghost use Rattle.esto_query.specs.Schemas.{names_of};
 ghost use Rattle.esto_top.specs.Check.{count_lines, rank_line, rank_lines, check_text, check_course};
 ghost use Rattle.esto_opening.specs.Answers.{Answers};
+ghost use Rattle.esto_opening.specs.Asked.{AsksIn};
 
 use esto_acyclic::Ranks;
 use esto_catalog::{Catalogue, catalogues_are_sound};
@@ -70,6 +71,8 @@ fn check_text(alloc: Global, catalogue: &Catalogue) -> Result<Bytes, OutOfMemory
 pub fn check<S: Shelf>(alloc: Global, shelf: &mut S, catalogue: &Text) -> Result<Reply, Status>
     ensures answer { Answers (check_course (S.files shelf.old) catalogue.now)
         (Rises S.faults shelf.old shelf.new) result }
+    ensures asked { AsksIn (S.asked shelf.old) (S.asked shelf.new)
+        (check_course (S.files shelf.old) catalogue.now) result }
     ensures files { S.files shelf.new ≡ S.files shelf.old }
     ensures later { S.faults shelf.old ≤ S.faults shelf.new }
 {

@@ -3,6 +3,7 @@ ghost use Rattle.std.specs.Prelude.{◌≡◌, ◌≤◌, ◌<◌, ◌+◌, leng
 ghost use Rattle.std.specs.List.{list_all};
 ghost use Rattle.esto_ports.specs.Faults.{Rises};
 ghost use Rattle.esto_opening.specs.Answers.{Answers};
+ghost use Rattle.esto_opening.specs.Asked.{AsksIn};
 ghost use Rattle.esto_top.specs.Grammar.{is_word, is_digit, is_leading_digit, is_list_number, is_made_size, value_of, request_of_one, request_of_two, request_of_three, request_of, asked, IsSized, course_of_request};
 
 use crate::bench::bench;
@@ -192,6 +193,8 @@ pub fn obey<S: Shelf>(alloc: Global, shelf: &mut S, command: Command<'_>) -> Res
     requires { IsSized command }
     ensures answer { Answers (course_of_request (S.files shelf.old) (asked command.entry))
         (Rises S.faults shelf.old shelf.new) result }
+    ensures asked { AsksIn (S.asked shelf.old) (S.asked shelf.new)
+        (course_of_request (S.files shelf.old) (asked command.entry)) result }
     ensures files { S.files shelf.new ≡ S.files shelf.old }
     ensures later { S.faults shelf.old ≤ S.faults shelf.new }
 {

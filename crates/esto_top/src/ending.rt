@@ -1,7 +1,7 @@
 //! The one put of a command's answer.
 ghost use Rattle.std.specs.Prelude.{◌≤◌, IfSome, Err};
 ghost use Rattle.esto_ports.specs.Faults.{Rises};
-ghost use Rattle.esto_top.specs.Outcome.{IsSaid, Finishes};
+ghost use Rattle.esto_top.specs.Outcome.{IsSaid, Finishes, PutsOnce};
 
 use esto_opening::{Reply, Status, status_line};
 use esto_ports::{Sink, SinkError};
@@ -36,6 +36,7 @@ fn said(alloc: Global, answer: Result<Reply, Status>) -> Option<(Status, Bytes)>
 pub fn finish<O: Sink>(alloc: Global, answer: Result<Reply, Status>, out: &mut O) -> Status
     ensures put { Finishes answer (O.written out.old) (O.written out.new)
         (Rises O.faults out.old out.new) result }
+    ensures puts { PutsOnce (O.puts out.old) (O.puts out.new) result }
     ensures later { O.faults out.old ≤ O.faults out.new }
 {
     match said(alloc, answer) {

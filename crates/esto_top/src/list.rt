@@ -2,6 +2,7 @@
 ghost use Rattle.std.specs.Prelude.{◌≡◌, ◌≤◌, IfOk};
 ghost use Rattle.esto_ports.specs.Faults.{Rises};
 ghost use Rattle.esto_opening.specs.Answers.{Answers};
+ghost use Rattle.esto_opening.specs.Asked.{AsksIn};
 ghost use Rattle.esto_top.specs.List.{plans_query, prints_list, lists_query, list_course};
 ghost use Rattle.esto_top.specs.Listing.{IsListOf, IsListing, IsPlanned};
 
@@ -105,6 +106,8 @@ pub fn list<S: Shelf>(
 ) -> Result<Reply, Status>
     ensures answer { Answers (list_course (S.files shelf.old) catalogue.now query.now)
         (Rises S.faults shelf.old shelf.new) result }
+    ensures asked { AsksIn (S.asked shelf.old) (S.asked shelf.new)
+        (list_course (S.files shelf.old) catalogue.now query.now) result }
     ensures files { S.files shelf.new ≡ S.files shelf.old }
     ensures later { S.faults shelf.old ≤ S.faults shelf.new }
 {

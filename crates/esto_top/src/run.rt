@@ -2,6 +2,7 @@
 ghost use Rattle.std.specs.Prelude.{◌≡◌, ◌≤◌};
 ghost use Rattle.esto_ports.specs.Faults.{Rises};
 ghost use Rattle.esto_opening.specs.Answers.{Answers};
+ghost use Rattle.esto_opening.specs.Asked.{AsksIn};
 ghost use Rattle.esto_top.specs.Listing.{IsPlanned, IsClash};
 ghost use Rattle.esto_top.specs.Run.{chooses, IsItemOf, runs_item, runs_plan, runs_query, run_course};
 ghost use Rattle.esto_opening.specs.declared.reply.Reply.TheVariants as reply;
@@ -58,6 +59,8 @@ fn run_item<S: Shelf>(
     ensures answer { Answers
         (runs_item (S.files shelf.old) catalogue.now query.now plan.now item.now)
         (Rises S.faults shelf.old shelf.new) result }
+    ensures asked { AsksIn (S.asked shelf.old) (S.asked shelf.new)
+        (runs_item (S.files shelf.old) catalogue.now query.now plan.now item.now) result }
     ensures files { S.files shelf.new ≡ S.files shelf.old }
     ensures later { S.faults shelf.old ≤ S.faults shelf.new }
 {
@@ -90,6 +93,8 @@ fn run_plan<S: Shelf>(
     requires { IsPlanned catalogue.now query.now plan.now }
     ensures answer { Answers (runs_plan (S.files shelf.old) catalogue.now query.now number plan.now)
         (Rises S.faults shelf.old shelf.new) result }
+    ensures asked { AsksIn (S.asked shelf.old) (S.asked shelf.new)
+        (runs_plan (S.files shelf.old) catalogue.now query.now number plan.now) result }
     ensures files { S.files shelf.new ≡ S.files shelf.old }
     ensures later { S.faults shelf.old ≤ S.faults shelf.new }
 {
@@ -118,6 +123,8 @@ fn run_query<S: Shelf>(
 ) -> Result<Reply, Status>
     ensures answer { Answers (runs_query (S.files shelf.old) catalogue.now query.now number)
         (Rises S.faults shelf.old shelf.new) result }
+    ensures asked { AsksIn (S.asked shelf.old) (S.asked shelf.new)
+        (runs_query (S.files shelf.old) catalogue.now query.now number) result }
     ensures files { S.files shelf.new ≡ S.files shelf.old }
     ensures later { S.faults shelf.old ≤ S.faults shelf.new }
 {
@@ -146,6 +153,8 @@ pub fn run<S: Shelf>(
 ) -> Result<Reply, Status>
     ensures answer { Answers (run_course (S.files shelf.old) catalogue.now query.now number)
         (Rises S.faults shelf.old shelf.new) result }
+    ensures asked { AsksIn (S.asked shelf.old) (S.asked shelf.new)
+        (run_course (S.files shelf.old) catalogue.now query.now number) result }
     ensures files { S.files shelf.new ≡ S.files shelf.old }
     ensures later { S.faults shelf.old ≤ S.faults shelf.new }
 {

@@ -2,6 +2,7 @@
 ghost use Rattle.std.specs.Prelude.{◌≡◌, ◌≤◌};
 ghost use Rattle.esto_ports.specs.Faults.{Rises};
 ghost use Rattle.esto_opening.specs.Answers.{Answers};
+ghost use Rattle.esto_opening.specs.Asked.{AsksIn, AsksAsTold};
 ghost use Rattle.esto_top.specs.Benches.{BenchesAlways};
 ghost use Rattle.esto_top.specs.DataOutcomes.{AnswersWhereTold, AuditsWhereTold, FillsWhereTold};
 ghost use Rattle.esto_top.specs.Determined.{ExactWhereTold};
@@ -9,7 +10,7 @@ ghost use Rattle.esto_top.specs.Grammar.{course_of};
 ghost use Rattle.esto_top.specs.Headline.{ListsWhereTold, RefusesWhereTold};
 ghost use Rattle.esto_top.specs.ReasoningOutcomes.{ContainsWhereTold, MinimisesWhereTold};
 ghost use Rattle.esto_top.specs.Runs.{RunsWhereTold};
-ghost use Rattle.esto_top.specs.Outcome.{Mediates, CompleteWhereTold, CausedReadFault, CausedWriteFault};
+ghost use Rattle.esto_top.specs.Outcome.{Mediates, CompleteWhereTold, CausedReadFault, CausedWriteFault, PutsOnce};
 
 use crate::command::{command_of, obey};
 use crate::ending::finish;
@@ -25,6 +26,8 @@ use std::alloc::Global;
 fn answer<S: Shelf>(alloc: Global, words: &[Text], shelf: &mut S) -> Result<Reply, Status>
     ensures answer { Answers (course_of words.now (S.files shelf.old))
         (Rises S.faults shelf.old shelf.new) result }
+    ensures asked { AsksIn (S.asked shelf.old) (S.asked shelf.new)
+        (course_of words.now (S.files shelf.old)) result }
     ensures files { S.files shelf.new ≡ S.files shelf.old }
     ensures later { S.faults shelf.old ≤ S.faults shelf.new }
 {
@@ -123,6 +126,16 @@ pub fn mediate<S: Shelf, O: Sink>(
     ensures write_fault { CausedWriteFault (course_of words.now (S.files shelf.old))
         (Rises S.faults shelf.old shelf.new) (Rises O.faults out.old out.new) (O.written out.old)
         (O.written out.new) result }
+
+    // Where the shelf tells what is asked of it, that grew by the names that the order of refusals fetches, up to its end or
+    // up to and with the first name that has no file. At a read fault it is up to and with the file of the fault, at a write
+    // fault perhaps too, if the shelf's count rose; and where memory was wanting, up to any moment of it.
+    ensures asked { AsksAsTold (S.asked shelf.old) (S.asked shelf.new)
+        (course_of words.now (S.files shelf.old)) (S.files shelf.old)
+        (Rises S.faults shelf.old shelf.new) result }
+
+    // The text is put by one put, which the sink counts where it tells puts; where memory is wanting there may be none.
+    ensures puts { PutsOnce (O.puts out.old) (O.puts out.new) result }
 
     // The files stay, and no count falls.
     ensures files { S.files shelf.new ≡ S.files shelf.old }
