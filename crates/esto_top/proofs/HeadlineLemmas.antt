@@ -39,8 +39,8 @@ use Rattle.esto_opening.specs.declared.reply.Reply.{Reply}
 use Rattle.esto_opening.specs.declared.reply.Reply.TheVariants.{Done}
 use Rattle.esto_opening.specs.declared.status.Status.{Status}
 use Rattle.esto_opening.specs.declared.status.Status.TheVariants as status
-use Rattle.esto_top.proofs.AlikeLemmas.{planned_moved, clash_moved, listing_moved}
-use Rattle.esto_top.proofs.FormLemmas.{plan_form}
+use Rattle.esto_opening.specs.Alike.{QueriesOpenAlike}
+use Rattle.esto_top.proofs.LawRecords.{PlanningLaws}
 use Rattle.esto_opening.specs.Calm.{Leads}
 use Rattle.esto_opening.proofs.LeadLemmas.{then-leads, leads-more, gives-leads, judges-leads}
 use Rattle.esto_top.proofs.LeadLemmas.{says-leads}
@@ -70,9 +70,7 @@ pub record ListingLaws : Type 0 where
   pub rules : (constraint : Constraint) → IsRule (rule_of constraint)
   pub satisfiable : PrintedIsSatisfiable
   pub unsatisfiable : ClashedIsUnsatisfiable
-  pub sound : (plan : Plan) → IsSoundPlan plan.atoms plan.head plan.names
-  pub own : (query : ConjunctiveQuery) → IsUniversalFor [] query query
-  pub unions : PrintedPlanReceivesUnions
+  pub planning : PlanningLaws
   pub universal : PrintedPlanIsUniversal
   pub core : PrintedCoreHasNoRetract
   pub only_core : PrintedCoreIsOneForAQuery
@@ -96,11 +94,7 @@ module _ (laws : ListingLaws) (catalogue : Catalogue) (query : Query) where
         (laws.queries query).query planned
 
     is_for : IsPlanFor (query_of query) (plan_query plan)
-    is_for =
-        plan_form (λ it. (laws.own it).maps) (rules_of catalogue.rules) (views_of catalogue.fragments) (query_of query) plan (laws.sound plan)
-        (laws.unions catalogue.core (rules_of catalogue.rules) (views_of catalogue.fragments) query.names (query_of query) plan rules_are
-        (laws.queries query).query planned)
-        plan_tells
+    is_for = laws.planning.form catalogue query plan planned
 
     universal : IsUniversalPlan (rules_of catalogue.rules) (views_of catalogue.fragments) (query_of query) (plan_query plan)
     universal =
@@ -171,7 +165,7 @@ record HasRefused (catalogue_bytes query_bytes : List ℕ) (refusal : Status) : 
   clashes : IsClash catalogue query clash
   refusal_is : refusal ≡ status.Unsatisfiable clash
 
-module _ (sound : CataloguesAreSound) (one : HaveOneCatalogue) (apart : HaveNoError) (one_reading : HaveOneReading) (no_fault : HaveNoFault)
+module _ (sound : CataloguesAreSound) (one : HaveOneCatalogue) (apart : HaveNoError) (queries : QueriesOpenAlike) (no_fault : HaveNoFault)
     (files : Files) (catalogue_name query_name : List ℕ) (catalogue : Catalogue) (query : Query)
     (say : FilesSay files catalogue_name query_name catalogue query) where
   abbrev Printed : Reply → Type 0
@@ -213,8 +207,8 @@ module _ (sound : CataloguesAreSound) (one : HaveOneCatalogue) (apart : HaveNoEr
 
   list_leads : Leads (list_course (Some files) catalogue_name query_name) Printed Refused
   list_leads =
-      then-leads _ _ _ _ _ (catalogue_leads sound one apart one_reading no_fault files catalogue_name query_name catalogue query say Refused) (λ other is_other.
-      then-leads _ _ _ _ _ (query_leads sound one apart one_reading no_fault files catalogue_name query_name catalogue query say other is_other Refused)
+      then-leads _ _ _ _ _ (catalogue_leads sound one apart queries no_fault files catalogue_name query_name catalogue query say Refused) (λ other is_other.
+      then-leads _ _ _ _ _ (query_leads sound one apart queries no_fault files catalogue_name query_name catalogue query say other is_other Refused)
       (λ read is_query.
       then-leads _ _ _ _ _ (text_leads other is_other read is_query) (λ text has_text. reply_leads other is_other read is_query text has_text)))
 
@@ -223,11 +217,11 @@ module _ (sound : CataloguesAreSound) (one : HaveOneCatalogue) (apart : HaveNoEr
     printed_exact : (reply : Reply) → Printed reply → HasAnswers catalogue query × IsExactList catalogue query (reply_status reply) (reply_text reply)
     printed_exact reply run =
         let alike = one say.catalogue_bytes catalogue run.catalogue say.is_catalogue run.is_catalogue in
-        let same = same_as_read sound one apart one_reading no_fault files catalogue_name query_name catalogue query say
+        let same = same_as_read sound one apart queries no_fault files catalogue_name query_name catalogue query say
         run.catalogue run.is_catalogue run.query run.is_query in
         let plan = run.has_text.plan in
-        let planned = planned_moved catalogue run.catalogue alike query run.query same plan run.has_text.planned in
-        let listing = listing_moved catalogue run.catalogue alike query run.query same plan run.text run.has_text.listing in (
+        let planned = laws.planning.plan_moved catalogue run.catalogue query run.query plan alike same run.has_text.planned in
+        let listing = laws.planning.text_moved catalogue run.catalogue query run.query plan run.text alike same run.has_text.listing in (
           plan_tells laws catalogue query plan planned,
           (
             ap reply_status run.reply_is,
@@ -240,9 +234,9 @@ module _ (sound : CataloguesAreSound) (one : HaveOneCatalogue) (apart : HaveNoEr
         → ¬ (HasAnswers catalogue query) × IsExactRefusal catalogue query said text
     refused_exact said text run text_is =
         let alike = one say.catalogue_bytes catalogue run.catalogue say.is_catalogue run.is_catalogue in
-        let same = same_as_read sound one apart one_reading no_fault files catalogue_name query_name catalogue query say
+        let same = same_as_read sound one apart queries no_fault files catalogue_name query_name catalogue query say
         run.catalogue run.is_catalogue run.query run.is_query in
-        let clashes = clash_moved catalogue run.catalogue alike query run.query same run.clash run.clashes in
+        let clashes = laws.planning.clash_moved catalogue run.catalogue query run.query run.clash alike same run.clashes in
         (clash_excludes laws catalogue query run.clash clashes, (run.clash, clashes, run.refusal_is, text_is ∙ ap line_of run.refusal_is))
 
     module _ (said : Status) (text : List ℕ) (says : Says (list_course (Some files) catalogue_name query_name) ⊥ said text) where
@@ -265,16 +259,16 @@ module _ (sound : CataloguesAreSound) (one : HaveOneCatalogue) (apart : HaveNoEr
 
 -- ---- the outcomes
 
-module _ (sound : CataloguesAreSound) (one : HaveOneCatalogue) (apart : HaveNoError) (one_reading : HaveOneReading) (no_fault : HaveNoFault)
+module _ (sound : CataloguesAreSound) (one : HaveOneCatalogue) (apart : HaveNoError) (queries : QueriesOpenAlike) (no_fault : HaveNoFault)
     (laws : ListingLaws) where
   pub outcomes_are_lists : OutcomesAreLists
   outcomes_are_lists words files catalogue_name query_name catalogue query said text asks say outcome =
-      exact_list sound one apart one_reading no_fault files catalogue_name query_name catalogue query say laws said text
+      exact_list sound one apart queries no_fault files catalogue_name query_name catalogue query say laws said text
       (subst (λ it. Says (course_of it (Some files)) ⊥ said text) asks outcome)
 
   pub outcomes_are_refusals : OutcomesAreRefusals
   outcomes_are_refusals words files catalogue_name query_name catalogue query said text asks say outcome = (
-    exact_refusal sound one apart one_reading no_fault files catalogue_name query_name catalogue query say laws said text
+    exact_refusal sound one apart queries no_fault files catalogue_name query_name catalogue query say laws said text
         (subst (λ it. Says (course_of it (Some files)) ⊥ said text) asks outcome),
     λ refusal. clash_excludes laws catalogue query refusal.0 refusal.1,
   )

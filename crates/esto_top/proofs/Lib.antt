@@ -1,16 +1,12 @@
 pub mod Steps
+pub mod LawRecords
 pub mod ValueLemmas
 pub mod SizeLemmas
 pub mod RunLemmas
 pub mod ListCourseLemmas
 pub mod Mediation
 pub mod CheckLemmas
-pub mod RuleLemmas
-pub mod FormLemmas
 pub mod LeadLemmas
-pub mod OneListLemmas
-pub mod AlikeLemmas
-pub mod SameListLemmas
 pub mod AlikeRunLemmas
 pub mod RunAgreeLemmas
 pub mod SayLemmas
