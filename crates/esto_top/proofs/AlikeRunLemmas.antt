@@ -1,33 +1,19 @@
 -- Texts of runs over catalogues that say the same.
-use Rattle.std.proofs.Common.{◌≡◌, ℕ, Bool, List, map, length, slice_get, Option, Some, Contains, refl, sym, ap, subst, ◌∙◌}
-use Rattle.std.proofs.lemmas.Option.{same_Some}
-use Rattle.esto_catalog.specs.Determined.{AreSame, StoredAs, as_table, as_documents, as_keys, shape_as, stored_as}
-use Rattle.esto_catalog.specs.declared.catalogue.Shape.{Shape}
-use Rattle.esto_catalog.specs.declared.catalogue.Shape.TheVariants.{Table, Documents, Keys}
+use Rattle.std.proofs.Common.{◌≡◌, ℕ, Bool, List, map, sym, ap, subst, ◌∙◌}
+use Rattle.esto_catalog.specs.Determined.{AreSame, stored_as}
 use Rattle.esto_catalog.specs.declared.catalogue.Catalogue.{Catalogue}
 use Rattle.esto_catalog.specs.declared.catalogue.Store.{Store}
-use Rattle.esto_docmodel.specs.Layouts.{IsLayout}
-use Rattle.esto_docs.specs.Files.{file_trees, trees_fault}
-use Rattle.esto_docs.specs.Rows.{IsRowOf}
-use Rattle.esto_ports.specs.declared.file_fault.FileFault.{FileFault}
-use Rattle.esto_query.specs.Making.{query_of}
 use Rattle.esto_query.specs.declared.query.Query.{Query}
 use Rattle.esto_run.specs.Answers.{IsAnswersText, level_name, rows_text}
 use Rattle.esto_run.specs.Laws.{IsAnswerOver, RisingRowsAreOne}
-use Rattle.esto_run.specs.Stores.{IsRowIn, IsFileRow, first_fault_in}
+use Rattle.esto_run.specs.Stores.{IsFileRow}
 use Rattle.esto_semantics.specs.Facts.{image}
-use Rattle.esto_semantics.specs.declared.fact.Fact.{Fact}
 use Rattle.esto_semantics.specs.Listed.{candidate}
 use Rattle.esto_semantics.specs.Queries.{ConjunctiveQuery}
-use Rattle.esto_stores.specs.Keys.{key_rows, key_fault}
 use Rattle.esto_stores.specs.Rows.{Row}
-use Rattle.esto_stores.specs.Table.{table_rows, table_fault}
 use Rattle.esto_stores.specs.TableText.{table_text}
 use Rattle.esto_term.specs.declared.term.Term.{out-Term}
-use Rattle.esto_term.proofs.ListLemmas.{map_at, map_at-from}
-use Rattle.esto_views.specs.declared.fragments.FragmentDef.{FragmentDef}
 use Rattle.esto_views.specs.declared.plan.Plan.{Plan}
-use Rattle.esto_opening.specs.Fragments.{Stored, IsStoredAt, content_fault}
 use Rattle.esto_top.specs.Run.{IsRunText}
 use Rattle.esto_opening.specs.Alike.{IsSameQuery, StoresHaveOneContent}
 use Rattle.esto_planning.specs.Alike.{IsSamePlan}

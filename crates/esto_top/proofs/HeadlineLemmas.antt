@@ -7,27 +7,19 @@ use Rattle.esto_catalog.specs.Reading.{IsCatalogueOf}
 use Rattle.esto_catalog.specs.declared.catalogue.Catalogue.{Catalogue}
 use Rattle.esto_backchase.specs.Listing.{ListedCoverRewritings}
 use Rattle.esto_chase_laws.specs.declared.clash.Clash.{Clash}
-use Rattle.esto_constraint.specs.Constraints.{rule_of, rules_of}
-use Rattle.esto_constraint.specs.declared.rule.Constraint.{Constraint}
+use Rattle.esto_constraint.specs.Constraints.{rules_of}
 use Rattle.esto_list.specs.Items.{sets_of, totals_of}
 use Rattle.esto_list.specs.declared.listing.Listed.{Listed}
 use Rattle.esto_ports.specs.Files.{Files}
 use Rattle.esto_query.specs.Making.{query_of}
-use Rattle.esto_query.specs.Soundness.{IsSound}
 use Rattle.esto_query.specs.declared.query.Query.{Query}
-use Rattle.esto_read.specs.Readings.{HaveOneReading, HaveNoFault}
-use Rattle.esto_semantics.specs.Instances.{IsUniversalFor}
+use Rattle.esto_read.specs.Readings.{HaveNoFault}
 use Rattle.esto_semantics.specs.Listed.{chosen, IsWeight}
 use Rattle.esto_semantics.specs.ListedLaws.{AreWeights, NoRewritingExists, PickWeighsLeastOfAll}
 use Rattle.esto_semantics.specs.Plans.{IsUniversalPlan}
-use Rattle.esto_semantics.specs.Queries.{ConjunctiveQuery}
 use Rattle.esto_semantics.specs.Rewritings.{IsPlanFor}
-use Rattle.esto_semantics.specs.Rules.{AreRules, IsRule}
-use Rattle.esto_core.specs.PrintedLaws.{PrintedIsSatisfiable, PrintedPlanReceivesUnions, PrintedPlanIsUniversal, PrintedCoreHasNoRetract, PrintedCoreIsOneForAQuery}
-use Rattle.esto_universal.specs.PlannedLaws.{ClashedIsUnsatisfiable}
 use Rattle.esto_views.specs.Fragments.{views_of, patterns_of, weights_of}
 use Rattle.esto_views.specs.Plans.{plan_query}
-use Rattle.esto_views.specs.Soundness.{IsSoundPlan}
 use Rattle.esto_views.specs.declared.plan.Plan.{Plan}
 use Rattle.esto_course.specs.Course.{gives}
 use Rattle.esto_top.specs.Headline.{FilesSay, HasAnswers, PrintsExactly, IsExactList, IsExactRefusal, IsEmptyWithoutRewriting, SaidOfLists, OutcomesAreLists, OutcomesAreRefusals, HoldsOfLists}
@@ -44,9 +36,9 @@ use Rattle.esto_top.proofs.LawRecords.{PlanningLaws}
 use Rattle.esto_opening.specs.Calm.{Leads}
 use Rattle.esto_opening.proofs.LeadLemmas.{then-leads, leads-more, gives-leads, judges-leads}
 use Rattle.esto_top.proofs.LeadLemmas.{says-leads}
-use Rattle.esto_top.proofs.RuleLemmas.{are_rules}
 use Rattle.esto_top.proofs.SayLemmas.{IsQueryOf, catalogue_leads, query_leads, same_as_read}
 use Rattle.esto_planning.specs.Listing.{IsClash, IsListOf, IsListing, IsPlanned}
+use Rattle.esto_planning.specs.Laws.{ClashExcludesAnswers, CoreHasNoRetract, CoreIsOnly, PlanHasForm, PlanIsUniversal, PlanTellsAnswers}
 use Rattle.esto_planning.specs.Planning.{plans_query}
 
 -- ---- the items
@@ -64,42 +56,29 @@ no_item (item ∷ items) none = absurd (cc)
 
 -- ---- the text
 
--- the laws of runs, of their plans and of listed sets
+-- the laws of plans and of listed sets
 pub record ListingLaws : Type 0 where
-  pub queries : (query : Query) → IsSound query.head query.body query.names
-  pub rules : (constraint : Constraint) → IsRule (rule_of constraint)
-  pub satisfiable : PrintedIsSatisfiable
-  pub unsatisfiable : ClashedIsUnsatisfiable
   pub planning : PlanningLaws
-  pub universal : PrintedPlanIsUniversal
-  pub core : PrintedCoreHasNoRetract
-  pub only_core : PrintedCoreIsOneForAQuery
+  pub form : PlanHasForm
+  pub universal : PlanIsUniversal
+  pub core : CoreHasNoRetract
+  pub only_core : CoreIsOnly
+  pub satisfiable : PlanTellsAnswers
+  pub unsatisfiable : ClashExcludesAnswers
   pub covers : ListedCoverRewritings
   pub none : NoRewritingExists
   pub lightest : PickWeighsLeastOfAll
 
 module _ (laws : ListingLaws) (catalogue : Catalogue) (query : Query) where
-  rules_are : AreRules (rules_of catalogue.rules)
-  rules_are = are_rules laws.rules catalogue.rules
-
-  -- a clash excludes answers
-  pub clash_excludes : (clash : Clash) → IsClash catalogue query clash → ¬ (HasAnswers catalogue query)
-  clash_excludes clash = laws.unsatisfiable (rules_of catalogue.rules) (query_of query) clash rules_are (laws.queries query).query
-
   module _ (plan : Plan) (planned : IsPlanned catalogue query plan) where
-    -- a plan tells that there are answers
-    pub plan_tells : HasAnswers catalogue query
-    plan_tells =
-        laws.satisfiable catalogue.core (rules_of catalogue.rules) (views_of catalogue.fragments) query.names (query_of query) plan rules_are
-        (laws.queries query).query planned
-
     is_for : IsPlanFor (query_of query) (plan_query plan)
-    is_for = laws.planning.form catalogue query plan planned
+    is_for = laws.form catalogue query plan planned
 
     universal : IsUniversalPlan (rules_of catalogue.rules) (views_of catalogue.fragments) (query_of query) (plan_query plan)
-    universal =
-        laws.universal catalogue.core (rules_of catalogue.rules) (views_of catalogue.fragments) query.names (query_of query) plan rules_are
-        (laws.queries query).query planned
+    universal = laws.universal catalogue query plan planned
+
+    plan_tells : HasAnswers catalogue query
+    plan_tells = laws.satisfiable catalogue query plan planned
 
     -- the list is empty exactly where there is no executable rewriting
     pub empty-without : (items : List Listed) → IsListOf catalogue query plan items → IsEmptyWithoutRewriting catalogue query items
@@ -122,11 +101,8 @@ module _ (laws : ListingLaws) (catalogue : Catalogue) (query : Query) where
             list = listing.list;
             printed = listing.printed;
             universal = universal;
-            core = λ asked.
-                laws.core catalogue.core (rules_of catalogue.rules) (views_of catalogue.fragments) query.names (query_of query) plan asked planned;
-            only_core = λ asked.
-                laws.only_core catalogue.core (rules_of catalogue.rules) (views_of catalogue.fragments) query.names (query_of query) plan rules_are
-                (laws.queries query).query asked planned;
+            core = laws.core catalogue query plan planned;
+            only_core = laws.only_core catalogue query plan planned;
             complete = λ other rewriting.
                 laws.covers (rules_of catalogue.rules) (views_of catalogue.fragments) (patterns_of catalogue.fragments) (query_of query) (plan_query plan)
                 other (sets_of listing.items) is_for.flat_body universal plan_tells listing.list.sets rewriting;
@@ -222,7 +198,7 @@ module _ (sound : CataloguesAreSound) (one : HaveOneCatalogue) (apart : HaveNoEr
         let plan = run.has_text.plan in
         let planned = laws.planning.plan_moved catalogue run.catalogue query run.query plan alike same run.has_text.planned in
         let listing = laws.planning.text_moved catalogue run.catalogue query run.query plan run.text alike same run.has_text.listing in (
-          plan_tells laws catalogue query plan planned,
+          laws.satisfiable catalogue query plan planned,
           (
             ap reply_status run.reply_is,
             subst (PrintsExactly catalogue query) (sym (ap reply_text run.reply_is)) (prints-exactly laws catalogue query plan planned run.text listing),
@@ -237,7 +213,7 @@ module _ (sound : CataloguesAreSound) (one : HaveOneCatalogue) (apart : HaveNoEr
         let same = same_as_read sound one apart queries no_fault files catalogue_name query_name catalogue query say
         run.catalogue run.is_catalogue run.query run.is_query in
         let clashes = laws.planning.clash_moved catalogue run.catalogue query run.query run.clash alike same run.clashes in
-        (clash_excludes laws catalogue query run.clash clashes, (run.clash, clashes, run.refusal_is, text_is ∙ ap line_of run.refusal_is))
+        (laws.unsatisfiable catalogue query run.clash clashes, (run.clash, clashes, run.refusal_is, text_is ∙ ap line_of run.refusal_is))
 
     module _ (said : Status) (text : List ℕ) (says : Says (list_course (Some files) catalogue_name query_name) ⊥ said text) where
       -- a satisfiable query has its exact list
@@ -270,7 +246,7 @@ module _ (sound : CataloguesAreSound) (one : HaveOneCatalogue) (apart : HaveNoEr
   outcomes_are_refusals words files catalogue_name query_name catalogue query said text asks say outcome = (
     exact_refusal sound one apart queries no_fault files catalogue_name query_name catalogue query say laws said text
         (subst (λ it. Says (course_of it (Some files)) ⊥ said text) asks outcome),
-    λ refusal. clash_excludes laws catalogue query refusal.0 refusal.1,
+    λ refusal. laws.unsatisfiable catalogue query refusal.0 refusal.1,
   )
 
 -- what is said of each outcome holds of what was put

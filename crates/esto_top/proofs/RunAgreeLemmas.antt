@@ -1,48 +1,33 @@
 -- The courses of `run` over catalogues that say the same agree.
-use Rattle.std.proofs.Common.{◌≡◌, ℕ, suc, Bool, List, [], ◌∷◌, length, slice_get, Option, Some, None, refl, sym, ap, subst, ◌∙◌, arith}
-use Rattle.std.proofs.lemmas.List.{length-map}
-use Rattle.std.proofs.lemmas.Option.{same_Some, none-some}
+use Rattle.std.proofs.Common.{◌≡◌, ℕ, Bool, List, [], slice_get, Option, Some, sym, ap, subst, ◌∙◌}
+use Rattle.std.proofs.lemmas.Option.{same_Some}
 use Rattle.either.specs.declared.Either.{Either}
 use Rattle.either.specs.declared.Either.TheVariants.{Left, Right}
 use Rattle.esto_catalog.specs.Determined.{AreSame}
 use Rattle.esto_catalog.specs.declared.catalogue.Catalogue.{Catalogue}
 use Rattle.esto_chase_laws.specs.declared.clash.Clash.{Clash}
-use Rattle.esto_constraint.specs.Constraints.{rules_of}
-use Rattle.esto_course.specs.Course.{Course, each, gives, judges, and_then}
+use Rattle.esto_course.specs.Course.{judges, and_then}
 use Rattle.esto_course.proofs.Determined.{then_agree, gives_agree, judges_agree}
-use Rattle.esto_list.specs.Items.{totals_of}
 use Rattle.esto_list.specs.declared.listing.Listed.{Listed}
 use Rattle.esto_ports.specs.Files.{Files}
-use Rattle.esto_ports.specs.declared.file_fault.FileFault.{FileFault}
-use Rattle.esto_query.specs.Making.{query_of}
 use Rattle.esto_query.specs.declared.query.Query.{Query}
 use Rattle.esto_run.specs.Answers.{rows_text}
 use Rattle.esto_run.specs.Laws.{IsAnswerOver, RisingRowsAreOne, UsedAreOne}
 use Rattle.esto_run.specs.Stores.{IsFileRow}
 use Rattle.esto_run.specs.Used.{AreUsed}
 use Rattle.esto_semantics.specs.Listed.{candidate}
-use Rattle.esto_semantics.specs.ListedLaws.{PickIsOne}
 use Rattle.esto_semantics.specs.Queries.{ConjunctiveQuery}
-use Rattle.esto_semantics.specs.Rules.{AreRules}
-use Rattle.esto_views.specs.Fragments.{views_of}
 use Rattle.esto_views.specs.Plans.{plan_query}
 use Rattle.esto_views.specs.declared.plan.Plan.{Plan}
-use Rattle.esto_opening.specs.Fetch.{fetches}
-use Rattle.esto_opening.specs.Fragments.{Stored, IsStoredAt, content_fault, reads_content, opens_stored, opens_fragment, opens_next, opens_fragments, with_content, no_contents}
+use Rattle.esto_opening.specs.Fragments.{opens_fragments}
 use Rattle.esto_top.specs.Run.{IsRunText, runs_item, runs_plan, runs_end, runs_query}
-use Rattle.esto_planning.specs.Choice.HasNoPlace.{is_empty, is_above}
 use Rattle.esto_opening.specs.declared.reply.Reply.TheVariants.{Done, Unsatisfiable}
-use Rattle.esto_opening.specs.declared.fragments.TheConstants.{FRAGMENT_LIMIT}
-use Rattle.esto_opening.specs.declared.status.Status.{Status}
-use Rattle.esto_opening.specs.declared.status.Status.TheVariants as status
 use Rattle.esto_opening.specs.Calm.{AgreeCalmly}
-use Rattle.esto_opening.proofs.AgreeLemmas.{fetches-agree}
 use Rattle.esto_top.proofs.AlikeRunLemmas.{same_rows_text, one_text, run_text_moved}
 use Rattle.esto_top.proofs.LawRecords.{OpeningLaws, PlanningLaws}
 use Rattle.esto_opening.specs.Alike.{IsSameQuery}
 use Rattle.esto_planning.specs.Alike.{IsSameEnd, IsSamePlan}
-use Rattle.esto_planning.specs.Choice.{HasNoPlace, IsPlace}
-use Rattle.esto_planning.specs.Planning.{chooses, ends_query, lists_plan}
+use Rattle.esto_planning.specs.Planning.{chooses}
 
 -- the laws by which runs are determined
 pub record CourseLaws : Type 0 where

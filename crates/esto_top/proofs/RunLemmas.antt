@@ -1,14 +1,11 @@
 -- The set that is run, and the text of its rows.
 use Rattle.either.specs.declared.Either.TheVariants.{Left, Right}
-use Rattle.std.proofs.Common.{◌≡◌, ◌↔◌, ◌<◌, ◌≤◌, ◌-◌, ℕ, Bool, List, [], length, All, Contains, slice_get, Option, Some, None, refl, sym, ap, subst, ◌∙◌, arith}
-use Rattle.std.proofs.lemmas.List.{length-map}
-use Rattle.std.proofs.lemmas.Option.{slice_get_within, get_or_from_slice_get}
+use Rattle.std.proofs.Common.{◌≡◌, ◌↔◌, ◌<◌, ◌-◌, ℕ, Bool, List, [], length, Contains, slice_get, Option, Some, refl, ap, subst, ◌∙◌}
+use Rattle.std.proofs.lemmas.Option.{slice_get_within}
 use Rattle.esto_catalog.specs.declared.catalogue.Catalogue.{Catalogue}
 use Rattle.esto_chase_laws.specs.declared.clash.Clash.{Clash}
 use Rattle.esto_course.specs.Course.{Stops, judges, gives, and_then}
-use Rattle.esto_course.specs.Course.Stops.{refused}
 use Rattle.esto_course.proofs.Steps.{caused_more, first_stops, then_goes, then_stops}
-use Rattle.esto_list.specs.Items.{totals_of}
 use Rattle.esto_list.specs.declared.listing.Listed.{Listed}
 use Rattle.esto_ports.specs.Files.{Files}
 use Rattle.esto_query.specs.declared.query.Query.{Query}
@@ -17,16 +14,13 @@ use Rattle.esto_run.specs.Laws.{AnswersAreOverFiles, IsAnswerOver, UsesOnly}
 use Rattle.esto_run.specs.Opened.{AreOpened}
 use Rattle.esto_run.specs.Stores.{IsFileRow}
 use Rattle.esto_run.specs.Used.{AreUsed}
-use Rattle.esto_plan.specs.Planned.{IsSafeOrder}
 use Rattle.esto_plan.specs.Rows.{IsRowOf, held_by}
-use Rattle.esto_semantics.specs.Access.{IsStatedOrder}
-use Rattle.esto_semantics.specs.Listed.{IsPick, candidate}
+use Rattle.esto_semantics.specs.Listed.{candidate}
 use Rattle.esto_semantics.specs.ListedLaws.{ChosenAreNamed}
 use Rattle.esto_semantics.specs.declared.fact.Fact.{Fact}
 use Rattle.esto_stores.specs.Rows.{Row}
 use Rattle.esto_term.specs.declared.term.Term.{Term}
-use Rattle.esto_term.proofs.ListLemmas.{Contains-at, Contains-map, Contains-map_from}
-use Rattle.esto_views.specs.Fragments.{patterns_of}
+use Rattle.esto_term.proofs.ListLemmas.{Contains-at, Contains-map_from}
 use Rattle.esto_views.specs.Plans.{IsPlanOver, fact_of, plan_query}
 use Rattle.esto_views.specs.declared.fragments.FragmentDef.{FragmentDef}
 use Rattle.esto_views.specs.declared.plan.Plan.{Plan}
@@ -34,13 +28,10 @@ use Rattle.esto_opening.specs.Answers.{IsWant, IsCaused}
 use Rattle.esto_opening.specs.Fragments.{opens_fragments}
 use Rattle.esto_opening.specs.Opening.{opens_catalogue, opens_query}
 use Rattle.esto_top.specs.Run.{IsRunText, runs_end, run_course, runs_item, runs_plan, runs_query}
-use Rattle.esto_planning.specs.Choice.HasNoPlace.{is_empty, is_above}
 use Rattle.esto_opening.specs.declared.reply.Reply.{Reply}
 use Rattle.esto_opening.specs.declared.reply.Reply.TheVariants.{Done, Unsatisfiable}
 use Rattle.esto_opening.specs.declared.status.Status.{Status}
-use Rattle.esto_opening.specs.declared.status.Status.TheVariants.{NoRewriting, NoSuchNumber}
 use Rattle.esto_opening.proofs.Steps.{caused_weaker}
-use Rattle.esto_planning.specs.Choice.{IsItemOf, IsPlace}
 use Rattle.esto_planning.specs.Listing.{IsClash, IsListOf, IsPlanned}
 use Rattle.esto_planning.specs.Planning.{chooses, ends_query, lists_plan}
 

@@ -7,7 +7,7 @@ use Rattle.esto_catalog.specs.declared.fault.CatalogueError.{CatalogueError}
 use Rattle.esto_ports.specs.Files.{Files}
 use Rattle.esto_query.specs.Schemas.{arities_of}
 use Rattle.esto_query.specs.declared.query.Query.{Query}
-use Rattle.esto_read.specs.Readings.{IsReading, IsFirstFault, HaveOneReading, HaveNoFault}
+use Rattle.esto_read.specs.Readings.{IsReading, IsFirstFault, HaveNoFault}
 use Rattle.esto_read.specs.declared.read.Form.TheVariants as form
 use Rattle.esto_read.specs.declared.read.NamedQuery.{NamedQuery}
 use Rattle.esto_read.specs.declared.words.Word.{Word}

@@ -4,8 +4,7 @@ ghost use Rattle.esto_ports.specs.Faults.{Rises};
 ghost use Rattle.esto_opening.specs.Answers.{Answers};
 ghost use Rattle.esto_opening.specs.Asked.{AsksIn};
 ghost use Rattle.esto_top.specs.List.{prints_list, lists_query, list_course};
-ghost use Rattle.esto_planning.specs.Listing.{IsListOf, IsListing, IsPlanned};
-ghost use Rattle.esto_planning.specs.Planning.{plans_query};
+ghost use Rattle.esto_planning.specs.Listing.{IsListing, IsPlanned};
 
 use esto_catalog::Catalogue;
 use esto_opening::{Reply, Status, open_catalogue, open_query};

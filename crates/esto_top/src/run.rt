@@ -8,8 +8,7 @@ ghost use Rattle.esto_opening.specs.declared.reply.Reply.TheVariants as reply;
 ghost use Rattle.esto_run.specs.Answers.{rows_text};
 ghost use Rattle.std.specs.Prelude.{IfOk, []};
 ghost use Rattle.esto_planning.specs.Choice.{IsItemOf};
-ghost use Rattle.esto_planning.specs.Listing.{IsClash, IsPlanned};
-ghost use Rattle.esto_planning.specs.Planning.{chooses};
+ghost use Rattle.esto_planning.specs.Listing.{IsPlanned};
 
 use either::{Left, Right};
 use esto_catalog::Catalogue;

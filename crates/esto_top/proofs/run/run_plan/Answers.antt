@@ -1,14 +1,16 @@
+use Rattle.esto_course.specs.Course.{judges}
 use Rattle.esto_course.proofs.Steps.{at_exit}
-use Rattle.esto_top.proofs.RunLemmas.{choice_stops, chosen_goes, chosen_stops, item_of, place_within}
+use Rattle.esto_top.proofs.RunLemmas.{choice_stops, chosen_goes, chosen_stops}
 use Rattle.esto_top.proofs.run.run_plan.Goals as goal
 
 pub item-requires : goal.item-requires
-item-requires g c = place_within c.in_ok-listing.listing c.args.number c.in_ok-place.place c.in_ok-place.ensures
+unfolding judges
+item-requires g c = c.chosen_items_are_listed.ensures.place c.in_ok-listing.listing c.args.number c.in_ok-place.place c.in_ok-place.ensures
 
 pub run_item-requires-clause-item : goal.run_item-requires-clause-item
 run_item-requires-clause-item g c =
-    item_of c.args.catalogue.now c.args.query.now c.args.plan.now c.in_ok-listing.listing c.in_ok-listing.ensures c.in_ok-place.place c.item.result.now
-    c.item.ensures
+    c.chosen_items_are_listed.ensures.item c.args.catalogue.now c.args.query.now c.args.plan.now c.in_ok-listing.listing c.in_ok-place.place c.item.result.now
+    c.in_ok-listing.ensures c.item.ensures
 
 pub returns-in_err-place-clause-answer : goal.returns-in_err-place-clause-answer
 returns-in_err-place-clause-answer g c =
