@@ -5,6 +5,8 @@ pub mod SizeLemmas
 pub mod RunLemmas
 pub mod ListCourseLemmas
 pub mod Mediation
+pub mod AskedLemmas
+pub mod RunAskedLemmas
 pub mod CheckLemmas
 pub mod LeadLemmas
 pub mod AlikeRunLemmas

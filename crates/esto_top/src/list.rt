@@ -55,7 +55,7 @@ fn listed(alloc: Global, query: &Query, catalogue: &Catalogue) -> Result<Bytes, 
 }
 
 /// Fetches and reads the catalogue, then the query, makes the query's printed plan, and prints the plan and the list.
-#[tactic(auto, using(crate::proofs::Steps::steps))]
+#[tactic(auto, using(crate::proofs::Steps::steps, crate::proofs::Steps::asked_steps))]
 pub fn list<S: Shelf>(
     alloc: Global,
     shelf: &mut S,

@@ -1,5 +1,7 @@
 use Rattle.esto_run.specs.Opened.{rows_held}
 use Rattle.esto_course.proofs.Steps.{at_exit}
+use Rattle.esto_opening.proofs.AskedSteps.{handed_asks}
+use Rattle.esto_top.proofs.RunAskedLemmas.{item_asks, item_exit_asks, item_text_wants, item_wants}
 use Rattle.esto_top.proofs.RunLemmas.{item_goes, item_stops, text_over_files, used_are_there}
 use Rattle.esto_top.proofs.run.run_item.Goals as goal
 
@@ -12,7 +14,7 @@ pub returns-in_err-opened-clause-answer : goal.returns-in_err-opened-clause-answ
 returns-in_err-opened-clause-answer g c =
     at_exit _ _ c.from_residual-in_err-opened.result c.from_residual-in_err-opened.ensures.1
     (item_stops (g.S.Shelf.files c.args.shelf.now) c.args.catalogue.now c.args.query.now c.args.plan.now c.args.item.now c.in_ok-numbers.numbers
-    c.in_ok-numbers.ensures.used c.in_err-opened.ensures.answer)
+    c.in_ok-numbers.ensures.used c.in_err-opened.ensures.answer.0)
 
 pub run_text-requires-clause-same_length : goal.run_text-requires-clause-same_length
 run_text-requires-clause-same_length g c =
@@ -27,6 +29,33 @@ returns-clause-answer g c =
     let opened = c.in_ok-opened.ensures.answer in
     item_goes (g.S.Shelf.files c.args.shelf.now) c.args.catalogue.now c.args.query.now c.args.plan.now c.args.item.now c.in_ok-numbers.numbers
     c.in_ok-numbers.ensures.used opened.0 c.in_ok-text.text opened.1
+    (text_over_files c.answers_are_over_files.ensures c.chosen_atoms_are_named.ensures c.args.catalogue.now c.args.query.now c.args.plan.now
+    c.args.item.now.set c.in_ok-numbers.numbers opened.0 (rows_held c.in_ok-opened.opened) c.in_ok-text.text c.in_ok-numbers.ensures.used opened.2
+    (c.in_ok-text.ensures c.args.item.now.set c.requires.item.order.is_order))
+
+pub returns-in_err-numbers-clause-asked : goal.returns-in_err-numbers-clause-asked
+returns-in_err-numbers-clause-asked g c =
+    handed_asks _ _ _ c.from_residual.ensures.1
+    (item_wants (g.S.Shelf.files c.args.shelf.now) c.args.catalogue.now c.args.query.now c.args.plan.now c.args.item.now (g.S.Shelf.asked c.args.shelf.now))
+
+pub returns-in_err-opened-clause-asked : goal.returns-in_err-opened-clause-asked
+returns-in_err-opened-clause-asked g c =
+    handed_asks _ _ _ c.from_residual-in_err-opened.ensures.1
+    (item_exit_asks (g.S.Shelf.files c.args.shelf.now) c.args.catalogue.now c.args.query.now c.args.plan.now c.args.item.now c.in_ok-numbers.numbers
+    c.in_ok-numbers.ensures.used _ c.in_err-opened.ensures.answer.1)
+
+pub returns-in_err-text-clause-asked : goal.returns-in_err-text-clause-asked
+returns-in_err-text-clause-asked g c =
+    let opened = c.in_ok-opened.ensures.answer in
+    handed_asks _ _ _ c.from_residual-in_err-text.ensures.1
+    (item_text_wants (g.S.Shelf.files c.args.shelf.now) c.args.catalogue.now c.args.query.now c.args.plan.now c.args.item.now c.in_ok-numbers.numbers
+    c.in_ok-numbers.ensures.used opened.0 opened.4)
+
+pub returns-clause-asked : goal.returns-clause-asked
+returns-clause-asked g c =
+    let opened = c.in_ok-opened.ensures.answer in
+    item_asks (g.S.Shelf.files c.args.shelf.now) c.args.catalogue.now c.args.query.now c.args.plan.now c.args.item.now c.in_ok-numbers.numbers
+    c.in_ok-numbers.ensures.used opened.0 opened.4 c.in_ok-text.text
     (text_over_files c.answers_are_over_files.ensures c.chosen_atoms_are_named.ensures c.args.catalogue.now c.args.query.now c.args.plan.now
     c.args.item.now.set c.in_ok-numbers.numbers opened.0 (rows_held c.in_ok-opened.opened) c.in_ok-text.text c.in_ok-numbers.ensures.used opened.2
     (c.in_ok-text.ensures c.args.item.now.set c.requires.item.order.is_order))
