@@ -1,4 +1,4 @@
-use Rattle.std.proofs.Common.{◌++◌, ◌∷◌, [], List, ℕ, ap, sym, subst, ◌∙◌}
+use Rattle.std.proofs.Common.{◌++◌, ◌∷◌, [], sym, subst, ◌∙◌}
 use Rattle.esto_columns.specs.CodedRows.{CodedRows}
 use Rattle.esto_run.specs.Coded.{AreCodesOfAll, IsStoredRow}
 use Rattle.esto_run.specs.Laws.{IsAnswerOfOne}

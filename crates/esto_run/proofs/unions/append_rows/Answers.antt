@@ -1,4 +1,4 @@
-use Rattle.std.proofs.Common.{◌++◌, ◌∷◌, [], List, ℕ, ap, sym, subst, ◌∙◌}
+use Rattle.std.proofs.Common.{List, ℕ, sym, subst}
 use Rattle.std.specs.Prelude.{◌≡◌, Some, slice_get}
 use Rattle.esto_run.proofs.UnionLemmas.{rows_more}
 use Rattle.esto_run.proofs.unions.append_rows.Goals as goal

@@ -1,5 +1,4 @@
 use Rattle.std.proofs.Common.{◌≡◌, ◌++◌, take}
-use Rattle.esto_columns.specs.CodedRows.{CodedRows}
 use Rattle.esto_run.proofs.unions.append_rows.Given as goal
 
 abbrev pub invariant-rows : goal.invariant-rows
