@@ -40,14 +40,15 @@ use Rattle.esto_opening.specs.declared.status.Status.{Status}
 use Rattle.esto_opening.specs.declared.status.Status.TheVariants as status
 use Rattle.esto_opening.proofs.RefusalLemmas.{Refuses, catalogue_refuses, fragments_refuse, gives_refuses, judges_refuses, query_refuses, then_refuses}
 use Rattle.esto_top.specs.DataOutcomes.{OutcomesAgree}
-use Rattle.esto_top.specs.Listing.{IsListOf}
 use Rattle.esto_top.specs.Outcome.{Says, reply_status, reply_text}
 use Rattle.esto_top.specs.Outcome.Says.{replies, refuses}
-use Rattle.esto_top.specs.Run.{HasNoPlace, IsRunText, run_course, runs_end, runs_item, runs_query}
-use Rattle.esto_top.specs.Run.HasNoPlace.{is_empty, is_above}
+use Rattle.esto_top.specs.Run.{IsRunText, run_course, runs_end, runs_item, runs_query}
+use Rattle.esto_planning.specs.Choice.HasNoPlace.{is_empty, is_above}
 use Rattle.esto_top.proofs.RunLemmas.{item_of, same_rows, uses_only}
 use Rattle.esto_top.proofs.RunsLemmas.{RunGoes, content_cases, same_texts, over_same, query_runs, run_words}
 use Rattle.esto_top.proofs.RunsLemmas.RunGoes.{is_run, has_clash}
+use Rattle.esto_planning.specs.Choice.{HasNoPlace}
+use Rattle.esto_planning.specs.Listing.{IsListOf}
 
 -- ---- no run stops with Done
 

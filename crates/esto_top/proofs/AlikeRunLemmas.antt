@@ -29,8 +29,8 @@ use Rattle.esto_views.specs.declared.fragments.FragmentDef.{FragmentDef}
 use Rattle.esto_views.specs.declared.plan.Plan.{Plan}
 use Rattle.esto_opening.specs.Fragments.{Stored, IsStoredAt, content_fault}
 use Rattle.esto_top.specs.Run.{IsRunText}
-use Rattle.esto_top.proofs.AlikeLemmas.{IsSameQuery}
-use Rattle.esto_top.proofs.SameListLemmas.{IsSamePlan}
+use Rattle.esto_opening.specs.Alike.{IsSameQuery}
+use Rattle.esto_planning.specs.Alike.{IsSamePlan}
 
 -- ---- stores that are one but for how their patterns are written
 

@@ -28,23 +28,26 @@ use Rattle.esto_opening.specs.Answers.{IsCaused}
 use Rattle.esto_top.specs.Determined.{OutcomesAreDetermined, ExactWhereTold}
 use Rattle.esto_top.specs.Grammar.{Request, request_of, course_of_request, course_of_asked}
 use Rattle.esto_top.specs.Grammar.Request.{CheckOf, ListFor, RunFor, FillFor, AnswerFor, AuditOf, ContainsFor, MinimiseFor, BenchOf}
-use Rattle.esto_top.specs.List.{plans_query, prints_list, lists_query, list_course}
+use Rattle.esto_top.specs.List.{prints_list, lists_query, list_course}
 use Rattle.esto_top.specs.Run.{run_course}
 use Rattle.esto_top.specs.Outcome.{CompleteWhereTold}
 use Rattle.esto_opening.specs.Opening.{status_of, reads_catalogue, opens_catalogue, reads_query, opens_query}
 use Rattle.esto_opening.specs.declared.reply.Reply.TheVariants.{Done}
 use Rattle.esto_opening.specs.declared.status.Status.{Status}
 use Rattle.esto_opening.specs.declared.status.Status.TheVariants as status
-use Rattle.esto_top.proofs.AlikeLemmas.{IsSameQuery, same_reading, planned_moved, clash_moved, listing_moved}
+use Rattle.esto_top.proofs.AlikeLemmas.{same_reading, planned_moved, clash_moved, listing_moved}
 use Rattle.esto_opening.specs.Calm.{AgreeCalmly}
 use Rattle.esto_opening.proofs.AgreeLemmas.{fetches-agree}
 use Rattle.esto_top.proofs.AgreeLemmas.{says-agree}
 use Rattle.esto_top.proofs.BenchLemmas.{benches-agree}
 use Rattle.esto_top.proofs.RunAgreeLemmas.{runs-agree}
-use Rattle.esto_top.proofs.SameListLemmas.{ListLaws, IsSamePlan, texts_one}
+use Rattle.esto_top.proofs.SameListLemmas.{ListLaws, texts_one}
 use Rattle.esto_opening.specs.declared.opening.TheConstants.{CATALOGUE_LIMIT, QUERY_LIMIT}
 use Rattle.esto_top.proofs.RuleLemmas.{are_rules}
 use Rattle.esto_opening.proofs.Steps.{never_wanting}
+use Rattle.esto_opening.specs.Alike.{IsSameQuery}
+use Rattle.esto_planning.specs.Alike.{IsSamePlan}
+use Rattle.esto_planning.specs.Planning.{plans_query}
 
 -- ---- the text of a check
 

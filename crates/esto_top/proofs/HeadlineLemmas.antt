@@ -32,8 +32,7 @@ use Rattle.esto_views.specs.declared.plan.Plan.{Plan}
 use Rattle.esto_course.specs.Course.{gives}
 use Rattle.esto_top.specs.Headline.{FilesSay, HasAnswers, PrintsExactly, IsExactList, IsExactRefusal, IsEmptyWithoutRewriting, SaidOfLists, OutcomesAreLists, OutcomesAreRefusals, HoldsOfLists}
 use Rattle.esto_opening.specs.Line.{line_of}
-use Rattle.esto_top.specs.List.{plans_query, lists_query, list_course}
-use Rattle.esto_top.specs.Listing.{IsClash, IsListing, IsListOf, IsPlanned}
+use Rattle.esto_top.specs.List.{lists_query, list_course}
 use Rattle.esto_top.specs.Outcome.{Says, CompleteWhereTold, reply_status, reply_text}
 use Rattle.esto_top.specs.Grammar.{course_of}
 use Rattle.esto_opening.specs.declared.reply.Reply.{Reply}
@@ -47,6 +46,8 @@ use Rattle.esto_opening.proofs.LeadLemmas.{then-leads, leads-more, gives-leads, 
 use Rattle.esto_top.proofs.LeadLemmas.{says-leads}
 use Rattle.esto_top.proofs.RuleLemmas.{are_rules}
 use Rattle.esto_top.proofs.SayLemmas.{IsQueryOf, catalogue_leads, query_leads, same_as_read}
+use Rattle.esto_planning.specs.Listing.{IsClash, IsListOf, IsListing, IsPlanned}
+use Rattle.esto_planning.specs.Planning.{plans_query}
 
 -- ---- the items
 

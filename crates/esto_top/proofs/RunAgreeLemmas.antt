@@ -29,18 +29,22 @@ use Rattle.esto_views.specs.Plans.{plan_query}
 use Rattle.esto_views.specs.declared.plan.Plan.{Plan}
 use Rattle.esto_opening.specs.Fetch.{fetches}
 use Rattle.esto_opening.specs.Fragments.{Stored, IsStoredAt, content_fault, reads_content, opens_stored, opens_fragment, opens_next, opens_fragments, with_content, no_contents}
-use Rattle.esto_top.specs.Run.{IsPlace, HasNoPlace, IsRunText, ends_query, lists_plan, chooses, runs_item, runs_plan, runs_end, runs_query}
-use Rattle.esto_top.specs.Run.HasNoPlace.{is_empty, is_above}
+use Rattle.esto_top.specs.Run.{IsRunText, runs_item, runs_plan, runs_end, runs_query}
+use Rattle.esto_planning.specs.Choice.HasNoPlace.{is_empty, is_above}
 use Rattle.esto_opening.specs.declared.reply.Reply.TheVariants.{Done, Unsatisfiable}
 use Rattle.esto_opening.specs.declared.fragments.TheConstants.{FRAGMENT_LIMIT}
 use Rattle.esto_opening.specs.declared.status.Status.{Status}
 use Rattle.esto_opening.specs.declared.status.Status.TheVariants as status
 use Rattle.esto_opening.specs.Calm.{AgreeCalmly}
 use Rattle.esto_opening.proofs.AgreeLemmas.{fetches-agree}
-use Rattle.esto_top.proofs.AlikeLemmas.{IsSameQuery, planned_moved, clash_moved, list_moved}
+use Rattle.esto_top.proofs.AlikeLemmas.{planned_moved, clash_moved, list_moved}
 use Rattle.esto_top.proofs.AlikeRunLemmas.{same_file, same_named, same_fault, same_rows_text, one_text, run_text_moved}
 use Rattle.esto_top.proofs.RuleLemmas.{are_rules}
-use Rattle.esto_top.proofs.SameListLemmas.{ListLaws, IsSamePlan, items_one}
+use Rattle.esto_top.proofs.SameListLemmas.{ListLaws, items_one}
+use Rattle.esto_opening.specs.Alike.{IsSameQuery}
+use Rattle.esto_planning.specs.Alike.{IsSamePlan}
+use Rattle.esto_planning.specs.Choice.{HasNoPlace, IsPlace}
+use Rattle.esto_planning.specs.Planning.{chooses, ends_query, lists_plan}
 
 -- ---- the choice
 

@@ -40,17 +40,16 @@ use Rattle.esto_opening.specs.Fragments.{IsStoredAt, content_fault, opens_fragme
 use Rattle.esto_top.specs.Grammar.{course_of, is_list_number}
 use Rattle.esto_top.specs.Headline.{FilesSay, HasAnswers, Rewrites}
 use Rattle.esto_opening.specs.Fetch.{HasWithin}
-use Rattle.esto_top.specs.Listing.{IsClash, IsListOf, IsPlanned}
 use Rattle.esto_top.specs.Outcome.{Says, CompleteWhereTold, reply_status, reply_text}
-use Rattle.esto_top.specs.Run.{IsPlace, HasNoPlace, IsRunText, runs_query, run_course}
-use Rattle.esto_top.specs.Run.HasNoPlace.{is_empty, is_above}
+use Rattle.esto_top.specs.Run.{IsRunText, runs_query, run_course}
+use Rattle.esto_planning.specs.Choice.HasNoPlace.{is_empty, is_above}
 use Rattle.esto_top.specs.Runs.{AsksRun, IsReadable, CanRun, PrintsAnswers, PrintsRun, IsExactRun, OutcomesAreRuns, RunsWhereTold}
 use Rattle.esto_opening.specs.declared.reply.Reply.{Reply}
 use Rattle.esto_opening.specs.declared.reply.Reply.TheVariants.{Done, Unsatisfiable}
 use Rattle.esto_opening.specs.declared.fragments.TheConstants.{FRAGMENT_LIMIT}
 use Rattle.esto_opening.specs.declared.status.Status.{Status}
 use Rattle.esto_opening.specs.declared.status.Status.TheVariants as status
-use Rattle.esto_top.proofs.AlikeLemmas.{IsSameQuery, planned_moved, clash_moved, list_moved}
+use Rattle.esto_top.proofs.AlikeLemmas.{planned_moved, clash_moved, list_moved}
 use Rattle.esto_top.proofs.AlikeRunLemmas.{same_file, same_fault, same_rows_text, run_text_moved}
 use Rattle.esto_top.proofs.HeadlineLemmas.{ListingLaws, clash_excludes, plan_tells, empty-without}
 use Rattle.esto_opening.specs.Calm.{Leads}
@@ -60,8 +59,12 @@ use Rattle.esto_top.proofs.OneListLemmas.{first_same, rest_same}
 use Rattle.esto_top.proofs.RuleLemmas.{are_rules}
 use Rattle.esto_top.proofs.RunAgreeLemmas.{one_place, no_cause}
 use Rattle.esto_top.proofs.RunLemmas.{item_of, same_rows, uses_only}
-use Rattle.esto_top.proofs.SameListLemmas.{ListLaws, IsSamePlan, items_one}
+use Rattle.esto_top.proofs.SameListLemmas.{ListLaws, items_one}
 use Rattle.esto_top.proofs.SayLemmas.{IsQueryOf, catalogue_leads, query_leads, same_as_read}
+use Rattle.esto_opening.specs.Alike.{IsSameQuery}
+use Rattle.esto_planning.specs.Alike.{IsSamePlan}
+use Rattle.esto_planning.specs.Choice.{HasNoPlace, IsPlace}
+use Rattle.esto_planning.specs.Listing.{IsClash, IsListOf, IsPlanned}
 
 -- ---- the course of a query
 

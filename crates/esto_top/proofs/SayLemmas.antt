@@ -18,10 +18,11 @@ use Rattle.esto_opening.specs.Opening.{status_of, reads_catalogue, opens_catalog
 use Rattle.esto_opening.specs.declared.opening.TheConstants.{CATALOGUE_LIMIT, QUERY_LIMIT}
 use Rattle.esto_opening.specs.declared.status.Status.{Status}
 use Rattle.esto_opening.specs.declared.status.Status.TheVariants as status
-use Rattle.esto_top.proofs.AlikeLemmas.{IsSameQuery, same_reading}
+use Rattle.esto_top.proofs.AlikeLemmas.{same_reading}
 use Rattle.esto_opening.specs.Calm.{Leads}
 use Rattle.esto_opening.proofs.LeadLemmas.{then-leads, judges-leads, fetches-leads}
 use Rattle.esto_opening.proofs.Steps.{never_wanting}
+use Rattle.esto_opening.specs.Alike.{IsSameQuery}
 
 -- the query is a reading of the bytes over a catalogue
 abbrev pub IsQueryOf : Catalogue → List ℕ → Query → Type 0

@@ -1,16 +1,12 @@
 use Rattle.esto_constraint.specs.Constraints.{rules_of}
 use Rattle.esto_query.specs.Making.{query_of}
 use Rattle.esto_views.specs.Fragments.{views_of}
-use Rattle.esto_top.proofs.FormLemmas.{plan_form}
-use Rattle.esto_top.proofs.RuleLemmas.{are_rules}
-use Rattle.esto_top.proofs.list.listing_of.Goals as goal
+use Rattle.esto_planning.proofs.RuleLemmas.{are_rules}
+use Rattle.esto_planning.proofs.planning.listing_of.Goals as goal
 
 pub minimal_sets-requires-clause-over : goal.minimal_sets-requires-clause-over
 minimal_sets-requires-clause-over c =
-    let catalogue = c.args.catalogue.now in
-    let sound = c.catalogues_are_sound.ensures catalogue in
-    c.printed_plans_are_over_fragments.ensures.over catalogue.core (rules_of catalogue.rules) catalogue.fragments c.args.query.now.names
-    (query_of c.args.query.now) c.args.plan.now sound.fragments_are c.requires
+    c.planned_plans_have_their_form.ensures.over c.args.catalogue.now c.args.query.now c.args.plan.now c.requires
 
 pub minimal_sets-requires-clause-satisfiable : goal.minimal_sets-requires-clause-satisfiable
 minimal_sets-requires-clause-satisfiable c =
@@ -28,16 +24,7 @@ minimal_sets-requires-clause-universal c =
 
 pub minimal_sets-requires-clause-same_length : goal.minimal_sets-requires-clause-same_length
 minimal_sets-requires-clause-same_length c =
-    let catalogue = c.args.catalogue.now in
-    let rules = are_rules c.rules_are_sound.ensures.rules catalogue.rules in
-    let is_query = (c.queries_are_sound.ensures c.args.query.now).query in
-    let form = plan_form (λ it. (c.queries_are_their_own_instances.ensures.universal it).maps) (rules_of catalogue.rules) (views_of catalogue.fragments)
-    (query_of c.args.query.now) c.args.plan.now (c.plans_are_sound.ensures c.args.plan.now)
-    (c.printed_plans_are_universal.ensures.unions catalogue.core (rules_of catalogue.rules) (views_of catalogue.fragments) c.args.query.now.names
-    (query_of c.args.query.now) c.args.plan.now rules is_query c.requires)
-    (c.printed_plans_tell_satisfiable_queries.ensures catalogue.core (rules_of catalogue.rules) (views_of catalogue.fragments) c.args.query.now.names
-    (query_of c.args.query.now) c.args.plan.now rules is_query c.requires) in
-    form.same_length
+    (c.planned_plans_have_their_form.ensures.form c.args.catalogue.now c.args.query.now c.args.plan.now c.requires).same_length
 
 pub returns : goal.returns
 returns c =

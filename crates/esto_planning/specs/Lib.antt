@@ -1,0 +1,4 @@
+pub mod Listing
+pub mod Choice
+pub mod Planning
+pub mod Alike

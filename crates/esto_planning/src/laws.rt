@@ -1,0 +1,63 @@
+//! Laws of plans and lists.
+ghost use Rattle.esto_planning.specs.Alike.{ChoiceIsOne, ClashIsMoved, EndIsOne, ItemIsListed, ListIsMoved, ListIsOne, ListingIsMoved, ListingIsOne, PlaceIsWithin, PlanIsOne, PlannedHasForm, PlannedIsMoved, PlannedIsOver};
+
+use esto_catalog::catalogues_are_sound;
+use esto_constraint::rules_are_sound;
+use esto_core::{
+    printed_plans_are_one, printed_plans_are_over_fragments, printed_plans_are_universal,
+    printed_plans_tell_satisfiable_queries,
+};
+use esto_query::queries_are_sound;
+use esto_semantics::{
+    listed_sets_are_minimal, picks_exist, queries_are_their_own_instances, stated_orders_exist,
+    weights_exist,
+};
+use esto_universal::runs_have_one_outcome;
+use esto_views::plans_are_sound;
+
+/// A law: a printed plan is over the catalogue's fragments, and its head is as long as the query's.
+pub fn planned_plans_have_their_form()
+    ensures form { PlannedHasForm }
+    ensures over { PlannedIsOver }
+{
+    catalogues_are_sound();
+    queries_are_sound();
+    rules_are_sound();
+    printed_plans_are_over_fragments();
+    printed_plans_are_universal();
+    printed_plans_tell_satisfiable_queries();
+    plans_are_sound();
+    queries_are_their_own_instances();
+}
+
+/// A law: the place that is chosen is within the list, and an item of a plan's list has a listed set of the plan.
+pub fn chosen_items_are_listed()
+    ensures item { ItemIsListed }
+    ensures place { PlaceIsWithin }
+{}
+
+/// A law: a printed plan, a clash, a list and its text over one of two catalogues that say the same are ones over the other.
+pub fn plans_and_lists_are_moved()
+    ensures plan { PlannedIsMoved }
+    ensures clash { ClashIsMoved }
+    ensures list { ListIsMoved }
+    ensures text { ListingIsMoved }
+{}
+
+/// A law: over catalogues that say the same, a query has one printed plan or one clash, a plan one list, the list one text,
+/// and one item of it is chosen, or none in one way.
+pub fn plans_and_lists_are_one()
+    ensures end { EndIsOne }
+    ensures plan { PlanIsOne }
+    ensures list { ListIsOne }
+    ensures text { ListingIsOne }
+    ensures choice { ChoiceIsOne }
+{
+    rules_are_sound();
+    runs_have_one_outcome();
+    printed_plans_are_one();
+    listed_sets_are_minimal();
+    stated_orders_exist();
+    weights_exist();
+    picks_exist();
+}
