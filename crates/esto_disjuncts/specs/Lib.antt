@@ -1,3 +1,4 @@
+pub mod Unions
 pub mod Members
 pub mod List
 pub mod Exact

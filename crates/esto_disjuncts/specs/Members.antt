@@ -1,6 +1,6 @@
 -- The members of a union: its queries with their ends, which are their printed plans with their lists in the union, or clashes.
-use Rattle.std.specs.Prelude.{◌≡◌, Bool, true, false, IsTrue, list_any, List, [], length, slice_get, Some, Contains}
-use Rattle.std.specs.List.{AllZip}
+use Rattle.std.specs.Prelude.{◌≡◌, Bool, true, false, IsTrue, List, [], slice_get, Some, Contains}
+use Rattle.std.specs.List.{AllZip, list_any}
 use Rattle.esto_catalog.specs.declared.catalogue.Catalogue.{Catalogue}
 use Rattle.esto_chase_laws.specs.declared.clash.Clash.{Clash}
 use Rattle.esto_list.specs.Items.{HaveOrders, HaveWeights, sets_of}
@@ -12,10 +12,6 @@ use Rattle.esto_union.specs.Unions.{IsRewritingIn}
 use Rattle.esto_views.specs.declared.plan.Plan.{Plan}
 use Rattle.esto_disjuncts.specs.declared.members.Member.{Member}
 use Rattle.esto_disjuncts.specs.declared.members.Member.TheVariants.{Planned, Clashed}
-
--- The heads of the queries are of one length.
-abbrev pub HaveOneLength : List Query → Type 0
-HaveOneLength queries = (query other : Query) → Contains queries query → Contains queries other → length query.head ≡ length other.head
 
 -- The plan is the printed one of one of the queries.
 abbrev pub IsPlannedForOne : Catalogue → List Query → Plan → Type 0

@@ -1,7 +1,7 @@
 //! The command `list` over a union.
-ghost use Rattle.std.specs.Prelude.{◌≡◌, ◌≢◌, ◌++◌, ℕ, List, [], IfOk, OnOk, MatchOption};
+ghost use Rattle.std.specs.Prelude.{◌≡◌, ◌<◌, ◌++◌, ℕ, List, length, IfOk, OnOk};
 ghost use Rattle.esto_disjuncts.specs.List.{IsMemberText, IsUnionText, disjunct_text, lists_union, prints_members};
-ghost use Rattle.esto_disjuncts.specs.Members.{HaveOneLength};
+ghost use Rattle.esto_disjuncts.specs.Unions.{FormUnion};
 ghost use Rattle.esto_opening.specs.Answers.{Answers};
 
 use crate::members::{Member, Members, clash_of, copy_clash, members_of};
@@ -13,11 +13,7 @@ use esto_term::{Bytes, OutOfMemory};
 use std::alloc::Global;
 
 // The text of a member: that of its plan and of its list, or the line of its clash.
-fn member_text(
-    alloc: Global,
-    member: &Member,
-    catalogue: &Catalogue,
-) -> Result<Bytes, OutOfMemory>
+fn member_text(alloc: Global, member: &Member, catalogue: &Catalogue) -> Result<Bytes, OutOfMemory>
     ensures { IfOk result (IsMemberText catalogue.now member.now) }
 {
     match member {
@@ -74,7 +70,7 @@ fn union_text(
 
 // The text that the command prints of members, or the status of the first one's clash where none has a plan.
 fn text_of(alloc: Global, members: &Members, catalogue: &Catalogue) -> Result<Bytes, Status>
-    requires { members.now ≢ [] }
+    requires { 0 < length members.now }
     ensures { Answers (prints_members catalogue.now members.now) ⊥ result }
 {
     match clash_of(alloc, members)? {
@@ -86,16 +82,11 @@ fn text_of(alloc: Global, members: &Members, catalogue: &Catalogue) -> Result<By
     }
 }
 
-/// What `list` prints of a union of at least one query, whose heads are of one length: for each query in order the line
-/// `disjunct` and its number, counted from 1, and then the text of its printed plan and of that plan's list in the union, or
-/// the line of the clash at which its run ends. Where no query is satisfiable, the status of the first one's clash.
-pub fn list_union(
-    alloc: Global,
-    queries: &[Query],
-    catalogue: &Catalogue,
-) -> Result<Bytes, Status>
-    requires lengths { HaveOneLength queries.now }
-    requires some { queries.now ≢ [] }
+/// What `list` prints of a union: for each query in order the line `disjunct` and its number, counted from 1, and then the
+/// text of its printed plan and of that plan's list in the union, or the line of the clash at which its run ends. Where no
+/// query is satisfiable, the status of the first one's clash.
+pub fn list_union(alloc: Global, queries: &[Query], catalogue: &Catalogue) -> Result<Bytes, Status>
+    requires { FormUnion queries.now }
     ensures { Answers (lists_union catalogue.now queries.now) ⊥ result }
 {
     let members = members_of(alloc, queries, catalogue)?;

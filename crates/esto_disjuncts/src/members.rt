@@ -1,9 +1,11 @@
 //! The members of a union.
-ghost use Rattle.std.specs.Prelude.{◌≡◌, ◌≢◌, [], IfOk, IsTrue, Contains, MatchOption, list_any};
-ghost use Rattle.esto_disjuncts.specs.Members.{AreMembersOf, ClashAt, HaveOneLength, HavePlan, IsListIn, IsMemberOf, IsPlannedForOne, has_plan};
+ghost use Rattle.std.specs.Prelude.{◌≡◌, ◌<◌, length, IfOk, Contains, MatchOption};
+ghost use Rattle.esto_disjuncts.specs.Unions.{FormUnion};
+ghost use Rattle.std.specs.List.{list_any};
+ghost use Rattle.esto_disjuncts.specs.Members.{AreMembersOf, ClashAt, HavePlan, IsListIn, IsMemberOf, IsPlannedForOne, has_plan};
 
 use either::{Left, Right};
-use esto_catalog::{Catalogue, catalogues_are_sound};
+use esto_catalog::Catalogue;
 use esto_chase::Clash;
 use esto_constraint::rules_are_sound;
 use esto_core::{
@@ -11,11 +13,11 @@ use esto_core::{
     printed_plans_tell_satisfiable_queries,
 };
 use esto_list::Listing;
+use esto_planning::planned_plans_have_their_form;
 use esto_query::{Query, queries_are_sound};
-use esto_semantics::queries_are_their_own_instances;
 use esto_term::{List, OutOfMemory, Replicate};
 use esto_union::union_sets;
-use esto_views::{Plan, plans_are_sound};
+use esto_views::Plan;
 use std::alloc::Global;
 
 /// A query of a union with its end.
@@ -59,18 +61,16 @@ fn listing_in(
     queries: &[Query],
     catalogue: &Catalogue,
 ) -> Result<Listing, OutOfMemory>
-    requires lengths { HaveOneLength queries.now }
+    requires union { FormUnion queries.now }
     requires planned { IsPlannedForOne catalogue.now queries.now plan.now }
     ensures { IfOk result (IsListIn catalogue.now queries.now plan.now) }
 {
-    catalogues_are_sound();
+    planned_plans_have_their_form();
     queries_are_sound();
     rules_are_sound();
     printed_plans_are_over_fragments();
     printed_plans_are_universal();
     printed_plans_tell_satisfiable_queries();
-    plans_are_sound();
-    queries_are_their_own_instances();
     let sets = union_sets(alloc, plan, queries, catalogue)?;
     let listing = Listing::of(alloc, &sets, plan, &catalogue.fragments)?;
     Ok(listing)
@@ -83,7 +83,7 @@ fn member_of(
     queries: &[Query],
     catalogue: &Catalogue,
 ) -> Result<Member, OutOfMemory>
-    requires lengths { HaveOneLength queries.now }
+    requires union { FormUnion queries.now }
     requires query { Contains queries.now query.now }
     ensures { IfOk result (IsMemberOf catalogue.now queries.now query.now) }
 {
@@ -96,14 +96,14 @@ fn member_of(
     }
 }
 
-/// The members of the union of the queries, whose heads are of one length: for each query its printed plan with that plan's
+/// The members of the union of the queries: for each query its printed plan with that plan's
 /// list in the union, or the clash at which its run ends.
 pub fn members_of(
     alloc: Global,
     queries: &[Query],
     catalogue: &Catalogue,
 ) -> Result<Members, OutOfMemory>
-    requires { HaveOneLength queries.now }
+    requires { FormUnion queries.now }
     ensures { IfOk result (AreMembersOf catalogue.now queries.now) }
 {
     let mut members = List::new(alloc);
@@ -122,7 +122,7 @@ fn have_plan(members: &[Member]) -> bool
 
 /// The clash of the first member, which comes exactly where no member has a plan.
 pub fn clash_of(alloc: Global, members: &Members) -> Result<Option<Clash>, OutOfMemory>
-    requires { members.now ≢ [] }
+    requires { 0 < length members.now }
     ensures { IfOk result (λ it. MatchOption it (HavePlan members.now) (ClashAt members.now)) }
 {
     if have_plan(members.items()) {

@@ -1,0 +1,19 @@
+-- Temporary: what esto_opening says of unions.
+use Rattle.std.specs.Prelude.{◌≡◌, ℕ, ◌<◌, List, [], ◌∷◌, length, Contains}
+use Rattle.esto_query.specs.declared.query.Query.{Query}
+use Rattle.esto_opening.specs.Alike.{IsSameQuery}
+
+-- Two lists have the same queries, one by one.
+abbrev pub AreSameQueries : List Query → List Query → Type 0
+AreSameQueries [] [] = Unit {0}
+AreSameQueries (query ∷ queries) (other ∷ others) = IsSameQuery query other × AreSameQueries queries others
+AreSameQueries _ _ = ⊥
+
+-- The heads of the queries are of one length.
+abbrev pub HaveOneHeadLength : List Query → Type 0
+HaveOneHeadLength queries = (query other : Query) → Contains queries query → Contains queries other → length query.head ≡ length other.head
+
+-- At least one query, and all heads of one length.
+pub record FormUnion (queries : List Query) : Type 0 where
+  pub some : 0 < length queries
+  pub lengths : HaveOneHeadLength queries
