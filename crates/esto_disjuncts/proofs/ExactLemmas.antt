@@ -37,13 +37,12 @@ module _ (catalogue : Catalogue) where
   have_answers [] [] zip has = absurd (let never : false ≡ true = has in cc)
   have_answers [] (member ∷ members) zip has = absurd zip
   have_answers (query ∷ queries) [] zip has = absurd zip
-  have_answers (query ∷ queries) (member ∷ members) (tells, rest) has = by (has_plan member) refl
+  have_answers (query ∷ queries) (member ∷ members) (tells, rest) has = by (have_answers queries members rest) (has_plan member) refl
     where
-      by : (is : Bool) → has_plan member ≡ is → HaveAnswers catalogue (query ∷ queries)
-      by true is = (query, Contains-head query queries, tells.0 is)
-      by false is =
-          let later : HavePlan members = subst (λ (it : Bool). (it || list_any has_plan members) ≡ true) is has in
-          let found = have_answers queries members rest later in
+      by : (HavePlan members → HaveAnswers catalogue queries) → (is : Bool) → has_plan member ≡ is → HaveAnswers catalogue (query ∷ queries)
+      by later true is = (query, Contains-head query queries, tells.0 is)
+      by later false is =
+          let found = later (subst (λ (it : Bool). (it || list_any has_plan members) ≡ true) is has) in
           (found.0, Contains-rest query queries found.0 found.1, found.2)
 
   have_plan : (queries : List Query) (members : List Member) → AllZip (TellsSatisfiable catalogue) queries members → HaveAnswers catalogue queries

@@ -32,4 +32,5 @@ module _ (catalogue : Catalogue) (members : List Member) where
   pub ends : (place : ℕ) (text : List ℕ) → length members ≤ place → GoesOn catalogue members place text → IsUnionText catalogue members text
   ends place text le so_far =
       let all = so_far [] (subst (λ it. AllZip (IsMemberText catalogue) it []) (sym (drop_all place members le)) tt) in
-      subst (IsUnionText catalogue members) (simp : text ++ [] ≡ text) all
+      let same : text ++ [] ≡ text = simp in
+      subst (IsUnionText catalogue members) same all
