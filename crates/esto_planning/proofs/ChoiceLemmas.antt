@@ -2,27 +2,24 @@
 use Rattle.std.proofs.Common.{◌≡◌, ◌<◌, ◌≤◌, ◌-◌, ℕ, List, [], length, All, slice_get, Option, Some, None, refl, sym, ap, subst, ◌∙◌, arith}
 use Rattle.std.proofs.lemmas.List.{length-map}
 use Rattle.std.proofs.lemmas.Option.{slice_get_within, get_or_from_slice_get, same_Some, none-some}
-use Rattle.esto_catalog.specs.declared.catalogue.Catalogue.{Catalogue}
 use Rattle.esto_course.specs.Course.{Stops, judges}
 use Rattle.esto_course.specs.Course.Stops.{refused}
 use Rattle.esto_course.proofs.Determined.{judges_agree}
 use Rattle.esto_list.specs.Items.{totals_of}
 use Rattle.esto_list.specs.declared.listing.Listed.{Listed}
-use Rattle.esto_query.specs.declared.query.Query.{Query}
 use Rattle.esto_semantics.specs.Access.{IsStatedOrder}
 use Rattle.esto_semantics.specs.Listed.{IsPick}
 use Rattle.esto_semantics.specs.ListedLaws.{PickIsOne}
 use Rattle.esto_term.proofs.ListLemmas.{Contains-at, Contains-map}
 use Rattle.esto_views.specs.Fragments.{patterns_of}
 use Rattle.esto_views.specs.Plans.{plan_query}
-use Rattle.esto_views.specs.declared.plan.Plan.{Plan}
 use Rattle.esto_opening.specs.Answers.{IsWant, IsCaused}
 use Rattle.esto_opening.specs.declared.status.Status.{Status}
 use Rattle.esto_opening.specs.declared.status.Status.TheVariants.{NoRewriting, NoSuchNumber}
-use Rattle.esto_planning.specs.Alike.{ChoiceIsOne, ItemIsListed, PlaceIsWithin}
+use Rattle.esto_planning.specs.Alike.{ChoiceIsOne}
+use Rattle.esto_planning.specs.Laws.{ItemIsListed, PlaceIsWithin}
 use Rattle.esto_planning.specs.Choice.{HasNoPlace, IsPlace}
 use Rattle.esto_planning.specs.Choice.HasNoPlace.{is_empty, is_above}
-use Rattle.esto_planning.specs.Listing.{IsListOf}
 use Rattle.esto_planning.specs.Planning.{chooses}
 
 module _ (items : List Listed) (number : Option ℕ) where

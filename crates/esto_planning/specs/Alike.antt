@@ -1,49 +1,24 @@
--- Laws of plans and lists: a plan's form, the items of its list, and that all are one over catalogues that say the same.
-use Rattle.std.specs.Prelude.{◌≡◌, ℕ, ◌<◌, List, length, slice_get, Option, Some}
+-- Over catalogues that say the same, plans, clashes and lists are the same, and are one.
+use Rattle.std.specs.Prelude.{◌≡◌, ℕ, List, Option}
 use Rattle.either.specs.declared.Either.{Either}
 use Rattle.either.specs.declared.Either.TheVariants.{Left, Right}
 use Rattle.esto_catalog.specs.Determined.{AreSame}
 use Rattle.esto_catalog.specs.declared.catalogue.Catalogue.{Catalogue}
 use Rattle.esto_chase_laws.specs.declared.clash.Clash.{Clash}
 use Rattle.esto_list.specs.declared.listing.Listed.{Listed}
-use Rattle.esto_query.specs.Making.{query_of}
 use Rattle.esto_query.specs.declared.query.Query.{Query}
-use Rattle.esto_semantics.specs.Rewritings.{IsPlanFor}
-use Rattle.esto_views.specs.Plans.{plan_query, IsPlanOver}
+use Rattle.esto_views.specs.Plans.{plan_query}
 use Rattle.esto_views.specs.declared.plan.Plan.{Plan}
 use Rattle.esto_opening.specs.Alike.{IsSameQuery}
 use Rattle.esto_opening.specs.Calm.{AgreeCalmly}
-use Rattle.esto_planning.specs.Choice.{IsItemOf, IsPlace}
 use Rattle.esto_planning.specs.Listing.{IsClash, IsListing, IsListOf, IsPlanned}
 use Rattle.esto_planning.specs.Planning.{chooses, ends_query, lists_plan, plans_query}
-
--- ---- the form
-
--- A printed plan has a form that rewritings need: its head is as long as the query's, and made of its atoms.
-abbrev pub PlannedHasForm : Type 0
-PlannedHasForm = (catalogue : Catalogue) (query : Query) (plan : Plan) → IsPlanned catalogue query plan → IsPlanFor (query_of query) (plan_query plan)
-
--- It is over the catalogue's fragments.
-abbrev pub PlannedIsOver : Type 0
-PlannedIsOver = (catalogue : Catalogue) (query : Query) (plan : Plan) → IsPlanned catalogue query plan → IsPlanOver plan catalogue.fragments
-
--- ---- the items of a list
-
--- An item of a plan's list has a listed set of the plan, and its stated order.
-abbrev pub ItemIsListed : Type 0
-ItemIsListed =
-    (catalogue : Catalogue) (query : Query) (plan : Plan) (items : List Listed) (place : ℕ) (item : Listed) → IsListOf catalogue query plan items
-    → slice_get items place ≡ Some item → IsItemOf catalogue query plan item
-
--- The place that is chosen is within the list.
-abbrev pub PlaceIsWithin : Type 0
-PlaceIsWithin = (items : List Listed) (number : Option ℕ) (place : ℕ) → IsPlace items number place → place < length items
 
 -- ---- over catalogues that say the same
 
 -- A printed plan over one of two catalogues that say the same is one over the other.
-abbrev pub PlannedIsMoved : Type 0
-PlannedIsMoved =
+abbrev pub PlanIsMoved : Type 0
+PlanIsMoved =
     (catalogue other : Catalogue) (query other_query : Query) (plan : Plan) → AreSame catalogue other → IsSameQuery query other_query
     → IsPlanned other other_query plan → IsPlanned catalogue query plan
 

@@ -1,31 +1,47 @@
 //! Laws of plans and lists.
-ghost use Rattle.esto_planning.specs.Alike.{ChoiceIsOne, ClashIsMoved, EndIsOne, ItemIsListed, ListIsMoved, ListIsOne, ListingIsMoved, ListingIsOne, PlaceIsWithin, PlanIsOne, PlannedHasForm, PlannedIsMoved, PlannedIsOver};
+ghost use Rattle.esto_planning.specs.Alike.{ChoiceIsOne, ClashIsMoved, EndIsOne, ListIsMoved, ListIsOne, ListingIsMoved, ListingIsOne, PlanIsMoved, PlanIsOne};
+ghost use Rattle.esto_planning.specs.Laws.{ClashExcludesAnswers, CoreHasNoRetract, CoreIsOnly, ItemIsListed, PlaceIsWithin, PlanHasForm, PlanIsOver, PlanIsUniversal, PlanReceivesUnions, PlanTellsAnswers};
 
 use esto_catalog::catalogues_are_sound;
 use esto_constraint::rules_are_sound;
 use esto_core::{
-    printed_plans_are_one, printed_plans_are_over_fragments, printed_plans_are_universal,
-    printed_plans_tell_satisfiable_queries,
+    printed_cores_are_one_for_a_query, printed_plans_are_one, printed_plans_are_over_fragments,
+    printed_plans_are_universal, printed_plans_tell_satisfiable_queries,
 };
 use esto_query::queries_are_sound;
 use esto_semantics::{
     listed_sets_are_minimal, picks_exist, queries_are_their_own_instances, stated_orders_exist,
     weights_exist,
 };
-use esto_universal::runs_have_one_outcome;
+use esto_universal::{plans_tell_satisfiable_queries, runs_have_one_outcome};
 use esto_views::plans_are_sound;
 
-/// A law: a printed plan is over the catalogue's fragments, and its head is as long as the query's.
-pub fn planned_plans_have_their_form()
-    ensures form { PlannedHasForm }
-    ensures over { PlannedIsOver }
+/// A law: a printed plan is universal for its query and receives unions for it, and a cored plan is the only core; a query
+/// that has a plan is satisfiable, and one whose run ends with a clash is not.
+pub fn planned_plans_are_universal()
+    ensures universal { PlanIsUniversal }
+    ensures unions { PlanReceivesUnions }
+    ensures core { CoreHasNoRetract }
+    ensures only_core { CoreIsOnly }
+    ensures satisfiable { PlanTellsAnswers }
+    ensures unsatisfiable { ClashExcludesAnswers }
 {
-    catalogues_are_sound();
     queries_are_sound();
     rules_are_sound();
-    printed_plans_are_over_fragments();
-    printed_plans_are_universal();
+    plans_tell_satisfiable_queries();
     printed_plans_tell_satisfiable_queries();
+    printed_plans_are_universal();
+    printed_cores_are_one_for_a_query();
+}
+
+/// A law: a printed plan is over the catalogue's fragments, and its head is as long as the query's and made of its atoms.
+pub fn planned_plans_have_their_form()
+    ensures form { PlanHasForm }
+    ensures over { PlanIsOver }
+{
+    planned_plans_are_universal();
+    catalogues_are_sound();
+    printed_plans_are_over_fragments();
     plans_are_sound();
     queries_are_their_own_instances();
 }
@@ -38,7 +54,7 @@ pub fn chosen_items_are_listed()
 
 /// A law: a printed plan, a clash, a list and its text over one of two catalogues that say the same are ones over the other.
 pub fn plans_and_lists_are_moved()
-    ensures plan { PlannedIsMoved }
+    ensures plan { PlanIsMoved }
     ensures clash { ClashIsMoved }
     ensures list { ListIsMoved }
     ensures text { ListingIsMoved }

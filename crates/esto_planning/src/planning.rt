@@ -4,18 +4,14 @@ ghost use Rattle.esto_opening.specs.Answers.{Answers};
 ghost use Rattle.esto_planning.specs.Listing.{IsListOf, IsPlanned};
 ghost use Rattle.esto_planning.specs.Planning.{plans_query};
 
-use crate::laws::planned_plans_have_their_form;
+use crate::laws::{planned_plans_are_universal, planned_plans_have_their_form};
 use either::{Left, Right};
 use esto_backchase::minimal_sets;
 use esto_catalog::Catalogue;
-use esto_constraint::rules_are_sound;
-use esto_core::{
-    printed_plan, printed_plans_are_over_fragments, printed_plans_are_universal,
-    printed_plans_tell_satisfiable_queries,
-};
+use esto_core::{printed_plan, printed_plans_are_over_fragments};
 use esto_list::Listing;
 use esto_opening::Status;
-use esto_query::{Query, queries_are_sound};
+use esto_query::Query;
 use esto_term::OutOfMemory;
 use esto_views::Plan;
 use std::alloc::Global;
@@ -41,12 +37,9 @@ pub fn listing_of(
     requires { IsPlanned catalogue.now query.now plan.now }
     ensures { IfOk result (IsListOf catalogue.now query.now plan.now) }
 {
+    planned_plans_are_universal();
     planned_plans_have_their_form();
-    queries_are_sound();
-    rules_are_sound();
     printed_plans_are_over_fragments();
-    printed_plans_are_universal();
-    printed_plans_tell_satisfiable_queries();
     let chased = minimal_sets(alloc, plan, query, catalogue)?;
     let listing = Listing::of(alloc, &chased.sets, plan, &catalogue.fragments)?;
     Ok(listing)

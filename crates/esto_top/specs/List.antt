@@ -1,7 +1,6 @@
 -- The command `list`.
-use Rattle.std.specs.Prelude.{◌≡◌, ℕ, List, Option}
+use Rattle.std.specs.Prelude.{ℕ, List, Option}
 use Rattle.esto_catalog.specs.declared.catalogue.Catalogue.{Catalogue}
-use Rattle.esto_chase_laws.specs.declared.clash.Clash.{Clash}
 use Rattle.esto_ports.specs.Files.{Files}
 use Rattle.esto_query.specs.declared.query.Query.{Query}
 use Rattle.esto_views.specs.declared.plan.Plan.{Plan}
@@ -9,9 +8,8 @@ use Rattle.esto_course.specs.Course.{Course, judges, gives, and_then}
 use Rattle.esto_opening.specs.Opening.{opens_catalogue, opens_query}
 use Rattle.esto_opening.specs.declared.reply.Reply.{Reply}
 use Rattle.esto_opening.specs.declared.reply.Reply.TheVariants.{Done}
-use Rattle.esto_opening.specs.declared.status.Status.TheVariants.{Unsatisfiable}
 use Rattle.esto_opening.specs.declared.status.Status.{Status}
-use Rattle.esto_planning.specs.Listing.{IsClash, IsListing, IsPlanned}
+use Rattle.esto_planning.specs.Listing.{IsListing}
 
 -- The text of the plan's list is made.
 abbrev pub prints_list : Catalogue → Query → Plan → Course Status (List ℕ)

@@ -1,24 +1,18 @@
 -- The command `run`.
-use Rattle.std.specs.Prelude.{◌≡◌, ◌≢◌, ℕ, ◌-◌, ◌<◌, Bool, List, [], length, slice_get, Option, Some, None}
-use Rattle.either.specs.Either.{MatchEither}
+use Rattle.std.specs.Prelude.{◌≡◌, ℕ, Bool, List, [], slice_get, Option, Some}
 use Rattle.either.specs.declared.Either.{Either}
 use Rattle.either.specs.declared.Either.TheVariants.{Left, Right}
 use Rattle.esto_catalog.specs.declared.catalogue.Catalogue.{Catalogue}
 use Rattle.esto_chase_laws.specs.declared.clash.Clash.{Clash}
-use Rattle.esto_constraint.specs.Constraints.{rules_of}
 use Rattle.esto_course.specs.Course.{Course, judges, gives, and_then}
-use Rattle.esto_list.specs.Items.{totals_of}
 use Rattle.esto_list.specs.declared.listing.Listed.{Listed}
 use Rattle.esto_ports.specs.Files.{Files}
-use Rattle.esto_query.specs.Making.{query_of}
 use Rattle.esto_query.specs.declared.query.Query.{Query}
 use Rattle.esto_run.specs.Answers.{IsAnswersText, rows_text}
 use Rattle.esto_run.specs.Laws.{IsAnswerOver}
 use Rattle.esto_run.specs.Stores.{IsFileRow}
 use Rattle.esto_run.specs.Used.{AreUsed}
-use Rattle.esto_semantics.specs.Access.{IsStatedOrder}
-use Rattle.esto_semantics.specs.Listed.{IsListed, IsPick, candidate}
-use Rattle.esto_views.specs.Fragments.{views_of, patterns_of}
+use Rattle.esto_semantics.specs.Listed.{candidate}
 use Rattle.esto_views.specs.Plans.{plan_query}
 use Rattle.esto_views.specs.declared.plan.Plan.{Plan}
 use Rattle.esto_opening.specs.Fragments.{opens_fragments}
@@ -26,8 +20,6 @@ use Rattle.esto_opening.specs.Opening.{opens_catalogue, opens_query}
 use Rattle.esto_opening.specs.declared.reply.Reply.{Reply}
 use Rattle.esto_opening.specs.declared.reply.Reply.TheVariants.{Done, Unsatisfiable}
 use Rattle.esto_opening.specs.declared.status.Status.{Status}
-use Rattle.esto_opening.specs.declared.status.Status.TheVariants.{NoRewriting, NoSuchNumber}
-use Rattle.esto_planning.specs.Listing.{IsClash, IsListOf, IsPlanned}
 
 -- ---- the text
 

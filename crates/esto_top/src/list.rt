@@ -4,8 +4,7 @@ ghost use Rattle.esto_ports.specs.Faults.{Rises};
 ghost use Rattle.esto_opening.specs.Answers.{Answers};
 ghost use Rattle.esto_opening.specs.Asked.{AsksIn};
 ghost use Rattle.esto_top.specs.List.{prints_list, lists_query, list_course};
-ghost use Rattle.esto_planning.specs.Listing.{IsListOf, IsListing, IsPlanned};
-ghost use Rattle.esto_planning.specs.Planning.{plans_query};
+ghost use Rattle.esto_planning.specs.Listing.{IsListing, IsPlanned};
 
 use esto_catalog::Catalogue;
 use esto_opening::{Reply, Status, open_catalogue, open_query};
@@ -56,7 +55,7 @@ fn listed(alloc: Global, query: &Query, catalogue: &Catalogue) -> Result<Bytes, 
 }
 
 /// Fetches and reads the catalogue, then the query, makes the query's printed plan, and prints the plan and the list.
-#[tactic(auto, using(crate::proofs::Steps::steps))]
+#[tactic(auto, using(crate::proofs::Steps::steps, crate::proofs::Steps::asked_steps))]
 pub fn list<S: Shelf>(
     alloc: Global,
     shelf: &mut S,

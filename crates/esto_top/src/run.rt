@@ -8,8 +8,7 @@ ghost use Rattle.esto_opening.specs.declared.reply.Reply.TheVariants as reply;
 ghost use Rattle.esto_run.specs.Answers.{rows_text};
 ghost use Rattle.std.specs.Prelude.{IfOk, []};
 ghost use Rattle.esto_planning.specs.Choice.{IsItemOf};
-ghost use Rattle.esto_planning.specs.Listing.{IsClash, IsPlanned};
-ghost use Rattle.esto_planning.specs.Planning.{chooses};
+ghost use Rattle.esto_planning.specs.Listing.{IsPlanned};
 
 use either::{Left, Right};
 use esto_catalog::Catalogue;
@@ -118,7 +117,7 @@ fn run_query<S: Shelf>(
 /// Fetches and reads the catalogue, then the query, makes the query's plan and its list, opens the files of the fragments
 /// that the chosen set uses, and gives the text of the rows. The set is the pick, or that of the number, counted from 1.
 /// For a query that no database gives an answer the text has the names of its head alone.
-#[tactic(auto, using(crate::proofs::Steps::run_steps))]
+#[tactic(auto, using(crate::proofs::Steps::run_steps, crate::proofs::Steps::asked_steps))]
 pub fn run<S: Shelf>(
     alloc: Global,
     shelf: &mut S,

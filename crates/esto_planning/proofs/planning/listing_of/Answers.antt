@@ -1,7 +1,3 @@
-use Rattle.esto_constraint.specs.Constraints.{rules_of}
-use Rattle.esto_query.specs.Making.{query_of}
-use Rattle.esto_views.specs.Fragments.{views_of}
-use Rattle.esto_planning.proofs.RuleLemmas.{are_rules}
 use Rattle.esto_planning.proofs.planning.listing_of.Goals as goal
 
 pub minimal_sets-requires-clause-over : goal.minimal_sets-requires-clause-over
@@ -10,17 +6,11 @@ minimal_sets-requires-clause-over c =
 
 pub minimal_sets-requires-clause-satisfiable : goal.minimal_sets-requires-clause-satisfiable
 minimal_sets-requires-clause-satisfiable c =
-    let catalogue = c.args.catalogue.now in
-    c.printed_plans_tell_satisfiable_queries.ensures catalogue.core (rules_of catalogue.rules) (views_of catalogue.fragments) c.args.query.now.names
-    (query_of c.args.query.now) c.args.plan.now (are_rules c.rules_are_sound.ensures.rules catalogue.rules)
-    (c.queries_are_sound.ensures c.args.query.now).query c.requires
+    c.planned_plans_are_universal.ensures.satisfiable c.args.catalogue.now c.args.query.now c.args.plan.now c.requires
 
 pub minimal_sets-requires-clause-universal : goal.minimal_sets-requires-clause-universal
 minimal_sets-requires-clause-universal c =
-    let catalogue = c.args.catalogue.now in
-    c.printed_plans_are_universal.ensures.universal catalogue.core (rules_of catalogue.rules) (views_of catalogue.fragments) c.args.query.now.names
-    (query_of c.args.query.now) c.args.plan.now (are_rules c.rules_are_sound.ensures.rules catalogue.rules)
-    (c.queries_are_sound.ensures c.args.query.now).query c.requires
+    c.planned_plans_are_universal.ensures.universal c.args.catalogue.now c.args.query.now c.args.plan.now c.requires
 
 pub minimal_sets-requires-clause-same_length : goal.minimal_sets-requires-clause-same_length
 minimal_sets-requires-clause-same_length c =
