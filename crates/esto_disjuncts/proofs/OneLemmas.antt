@@ -10,7 +10,7 @@ use Rattle.esto_constraint.specs.Constraints.{rules_of}
 use Rattle.esto_course.specs.Course.{judges}
 use Rattle.esto_course.proofs.Determined.{judges_agree, then_agree}
 use Rattle.esto_list.specs.Items.{IsPickOf, sets_of}
-use Rattle.esto_list.specs.Text.{IsListText, list_text}
+use Rattle.esto_list.specs.Text.{IsListText, each_from, list_text}
 use Rattle.esto_list.specs.declared.listing.Listed.{Listed}
 use Rattle.esto_opening.specs.Calm.{AgreeCalmly}
 use Rattle.esto_opening.specs.Alike.{IsSameQuery}

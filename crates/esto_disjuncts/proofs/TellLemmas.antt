@@ -2,27 +2,19 @@
 use Rattle.std.proofs.Common.{◌≡◌, ◌⊎◌, ◌↔◌, inl, inr, Bool, true, false, ◌||◌, IsTrue, List, [], ◌∷◌, map, Contains, refl, sym, subst}
 use Rattle.std.specs.List.{AllZip, list_any}
 use Rattle.esto_catalog.specs.declared.catalogue.Catalogue.{Catalogue}
-use Rattle.esto_chase_laws.specs.declared.clash.Clash.{Clash}
-use Rattle.esto_constraint.specs.Constraints.{rule_of, rules_of}
-use Rattle.esto_constraint.specs.declared.rule.Constraint.{Constraint}
-use Rattle.esto_core.specs.PrintedLaws.{PrintedIsSatisfiable, PrintedPlanReceivesUnions}
+use Rattle.esto_constraint.specs.Constraints.{rules_of}
 use Rattle.esto_list.specs.Items.{sets_of}
 use Rattle.esto_list.specs.declared.listing.Listed.{Listed}
 use Rattle.esto_plan_laws.specs.UnionLaws.{ChoiceExists, ChoiceIsExecutable, EmptyListExcludes, ListedCoverUnions, ReceivingIsUniversal}
 use Rattle.esto_plan_laws.specs.UnionSets.{HasEmptyList, IsAnswered, IsOption}
-use Rattle.esto_planning.specs.Alike.{PlannedHasForm}
-use Rattle.esto_planning.specs.Listing.{IsClash, IsPlanned}
-use Rattle.esto_planning.proofs.RuleLemmas.{are_rules}
+use Rattle.esto_planning.specs.Laws.{ClashExcludesAnswers, PlanHasForm, PlanReceivesUnions, PlanTellsAnswers}
 use Rattle.esto_query.specs.Making.{query_of}
 use Rattle.esto_query.specs.declared.query.Query.{Query}
 use Rattle.esto_semantics.specs.Access.{Patterns}
-use Rattle.esto_semantics.specs.Containment.{IsSatisfiable}
-use Rattle.esto_semantics.specs.Queries.{ConjunctiveQuery, IsQuery}
-use Rattle.esto_semantics.specs.Rules.{AreRules, IsRule, Rule}
-use Rattle.esto_semantics.specs.Unions.{ReceivesUnions}
+use Rattle.esto_semantics.specs.Queries.{ConjunctiveQuery}
+use Rattle.esto_semantics.specs.Rules.{Rule}
 use Rattle.esto_term.proofs.ListLemmas.{Contains-cases, Contains-head, Contains-map, Contains-map_from, Contains-nil, Contains-rest}
 use Rattle.esto_union.specs.Unions.{AreRewritingOf, OneMapsOntoOne, queries_of}
-use Rattle.esto_universal.specs.PlannedLaws.{ClashedIsUnsatisfiable}
 use Rattle.esto_views.specs.Fragments.{patterns_of, views_of}
 use Rattle.esto_views.specs.Plans.{plan_query}
 use Rattle.esto_views.specs.declared.plan.Plan.{Plan}
@@ -35,12 +27,10 @@ use Rattle.esto_disjuncts.proofs.ZipLemmas.{zip_left, zip_more}
 
 -- the laws by which members tell of queries and rewritings
 pub record TellLaws : Type 0 where
-  pub rules : (constraint : Constraint) → IsRule (rule_of constraint)
-  pub queries : (query : Query) → IsQuery (query_of query)
-  pub form : PlannedHasForm
-  pub receives : PrintedPlanReceivesUnions
-  pub satisfiable : PrintedIsSatisfiable
-  pub unsatisfiable : ClashedIsUnsatisfiable
+  pub form : PlanHasForm
+  pub receives : PlanReceivesUnions
+  pub satisfiable : PlanTellsAnswers
+  pub unsatisfiable : ClashExcludesAnswers
   pub universal : ReceivingIsUniversal
   pub cover : ListedCoverUnions
   pub excludes : EmptyListExcludes
@@ -57,23 +47,14 @@ module _ (laws : TellLaws) (catalogue : Catalogue) (queries : List Query) where
   abbrev patterns : Patterns
   patterns = patterns_of catalogue.fragments
 
-  rules_are : AreRules rules
-  rules_are = are_rules laws.rules catalogue.rules
-
-  receives : (query : Query) (plan : Plan) → IsPlanned catalogue query plan → ReceivesUnions rules views (query_of query) (plan_query plan)
-  receives query plan planned = laws.receives catalogue.core rules views query.names (query_of query) plan rules_are (laws.queries query) planned
-
-  clashed : (query : Query) (clash : Clash) → IsClash catalogue query clash → ¬ (IsSatisfiable rules (query_of query))
-  clashed query clash clashes = laws.unsatisfiable rules (query_of query) clash rules_are (laws.queries query) clashes
-
   -- ---- satisfiable queries
 
   tells : (query : Query) (member : Member) → IsMemberOf catalogue queries query member → TellsSatisfiable catalogue query member
   tells query (Planned plan items) is = (
-    λ has. laws.satisfiable catalogue.core rules views query.names (query_of query) plan rules_are (laws.queries query) is.0,
+    λ has. laws.satisfiable catalogue query plan is.0,
     λ satisfiable. refl,
   )
-  tells query (Clashed clash) is = (λ has. absurd (let never : false ≡ true = has in cc), λ satisfiable. absurd (clashed query clash is satisfiable))
+  tells query (Clashed clash) is = (λ has. absurd (let never : false ≡ true = has in cc), λ satisfiable. absurd (laws.unsatisfiable catalogue query clash is satisfiable))
 
   -- ---- rewritings
 
@@ -81,20 +62,20 @@ module _ (laws : TellLaws) (catalogue : Catalogue) (queries : List Query) where
   covers (Clashed clash) query inside is = tt
   covers (Planned plan items) query inside is = λ others rewriting.
       laws.cover rules views patterns (queries_of queries) others (query_of query) (plan_query plan) (sets_of items)
-      (Contains-map query_of queries query inside) (receives query plan is.0) is.1.sets rewriting
+      (Contains-map query_of queries query inside) (laws.receives catalogue query plan is.0) is.1.sets rewriting
 
   empty_list : (query : Query) (plan : Plan) → Contains queries query → IsMemberOf catalogue queries query (Planned plan [])
       → HasEmptyList rules views patterns (queries_of queries)
   empty_list query plan inside is = (
     query_of query,
     Contains-map query_of queries query inside,
-    (plan_query plan, receives query plan is.0, (λ set listed. Contains-nil set ((is.1.sets.exact set).1 listed))),
+    (plan_query plan, laws.receives catalogue query plan is.0, (λ set listed. Contains-nil set ((is.1.sets.exact set).1 listed))),
   )
 
   -- a query may be answered, or its list is empty
   answered : (query : Query) (member : Member) → IsMemberOf catalogue queries query member
       → IsAnswered rules views patterns (queries_of queries) (query_of query) ⊎ ((plan : Plan) × (member ≡ Planned plan []))
-  answered query (Clashed clash) is = inl (inl (clashed query clash is))
+  answered query (Clashed clash) is = inl (inl (laws.unsatisfiable catalogue query clash is))
   answered query (Planned plan []) is = inr (plan, refl)
   answered query (Planned plan (item ∷ items)) is =
       inl (inr (
@@ -102,7 +83,7 @@ module _ (laws : TellLaws) (catalogue : Catalogue) (queries : List Query) where
         item.set,
         record {
           form = laws.form catalogue query plan is.0;
-          universal = laws.universal rules views (query_of query) (plan_query plan) (receives query plan is.0);
+          universal = laws.universal rules views (query_of query) (plan_query plan) (laws.receives catalogue query plan is.0);
           rewriting = ((is.1.sets.exact item.set).0 (Contains-head item.set (sets_of items))).0;
         },
       ))

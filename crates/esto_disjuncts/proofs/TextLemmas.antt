@@ -1,6 +1,6 @@
 -- The text of a union is put member by member.
 use Rattle.std.proofs.Common.{◌≡◌, ◌<◌, ◌≤◌, ◌+◌, ℕ, suc, List, [], ◌∷◌, ◌++◌, length, drop, get_or, drop-cons, add-one, refl, sym, ap, subst, ◌∙◌, arith}
-use Rattle.std.proofs.lemmas.List.{drop_all}
+use Rattle.std.proofs.lemmas.List.{append_assoc, append-nil, drop_all}
 use Rattle.std.specs.List.{AllZip}
 use Rattle.esto_catalog.specs.declared.catalogue.Catalogue.{Catalogue}
 use Rattle.esto_list.specs.Text.{each_from}
@@ -27,10 +27,9 @@ module _ (catalogue : Catalogue) (members : List Member) where
       subst (IsUnionText catalogue members) (joined old (disjunct_text place own) (each_from disjunct_text (place + 1) more) new put) all
     where
       joined : (old own later new : List ℕ) → new ≡ old ++ own → old ++ (own ++ later) ≡ new ++ later
-      joined old own later new put = rw put simp
+      joined old own later new put = rw put (sym (append_assoc old own later))
 
   pub ends : (place : ℕ) (text : List ℕ) → length members ≤ place → GoesOn catalogue members place text → IsUnionText catalogue members text
   ends place text le so_far =
       let all = so_far [] (subst (λ it. AllZip (IsMemberText catalogue) it []) (sym (drop_all place members le)) tt) in
-      let same : text ++ [] ≡ text = simp in
-      subst (IsUnionText catalogue members) same all
+      subst (IsUnionText catalogue members) (append-nil text) all

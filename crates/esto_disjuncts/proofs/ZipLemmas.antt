@@ -1,9 +1,26 @@
 -- Lists that go together place by place.
-use Rattle.std.proofs.Common.{◌≡◌, ◌<◌, List, [], ◌∷◌, length, Contains, inl, inr, subst, arith}
+use Rattle.std.proofs.Common.{◌≡◌, ◌<◌, ◌≤◌, ◌+◌, ℕ, List, [], ◌∷◌, ◌++◌, length, take, get_or, Contains, inl, inr, sym, ap, subst, ◌∙◌, arith}
+use Rattle.std.proofs.lemmas.List.{take_all, take_more}
 use Rattle.std.specs.List.{AllZip}
 use Rattle.esto_term.proofs.ListLemmas.{Contains-cases, Contains-head, Contains-nil, Contains-rest}
 
 module _ {A B : Type 0} (R : A → B → Type 0) where
+  zip_push : (ones : List A) (others : List B) (one : A) (other : B) → AllZip R ones others → R one other → AllZip R (ones ++ one ∷ []) (others ++ other ∷ [])
+  zip_push [] [] one other zip is = (is, tt)
+  zip_push [] (first ∷ others) one other zip is = absurd zip
+  zip_push (first ∷ ones) [] one other zip is = absurd zip
+  zip_push (first ∷ ones) (second ∷ others) one other (here, rest) is = (here, zip_push ones others one other rest is)
+
+  -- one more of the first list, and its own at the end of the second
+  pub zip_next : (ones : List A) (others : List B) (place : ℕ) (one : A) (other : B) → place < length ones → one ≡ get_or ones place one
+      → AllZip R (take place ones) others → R one other → AllZip R (take (place + 1) ones) (others ++ other ∷ [])
+  zip_next ones others place one other below read zip is =
+      subst (λ it. AllZip R it (others ++ other ∷ [])) (ap (λ it. take place ones ++ it ∷ []) read ∙ sym (take_more ones place one below))
+      (zip_push (take place ones) others one other zip is)
+
+  pub zip_all : (ones : List A) (others : List B) (place : ℕ) → length ones ≤ place → AllZip R (take place ones) others → AllZip R ones others
+  zip_all ones others place le zip = subst (λ it. AllZip R it others) (take_all ones place le) zip
+
   -- what holds of two things that go together
   pub zip_more : (S : A → B → Type 0) → ((one : A) (other : B) → R one other → S one other) → (ones : List A) (others : List B) → AllZip R ones others
       → AllZip S ones others

@@ -1,16 +1,14 @@
 //! Laws of members and lists of unions.
 ghost use Rattle.esto_disjuncts.specs.Laws.{EmptyListsAreTold, MembersAreOne, MembersCoverUnions, MembersTellSatisfiable, UnionListsAreExact, UnionListsAreOne};
 
-use esto_constraint::rules_are_sound;
-use esto_core::{printed_plans_are_universal, printed_plans_tell_satisfiable_queries};
 use esto_plan_laws::{
     choices_are_executable_unions, executable_unions_exist, executable_unions_map_onto_sets,
     plans_receive_unions,
 };
-use esto_planning::{planned_plans_have_their_form, plans_and_lists_are_one};
-use esto_query::queries_are_sound;
+use esto_planning::{
+    planned_plans_are_universal, planned_plans_have_their_form, plans_and_lists_are_one,
+};
 use esto_semantics::{picks_exist, stated_orders_exist, weights_exist};
-use esto_universal::plans_tell_satisfiable_queries;
 
 /// A law: over catalogues that say the same, unions of the same queries have the same members.
 pub fn members_are_one()
@@ -30,12 +28,8 @@ pub fn members_tell_rewritings()
     ensures complete { MembersCoverUnions }
     ensures empty { EmptyListsAreTold }
 {
-    queries_are_sound();
-    rules_are_sound();
+    planned_plans_are_universal();
     planned_plans_have_their_form();
-    printed_plans_are_universal();
-    printed_plans_tell_satisfiable_queries();
-    plans_tell_satisfiable_queries();
     plans_receive_unions();
     executable_unions_map_onto_sets();
     executable_unions_exist();

@@ -7,14 +7,10 @@ ghost use Rattle.esto_disjuncts.specs.Members.{AreMembersOf, ClashAt, HavePlan, 
 use either::{Left, Right};
 use esto_catalog::Catalogue;
 use esto_chase::Clash;
-use esto_constraint::rules_are_sound;
-use esto_core::{
-    printed_plan, printed_plans_are_over_fragments, printed_plans_are_universal,
-    printed_plans_tell_satisfiable_queries,
-};
+use esto_core::{printed_plan, printed_plans_are_over_fragments};
 use esto_list::Listing;
-use esto_planning::planned_plans_have_their_form;
-use esto_query::{Query, queries_are_sound};
+use esto_planning::{planned_plans_are_universal, planned_plans_have_their_form};
+use esto_query::Query;
 use esto_term::{List, OutOfMemory, Replicate};
 use esto_union::union_sets;
 use esto_views::Plan;
@@ -65,12 +61,9 @@ fn listing_in(
     requires planned { IsPlannedForOne catalogue.now queries.now plan.now }
     ensures { IfOk result (IsListIn catalogue.now queries.now plan.now) }
 {
+    planned_plans_are_universal();
     planned_plans_have_their_form();
-    queries_are_sound();
-    rules_are_sound();
     printed_plans_are_over_fragments();
-    printed_plans_are_universal();
-    printed_plans_tell_satisfiable_queries();
     let sets = union_sets(alloc, plan, queries, catalogue)?;
     let listing = Listing::of(alloc, &sets, plan, &catalogue.fragments)?;
     Ok(listing)
@@ -108,7 +101,8 @@ pub fn members_of(
 {
     let mut members = List::new(alloc);
     'queries: for query in queries {
-        members.push(member_of(alloc, query, queries, catalogue)?)?;
+        let member = member_of(alloc, query, queries, catalogue)?;
+        members.push(member)?;
     }
     Ok(members)
 }

@@ -1,15 +1,13 @@
-use Rattle.esto_disjuncts.proofs.TellLemmas.{empty_told, members_cover, members_tell}
+use Rattle.esto_disjuncts.proofs.TellLemmas.{TellLaws, empty_told, members_cover, members_tell}
 use Rattle.esto_disjuncts.proofs.laws.members_tell_rewritings.Goals as goal
 
 pub returns : goal.returns
 returns c =
-    let laws = record {
-      rules = c.rules_are_sound.ensures.rules;
-      queries = λ query. (c.queries_are_sound.ensures query).query;
+    let laws : TellLaws = record {
       form = c.planned_plans_have_their_form.ensures.form;
-      receives = c.printed_plans_are_universal.ensures.unions;
-      satisfiable = c.printed_plans_tell_satisfiable_queries.ensures;
-      unsatisfiable = c.plans_tell_satisfiable_queries.ensures.clash;
+      receives = c.planned_plans_are_universal.ensures.unions;
+      satisfiable = c.planned_plans_are_universal.ensures.satisfiable;
+      unsatisfiable = c.planned_plans_are_universal.ensures.unsatisfiable;
       universal = c.plans_receive_unions.ensures.universal;
       cover = c.executable_unions_map_onto_sets.ensures.cover;
       excludes = c.executable_unions_exist.ensures.none;

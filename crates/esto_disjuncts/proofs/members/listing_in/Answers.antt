@@ -1,8 +1,4 @@
 use Rattle.std.proofs.Common.{◌∙◌}
-use Rattle.esto_constraint.specs.Constraints.{rules_of}
-use Rattle.esto_planning.proofs.RuleLemmas.{are_rules}
-use Rattle.esto_query.specs.Making.{query_of}
-use Rattle.esto_views.specs.Fragments.{views_of}
 use Rattle.esto_disjuncts.proofs.members.listing_in.Goals as goal
 
 pub union_sets-requires-clause-over : goal.union_sets-requires-clause-over
@@ -18,19 +14,12 @@ union_sets-requires-clause-same_lengths c other there =
 
 pub union_sets-requires-clause-plan_of_one : goal.union_sets-requires-clause-plan_of_one
 union_sets-requires-clause-plan_of_one c =
-    let catalogue = c.args.catalogue.now in
-    let (query, inside, planned) = c.requires.planned in
-    let rules = are_rules c.rules_are_sound.ensures.rules catalogue.rules in
-    let is_query = (c.queries_are_sound.ensures query).query in (
+    let (query, inside, planned) = c.requires.planned in (
       query,
       inside,
       record {
-        satisfiable =
-            c.printed_plans_tell_satisfiable_queries.ensures catalogue.core (rules_of catalogue.rules) (views_of catalogue.fragments) query.names
-            (query_of query) c.args.plan.now rules is_query planned;
-        receives =
-            c.printed_plans_are_universal.ensures.unions catalogue.core (rules_of catalogue.rules) (views_of catalogue.fragments) query.names
-            (query_of query) c.args.plan.now rules is_query planned;
+        satisfiable = c.planned_plans_are_universal.ensures.satisfiable c.args.catalogue.now query c.args.plan.now planned;
+        receives = c.planned_plans_are_universal.ensures.unions c.args.catalogue.now query c.args.plan.now planned;
       },
     )
 
