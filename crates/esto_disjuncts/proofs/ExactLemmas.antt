@@ -1,11 +1,12 @@
 -- What `list` answers to a union is exact.
-use Rattle.std.proofs.Common.{◌≡◌, ◌<◌, ◌⊎◌, inl, inr, ℕ, Bool, true, false, ◌||◌, IsTrue, List, [], ◌∷◌, length, slice_get, Some, Contains, refl, sym, ap, subst, ◌∙◌, arith}
+use Rattle.std.proofs.Common.{◌≡◌, inl, inr, ℕ, Bool, true, false, ◌||◌, List, [], ◌∷◌, slice_get, Some, refl, sym, subst, ◌∙◌}
 use Rattle.std.proofs.lemmas.Option.{same_Some, none-some}
 use Rattle.std.specs.List.{AllZip, list_any}
 use Rattle.esto_catalog.specs.declared.catalogue.Catalogue.{Catalogue}
 use Rattle.esto_chase_laws.specs.declared.clash.Clash.{Clash}
 use Rattle.esto_constraint.specs.Constraints.{rules_of}
 use Rattle.esto_course.specs.Course.{and_then, judges}
+use Rattle.esto_list.specs.declared.listing.Listed.{Listed}
 use Rattle.esto_opening.specs.Calm.{Leads}
 use Rattle.esto_opening.specs.Line.{line_of}
 use Rattle.esto_opening.specs.declared.status.Status.{Status}
@@ -15,8 +16,9 @@ use Rattle.esto_query.specs.Making.{query_of}
 use Rattle.esto_query.specs.declared.query.Query.{Query}
 use Rattle.esto_semantics.specs.Containment.{IsSatisfiable}
 use Rattle.esto_term.proofs.ListLemmas.{Contains-cases, Contains-head, Contains-nil, Contains-rest}
+use Rattle.esto_views.specs.declared.plan.Plan.{Plan}
 use Rattle.esto_disjuncts.specs.Exact.{HaveAnswers, ListsUnionExactly, TellsSatisfiable}
-use Rattle.esto_disjuncts.specs.Laws.{EmptyListsAreTold, MembersCoverUnions, MembersTellSatisfiable, UnionListsAreExact}
+use Rattle.esto_disjuncts.specs.Laws.{EmptyListsAreTold, MembersCoverUnions, MembersTellSatisfiable}
 use Rattle.esto_disjuncts.specs.List.{IsUnionText, lists_union}
 use Rattle.esto_disjuncts.specs.Members.{AreMembersOf, ClashAt, HavePlan, IsMemberOf, has_plan}
 use Rattle.esto_disjuncts.specs.declared.members.Member.{Member}
@@ -30,6 +32,14 @@ or_left one other is = rw is refl
 or_right : (one other : Bool) → other ≡ true → (one || other) ≡ true
 or_right true other is = refl
 or_right false other is = is
+
+-- where no member has a plan, the first one has none
+pub first_not_planned : (members : List Member) (plan : Plan) (items : List Listed) → list_any has_plan members ≡ false
+    → slice_get members 0 ≡ Some (Planned plan items) → ⊥
+first_not_planned [] plan items none is = none-some (Planned plan items) is
+first_not_planned (member ∷ members) plan items none is =
+    let never : true ≡ false =
+    subst (λ (it : Member). (has_plan it || list_any has_plan members) ≡ false) (same_Some member (Planned plan items) is) none in cc
 
 module _ (catalogue : Catalogue) where
   have_answers : (queries : List Query) (members : List Member) → AllZip (TellsSatisfiable catalogue) queries members → HavePlan members

@@ -1,5 +1,5 @@
 -- Over catalogues that say the same, the members of a union are one, and so is what is printed of them.
-use Rattle.std.proofs.Common.{◌≡◌, ℕ, List, [], ◌∷◌, map, slice_get, Option, Some, All, Bool, ◌||◌, refl, sym, ap, subst, ◌∙◌}
+use Rattle.std.proofs.Common.{◌≡◌, ℕ, List, [], ◌∷◌, slice_get, Some, All, ◌||◌, refl, sym, ap, subst, ◌∙◌}
 use Rattle.std.proofs.lemmas.Option.{same_Some, none-some}
 use Rattle.std.specs.List.{AllZip, list_any}
 use Rattle.either.specs.declared.Either.TheVariants.{Left, Right}
@@ -12,14 +12,12 @@ use Rattle.esto_course.proofs.Determined.{judges_agree, then_agree}
 use Rattle.esto_list.specs.Items.{IsPickOf, sets_of}
 use Rattle.esto_list.specs.Text.{IsListText, each_from, list_text}
 use Rattle.esto_list.specs.declared.listing.Listed.{Listed}
-use Rattle.esto_opening.specs.Calm.{AgreeCalmly}
 use Rattle.esto_opening.specs.Alike.{IsSameQuery}
 use Rattle.esto_opening.specs.Line.{line_of}
 use Rattle.esto_opening.specs.declared.status.Status.TheVariants as status
 use Rattle.esto_plan_laws.specs.UnionLaws.{UnionListIsOne}
-use Rattle.esto_plan_laws.specs.UnionSets.{AreUnionListed, IsUnionRewriting}
+use Rattle.esto_plan_laws.specs.UnionSets.{AreUnionListed}
 use Rattle.esto_planning.specs.Alike.{EndIsOne, IsSamePlan}
-use Rattle.esto_planning.specs.Listing.{IsClash, IsPlanned}
 use Rattle.esto_planning.proofs.OneListLemmas.{HasOrder, HasWeight, same_atoms, same_items, same_pick, same_text}
 use Rattle.esto_query.specs.Making.{query_of}
 use Rattle.esto_query.specs.declared.query.Query.{Query}
@@ -28,14 +26,13 @@ use Rattle.esto_semantics.specs.AccessLaws.{StatedOrderIsOne}
 use Rattle.esto_semantics.specs.Listed.{IsWeight, chosen}
 use Rattle.esto_semantics.specs.ListedLaws.{PickIsOne, WeightIsOne}
 use Rattle.esto_semantics.specs.Queries.{ConjunctiveQuery}
-use Rattle.esto_semantics.specs.Sets.{AreListedBy}
 use Rattle.esto_union.specs.Unions.{queries_of}
 use Rattle.esto_views.specs.Fragments.{patterns_of, views_of, weights_of}
 use Rattle.esto_views.specs.Plans.{plan_query}
 use Rattle.esto_views.specs.declared.plan.Plan.{Plan}
 use Rattle.esto_disjuncts.specs.Laws.{IsSameMember, MembersAreOne, UnionListsAreOne}
-use Rattle.esto_disjuncts.specs.List.{IsMemberText, IsUnionText, disjunct_text, lists_union, makes_members, prints_members}
-use Rattle.esto_disjuncts.specs.Members.{AreMembersOf, ClashAt, HavePlan, IsListIn, IsMemberOf, has_plan}
+use Rattle.esto_disjuncts.specs.List.{IsMemberText, IsUnionText, disjunct_text}
+use Rattle.esto_disjuncts.specs.Members.{IsListIn, IsMemberOf, has_plan}
 use Rattle.esto_disjuncts.specs.Unions.{AreSameQueries}
 use Rattle.esto_disjuncts.specs.declared.members.Member.{Member}
 use Rattle.esto_disjuncts.specs.declared.members.Member.TheVariants.{Planned, Clashed}

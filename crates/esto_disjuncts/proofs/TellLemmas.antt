@@ -1,12 +1,11 @@
 -- What the members of a union tell of its queries and of its rewritings.
-use Rattle.std.proofs.Common.{◌≡◌, ◌⊎◌, ◌↔◌, inl, inr, Bool, true, false, ◌||◌, IsTrue, List, [], ◌∷◌, map, Contains, refl, sym, subst}
-use Rattle.std.specs.List.{AllZip, list_any}
+use Rattle.std.proofs.Common.{◌≡◌, ◌⊎◌, ◌↔◌, inl, inr, true, false, List, [], ◌∷◌, Contains, refl, subst}
+use Rattle.std.specs.List.{AllZip}
 use Rattle.esto_catalog.specs.declared.catalogue.Catalogue.{Catalogue}
 use Rattle.esto_constraint.specs.Constraints.{rules_of}
 use Rattle.esto_list.specs.Items.{sets_of}
-use Rattle.esto_list.specs.declared.listing.Listed.{Listed}
 use Rattle.esto_plan_laws.specs.UnionLaws.{ChoiceExists, ChoiceIsExecutable, EmptyListExcludes, ListedCoverUnions, ReceivingIsUniversal}
-use Rattle.esto_plan_laws.specs.UnionSets.{HasEmptyList, IsAnswered, IsOption}
+use Rattle.esto_plan_laws.specs.UnionSets.{HasEmptyList, IsAnswered}
 use Rattle.esto_planning.specs.Laws.{ClashExcludesAnswers, PlanHasForm, PlanReceivesUnions, PlanTellsAnswers}
 use Rattle.esto_query.specs.Making.{query_of}
 use Rattle.esto_query.specs.declared.query.Query.{Query}
@@ -14,13 +13,13 @@ use Rattle.esto_semantics.specs.Access.{Patterns}
 use Rattle.esto_semantics.specs.Queries.{ConjunctiveQuery}
 use Rattle.esto_semantics.specs.Rules.{Rule}
 use Rattle.esto_term.proofs.ListLemmas.{Contains-cases, Contains-head, Contains-map, Contains-map_from, Contains-nil, Contains-rest}
-use Rattle.esto_union.specs.Unions.{AreRewritingOf, OneMapsOntoOne, queries_of}
+use Rattle.esto_union.specs.Unions.{queries_of}
 use Rattle.esto_views.specs.Fragments.{patterns_of, views_of}
 use Rattle.esto_views.specs.Plans.{plan_query}
 use Rattle.esto_views.specs.declared.plan.Plan.{Plan}
 use Rattle.esto_disjuncts.specs.Exact.{CoversUnions, HasNoRewriting, TellsSatisfiable}
 use Rattle.esto_disjuncts.specs.Laws.{EmptyListsAreTold, MembersCoverUnions, MembersTellSatisfiable}
-use Rattle.esto_disjuncts.specs.Members.{AreMembersOf, IsListIn, IsMemberOf, OneIsEmpty, has_plan}
+use Rattle.esto_disjuncts.specs.Members.{AreMembersOf, IsMemberOf, OneIsEmpty}
 use Rattle.esto_disjuncts.specs.declared.members.Member.{Member}
 use Rattle.esto_disjuncts.specs.declared.members.Member.TheVariants.{Planned, Clashed}
 use Rattle.esto_disjuncts.proofs.ZipLemmas.{zip_left, zip_more}

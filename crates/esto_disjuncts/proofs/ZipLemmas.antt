@@ -19,7 +19,7 @@ module _ {A B : Type 0} (R : A → B → Type 0) where
       (zip_push (take place ones) others one other zip is)
 
   pub zip_all : (ones : List A) (others : List B) (place : ℕ) → length ones ≤ place → AllZip R (take place ones) others → AllZip R ones others
-  zip_all ones others place le zip = subst (λ it. AllZip R it others) (take_all ones place le) zip
+  zip_all ones others place le zip = subst (λ it. AllZip R it others) (take_all place ones le) zip
 
   -- what holds of two things that go together
   pub zip_more : (S : A → B → Type 0) → ((one : A) (other : B) → R one other → S one other) → (ones : List A) (others : List B) → AllZip R ones others

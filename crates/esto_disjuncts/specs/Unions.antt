@@ -1,5 +1,5 @@
 -- Temporary: what esto_opening says of unions.
-use Rattle.std.specs.Prelude.{◌≡◌, ℕ, ◌<◌, List, [], ◌∷◌, length, Contains}
+use Rattle.std.specs.Prelude.{◌≡◌, ◌<◌, List, [], ◌∷◌, length, Contains}
 use Rattle.esto_query.specs.declared.query.Query.{Query}
 use Rattle.esto_opening.specs.Alike.{IsSameQuery}
 
