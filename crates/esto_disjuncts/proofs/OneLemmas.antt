@@ -33,7 +33,7 @@ use Rattle.esto_views.specs.declared.plan.Plan.{Plan}
 use Rattle.esto_disjuncts.specs.Laws.{IsSameMember, MembersAreOne, UnionListsAreOne}
 use Rattle.esto_disjuncts.specs.List.{IsMemberText, IsUnionText, disjunct_text}
 use Rattle.esto_disjuncts.specs.Members.{IsListIn, IsMemberOf, has_plan}
-use Rattle.esto_disjuncts.specs.Unions.{AreSameQueries}
+use Rattle.esto_opening.specs.Alike.{AreSameQueries}
 use Rattle.esto_disjuncts.specs.declared.members.Member.{Member}
 use Rattle.esto_disjuncts.specs.declared.members.Member.TheVariants.{Planned, Clashed}
 

@@ -1,4 +1,3 @@
-pub mod Unions
 pub mod Members
 pub mod List
 pub mod Exact

@@ -1,7 +1,7 @@
 //! The command `list` over a union.
 ghost use Rattle.std.specs.Prelude.{◌≡◌, ◌<◌, ◌++◌, ℕ, List, length, IfOk, OnOk};
 ghost use Rattle.esto_disjuncts.specs.List.{IsMemberText, IsUnionText, disjunct_text, lists_union, prints_members};
-ghost use Rattle.esto_disjuncts.specs.Unions.{FormUnion};
+ghost use Rattle.esto_opening.specs.Unions.{FormUnion};
 ghost use Rattle.esto_opening.specs.Answers.{Answers};
 
 use crate::members::{Member, Members, clash_of, copy_clash, members_of};

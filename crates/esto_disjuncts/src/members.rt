@@ -1,6 +1,6 @@
 //! The members of a union.
 ghost use Rattle.std.specs.Prelude.{◌≡◌, ◌<◌, length, IfOk, Contains, MatchOption};
-ghost use Rattle.esto_disjuncts.specs.Unions.{FormUnion};
+ghost use Rattle.esto_opening.specs.Unions.{FormUnion};
 ghost use Rattle.std.specs.List.{list_any};
 ghost use Rattle.esto_disjuncts.specs.Members.{AreMembersOf, ClashAt, HavePlan, IsListIn, IsMemberOf, IsPlannedForOne, has_plan};
 
