@@ -12,7 +12,7 @@ use Rattle.esto_course.proofs.Determined.{judges_agree, then_agree}
 use Rattle.esto_list.specs.Items.{IsPickOf, sets_of}
 use Rattle.esto_list.specs.Text.{IsListText, each_from, list_text}
 use Rattle.esto_list.specs.declared.listing.Listed.{Listed}
-use Rattle.esto_opening.specs.Alike.{IsSameQuery}
+use Rattle.esto_opening.specs.Alike.{AreSameQueries, IsSameQuery}
 use Rattle.esto_opening.specs.Line.{line_of}
 use Rattle.esto_opening.specs.declared.status.Status.TheVariants as status
 use Rattle.esto_plan_laws.specs.UnionLaws.{UnionListIsOne}
@@ -33,7 +33,6 @@ use Rattle.esto_views.specs.declared.plan.Plan.{Plan}
 use Rattle.esto_disjuncts.specs.Laws.{IsSameMember, MembersAreOne, UnionListsAreOne}
 use Rattle.esto_disjuncts.specs.List.{IsMemberText, IsUnionText, disjunct_text}
 use Rattle.esto_disjuncts.specs.Members.{IsListIn, IsMemberOf, has_plan}
-use Rattle.esto_opening.specs.Alike.{AreSameQueries}
 use Rattle.esto_disjuncts.specs.declared.members.Member.{Member}
 use Rattle.esto_disjuncts.specs.declared.members.Member.TheVariants.{Planned, Clashed}
 
