@@ -1,5 +1,6 @@
 pub mod TextLemmas
 pub mod ZipLemmas
 pub mod OneLemmas
+pub mod MovedLemmas
 pub mod TellLemmas
 pub mod ExactLemmas

@@ -41,14 +41,14 @@ use Rattle.esto_disjuncts.specs.declared.members.Member.TheVariants.{Planned, Cl
 same_query : (query other : Query) → IsSameQuery query other → query_of query ≡ query_of other
 same_query query other same = λ i. record { head = same.head i; body = same.body i }
 
-same_queries : (queries others : List Query) → AreSameQueries queries others → queries_of queries ≡ queries_of others
+pub same_queries : (queries others : List Query) → AreSameQueries queries others → queries_of queries ≡ queries_of others
 same_queries [] [] same = refl
 same_queries [] (other ∷ others) same = absurd same
 same_queries (query ∷ queries) [] same = absurd same
 same_queries (query ∷ queries) (other ∷ others) (same, rest) = λ i. same_query query other same i ∷ same_queries queries others rest i
 
 -- a list over the other catalogue is one over this
-list_here : (catalogue other : Catalogue) → AreSame catalogue other → (queries others : List Query) → queries_of queries ≡ queries_of others → (plan : Plan)
+pub list_here : (catalogue other : Catalogue) → AreSame catalogue other → (queries others : List Query) → queries_of queries ≡ queries_of others → (plan : Plan)
     (items : List Listed) → IsListIn other others plan items → IsListIn catalogue queries plan items
 list_here catalogue other alike queries others same plan items list = record {
   sets =

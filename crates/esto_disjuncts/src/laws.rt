@@ -1,12 +1,13 @@
 //! Laws of members and lists of unions.
-ghost use Rattle.esto_disjuncts.specs.Laws.{EmptyListsAreTold, MembersAreOne, MembersCoverUnions, MembersTellSatisfiable, UnionListsAreExact, UnionListsAreOne};
+ghost use Rattle.esto_disjuncts.specs.Laws.{EmptyListsAreTold, MembersAreMoved, MembersAreOne, MembersCoverUnions, MembersTellSatisfiable, UnionListsAreExact, UnionListsAreMoved, UnionListsAreOne};
 
 use esto_plan_laws::{
     choices_are_executable_unions, executable_unions_exist, executable_unions_map_onto_sets,
     plans_receive_unions,
 };
 use esto_planning::{
-    planned_plans_are_universal, planned_plans_have_their_form, plans_and_lists_are_one,
+    planned_plans_are_universal, planned_plans_have_their_form, plans_and_lists_are_moved,
+    plans_and_lists_are_one,
 };
 use esto_semantics::{picks_exist, stated_orders_exist, weights_exist};
 
@@ -42,6 +43,15 @@ pub fn union_lists_are_one()
 {
     members_are_one();
     picks_exist();
+}
+
+/// A law: members of a union, and what `list` prints of them or with what it refuses the union, over one of two catalogues
+/// that say the same, are ones of the same queries over the other.
+pub fn union_lists_are_moved()
+    ensures members { MembersAreMoved }
+    ensures lists { UnionListsAreMoved }
+{
+    plans_and_lists_are_moved();
 }
 
 /// A law: `list` prints the members of a union exactly where one of its queries is satisfiable, and else refuses it, with

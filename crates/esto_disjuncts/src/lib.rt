@@ -8,7 +8,8 @@ mod list;
 mod members;
 
 pub use laws::{
-    members_are_one, members_tell_rewritings, union_lists_are_exact, union_lists_are_one,
+    members_are_one, members_tell_rewritings, union_lists_are_exact, union_lists_are_moved,
+    union_lists_are_one,
 };
 pub use list::list_union;
 pub use members::{Member, Members, clash_of, copy_clash, members_of};

@@ -12,11 +12,12 @@ pub mod LeadLemmas
 pub mod AlikeRunLemmas
 pub mod RunAgreeLemmas
 pub mod SayLemmas
+pub mod DataLemmas
 pub mod HeadlineLemmas
+pub mod UnionLemmas
 pub mod RunsLemmas
 pub mod AgreeLemmas
 pub mod BenchLemmas
 pub mod DeterminedLemmas
-pub mod DataLemmas
 pub mod ReasoningLemmas
 pub mod AgreedLemmas

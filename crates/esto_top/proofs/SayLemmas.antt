@@ -1,84 +1,73 @@
--- The catalogue and the query that the files say are read.
-use Rattle.std.proofs.Common.{◌≡◌, ℕ, List, Some, sym, ap, subst, ◌∙◌}
-use Rattle.esto_catalog.specs.Determined.{CataloguesAreSound, HaveOneCatalogue, HaveNoError}
-use Rattle.esto_catalog.specs.Reading.{IsCatalogueOf, IsCatalogueError}
+-- What the files say is read: the catalogue up to what it means, and the same queries over it.
+use Rattle.std.proofs.Common.{◌≡◌, ℕ, List, [], ◌∷◌, Some, refl}
+use Rattle.esto_catalog.specs.Determined.{AreSame}
 use Rattle.esto_catalog.specs.declared.catalogue.Catalogue.{Catalogue}
-use Rattle.esto_catalog.specs.declared.fault.CatalogueError.{CatalogueError}
-use Rattle.esto_ports.specs.Files.{Files}
-use Rattle.esto_query.specs.Schemas.{arities_of}
-use Rattle.esto_query.specs.declared.query.Query.{Query}
-use Rattle.esto_read.specs.Readings.{IsReading, IsFirstFault, HaveNoFault}
-use Rattle.esto_read.specs.declared.read.Form.TheVariants as form
-use Rattle.esto_read.specs.declared.read.NamedQuery.{NamedQuery}
-use Rattle.esto_read.specs.declared.words.Word.{Word}
-use Rattle.esto_text.specs.declared.fault.TextFault.{TextFault}
-use Rattle.esto_opening.specs.Answers.{IsCaused}
-use Rattle.esto_top.specs.Headline.{FilesSay}
-use Rattle.esto_opening.specs.Opening.{status_of, reads_catalogue, opens_catalogue, reads_query, opens_query}
+use Rattle.esto_course.specs.Course.{Course, judges}
+use Rattle.esto_course.proofs.Steps.{then_goes}
+use Rattle.esto_opening.specs.Alike.{AreSameQueries, IsSameQuery}
+use Rattle.esto_opening.specs.Calm.{AgreeCalmly, Leads}
+use Rattle.esto_opening.specs.Fetch.{fetches}
+use Rattle.esto_opening.specs.Opening.{opens_catalogue, opens_query, opens_union, reads_catalogue, reads_query, reads_union}
 use Rattle.esto_opening.specs.declared.opening.TheConstants.{CATALOGUE_LIMIT, QUERY_LIMIT}
 use Rattle.esto_opening.specs.declared.status.Status.{Status}
-use Rattle.esto_opening.specs.declared.status.Status.TheVariants as status
-use Rattle.esto_opening.specs.Fetch.{fetches}
-use Rattle.esto_course.specs.Course.{judges}
-use Rattle.esto_course.proofs.Steps.{then_goes}
-use Rattle.esto_opening.specs.Calm.{Leads}
-use Rattle.esto_opening.proofs.LeadLemmas.{then-leads, judges-leads, fetches-leads}
-use Rattle.esto_opening.proofs.Steps.{never_wanting}
-use Rattle.esto_opening.specs.Alike.{IsSameQuery, QueriesOpenAlike}
+use Rattle.esto_ports.specs.Files.{Files}
+use Rattle.esto_query.specs.declared.query.Query.{Query}
+use Rattle.esto_top.specs.Headline.{FilesSay}
+use Rattle.esto_top.specs.Unions.{FilesSayQueries}
+use Rattle.esto_top.proofs.LawRecords.{OpeningLaws}
 
--- the query is a reading of the bytes over a catalogue
-abbrev pub IsQueryOf : Catalogue → List ℕ → Query → Type 0
-IsQueryOf catalogue bytes query = (named : NamedQuery) × IsReading form.Query catalogue.words (arities_of catalogue.schema) bytes named × (query ≡ named.query)
+-- ---- what is said is opened
 
--- a reading over words and a schema is one over the same
-reading-same : (words others : List Word) (schema other : List ℕ) (bytes : List ℕ) (named : NamedQuery) → words ≡ others → schema ≡ other
-    → IsReading form.Query words schema bytes named → IsReading form.Query others other bytes named
-reading-same words others schema other bytes named words_are schema_is reading =
-    subst (λ it. IsReading form.Query it other bytes named) words_are (subst (λ it. IsReading form.Query words it bytes named) schema_is reading)
+module _ (files : Files) (catalogue_name query_name : List ℕ) (catalogue : Catalogue) where
+  module _ (query : Query) (say : FilesSay files catalogue_name query_name catalogue query) where
+    pub catalogue_opens : (opens_catalogue (Some files) catalogue_name).goes catalogue
+    unfolding fetches judges
+    catalogue_opens = then_goes (fetches (Some files) catalogue_name CATALOGUE_LIMIT) reads_catalogue say.catalogue_bytes catalogue say.has_catalogue
+        say.is_catalogue
 
-module _ (sound : CataloguesAreSound) (one : HaveOneCatalogue) (apart : HaveNoError) (queries : QueriesOpenAlike) (no_fault : HaveNoFault)
-    (files : Files) (catalogue_name query_name : List ℕ) (catalogue : Catalogue) (query : Query)
-    (say : FilesSay files catalogue_name query_name catalogue query) where
-  -- the catalogue is fetched and read
-  pub catalogue_leads : (Refused : Status → Type 0) → Leads (opens_catalogue (Some files) catalogue_name) (IsCatalogueOf say.catalogue_bytes) Refused
-  catalogue_leads Refused =
-      then-leads _ _ (λ bytes. bytes ≡ say.catalogue_bytes) _ _
-      (fetches-leads files catalogue_name CATALOGUE_LIMIT say.catalogue_bytes say.has_catalogue Refused)
-      (λ bytes is. subst (λ it. Leads (reads_catalogue it) (IsCatalogueOf say.catalogue_bytes) Refused) (sym is)
-      (judges-leads _ _ Refused (λ refusal caused stop. absurd (no_error refusal caused stop))))
-    where
-      no_error : (refusal : Status) → IsCaused ⊥ refusal → (cause : CatalogueError) × IsCatalogueError say.catalogue_bytes cause
-          × (refusal ≡ status_of cause) → ⊥
-      no_error refusal caused (cause, is_error, is) =
-          let wanting : refusal ≡ status.OutOfMemory = is ∙ ap status_of (apart say.catalogue_bytes catalogue cause say.is_catalogue is_error) in
-          never_wanting ⊥ refusal wanting caused
+    query_opens : (opens_query (Some files) query_name catalogue).goes query
+    unfolding fetches judges
+    query_opens = then_goes (fetches (Some files) query_name QUERY_LIMIT) (reads_query catalogue) say.query_bytes query say.has_query
+        (say.named, say.is_query, say.query_is)
 
-  module _ (other : Catalogue) (is_other : IsCatalogueOf say.catalogue_bytes other) where
-    reading : IsReading form.Query other.words (arities_of other.schema) say.query_bytes say.named
-    reading =
-        let same = one say.catalogue_bytes catalogue other say.is_catalogue is_other in
-        reading-same catalogue.words other.words (arities_of catalogue.schema) (arities_of other.schema) say.query_bytes say.named same.words
-        (ap arities_of same.schema) say.is_query
+    -- the query is opened as a union of its own
+    pub alone_opens : OpeningLaws → (opens_union (Some files) query_name catalogue).goes (query ∷ [])
+    alone_opens opening = (opening.alone (Some files) query_name catalogue query).1 query_opens
 
-    -- the query is fetched and read
-    pub query_leads : (Refused : Status → Type 0) → Leads (opens_query (Some files) query_name other) (IsQueryOf other say.query_bytes) Refused
-    query_leads Refused =
-        then-leads _ _ (λ bytes. bytes ≡ say.query_bytes) _ _ (fetches-leads files query_name QUERY_LIMIT say.query_bytes say.has_query Refused)
-        (λ bytes is. subst (λ it. Leads (reads_query other it) (IsQueryOf other say.query_bytes) Refused) (sym is)
-        (judges-leads _ _ Refused (λ refusal caused stop. absurd (none refusal caused stop))))
-      where
-        none : (refusal : Status) → IsCaused ⊥ refusal
-            → (fault : TextFault) × IsFirstFault form.Query other.words (arities_of other.schema) say.query_bytes fault × (refusal ≡ status.BadQuery fault) → ⊥
-        none refusal caused (fault, first, is) =
-            no_fault form.Query other.words (arities_of other.schema) say.query_bytes say.named fault (sound other).vocabulary reading first
+  module _ (queries : List Query) (say : FilesSayQueries files catalogue_name query_name catalogue queries) where
+    pub catalogue_opens_for : (opens_catalogue (Some files) catalogue_name).goes catalogue
+    unfolding fetches judges
+    catalogue_opens_for = then_goes (fetches (Some files) catalogue_name CATALOGUE_LIMIT) reads_catalogue say.catalogue.bytes catalogue say.catalogue.has
+        say.catalogue.is_catalogue
 
-  query_opens : (it : Catalogue) (made : Query) → IsQueryOf it say.query_bytes made → (opens_query (Some files) query_name it).goes made
-  unfolding fetches judges
-  query_opens it made is = then_goes (fetches (Some files) query_name QUERY_LIMIT) (reads_query it) say.query_bytes made say.has_query is
+    pub union_opens : (opens_union (Some files) query_name catalogue).goes queries
+    unfolding fetches judges
+    union_opens = then_goes (fetches (Some files) query_name QUERY_LIMIT) (reads_union catalogue) say.union.bytes queries say.union.has
+        (say.union.named, say.union.is_union, say.union.queries_are)
 
-  -- what was read is the catalogue and the query that the files say
-  pub same_as_read : (other : Catalogue) → IsCatalogueOf say.catalogue_bytes other → (read : Query) → IsQueryOf other say.query_bytes read
-      → IsSameQuery query read
-  same_as_read other is_other read is_query =
-      (queries files query_name catalogue other (one say.catalogue_bytes catalogue other say.is_catalogue is_other)).one query read
-      (query_opens catalogue query (say.named, say.is_query, say.query_is)) (query_opens other read is_query)
+-- ---- what is opened is the same
+
+-- a course that agrees with one that goes on with the value goes on with the same
+agree_leads : {A : Type 0} (Same : A → A → Type 0) (course other : Course Status A) (value : A) (Refused : Status → Type 0)
+    → AgreeCalmly Same course other → course.goes value → Leads other (Same value) Refused
+agree_leads Same course other value Refused agree goes = record {
+  goes = λ got follows. agree.one value got goes follows;
+  stops = λ refusal caused stops. absurd (agree.apart value refusal caused goes stops);
+}
+
+module _ (opening : OpeningLaws) (files : Files) (catalogue_name query_name : List ℕ) (catalogue : Catalogue) (Refused : Status → Type 0) where
+  pub catalogue_leads : (opens_catalogue (Some files) catalogue_name).goes catalogue
+      → Leads (opens_catalogue (Some files) catalogue_name) (AreSame catalogue) Refused
+  catalogue_leads opens = agree_leads AreSame _ _ catalogue Refused (opening.catalogues files catalogue_name) opens
+
+  pub union_leads : (queries : List Query) → (opens_union (Some files) query_name catalogue).goes queries → (other : Catalogue) → AreSame catalogue other
+      → Leads (opens_union (Some files) query_name other) (AreSameQueries queries) Refused
+  union_leads queries opens other alike =
+      agree_leads AreSameQueries _ _ queries Refused (opening.unions files query_name catalogue other alike) opens
+
+-- queries that are the same as one query are one that is the same
+pub one_alone : (query : Query) (P : List Query → Type 0) → ((read : Query) → IsSameQuery query read → P (read ∷ [])) → (queries : List Query)
+    → AreSameQueries (query ∷ []) queries → P queries
+one_alone query P is [] same = absurd same
+one_alone query P is (read ∷ []) (same, none) = is read same
+one_alone query P is (read ∷ more ∷ rest) (same, never) = absurd never

@@ -59,10 +59,11 @@ AuditsWhereTold words (Some files) rose sink_rose old new result =
 
 -- ---- agreement
 
--- Where, over the same files, `audit` and `run` are Done, each outcome of `answer` is Done with the text of `run`.
+-- Where the files say a catalogue and a query over it, and over them `audit` and `run` are Done, each outcome of `answer` is Done with the text of `run`.
 abbrev pub OutcomesAgree : Type 0
 OutcomesAgree =
-    (words : List (List ℕ)) (files : Files) (catalogue_name query_name : List ℕ) (number : Option ℕ) (audited ran answered : List ℕ) (said : Status)
+    (words : List (List ℕ)) (files : Files) (catalogue_name query_name : List ℕ) (number : Option ℕ) (catalogue : Catalogue) (query : Query)
+    (audited ran answered : List ℕ) (said : Status) → FilesSay files catalogue_name query_name catalogue query
     → Outcome (codes "audit" ∷ catalogue_name ∷ []) files status.Done audited
     → AsksRun words catalogue_name query_name number → Outcome words files status.Done ran
     → Outcome (codes "answer" ∷ catalogue_name ∷ query_name ∷ []) files said answered

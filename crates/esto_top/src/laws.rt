@@ -4,18 +4,20 @@ ghost use Rattle.esto_top.specs.Determined.{OutcomesAreDetermined};
 ghost use Rattle.esto_top.specs.Headline.{OutcomesAreLists, OutcomesAreRefusals};
 ghost use Rattle.esto_top.specs.ReasoningOutcomes.{OutcomesAreContainments, OutcomesAreMinimised};
 ghost use Rattle.esto_top.specs.Runs.{OutcomesAreRuns};
+ghost use Rattle.esto_top.specs.Unions.{OutcomesAreUnionLists};
 
 use esto_backchase::listed_sets_cover_rewritings;
 use esto_bench::summaries_are_one;
-use esto_catalog::{catalogues_are_determined, catalogues_are_sound};
 use esto_data::{audited_datasets_answer, data_outcomes_are_exact, data_outcomes_are_one};
+use esto_disjuncts::{
+    union_lists_are_exact, union_lists_are_moved, union_lists_are_one, union_runs_are_one,
+};
 use esto_fill::agreeing_answers_are_one;
-use esto_opening::openings_are_one;
+use esto_opening::{opened_unions_are_queries, openings_are_one};
 use esto_planning::{
     chosen_items_are_listed, planned_plans_are_universal, planned_plans_have_their_form,
     plans_and_lists_are_moved, plans_and_lists_are_one,
 };
-use esto_read::readings_are_determined;
 use esto_reasoning::{reasoning_outcomes_are_exact, reasoning_outcomes_are_one};
 use esto_run::{rewritings_answer_queries, rising_rows_are_one, used_fragments_are_one};
 use esto_semantics::{chosen_atoms_are_named, listed_sets_are_minimal, picks_exist};
@@ -27,10 +29,8 @@ pub(crate) fn lists_are_exact()
     ensures lists { OutcomesAreLists }
     ensures refusals { OutcomesAreRefusals }
 {
-    catalogues_are_sound();
-    catalogues_are_determined();
-    readings_are_determined();
     openings_are_one();
+    opened_unions_are_queries();
     planned_plans_are_universal();
     planned_plans_have_their_form();
     chosen_items_are_listed();
@@ -47,10 +47,8 @@ pub(crate) fn lists_are_exact()
 pub(crate) fn runs_are_exact()
     ensures { OutcomesAreRuns }
 {
-    catalogues_are_sound();
-    catalogues_are_determined();
-    readings_are_determined();
     openings_are_one();
+    opened_unions_are_queries();
     planned_plans_are_universal();
     planned_plans_have_their_form();
     chosen_items_are_listed();
@@ -63,16 +61,31 @@ pub(crate) fn runs_are_exact()
     chosen_atoms_are_named();
 }
 
+/// A law: where the files say a catalogue and a union of two or more queries over it, each outcome of `list` prints the
+/// union's members, each a query's printed plan with exactly the sets listed in the union, or the clash of its run; or it
+/// refuses the union, exactly where none of its queries is satisfiable.
+pub(crate) fn union_lists_hold()
+    ensures { OutcomesAreUnionLists }
+{
+    openings_are_one();
+    opened_unions_are_queries();
+    union_lists_are_moved();
+    union_lists_are_exact();
+}
+
 /// A law: the same words over the same files have at most one outcome.
 pub fn outcomes_are_determined()
     ensures { OutcomesAreDetermined }
 {
     openings_are_one();
+    opened_unions_are_queries();
     chosen_items_are_listed();
     plans_and_lists_are_moved();
     plans_and_lists_are_one();
     used_fragments_are_one();
     rising_rows_are_one();
+    union_lists_are_one();
+    union_runs_are_one();
     summaries_are_one();
     data_outcomes_are_one();
     reasoning_outcomes_are_one();
@@ -98,10 +111,12 @@ pub(crate) fn reasoning_outcomes_hold()
     reasoning_outcomes_are_exact();
 }
 
-/// A law: where `audit` and `run` are Done over the same files, each outcome of `answer` is Done with the text of `run`.
+/// A law: where the files say one query, and `audit` and `run` are Done over them, each outcome of `answer` is Done with the text of `run`.
 pub fn answers_agree_with_runs()
     ensures { OutcomesAgree }
 {
+    openings_are_one();
+    opened_unions_are_queries();
     chosen_items_are_listed();
     audited_datasets_answer();
     agreeing_answers_are_one();

@@ -10,13 +10,14 @@ ghost use Rattle.esto_top.specs.Grammar.{course_of};
 ghost use Rattle.esto_top.specs.Headline.{ListsWhereTold, RefusesWhereTold};
 ghost use Rattle.esto_top.specs.ReasoningOutcomes.{ContainsWhereTold, MinimisesWhereTold};
 ghost use Rattle.esto_top.specs.Runs.{RunsWhereTold};
+ghost use Rattle.esto_top.specs.Unions.{UnionListsWhereTold};
 ghost use Rattle.esto_top.specs.Outcome.{Mediates, CompleteWhereTold, CausedReadFault, CausedWriteFault, PutsOnce};
 
 use crate::command::{command_of, obey};
 use crate::ending::finish;
 use crate::laws::{
     data_outcomes_hold, lists_are_exact, outcomes_are_determined, reasoning_outcomes_hold,
-    runs_are_exact,
+    runs_are_exact, union_lists_hold,
 };
 use esto_opening::{Reply, Status};
 use esto_ports::{Shelf, Sink};
@@ -73,6 +74,16 @@ pub fn mediate<S: Shelf, O: Sink>(
     // Where the files say a catalogue and a query over it, the status is Unsatisfiable, with the clash of the query's run,
     // exactly where no database that meets the catalogue's rules gives the query an answer.
     ensures refusal { RefusesWhereTold words.now (S.files shelf.old)
+        (Rises S.faults shelf.old shelf.new) (Rises O.faults out.old out.new) (O.written out.old)
+        (O.written out.new) result }
+
+    // Where the files say a catalogue and a union of two or more queries over it, `list` refuses the union, with the clash of
+    // its first query's run, exactly where no database that meets the rules gives one of its queries an answer. Else it
+    // prints its queries in order, each with its printed plan and exactly the sets that are listed in the union, or with the
+    // clash of its run: a query has a plan exactly where it is satisfiable, each executable rewriting of the union, of any
+    // size, has for each plan a query that maps onto a set of its atoms that has a listed set within it, and some list is
+    // empty exactly where there is no such rewriting.
+    ensures list_union { UnionListsWhereTold words.now (S.files shelf.old)
         (Rises S.faults shelf.old shelf.new) (Rises O.faults out.old out.new) (O.written out.old)
         (O.written out.new) result }
 
@@ -144,6 +155,7 @@ pub fn mediate<S: Shelf, O: Sink>(
 {
     lists_are_exact();
     runs_are_exact();
+    union_lists_hold();
     outcomes_are_determined();
     data_outcomes_hold();
     reasoning_outcomes_hold();

@@ -7,15 +7,15 @@ use Rattle.esto_top.proofs.run.run.Goals as goal
 pub returns-in_err-reply-clause-answer : goal.returns-in_err-reply-clause-answer
 returns-in_err-reply-clause-answer g c =
     at_exit _ _ c.from_residual-in_err-reply.result c.from_residual-in_err-reply.ensures.1
-    (end_stops (g.S.Shelf.faults c.args.shelf.now) (g.S.Shelf.faults c.open_query.new.shelf) (g.S.Shelf.faults c.run_query.new.shelf)
-    (g.S.Shelf.faults c.run_query.new.shelf)
-    (course_stops (g.S.Shelf.files c.args.shelf.now) (g.S.Shelf.files c.open_catalogue.new.shelf) (g.S.Shelf.files c.open_query.new.shelf)
-    c.in_ok-catalogue.ensures.files c.in_ok-query.ensures.files c.args.catalogue.now c.args.query.now c.args.number c.in_ok-catalogue.catalogue
-    c.in_ok-catalogue.ensures.answer c.in_ok-query.query c.in_ok-query.ensures.answer c.in_err-reply.ensures.answer)
-    (omega (arith, c.in_ok-catalogue.ensures.later, c.in_ok-query.ensures.later)) c.in_err-reply.ensures.later (omega arith))
+    (end_stops (g.S.Shelf.faults c.args.shelf.now) (g.S.Shelf.faults c.open_union.new.shelf) (g.S.Shelf.faults c.run_queries.new.shelf)
+    (g.S.Shelf.faults c.run_queries.new.shelf)
+    (course_stops (g.S.Shelf.files c.args.shelf.now) (g.S.Shelf.files c.open_catalogue.new.shelf) (g.S.Shelf.files c.open_union.new.shelf)
+    c.in_ok-catalogue.ensures.files c.in_ok-queries.ensures.files c.args.catalogue.now c.args.query.now c.args.number c.in_ok-catalogue.catalogue
+    c.in_ok-catalogue.ensures.answer c.in_ok-queries.queries c.in_ok-queries.ensures.answer c.in_err-reply.ensures.answer)
+    (omega (arith, c.in_ok-catalogue.ensures.later, c.in_ok-queries.ensures.later)) c.in_err-reply.ensures.later (omega arith))
 
 pub returns-clause-answer : goal.returns-clause-answer
 returns-clause-answer g c =
-    course_goes (g.S.Shelf.files c.args.shelf.now) (g.S.Shelf.files c.open_catalogue.new.shelf) (g.S.Shelf.files c.open_query.new.shelf)
-    c.in_ok-catalogue.ensures.files c.in_ok-query.ensures.files c.args.catalogue.now c.args.query.now c.args.number c.in_ok-catalogue.catalogue
-    c.in_ok-catalogue.ensures.answer c.in_ok-query.query c.in_ok-query.ensures.answer c.in_ok-reply.reply c.in_ok-reply.ensures.answer
+    course_goes (g.S.Shelf.files c.args.shelf.now) (g.S.Shelf.files c.open_catalogue.new.shelf) (g.S.Shelf.files c.open_union.new.shelf)
+    c.in_ok-catalogue.ensures.files c.in_ok-queries.ensures.files c.args.catalogue.now c.args.query.now c.args.number c.in_ok-catalogue.catalogue
+    c.in_ok-catalogue.ensures.answer c.in_ok-queries.queries c.in_ok-queries.ensures.answer c.in_ok-reply.reply c.in_ok-reply.ensures.answer
