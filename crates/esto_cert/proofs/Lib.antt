@@ -5,3 +5,5 @@ mod LinkLemmas
 mod MatchLemmas
 mod JudgeLemmas
 mod VerdictLemmas
+mod WorldLemmas
+mod ShowLemmas
