@@ -7,3 +7,4 @@ mod JudgeLemmas
 mod VerdictLemmas
 mod WorldLemmas
 mod ShowLemmas
+mod OneLemmas

@@ -335,10 +335,10 @@ module _ (expanded : List ExpandedFact) (rules : List Rule) (set : List Bool) wh
         let joined = links_at_places equalities links in
         let places : List ℕ = own.places ++ joined.places in
         let union : IsUnion entries places (union_of entries places) = union_is entries places (λ it inside.
-            elim (Contains-append_cases own.places joined.places it inside) [
-              | inl early ↦ own.each it early
-              | inr later ↦ (let equal = joined.each it later in (Same equal.0 equal.1, equal.2))
-            ]) in
+        elim (Contains-append_cases own.places joined.places it inside) [
+          | inl early ↦ own.each it early
+          | inr later ↦ (let equal = joined.each it later in (Same equal.0 equal.1, equal.2))
+        ]) in
         let follows : FollowsBy entries number rule places claim = record {
           facts = own.places;
           links = joined.places;

@@ -8,7 +8,9 @@ use esto_semantics::{
     chosen_atoms_are_named,
 };
 use esto_views::plans_are_sound;
-use esto_world_laws::{derived_entries_are_sound, matches_decide_containment, matches_rest_on_atoms};
+use esto_world_laws::{
+    derived_entries_are_sound, matches_decide_containment, matches_rest_on_atoms,
+};
 
 /// A law: where a certificate for a set of a plan's atoms is accepted, the set is safe, and its candidate is contained in
 /// the query under the rules.
