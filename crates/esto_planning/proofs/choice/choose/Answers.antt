@@ -1,6 +1,6 @@
 use Rattle.std.proofs.Common.{◌≤◌, length, arith}
-use Rattle.esto_top.proofs.RunLemmas.{above, none_listed, numbered, picked}
-use Rattle.esto_top.proofs.run.choose.Goals as goal
+use Rattle.esto_planning.proofs.ChoiceLemmas.{above, none_listed, numbered, picked}
+use Rattle.esto_planning.proofs.choice.choose.Goals as goal
 
 pub returns-in_default : goal.returns-in_default
 returns-in_default c = none_listed c.args.listing.now c.args.number c.in_default.ensures

@@ -1,7 +1,7 @@
 use Rattle.std.proofs.Common.{refl}
 use Rattle.esto_course.specs.Course.{judges}
 use Rattle.esto_course.specs.Course.Stops.{refused}
-use Rattle.esto_top.proofs.list.plan_of.Goals as goal
+use Rattle.esto_planning.proofs.planning.plan_of.Goals as goal
 
 pub returns-in-Left-clause-course : goal.returns-in-Left-clause-course
 unfolding judges

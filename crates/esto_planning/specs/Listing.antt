@@ -1,4 +1,4 @@
--- What `list` prints.
+-- The printed plan of a query, and its list.
 use Rattle.std.specs.Prelude.{ℕ, List}
 use Rattle.esto_catalog.specs.declared.catalogue.Catalogue.{Catalogue}
 use Rattle.esto_chase.specs.Chased.{RunClashes}

@@ -1,5 +1,5 @@
--- Catalogues that say the same, queries that are the same, and their plans, clashes and lists.
-use Rattle.std.proofs.Common.{◌≡◌, ℕ, List, All, refl, sym, ap, subst, ◌∙◌}
+-- Plans, clashes and lists over one of two catalogues that say the same are ones over the other.
+use Rattle.std.proofs.Common.{◌≡◌, ℕ, List, All, refl, sym, subst, ◌∙◌}
 use Rattle.esto_catalog.specs.Determined.{AreSame}
 use Rattle.esto_catalog.specs.declared.catalogue.Catalogue.{Catalogue}
 use Rattle.esto_chase.specs.Chased.{RunClashes}
@@ -11,45 +11,19 @@ use Rattle.esto_list.specs.Items.{sets_of}
 use Rattle.esto_list.specs.declared.listing.Listed.{Listed}
 use Rattle.esto_query.specs.Making.{query_of}
 use Rattle.esto_query.specs.declared.query.Query.{Query}
-use Rattle.esto_read.specs.Readings.{IsReading, HaveOneReading}
-use Rattle.esto_read.specs.Words.{IsVocabulary}
-use Rattle.esto_read.specs.declared.read.Form.TheVariants as form
-use Rattle.esto_read.specs.declared.read.NamedQuery.{NamedQuery}
-use Rattle.esto_read.specs.declared.words.Word.{Word}
 use Rattle.esto_semantics.specs.Access.{Patterns, IsStatedOrder}
 use Rattle.esto_semantics.specs.Listed.{AreListed, IsWeight, chosen}
 use Rattle.esto_views.specs.Fragments.{views_of, patterns_of}
 use Rattle.esto_views.specs.Plans.{plan_query}
 use Rattle.esto_views.specs.declared.plan.Plan.{Plan}
-use Rattle.esto_top.specs.Listing.{IsClash, IsListing, IsListOf, IsPlanned, HasListedSets}
-use Rattle.esto_top.proofs.OneListLemmas.{same_text}
-
--- two queries with one head, one body and the same names
-pub record IsSameQuery (query other : Query) : Type 0 where
-  pub head : query.head ≡ other.head
-  pub body : query.body ≡ other.body
-  pub names : query.names ≡ other.names
+use Rattle.esto_opening.specs.Alike.{IsSameQuery}
+use Rattle.esto_planning.specs.Listing.{IsClash, IsListing, IsListOf, IsPlanned, HasListedSets}
+use Rattle.esto_planning.proofs.OneListLemmas.{same_text}
 
 same_query : (query other : Query) → IsSameQuery query other → query_of query ≡ query_of other
 same_query query other same = λ i. record { head = same.head i; body = same.body i }
 
--- the query is a reading of the bytes over the words
-abbrev IsQueryOver : List Word → List ℕ → List ℕ → Query → Type 0
-IsQueryOver words schema bytes query = (named : NamedQuery) × IsReading form.Query words schema bytes named × (query ≡ named.query)
-
--- two readings of one text are the same query
-pub same_reading : HaveOneReading → {words : List Word} {schema : List ℕ} → IsVocabulary schema words → (bytes : List ℕ) (query other : Query)
-    → IsQueryOver words schema bytes query → IsQueryOver words schema bytes other → IsSameQuery query other
-same_reading one_reading {words} {schema} vocabulary bytes query other here there =
-    let same = one_reading form.Query words schema bytes here.0 there.0 vocabulary here.1 there.1 in
-    record {
-      head = ap (λ (it : Query). it.head) here.2 ∙ same.1 ∙ sym (ap (λ (it : Query). it.head) there.2);
-      body = ap (λ (it : Query). it.body) here.2 ∙ same.2 ∙ sym (ap (λ (it : Query). it.body) there.2);
-      names = ap (λ (it : Query). it.names) here.2 ∙ same.3 ∙ sym (ap (λ (it : Query). it.names) there.2);
-    }
-
 module _ (catalogue other : Catalogue) (alike : AreSame catalogue other) (query other_query : Query) (same : IsSameQuery query other_query) where
-  -- a plan and a clash over the other catalogue are ones over this
   pub planned_moved : (plan : Plan) → IsPlanned other other_query plan → IsPlanned catalogue query plan
   planned_moved plan planned =
       subst (λ names. IsPrintedPlan catalogue.core (rules_of catalogue.rules) (views_of catalogue.fragments) names (query_of query) plan) (sym same.names)
