@@ -1,11 +1,11 @@
 -- A file has one verdict.
-use Rattle.std.proofs.Common.{◌≡◌, ◌↔◌, inl, inr, ℕ, ◌+◌, ◌-◌, ◌<◌, List, [], ◌∷◌, ◌++◌, length, map, slice_get, Option, Some, None, AllPairs, Contains, refl, sym, ap, ◌∙◌, subst, arith}
+use Rattle.std.proofs.Common.{◌≡◌, inl, inr, ℕ, ◌+◌, ◌-◌, ◌<◌, List, [], ◌∷◌, ◌++◌, length, map, slice_get, Option, Some, None, AllPairs, Contains, sym, ap, ◌∙◌, subst, arith}
 use Rattle.std.specs.Cmp.{nat_cmp_is}
 use Rattle.std.specs.Ordering.{nat_cmp}
 use Rattle.std.specs.declared.cmp.Ordering.TheVariants.{Less}
 use Rattle.std.proofs.lemmas.Cmp.{nat_cmp_total}
 use Rattle.esto_term.specs.declared.term.Term.{Term}
-use Rattle.esto_term.specs.declared.term.Term.TheVariants.{Const, Plain}
+use Rattle.esto_term.specs.declared.term.Term.TheVariants.{Plain}
 use Rattle.esto_term.proofs.ChoiceLemmas.{one_list}
 use Rattle.esto_term.proofs.DistinctLemmas.{decided_contains}
 use Rattle.esto_term.proofs.ListLemmas.{agree-from_map, map_agree, map_at, place-from_Contains}
@@ -13,15 +13,14 @@ use Rattle.esto_constraint.specs.Constraints.{rules_of}
 use Rattle.esto_query.specs.Making.{query_of}
 use Rattle.esto_query.specs.declared.query.Query.{Query}
 use Rattle.esto_semantics.specs.Facts.{image}
-use Rattle.esto_semantics.specs.Maps.{IsConstant}
 use Rattle.esto_semantics.specs.Queries.{ConjunctiveQuery, IsQuery}
-use Rattle.esto_semantics.specs.Rules.{Rule, body_of}
+use Rattle.esto_semantics.specs.Rules.{body_of}
 use Rattle.esto_semantics.specs.declared.fact.Fact.{Fact}
 use Rattle.esto_semantics.proofs.FactLemmas.{image_agree}
 use Rattle.esto_semantics.proofs.TermLemmas.{Const-apart-Plain, decided_term}
 use Rattle.esto_views.specs.Expanded.{placed, AreExpanded, Expands}
 use Rattle.esto_views.specs.Fragments.{views_of}
-use Rattle.esto_views.specs.Plans.{fact_of as atom_of, plan_query}
+use Rattle.esto_views.specs.Plans.{fact_of as atom_of}
 use Rattle.esto_views.specs.Spreads.{IsSpread}
 use Rattle.esto_views.specs.declared.expansion.ExpandedFact.{ExpandedFact}
 use Rattle.esto_views.specs.declared.fragments.FragmentDef.{FragmentDef}

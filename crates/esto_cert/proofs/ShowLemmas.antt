@@ -1,5 +1,5 @@
 -- What an accepted certificate shows.
-use Rattle.std.proofs.Common.{◌≡◌, ◌⊎◌, inl, inr, ℕ, ◌+◌, ◌-◌, ◌<◌, Bool, false, List, [], ◌∷◌, ◌++◌, length, filter, map, slice_get, slice_index_or, Option, Some, None, Contains, refl, sym, ap, ◌∙◌, subst, arith}
+use Rattle.std.proofs.Common.{◌≡◌, ◌⊎◌, inl, inr, ℕ, ◌+◌, ◌-◌, ◌<◌, Bool, false, List, [], ◌∷◌, ◌++◌, length, filter, map, slice_index_or, Option, Some, None, Contains, refl, sym, ap, ◌∙◌, subst, arith}
 use Rattle.std.specs.List.{AllZip}
 use Rattle.std.proofs.lemmas.List.{length-map}
 use Rattle.std.proofs.lemmas.List.Elements.{Contains-append_cases}
@@ -8,21 +8,15 @@ use Rattle.esto_term.specs.declared.term.Term.TheVariants.{Plain}
 use Rattle.esto_term.proofs.ChoiceLemmas.{Decided}
 use Rattle.esto_term.proofs.DistinctLemmas.{decided_contains}
 use Rattle.esto_term.proofs.ListLemmas.{Contains-at, Contains-cases, Contains-filter, Contains-filter_from, Contains-map, Contains-map_from, Contains-nil, place-from_Contains, thing_at}
-use Rattle.esto_constraint.specs.Constraints.{rules_of}
-use Rattle.esto_constraint.specs.declared.rule.Constraint.{Constraint}
-use Rattle.esto_query.specs.Making.{query_of}
-use Rattle.esto_query.specs.declared.query.Query.{Query}
-use Rattle.esto_semantics.specs.Containment.{IsContained}
 use Rattle.esto_semantics.specs.ExpansionLaws.{ExpansionAnswers, PartExpandsCandidate}
-use Rattle.esto_semantics.specs.Expansions.{IsExpansion, IsPartOf}
-use Rattle.esto_semantics.specs.Facts.{image, terms_of}
+use Rattle.esto_semantics.specs.Expansions.{IsPartOf}
+use Rattle.esto_semantics.specs.Facts.{terms_of}
 use Rattle.esto_semantics.specs.Listed.{candidate, chosen, IsSafe}
 use Rattle.esto_semantics.specs.ListedLaws.{ChosenAreNamed}
 use Rattle.esto_semantics.specs.Maps.{AreFlat, IsConstant, IsFixedBy, IsFlat}
-use Rattle.esto_semantics.specs.Queries.{ConjunctiveQuery, IsAnswer, IsQuery}
+use Rattle.esto_semantics.specs.Queries.{ConjunctiveQuery, IsQuery}
 use Rattle.esto_semantics.specs.Rules.{Rule, AreRules}
 use Rattle.esto_semantics.specs.Sets.{Has}
-use Rattle.esto_semantics.specs.Views.{IsFragmentAnswer}
 use Rattle.esto_semantics.specs.declared.fact.Fact.{Fact}
 use Rattle.esto_semantics.proofs.SetLemmas.{beyond}
 use Rattle.esto_semantics.proofs.TermLemmas.{Const-apart-Made, Const-apart-Plain, decided_term, term_cases}
