@@ -1,5 +1,5 @@
 -- What laws on the commands on certificates say.
-use Rattle.std.specs.Prelude.{◌≡◌, ◌↔◌, ℕ, Bool, List, length, Option, Some, None, codes}
+use Rattle.std.specs.Prelude.{◌≡◌, ℕ, Bool, List, length, Option, Some, None, codes}
 use Rattle.esto_catalog.specs.declared.catalogue.Catalogue.{Catalogue}
 use Rattle.esto_cert.specs.Showing.{IsSafelyContained}
 use Rattle.esto_constraint.specs.Constraints.{rules_of}
@@ -38,31 +38,36 @@ VerifyIsOne =
 abbrev pub Says : Course Status Reply → (Status → List ℕ → Type 0) → Type 0
 Says course Fact = Leads course (λ reply. (text : List ℕ) × (reply ≡ Done text) × Fact status.Done text) (λ said. Fact said (line_of said))
 
--- The set has a candidate, which is safe and contained in the query under the catalogue's rules.
-abbrev pub ShowsSet : Catalogue → Query → Plan → List Bool → Type 0
-ShowsSet catalogue query plan set =
-    IsSafelyContained (rules_of catalogue.rules) (views_of catalogue.fragments) (query_of query) (plan_query plan) set
+-- Let the files say a catalogue and a query over it that has a printed plan: then the fact is said of `verify` for the numbers and the certificate's file.
+abbrev pub IsSaid : Files → Catalogue → Query → Plan → List ℕ → List ℕ → (Status → List ℕ → Type 0) → Type 0
+IsSaid files catalogue query plan numbers file Fact =
+    (catalogue_name query_name : List ℕ) → (opens_catalogue (Some files) catalogue_name).goes catalogue
+    → (opens_query (Some files) query_name catalogue).goes query → IsPlanned catalogue query plan
+    → Says (verify_course (Some files) catalogue_name query_name numbers file) Fact
 
--- The numbers name a set of the plan's atoms, for which the bytes are a certificate with this verdict.
-abbrev pub HasVerdictOf : Catalogue → Query → Plan → List ℕ → List ℕ → Option ℕ → Type 0
-HasVerdictOf catalogue query plan numbers bytes verdict =
-    (set : List Bool) × IsSetOf (length plan.atoms) numbers set × HasVerdict catalogue query plan set bytes verdict
+-- The first number above how many atoms the plan has is refused, with how many they are.
+abbrev pub VerifyRefusesNumbers : Type 0
+VerifyRefusesNumbers =
+    (files : Files) (catalogue : Catalogue) (query : Query) (plan : Plan) (numbers file : List ℕ) (number : ℕ)
+    → first_above (length plan.atoms) numbers ≡ Some number
+    → IsSaid files catalogue query plan numbers file (λ said text. said ≡ status.NoSuchNumber number (length plan.atoms))
 
--- The status is Done exactly where the numbers name a set for which the certificate is accepted, and then the text says so, and the set is safe with a candidate
--- contained in the query; it is Rejected of a line exactly where the certificate is rejected at this line; and it is NoSuchNumber of a number and the plan's
--- length exactly where the number is the first above that length.
-pub record VerifiesExactly (catalogue : Catalogue) (query : Query) (plan : Plan) (numbers bytes : List ℕ) (said : Status) (text : List ℕ) : Type 0 where
-  pub done : (said ≡ status.Done) ↔ HasVerdictOf catalogue query plan numbers bytes None
-  pub accepted : said ≡ status.Done → text ≡ codes "accepted\n"
-  pub shows : said ≡ status.Done → (set : List Bool) × IsSetOf (length plan.atoms) numbers set × ShowsSet catalogue query plan set
-  pub rejected : (line : ℕ) → (said ≡ status.Rejected line) ↔ HasVerdictOf catalogue query plan numbers bytes (Some line)
-  pub no_such_number : (number count : ℕ) → (said ≡ status.NoSuchNumber number count)
-      ↔ ((count ≡ length plan.atoms) × (first_above (length plan.atoms) numbers ≡ Some number))
+-- The status and the text of a verdict: Done and that the certificate is accepted, or Rejected with the line.
+abbrev pub SaysVerdict : Option ℕ → Status → List ℕ → Type 0
+SaysVerdict None said text = (said ≡ status.Done) × (text ≡ codes "accepted\n")
+SaysVerdict (Some line) said text = said ≡ status.Rejected line
 
--- Where the files say a catalogue, a query over it and a certificate within its limit, and the query has a printed plan, the outcome is exactly that.
-abbrev pub VerifyIsExact : Type 0
-VerifyIsExact =
-    (files : Files) (catalogue_name query_name numbers file bytes : List ℕ) (catalogue : Catalogue) (query : Query) (plan : Plan)
-    → (opens_catalogue (Some files) catalogue_name).goes catalogue → (opens_query (Some files) query_name catalogue).goes query
-    → IsPlanned catalogue query plan → HasWithin files file CERTIFICATE_LIMIT bytes
-    → Says (verify_course (Some files) catalogue_name query_name numbers file) (VerifiesExactly catalogue query plan numbers bytes)
+-- Where the numbers name a set, and the certificate is within its limit, its verdict for the set is said.
+abbrev pub VerifySaysVerdicts : Type 0
+VerifySaysVerdicts =
+    (files : Files) (catalogue : Catalogue) (query : Query) (plan : Plan) (numbers file : List ℕ) (set : List Bool) (bytes : List ℕ) (verdict : Option ℕ)
+    → IsSetOf (length plan.atoms) numbers set → HasWithin files file CERTIFICATE_LIMIT bytes → HasVerdict catalogue query plan set bytes verdict
+    → IsSaid files catalogue query plan numbers file (SaysVerdict verdict)
+
+-- Where the numbers name a set, Done is said only where the set has a candidate, which is safe and contained in the query under the catalogue's rules.
+abbrev pub AcceptedSetsAreContained : Type 0
+AcceptedSetsAreContained =
+    (files : Files) (catalogue : Catalogue) (query : Query) (plan : Plan) (numbers file : List ℕ) (set : List Bool)
+    → IsSetOf (length plan.atoms) numbers set
+    → IsSaid files catalogue query plan numbers file (λ said text. said ≡ status.Done
+    → IsSafelyContained (rules_of catalogue.rules) (views_of catalogue.fragments) (query_of query) (plan_query plan) set)
