@@ -30,10 +30,10 @@ pub same_length : (plan other : Plan) → IsSamePlan plan other → length plan.
 same_length plan other same =
     sym (length-map plan.atoms fact_of) ∙ ap (λ (it : ConjunctiveQuery). length it.body) same.0 ∙ length-map other.atoms fact_of
 
-some_one : {A : Type 0} (one other : A) → Some one ≡ Some other → one ≡ other
+pub some_one : {A : Type 0} (one other : A) → Some one ≡ Some other → one ≡ other
 some_one one other same = cc
 
-none_some : {A : Type 0} (one : A) → None ≡ Some one → ⊥
+pub none_some : {A : Type 0} (one : A) → None ≡ Some one → ⊥
 none_some one same = cc
 
 -- ---- the set

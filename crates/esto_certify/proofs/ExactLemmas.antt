@@ -185,5 +185,7 @@ module _ (catalogues : CataloguesOpenAlike) (queries : QueriesOpenAlike) (plans_
         → IsSafelyContained (rules_of catalogue.rules) (views_of catalogue.fragments) (query_of query) (plan_query plan) set)
         (λ other other_query other_plan alike same plans.
         then-leads _ _ (λ its. set ≡ its) _ _ (named_leads tell plan other_plan plans numbers set is_set _) (λ its is.
-        subst (λ (it : List Bool). Leads (verifies_set (Some files) other other_query other_plan file it) _ _) is
+        subst (λ (it : List Bool). Leads (verifies_set (Some files) other other_query other_plan file it)
+        (λ text. status.Done ≡ status.Done → Shown files file numbers catalogue other query other_query plan other_plan alike same plans set is_set)
+        (λ said. said ≡ status.Done → Shown files file numbers catalogue other query other_query plan other_plan alike same plans set is_set)) is
         (shown_leads files file numbers catalogue other query other_query plan other_plan alike same plans set is_set)))

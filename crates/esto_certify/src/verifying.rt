@@ -101,7 +101,7 @@ fn verify_set<S: Shelf>(
 }
 
 // Makes the query's printed plan and the set of its atoms of these numbers, and verifies the certificate for the set.
-#[tactic(auto, using(crate::proofs::Steps::steps, crate::proofs::Steps::asked_steps))]
+#[tactic(auto, using(crate::proofs::Steps::run_steps, crate::proofs::Steps::asked_steps))]
 fn verify_query<S: Shelf>(
     alloc: Global,
     shelf: &mut S,
