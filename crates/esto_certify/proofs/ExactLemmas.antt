@@ -133,7 +133,7 @@ module _ (catalogues : CataloguesOpenAlike) (queries : QueriesOpenAlike) (plans_
     unfolding judges
     judged_leads catalogue other query other_query plan other_plan alike same plans set bytes verdict has =
         let one : (found : Option ℕ) → HasVerdict other other_query other_plan set bytes found → verdict ≡ found =
-            (λ found there. verdict_one verdicts catalogue other query other_query plan other_plan alike same plans set bytes verdict found has there) in
+        (λ found there. verdict_one verdicts catalogue other query other_query plan other_plan alike same plans set bytes verdict found has there) in
         record {
           goes = λ text (there, is). says_as verdict None status.Done text (one None there) (refl, is);
           stops = λ said caused (line, there, is). says_as verdict (Some line) said (line_of said) (one (Some line) there) is;

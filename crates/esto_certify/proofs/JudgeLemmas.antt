@@ -1,8 +1,8 @@
 -- What is said of a judged certificate.
-use Rattle.std.proofs.Common.{◌≡◌, ℕ, Bool, List, Result, Ok, Err, Some, None, refl, subst, sym}
+use Rattle.std.proofs.Common.{◌≡◌, ℕ, Bool, List, Err, Some, None, refl, subst, sym}
 use Rattle.std.specs.Prelude.{codes}
 use Rattle.esto_catalog.specs.declared.catalogue.Catalogue.{Catalogue}
-use Rattle.esto_cert.specs.Judging.{Answers as AnswersAs, DecidesFor}
+use Rattle.esto_cert.specs.Judging.{Answers as AnswersAs}
 use Rattle.esto_cert.specs.declared.check.CertError.{CertError}
 use Rattle.esto_cert.specs.declared.check.CertError.TheVariants as error
 use Rattle.esto_course.specs.Course.{Stops, judges}
@@ -25,7 +25,7 @@ module _ (catalogue : Catalogue) (query : Query) (plan : Plan) (set : List Bool)
   unfolding judges
   rejects found line number found_is line_is has =
       let told : HasVerdict catalogue query plan set shown (Some line) =
-          subst (λ (it : CertError). AnswersAs {A = Unit {0}} (HasVerdict catalogue query plan set shown) (Err it)) found_is has in
+      subst (λ (it : CertError). AnswersAs {A = Unit {0}} (HasVerdict catalogue query plan set shown) (Err it)) found_is has in
       refused (record { cause = tt }) (
         number,
         subst (λ (it : List ℕ). HasVerdict catalogue query plan set it (Some number)) same

@@ -86,7 +86,7 @@ module _ (count : ℕ) (numbers : List ℕ) where
   pub named_all : (place : ℕ) (set : List Bool) → IsNamedSoFar count numbers (drop place numbers) set → length numbers ≤ place → IsSetOf count numbers set
   named_all place set so_far past =
       let whole : IsNamedSoFar count numbers [] set =
-          subst (λ (it : List ℕ). IsNamedSoFar count numbers it set) (drop_all place numbers past) so_far in
+      subst (λ (it : List ℕ). IsNamedSoFar count numbers it set) (drop_all place numbers past) so_far in
       record {
         none_above = sym whole.none_above;
         over = whole.over;
