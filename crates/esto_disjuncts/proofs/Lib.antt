@@ -3,3 +3,6 @@ pub mod ZipLemmas
 pub mod OneLemmas
 pub mod TellLemmas
 pub mod ExactLemmas
+pub mod PickingLemmas
+pub mod RunLemmas
+pub mod RunAskedLemmas
