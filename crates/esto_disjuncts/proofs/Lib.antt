@@ -6,3 +6,4 @@ pub mod ExactLemmas
 pub mod PickingLemmas
 pub mod RunLemmas
 pub mod RunAskedLemmas
+pub mod AnswerLemmas

@@ -12,7 +12,7 @@ use Rattle.esto_opening.specs.Answers.{IsCaused, IsWant}
 use Rattle.esto_opening.specs.declared.status.Status.{Status}
 use Rattle.esto_opening.specs.declared.status.Status.TheVariants.{NoRewriting, NoSuchNumber}
 use Rattle.esto_planning.specs.Choice.{HasNoPlace}
-use Rattle.esto_planning.specs.Choice.HasNoPlace as place
+use Rattle.esto_planning.specs.Choice.HasNoPlace.{is_empty as list_is_empty, is_above as number_is_above}
 use Rattle.esto_planning.specs.Planning.{chooses}
 use Rattle.esto_run.specs.Picks.{candidate_of}
 use Rattle.esto_run.specs.declared.picks.Pick.{Pick}
@@ -156,8 +156,8 @@ pub only_wants : (items : List Listed) (number : Option ℕ) (refusal : Status) 
     → Stops IsWant (IsCaused ⊥) (chooses items number) refusal → IsWant refusal
 unfolding judges
 only_wants items number refusal has (is_free want) = want
-only_wants items number refusal has (refused because (place.is_empty none is)) = let some = has.some in absurd (omega (arith, some, ap length none))
-only_wants items number refusal has (refused because (place.is_above asked asks some less is)) =
+only_wants items number refusal has (refused because (list_is_empty none is)) = let some = has.some in absurd (omega (arith, some, ap length none))
+only_wants items number refusal has (refused because (number_is_above asked asks some less is)) =
     let le = has.within asked asks in absurd (omega (arith, le, less))
 
 zip_append : {A B : Type 0} (R : A → B → Type 0) (xs more : List A) (ys others : List B) → AllZip R xs ys → AllZip R more others

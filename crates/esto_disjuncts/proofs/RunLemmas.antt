@@ -18,7 +18,7 @@ use Rattle.esto_planning.specs.Laws.{PlanHasForm, PlanIsOver}
 use Rattle.esto_ports.specs.Files.{Files}
 use Rattle.esto_query.specs.declared.query.Query.{Query}
 use Rattle.esto_run.specs.Answers.{IsAnswersText}
-use Rattle.esto_run.specs.Laws.{AnswersAreOverFiles, IsAnswerOfOne, UsesOnly}
+use Rattle.esto_run.specs.Laws.{AnswersAreOverFiles, IsAnswerOfOne, IsAnswerOver, UsesOnly}
 use Rattle.esto_run.specs.Opened.{AreOpened}
 use Rattle.esto_run.specs.Picks.{IsRunnable, candidate_of}
 use Rattle.esto_run.specs.Stores.{IsFileRow}
@@ -32,6 +32,7 @@ use Rattle.esto_semantics.specs.declared.fact.Fact.{Fact}
 use Rattle.esto_stores.specs.Rows.{Row}
 use Rattle.esto_term.specs.declared.term.Term.{Term}
 use Rattle.esto_term.proofs.ListLemmas.{Contains-at, Contains-filter_from, Contains-flat, Contains-flat_from, Contains-map, Contains-map_from}
+use Rattle.esto_union.specs.Unions.{IsListedIn}
 use Rattle.esto_views.specs.Fragments.{patterns_of}
 use Rattle.esto_views.specs.Plans.{IsPlanOver, fact_of, plan_query}
 use Rattle.esto_views.specs.declared.fragments.FragmentDef.{FragmentDef}
@@ -62,7 +63,10 @@ module _ (form : PlanHasForm) (over : PlanIsOver) (catalogue : Catalogue) (queri
         (subst (λ (it : List ℕ). IsOrder (patterns_of catalogue.fragments) (plan_query plan).body item.set it) (sym order_is) stated.is_order));
   }
     where
+      listed : IsListedIn catalogue queries plan item.set
       listed = (is.1.sets.exact item.set).0 (Contains-map (λ (it : Listed). it.set) items item (Contains-at items place item there))
+
+      stated : IsStatedOrder (patterns_of catalogue.fragments) (plan_query plan).body item.set item.order
       stated = all_at (λ it. IsStatedOrder (patterns_of catalogue.fragments) (plan_query plan).body it.set it.order) items is.1.orders place item there
 
   -- a pick of a member of a query can be run, and its plan's head is as long as the query's
@@ -135,8 +139,9 @@ text_over_files over catalogue queries first at others numbers contents opened t
   },
 )
   where
-    same = λ (other : ConjunctiveQuery) (among : Contains others other).
-        over catalogue.stores contents numbers opened other are (uses_only others numbers used other among)
+    same : (other : ConjunctiveQuery) → Contains others other → (row : Row)
+        → IsAnswerOver (IsRowOf (held_by opened)) other row ↔ IsAnswerOver (IsFileRow catalogue.stores contents) other row
+    same other among = over catalogue.stores contents numbers opened other are (uses_only others numbers used other among)
 
 -- ---- the course of what is chosen
 

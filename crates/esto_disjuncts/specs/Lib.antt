@@ -4,3 +4,4 @@ pub mod Exact
 pub mod Laws
 pub mod Run
 pub mod Picking
+pub mod RunLaws

@@ -12,8 +12,8 @@ members-init c = λ plan items inside. Contains-nil (Planned plan items) inside
 
 pub members-preserved : goal.members-preserved
 members-preserved c =
-    least_next c.args.members.now c.members.member-index c.member-item.result c.least_with.result c.members-test.true c.member-item.is
-    (c.least_with.ensures (take c.members.member-index c.args.members.now) c.members.invariant)
+    least_next c.args.members.now c.members.member-index c.member-item.result c.least_with-least.result c.members-test.true c.member-item.is
+    (c.least_with-least.ensures (take c.members.member-index c.args.members.now) c.members.invariant)
 
 pub returns : goal.returns
 returns c = subst (λ (them : List Member). IsLeast them c.members.least) (take_all c.members.member-index c.args.members.now c.members-test.false)
