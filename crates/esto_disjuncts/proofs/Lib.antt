@@ -4,3 +4,7 @@ pub mod OneLemmas
 pub mod MovedLemmas
 pub mod TellLemmas
 pub mod ExactLemmas
+pub mod PickingLemmas
+pub mod RunLemmas
+pub mod RunAskedLemmas
+pub mod AnswerLemmas
