@@ -150,7 +150,8 @@ module _ (sound : CataloguesAreSound) (one : HaveOneCatalogue) (apart : HaveNoEr
   abbrev Refused : Status → Type 0
   Refused = HasRefused say.says_catalogue.bytes say.says_query.bytes
 
-  module _ (other : Catalogue) (is_other : IsCatalogueOf say.says_catalogue.bytes other) (read : Query) (is_query : IsQueryOf other say.says_query.bytes read) where
+  module _ (other : Catalogue) (is_other : IsCatalogueOf say.says_catalogue.bytes other) (read : Query)
+      (is_query : IsQueryOf other say.says_query.bytes read) where
     -- the query has a plan, or is refused
     plan_leads : Leads (plans_query other read) (IsPlanned other read) Refused
     plan_leads = judges-leads _ _ Refused (λ refusal caused stop. record {

@@ -348,7 +348,8 @@ module _ (sound : CataloguesAreSound) (one : HaveOneCatalogue) (apart : HaveNoEr
       }))
 
   module _ (laws : ListingLaws) (opening : OpeningLaws) (run_laws : RunLaws) where
-    module _ (other : Catalogue) (is_other : IsCatalogueOf say.says_catalogue.bytes other) (read : Query) (is_query : IsQueryOf other say.says_query.bytes read) where
+    module _ (other : Catalogue) (is_other : IsCatalogueOf say.says_catalogue.bytes other) (read : Query)
+        (is_query : IsQueryOf other say.says_query.bytes read) where
       alike : AreSame catalogue other
       alike = one say.says_catalogue.bytes catalogue other say.says_catalogue.is_catalogue is_other
 

@@ -50,7 +50,8 @@ module _ (sound : CataloguesAreSound) (one : HaveOneCatalogue) (apart : HaveNoEr
       no_error : (refusal : Status) → IsCaused ⊥ refusal → (cause : CatalogueError) × IsCatalogueError say.says_catalogue.bytes cause
           × (refusal ≡ status_of cause) → ⊥
       no_error refusal caused (cause, is_error, is) =
-          let wanting : refusal ≡ status.OutOfMemory = is ∙ ap status_of (apart say.says_catalogue.bytes catalogue cause say.says_catalogue.is_catalogue is_error) in
+          let wanting : refusal ≡ status.OutOfMemory =
+          is ∙ ap status_of (apart say.says_catalogue.bytes catalogue cause say.says_catalogue.is_catalogue is_error) in
           never_wanting ⊥ refusal wanting caused
 
   module _ (other : Catalogue) (is_other : IsCatalogueOf say.says_catalogue.bytes other) where
@@ -68,7 +69,8 @@ module _ (sound : CataloguesAreSound) (one : HaveOneCatalogue) (apart : HaveNoEr
         (judges-leads _ _ Refused (λ refusal caused stop. absurd (none refusal caused stop))))
       where
         none : (refusal : Status) → IsCaused ⊥ refusal
-            → (fault : TextFault) × IsFirstFault form.Query other.words (arities_of other.schema) say.says_query.bytes fault × (refusal ≡ status.BadQuery fault) → ⊥
+            → (fault : TextFault) × IsFirstFault form.Query other.words (arities_of other.schema) say.says_query.bytes fault
+            × (refusal ≡ status.BadQuery fault) → ⊥
         none refusal caused (fault, first, is) =
             no_fault form.Query other.words (arities_of other.schema) say.says_query.bytes say.says_query.named fault (sound other).vocabulary reading first
 
