@@ -68,19 +68,20 @@ module _ (files : Files) (catalogue : Catalogue) where
         → contents number ≡ want number
     opened_is numbers wanted contents goes number inside = each_wanted numbers wanted 0 no_contents contents goes number (inl inside)
 
-  -- where no file is refused, all are opened
-  abbrev IsNeverRefused : ℕ → Type 0
-  IsNeverRefused number = (refusal : Status) → IsCaused ⊥ refusal → (opens_fragment (Some files) catalogue number).stops refusal → ⊥
+  -- what holds of each refusal of a file holds of a refusal of all
+  module _ (Refused : Status → Type 0) where
+    abbrev RefusesSo : ℕ → Type 0
+    RefusesSo number = (refusal : Status) → IsCaused ⊥ refusal → (opens_fragment (Some files) catalogue number).stops refusal → Refused refusal
 
-  each_opened : (numbers : List ℕ) → ((number : ℕ) → Contains numbers number → IsNeverRefused number) → (counter : ℕ) (before : ℕ → List ℕ)
-      (refusal : Status) → IsCaused ⊥ refusal → (each (opens_next (Some files) catalogue) counter before numbers).stops refusal → ⊥
-  unfolding and_then gives
-  each_opened [] never counter before refusal caused stops = stops
-  each_opened (first ∷ rest) never counter before refusal caused (inl (inl stops)) = never first (Contains-head first rest) refusal caused stops
-  each_opened (first ∷ rest) never counter before refusal caused (inl (inr (bytes, opens, none))) = none
-  each_opened (first ∷ rest) never counter before refusal caused (inr (next, opens, stops)) =
-      each_opened rest (λ it inside. never it (Contains-rest first rest it inside)) (suc counter) next refusal caused stops
+    each_refused : (numbers : List ℕ) → ((number : ℕ) → Contains numbers number → RefusesSo number) → (counter : ℕ) (before : ℕ → List ℕ)
+        (refusal : Status) → IsCaused ⊥ refusal → (each (opens_next (Some files) catalogue) counter before numbers).stops refusal → Refused refusal
+    unfolding and_then gives
+    each_refused [] so counter before refusal caused never = absurd never
+    each_refused (first ∷ rest) so counter before refusal caused (inl (inl stops)) = so first (Contains-head first rest) refusal caused stops
+    each_refused (first ∷ rest) so counter before refusal caused (inl (inr (bytes, opens, never))) = absurd never
+    each_refused (first ∷ rest) so counter before refusal caused (inr (next, opens, stops)) =
+        each_refused rest (λ it inside. so it (Contains-rest first rest it inside)) (suc counter) next refusal caused stops
 
-  pub opened_all : (numbers : List ℕ) → ((number : ℕ) → Contains numbers number → IsNeverRefused number) → (refusal : Status) → IsCaused ⊥ refusal
-      → (opens_fragments (Some files) catalogue numbers).stops refusal → ⊥
-  opened_all numbers never refusal caused stops = each_opened numbers never 0 no_contents refusal caused stops
+    pub all_refused : (numbers : List ℕ) → ((number : ℕ) → Contains numbers number → RefusesSo number) → (refusal : Status) → IsCaused ⊥ refusal
+        → (opens_fragments (Some files) catalogue numbers).stops refusal → Refused refusal
+    all_refused numbers so refusal caused stops = each_refused numbers so 0 no_contents refusal caused stops

@@ -1,5 +1,5 @@
 -- What `run` answers where the files say a catalogue and a query over it.
-use Rattle.std.proofs.Common.{◌≡◌, ◌≢◌, ◌↔◌, ℕ, suc, true, false, Bool, List, [], ◌∷◌, map, length, slice_get, Contains, Option, Some, None, refl, sym, ap, subst, ◌∙◌, inl, inr}
+use Rattle.std.proofs.Common.{◌≡◌, ◌≢◌, ◌↔◌, ℕ, true, false, Bool, List, [], ◌∷◌, map, length, slice_get, Contains, Option, Some, None, refl, sym, ap, subst, ◌∙◌, inl, inr}
 use Rattle.std.specs.Prelude.{codes}
 use Rattle.std.proofs.lemmas.Option.{same_Some, none-some}
 use Rattle.either.specs.declared.Either.TheVariants.{Left, Right}
@@ -9,7 +9,7 @@ use Rattle.esto_catalog.specs.declared.catalogue.Catalogue.{Catalogue}
 use Rattle.esto_catalog.specs.declared.catalogue.Store.{Store}
 use Rattle.esto_chase_laws.specs.declared.clash.Clash.{Clash}
 use Rattle.esto_constraint.specs.Constraints.{rules_of}
-use Rattle.esto_course.specs.Course.{judges, gives, and_then, each}
+use Rattle.esto_course.specs.Course.{judges, gives, and_then}
 use Rattle.esto_list.specs.declared.listing.Listed.{Listed}
 use Rattle.esto_ports.specs.Files.{Files}
 use Rattle.esto_query.specs.Making.{query_of}
@@ -35,7 +35,7 @@ use Rattle.esto_views.specs.declared.plan.Plan.{Plan}
 use Rattle.esto_opening.specs.Answers.{IsCaused}
 use Rattle.esto_opening.specs.Fetch.{FetchStops, fetches}
 use Rattle.esto_opening.specs.Fetch.FetchStops.{fails, is_longer}
-use Rattle.esto_opening.specs.Fragments.{IsReadableFragment, IsStoredAt, content_fault, opens_fragment, opens_next, opens_fragments, with_content, no_contents}
+use Rattle.esto_opening.specs.Fragments.{IsReadableFragment, IsStoredAt, content_fault, opens_fragment, opens_fragments}
 use Rattle.esto_top.specs.Grammar.{course_of, is_list_number}
 use Rattle.esto_top.specs.Headline.{FilesSay, HasAnswers, Rewrites}
 use Rattle.esto_top.specs.Outcome.{Says, CompleteWhereTold, reply_status, reply_text}
@@ -53,7 +53,7 @@ use Rattle.esto_top.proofs.HeadlineLemmas.{ListingLaws, empty-without}
 use Rattle.esto_opening.specs.Calm.{Leads}
 use Rattle.esto_opening.proofs.LeadLemmas.{then-leads, leads-more, gives-leads, judges-leads}
 use Rattle.esto_top.proofs.LeadLemmas.{says-leads}
-use Rattle.esto_top.proofs.OpenedLemmas.{opened_all, opened_is}
+use Rattle.esto_top.proofs.OpenedLemmas.{all_refused, opened_is}
 use Rattle.esto_top.proofs.RunLemmas.{same_rows, uses_only}
 use Rattle.esto_top.proofs.SayLemmas.{IsQueryOf, catalogue_leads, query_leads, same_as_read}
 use Rattle.esto_opening.specs.Alike.{FragmentOpensAlike, IsSameQuery, QueriesOpenAlike}
@@ -168,19 +168,9 @@ module _ (files : Files) (catalogue : Catalogue) where
       let h : status.BadFragment stored.definition.name fault ≡ status.NoRewriting = sym is ∙ none in cc))
       (λ value good. leads-more _ (λ other. other ≡ bytes) _ IsOther (λ other is. tt) (gives-leads bytes IsOther))))
 
-  each_other : (counter : ℕ) (contents : ℕ → List ℕ) (numbers : List ℕ)
-      → Leads (each (opens_next (Some files) catalogue) counter contents numbers) (λ _. Unit {0}) IsOther
-  each_other counter contents [] = leads-more _ (λ other. other ≡ contents) _ IsOther (λ other is. tt) (gives-leads contents IsOther)
-  each_other counter contents (number ∷ rest) =
-      then-leads _ _ (λ _. Unit {0}) _ IsOther
-      (then-leads _ _ (λ _. Unit {0}) _ IsOther (content_other number) (λ bytes goes.
-      leads-more _ (λ other. other ≡ with_content contents number bytes) _ IsOther (λ other is. tt)
-      (gives-leads (with_content contents number bytes) IsOther)))
-      (λ next goes. each_other (suc counter) next rest)
-
   pub opened_other : (numbers : List ℕ) (refusal : Status) → IsCaused ⊥ refusal → (opens_fragments (Some files) catalogue numbers).stops refusal
       → refusal ≢ status.NoRewriting
-  opened_other numbers refusal caused stops = (each_other 0 no_contents numbers).stops refusal caused stops
+  opened_other numbers = all_refused files catalogue IsOther numbers (λ number inside. (content_other number).stops)
 
 -- readable files are opened, over each catalogue that says the same
 module _ (alike_opens : FragmentOpensAlike) (files : Files) (catalogue other : Catalogue) (alike : AreSame catalogue other) where
@@ -198,7 +188,7 @@ module _ (alike_opens : FragmentOpensAlike) (files : Files) (catalogue other : C
         contents goes number inside
 
     pub opened_always : (refusal : Status) → IsCaused ⊥ refusal → (opens_fragments (Some files) other numbers).stops refusal → ⊥
-    opened_always = opened_all files other numbers (λ it within refusal caused stops.
+    opened_always = all_refused files other (λ _. ⊥) numbers (λ it within refusal caused stops.
         (alike_opens files catalogue other it alike).apart (want it) refusal caused (readable_opens it (want it) (readable it within)) stops)
 
 -- ---- the rows
