@@ -27,7 +27,8 @@ text_stops files read_files same catalogue_name query_name catalogue read query 
     (still_stops (lists_query catalogue query) (λ text. gives (Done text)) stops))
 
 -- the list of a query asks for nothing
-pub lists_asks : (catalogue : Catalogue) (query : Query) (told : Option Names) (result : Result (List ℕ) Status) → Answers (lists_query catalogue query) ⊥ result
+pub lists_asks : (catalogue : Catalogue) (query : Query) (told : Option Names) (result : Result (List ℕ) Status)
+    → Answers (lists_query catalogue query) ⊥ result
     → AsksIn told told (lists_query catalogue query) result
 lists_asks catalogue query told result = quiet_asks (lists_query catalogue query) told result
     (quiet_then (plans_query catalogue query) (prints_list catalogue query) (quiet_judges _ _) (λ plan. quiet_judges _ _))
