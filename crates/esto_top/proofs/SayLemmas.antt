@@ -22,13 +22,13 @@ module _ (files : Files) (catalogue_name query_name : List ℕ) (catalogue : Cat
   module _ (query : Query) (say : FilesSay files catalogue_name query_name catalogue query) where
     pub catalogue_opens : (opens_catalogue (Some files) catalogue_name).goes catalogue
     unfolding fetches judges
-    catalogue_opens = then_goes (fetches (Some files) catalogue_name CATALOGUE_LIMIT) reads_catalogue say.catalogue_bytes catalogue say.has_catalogue
-        say.is_catalogue
+    catalogue_opens = then_goes (fetches (Some files) catalogue_name CATALOGUE_LIMIT) reads_catalogue say.says_catalogue.bytes catalogue
+        say.says_catalogue.has say.says_catalogue.is_catalogue
 
     query_opens : (opens_query (Some files) query_name catalogue).goes query
     unfolding fetches judges
-    query_opens = then_goes (fetches (Some files) query_name QUERY_LIMIT) (reads_query catalogue) say.query_bytes query say.has_query
-        (say.named, say.is_query, say.query_is)
+    query_opens = then_goes (fetches (Some files) query_name QUERY_LIMIT) (reads_query catalogue) say.says_query.bytes query
+        say.says_query.has (say.says_query.named, say.says_query.is_query, say.says_query.query_is)
 
     -- the query is opened as a union of its own
     pub alone_opens : OpeningLaws → (opens_union (Some files) query_name catalogue).goes (query ∷ [])
@@ -37,13 +37,13 @@ module _ (files : Files) (catalogue_name query_name : List ℕ) (catalogue : Cat
   module _ (queries : List Query) (say : FilesSayQueries files catalogue_name query_name catalogue queries) where
     pub catalogue_opens_for : (opens_catalogue (Some files) catalogue_name).goes catalogue
     unfolding fetches judges
-    catalogue_opens_for = then_goes (fetches (Some files) catalogue_name CATALOGUE_LIMIT) reads_catalogue say.catalogue.bytes catalogue say.catalogue.has
-        say.catalogue.is_catalogue
+    catalogue_opens_for = then_goes (fetches (Some files) catalogue_name CATALOGUE_LIMIT) reads_catalogue say.says_catalogue.bytes catalogue
+        say.says_catalogue.has say.says_catalogue.is_catalogue
 
     pub union_opens : (opens_union (Some files) query_name catalogue).goes queries
     unfolding fetches judges
-    union_opens = then_goes (fetches (Some files) query_name QUERY_LIMIT) (reads_union catalogue) say.union.bytes queries say.union.has
-        (say.union.named, say.union.is_union, say.union.queries_are)
+    union_opens = then_goes (fetches (Some files) query_name QUERY_LIMIT) (reads_union catalogue) say.says_union.bytes queries
+        say.says_union.has (say.says_union.named, say.says_union.is_union, say.says_union.queries_are)
 
 -- ---- what is opened is the same
 

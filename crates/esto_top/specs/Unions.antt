@@ -11,8 +11,8 @@ use Rattle.esto_top.specs.Outcome.{Outcome}
 
 -- The files say this catalogue, and a union of these queries over it, which are two or more.
 pub record FilesSayQueries (files : Files) (catalogue_name query_name : List ℕ) (catalogue : Catalogue) (queries : List Query) : Type 0 where
-  pub catalogue : FilesSayCatalogue files catalogue_name catalogue
-  pub union : FilesSayUnion files query_name catalogue queries
+  pub says_catalogue : FilesSayCatalogue files catalogue_name catalogue
+  pub says_union : FilesSayUnion files query_name catalogue queries
   pub more : 1 < length queries
 
 -- ---- outcomes
