@@ -8,3 +8,4 @@ pub mod PickingLemmas
 pub mod RunLemmas
 pub mod RunAskedLemmas
 pub mod AnswerLemmas
+pub mod RunMovedLemmas

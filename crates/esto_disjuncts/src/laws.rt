@@ -1,7 +1,8 @@
 //! Laws of members and lists of unions.
 ghost use Rattle.esto_disjuncts.specs.Laws.{EmptyListsAreTold, MembersAreMoved, MembersAreOne, MembersAreUniversal, MembersCoverUnions, MembersTellSatisfiable, UnionListsAreExact, UnionListsAreMoved, UnionListsAreOne};
-ghost use Rattle.esto_disjuncts.specs.RunLaws.{RunsAnswerUnions};
+ghost use Rattle.esto_disjuncts.specs.RunLaws.{RunsAnswerUnions, UnionRunsAreMoved};
 
+use esto_opening::openings_are_one;
 use esto_plan_laws::{
     choices_are_executable_unions, executable_unions_exist, executable_unions_map_onto_sets,
     plans_receive_unions,
@@ -75,4 +76,13 @@ pub fn runs_answer_unions()
     planned_plans_are_universal();
     picks_answer_unions();
     unions_answer_over_files();
+}
+
+/// A law: what `run` answers to a union over one of two catalogues that say the same it may answer to the same queries over
+/// the other.
+pub fn union_runs_are_moved()
+    ensures { UnionRunsAreMoved }
+{
+    plans_and_lists_are_moved();
+    openings_are_one();
 }

@@ -151,10 +151,10 @@ module _ (laws : AgreementLaws) (files : Files) (catalogue_name query_name : Lis
 module _ (laws : AgreementLaws) (files : Files) (catalogue_name query_name : List ℕ) (number : Option ℕ) (catalogue : Catalogue) (query : Query)
     (say : FilesSay files catalogue_name query_name catalogue query) where
   opens : (opens_catalogue (Some files) catalogue_name).goes catalogue
-  opens = catalogue_opens files catalogue_name query_name catalogue query say
+  opens = catalogue_opens files catalogue_name catalogue say.says_catalogue
 
   reads_alone : (opens_union (Some files) query_name catalogue).goes (query ∷ [])
-  reads_alone = alone_opens files catalogue_name query_name catalogue query say laws.opening
+  reads_alone = alone_opens files query_name catalogue laws.opening.alone query say.says_query
 
   -- no run of the query that the files say stops with Done
   run_refuses : Refuses (run_course (Some files) catalogue_name query_name number)

@@ -29,7 +29,7 @@ use Rattle.esto_top.proofs.BenchLemmas.{benches-agree}
 use Rattle.esto_top.proofs.RunAgreeLemmas.{CourseLaws, query_agree}
 use Rattle.esto_opening.specs.Alike.{AreSameQueries, IsSameQuery}
 use Rattle.esto_disjuncts.specs.Laws.{UnionListsAreOne}
-use Rattle.esto_disjuncts.specs.Run.{UnionRunsAreOne}
+use Rattle.esto_disjuncts.specs.RunLaws.{UnionRunsAreOne}
 use Rattle.esto_planning.specs.Alike.{IsSamePlan}
 
 -- ---- the text of a check

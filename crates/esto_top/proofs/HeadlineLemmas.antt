@@ -176,7 +176,7 @@ module _ (opening : OpeningLaws) (laws : ListingLaws) (files : Files) (catalogue
       (λ other alike. one_alone query
       (λ read. Leads (lists_queries other read) (IsTold catalogue query status.Done) (λ said. IsTold catalogue query said (line_of said)))
       (query_told laws catalogue query other alike))
-      (catalogue_opens files catalogue_name query_name catalogue query say) (alone_opens files catalogue_name query_name catalogue query say opening)) says
+      (catalogue_opens files catalogue_name catalogue say.says_catalogue) (alone_opens files query_name catalogue opening.alone query say.says_query)) says
 
   -- a satisfiable query has its exact list
   pub exact_list : (said : Status) (text : List ℕ) → Says (list_course (Some files) catalogue_name query_name) ⊥ said text

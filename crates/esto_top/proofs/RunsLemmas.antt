@@ -277,10 +277,10 @@ module _ (opening : OpeningLaws) (files : Files) (catalogue_name query_name : Li
   run_leads =
       then-leads _ _ _ _ _
       (catalogue_leads opening files catalogue_name query_name catalogue HasStopped
-      (catalogue_opens files catalogue_name query_name catalogue query say)) (λ other alike.
+      (catalogue_opens files catalogue_name catalogue say.says_catalogue)) (λ other alike.
       then-leads _ _ _ _ _
       (union_leads opening files catalogue_name query_name catalogue HasStopped (query ∷ [])
-      (alone_opens files catalogue_name query_name catalogue query say opening) other alike)
+      (alone_opens files query_name catalogue opening.alone query say.says_query) other alike)
       (one_alone query (λ queries. Leads (runs_queries (Some files) other queries number) HasRun HasStopped) (read_runs other alike)))
 
   module _ (laws : ListingLaws) (run_laws : RunLaws) where

@@ -7,43 +7,35 @@ use Rattle.esto_course.proofs.Steps.{then_goes}
 use Rattle.esto_opening.specs.Alike.{AreSameQueries, IsSameQuery}
 use Rattle.esto_opening.specs.Calm.{AgreeCalmly, Leads}
 use Rattle.esto_opening.specs.Fetch.{fetches}
-use Rattle.esto_opening.specs.Opening.{opens_catalogue, opens_query, opens_union, reads_catalogue, reads_query, reads_union}
+use Rattle.esto_opening.specs.Opening.{FilesSayCatalogue, FilesSayQuery, FilesSayUnion, opens_catalogue, opens_query, opens_union, reads_catalogue, reads_query, reads_union}
+use Rattle.esto_opening.specs.Unions.{UnionsOfOneAreQueries}
 use Rattle.esto_opening.specs.declared.opening.TheConstants.{CATALOGUE_LIMIT, QUERY_LIMIT}
 use Rattle.esto_opening.specs.declared.status.Status.{Status}
 use Rattle.esto_ports.specs.Files.{Files}
 use Rattle.esto_query.specs.declared.query.Query.{Query}
-use Rattle.esto_top.specs.Headline.{FilesSay}
-use Rattle.esto_top.specs.Unions.{FilesSayQueries}
 use Rattle.esto_top.proofs.LawRecords.{OpeningLaws}
 
 -- ---- what is said is opened
 
-module _ (files : Files) (catalogue_name query_name : List ℕ) (catalogue : Catalogue) where
-  module _ (query : Query) (say : FilesSay files catalogue_name query_name catalogue query) where
-    pub catalogue_opens : (opens_catalogue (Some files) catalogue_name).goes catalogue
-    unfolding fetches judges
-    catalogue_opens = then_goes (fetches (Some files) catalogue_name CATALOGUE_LIMIT) reads_catalogue say.says_catalogue.bytes catalogue
-        say.says_catalogue.has say.says_catalogue.is_catalogue
+module _ (files : Files) (name : List ℕ) (catalogue : Catalogue) where
+  pub catalogue_opens : FilesSayCatalogue files name catalogue → (opens_catalogue (Some files) name).goes catalogue
+  unfolding fetches judges
+  catalogue_opens say = then_goes (fetches (Some files) name CATALOGUE_LIMIT) reads_catalogue say.bytes catalogue say.has say.is_catalogue
 
-    query_opens : (opens_query (Some files) query_name catalogue).goes query
-    unfolding fetches judges
-    query_opens = then_goes (fetches (Some files) query_name QUERY_LIMIT) (reads_query catalogue) say.says_query.bytes query
-        say.says_query.has (say.says_query.named, say.says_query.is_query, say.says_query.query_is)
+  pub query_opens : (query : Query) → FilesSayQuery files name catalogue query → (opens_query (Some files) name catalogue).goes query
+  unfolding fetches judges
+  query_opens query say =
+      then_goes (fetches (Some files) name QUERY_LIMIT) (reads_query catalogue) say.bytes query say.has (say.named, say.is_query, say.query_is)
 
-    -- the query is opened as a union of its own
-    pub alone_opens : OpeningLaws → (opens_union (Some files) query_name catalogue).goes (query ∷ [])
-    alone_opens opening = (opening.alone (Some files) query_name catalogue query).1 query_opens
+  pub union_opens : (queries : List Query) → FilesSayUnion files name catalogue queries → (opens_union (Some files) name catalogue).goes queries
+  unfolding fetches judges
+  union_opens queries say =
+      then_goes (fetches (Some files) name QUERY_LIMIT) (reads_union catalogue) say.bytes queries say.has (say.named, say.is_union, say.queries_are)
 
-  module _ (queries : List Query) (say : FilesSayQueries files catalogue_name query_name catalogue queries) where
-    pub catalogue_opens_for : (opens_catalogue (Some files) catalogue_name).goes catalogue
-    unfolding fetches judges
-    catalogue_opens_for = then_goes (fetches (Some files) catalogue_name CATALOGUE_LIMIT) reads_catalogue say.says_catalogue.bytes catalogue
-        say.says_catalogue.has say.says_catalogue.is_catalogue
-
-    pub union_opens : (opens_union (Some files) query_name catalogue).goes queries
-    unfolding fetches judges
-    union_opens = then_goes (fetches (Some files) query_name QUERY_LIMIT) (reads_union catalogue) say.says_union.bytes queries
-        say.says_union.has (say.says_union.named, say.says_union.is_union, say.says_union.queries_are)
+  -- a query is opened as a union of its own
+  pub alone_opens : UnionsOfOneAreQueries → (query : Query) → FilesSayQuery files name catalogue query
+      → (opens_union (Some files) name catalogue).goes (query ∷ [])
+  alone_opens alone query say = (alone (Some files) name catalogue query).1 (query_opens query say)
 
 -- ---- what is opened is the same
 

@@ -18,7 +18,7 @@ use Rattle.esto_top.specs.Unions.{OutcomesAreUnionLists, UnionListsWhereTold}
 use Rattle.esto_top.proofs.DataLemmas.{says_fact}
 use Rattle.esto_top.proofs.HeadlineLemmas.{list_says}
 use Rattle.esto_top.proofs.LawRecords.{OpeningLaws}
-use Rattle.esto_top.proofs.SayLemmas.{catalogue_opens_for, union_opens}
+use Rattle.esto_top.proofs.SayLemmas.{catalogue_opens, union_opens}
 
 -- two or more queries are listed as a union, over each catalogue that says the same
 union_told : UnionListsAreExact → UnionListsAreMoved → (catalogue : Catalogue) (queries : List Query) → 1 < length queries → (other : Catalogue)
@@ -40,7 +40,7 @@ outcomes_are_union_lists opening exact moved words files catalogue_name query_na
     says_fact (list_course (Some files) catalogue_name query_name) (ListsUnionExactly catalogue queries) said text
     (list_says opening files catalogue_name query_name catalogue queries (ListsUnionExactly catalogue queries)
     (union_told exact moved catalogue queries say.more)
-    (catalogue_opens_for files catalogue_name query_name catalogue queries say) (union_opens files catalogue_name query_name catalogue queries say))
+    (catalogue_opens files catalogue_name catalogue say.says_catalogue) (union_opens files query_name catalogue queries say.says_union))
     (subst (λ (it : List (List ℕ)). Says (course_of it (Some files)) ⊥ said text) asks outcome)
 
 -- what is said of each outcome holds of what was put
