@@ -1,8 +1,6 @@
 -- The rows of the sets that are chosen for the members of a union are its answers.
-use Rattle.std.proofs.Common.{◌≡◌, ◌↔◌, ℕ, Bool, true, List, map, filter, Contains, Option, refl, sym, subst}
-use Rattle.std.specs.List.{AllZip}
+use Rattle.std.proofs.Common.{◌≡◌, ℕ, true, List, filter, Contains, Option, refl, subst}
 use Rattle.esto_catalog.specs.declared.catalogue.Catalogue.{Catalogue}
-use Rattle.esto_chase_laws.specs.declared.clash.Clash.{Clash}
 use Rattle.esto_constraint.specs.Constraints.{rules_of}
 use Rattle.esto_list.specs.Items.{sets_of}
 use Rattle.esto_list.specs.declared.listing.Listed.{Listed}
@@ -16,7 +14,6 @@ use Rattle.esto_semantics.specs.Queries.{ConjunctiveQuery}
 use Rattle.esto_term.proofs.ListLemmas.{Contains-at, Contains-filter, Contains-filter_from, Contains-map}
 use Rattle.esto_union.specs.Laws.{ArePicks, IsPickOf, PicksAnswerUnion}
 use Rattle.esto_views.specs.Fragments.{views_of}
-use Rattle.esto_views.specs.declared.plan.Plan.{Plan}
 use Rattle.esto_disjuncts.specs.Members.{AreMembersOf, IsMemberOf, has_plan}
 use Rattle.esto_disjuncts.specs.Run.{AreChosen, IsChosenOf}
 use Rattle.esto_disjuncts.specs.RunLaws.{RunsAnswerUnions}

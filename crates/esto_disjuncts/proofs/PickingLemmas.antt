@@ -1,6 +1,6 @@
 -- The choice of a set for each member of a union.
-use Rattle.std.proofs.Common.{◌≡◌, ◌≢◌, ◌<◌, ◌≤◌, ◌+◌, ℕ, Bool, true, false, List, [], ◌∷◌, ◌++◌, length, map, take, get_or, filter, Contains, Option, Some, None, Result, Ok, Err, inl, inr, refl, sym, ap, subst, ◌∙◌, arith}
-use Rattle.std.proofs.lemmas.List.{append-nil, take_more}
+use Rattle.std.proofs.Common.{◌≡◌, ◌≢◌, ◌<◌, ◌≤◌, ◌+◌, ℕ, List, [], ◌∷◌, ◌++◌, length, map, take, get_or, filter, Contains, Option, Some, None, Result, Ok, Err, inl, inr, refl, sym, ap, subst, ◌∙◌, arith}
+use Rattle.std.proofs.lemmas.List.{take_more}
 use Rattle.std.proofs.lemmas.List.Elements.{Contains-append_left, Contains-push, Contains-push_cases, filter-append}
 use Rattle.std.specs.List.{AllZip}
 use Rattle.std.specs.Prelude.{IfErr}
@@ -11,7 +11,6 @@ use Rattle.esto_list.specs.declared.listing.Listed.{Listed}
 use Rattle.esto_opening.specs.Answers.{IsCaused, IsWant}
 use Rattle.esto_opening.specs.declared.status.Status.{Status}
 use Rattle.esto_opening.specs.declared.status.Status.TheVariants.{NoRewriting, NoSuchNumber}
-use Rattle.esto_planning.specs.Choice.{HasNoPlace}
 use Rattle.esto_planning.specs.Choice.HasNoPlace.{is_empty as list_is_empty, is_above as number_is_above}
 use Rattle.esto_planning.specs.Planning.{chooses}
 use Rattle.esto_run.specs.Picks.{candidate_of}
@@ -21,8 +20,8 @@ use Rattle.esto_term.proofs.ListLemmas.{Contains-cases, Contains-nil}
 use Rattle.esto_views.specs.Plans.{plan_query}
 use Rattle.esto_views.specs.declared.plan.Plan.{Plan}
 use Rattle.esto_disjuncts.specs.Members.{OneIsEmpty, has_plan}
-use Rattle.esto_disjuncts.specs.Picking.{AddsPick, ArePicksOf, HasChoice, HaveChoice, IsLeast, IsLesser, IsPickFrom, IsPickOf}
-use Rattle.esto_disjuncts.specs.Run.{AreChosen, HasNoChoice, IsChosenOf, IsLeastLength, chooses_each}
+use Rattle.esto_disjuncts.specs.Picking.{AddsPick, ArePicksOf, HasChoice, HaveChoice, IsLeast, IsLesser, IsPickOf}
+use Rattle.esto_disjuncts.specs.Run.{AreChosen, HasNoChoice, IsChosenOf, chooses_each}
 use Rattle.esto_disjuncts.specs.Run.HasNoChoice.{is_empty, is_above}
 use Rattle.esto_disjuncts.specs.declared.members.Member.{Member}
 use Rattle.esto_disjuncts.specs.declared.members.Member.TheVariants.{Planned, Clashed}

@@ -1,7 +1,6 @@
 -- The run of the sets that are chosen for the members of a union.
-use Rattle.std.proofs.Common.{◌≡◌, ◌↔◌, ◌<◌, ℕ, Bool, List, [], ◌∷◌, length, get_or, map, filter, All, Contains, slice_get, Option, Some, None, refl, sym, ap, subst, ◌∙◌}
+use Rattle.std.proofs.Common.{◌≡◌, ◌↔◌, ◌<◌, ℕ, Bool, List, length, get_or, map, filter, All, Contains, slice_get, Option, Some, None, refl, sym, ap, subst, ◌∙◌}
 use Rattle.std.proofs.lemmas.Option.{slice_get_within, slice_get_read, get_or_from_slice_get}
-use Rattle.std.specs.List.{AllZip, flat_map}
 use Rattle.esto_catalog.specs.declared.catalogue.Catalogue.{Catalogue}
 use Rattle.esto_chase_laws.specs.declared.clash.Clash.{Clash}
 use Rattle.esto_course.specs.Course.{Stops, judges, gives, and_then}
@@ -38,7 +37,7 @@ use Rattle.esto_views.specs.Plans.{IsPlanOver, fact_of, plan_query}
 use Rattle.esto_views.specs.declared.fragments.FragmentDef.{FragmentDef}
 use Rattle.esto_views.specs.declared.plan.Plan.{Plan}
 use Rattle.esto_disjuncts.specs.List.{makes_members}
-use Rattle.esto_disjuncts.specs.Members.{AreMembersOf, ClashAt, HavePlan, IsListIn, IsMemberOf, has_plan}
+use Rattle.esto_disjuncts.specs.Members.{AreMembersOf, ClashAt, HavePlan, IsMemberOf, has_plan}
 use Rattle.esto_disjuncts.specs.Picking.{ArePicksOf, IsPickFrom, IsPickOf}
 use Rattle.esto_disjuncts.specs.Run.{AreChosen, IsNoRows, IsUnionRunText, chooses_each, ends_members, runs_chosen, runs_end, runs_members, runs_union}
 use Rattle.esto_disjuncts.specs.declared.members.Member.{Member}

@@ -1,4 +1,4 @@
-use Rattle.std.proofs.Common.{◌≡◌, ◌++◌, ◌∷◌, List, [], Some, sym, subst}
+use Rattle.std.proofs.Common.{◌++◌, ◌∷◌, [], Some, sym, subst}
 use Rattle.esto_disjuncts.specs.Picking.{IsLeast}
 use Rattle.esto_disjuncts.specs.declared.members.Member.{Member}
 use Rattle.esto_disjuncts.proofs.PickingLemmas.{clashed_least, planned_least}

@@ -1,8 +1,6 @@
-use Rattle.std.proofs.Common.{◌≡◌, List, sym, subst}
-use Rattle.std.proofs.lemmas.List.{take_all}
+use Rattle.std.proofs.Common.{subst}
 use Rattle.std.specs.Prelude.{Contains}
 use Rattle.esto_term.proofs.ListLemmas.{Contains-read}
-use Rattle.esto_disjuncts.specs.Picking.{ArePicksOf}
 use Rattle.esto_disjuncts.specs.declared.members.Member.{Member}
 use Rattle.esto_disjuncts.specs.declared.members.Member.TheVariants.{Planned}
 use Rattle.esto_disjuncts.proofs.PickingLemmas.{only_member, picks_next}

@@ -1,4 +1,4 @@
-use Rattle.std.proofs.Common.{◌≡◌, List, [], ℕ, ap, ◌∙◌}
+use Rattle.std.proofs.Common.{List, ap, ◌∙◌}
 use Rattle.esto_opening.specs.declared.reply.Reply.TheVariants.{Unsatisfiable}
 use Rattle.esto_run.specs.Answers.{rows_text}
 use Rattle.esto_stores.specs.Rows.{Row}
