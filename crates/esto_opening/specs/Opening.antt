@@ -13,7 +13,7 @@ use Rattle.esto_read.specs.declared.read.Form.TheVariants as form
 use Rattle.esto_read.specs.declared.read.NamedQuery.{NamedQuery}
 use Rattle.esto_text.specs.declared.fault.TextFault.{TextFault}
 use Rattle.esto_course.specs.Course.{Course, judges, and_then}
-use Rattle.esto_opening.specs.Fetch.{fetches}
+use Rattle.esto_opening.specs.Fetch.{HasWithin, fetches}
 use Rattle.esto_opening.specs.declared.status.Status.{Status}
 use Rattle.esto_opening.specs.declared.status.Status.TheVariants as status
 use Rattle.esto_opening.specs.declared.opening.TheConstants.{CATALOGUE_LIMIT, QUERY_LIMIT}
@@ -56,3 +56,17 @@ reads_union catalogue bytes =
 -- The queries of a file that is no longer than a query may be.
 abbrev pub opens_union : Option Files → List ℕ → Catalogue → Course Status (List Query)
 opens_union files name catalogue = and_then (fetches files name QUERY_LIMIT) (reads_union catalogue)
+
+-- The files say this catalogue.
+pub record FilesSayCatalogue (files : Files) (name : List ℕ) (catalogue : Catalogue) : Type 0 where
+  pub bytes : List ℕ
+  pub has : HasWithin files name CATALOGUE_LIMIT bytes
+  pub is_catalogue : IsCatalogueOf bytes catalogue
+
+-- They say this query over the catalogue.
+pub record FilesSayQuery (files : Files) (name : List ℕ) (catalogue : Catalogue) (query : Query) : Type 0 where
+  pub bytes : List ℕ
+  pub has : HasWithin files name QUERY_LIMIT bytes
+  pub named : NamedQuery
+  pub is_query : IsReading form.Query catalogue.words (arities_of catalogue.schema) bytes named
+  pub query_is : query ≡ named.query
