@@ -1,5 +1,5 @@
 -- Unions of queries that are opened, and the text of their rows.
-use Rattle.std.specs.Prelude.{◌≡◌, ◌↔◌, ℕ, ◌<◌, List, [], ◌∷◌, length, Contains, Option, Some}
+use Rattle.std.specs.Prelude.{◌≡◌, ◌↔◌, ℕ, ◌<◌, List, [], ◌∷◌, length, All, Contains, Option, Some}
 use Rattle.esto_catalog.specs.declared.catalogue.Catalogue.{Catalogue}
 use Rattle.esto_ports.specs.Files.{Files}
 use Rattle.esto_query.specs.Schemas.{arities_of}
@@ -27,6 +27,10 @@ pub record FormUnion (queries : List Query) : Type 0 where
 abbrev pub union_rows_text : List Query → List Row → List ℕ
 union_rows_text [] rows = []
 union_rows_text (query ∷ queries) rows = rows_text query rows
+
+-- Each row has as many cells as each query's head has terms.
+abbrev pub FitHeads : List Query → List Row → Type 0
+FitHeads queries rows = (query : Query) → Contains queries query → All (λ row. length row ≡ length query.head) rows
 
 -- The file is no longer than a query may be, and its bytes after one leading mark are the text of these queries.
 pub record FilesSayUnion (files : Files) (name : List ℕ) (catalogue : Catalogue) (queries : List Query) : Type 0 where
