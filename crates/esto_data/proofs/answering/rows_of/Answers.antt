@@ -1,4 +1,5 @@
 use Rattle.esto_course.specs.Course.{judges}
+use Rattle.esto_data.specs.Answer.{IsUnionAnswerOfFacts}
 use Rattle.esto_data.proofs.StepLemmas.{node_stops}
 use Rattle.esto_data.proofs.answering.rows_of.Goals as goal
 
@@ -9,4 +10,4 @@ returns-in-Ok c = c.in-Ok.ensures
 pub returns-in-Err-NodeInRow : goal.returns-in-Err-NodeInRow
 returns-in-Err-NodeInRow c =
     let first = rw c.in-Err-NodeInRow.field-0-is at c.in-Err-NodeInRow.ensures in
-    node_stops c.args.query.now c.args.loaded.now.facts c.in-Err-NodeInRow.column first
+    node_stops (IsUnionAnswerOfFacts c.args.queries.now c.args.loaded.now.facts) c.in-Err-NodeInRow.column first
