@@ -14,6 +14,7 @@ mod reading;
 mod script;
 mod sets;
 mod stage;
+mod sweep;
 mod terms;
 mod worlds;
 
