@@ -52,7 +52,8 @@ fn add_answers(
     ensures { OnOk result (AddsAnswers query.now facts.now rows.old.items rows.new.items) }
 {
     let own = facts.answers(alloc, query)?;
-    add_rows(alloc, rows, own.items())
+    add_rows(alloc, rows, own.items())?;
+    Ok(())
 }
 
 // The answers of the queries together over the facts: each once, in the order of terms.

@@ -1,5 +1,5 @@
 -- Unions of queries that are opened.
-use Rattle.std.proofs.Common.{◌≡◌, ◌↔◌, ◌<◌, ℕ, List, [], ◌∷◌, length, map, slice_get, Contains, Option, Some, refl, sym, ap, subst, ◌∙◌, arith}
+use Rattle.std.proofs.Common.{◌≡◌, ◌↔◌, ◌<◌, ℕ, List, [], ◌∷◌, length, slice_get, Option, Some, refl, sym, ap, subst, ◌∙◌, arith}
 use Rattle.std.proofs.lemmas.Option.{same_Some}
 use Rattle.esto_catalog.specs.Determined.{AreSame, CataloguesAreSound}
 use Rattle.esto_catalog.specs.declared.catalogue.Catalogue.{Catalogue}
@@ -9,9 +9,8 @@ use Rattle.esto_course.proofs.Steps.{then_goes}
 use Rattle.esto_ports.specs.Files.{Files}
 use Rattle.esto_query.specs.Schemas.{arities_of}
 use Rattle.esto_query.specs.declared.query.Query.{Query}
-use Rattle.esto_read.specs.Readings.{AreSame as IsSameNamed, IsReading}
+use Rattle.esto_read.specs.Readings.{AreSame as IsSameNamed}
 use Rattle.esto_read.specs.Unions.{AreAllSame, AreSaid, HaveNoUnionFault, HaveOneUnion, HaveOneUnionFault, IsFirstUnionFault, IsUnionReading, UnionOfOneIsQuery, head_length}
-use Rattle.esto_read.specs.declared.read.Form.TheVariants as form
 use Rattle.esto_read.specs.declared.read.NamedQuery.{NamedQuery}
 use Rattle.esto_read.specs.declared.words.Word.{Word}
 use Rattle.esto_read.proofs.UnionLemmas.{one_length}
@@ -22,13 +21,11 @@ use Rattle.esto_text.specs.Faults.{IsUnionText}
 use Rattle.esto_text.specs.Trees.{QueryTree}
 use Rattle.esto_text.specs.declared.fault.TextFault.{TextFault}
 use Rattle.esto_opening.specs.Alike.{AreSameQueries, IsSameQuery}
-use Rattle.esto_opening.specs.Answers.{IsCaused}
 use Rattle.esto_opening.specs.Calm.{AgreeCalmly, Leads}
 use Rattle.esto_opening.specs.Fetch.{fetches}
 use Rattle.esto_opening.specs.Opening.{opens_query, opens_union, reads_query, reads_union, unnamed}
 use Rattle.esto_opening.specs.Unions.{FilesSayUnion, FormUnion, HaveOneHeadLength, union_rows_text}
 use Rattle.esto_opening.specs.declared.opening.TheConstants.{QUERY_LIMIT}
-use Rattle.esto_opening.specs.declared.status.Status.{Status}
 use Rattle.esto_opening.specs.declared.status.Status.TheVariants as status
 use Rattle.esto_opening.proofs.AgreeLemmas.{fetches-agree}
 

@@ -1,4 +1,3 @@
-use Rattle.std.proofs.Common.{length}
 use Rattle.esto_term.proofs.ListLemmas.{Contains-at}
 use Rattle.esto_opening.proofs.UnionLemmas.{first_text}
 use Rattle.esto_opening.proofs.unions.union_text.Goals as goal
