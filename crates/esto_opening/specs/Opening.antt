@@ -70,3 +70,11 @@ pub record FilesSayQuery (files : Files) (name : List ℕ) (catalogue : Catalogu
   pub named : NamedQuery
   pub is_query : IsReading form.Query catalogue.words (arities_of catalogue.schema) bytes named
   pub query_is : query ≡ named.query
+
+-- They say these queries, a union, over the catalogue.
+pub record FilesSayUnion (files : Files) (name : List ℕ) (catalogue : Catalogue) (queries : List Query) : Type 0 where
+  pub bytes : List ℕ
+  pub has : HasWithin files name QUERY_LIMIT bytes
+  pub named : List NamedQuery
+  pub is_union : IsUnionReading catalogue.words (arities_of catalogue.schema) bytes named
+  pub queries_are : queries ≡ unnamed named
