@@ -9,7 +9,7 @@ use Rattle.esto_constraint.specs.Constraints.{rules_of}
 use Rattle.esto_constraint.specs.EncodingRules.{written}
 use Rattle.esto_fill.specs.Databases.{database_of}
 use Rattle.esto_fill.specs.Filled.{Fills, IsOpenedAs, without_mark}
-use Rattle.esto_fill.specs.Texts.{AreTextViews, AreTextsOf, HaveTextsOnly, IsFirstNodeColumn, IsFirstNodeView}
+use Rattle.esto_fill.specs.Texts.{AreTextViews, IsFirstNodeView}
 use Rattle.esto_fill.specs.declared.auditing.Difference.{Difference}
 use Rattle.esto_fill.specs.declared.filled.FillError.{FillError}
 use Rattle.esto_fill.specs.declared.filled.FillError.TheVariants as filled

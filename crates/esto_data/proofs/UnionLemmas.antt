@@ -5,7 +5,7 @@ use Rattle.std.proofs.lemmas.List.Elements.{Contains-get_or}
 use Rattle.esto_catalog.specs.declared.dataset.Dataset.{Dataset}
 use Rattle.esto_course.specs.Course.{and_then, judges}
 use Rattle.esto_fill.specs.Databases.{database_of}
-use Rattle.esto_fill.specs.Texts.{AreTextsOf, HaveTextsOnly, IsFirstNodeColumn}
+use Rattle.esto_fill.specs.Texts.{AreTextsOf, IsFirstNodeColumn}
 use Rattle.esto_ports.specs.Files.{Files}
 use Rattle.esto_query.specs.Making.{query_of}
 use Rattle.esto_query.specs.declared.query.Query.{Query}
@@ -21,7 +21,7 @@ use Rattle.esto_opening.specs.Unions.{FitHeads, FormUnion, union_rows_text}
 use Rattle.esto_opening.specs.declared.status.Status.{Status}
 use Rattle.esto_data.specs.Answer.{IsAnswerOfFacts, IsUnionAnswerOfFacts, lists_texts}
 use Rattle.esto_data.specs.Datasets.{AreNeeded, Names, OneNames, loads}
-use Rattle.esto_data.specs.Exact.{GivesExactly, HoldFacts, PrintsRows}
+use Rattle.esto_data.specs.Exact.{GivesExactly, HoldFacts}
 use Rattle.esto_data.proofs.AlikeLemmas.{same_query, same_rows_text}
 
 -- ---- the same queries

@@ -1,4 +1,4 @@
-use Rattle.std.proofs.Common.{Contains, map, refl, sym, subst, ◌∙◌}
+use Rattle.std.proofs.Common.{Contains, refl, sym, subst, ◌∙◌}
 use Rattle.std.proofs.lemmas.Bool.{false≢true}
 use Rattle.std.proofs.lemmas.List.Elements.{Contains-get_or}
 use Rattle.esto_query.specs.Making.{query_of}
