@@ -1,5 +1,5 @@
 //! Laws of outcomes.
-ghost use Rattle.esto_top.specs.DataOutcomes.{OutcomesAgree, OutcomesAreAnswers, OutcomesAreAudits, OutcomesAreFills};
+ghost use Rattle.esto_top.specs.DataOutcomes.{OutcomesAgree, OutcomesAreAnswers, OutcomesAreAudits, OutcomesAreFills, OutcomesAreUnionAnswers};
 ghost use Rattle.esto_top.specs.Determined.{OutcomesAreDetermined};
 ghost use Rattle.esto_top.specs.Headline.{OutcomesAreLists, OutcomesAreRefusals};
 ghost use Rattle.esto_top.specs.ReasoningOutcomes.{OutcomesAreContainments, OutcomesAreMinimised};
@@ -92,10 +92,12 @@ pub fn outcomes_are_determined()
 }
 
 /// A law: where the files say what a command on data needs, each outcome of `fill` is the file of the fragment's view rows,
-/// of `answer` the query's answers over the datasets' files, and of `audit` that all agrees, or the first cause that there is.
+/// of `answer` the answers of the query, or of the union, over the datasets' files, and of `audit` that all agrees, or the
+/// first cause that there is.
 pub(crate) fn data_outcomes_hold()
     ensures fills { OutcomesAreFills }
     ensures answers { OutcomesAreAnswers }
+    ensures unions { OutcomesAreUnionAnswers }
     ensures audits { OutcomesAreAudits }
 {
     data_outcomes_are_exact();

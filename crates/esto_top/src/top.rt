@@ -4,7 +4,7 @@ ghost use Rattle.esto_ports.specs.Faults.{Rises};
 ghost use Rattle.esto_opening.specs.Answers.{Answers};
 ghost use Rattle.esto_opening.specs.Asked.{AsksIn, AsksAsTold};
 ghost use Rattle.esto_top.specs.Benches.{BenchesAlways};
-ghost use Rattle.esto_top.specs.DataOutcomes.{AnswersWhereTold, AuditsWhereTold, FillsWhereTold};
+ghost use Rattle.esto_top.specs.DataOutcomes.{AnswersWhereTold, AuditsWhereTold, FillsWhereTold, UnionAnswersWhereTold};
 ghost use Rattle.esto_top.specs.Determined.{ExactWhereTold};
 ghost use Rattle.esto_top.specs.Grammar.{course_of};
 ghost use Rattle.esto_top.specs.Headline.{ListsWhereTold, RefusesWhereTold};
@@ -106,6 +106,11 @@ pub fn mediate<S: Shelf, O: Sink>(
     // with exactly the rows of the fragment's view, and `audit` is Done exactly where the facts of all datasets meet the
     // rules and each fragment's file holds exactly the rows of its view; else each tells its first cause.
     ensures answer { AnswersWhereTold words.now (S.files shelf.old)
+        (Rises S.faults shelf.old shelf.new) (Rises O.faults out.old out.new) (O.written out.old)
+        (O.written out.new) result }
+    // And where they say a union of queries over it, of any length, the text of `answer` is that of exactly the answers of all
+    // its queries together, under the names of the first one's head.
+    ensures answer_union { UnionAnswersWhereTold words.now (S.files shelf.old)
         (Rises S.faults shelf.old shelf.new) (Rises O.faults out.old out.new) (O.written out.old)
         (O.written out.new) result }
     ensures fill { FillsWhereTold words.now (S.files shelf.old)

@@ -1,6 +1,6 @@
 use Rattle.esto_top.proofs.AskedLemmas.{asks_as_told}
 use Rattle.esto_top.proofs.BenchLemmas.{benches_always}
-use Rattle.esto_top.proofs.DataLemmas.{answers_where_told, audits_where_told, fills_where_told}
+use Rattle.esto_top.proofs.DataLemmas.{answers_where_told, audits_where_told, fills_where_told, union_answers_where_told}
 use Rattle.esto_top.proofs.DeterminedLemmas.{exact}
 use Rattle.esto_top.proofs.HeadlineLemmas.{holds_of_lists}
 use Rattle.esto_top.proofs.ReasoningLemmas.{contains_where_told, minimises_where_told}
@@ -52,6 +52,11 @@ returns-clause-bench g c = benches_always c.args.words.now _ _ _ _ _ _ (mediates
 pub returns-clause-answer : goal.returns-clause-answer
 returns-clause-answer g c =
     answers_where_told c.args.words.now _ _ _ _ _ c.data_outcomes_hold.ensures.answers _
+    (complete c.args.words.now _ _ _ _ _ _ (mediates _ _ _ _ _ _ _ c.answer-answer.ensures.answer c.finish.ensures.put))
+
+pub returns-clause-answer_union : goal.returns-clause-answer_union
+returns-clause-answer_union g c =
+    union_answers_where_told c.args.words.now _ _ _ _ _ c.data_outcomes_hold.ensures.unions _
     (complete c.args.words.now _ _ _ _ _ _ (mediates _ _ _ _ _ _ _ c.answer-answer.ensures.answer c.finish.ensures.put))
 
 pub returns-clause-fill : goal.returns-clause-fill
