@@ -9,3 +9,4 @@ pub mod RunLemmas
 pub mod RunAskedLemmas
 pub mod AnswerLemmas
 pub mod RunMovedLemmas
+pub mod RunOneLemmas

@@ -173,13 +173,13 @@ same_has (Planned plan items) (Clashed clash) same = absurd same
 same_has (Clashed clash) (Planned plan items) same = absurd same
 same_has (Clashed clash) (Clashed other_clash) same = refl
 
-same_have : (members others : List Member) → AllZip IsSameMember members others → list_any has_plan members ≡ list_any has_plan others
+pub same_have : (members others : List Member) → AllZip IsSameMember members others → list_any has_plan members ≡ list_any has_plan others
 same_have [] [] same = refl
 same_have [] (other ∷ others) same = absurd same
 same_have (member ∷ members) [] same = absurd same
 same_have (member ∷ members) (other ∷ others) (same, rest) = λ i. same_has member other same i || same_have members others rest i
 
-clash_one : (members others : List Member) → AllZip IsSameMember members others → (clash other_clash : Clash) → slice_get members 0 ≡ Some (Clashed clash)
+pub clash_one : (members others : List Member) → AllZip IsSameMember members others → (clash other_clash : Clash) → slice_get members 0 ≡ Some (Clashed clash)
     → slice_get others 0 ≡ Some (Clashed other_clash) → clash ≡ other_clash
 clash_one [] others same clash other_clash is is_other = absurd (none-some (Clashed clash) is)
 clash_one (member ∷ members) [] same clash other_clash is is_other = absurd same

@@ -1,5 +1,5 @@
 -- What `run` answers to a union over one of two catalogues that say the same it may answer over the other.
-use Rattle.std.proofs.Common.{◌≡◌, ℕ, suc, List, [], ◌∷◌, slice_get, Option, Some, None, refl, sym, ap, ◌∙◌, subst, inl, inr}
+use Rattle.std.proofs.Common.{◌≡◌, ℕ, suc, List, [], ◌∷◌, map, slice_get, Option, Some, None, refl, sym, ap, ◌∙◌, subst, inl, inr}
 use Rattle.std.proofs.lemmas.Option.{none-some, same_Some}
 use Rattle.esto_catalog.specs.Determined.{AreSame, stored_as}
 use Rattle.esto_catalog.specs.declared.catalogue.Catalogue.{Catalogue}
@@ -87,12 +87,16 @@ module _ (files : Files) (catalogue other : Catalogue) (alike : AreSame catalogu
           (bytes, fetched_here bytes fetched, (value, same_fault catalogue other alike number own stored here there bytes ∙ none, is));
       stops = λ refusal caused stop. elim stop [
         | inl fails ↦ inl (subst (λ it. (fetches (Some files) it FRAGMENT_LIMIT).stops refusal)
-          (sym (same_file catalogue other alike number own stored here there)) fails)
-        | inr (bytes, fetched, inl (fault, found, is)) ↦ inr (bytes, fetched_here bytes fetched, inl (
-          fault,
-          same_fault catalogue other alike number own stored here there bytes ∙ found,
-          is ∙ ap (λ it. status.BadFragment it fault) (sym (same_named catalogue other alike number own stored here there)),
-        ))
+            (sym (same_file catalogue other alike number own stored here there)) fails)
+        | inr (bytes, fetched, inl (fault, found, is)) ↦ inr (
+          bytes,
+          fetched_here bytes fetched,
+          inl (
+            fault,
+            same_fault catalogue other alike number own stored here there bytes ∙ found,
+            is ∙ ap (λ it. status.BadFragment it fault) (sym (same_named catalogue other alike number own stored here there)),
+          ),
+        )
         | inr (bytes, fetched, inr (value, none, never)) ↦ absurd never
       ];
     }
@@ -105,7 +109,7 @@ module _ (files : Files) (catalogue other : Catalogue) (alike : AreSame catalogu
     stops = λ refusal caused stop. elim stop [
       | inl never ↦ absurd never
       | inr (stored, at, stops) ↦ (let own = stored_here number stored at in
-        inr (own.0, own.1, (stored_moved number own.0 stored own.1 at).stops refusal caused stops))
+          inr (own.0, own.1, (stored_moved number own.0 stored own.1 at).stops refusal caused stops))
     ];
   }
 
@@ -153,7 +157,7 @@ module _ (one_content : StoresHaveOneContent) (catalogue other : Catalogue) (ali
 
 module _ (one_content : StoresHaveOneContent) (files : Files) (catalogue other : Catalogue) (alike : AreSame catalogue other) (queries same : List Query)
     (are : AreSameQueries queries same) where
-  text_here : (others : List ConjunctiveQuery) (contents : ℕ → List ℕ) (text : List ℕ) → IsUnionRunText other same others contents text
+  pub text_here : (others : List ConjunctiveQuery) (contents : ℕ → List ℕ) (text : List ℕ) → IsUnionRunText other same others contents text
       → IsUnionRunText catalogue queries others contents text
   text_here others contents text (read, at, is) =
       let first = first_same queries same are read at in (
@@ -170,7 +174,7 @@ module _ (one_content : StoresHaveOneContent) (files : Files) (catalogue other :
         },
       )
 
-  no_rows_here : (clash : Clash) (reply : Reply) → IsNoRows same clash reply → IsNoRows queries clash reply
+  pub no_rows_here : (clash : Clash) (reply : Reply) → IsNoRows same clash reply → IsNoRows queries clash reply
   no_rows_here clash reply (read, at, is) =
       let first = first_same queries same are read at in
       (first.0, first.1, is ∙ ap (Unsatisfiable clash) (sym (same_header first.0 read first.2 [])))

@@ -1,6 +1,6 @@
 //! Laws of members and lists of unions.
 ghost use Rattle.esto_disjuncts.specs.Laws.{EmptyListsAreTold, MembersAreMoved, MembersAreOne, MembersAreUniversal, MembersCoverUnions, MembersTellSatisfiable, UnionListsAreExact, UnionListsAreMoved, UnionListsAreOne};
-ghost use Rattle.esto_disjuncts.specs.RunLaws.{RunsAnswerUnions, UnionRunsAreMoved};
+ghost use Rattle.esto_disjuncts.specs.RunLaws.{RunsAnswerUnions, UnionRunsAreMoved, UnionRunsAreOne};
 
 use esto_opening::openings_are_one;
 use esto_plan_laws::{
@@ -11,7 +11,7 @@ use esto_planning::{
     planned_plans_are_universal, planned_plans_have_their_form, plans_and_lists_are_moved,
     plans_and_lists_are_one,
 };
-use esto_run::unions_answer_over_files;
+use esto_run::{rising_rows_are_one, unions_answer_over_files, used_by_all_are_one};
 use esto_semantics::{picks_exist, stated_orders_exist, weights_exist};
 use esto_union::picks_answer_unions;
 
@@ -85,4 +85,15 @@ pub fn union_runs_are_moved()
 {
     plans_and_lists_are_moved();
     openings_are_one();
+}
+
+/// A law: over catalogues that say the same, `run` answers to unions of the same queries with one reply, or one refusal.
+pub fn union_runs_are_one()
+    ensures { UnionRunsAreOne }
+{
+    members_are_one();
+    plans_and_lists_are_one();
+    used_by_all_are_one();
+    openings_are_one();
+    rising_rows_are_one();
 }
