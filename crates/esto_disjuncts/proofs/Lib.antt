@@ -10,3 +10,4 @@ pub mod RunAskedLemmas
 pub mod AnswerLemmas
 pub mod RunMovedLemmas
 pub mod RunOneLemmas
+pub mod RunExactLemmas

@@ -1,6 +1,7 @@
 //! Laws of members and lists of unions.
 ghost use Rattle.esto_disjuncts.specs.Laws.{EmptyListsAreTold, MembersAreMoved, MembersAreOne, MembersAreUniversal, MembersCoverUnions, MembersTellSatisfiable, UnionListsAreExact, UnionListsAreMoved, UnionListsAreOne};
 ghost use Rattle.esto_disjuncts.specs.RunLaws.{RunsAnswerUnions, UnionRunsAreMoved, UnionRunsAreOne};
+ghost use Rattle.esto_disjuncts.specs.RunExact.{UnionRunsAreExact};
 
 use esto_opening::openings_are_one;
 use esto_plan_laws::{
@@ -96,4 +97,14 @@ pub fn union_runs_are_one()
     used_by_all_are_one();
     openings_are_one();
     rising_rows_are_one();
+}
+
+/// A law: over files that are told, `run` replies to a union of which no query is satisfiable with the clash of the first
+/// query's run; else it refuses it with `NoRewriting` exactly where it has no executable rewriting, and a text that it
+/// replies has exactly the union's answers, for each database of which the files hold the view rows.
+pub fn union_runs_are_exact()
+    ensures { UnionRunsAreExact }
+{
+    members_tell_rewritings();
+    runs_answer_unions();
 }
