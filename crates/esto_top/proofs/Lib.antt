@@ -17,6 +17,7 @@ pub mod OpenedLemmas
 pub mod HeadlineLemmas
 pub mod UnionLemmas
 pub mod RunsLemmas
+pub mod UnionRunLemmas
 pub mod AgreeLemmas
 pub mod BenchLemmas
 pub mod DeterminedLemmas

@@ -18,14 +18,15 @@ use Rattle.esto_opening.specs.declared.status.Status.{Status}
 use Rattle.esto_opening.proofs.Steps.{still_stops}
 
 pub text_stops : {rose : Type 0} {refusal : Status} (files read_files : Option Files) → read_files ≡ files → (catalogue_name query_name : List ℕ)
-    (catalogue : Catalogue) → (opens_catalogue files catalogue_name).goes catalogue → (queries : List Query)
-    → (opens_union read_files query_name catalogue).goes queries → Stops IsWant (IsCaused ⊥) (lists_queries catalogue queries) refusal
+    (catalogue : Catalogue) → (opens_catalogue files catalogue_name).goes catalogue → (queries items : List Query) → items ≡ queries
+    → (opens_union read_files query_name catalogue).goes queries → Stops IsWant (IsCaused ⊥) (lists_queries catalogue items) refusal
     → Stops IsWant (IsCaused rose) (list_course files catalogue_name query_name) refusal
-text_stops files read_files same catalogue_name query_name catalogue read queries read_too stops =
+text_stops {refusal = refusal} files read_files same catalogue_name query_name catalogue read queries items are read_too stops =
     then_stops (opens_catalogue files catalogue_name) _ catalogue read
     (then_stops (opens_union files query_name catalogue) (λ it. and_then (lists_queries catalogue it) (λ text. gives (Done text))) queries
     (subst (λ (it : Option Files). (opens_union it query_name catalogue).goes queries) same read_too)
-    (still_stops (lists_queries catalogue queries) (λ text. gives (Done text)) stops))
+    (still_stops (lists_queries catalogue queries) (λ text. gives (Done text))
+    (subst (λ (it : List Query). Stops IsWant (IsCaused ⊥) (lists_queries catalogue it) refusal) are stops)))
 
 -- the list of queries asks for nothing
 lists_quiet : (catalogue : Catalogue) (queries : List Query) → IsQuiet (lists_queries catalogue queries)
@@ -35,9 +36,11 @@ lists_quiet catalogue (query ∷ []) =
 lists_quiet catalogue (query ∷ next ∷ queries) =
     quiet_then (makes_members catalogue (query ∷ next ∷ queries)) (prints_members catalogue) (quiet_judges _ _) (λ members. quiet_judges _ _)
 
-pub lists_asks : (catalogue : Catalogue) (queries : List Query) (told : Option Names) (result : Result (List ℕ) Status)
-    → Answers (lists_queries catalogue queries) ⊥ result → AsksIn told told (lists_queries catalogue queries) result
-lists_asks catalogue queries told result = quiet_asks (lists_queries catalogue queries) told result (lists_quiet catalogue queries)
+pub lists_asks : (catalogue : Catalogue) (queries items : List Query) → items ≡ queries → (told : Option Names) (result : Result (List ℕ) Status)
+    → Answers (lists_queries catalogue items) ⊥ result → AsksIn told told (lists_queries catalogue queries) result
+lists_asks catalogue queries items are told result answers =
+    quiet_asks (lists_queries catalogue queries) told result (lists_quiet catalogue queries)
+    (subst (λ (it : List Query). Answers (lists_queries catalogue it) ⊥ result) are answers)
 
 -- nor does its text
 pub text_asks : (text : List ℕ) (told : Option Names) → AsksIn told told (gives (Done text)) (Ok (Done text))

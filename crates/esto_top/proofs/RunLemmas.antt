@@ -141,19 +141,20 @@ module _ (files : Option Files) (catalogue : Catalogue) (query : Query) (number 
 
 module _ (files read_files query_files : Option Files) (same : read_files ≡ files) (same_too : query_files ≡ read_files)
     (catalogue_name query_name : List ℕ) (number : Option ℕ) (catalogue : Catalogue) (read : (opens_catalogue files catalogue_name).goes catalogue)
-    (queries : List Query)
-    (read_too : (opens_union read_files query_name catalogue).goes queries) where
+    (queries items : List Query) (are : items ≡ queries) (read_too : (opens_union read_files query_name catalogue).goes queries) where
   queries_read : (opens_union files query_name catalogue).goes queries
   queries_read = subst (λ (it : Option Files). (opens_union it query_name catalogue).goes queries) same read_too
 
-  pub course_goes : (reply : Reply) → (runs_queries query_files catalogue queries number).goes reply
+  pub course_goes : (reply : Reply) → (runs_queries query_files catalogue items number).goes reply
       → (run_course files catalogue_name query_name number).goes reply
   course_goes reply goes = then_goes (opens_catalogue files catalogue_name) _ catalogue reply read
       (then_goes (opens_union files query_name catalogue) (λ it. runs_queries files catalogue it number) queries reply queries_read
-      (subst (λ (it : Option Files). (runs_queries it catalogue queries number).goes reply) (same_too ∙ same) goes))
+      (subst (λ (it : Option Files). (runs_queries it catalogue queries number).goes reply) (same_too ∙ same)
+      (subst (λ (it : List Query). (runs_queries query_files catalogue it number).goes reply) are goes)))
 
-  pub course_stops : {rose : Type 0} {refusal : Status} → Stops IsWant (IsCaused rose) (runs_queries query_files catalogue queries number) refusal
+  pub course_stops : {rose : Type 0} {refusal : Status} → Stops IsWant (IsCaused rose) (runs_queries query_files catalogue items number) refusal
       → Stops IsWant (IsCaused rose) (run_course files catalogue_name query_name number) refusal
   course_stops {rose} {refusal} stops = then_stops (opens_catalogue files catalogue_name) _ catalogue read
       (then_stops (opens_union files query_name catalogue) (λ it. runs_queries files catalogue it number) queries queries_read
-      (subst (λ (it : Option Files). Stops IsWant (IsCaused rose) (runs_queries it catalogue queries number) refusal) (same_too ∙ same) stops))
+      (subst (λ (it : Option Files). Stops IsWant (IsCaused rose) (runs_queries it catalogue queries number) refusal) (same_too ∙ same)
+      (subst (λ (it : List Query). Stops IsWant (IsCaused rose) (runs_queries query_files catalogue it number) refusal) are stops)))

@@ -4,13 +4,14 @@ ghost use Rattle.esto_top.specs.Determined.{OutcomesAreDetermined};
 ghost use Rattle.esto_top.specs.Headline.{OutcomesAreLists, OutcomesAreRefusals};
 ghost use Rattle.esto_top.specs.ReasoningOutcomes.{OutcomesAreContainments, OutcomesAreMinimised};
 ghost use Rattle.esto_top.specs.Runs.{OutcomesAreRuns};
-ghost use Rattle.esto_top.specs.Unions.{OutcomesAreUnionLists};
+ghost use Rattle.esto_top.specs.Unions.{OutcomesAreUnionLists, OutcomesAreUnionRuns};
 
 use esto_backchase::listed_sets_cover_rewritings;
 use esto_bench::summaries_are_one;
 use esto_data::{audited_datasets_answer, data_outcomes_are_exact, data_outcomes_are_one};
 use esto_disjuncts::{
-    union_lists_are_exact, union_lists_are_moved, union_lists_are_one, union_runs_are_one,
+    union_lists_are_exact, union_lists_are_moved, union_lists_are_one, union_runs_are_exact,
+    union_runs_are_moved, union_runs_are_one,
 };
 use esto_fill::agreeing_answers_are_one;
 use esto_opening::{opened_unions_are_queries, openings_are_one};
@@ -71,6 +72,18 @@ pub(crate) fn union_lists_hold()
     opened_unions_are_queries();
     union_lists_are_moved();
     union_lists_are_exact();
+}
+
+/// A law: there each outcome of `run` is an exact reply to the union, whose text has exactly the rows of the sets that are
+/// chosen over the files, which are the union's over each database that they are the view rows of, or the clash of its
+/// first query's run; or an exact refusal of it.
+pub(crate) fn union_runs_hold()
+    ensures { OutcomesAreUnionRuns }
+{
+    openings_are_one();
+    opened_unions_are_queries();
+    union_runs_are_moved();
+    union_runs_are_exact();
 }
 
 /// A law: the same words over the same files have at most one outcome.

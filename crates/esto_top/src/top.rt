@@ -10,14 +10,14 @@ ghost use Rattle.esto_top.specs.Grammar.{course_of};
 ghost use Rattle.esto_top.specs.Headline.{ListsWhereTold, RefusesWhereTold};
 ghost use Rattle.esto_top.specs.ReasoningOutcomes.{ContainsWhereTold, MinimisesWhereTold};
 ghost use Rattle.esto_top.specs.Runs.{RunsWhereTold};
-ghost use Rattle.esto_top.specs.Unions.{UnionListsWhereTold};
+ghost use Rattle.esto_top.specs.Unions.{UnionListsWhereTold, UnionRunsWhereTold};
 ghost use Rattle.esto_top.specs.Outcome.{Mediates, CompleteWhereTold, CausedReadFault, CausedWriteFault, PutsOnce};
 
 use crate::command::{command_of, obey};
 use crate::ending::finish;
 use crate::laws::{
     data_outcomes_hold, lists_are_exact, outcomes_are_determined, reasoning_outcomes_hold,
-    runs_are_exact, union_lists_hold,
+    runs_are_exact, union_lists_hold, union_runs_hold,
 };
 use esto_opening::{Reply, Status};
 use esto_ports::{Shelf, Sink};
@@ -97,6 +97,16 @@ pub fn mediate<S: Shelf, O: Sink>(
         (Rises S.faults shelf.old shelf.new) (Rises O.faults out.old out.new) (O.written out.old)
         (O.written out.new) result }
 
+    // There, over a union of two or more queries, `run` is exact too. Where no database that meets the rules gives one of
+    // its queries an answer, the status is Unsatisfiable, with the clash of the first query's run, and the text the names of
+    // its head. Else the text, where the status is Done, is that of exactly the rows over the files of one listed set of each
+    // satisfiable query, the pick or that of the number, which for each database that meets the rules, and whose view rows
+    // are the rows of these files, are exactly the union's answers; and the status is NoRewriting exactly where no union of
+    // executable queries over the fragments is equivalent to the union.
+    ensures run_union { UnionRunsWhereTold words.now (S.files shelf.old)
+        (Rises S.faults shelf.old shelf.new) (Rises O.faults out.old out.new) (O.written out.old)
+        (O.written out.new) result }
+
     // The summary of `bench` is exact, over every shelf.
     ensures bench { BenchesAlways words.now (Rises O.faults out.old out.new) (O.written out.old)
         (O.written out.new) result }
@@ -161,6 +171,7 @@ pub fn mediate<S: Shelf, O: Sink>(
     lists_are_exact();
     runs_are_exact();
     union_lists_hold();
+    union_runs_hold();
     outcomes_are_determined();
     data_outcomes_hold();
     reasoning_outcomes_hold();

@@ -7,6 +7,7 @@ use Rattle.esto_top.proofs.ReasoningLemmas.{contains_where_told, minimises_where
 use Rattle.esto_top.proofs.RunsLemmas.{runs_where_told}
 use Rattle.esto_top.proofs.Mediation.{mediates, complete, read_fault, write_fault}
 use Rattle.esto_top.proofs.UnionLemmas.{union_lists_where_told}
+use Rattle.esto_top.proofs.UnionRunLemmas.{union_runs_where_told}
 use Rattle.esto_top.proofs.top.mediate.Goals as goal
 
 pub returns-clause-outcome : goal.returns-clause-outcome
@@ -34,6 +35,11 @@ returns-clause-refusal g c =
 pub returns-clause-list_union : goal.returns-clause-list_union
 returns-clause-list_union g c =
     union_lists_where_told c.union_lists_hold.ensures c.args.words.now _ _ _ _ _ _
+    (complete c.args.words.now _ _ _ _ _ _ (mediates _ _ _ _ _ _ _ c.answer-answer.ensures.answer c.finish.ensures.put))
+
+pub returns-clause-run_union : goal.returns-clause-run_union
+returns-clause-run_union g c =
+    union_runs_where_told c.union_runs_hold.ensures c.args.words.now _ _ _ _ _ _
     (complete c.args.words.now _ _ _ _ _ _ (mediates _ _ _ _ _ _ _ c.answer-answer.ensures.answer c.finish.ensures.put))
 
 pub returns-clause-exact : goal.returns-clause-exact
