@@ -1,5 +1,5 @@
 -- The course of `list`, where the text of the list is made or not.
-use Rattle.std.proofs.Common.{◌≡◌, ℕ, List, [], ◌∷◌, Option, Result, Ok, refl, subst}
+use Rattle.std.proofs.Common.{◌≡◌, ℕ, List, [], ◌∷◌, length, Option, Result, Ok, refl, subst}
 use Rattle.esto_catalog.specs.declared.catalogue.Catalogue.{Catalogue}
 use Rattle.esto_course.specs.Course.{IsQuiet, Names, Stops, gives, and_then}
 use Rattle.esto_course.proofs.Asking.{quiet_gives, quiet_judges, quiet_then}
@@ -10,7 +10,7 @@ use Rattle.esto_opening.specs.Answers.{Answers, IsWant, IsCaused}
 use Rattle.esto_opening.specs.Asked.{AsksIn}
 use Rattle.esto_opening.proofs.AskedSteps.{quiet_asks}
 use Rattle.esto_planning.specs.Planning.{plans_query}
-use Rattle.esto_disjuncts.specs.List.{makes_members, prints_members}
+use Rattle.esto_disjuncts.specs.List.{lists_union, makes_members, prints_members}
 use Rattle.esto_top.specs.List.{list_course, lists_queries, prints_list}
 use Rattle.esto_opening.specs.Opening.{opens_catalogue, opens_union}
 use Rattle.esto_opening.specs.declared.reply.Reply.TheVariants.{Done}
@@ -46,3 +46,10 @@ lists_asks catalogue queries items are told result answers =
 pub text_asks : (text : List ℕ) (told : Option Names) → AsksIn told told (gives (Done text)) (Ok (Done text))
 text_asks text told =
     quiet_asks (gives (Done text)) told (Ok (Done text)) (quiet_gives Status (Done text)) (gives_goes Status (Done text) (Done text) refl)
+
+-- two or more queries are listed as a union
+pub more_listed : (catalogue : Catalogue) (queries : List Query) (result : Result (List ℕ) Status) → (length queries ≡ 1 → ⊥)
+    → Answers (lists_union catalogue queries) ⊥ result → Answers (lists_queries catalogue queries) ⊥ result
+more_listed catalogue [] result several answers = answers
+more_listed catalogue (query ∷ []) result several answers = absurd (several refl)
+more_listed catalogue (query ∷ next ∷ queries) result several answers = answers
