@@ -57,11 +57,7 @@ fn listed(alloc: Global, query: &Query, catalogue: &Catalogue) -> Result<Bytes, 
 }
 
 // What the command prints of one query, or of a union of more, or the status with which it refuses them.
-fn listed_queries(
-    alloc: Global,
-    queries: &[Query],
-    catalogue: &Catalogue,
-) -> Result<Bytes, Status>
+fn listed_queries(alloc: Global, queries: &[Query], catalogue: &Catalogue) -> Result<Bytes, Status>
     requires { FormUnion queries.now }
     ensures { Answers (lists_queries catalogue.now queries.now) ⊥ result }
 {
