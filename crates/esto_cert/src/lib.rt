@@ -12,4 +12,6 @@ mod reading;
 mod taking;
 
 pub use check::{CertError, check_certificate};
+pub use judging::{body_of, made_at};
 pub use line::{Line, Numbers};
+pub use taking::{taken_term, taken_terms, terms_of};

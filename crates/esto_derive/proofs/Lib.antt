@@ -1,0 +1,7 @@
+mod TextLemmas
+mod FoundLemmas
+mod MarkLemmas
+mod PlaceLemmas
+mod StateLemmas
+mod StepLemmas
+mod MatchLemmas
