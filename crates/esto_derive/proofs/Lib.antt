@@ -4,4 +4,5 @@ mod MarkLemmas
 mod PlaceLemmas
 mod StateLemmas
 mod StepLemmas
+mod WriteLemmas
 mod MatchLemmas

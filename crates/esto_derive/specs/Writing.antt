@@ -1,5 +1,5 @@
 -- Certificates that are written: their lines follow one from another, and each claims what some entry claims in the world of the set.
-use Rattle.std.specs.Prelude.{◌≡◌, ◌≢◌, ◌⊎◌, ◌↔◌, ℕ, ◌==◌, Bool, List, [], ◌∷◌, ◌++◌, Some, length, map, slice_get, slice_index_or, Contains, All, false, codes}
+use Rattle.std.specs.Prelude.{◌≡◌, ◌≢◌, ◌⊎◌, ◌↔◌, ℕ, ◌==◌, Bool, List, [], ◌∷◌, ◌++◌, Some, length, map, slice_get, Option, None, Contains, All, false, codes}
 use Rattle.std.specs.List.{slice_split, flat_map}
 use Rattle.esto_constraint.specs.Constraints.{rules_of}
 use Rattle.esto_constraint.specs.declared.rule.Constraint.{Constraint}
@@ -58,9 +58,14 @@ abbrev pub StandFor : List Claim → List ℕ → Claim → Type 0
 StandFor claims lines (Stated fact) = (line : ℕ) × (lines ≡ line ∷ []) × (slice_get claims line ≡ Some (Stated fact))
 StandFor claims lines (Same left right) = AreEqualities claims lines × Linked (AtLines claims lines) left right
 
+-- The lines of a place, where it has some.
+abbrev pub own_lines : Option (List ℕ) → List ℕ
+own_lines None = []
+own_lines (Some own) = own
+
 -- The lines that stand for the entries at the places, in order.
 abbrev pub lines_at : List (List ℕ) → List ℕ → List ℕ
-lines_at lines places = flat_map (λ place. slice_index_or lines place []) places
+lines_at lines places = flat_map (λ place. own_lines (slice_get lines place)) places
 
 -- The entries are derived, the used ones name used ones alone, and these are in the world of the set.
 pub record IsBasis (case : Case) (entries : List Entry) (used : List Bool) : Type 0 where

@@ -1,5 +1,14 @@
 //! Writing a certificate.
-ghost use Rattle.std.specs.Prelude.{◌≡◌, length, IfOk};
+ghost use Rattle.std.specs.Prelude.{◌≡◌, ◌<◌, ℕ, List, Contains, length, IfOk};
+ghost use Rattle.esto_constraint.specs.Constraints.{rules_of};
+ghost use Rattle.esto_query.specs.Making.{query_of};
+ghost use Rattle.esto_views.specs.declared.expansion.ExpandedFact.{ExpandedFact};
+ghost use Rattle.esto_world_laws.specs.Derived.{AreDerived};
+ghost use Rattle.esto_world_laws.specs.Laws.{AreReasoned, HasMatch};
+ghost use Rattle.esto_world_laws.specs.Steps.{AreJoined};
+ghost use Rattle.esto_world_laws.specs.Worlds.{AreOfCount, InWorld};
+ghost use Rattle.esto_derive.specs.Marking.{AreUsed};
+ghost use Rattle.esto_derive.specs.Writing.{IsWritten};
 use crate::marking::close;
 use crate::searching::{World, joined};
 use crate::writing::{Writer, terms_at};
@@ -7,9 +16,10 @@ use esto_bits::RowBits;
 use esto_cert::terms_of;
 use esto_constraint::{Constraint, Rules};
 use esto_prov::{Entries, Entry};
-use esto_query::Query;
+use esto_query::{Query, queries_are_sound};
 use esto_term::{Bytes, OutOfMemory, Terms};
 use esto_views::Plan;
+use esto_world_laws::derived_entries_are_reasoned;
 use std::alloc::Global;
 
 /// The places of the entries that are used where those at these places are.
@@ -19,6 +29,11 @@ fn used_by(
     facts: &[usize],
     links: &[usize],
 ) -> Result<RowBits, OutOfMemory>
+    requires reasoned { AreReasoned entries.now }
+    requires facts { (place : ℕ) → Contains facts.now place → place < length entries.now }
+    requires links { (place : ℕ) → Contains links.now place → place < length entries.now }
+    ensures count { IfOk result (λ used. length used ≡ length entries.now) }
+    ensures used { IfOk result (AreUsed entries.now facts.now links.now) }
 {
     let mut used = RowBits::of(alloc, entries.len(), facts)?;
     used.union(&RowBits::of(alloc, entries.len(), links)?);
@@ -35,7 +50,24 @@ fn write_match(
     entries: &[Entry],
     rules: &[Constraint],
 ) -> Result<Bytes, OutOfMemory>
+    requires counts { AreOfCount (length set.now) entries.now }
+    requires joined { AreJoined entries.now entries.now }
+    requires derived { (expanded : List ExpandedFact)
+        × AreDerived expanded (rules_of rules.now) entries.now }
+    requires found { HasMatch (InWorld entries.now set.now) query.now.head query.now.body
+        targets.now }
+    ensures { IfOk result (λ bytes. (expanded : List ExpandedFact)
+        → AreDerived expanded (rules_of rules.now) entries.now
+        → IsWritten (record {
+          expanded = expanded;
+          set = set.now;
+          rules = rules_of rules.now;
+          query = query_of query.now;
+          targets = targets.now;
+        }) entries.now bytes) }
 {
+    queries_are_sound();
+    derived_entries_are_reasoned();
     let world = World { entries, set };
     let body = query.body.items();
     let Some(facts) = world.find(alloc, &query.head, targets, body)? else {
@@ -62,6 +94,21 @@ pub fn write_certificate(
     entries: &Entries,
     rules: &Rules,
 ) -> Result<Bytes, OutOfMemory>
+    requires counts { AreOfCount (length set.now) entries.now }
+    requires joined { AreJoined entries.now entries.now }
+    requires derived { (expanded : List ExpandedFact)
+        × AreDerived expanded (rules_of rules.now) entries.now }
+    requires found { HasMatch (InWorld entries.now set.now) query.now.head query.now.body
+        plan.now.head }
+    ensures { IfOk result (λ bytes. (expanded : List ExpandedFact)
+        → AreDerived expanded (rules_of rules.now) entries.now
+        → IsWritten (record {
+          expanded = expanded;
+          set = set.now;
+          rules = rules_of rules.now;
+          query = query_of query.now;
+          targets = plan.now.head;
+        }) entries.now bytes) }
 {
     write_match(
         alloc,

@@ -1,5 +1,5 @@
 //! A match of a body in the world of a set, with the entries that it uses.
-ghost use Rattle.std.specs.Prelude.{◌≡◌, ◌++◌, ◌↔◌, ◌×◌, List, ℕ, Some, Contains, length, map, slice_get, IsTrue, IfOk, OnOk};
+ghost use Rattle.std.specs.Prelude.{◌≡◌, ◌++◌, ◌↔◌, ◌∷◌, List, ℕ, Some, option_map, Contains, length, map, slice_get, IsTrue, IfOk, OnOk};
 ghost use Rattle.std.specs.List.{AllZip};
 ghost use Rattle.esto_semantics.specs.declared.fact.Fact.{Fact};
 ghost use Rattle.esto_term.specs.declared.term.Term.{Term};
@@ -9,7 +9,7 @@ ghost use Rattle.esto_world_laws.specs.Matches.{taken, Fits};
 ghost use Rattle.esto_world_laws.specs.Steps.{AreJoined};
 ghost use Rattle.esto_world_laws.specs.Worlds.{AreOfCount, InWorld, Linked};
 ghost use Rattle.esto_world_laws.specs.declared.entry.Claim.TheVariants.{Fact as Stated};
-ghost use Rattle.esto_derive.specs.Searching.{SaysOne, IsLink, IsFound, IsFoundBy, AreLinks, AddsLink};
+ghost use Rattle.esto_derive.specs.Searching.{SaysOne, IsLink, IsFound, IsFoundAfter, IsFoundBy, AreLinks, AddsLink};
 
 use esto_bits::RowBits;
 use esto_cert::{taken_terms};
