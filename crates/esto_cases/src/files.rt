@@ -16,31 +16,43 @@ struct File {
     bytes: Bytes,
 }
 
-/// What is to fail in the next run: which fetch, and which put after how many bytes. They are counted from 1, and 0 is
-/// none.
+/// What goes wrong in a run: which fetch fails, which put after how many bytes, and at which of them memory is wanting.
+/// They are counted from 1, and 0 is none.
 #[derive(Clone, Copy)]
-struct Failure {
-    fetch: u64,
-    put: u64,
-    kept: u64,
+pub struct Trouble {
+    pub fetch: u64,
+    pub put: u64,
+    pub kept: u64,
+    pub refused_fetch: u64,
+    pub refused_put: u64,
 }
 
-const NONE: Failure = Failure {
+pub const NONE: Trouble = Trouble {
     fetch: 0,
     put: 0,
     kept: 0,
+    refused_fetch: 0,
+    refused_put: 0,
 };
 
-/// The files in memory, the content of the next one, and what is to fail in the next run.
+/// What comes of a run: the outside after it, and the code of the status.
+#[derive(Drop)]
+pub struct Ran {
+    pub shelf: MemoryShelf,
+    pub out: MemorySink,
+    pub code: u8,
+}
+
+/// The files in memory, the content of the next one, and what is to go wrong in the next run.
 #[derive(Drop)]
 pub struct FileSet {
     files: List<File>,
     pub content: Bytes,
-    failure: Failure,
+    trouble: Trouble,
 }
 
-// The words of a command line, between single blanks; an empty line has none.
-fn words_of(alloc: Global, line: &str) -> Result<List<Text>, Refused> {
+/// The words of a command line, between single blanks; an empty line has none.
+pub fn words_of(alloc: Global, line: &str) -> Result<List<Text>, Refused> {
     let mut words = List::new(alloc);
     if line.is_empty() {
         return Ok(words);
@@ -67,12 +79,12 @@ fn shelf_of(alloc: Global, files: &List<File>) -> Result<MemoryShelf, Refused> {
 }
 
 impl FileSet {
-    /// No file, and no failure.
+    /// No file, and nothing is to go wrong.
     pub fn new(alloc: Global) -> FileSet {
         FileSet {
             files: List::new(alloc),
             content: Bytes::new(alloc),
-            failure: NONE,
+            trouble: NONE,
         }
     }
 
@@ -91,33 +103,40 @@ impl FileSet {
 
     /// The fetch of this number is to fail.
     pub fn fail_fetch(&mut self, word: &str) {
-        self.failure.fetch = number(word);
+        self.trouble.fetch = number(word);
     }
 
     /// The put of this number is to fail, after so many bytes.
     pub fn fail_put(&mut self, line: &str) {
         let (put, kept) = line.split_once(' ').unwrap_or((line, ""));
-        self.failure.put = number(put);
-        self.failure.kept = number(kept);
+        self.trouble.put = number(put);
+        self.trouble.kept = number(kept);
     }
 
-    // What a command line puts over the files, and its status. Nothing is to fail after it.
-    fn outcome(&mut self, alloc: Global, line: &str) -> Result<(MemorySink, u8), Refused> {
-        let failure = mem::replace(&mut self.failure, NONE);
-        let words = words_of(alloc, line)?;
+    /// What comes of a command line over the files where this goes wrong.
+    pub fn ran(&self, alloc: Global, words: &[Text], trouble: Trouble) -> Result<Ran, Refused> {
         let mut shelf = shelf_of(alloc, &self.files)?;
         let mut out = MemorySink::new(alloc);
-        shelf.fail_at(failure.fetch)?;
-        out.fail_at(failure.put, failure.kept)?;
-        let code = code_of(alloc, words.items(), &mut shelf, &mut out);
-        Ok((out, code))
+        shelf.fail_at(trouble.fetch)?;
+        shelf.refuse_at(trouble.refused_fetch)?;
+        out.fail_at(trouble.put, trouble.kept)?;
+        out.refuse_at(trouble.refused_put)?;
+        let code = code_of(alloc, words, &mut shelf, &mut out);
+        Ok(Ran { shelf, out, code })
     }
 
-    /// Runs a command line over the files, and prints what was put and the status. Nothing is to fail after it.
+    // What comes of a command line over the files. Nothing is to go wrong after it.
+    fn outcome(&mut self, alloc: Global, line: &str) -> Result<Ran, Refused> {
+        let trouble = mem::replace(&mut self.trouble, NONE);
+        let words = words_of(alloc, line)?;
+        self.ran(alloc, words.items(), trouble)
+    }
+
+    /// Runs a command line over the files, and prints what was put and the status. Nothing is to go wrong after it.
     pub fn run<R: Print>(&mut self, rt: &R, alloc: Global, line: &str) -> Result<(), Refused> {
-        let (out, code) = self.outcome(alloc, line)?;
-        put_bytes(rt, out.written());
-        let _ = println!(rt; "status {code}");
+        let ran = self.outcome(alloc, line)?;
+        put_bytes(rt, ran.out.written());
+        put_status(rt, &ran);
         Ok(())
     }
 
@@ -131,11 +150,17 @@ impl FileSet {
     ) -> Result<(), Refused> {
         let (first, rest) = line.split_once(' ').unwrap_or((line, ""));
         let (last, words) = rest.split_once(' ').unwrap_or((rest, ""));
-        let (out, code) = self.outcome(alloc, words)?;
-        put_ends(rt, out.written(), number(first), number(last));
-        let _ = println!(rt; "status {code}");
+        let ran = self.outcome(alloc, words)?;
+        put_ends(rt, ran.out.written(), number(first), number(last));
+        put_status(rt, &ran);
         Ok(())
     }
+}
+
+// The code of the status.
+fn put_status<R: Print>(rt: &R, ran: &Ran) {
+    let code = ran.code;
+    let _ = println!(rt; "status {code}");
 }
 
 // How many lines the text has, so many first ones and so many last ones.

@@ -11,9 +11,11 @@ mod models;
 mod orders;
 mod printing;
 mod reading;
+mod refusing;
 mod script;
 mod sets;
 mod stage;
+mod sweep;
 mod terms;
 mod worlds;
 

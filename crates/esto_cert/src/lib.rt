@@ -4,6 +4,7 @@
 
 mod check;
 mod judging;
+mod laws;
 mod line;
 mod linking;
 mod matching;
@@ -13,5 +14,6 @@ mod taking;
 
 pub use check::{CertError, check_certificate};
 pub use judging::{body_of, made_at};
+pub use laws::{accepted_certificates_show, verdicts_are_one};
 pub use line::{Line, Numbers};
 pub use taking::{taken_term, taken_terms, terms_of};

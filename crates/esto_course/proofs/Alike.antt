@@ -1,5 +1,5 @@
 -- Courses that ask for the same names.
-use Rattle.std.proofs.Common.{◌≡◌, ◌⊎◌, ℕ, List, [], ◌∷◌, ◌++◌, inl, inr, refl, sym, ap, subst, ◌∙◌, append-nil}
+use Rattle.std.proofs.Common.{◌≡◌, ℕ, List, [], ◌∷◌, ◌++◌, inl, inr, refl, sym, ap, subst, ◌∙◌, append-nil}
 use Rattle.std.proofs.lemmas.List.{append_assoc}
 use Rattle.esto_course.specs.Agreement.{AskAlike, Begins, IsEnd}
 use Rattle.esto_course.specs.Course.{Course, Names, Point, AsksLater, and_then, asks_nothing, asks_once, asks_in_turn, asking_nothing, asking_once}
@@ -68,6 +68,25 @@ module _ {E A : Type 0} (caused : E → Type 0) (Goes Others : A → Type 0) (St
     other_begins = λ names all point end is_end here there.
         once_begins Others OtherStops name names all point (once_is Goes Stops caused name all end is_end there) here;
   }
+
+-- ---- fewer errors that have a cause
+
+fewer_ends : {E A : Type 0} (caused wider : E → Type 0) → ((error : E) → caused error → wider error) → (point : Point E A) → IsEnd caused point
+    → IsEnd wider point
+fewer_ends caused wider more (went value) is_end = tt
+fewer_ends caused wider more (stopped error) is_end = more error is_end
+fewer_ends caused wider more underway is_end = absurd is_end
+
+-- what courses ask alike up to the ends with more causes, they ask alike up to those with fewer
+pub fewer_alike : {E A : Type 0} (caused wider : E → Type 0) (course other : Course E A) → ((error : E) → caused error → wider error)
+    → AskAlike wider course other
+    → AskAlike caused course other
+fewer_alike caused wider course other more alike = record {
+  one = λ names others end other_end is_end is_other here there.
+      alike.one names others end other_end (fewer_ends caused wider more end is_end) (fewer_ends caused wider more other_end is_other) here there;
+  begins = λ names all point end is_end here there. alike.begins names all point end (fewer_ends caused wider more end is_end) here there;
+  other_begins = λ names all point end is_end here there. alike.other_begins names all point end (fewer_ends caused wider more end is_end) here there;
+}
 
 -- ---- one step, and then what follows
 

@@ -1,5 +1,7 @@
 pub mod Steps
 pub mod AskedSteps
+pub mod FileSteps
+pub mod LoopSteps
 pub mod OpeningLemmas
 pub mod FragmentLemmas
 pub mod LeadLemmas
@@ -7,3 +9,4 @@ pub mod AgreeLemmas
 pub mod StoreLemmas
 pub mod AlikeLemmas
 pub mod RefusalLemmas
+pub mod UnionLemmas

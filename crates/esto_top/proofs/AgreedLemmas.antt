@@ -40,14 +40,16 @@ use Rattle.esto_opening.specs.declared.status.Status.{Status}
 use Rattle.esto_opening.specs.declared.status.Status.TheVariants as status
 use Rattle.esto_opening.proofs.RefusalLemmas.{Refuses, catalogue_refuses, fragments_refuse, gives_refuses, judges_refuses, query_refuses, then_refuses}
 use Rattle.esto_top.specs.DataOutcomes.{OutcomesAgree}
-use Rattle.esto_top.specs.Listing.{IsListOf}
 use Rattle.esto_top.specs.Outcome.{Says, reply_status, reply_text}
 use Rattle.esto_top.specs.Outcome.Says.{replies, refuses}
-use Rattle.esto_top.specs.Run.{HasNoPlace, IsRunText, run_course, runs_end, runs_item, runs_query}
-use Rattle.esto_top.specs.Run.HasNoPlace.{is_empty, is_above}
-use Rattle.esto_top.proofs.RunLemmas.{item_of, same_rows, uses_only}
+use Rattle.esto_top.specs.Run.{IsRunText, run_course, runs_end, runs_item, runs_query}
+use Rattle.esto_planning.specs.Choice.HasNoPlace.{is_empty, is_above}
+use Rattle.esto_top.proofs.RunLemmas.{same_rows, uses_only}
 use Rattle.esto_top.proofs.RunsLemmas.{RunGoes, content_cases, same_texts, over_same, query_runs, run_words}
 use Rattle.esto_top.proofs.RunsLemmas.RunGoes.{is_run, has_clash}
+use Rattle.esto_planning.specs.Choice.{HasNoPlace}
+use Rattle.esto_planning.specs.Laws.{ItemIsListed}
+use Rattle.esto_planning.specs.Listing.{IsListOf}
 
 -- ---- no run stops with Done
 
@@ -127,6 +129,7 @@ pub record AgreementLaws : Type 0 where
   pub rows : AgreeingAnswersAreOne
   pub rising : RisingRowsAreOne
   pub named : ChosenAreNamed
+  pub item : ItemIsListed
 
 module _ (laws : AgreementLaws) (files : Files) (catalogue_name query_name : List ℕ) (catalogue : Catalogue) (query : Query) (number : Option ℕ)
     (audited : AreAudited files catalogue_name catalogue) (reads : (opens_query (Some files) query_name catalogue).goes query) where
@@ -149,12 +152,12 @@ module _ (laws : AgreementLaws) (files : Files) (catalogue_name query_name : Lis
 
     query_texts : HaveTextsOnly (IsAnswerOfFacts query audited.facts)
     query_texts = laws.texts (rules_of catalogue.rules) (views_of catalogue.fragments) (patterns_of catalogue.fragments) (query_of query) (plan_query plan)
-        item.set catalogue.stores audited.contents (database_of audited.facts) (item_of catalogue query plan items list place item there).set.0 audited.agree
+        item.set catalogue.stores audited.contents (database_of audited.facts) (laws.item catalogue query plan items place item list there).set.0 audited.agree
 
     rows_are : AreTextsOf (IsAnswerOfFacts query audited.facts) over_audited.rows
     rows_are = (laws.rows (rules_of catalogue.rules) (views_of catalogue.fragments) (patterns_of catalogue.fragments) (query_of query) (plan_query plan)
         item.set catalogue.stores audited.contents (database_of audited.facts) over_audited.rows
-        (item_of catalogue query plan items list place item there).set.0 audited.agree).1 (over_audited.exact, over_audited.rising)
+        (laws.item catalogue query plan items place item list there).set.0 audited.agree).1 (over_audited.exact, over_audited.rising)
 
     texts_agree : (other : List ℕ) → PrintsAnswersOfFacts query audited.facts other → other ≡ text
     texts_agree other (rows, are, is) =

@@ -1,10 +1,11 @@
 -- The course of `bench`: it agrees with itself, and says exactly the summary.
-use Rattle.std.proofs.Common.{◌≡◌, ℕ, Bool, true, false, List, [], ◌∷◌, Option, refl, sym, ap, subst, ◌∙◌, inl, inr}
+use Rattle.std.proofs.Common.{◌≡◌, ℕ, Bool, true, false, List, [], ◌∷◌, Option, Result, refl, sym, ap, subst, ◌∙◌, inl, inr}
 use Rattle.std.specs.Prelude.{codes}
 use Rattle.esto_bench.specs.Case.{made_database, made_names, made_patterns, made_query, made_views, made_weights}
 use Rattle.esto_bench.specs.Summary.{IsSummaryOfCase, SummariesAreOne, summary_text}
 use Rattle.esto_bench.specs.declared.summary.Summary.{Summary}
-use Rattle.esto_course.specs.Course.{and_then, judges, gives}
+use Rattle.esto_course.specs.Course.{Names, and_then, judges, gives}
+use Rattle.esto_course.proofs.Asking.{quiet_gives, quiet_judges, quiet_then}
 use Rattle.esto_course.proofs.Determined.{then_agree, gives_agree, judges_agree}
 use Rattle.esto_ports.specs.Files.{Files}
 use Rattle.esto_semantics.specs.Rules.{AreRules}
@@ -16,7 +17,11 @@ use Rattle.esto_top.specs.Outcome.{Mediates, Says, reply_status, reply_text}
 use Rattle.esto_top.specs.Outcome.Mediates.{whole, cut, memory as nothing}
 use Rattle.esto_top.specs.Outcome.Says.{replies, refuses}
 use Rattle.esto_opening.specs.declared.reply.Reply.TheVariants.{Done}
+use Rattle.esto_opening.specs.declared.reply.Reply.{Reply}
 use Rattle.esto_opening.specs.declared.status.Status.{Status}
+use Rattle.esto_opening.specs.Answers.{Answers}
+use Rattle.esto_opening.specs.Asked.{AsksIn}
+use Rattle.esto_opening.proofs.AskedSteps.{quiet_asks}
 use Rattle.esto_opening.specs.Calm.{AgreeCalmly}
 
 no_rules : AreRules []
@@ -36,6 +41,12 @@ pub bench_goes : (size : ℕ) (summary : Summary) (text : List ℕ) → IsSummar
     → (bench_course size).goes (Done text)
 unfolding and_then judges gives
 bench_goes size summary text is text_is = (summary, is, ap Done text_is)
+
+-- it asks for nothing
+pub bench_asks : (size : ℕ) (told : Option Names) (result : Result Reply Status) → Answers (bench_course size) ⊥ result
+    → AsksIn told told (bench_course size) result
+bench_asks size told result = quiet_asks (bench_course size) told result
+    (quiet_then _ _ (quiet_judges _ _) (λ summary. quiet_gives Status (Done (summary_text summary))))
 
 bench_words : (words : List (List ℕ)) (files : Option Files) (word : List ℕ) → is_made_size word ≡ true → words ≡ codes "bench" ∷ word ∷ []
     → course_of words files ≡ bench_course (value_of word)

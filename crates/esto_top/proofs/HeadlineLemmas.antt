@@ -7,46 +7,39 @@ use Rattle.esto_catalog.specs.Reading.{IsCatalogueOf}
 use Rattle.esto_catalog.specs.declared.catalogue.Catalogue.{Catalogue}
 use Rattle.esto_backchase.specs.Listing.{ListedCoverRewritings}
 use Rattle.esto_chase_laws.specs.declared.clash.Clash.{Clash}
-use Rattle.esto_constraint.specs.Constraints.{rule_of, rules_of}
-use Rattle.esto_constraint.specs.declared.rule.Constraint.{Constraint}
+use Rattle.esto_constraint.specs.Constraints.{rules_of}
 use Rattle.esto_list.specs.Items.{sets_of, totals_of}
 use Rattle.esto_list.specs.declared.listing.Listed.{Listed}
 use Rattle.esto_ports.specs.Files.{Files}
 use Rattle.esto_query.specs.Making.{query_of}
-use Rattle.esto_query.specs.Soundness.{IsSound}
 use Rattle.esto_query.specs.declared.query.Query.{Query}
-use Rattle.esto_read.specs.Readings.{HaveOneReading, HaveNoFault}
-use Rattle.esto_semantics.specs.Instances.{IsUniversalFor}
+use Rattle.esto_read.specs.Readings.{HaveNoFault}
 use Rattle.esto_semantics.specs.Listed.{chosen, IsWeight}
 use Rattle.esto_semantics.specs.ListedLaws.{AreWeights, NoRewritingExists, PickWeighsLeastOfAll}
 use Rattle.esto_semantics.specs.Plans.{IsUniversalPlan}
-use Rattle.esto_semantics.specs.Queries.{ConjunctiveQuery}
 use Rattle.esto_semantics.specs.Rewritings.{IsPlanFor}
-use Rattle.esto_semantics.specs.Rules.{AreRules, IsRule}
-use Rattle.esto_core.specs.PrintedLaws.{PrintedIsSatisfiable, PrintedPlanReceivesUnions, PrintedPlanIsUniversal, PrintedCoreHasNoRetract, PrintedCoreIsOneForAQuery}
-use Rattle.esto_universal.specs.PlannedLaws.{ClashedIsUnsatisfiable}
 use Rattle.esto_views.specs.Fragments.{views_of, patterns_of, weights_of}
 use Rattle.esto_views.specs.Plans.{plan_query}
-use Rattle.esto_views.specs.Soundness.{IsSoundPlan}
 use Rattle.esto_views.specs.declared.plan.Plan.{Plan}
 use Rattle.esto_course.specs.Course.{gives}
 use Rattle.esto_top.specs.Headline.{FilesSay, HasAnswers, PrintsExactly, IsExactList, IsExactRefusal, IsEmptyWithoutRewriting, SaidOfLists, OutcomesAreLists, OutcomesAreRefusals, HoldsOfLists}
 use Rattle.esto_opening.specs.Line.{line_of}
-use Rattle.esto_top.specs.List.{plans_query, lists_query, list_course}
-use Rattle.esto_top.specs.Listing.{IsClash, IsListing, IsListOf, IsPlanned}
+use Rattle.esto_top.specs.List.{lists_query, list_course}
 use Rattle.esto_top.specs.Outcome.{Says, CompleteWhereTold, reply_status, reply_text}
 use Rattle.esto_top.specs.Grammar.{course_of}
 use Rattle.esto_opening.specs.declared.reply.Reply.{Reply}
 use Rattle.esto_opening.specs.declared.reply.Reply.TheVariants.{Done}
 use Rattle.esto_opening.specs.declared.status.Status.{Status}
 use Rattle.esto_opening.specs.declared.status.Status.TheVariants as status
-use Rattle.esto_top.proofs.AlikeLemmas.{planned_moved, clash_moved, listing_moved}
-use Rattle.esto_top.proofs.FormLemmas.{plan_form}
+use Rattle.esto_opening.specs.Alike.{QueriesOpenAlike}
+use Rattle.esto_top.proofs.LawRecords.{PlanningLaws}
 use Rattle.esto_opening.specs.Calm.{Leads}
 use Rattle.esto_opening.proofs.LeadLemmas.{then-leads, leads-more, gives-leads, judges-leads}
 use Rattle.esto_top.proofs.LeadLemmas.{says-leads}
-use Rattle.esto_top.proofs.RuleLemmas.{are_rules}
 use Rattle.esto_top.proofs.SayLemmas.{IsQueryOf, catalogue_leads, query_leads, same_as_read}
+use Rattle.esto_planning.specs.Listing.{IsClash, IsListOf, IsListing, IsPlanned}
+use Rattle.esto_planning.specs.Laws.{ClashExcludesAnswers, CoreHasNoRetract, CoreIsOnly, PlanHasForm, PlanIsUniversal, PlanTellsAnswers}
+use Rattle.esto_planning.specs.Planning.{plans_query}
 
 -- ---- the items
 
@@ -63,48 +56,29 @@ no_item (item ∷ items) none = absurd (cc)
 
 -- ---- the text
 
--- the laws of runs, of their plans and of listed sets
+-- the laws of plans and of listed sets
 pub record ListingLaws : Type 0 where
-  pub queries : (query : Query) → IsSound query.head query.body query.names
-  pub rules : (constraint : Constraint) → IsRule (rule_of constraint)
-  pub satisfiable : PrintedIsSatisfiable
-  pub unsatisfiable : ClashedIsUnsatisfiable
-  pub sound : (plan : Plan) → IsSoundPlan plan.atoms plan.head plan.names
-  pub own : (query : ConjunctiveQuery) → IsUniversalFor [] query query
-  pub unions : PrintedPlanReceivesUnions
-  pub universal : PrintedPlanIsUniversal
-  pub core : PrintedCoreHasNoRetract
-  pub only_core : PrintedCoreIsOneForAQuery
+  pub planning : PlanningLaws
+  pub form : PlanHasForm
+  pub universal : PlanIsUniversal
+  pub core : CoreHasNoRetract
+  pub only_core : CoreIsOnly
+  pub satisfiable : PlanTellsAnswers
+  pub unsatisfiable : ClashExcludesAnswers
   pub covers : ListedCoverRewritings
   pub none : NoRewritingExists
   pub lightest : PickWeighsLeastOfAll
 
 module _ (laws : ListingLaws) (catalogue : Catalogue) (query : Query) where
-  rules_are : AreRules (rules_of catalogue.rules)
-  rules_are = are_rules laws.rules catalogue.rules
-
-  -- a clash excludes answers
-  pub clash_excludes : (clash : Clash) → IsClash catalogue query clash → ¬ (HasAnswers catalogue query)
-  clash_excludes clash = laws.unsatisfiable (rules_of catalogue.rules) (query_of query) clash rules_are (laws.queries query).query
-
   module _ (plan : Plan) (planned : IsPlanned catalogue query plan) where
-    -- a plan tells that there are answers
-    pub plan_tells : HasAnswers catalogue query
-    plan_tells =
-        laws.satisfiable catalogue.core (rules_of catalogue.rules) (views_of catalogue.fragments) query.names (query_of query) plan rules_are
-        (laws.queries query).query planned
-
     is_for : IsPlanFor (query_of query) (plan_query plan)
-    is_for =
-        plan_form (λ it. (laws.own it).maps) (rules_of catalogue.rules) (views_of catalogue.fragments) (query_of query) plan (laws.sound plan)
-        (laws.unions catalogue.core (rules_of catalogue.rules) (views_of catalogue.fragments) query.names (query_of query) plan rules_are
-        (laws.queries query).query planned)
-        plan_tells
+    is_for = laws.form catalogue query plan planned
 
     universal : IsUniversalPlan (rules_of catalogue.rules) (views_of catalogue.fragments) (query_of query) (plan_query plan)
-    universal =
-        laws.universal catalogue.core (rules_of catalogue.rules) (views_of catalogue.fragments) query.names (query_of query) plan rules_are
-        (laws.queries query).query planned
+    universal = laws.universal catalogue query plan planned
+
+    plan_tells : HasAnswers catalogue query
+    plan_tells = laws.satisfiable catalogue query plan planned
 
     -- the list is empty exactly where there is no executable rewriting
     pub empty-without : (items : List Listed) → IsListOf catalogue query plan items → IsEmptyWithoutRewriting catalogue query items
@@ -127,11 +101,8 @@ module _ (laws : ListingLaws) (catalogue : Catalogue) (query : Query) where
             list = listing.list;
             printed = listing.printed;
             universal = universal;
-            core = λ asked.
-                laws.core catalogue.core (rules_of catalogue.rules) (views_of catalogue.fragments) query.names (query_of query) plan asked planned;
-            only_core = λ asked.
-                laws.only_core catalogue.core (rules_of catalogue.rules) (views_of catalogue.fragments) query.names (query_of query) plan rules_are
-                (laws.queries query).query asked planned;
+            core = laws.core catalogue query plan planned;
+            only_core = laws.only_core catalogue query plan planned;
             complete = λ other rewriting.
                 laws.covers (rules_of catalogue.rules) (views_of catalogue.fragments) (patterns_of catalogue.fragments) (query_of query) (plan_query plan)
                 other (sets_of listing.items) is_for.flat_body universal plan_tells listing.list.sets rewriting;
@@ -170,7 +141,7 @@ record HasRefused (catalogue_bytes query_bytes : List ℕ) (refusal : Status) : 
   clashes : IsClash catalogue query clash
   refusal_is : refusal ≡ status.Unsatisfiable clash
 
-module _ (sound : CataloguesAreSound) (one : HaveOneCatalogue) (apart : HaveNoError) (one_reading : HaveOneReading) (no_fault : HaveNoFault)
+module _ (sound : CataloguesAreSound) (one : HaveOneCatalogue) (apart : HaveNoError) (queries : QueriesOpenAlike) (no_fault : HaveNoFault)
     (files : Files) (catalogue_name query_name : List ℕ) (catalogue : Catalogue) (query : Query)
     (say : FilesSay files catalogue_name query_name catalogue query) where
   abbrev Printed : Reply → Type 0
@@ -212,8 +183,8 @@ module _ (sound : CataloguesAreSound) (one : HaveOneCatalogue) (apart : HaveNoEr
 
   list_leads : Leads (list_course (Some files) catalogue_name query_name) Printed Refused
   list_leads =
-      then-leads _ _ _ _ _ (catalogue_leads sound one apart one_reading no_fault files catalogue_name query_name catalogue query say Refused) (λ other is_other.
-      then-leads _ _ _ _ _ (query_leads sound one apart one_reading no_fault files catalogue_name query_name catalogue query say other is_other Refused)
+      then-leads _ _ _ _ _ (catalogue_leads sound one apart queries no_fault files catalogue_name query_name catalogue query say Refused) (λ other is_other.
+      then-leads _ _ _ _ _ (query_leads sound one apart queries no_fault files catalogue_name query_name catalogue query say other is_other Refused)
       (λ read is_query.
       then-leads _ _ _ _ _ (text_leads other is_other read is_query) (λ text has_text. reply_leads other is_other read is_query text has_text)))
 
@@ -222,12 +193,12 @@ module _ (sound : CataloguesAreSound) (one : HaveOneCatalogue) (apart : HaveNoEr
     printed_exact : (reply : Reply) → Printed reply → HasAnswers catalogue query × IsExactList catalogue query (reply_status reply) (reply_text reply)
     printed_exact reply run =
         let alike = one say.catalogue_bytes catalogue run.catalogue say.is_catalogue run.is_catalogue in
-        let same = same_as_read sound one apart one_reading no_fault files catalogue_name query_name catalogue query say
+        let same = same_as_read sound one apart queries no_fault files catalogue_name query_name catalogue query say
         run.catalogue run.is_catalogue run.query run.is_query in
         let plan = run.has_text.plan in
-        let planned = planned_moved catalogue run.catalogue alike query run.query same plan run.has_text.planned in
-        let listing = listing_moved catalogue run.catalogue alike query run.query same plan run.text run.has_text.listing in (
-          plan_tells laws catalogue query plan planned,
+        let planned = laws.planning.plan_moved catalogue run.catalogue query run.query plan alike same run.has_text.planned in
+        let listing = laws.planning.text_moved catalogue run.catalogue query run.query plan run.text alike same run.has_text.listing in (
+          laws.satisfiable catalogue query plan planned,
           (
             ap reply_status run.reply_is,
             subst (PrintsExactly catalogue query) (sym (ap reply_text run.reply_is)) (prints-exactly laws catalogue query plan planned run.text listing),
@@ -239,10 +210,10 @@ module _ (sound : CataloguesAreSound) (one : HaveOneCatalogue) (apart : HaveNoEr
         → ¬ (HasAnswers catalogue query) × IsExactRefusal catalogue query said text
     refused_exact said text run text_is =
         let alike = one say.catalogue_bytes catalogue run.catalogue say.is_catalogue run.is_catalogue in
-        let same = same_as_read sound one apart one_reading no_fault files catalogue_name query_name catalogue query say
+        let same = same_as_read sound one apart queries no_fault files catalogue_name query_name catalogue query say
         run.catalogue run.is_catalogue run.query run.is_query in
-        let clashes = clash_moved catalogue run.catalogue alike query run.query same run.clash run.clashes in
-        (clash_excludes laws catalogue query run.clash clashes, (run.clash, clashes, run.refusal_is, text_is ∙ ap line_of run.refusal_is))
+        let clashes = laws.planning.clash_moved catalogue run.catalogue query run.query run.clash alike same run.clashes in
+        (laws.unsatisfiable catalogue query run.clash clashes, (run.clash, clashes, run.refusal_is, text_is ∙ ap line_of run.refusal_is))
 
     module _ (said : Status) (text : List ℕ) (says : Says (list_course (Some files) catalogue_name query_name) ⊥ said text) where
       -- a satisfiable query has its exact list
@@ -264,18 +235,18 @@ module _ (sound : CataloguesAreSound) (one : HaveOneCatalogue) (apart : HaveNoEr
 
 -- ---- the outcomes
 
-module _ (sound : CataloguesAreSound) (one : HaveOneCatalogue) (apart : HaveNoError) (one_reading : HaveOneReading) (no_fault : HaveNoFault)
+module _ (sound : CataloguesAreSound) (one : HaveOneCatalogue) (apart : HaveNoError) (queries : QueriesOpenAlike) (no_fault : HaveNoFault)
     (laws : ListingLaws) where
   pub outcomes_are_lists : OutcomesAreLists
   outcomes_are_lists words files catalogue_name query_name catalogue query said text asks say outcome =
-      exact_list sound one apart one_reading no_fault files catalogue_name query_name catalogue query say laws said text
+      exact_list sound one apart queries no_fault files catalogue_name query_name catalogue query say laws said text
       (subst (λ it. Says (course_of it (Some files)) ⊥ said text) asks outcome)
 
   pub outcomes_are_refusals : OutcomesAreRefusals
   outcomes_are_refusals words files catalogue_name query_name catalogue query said text asks say outcome = (
-    exact_refusal sound one apart one_reading no_fault files catalogue_name query_name catalogue query say laws said text
+    exact_refusal sound one apart queries no_fault files catalogue_name query_name catalogue query say laws said text
         (subst (λ it. Says (course_of it (Some files)) ⊥ said text) asks outcome),
-    λ refusal. clash_excludes laws catalogue query refusal.0 refusal.1,
+    λ refusal. laws.unsatisfiable catalogue query refusal.0 refusal.1,
   )
 
 -- what is said of each outcome holds of what was put

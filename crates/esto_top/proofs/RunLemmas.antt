@@ -1,14 +1,11 @@
 -- The set that is run, and the text of its rows.
 use Rattle.either.specs.declared.Either.TheVariants.{Left, Right}
-use Rattle.std.proofs.Common.{◌≡◌, ◌↔◌, ◌<◌, ◌≤◌, ◌-◌, ℕ, Bool, List, [], length, All, Contains, slice_get, Option, Some, None, refl, sym, ap, subst, ◌∙◌, arith}
-use Rattle.std.proofs.lemmas.List.{length-map}
-use Rattle.std.proofs.lemmas.Option.{slice_get_within, get_or_from_slice_get}
+use Rattle.std.proofs.Common.{◌≡◌, ◌↔◌, ◌<◌, ◌-◌, ℕ, Bool, List, [], length, Contains, slice_get, Option, Some, refl, ap, subst, ◌∙◌}
+use Rattle.std.proofs.lemmas.Option.{slice_get_within}
 use Rattle.esto_catalog.specs.declared.catalogue.Catalogue.{Catalogue}
 use Rattle.esto_chase_laws.specs.declared.clash.Clash.{Clash}
 use Rattle.esto_course.specs.Course.{Stops, judges, gives, and_then}
-use Rattle.esto_course.specs.Course.Stops.{refused}
 use Rattle.esto_course.proofs.Steps.{caused_more, first_stops, then_goes, then_stops}
-use Rattle.esto_list.specs.Items.{totals_of}
 use Rattle.esto_list.specs.declared.listing.Listed.{Listed}
 use Rattle.esto_ports.specs.Files.{Files}
 use Rattle.esto_query.specs.declared.query.Query.{Query}
@@ -17,79 +14,26 @@ use Rattle.esto_run.specs.Laws.{AnswersAreOverFiles, IsAnswerOver, UsesOnly}
 use Rattle.esto_run.specs.Opened.{AreOpened}
 use Rattle.esto_run.specs.Stores.{IsFileRow}
 use Rattle.esto_run.specs.Used.{AreUsed}
-use Rattle.esto_plan.specs.Planned.{IsSafeOrder}
 use Rattle.esto_plan.specs.Rows.{IsRowOf, held_by}
-use Rattle.esto_semantics.specs.Access.{IsStatedOrder}
-use Rattle.esto_semantics.specs.Listed.{IsPick, candidate}
+use Rattle.esto_semantics.specs.Listed.{candidate}
 use Rattle.esto_semantics.specs.ListedLaws.{ChosenAreNamed}
 use Rattle.esto_semantics.specs.declared.fact.Fact.{Fact}
 use Rattle.esto_stores.specs.Rows.{Row}
 use Rattle.esto_term.specs.declared.term.Term.{Term}
-use Rattle.esto_term.proofs.ListLemmas.{Contains-at, Contains-map, Contains-map_from}
-use Rattle.esto_views.specs.Fragments.{patterns_of}
+use Rattle.esto_term.proofs.ListLemmas.{Contains-at, Contains-map_from}
 use Rattle.esto_views.specs.Plans.{IsPlanOver, fact_of, plan_query}
 use Rattle.esto_views.specs.declared.fragments.FragmentDef.{FragmentDef}
 use Rattle.esto_views.specs.declared.plan.Plan.{Plan}
 use Rattle.esto_opening.specs.Answers.{IsWant, IsCaused}
 use Rattle.esto_opening.specs.Fragments.{opens_fragments}
-use Rattle.esto_top.specs.Listing.{IsClash, IsListOf, IsPlanned}
 use Rattle.esto_opening.specs.Opening.{opens_catalogue, opens_query}
-use Rattle.esto_top.specs.Run.{IsItemOf, IsPlace, IsRunText, chooses, ends_query, lists_plan, runs_end, run_course, runs_item, runs_plan, runs_query}
-use Rattle.esto_top.specs.Run.HasNoPlace.{is_empty, is_above}
+use Rattle.esto_top.specs.Run.{IsRunText, runs_end, run_course, runs_item, runs_plan, runs_query}
 use Rattle.esto_opening.specs.declared.reply.Reply.{Reply}
 use Rattle.esto_opening.specs.declared.reply.Reply.TheVariants.{Done, Unsatisfiable}
 use Rattle.esto_opening.specs.declared.status.Status.{Status}
-use Rattle.esto_opening.specs.declared.status.Status.TheVariants.{NoRewriting, NoSuchNumber}
 use Rattle.esto_opening.proofs.Steps.{caused_weaker}
-
--- ---- the choice
-
-module _ (items : List Listed) (number : Option ℕ) where
-  pub none_listed : items ≡ [] → Stops IsWant (IsCaused ⊥) (chooses items number) NoRewriting
-  unfolding judges
-  none_listed none = refused (record { cause = tt }) (is_empty none refl)
-
-  pub picked : (pick : ℕ) → number ≡ None → IsPick (totals_of items) pick → (chooses items number).goes pick
-  unfolding judges
-  picked pick none is = subst (λ it. IsPlace items it pick) (sym none) is
-
-  module _ (pick : ℕ) (is_pick : IsPick (totals_of items) pick) where
-    some_listed : 0 < length items
-    some_listed = omega (arith, is_pick.there, length-map items (λ item. item.weight))
-
-    pub above : (asked listed : ℕ) → number ≡ Some asked → listed ≡ length items → listed < asked
-        → Stops IsWant (IsCaused ⊥) (chooses items number) (NoSuchNumber asked listed)
-    unfolding judges
-    above asked listed is length_is less = refused (record { cause = tt })
-        (is_above asked is (λ none. omega (arith, some_listed, ap length none)) (omega (arith, less, length_is)) (ap (NoSuchNumber asked) length_is))
-
-    pub numbered : (asked place : ℕ) → number ≡ Some asked → asked ≤ length items → place ≡ asked - 1 → (chooses items number).goes place
-    unfolding judges
-    numbered asked place is le place_is = subst (λ it. IsPlace items it place) (sym is) (place_is, omega (arith, some_listed, le, place_is))
-
--- the place is one of the list
-pub place_within : (items : List Listed) (number : Option ℕ) (place : ℕ) → (chooses items number).goes place → place < length items
-unfolding judges
-place_within items None place is = omega (arith, is.there, length-map items (λ item. item.weight))
-place_within items (Some number) place is = is.1
-
--- ---- the item
-
-all_at : (P : Listed → Type 0) (items : List Listed) → All P items → (place : ℕ) (item : Listed) → slice_get items place ≡ Some item → P item
-all_at P items all place item is =
-    subst P (get_or_from_slice_get items place item item is) (all place item (slice_get_within items place item is))
-
--- an item of the list has a listed set and its stated order
-pub item_of : (catalogue : Catalogue) (query : Query) (plan : Plan) (items : List Listed) → IsListOf catalogue query plan items → (place : ℕ) (item : Listed)
-    → slice_get items place ≡ Some item → IsItemOf catalogue query plan item
-item_of catalogue query plan items list place item is = record {
-  set = (list.sets.exact item.set).0 (Contains-map (λ it. it.set) items item (Contains-at items place item is));
-  order = all_at (λ it. IsStatedOrder (patterns_of catalogue.fragments) (plan_query plan).body it.set it.order) items list.orders place item is;
-}
-
-pub safe_order : (catalogue : Catalogue) (query : Query) (plan : Plan) (item : Listed) → IsItemOf catalogue query plan item
-    → IsSafeOrder (patterns_of catalogue.fragments) (plan_query plan) item.order
-safe_order catalogue query plan item is = (item.set, is.order.is_order, is.set.0.safe)
+use Rattle.esto_planning.specs.Listing.{IsClash, IsListOf, IsPlanned}
+use Rattle.esto_planning.specs.Planning.{chooses, ends_query, lists_plan}
 
 -- ---- the fragments
 

@@ -15,7 +15,7 @@ use Rattle.esto_list.specs.declared.listing.Listed.{Listed}
 use Rattle.esto_ports.specs.Files.{Files}
 use Rattle.esto_query.specs.Making.{query_of}
 use Rattle.esto_query.specs.declared.query.Query.{Query}
-use Rattle.esto_read.specs.Readings.{HaveOneReading, HaveNoFault}
+use Rattle.esto_read.specs.Readings.{HaveNoFault}
 use Rattle.esto_run.specs.Answers.{rows_text}
 use Rattle.esto_run.specs.Laws.{IsAnswerOver, FilesHoldViewRows, RewritingsAnswerQueries}
 use Rattle.esto_run.specs.Stores.{IsFileRow, IsRowIn}
@@ -26,6 +26,7 @@ use Rattle.esto_semantics.specs.ListedLaws.{ChosenAreNamed}
 use Rattle.esto_semantics.specs.Queries.{ConjunctiveQuery, IsAnswer}
 use Rattle.esto_semantics.specs.Rules.{Meets}
 use Rattle.esto_semantics.specs.declared.fact.Fact.{Fact}
+use Rattle.esto_semantics.specs.declared.fact.Value.{Value}
 use Rattle.esto_semantics.specs.declared.fact.Value.TheVariants.{Text}
 use Rattle.esto_stores.specs.Rows.{Row}
 use Rattle.esto_term.specs.declared.term.Term.{Term}
@@ -39,29 +40,27 @@ use Rattle.esto_opening.specs.Fetch.FetchStops.{fails, is_longer}
 use Rattle.esto_opening.specs.Fragments.{IsStoredAt, content_fault, opens_fragment, opens_next, opens_fragments, with_content, no_contents}
 use Rattle.esto_top.specs.Grammar.{course_of, is_list_number}
 use Rattle.esto_top.specs.Headline.{FilesSay, HasAnswers, Rewrites}
-use Rattle.esto_opening.specs.Fetch.{HasWithin}
-use Rattle.esto_top.specs.Listing.{IsClash, IsListOf, IsPlanned}
 use Rattle.esto_top.specs.Outcome.{Says, CompleteWhereTold, reply_status, reply_text}
-use Rattle.esto_top.specs.Run.{IsPlace, HasNoPlace, IsRunText, runs_query, run_course}
-use Rattle.esto_top.specs.Run.HasNoPlace.{is_empty, is_above}
+use Rattle.esto_top.specs.Run.{IsRunText, runs_query, run_course}
+use Rattle.esto_planning.specs.Choice.HasNoPlace.{is_empty, is_above}
 use Rattle.esto_top.specs.Runs.{AsksRun, IsReadable, CanRun, PrintsAnswers, PrintsRun, IsExactRun, OutcomesAreRuns, RunsWhereTold}
 use Rattle.esto_opening.specs.declared.reply.Reply.{Reply}
 use Rattle.esto_opening.specs.declared.reply.Reply.TheVariants.{Done, Unsatisfiable}
 use Rattle.esto_opening.specs.declared.fragments.TheConstants.{FRAGMENT_LIMIT}
 use Rattle.esto_opening.specs.declared.status.Status.{Status}
 use Rattle.esto_opening.specs.declared.status.Status.TheVariants as status
-use Rattle.esto_top.proofs.AlikeLemmas.{IsSameQuery, planned_moved, clash_moved, list_moved}
-use Rattle.esto_top.proofs.AlikeRunLemmas.{same_file, same_fault, same_rows_text, run_text_moved}
-use Rattle.esto_top.proofs.HeadlineLemmas.{ListingLaws, clash_excludes, plan_tells, empty-without}
+use Rattle.esto_top.proofs.AlikeRunLemmas.{same_rows_text, run_text_moved}
+use Rattle.esto_top.proofs.LawRecords.{OpeningLaws}
+use Rattle.esto_top.proofs.HeadlineLemmas.{ListingLaws, empty-without}
 use Rattle.esto_opening.specs.Calm.{Leads}
-use Rattle.esto_opening.proofs.LeadLemmas.{then-leads, leads-more, gives-leads, judges-leads, fetches-leads}
+use Rattle.esto_opening.proofs.LeadLemmas.{then-leads, leads-more, gives-leads, judges-leads}
 use Rattle.esto_top.proofs.LeadLemmas.{says-leads}
-use Rattle.esto_top.proofs.OneListLemmas.{first_same, rest_same}
-use Rattle.esto_top.proofs.RuleLemmas.{are_rules}
-use Rattle.esto_top.proofs.RunAgreeLemmas.{one_place, no_cause}
-use Rattle.esto_top.proofs.RunLemmas.{item_of, same_rows, uses_only}
-use Rattle.esto_top.proofs.SameListLemmas.{ListLaws, IsSamePlan, items_one}
+use Rattle.esto_top.proofs.RunLemmas.{same_rows, uses_only}
 use Rattle.esto_top.proofs.SayLemmas.{IsQueryOf, catalogue_leads, query_leads, same_as_read}
+use Rattle.esto_opening.specs.Alike.{FragmentOpensAlike, IsSameQuery, QueriesOpenAlike}
+use Rattle.esto_planning.specs.Alike.{IsSamePlan}
+use Rattle.esto_planning.specs.Choice.{HasNoPlace, IsPlace}
+use Rattle.esto_planning.specs.Listing.{IsClash, IsListOf, IsPlanned}
 
 -- ---- the course of a query
 
@@ -77,7 +76,7 @@ module _ (files : Files) (catalogue : Catalogue) (query : Query) (number : Optio
   -- and how it stops: no set is chosen, or a file of the chosen set's is not opened
   pub data RunStops (refusal : Status) : Type 0 where
     none_chosen : (plan : Plan) → IsPlanned catalogue query plan → (items : List Listed) → IsListOf catalogue query plan items
-        → HasNoPlace items number refusal → RunStops refusal
+        → IsCaused ⊥ refusal → HasNoPlace items number refusal → RunStops refusal
     not_opened : (plan : Plan) → IsPlanned catalogue query plan → (items : List Listed) → IsListOf catalogue query plan items → (place : ℕ)
         → IsPlace items number place → (item : Listed) → slice_get items place ≡ Some item → (numbers : List ℕ)
         → AreUsed (plan_query plan).body item.set numbers → IsCaused ⊥ refusal → (opens_fragments (Some files) catalogue numbers).stops refusal
@@ -94,7 +93,7 @@ module _ (files : Files) (catalogue : Catalogue) (query : Query) (number : Optio
   run_stops refusal caused (inl never) = absurd never
   run_stops refusal caused (inr (Right clash, clashes, never)) = absurd never
   run_stops refusal caused (inr (Left plan, planned, inl never)) = absurd never
-  run_stops refusal caused (inr (Left plan, planned, inr (items, list, inl none))) = none_chosen plan planned items list none
+  run_stops refusal caused (inr (Left plan, planned, inr (items, list, inl none))) = none_chosen plan planned items list caused none
   run_stops refusal caused (inr (Left plan, planned, inr (items, list, inr (place, chosen, inl never)))) = absurd never
   run_stops refusal caused (inr (Left plan, planned, inr (items, list, inr (place, chosen, inr (item, there, inl never))))) = absurd never
   run_stops refusal caused (inr (Left plan, planned, inr (items, list, inr (place, chosen, inr (item, there, inr (numbers, used, inl stops)))))) =
@@ -195,23 +194,20 @@ content_cases contents number bytes other = decide (other == number) refl
     decide false is = inr (rw is refl)
 
 -- readable files are opened, over each catalogue that says the same
-module _ (files : Files) (catalogue other : Catalogue) (alike : AreSame catalogue other) where
+module _ (alike_opens : FragmentOpensAlike) (files : Files) (catalogue other : Catalogue) (alike : AreSame catalogue other) where
   abbrev Never : Status → Type 0
   Never refusal = ⊥
 
+  readable_opens : (number : ℕ) (bytes : List ℕ) → IsReadable files catalogue number bytes → (opens_fragment (Some files) catalogue number).goes bytes
+  unfolding fetches judges and_then gives
+  readable_opens number bytes (stored, at, has, none) = (stored, at, (bytes, has, (tt, none, refl)))
+
   read_leads : (number : ℕ) (bytes : List ℕ) → IsReadable files catalogue number bytes
       → Leads (opens_fragment (Some files) other number) (λ got. got ≡ bytes) Never
-  read_leads number bytes (stored, at, has, none) =
-      then-leads _ _ (IsStoredAt other number) _ Never (judges-leads _ _ Never (λ refusal caused never. never)) (λ other_stored other_at.
-      then-leads _ _ (λ got. got ≡ bytes) _ Never
-      (fetches-leads files other_stored.store.file FRAGMENT_LIMIT bytes
-      (subst (λ it. HasWithin files it FRAGMENT_LIMIT bytes)
-      (same_file catalogue other alike number stored other_stored at other_at) has) Never)
-      (λ got is.
-      then-leads _ _ (λ _. content_fault other_stored got ≡ None) _ Never
-      (judges-leads _ _ Never (λ refusal caused (fault, found, said). none-some fault
-      (sym none ∙ ap (content_fault stored) (sym is) ∙ same_fault catalogue other alike number stored other_stored at other_at got ∙ found)))
-      (λ value good. leads-more _ (λ it. it ≡ got) _ Never (λ it same. same ∙ is) (gives-leads got Never))))
+  read_leads number bytes readable =
+      let agree = alike_opens files catalogue other number alike in
+      let opens = readable_opens number bytes readable in
+      record { goes = λ got goes. sym (agree.one bytes got opens goes); stops = λ refusal caused stops. agree.apart bytes refusal caused opens stops }
 
   module _ (want : ℕ → List ℕ) where
     -- the contents of the numbers are the wanted ones, and those of others that were stay so
@@ -270,12 +266,15 @@ same_texts [] [] same = refl
 same_texts [] (text ∷ texts) same = absurd (cc)
 same_texts (text ∷ texts) [] same = absurd (cc)
 same_texts (text ∷ texts) (other ∷ others) same =
-    let first : text ≡ other = one text other (first_same (Text text) (Text other) (map Text texts) (map Text others) same) in
-    let rest : texts ≡ others = same_texts texts others (rest_same (Text text) (Text other) (map Text texts) (map Text others) same) in
+    let first : text ≡ other = one text other (map Text texts) (map Text others) same in
+    let rest : texts ≡ others = same_texts texts others (more (Text text) (Text other) (map Text texts) (map Text others) same) in
     λ i. first i ∷ rest i
   where
-    one : (text other : List ℕ) → Text text ≡ Text other → text ≡ other
-    one text other same = cc
+    one : (text other : List ℕ) (rest others : List Value) → Text text ∷ rest ≡ Text other ∷ others → text ≡ other
+    one text other rest others same = cc
+
+    more : (value other : Value) (rest others : List Value) → value ∷ rest ≡ other ∷ others → rest ≡ others
+    more value other rest others same = cc
 
 -- the answers of a query over files rest on the contents of those that it uses
 pub over_same : (stores : List Store) (contents others : ℕ → List ℕ) (query : ConjunctiveQuery)
@@ -319,7 +318,7 @@ module _ (laws : RunLaws) (catalogue : Catalogue) (query : Query) (plan : Plan) 
 
 -- ---- the whole course
 
-module _ (sound : CataloguesAreSound) (one : HaveOneCatalogue) (apart : HaveNoError) (one_reading : HaveOneReading) (no_fault : HaveNoFault)
+module _ (sound : CataloguesAreSound) (one : HaveOneCatalogue) (apart : HaveNoError) (queries : QueriesOpenAlike) (no_fault : HaveNoFault)
     (files : Files) (catalogue_name query_name : List ℕ) (catalogue : Catalogue) (query : Query)
     (say : FilesSay files catalogue_name query_name catalogue query) (number : Option ℕ) where
   -- what a whole run read, and how it replied or stopped
@@ -339,32 +338,32 @@ module _ (sound : CataloguesAreSound) (one : HaveOneCatalogue) (apart : HaveNoEr
 
   run_leads : Leads (run_course (Some files) catalogue_name query_name number) HasRun HasStopped
   run_leads =
-      then-leads _ _ _ _ _ (catalogue_leads sound one apart one_reading no_fault files catalogue_name query_name catalogue query say HasStopped)
+      then-leads _ _ _ _ _ (catalogue_leads sound one apart queries no_fault files catalogue_name query_name catalogue query say HasStopped)
       (λ other is_other.
-      then-leads _ _ _ _ _ (query_leads sound one apart one_reading no_fault files catalogue_name query_name catalogue query say other is_other HasStopped)
+      then-leads _ _ _ _ _ (query_leads sound one apart queries no_fault files catalogue_name query_name catalogue query say other is_other HasStopped)
       (λ read is_query. let leads = query_runs files other read number in record {
         goes = λ reply goes. record { other = other; is_other = is_other; read = read; is_query = is_query; goes = leads.goes reply goes };
         stops = λ refusal caused stops.
             record { other = other; is_other = is_other; read = read; is_query = is_query; stops = leads.stops refusal caused stops };
       }))
 
-  module _ (laws : ListingLaws) (list_laws : ListLaws) (run_laws : RunLaws) where
+  module _ (laws : ListingLaws) (opening : OpeningLaws) (run_laws : RunLaws) where
     module _ (other : Catalogue) (is_other : IsCatalogueOf say.catalogue_bytes other) (read : Query) (is_query : IsQueryOf other say.query_bytes read) where
       alike : AreSame catalogue other
       alike = one say.catalogue_bytes catalogue other say.is_catalogue is_other
 
       same : IsSameQuery query read
-      same = same_as_read sound one apart one_reading no_fault files catalogue_name query_name catalogue query say other is_other read is_query
+      same = same_as_read sound one apart queries no_fault files catalogue_name query_name catalogue query say other is_other read is_query
 
       module _ (plan : Plan) (planned : IsPlanned other read plan) where
         planned_here : IsPlanned catalogue query plan
-        planned_here = planned_moved catalogue other alike query read same plan planned
+        planned_here = laws.planning.plan_moved catalogue other query read plan alike same planned
 
         answers_here : HasAnswers catalogue query
-        answers_here = plan_tells laws catalogue query plan planned_here
+        answers_here = laws.satisfiable catalogue query plan planned_here
 
         list_here : (items : List Listed) → IsListOf other read plan items → IsListOf catalogue query plan items
-        list_here items list = list_moved catalogue other alike query read same plan items list
+        list_here items list = laws.planning.list_moved catalogue other query read plan items alike same list
 
         empty_here : (items : List Listed) → IsListOf other read plan items
             → (items ≡ []) ↔ ((rewriting : ConjunctiveQuery) → ¬ (Rewrites catalogue query rewriting))
@@ -372,20 +371,23 @@ module _ (sound : CataloguesAreSound) (one : HaveOneCatalogue) (apart : HaveNoEr
 
         module _ (items : List Listed) (list : IsListOf other read plan items) (can : CanRun files catalogue query number) where
           plans : IsSamePlan can.plan plan
-          plans = list_laws.plan catalogue.core (rules_of catalogue.rules) (views_of catalogue.fragments) query.names (query_of query) can.plan plan
-              (are_rules list_laws.rules catalogue.rules) can.planned planned_here
+          unfolding judges
+          plans = (laws.planning.plan catalogue other query read alike same).one can.plan plan can.planned planned
 
           same_list : can.items ≡ items
-          same_list = items_one list_laws catalogue query can.plan plan plans.0 can.items items can.list (list_here items list)
+          unfolding judges
+          same_list = (laws.planning.list catalogue other query read can.plan plan alike same plans).one can.items items can.list list
 
-          chosen_anyway : (refusal : Status) → HasNoPlace items number refusal → ⊥
-          chosen_anyway refusal none = no_cause can.items number can.place refusal can.chosen
+          chosen_anyway : (refusal : Status) → IsCaused ⊥ refusal → HasNoPlace items number refusal → ⊥
+          unfolding judges
+          chosen_anyway refusal caused none = (laws.planning.choice can.items number).apart can.place refusal caused can.chosen
               (subst (λ (it : List Listed). HasNoPlace it number refusal) (sym same_list) none)
 
           module _ (place : ℕ) (chosen : IsPlace items number place) (item : Listed) (there : slice_get items place ≡ Some item) (numbers : List ℕ)
               (used : AreUsed (plan_query plan).body item.set numbers) where
             same_place : can.place ≡ place
-            same_place = one_place list_laws.picks can.items number can.place place can.chosen
+            unfolding judges
+            same_place = (laws.planning.choice can.items number).one can.place place can.chosen
                 (subst (λ (it : List Listed). IsPlace it number place) (sym same_list) chosen)
 
             same_item : can.item ≡ item
@@ -404,17 +406,17 @@ module _ (sound : CataloguesAreSound) (one : HaveOneCatalogue) (apart : HaveNoEr
                 (can.readable atom ((run_laws.named can.item.set (plan_query can.plan).body atom).1 (at.0, at.1.0, at.1.1.1)))
 
             opened_anyway : (refusal : Status) → IsCaused ⊥ refusal → (opens_fragments (Some files) other numbers).stops refusal → ⊥
-            opened_anyway = opened_always files catalogue other alike can.contents numbers readable
+            opened_anyway = opened_always opening.fragment files catalogue other alike can.contents numbers readable
 
             module _ (contents : ℕ → List ℕ) (opened : (opens_fragments (Some files) other numbers).goes contents) (text : List ℕ)
                 (printed : IsRunText other read plan item.set contents text) where
               text_here : IsRunText catalogue query can.plan can.item.set contents text
               text_here = subst (λ (it : Listed). IsRunText catalogue query can.plan it.set contents text) (sym same_item)
-                  (run_text_moved catalogue other alike query read same can.plan plan plans item.set contents text printed)
+                  (run_text_moved opening.rows catalogue other alike query read same can.plan plan plans item.set contents text printed)
 
               same_contents : (atom : Fact Term) → Contains (candidate (plan_query can.plan) can.item.set).body atom
                   → contents atom.relation ≡ can.contents atom.relation
-              same_contents atom inside = opened_wanted files catalogue other alike can.contents numbers readable contents opened atom.relation
+              same_contents atom inside = opened_wanted opening.fragment files catalogue other alike can.contents numbers readable contents opened atom.relation
                   (uses_only run_laws.named can.plan can.item.set numbers used_here atom inside)
 
               text_over : IsRunText catalogue query can.plan can.item.set can.contents text
@@ -427,8 +429,8 @@ module _ (sound : CataloguesAreSound) (one : HaveOneCatalogue) (apart : HaveNoEr
                   )) text_here
 
               prints_exactly : PrintsRun catalogue query can.plan can.item.set can.contents text
-              prints_exactly = run_printed run_laws catalogue query can.plan can.item.set (item_of catalogue query can.plan can.items can.list can.place
-                  can.item can.there).set can.contents text text_over
+              prints_exactly = run_printed run_laws catalogue query can.plan can.item.set (laws.planning.item catalogue query can.plan can.items can.place
+                  can.item can.list can.there).set can.contents text text_over
 
       -- where a set can be run, it is
       runs_reply : (reply : Reply) → RunGoes files other read number reply → (can : CanRun files catalogue query number)
@@ -439,11 +441,11 @@ module _ (sound : CataloguesAreSound) (one : HaveOneCatalogue) (apart : HaveNoEr
             (prints_exactly plan planned items list can place chosen item there numbers used contents opened text printed),
       )
       runs_reply reply (has_clash clash clashes is) can =
-          absurd (clash_excludes laws catalogue query clash (clash_moved catalogue other alike query read same clash clashes)
-          (plan_tells laws catalogue query can.plan can.planned))
+          absurd (laws.unsatisfiable catalogue query clash (laws.planning.clash_moved catalogue other query read clash alike same clashes)
+          (laws.satisfiable catalogue query can.plan can.planned))
 
       never_stops : (refusal : Status) → RunStops files other read number refusal → CanRun files catalogue query number → ⊥
-      never_stops refusal (none_chosen plan planned items list none) can = chosen_anyway plan planned items list can refusal none
+      never_stops refusal (none_chosen plan planned items list caused none) can = chosen_anyway plan planned items list can refusal caused none
       never_stops refusal (not_opened plan planned items list place chosen item there numbers used caused stops) can =
           opened_anyway plan planned items list can place chosen item there numbers used refusal caused stops
 
@@ -454,13 +456,13 @@ module _ (sound : CataloguesAreSound) (one : HaveOneCatalogue) (apart : HaveNoEr
           absurd (none (answers_here plan planned))
       refuses_reply reply (has_clash clash clashes is) none = (
         clash,
-        clash_moved catalogue other alike query read same clash clashes,
+        laws.planning.clash_moved catalogue other query read clash alike same clashes,
         ap reply_status is,
         ap reply_text is ∙ sym (same_rows_text query read same []),
       )
 
       answers_stops : (refusal : Status) → RunStops files other read number refusal → HasAnswers catalogue query
-      answers_stops refusal (none_chosen plan planned items list none) = answers_here plan planned
+      answers_stops refusal (none_chosen plan planned items list caused none) = answers_here plan planned
       answers_stops refusal (not_opened plan planned items list place chosen item there numbers used caused stops) = answers_here plan planned
 
       -- a reply is not NoRewriting, and comes only where there is one
@@ -473,12 +475,12 @@ module _ (sound : CataloguesAreSound) (one : HaveOneCatalogue) (apart : HaveNoEr
       reply_needs reply (is_run plan planned items list place chosen item there numbers used contents opened text printed is) answers none =
           none-some item (sym (ap (λ (it : List Listed). slice_get it place) ((empty_here plan planned items list).1 none)) ∙ there)
       reply_needs reply (has_clash clash clashes is) answers none =
-          clash_excludes laws catalogue query clash (clash_moved catalogue other alike query read same clash clashes) answers
+          laws.unsatisfiable catalogue query clash (laws.planning.clash_moved catalogue other query read clash alike same clashes) answers
 
       stop_tells : (refusal : Status) → RunStops files other read number refusal
           → (refusal ≡ status.NoRewriting) ↔ ((rewriting : ConjunctiveQuery) → ¬ (Rewrites catalogue query rewriting))
-      stop_tells refusal (none_chosen plan planned items list (is_empty none is)) = (λ said. (empty_here plan planned items list).0 none, λ absent. is)
-      stop_tells refusal (none_chosen plan planned items list (is_above asked is_asked some less is)) = (
+      stop_tells refusal (none_chosen plan planned items list caused (is_empty none is)) = (λ said. (empty_here plan planned items list).0 none, λ absent. is)
+      stop_tells refusal (none_chosen plan planned items list caused (is_above asked is_asked some less is)) = (
         λ said. let h : status.NoSuchNumber asked (length items) ≡ status.NoRewriting = sym is ∙ said in absurd (cc),
         λ absent. absurd (some ((empty_here plan planned items list).1 absent)),
       )
@@ -498,7 +500,7 @@ module _ (sound : CataloguesAreSound) (one : HaveOneCatalogue) (apart : HaveNoEr
           refused = (
             λ none. let (clash, clashes, is, header) = refuses_reply run.other run.is_other run.read run.is_query reply run.goes none in
                 (clash, clashes, said_is ∙ is, text_is ∙ header),
-            λ (clash, clashes, is, header). clash_excludes laws catalogue query clash clashes,
+            λ (clash, clashes, is, header). laws.unsatisfiable catalogue query clash clashes,
           );
           no_rewriting = λ answers. (
             λ none. absurd (replies_apart run.other run.is_other run.read run.is_query reply (sym said_is ∙ none)),
@@ -509,7 +511,7 @@ module _ (sound : CataloguesAreSound) (one : HaveOneCatalogue) (apart : HaveNoEr
           runs = λ can. absurd (never_stops stopped.other stopped.is_other stopped.read stopped.is_query said stopped.stops can);
           refused = (
             λ none. absurd (none (answers_stops stopped.other stopped.is_other stopped.read stopped.is_query said stopped.stops)),
-            λ (clash, clashes, is, header). clash_excludes laws catalogue query clash clashes,
+            λ (clash, clashes, is, header). laws.unsatisfiable catalogue query clash clashes,
           );
           no_rewriting = λ answers. stop_tells stopped.other stopped.is_other stopped.read stopped.is_query said stopped.stops;
         }
@@ -529,11 +531,11 @@ run_words words catalogue_name query_name (Some number) files (word, is_number, 
     by_test true test = rw (test, number_is) refl
     by_test false test = let h : false ≡ true = sym test ∙ is_number in absurd (cc)
 
-module _ (sound : CataloguesAreSound) (one : HaveOneCatalogue) (apart : HaveNoError) (one_reading : HaveOneReading) (no_fault : HaveNoFault)
-    (laws : ListingLaws) (list_laws : ListLaws) (run_laws : RunLaws) where
+module _ (sound : CataloguesAreSound) (one : HaveOneCatalogue) (apart : HaveNoError) (queries : QueriesOpenAlike) (no_fault : HaveNoFault)
+    (laws : ListingLaws) (opening : OpeningLaws) (run_laws : RunLaws) where
   pub outcomes_are_runs : OutcomesAreRuns
   outcomes_are_runs words files catalogue_name query_name number catalogue query said text asks say outcome =
-      exact_run sound one apart one_reading no_fault files catalogue_name query_name catalogue query say number laws list_laws run_laws said text
+      exact_run sound one apart queries no_fault files catalogue_name query_name catalogue query say number laws opening run_laws said text
       (subst (λ it. Says it ⊥ said text) (run_words words catalogue_name query_name number (Some files) asks) outcome)
 
 -- what is said of each outcome holds of what was put

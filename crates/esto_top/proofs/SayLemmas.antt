@@ -7,7 +7,7 @@ use Rattle.esto_catalog.specs.declared.fault.CatalogueError.{CatalogueError}
 use Rattle.esto_ports.specs.Files.{Files}
 use Rattle.esto_query.specs.Schemas.{arities_of}
 use Rattle.esto_query.specs.declared.query.Query.{Query}
-use Rattle.esto_read.specs.Readings.{IsReading, IsFirstFault, HaveOneReading, HaveNoFault}
+use Rattle.esto_read.specs.Readings.{IsReading, IsFirstFault, HaveNoFault}
 use Rattle.esto_read.specs.declared.read.Form.TheVariants as form
 use Rattle.esto_read.specs.declared.read.NamedQuery.{NamedQuery}
 use Rattle.esto_read.specs.declared.words.Word.{Word}
@@ -18,10 +18,13 @@ use Rattle.esto_opening.specs.Opening.{status_of, reads_catalogue, opens_catalog
 use Rattle.esto_opening.specs.declared.opening.TheConstants.{CATALOGUE_LIMIT, QUERY_LIMIT}
 use Rattle.esto_opening.specs.declared.status.Status.{Status}
 use Rattle.esto_opening.specs.declared.status.Status.TheVariants as status
-use Rattle.esto_top.proofs.AlikeLemmas.{IsSameQuery, same_reading}
+use Rattle.esto_opening.specs.Fetch.{fetches}
+use Rattle.esto_course.specs.Course.{judges}
+use Rattle.esto_course.proofs.Steps.{then_goes}
 use Rattle.esto_opening.specs.Calm.{Leads}
 use Rattle.esto_opening.proofs.LeadLemmas.{then-leads, judges-leads, fetches-leads}
 use Rattle.esto_opening.proofs.Steps.{never_wanting}
+use Rattle.esto_opening.specs.Alike.{IsSameQuery, QueriesOpenAlike}
 
 -- the query is a reading of the bytes over a catalogue
 abbrev pub IsQueryOf : Catalogue → List ℕ → Query → Type 0
@@ -33,7 +36,7 @@ reading-same : (words others : List Word) (schema other : List ℕ) (bytes : Lis
 reading-same words others schema other bytes named words_are schema_is reading =
     subst (λ it. IsReading form.Query it other bytes named) words_are (subst (λ it. IsReading form.Query words it bytes named) schema_is reading)
 
-module _ (sound : CataloguesAreSound) (one : HaveOneCatalogue) (apart : HaveNoError) (one_reading : HaveOneReading) (no_fault : HaveNoFault)
+module _ (sound : CataloguesAreSound) (one : HaveOneCatalogue) (apart : HaveNoError) (queries : QueriesOpenAlike) (no_fault : HaveNoFault)
     (files : Files) (catalogue_name query_name : List ℕ) (catalogue : Catalogue) (query : Query)
     (say : FilesSay files catalogue_name query_name catalogue query) where
   -- the catalogue is fetched and read
@@ -69,8 +72,13 @@ module _ (sound : CataloguesAreSound) (one : HaveOneCatalogue) (apart : HaveNoEr
         none refusal caused (fault, first, is) =
             no_fault form.Query other.words (arities_of other.schema) say.query_bytes say.named fault (sound other).vocabulary reading first
 
+  query_opens : (it : Catalogue) (made : Query) → IsQueryOf it say.query_bytes made → (opens_query (Some files) query_name it).goes made
+  unfolding fetches judges
+  query_opens it made is = then_goes (fetches (Some files) query_name QUERY_LIMIT) (reads_query it) say.query_bytes made say.has_query is
+
   -- what was read is the catalogue and the query that the files say
   pub same_as_read : (other : Catalogue) → IsCatalogueOf say.catalogue_bytes other → (read : Query) → IsQueryOf other say.query_bytes read
       → IsSameQuery query read
   same_as_read other is_other read is_query =
-      same_reading one_reading (sound other).vocabulary say.query_bytes query read (say.named, reading other is_other, say.query_is) is_query
+      (queries files query_name catalogue other (one say.catalogue_bytes catalogue other say.is_catalogue is_other)).one query read
+      (query_opens catalogue query (say.named, say.is_query, say.query_is)) (query_opens other read is_query)

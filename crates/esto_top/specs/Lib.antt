@@ -1,5 +1,4 @@
 pub mod Check
-pub mod Listing
 pub mod List
 pub mod Run
 pub mod Bench

@@ -1,22 +1,15 @@
 -- The command `list`.
-use Rattle.std.specs.Prelude.{◌≡◌, ℕ, List, Option}
+use Rattle.std.specs.Prelude.{ℕ, List, Option}
 use Rattle.esto_catalog.specs.declared.catalogue.Catalogue.{Catalogue}
-use Rattle.esto_chase_laws.specs.declared.clash.Clash.{Clash}
 use Rattle.esto_ports.specs.Files.{Files}
 use Rattle.esto_query.specs.declared.query.Query.{Query}
 use Rattle.esto_views.specs.declared.plan.Plan.{Plan}
 use Rattle.esto_course.specs.Course.{Course, judges, gives, and_then}
-use Rattle.esto_top.specs.Listing.{IsClash, IsListing, IsPlanned}
 use Rattle.esto_opening.specs.Opening.{opens_catalogue, opens_query}
 use Rattle.esto_opening.specs.declared.reply.Reply.{Reply}
 use Rattle.esto_opening.specs.declared.reply.Reply.TheVariants.{Done}
-use Rattle.esto_opening.specs.declared.status.Status.TheVariants.{Unsatisfiable}
 use Rattle.esto_opening.specs.declared.status.Status.{Status}
-
--- The query has a printed plan, or its run ends with a clash.
-abbrev pub plans_query : Catalogue → Query → Course Status Plan
-plans_query catalogue query =
-    judges (IsPlanned catalogue query) (λ refusal. (clash : Clash) × IsClash catalogue query clash × (refusal ≡ Unsatisfiable clash))
+use Rattle.esto_planning.specs.Listing.{IsListing}
 
 -- The text of the plan's list is made.
 abbrev pub prints_list : Catalogue → Query → Plan → Course Status (List ℕ)

@@ -1,51 +1,27 @@
 -- The command `run`.
-use Rattle.std.specs.Prelude.{◌≡◌, ◌≢◌, ℕ, ◌-◌, ◌<◌, Bool, List, [], length, slice_get, Option, Some, None}
-use Rattle.either.specs.Either.{MatchEither}
+use Rattle.std.specs.Prelude.{◌≡◌, ℕ, Bool, List, [], slice_get, Option, Some}
 use Rattle.either.specs.declared.Either.{Either}
 use Rattle.either.specs.declared.Either.TheVariants.{Left, Right}
 use Rattle.esto_catalog.specs.declared.catalogue.Catalogue.{Catalogue}
 use Rattle.esto_chase_laws.specs.declared.clash.Clash.{Clash}
-use Rattle.esto_constraint.specs.Constraints.{rules_of}
 use Rattle.esto_course.specs.Course.{Course, judges, gives, and_then}
-use Rattle.esto_list.specs.Items.{totals_of}
 use Rattle.esto_list.specs.declared.listing.Listed.{Listed}
 use Rattle.esto_ports.specs.Files.{Files}
-use Rattle.esto_query.specs.Making.{query_of}
 use Rattle.esto_query.specs.declared.query.Query.{Query}
 use Rattle.esto_run.specs.Answers.{IsAnswersText, rows_text}
 use Rattle.esto_run.specs.Laws.{IsAnswerOver}
 use Rattle.esto_run.specs.Stores.{IsFileRow}
 use Rattle.esto_run.specs.Used.{AreUsed}
-use Rattle.esto_semantics.specs.Access.{IsStatedOrder}
-use Rattle.esto_semantics.specs.Listed.{IsListed, IsPick, candidate}
-use Rattle.esto_views.specs.Fragments.{views_of, patterns_of}
+use Rattle.esto_semantics.specs.Listed.{candidate}
 use Rattle.esto_views.specs.Plans.{plan_query}
 use Rattle.esto_views.specs.declared.plan.Plan.{Plan}
 use Rattle.esto_opening.specs.Fragments.{opens_fragments}
-use Rattle.esto_top.specs.Listing.{IsClash, IsListOf, IsPlanned}
 use Rattle.esto_opening.specs.Opening.{opens_catalogue, opens_query}
 use Rattle.esto_opening.specs.declared.reply.Reply.{Reply}
 use Rattle.esto_opening.specs.declared.reply.Reply.TheVariants.{Done, Unsatisfiable}
 use Rattle.esto_opening.specs.declared.status.Status.{Status}
-use Rattle.esto_opening.specs.declared.status.Status.TheVariants.{NoRewriting, NoSuchNumber}
 
--- ---- the set that is run
-
--- The place of the item that is run: the pick, or the place of the item of the number, counted from 1.
-abbrev pub IsPlace : List Listed → Option ℕ → ℕ → Type 0
-IsPlace items None place = IsPick (totals_of items) place
-IsPlace items (Some number) place = (place ≡ number - 1) × (place < length items)
-
--- Why there is none: no set is listed, or the number is above the length of the list.
-pub data HasNoPlace (items : List Listed) (number : Option ℕ) (refusal : Status) : Type 0 where
-  is_empty : items ≡ [] → refusal ≡ NoRewriting → HasNoPlace items number refusal
-  is_above : (asked : ℕ) → number ≡ Some asked → items ≢ [] → length items < asked → refusal ≡ NoSuchNumber asked (length items)
-      → HasNoPlace items number refusal
-
--- The item has a listed set of the plan, and its stated order.
-pub record IsItemOf (catalogue : Catalogue) (query : Query) (plan : Plan) (item : Listed) : Type 0 where
-  pub set : IsListed (rules_of catalogue.rules) (views_of catalogue.fragments) (patterns_of catalogue.fragments) (query_of query) (plan_query plan) item.set
-  pub order : IsStatedOrder (patterns_of catalogue.fragments) (plan_query plan).body item.set item.order
+-- ---- the text
 
 -- The text is that of the answers of the set's candidate over the rows of the fragments' files, each once, in order, under the names of the query's head.
 abbrev pub IsRunText : Catalogue → Query → Plan → List Bool → (ℕ → List ℕ) → List ℕ → Type 0
@@ -53,18 +29,6 @@ IsRunText catalogue query plan set contents text =
     IsAnswersText query (IsAnswerOver (IsFileRow catalogue.stores contents) (candidate (plan_query plan) set)) text
 
 -- ---- the steps
-
--- The query has a printed plan, or its run ends with a clash.
-abbrev pub ends_query : Catalogue → Query → Course Status (Either Plan Clash)
-ends_query catalogue query = judges (λ end. MatchEither end (IsPlanned catalogue query) (IsClash catalogue query)) (λ _. ⊥)
-
--- The plan's list is made.
-abbrev pub lists_plan : Catalogue → Query → Plan → Course Status (List Listed)
-lists_plan catalogue query plan = judges (IsListOf catalogue query plan) (λ _. ⊥)
-
--- The place of the item that is run; or there is none.
-abbrev pub chooses : List Listed → Option ℕ → Course Status ℕ
-chooses items number = judges (IsPlace items number) (HasNoPlace items number)
 
 -- The fragments that the item's set uses are found and their files opened, each once, in rising order of the least number of their atoms in the set; and the
 -- text of the rows is the reply.

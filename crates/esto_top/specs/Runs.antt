@@ -25,12 +25,13 @@ use Rattle.esto_opening.specs.Fragments.{Stored, IsStoredAt, content_fault}
 use Rattle.esto_top.specs.Grammar.{is_list_number, value_of}
 use Rattle.esto_top.specs.Headline.{FilesSay, HasAnswers, HoldsOfPut, Rewrites}
 use Rattle.esto_opening.specs.Fetch.{HasWithin}
-use Rattle.esto_top.specs.Listing.{IsClash, IsListOf, IsPlanned}
 use Rattle.esto_top.specs.Outcome.{Outcome}
-use Rattle.esto_top.specs.Run.{IsPlace, IsRunText}
+use Rattle.esto_top.specs.Run.{IsRunText}
 use Rattle.esto_opening.specs.declared.fragments.TheConstants.{FRAGMENT_LIMIT}
 use Rattle.esto_opening.specs.declared.status.Status.{Status}
 use Rattle.esto_opening.specs.declared.status.Status.TheVariants as status
+use Rattle.esto_planning.specs.Choice.{IsPlace}
+use Rattle.esto_planning.specs.Listing.{IsClash, IsListOf, IsPlanned}
 
 -- ---- the words and the files
 

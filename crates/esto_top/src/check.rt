@@ -67,7 +67,7 @@ fn check_text(alloc: Global, catalogue: &Catalogue) -> Result<Bytes, OutOfMemory
 }
 
 /// Fetches and reads the catalogue, and prints its counts and the ranks of its relations.
-#[tactic(auto, using(crate::proofs::Steps::steps))]
+#[tactic(auto, using(crate::proofs::Steps::steps, crate::proofs::Steps::asked_steps))]
 pub fn check<S: Shelf>(alloc: Global, shelf: &mut S, catalogue: &Text) -> Result<Reply, Status>
     ensures answer { Answers (check_course (S.files shelf.old) catalogue.now)
         (Rises S.faults shelf.old shelf.new) result }

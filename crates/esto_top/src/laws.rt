@@ -8,23 +8,17 @@ ghost use Rattle.esto_top.specs.Runs.{OutcomesAreRuns};
 use esto_backchase::listed_sets_cover_rewritings;
 use esto_bench::summaries_are_one;
 use esto_catalog::{catalogues_are_determined, catalogues_are_sound};
-use esto_constraint::rules_are_sound;
-use esto_core::{
-    printed_cores_are_one_for_a_query, printed_plans_are_one, printed_plans_are_universal,
-    printed_plans_tell_satisfiable_queries,
-};
 use esto_data::{audited_datasets_answer, data_outcomes_are_exact, data_outcomes_are_one};
 use esto_fill::agreeing_answers_are_one;
-use esto_query::queries_are_sound;
+use esto_opening::openings_are_one;
+use esto_planning::{
+    chosen_items_are_listed, planned_plans_are_universal, planned_plans_have_their_form,
+    plans_and_lists_are_moved, plans_and_lists_are_one,
+};
 use esto_read::readings_are_determined;
 use esto_reasoning::{reasoning_outcomes_are_exact, reasoning_outcomes_are_one};
 use esto_run::{rewritings_answer_queries, rising_rows_are_one, used_fragments_are_one};
-use esto_semantics::{
-    chosen_atoms_are_named, listed_sets_are_minimal, picks_exist, queries_are_their_own_instances,
-    stated_orders_exist, weights_exist,
-};
-use esto_universal::{plans_tell_satisfiable_queries, runs_have_one_outcome};
-use esto_views::plans_are_sound;
+use esto_semantics::{chosen_atoms_are_named, listed_sets_are_minimal, picks_exist};
 
 /// A law: where the files say a catalogue and a query over it, each outcome of `list` prints a universal plan of the query
 /// and exactly its listed sets, which every executable rewriting maps onto a superset of, or refuses the query. It prints
@@ -35,15 +29,13 @@ pub(crate) fn lists_are_exact()
 {
     catalogues_are_sound();
     catalogues_are_determined();
-    queries_are_sound();
-    rules_are_sound();
     readings_are_determined();
-    plans_tell_satisfiable_queries();
-    printed_plans_tell_satisfiable_queries();
-    printed_plans_are_universal();
-    printed_cores_are_one_for_a_query();
-    plans_are_sound();
-    queries_are_their_own_instances();
+    openings_are_one();
+    planned_plans_are_universal();
+    planned_plans_have_their_form();
+    chosen_items_are_listed();
+    plans_and_lists_are_moved();
+    plans_and_lists_are_one();
     listed_sets_cover_rewritings();
     listed_sets_are_minimal();
     picks_exist();
@@ -57,24 +49,16 @@ pub(crate) fn runs_are_exact()
 {
     catalogues_are_sound();
     catalogues_are_determined();
-    queries_are_sound();
-    rules_are_sound();
     readings_are_determined();
-    plans_tell_satisfiable_queries();
-    printed_plans_tell_satisfiable_queries();
-    printed_plans_are_universal();
-    printed_cores_are_one_for_a_query();
-    plans_are_sound();
-    queries_are_their_own_instances();
+    openings_are_one();
+    planned_plans_are_universal();
+    planned_plans_have_their_form();
+    chosen_items_are_listed();
+    plans_and_lists_are_moved();
+    plans_and_lists_are_one();
     listed_sets_cover_rewritings();
     listed_sets_are_minimal();
-    stated_orders_exist();
-    weights_exist();
     picks_exist();
-    runs_have_one_outcome();
-    printed_plans_are_one();
-    used_fragments_are_one();
-    rising_rows_are_one();
     rewritings_answer_queries();
     chosen_atoms_are_named();
 }
@@ -83,16 +67,10 @@ pub(crate) fn runs_are_exact()
 pub fn outcomes_are_determined()
     ensures { OutcomesAreDetermined }
 {
-    catalogues_are_sound();
-    catalogues_are_determined();
-    rules_are_sound();
-    readings_are_determined();
-    runs_have_one_outcome();
-    printed_plans_are_one();
-    listed_sets_are_minimal();
-    stated_orders_exist();
-    weights_exist();
-    picks_exist();
+    openings_are_one();
+    chosen_items_are_listed();
+    plans_and_lists_are_moved();
+    plans_and_lists_are_one();
     used_fragments_are_one();
     rising_rows_are_one();
     summaries_are_one();
@@ -124,6 +102,7 @@ pub(crate) fn reasoning_outcomes_hold()
 pub fn answers_agree_with_runs()
     ensures { OutcomesAgree }
 {
+    chosen_items_are_listed();
     audited_datasets_answer();
     agreeing_answers_are_one();
     rising_rows_are_one();

@@ -3,47 +3,27 @@ ghost use Rattle.std.specs.Prelude.{◌≡◌, ◌≤◌};
 ghost use Rattle.esto_ports.specs.Faults.{Rises};
 ghost use Rattle.esto_opening.specs.Answers.{Answers};
 ghost use Rattle.esto_opening.specs.Asked.{AsksIn};
-ghost use Rattle.esto_top.specs.Listing.{IsPlanned, IsClash};
-ghost use Rattle.esto_top.specs.Run.{chooses, IsItemOf, runs_item, runs_plan, runs_query, run_course};
+ghost use Rattle.esto_top.specs.Run.{runs_item, runs_plan, runs_query, run_course};
 ghost use Rattle.esto_opening.specs.declared.reply.Reply.TheVariants as reply;
 ghost use Rattle.esto_run.specs.Answers.{rows_text};
 ghost use Rattle.std.specs.Prelude.{IfOk, []};
+ghost use Rattle.esto_planning.specs.Choice.{IsItemOf};
+ghost use Rattle.esto_planning.specs.Listing.{IsPlanned};
 
-use crate::list::listing_of;
 use either::{Left, Right};
-use esto_catalog::{Catalogue, catalogues_are_sound};
+use esto_catalog::Catalogue;
 use esto_chase::Clash;
-use esto_constraint::rules_are_sound;
-use esto_core::{
-    printed_plan, printed_plans_are_over_fragments, printed_plans_are_universal,
-    printed_plans_tell_satisfiable_queries,
-};
-use esto_list::{Listed, Listing};
+use esto_core::printed_plan;
+use esto_list::Listed;
 use esto_opening::{Reply, Status, open_catalogue, open_fragments, open_query};
+use esto_planning::{choose, chosen_items_are_listed, listing_of, planned_plans_have_their_form};
 use esto_ports::Shelf;
-use esto_query::{Query, queries_are_sound};
+use esto_query::Query;
 use esto_run::{answers_are_over_files, answers_text, fragments_of_set, run_text};
-use esto_semantics::{chosen_atoms_are_named, queries_are_their_own_instances};
+use esto_semantics::chosen_atoms_are_named;
 use esto_term::{List, OutOfMemory, Text};
-use esto_views::{Plan, plans_are_sound};
+use esto_views::Plan;
 use std::alloc::Global;
-
-// The place of the item of the list that is run: the pick, or that of the number, counted from 1.
-fn choose(listing: &Listing, number: Option<u64>) -> Result<usize, Status>
-    ensures { Answers (chooses listing.now number) ⊥ result }
-{
-    let Some(pick) = listing.pick() else {
-        return Err(Status::NoRewriting);
-    };
-    let Some(number) = number else {
-        return Ok(pick);
-    };
-    let listed = listing.len() as u64;
-    if number > listed {
-        return Err(Status::NoSuchNumber(number, listed));
-    }
-    Ok(number.saturating_sub(1) as usize)
-}
 
 // Opens the files of the fragments that the item's set uses, and gives the text of the rows.
 fn run_item<S: Shelf>(
@@ -64,14 +44,7 @@ fn run_item<S: Shelf>(
     ensures files { S.files shelf.new ≡ S.files shelf.old }
     ensures later { S.faults shelf.old ≤ S.faults shelf.new }
 {
-    catalogues_are_sound();
-    queries_are_sound();
-    rules_are_sound();
-    printed_plans_are_over_fragments();
-    printed_plans_are_universal();
-    printed_plans_tell_satisfiable_queries();
-    plans_are_sound();
-    queries_are_their_own_instances();
+    planned_plans_have_their_form();
     answers_are_over_files();
     chosen_atoms_are_named();
     let numbers = fragments_of_set(alloc, &item.set, plan)?;
@@ -98,6 +71,7 @@ fn run_plan<S: Shelf>(
     ensures files { S.files shelf.new ≡ S.files shelf.old }
     ensures later { S.faults shelf.old ≤ S.faults shelf.new }
 {
+    chosen_items_are_listed();
     let listing = listing_of(alloc, plan, query, catalogue)?;
     let place = choose(&listing, number)?;
     let reply = run_item(alloc, shelf, query, catalogue, plan, listing.item(place))?;
@@ -143,7 +117,7 @@ fn run_query<S: Shelf>(
 /// Fetches and reads the catalogue, then the query, makes the query's plan and its list, opens the files of the fragments
 /// that the chosen set uses, and gives the text of the rows. The set is the pick, or that of the number, counted from 1.
 /// For a query that no database gives an answer the text has the names of its head alone.
-#[tactic(auto, using(crate::proofs::Steps::run_steps))]
+#[tactic(auto, using(crate::proofs::Steps::run_steps, crate::proofs::Steps::asked_steps))]
 pub fn run<S: Shelf>(
     alloc: Global,
     shelf: &mut S,

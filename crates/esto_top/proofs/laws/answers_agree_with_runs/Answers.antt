@@ -10,4 +10,5 @@ returns c =
       rows = c.agreeing_answers_are_one.ensures.rows;
       rising = c.rising_rows_are_one.ensures;
       named = c.chosen_atoms_are_named.ensures;
+      item = c.chosen_items_are_listed.ensures.item;
     })

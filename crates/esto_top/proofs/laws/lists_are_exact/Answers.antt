@@ -4,18 +4,26 @@ use Rattle.esto_top.proofs.laws.lists_are_exact.Goals as goal
 pub returns-clause-lists : goal.returns-clause-lists
 returns-clause-lists c =
     outcomes_are_lists c.catalogues_are_sound.ensures c.catalogues_are_determined.ensures.catalogue c.catalogues_are_determined.ensures.apart
-    c.readings_are_determined.ensures.reading c.readings_are_determined.ensures.apart
+    c.openings_are_one.ensures.queries c.readings_are_determined.ensures.apart
     (record {
-      queries = c.queries_are_sound.ensures;
-      rules = c.rules_are_sound.ensures.rules;
-      satisfiable = c.printed_plans_tell_satisfiable_queries.ensures;
-      unsatisfiable = c.plans_tell_satisfiable_queries.ensures.clash;
-      sound = c.plans_are_sound.ensures;
-      own = c.queries_are_their_own_instances.ensures.universal;
-      unions = c.printed_plans_are_universal.ensures.unions;
-      universal = c.printed_plans_are_universal.ensures.universal;
-      core = c.printed_plans_are_universal.ensures.core;
-      only_core = c.printed_cores_are_one_for_a_query.ensures;
+      planning = record {
+        item = c.chosen_items_are_listed.ensures.item;
+        plan_moved = c.plans_and_lists_are_moved.ensures.plan;
+        clash_moved = c.plans_and_lists_are_moved.ensures.clash;
+        list_moved = c.plans_and_lists_are_moved.ensures.list;
+        text_moved = c.plans_and_lists_are_moved.ensures.text;
+        end = c.plans_and_lists_are_one.ensures.end;
+        plan = c.plans_and_lists_are_one.ensures.plan;
+        list = c.plans_and_lists_are_one.ensures.list;
+        text = c.plans_and_lists_are_one.ensures.text;
+        choice = c.plans_and_lists_are_one.ensures.choice;
+      };
+      form = c.planned_plans_have_their_form.ensures.form;
+      universal = c.planned_plans_are_universal.ensures.universal;
+      core = c.planned_plans_are_universal.ensures.core;
+      only_core = c.planned_plans_are_universal.ensures.only_core;
+      satisfiable = c.planned_plans_are_universal.ensures.satisfiable;
+      unsatisfiable = c.planned_plans_are_universal.ensures.unsatisfiable;
       covers = c.listed_sets_cover_rewritings.ensures;
       none = c.listed_sets_are_minimal.ensures.no_rewriting;
       lightest = c.picks_exist.ensures.least_of_all;
@@ -24,18 +32,26 @@ returns-clause-lists c =
 pub returns-clause-refusals : goal.returns-clause-refusals
 returns-clause-refusals c =
     outcomes_are_refusals c.catalogues_are_sound.ensures c.catalogues_are_determined.ensures.catalogue c.catalogues_are_determined.ensures.apart
-    c.readings_are_determined.ensures.reading c.readings_are_determined.ensures.apart
+    c.openings_are_one.ensures.queries c.readings_are_determined.ensures.apart
     (record {
-      queries = c.queries_are_sound.ensures;
-      rules = c.rules_are_sound.ensures.rules;
-      satisfiable = c.printed_plans_tell_satisfiable_queries.ensures;
-      unsatisfiable = c.plans_tell_satisfiable_queries.ensures.clash;
-      sound = c.plans_are_sound.ensures;
-      own = c.queries_are_their_own_instances.ensures.universal;
-      unions = c.printed_plans_are_universal.ensures.unions;
-      universal = c.printed_plans_are_universal.ensures.universal;
-      core = c.printed_plans_are_universal.ensures.core;
-      only_core = c.printed_cores_are_one_for_a_query.ensures;
+      planning = record {
+        item = c.chosen_items_are_listed.ensures.item;
+        plan_moved = c.plans_and_lists_are_moved.ensures.plan;
+        clash_moved = c.plans_and_lists_are_moved.ensures.clash;
+        list_moved = c.plans_and_lists_are_moved.ensures.list;
+        text_moved = c.plans_and_lists_are_moved.ensures.text;
+        end = c.plans_and_lists_are_one.ensures.end;
+        plan = c.plans_and_lists_are_one.ensures.plan;
+        list = c.plans_and_lists_are_one.ensures.list;
+        text = c.plans_and_lists_are_one.ensures.text;
+        choice = c.plans_and_lists_are_one.ensures.choice;
+      };
+      form = c.planned_plans_have_their_form.ensures.form;
+      universal = c.planned_plans_are_universal.ensures.universal;
+      core = c.planned_plans_are_universal.ensures.core;
+      only_core = c.planned_plans_are_universal.ensures.only_core;
+      satisfiable = c.planned_plans_are_universal.ensures.satisfiable;
+      unsatisfiable = c.planned_plans_are_universal.ensures.unsatisfiable;
       covers = c.listed_sets_cover_rewritings.ensures;
       none = c.listed_sets_are_minimal.ensures.no_rewriting;
       lightest = c.picks_exist.ensures.least_of_all;

@@ -3,18 +3,27 @@ use Rattle.esto_top.proofs.laws.outcomes_are_determined.Goals as goal
 
 pub returns : goal.returns
 returns c =
-    outcomes_determined c.catalogues_are_sound.ensures c.catalogues_are_determined.ensures.catalogue c.catalogues_are_determined.ensures.apart
-    c.catalogues_are_determined.ensures.error
-    c.readings_are_determined.ensures.reading c.readings_are_determined.ensures.apart c.readings_are_determined.ensures.fault
+    outcomes_determined
     (record {
-      rules = c.rules_are_sound.ensures.rules;
-      plan = c.printed_plans_are_one.ensures.plan;
-      clash = c.runs_have_one_outcome.ensures.clash;
-      apart = c.printed_plans_are_one.ensures.apart;
-      sets = c.listed_sets_are_minimal.ensures.one;
-      orders = c.stated_orders_exist.ensures.one;
-      weights = c.weights_exist.ensures.one;
-      picks = c.picks_exist.ensures.one;
+      opening = record {
+        catalogues = c.openings_are_one.ensures.catalogues;
+        queries = c.openings_are_one.ensures.queries;
+        fragment = c.openings_are_one.ensures.fragment;
+        fragments = c.openings_are_one.ensures.fragments;
+        rows = c.openings_are_one.ensures.rows;
+      };
+      planning = record {
+        item = c.chosen_items_are_listed.ensures.item;
+        plan_moved = c.plans_and_lists_are_moved.ensures.plan;
+        clash_moved = c.plans_and_lists_are_moved.ensures.clash;
+        list_moved = c.plans_and_lists_are_moved.ensures.list;
+        text_moved = c.plans_and_lists_are_moved.ensures.text;
+        end = c.plans_and_lists_are_one.ensures.end;
+        plan = c.plans_and_lists_are_one.ensures.plan;
+        list = c.plans_and_lists_are_one.ensures.list;
+        text = c.plans_and_lists_are_one.ensures.text;
+        choice = c.plans_and_lists_are_one.ensures.choice;
+      };
       used = c.used_fragments_are_one.ensures;
       rising = c.rising_rows_are_one.ensures;
     })

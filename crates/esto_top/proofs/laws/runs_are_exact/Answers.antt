@@ -4,32 +4,35 @@ use Rattle.esto_top.proofs.laws.runs_are_exact.Goals as goal
 pub returns : goal.returns
 returns c =
     outcomes_are_runs c.catalogues_are_sound.ensures c.catalogues_are_determined.ensures.catalogue c.catalogues_are_determined.ensures.apart
-    c.readings_are_determined.ensures.reading c.readings_are_determined.ensures.apart
+    c.openings_are_one.ensures.queries c.readings_are_determined.ensures.apart
     (record {
-      queries = c.queries_are_sound.ensures;
-      rules = c.rules_are_sound.ensures.rules;
-      satisfiable = c.printed_plans_tell_satisfiable_queries.ensures;
-      unsatisfiable = c.plans_tell_satisfiable_queries.ensures.clash;
-      sound = c.plans_are_sound.ensures;
-      own = c.queries_are_their_own_instances.ensures.universal;
-      unions = c.printed_plans_are_universal.ensures.unions;
-      universal = c.printed_plans_are_universal.ensures.universal;
-      core = c.printed_plans_are_universal.ensures.core;
-      only_core = c.printed_cores_are_one_for_a_query.ensures;
+      planning = record {
+        item = c.chosen_items_are_listed.ensures.item;
+        plan_moved = c.plans_and_lists_are_moved.ensures.plan;
+        clash_moved = c.plans_and_lists_are_moved.ensures.clash;
+        list_moved = c.plans_and_lists_are_moved.ensures.list;
+        text_moved = c.plans_and_lists_are_moved.ensures.text;
+        end = c.plans_and_lists_are_one.ensures.end;
+        plan = c.plans_and_lists_are_one.ensures.plan;
+        list = c.plans_and_lists_are_one.ensures.list;
+        text = c.plans_and_lists_are_one.ensures.text;
+        choice = c.plans_and_lists_are_one.ensures.choice;
+      };
+      form = c.planned_plans_have_their_form.ensures.form;
+      universal = c.planned_plans_are_universal.ensures.universal;
+      core = c.planned_plans_are_universal.ensures.core;
+      only_core = c.planned_plans_are_universal.ensures.only_core;
+      satisfiable = c.planned_plans_are_universal.ensures.satisfiable;
+      unsatisfiable = c.planned_plans_are_universal.ensures.unsatisfiable;
       covers = c.listed_sets_cover_rewritings.ensures;
       none = c.listed_sets_are_minimal.ensures.no_rewriting;
       lightest = c.picks_exist.ensures.least_of_all;
     })
     (record {
-      rules = c.rules_are_sound.ensures.rules;
-      plan = c.printed_plans_are_one.ensures.plan;
-      clash = c.runs_have_one_outcome.ensures.clash;
-      apart = c.printed_plans_are_one.ensures.apart;
-      sets = c.listed_sets_are_minimal.ensures.one;
-      orders = c.stated_orders_exist.ensures.one;
-      weights = c.weights_exist.ensures.one;
-      picks = c.picks_exist.ensures.one;
-      used = c.used_fragments_are_one.ensures;
-      rising = c.rising_rows_are_one.ensures;
+      catalogues = c.openings_are_one.ensures.catalogues;
+      queries = c.openings_are_one.ensures.queries;
+      fragment = c.openings_are_one.ensures.fragment;
+      fragments = c.openings_are_one.ensures.fragments;
+      rows = c.openings_are_one.ensures.rows;
     })
     (record { answers = c.rewritings_answer_queries.ensures; named = c.chosen_atoms_are_named.ensures })

@@ -1,50 +1,61 @@
-use Rattle.esto_constraint.specs.Constraints.{rules_of}
-use Rattle.esto_query.specs.Making.{query_of}
 use Rattle.esto_run.specs.Opened.{rows_held}
-use Rattle.esto_views.specs.Fragments.{views_of}
 use Rattle.esto_course.proofs.Steps.{at_exit}
-use Rattle.esto_top.proofs.FormLemmas.{plan_form}
-use Rattle.esto_top.proofs.RuleLemmas.{are_rules}
+use Rattle.esto_opening.proofs.AskedSteps.{handed_asks}
+use Rattle.esto_top.proofs.RunAskedLemmas.{item_asks, item_exit_asks, item_text_wants, item_wants}
 use Rattle.esto_top.proofs.RunLemmas.{item_goes, item_stops, text_over_files, used_are_there}
 use Rattle.esto_top.proofs.run.run_item.Goals as goal
 
 pub open_fragments-requires-clause-there : goal.open_fragments-requires-clause-there
 open_fragments-requires-clause-there g c =
-    let catalogue = c.args.catalogue.now in
-    let over = c.printed_plans_are_over_fragments.ensures.over catalogue.core (rules_of catalogue.rules) catalogue.fragments c.args.query.now.names
-    (query_of c.args.query.now) c.args.plan.now (c.catalogues_are_sound.ensures catalogue).fragments_are c.requires.planned in
-    used_are_there c.args.plan.now catalogue.fragments c.args.item.now.set c.in_ok-numbers.numbers over c.in_ok-numbers.ensures.used
+    let over = c.planned_plans_have_their_form.ensures.over c.args.catalogue.now c.args.query.now c.args.plan.now c.requires.planned in
+    used_are_there c.args.plan.now c.args.catalogue.now.fragments c.args.item.now.set c.in_ok-numbers.numbers over c.in_ok-numbers.ensures.used
 
 pub returns-in_err-opened-clause-answer : goal.returns-in_err-opened-clause-answer
 returns-in_err-opened-clause-answer g c =
     at_exit _ _ c.from_residual-in_err-opened.result c.from_residual-in_err-opened.ensures.1
     (item_stops (g.S.Shelf.files c.args.shelf.now) c.args.catalogue.now c.args.query.now c.args.plan.now c.args.item.now c.in_ok-numbers.numbers
-    c.in_ok-numbers.ensures.used c.in_err-opened.ensures.answer)
+    c.in_ok-numbers.ensures.used c.in_err-opened.ensures.answer.0)
 
 pub run_text-requires-clause-same_length : goal.run_text-requires-clause-same_length
 run_text-requires-clause-same_length g c =
-    let catalogue = c.args.catalogue.now in
-    let rules = are_rules c.rules_are_sound.ensures.rules catalogue.rules in
-    let is_query = (c.queries_are_sound.ensures c.args.query.now).query in
-    let form = plan_form (λ it. (c.queries_are_their_own_instances.ensures.universal it).maps) (rules_of catalogue.rules) (views_of catalogue.fragments)
-    (query_of c.args.query.now) c.args.plan.now (c.plans_are_sound.ensures c.args.plan.now)
-    (c.printed_plans_are_universal.ensures.unions catalogue.core (rules_of catalogue.rules) (views_of catalogue.fragments) c.args.query.now.names
-    (query_of c.args.query.now) c.args.plan.now rules is_query c.requires.planned)
-    (c.printed_plans_tell_satisfiable_queries.ensures catalogue.core (rules_of catalogue.rules) (views_of catalogue.fragments) c.args.query.now.names
-    (query_of c.args.query.now) c.args.plan.now rules is_query c.requires.planned) in
-    form.same_length
+    (c.planned_plans_have_their_form.ensures.form c.args.catalogue.now c.args.query.now c.args.plan.now c.requires.planned).same_length
 
 pub run_text-requires-clause-over : goal.run_text-requires-clause-over
 run_text-requires-clause-over g c =
-    let catalogue = c.args.catalogue.now in
-    c.printed_plans_are_over_fragments.ensures.over catalogue.core (rules_of catalogue.rules) catalogue.fragments c.args.query.now.names
-    (query_of c.args.query.now) c.args.plan.now (c.catalogues_are_sound.ensures catalogue).fragments_are c.requires.planned
+    c.planned_plans_have_their_form.ensures.over c.args.catalogue.now c.args.query.now c.args.plan.now c.requires.planned
 
 pub returns-clause-answer : goal.returns-clause-answer
 returns-clause-answer g c =
     let opened = c.in_ok-opened.ensures.answer in
     item_goes (g.S.Shelf.files c.args.shelf.now) c.args.catalogue.now c.args.query.now c.args.plan.now c.args.item.now c.in_ok-numbers.numbers
     c.in_ok-numbers.ensures.used opened.0 c.in_ok-text.text opened.1
+    (text_over_files c.answers_are_over_files.ensures c.chosen_atoms_are_named.ensures c.args.catalogue.now c.args.query.now c.args.plan.now
+    c.args.item.now.set c.in_ok-numbers.numbers opened.0 (rows_held c.in_ok-opened.opened) c.in_ok-text.text c.in_ok-numbers.ensures.used opened.2
+    (c.in_ok-text.ensures c.args.item.now.set c.requires.item.order.is_order))
+
+pub returns-in_err-numbers-clause-asked : goal.returns-in_err-numbers-clause-asked
+returns-in_err-numbers-clause-asked g c =
+    handed_asks _ _ _ c.from_residual.ensures.1
+    (item_wants (g.S.Shelf.files c.args.shelf.now) c.args.catalogue.now c.args.query.now c.args.plan.now c.args.item.now (g.S.Shelf.asked c.args.shelf.now))
+
+pub returns-in_err-opened-clause-asked : goal.returns-in_err-opened-clause-asked
+returns-in_err-opened-clause-asked g c =
+    handed_asks _ _ _ c.from_residual-in_err-opened.ensures.1
+    (item_exit_asks (g.S.Shelf.files c.args.shelf.now) c.args.catalogue.now c.args.query.now c.args.plan.now c.args.item.now c.in_ok-numbers.numbers
+    c.in_ok-numbers.ensures.used _ c.in_err-opened.ensures.answer.1)
+
+pub returns-in_err-text-clause-asked : goal.returns-in_err-text-clause-asked
+returns-in_err-text-clause-asked g c =
+    let opened = c.in_ok-opened.ensures.answer in
+    handed_asks _ _ _ c.from_residual-in_err-text.ensures.1
+    (item_text_wants (g.S.Shelf.files c.args.shelf.now) c.args.catalogue.now c.args.query.now c.args.plan.now c.args.item.now c.in_ok-numbers.numbers
+    c.in_ok-numbers.ensures.used opened.0 opened.4)
+
+pub returns-clause-asked : goal.returns-clause-asked
+returns-clause-asked g c =
+    let opened = c.in_ok-opened.ensures.answer in
+    item_asks (g.S.Shelf.files c.args.shelf.now) c.args.catalogue.now c.args.query.now c.args.plan.now c.args.item.now c.in_ok-numbers.numbers
+    c.in_ok-numbers.ensures.used opened.0 opened.4 c.in_ok-text.text
     (text_over_files c.answers_are_over_files.ensures c.chosen_atoms_are_named.ensures c.args.catalogue.now c.args.query.now c.args.plan.now
     c.args.item.now.set c.in_ok-numbers.numbers opened.0 (rows_held c.in_ok-opened.opened) c.in_ok-text.text c.in_ok-numbers.ensures.used opened.2
     (c.in_ok-text.ensures c.args.item.now.set c.requires.item.order.is_order))

@@ -1,5 +1,9 @@
+use Rattle.esto_top.proofs.AskedLemmas.{usage_asks}
 use Rattle.esto_top.proofs.Mediation.{usage}
 use Rattle.esto_top.proofs.top.answer.Goals as goal
 
 pub returns-in-None-clause-answer : goal.returns-in-None-clause-answer
 returns-in-None-clause-answer g c = usage _ _ _ c.in-None.ensures.command
+
+pub returns-in-None-clause-asked : goal.returns-in-None-clause-asked
+returns-in-None-clause-asked g c = usage_asks _ _ _ c.in-None.ensures.command

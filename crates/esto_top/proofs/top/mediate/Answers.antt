@@ -1,3 +1,4 @@
+use Rattle.esto_top.proofs.AskedLemmas.{asks_as_told}
 use Rattle.esto_top.proofs.BenchLemmas.{benches_always}
 use Rattle.esto_top.proofs.DataLemmas.{answers_where_told, audits_where_told, fills_where_told}
 use Rattle.esto_top.proofs.DeterminedLemmas.{exact}
@@ -66,3 +67,7 @@ pub returns-clause-minimise : goal.returns-clause-minimise
 returns-clause-minimise g c =
     minimises_where_told c.args.words.now _ _ _ _ _ c.reasoning_outcomes_hold.ensures.minimise _
     (complete c.args.words.now _ _ _ _ _ _ (mediates _ _ _ _ _ _ _ c.answer-answer.ensures.answer c.finish.ensures.put))
+
+pub returns-clause-asked : goal.returns-clause-asked
+returns-clause-asked g c =
+    asks_as_told _ _ _ _ _ _ _ _ _ _ c.answer-answer.ensures.answer c.answer-answer.ensures.asked c.finish.ensures.put

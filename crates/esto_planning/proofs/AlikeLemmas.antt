@@ -1,0 +1,148 @@
+-- Over catalogues that say the same, plans, clashes and lists are one.
+use Rattle.std.proofs.Common.{◌≡◌, ℕ, List, All, refl, sym, ap, subst, ◌∙◌}
+use Rattle.either.specs.declared.Either.{Either}
+use Rattle.either.specs.declared.Either.TheVariants.{Left, Right}
+use Rattle.esto_catalog.specs.Determined.{AreSame}
+use Rattle.esto_catalog.specs.declared.catalogue.Catalogue.{Catalogue}
+use Rattle.esto_chase_laws.specs.declared.clash.Clash.{Clash}
+use Rattle.esto_constraint.specs.Constraints.{rule_of, rules_of}
+use Rattle.esto_constraint.specs.declared.rule.Constraint.{Constraint}
+use Rattle.esto_core.specs.PrintedLaws.{PrintedPlanIsOne, PrintedPlanExcludesClash}
+use Rattle.esto_course.specs.Course.{judges}
+use Rattle.esto_course.proofs.Determined.{judges_agree}
+use Rattle.esto_list.specs.Items.{sets_of, IsPickOf}
+use Rattle.esto_list.specs.Text.{list_text}
+use Rattle.esto_list.specs.declared.listing.Listed.{Listed}
+use Rattle.esto_query.specs.Making.{query_of}
+use Rattle.esto_query.specs.declared.query.Query.{Query}
+use Rattle.esto_semantics.specs.AccessLaws.{StatedOrderIsOne}
+use Rattle.esto_semantics.specs.Listed.{AreListed}
+use Rattle.esto_semantics.specs.ListedLaws.{ListedIsOne, PickIsOne, WeightIsOne}
+use Rattle.esto_semantics.specs.Queries.{ConjunctiveQuery}
+use Rattle.esto_semantics.specs.Rules.{AreRules, IsRule}
+use Rattle.esto_universal.specs.PlannedLaws.{ClashOfRunIsOne}
+use Rattle.esto_views.specs.Fragments.{views_of, patterns_of, weights_of}
+use Rattle.esto_views.specs.Plans.{plan_query}
+use Rattle.esto_views.specs.declared.plan.Plan.{Plan}
+use Rattle.esto_opening.specs.Alike.{IsSameQuery}
+use Rattle.esto_opening.specs.Calm.{AgreeCalmly}
+use Rattle.esto_opening.specs.declared.status.Status.TheVariants as status
+use Rattle.esto_planning.specs.Alike.{EndIsOne, IsSameEnd, IsSamePlan, ListIsOne, ListingIsOne, PlanIsOne}
+use Rattle.esto_planning.specs.Listing.{IsClash, IsListing, IsListOf, IsPlanned}
+use Rattle.esto_planning.specs.Planning.{ends_query, lists_plan, plans_query}
+use Rattle.esto_planning.proofs.MovedLemmas.{clash_moved, list_moved, listing_moved, planned_moved}
+use Rattle.esto_planning.proofs.OneListLemmas.{HasOrder, HasWeight, same_items, same_pick, same_atoms, same_text}
+use Rattle.esto_planning.proofs.RuleLemmas.{are_rules}
+
+-- the laws by which plans and lists are determined
+pub record OneLaws : Type 0 where
+  pub rules : (constraint : Constraint) → IsRule (rule_of constraint)
+  pub plan : PrintedPlanIsOne
+  pub clash : ClashOfRunIsOne
+  pub apart : PrintedPlanExcludesClash
+  pub sets : ListedIsOne
+  pub orders : StatedOrderIsOne
+  pub weights : WeightIsOne
+  pub picks : PickIsOne
+
+-- ---- over one catalogue
+
+module _ (laws : OneLaws) (catalogue : Catalogue) (query : Query) where
+  items_one : (plan other_plan : Plan) → plan_query plan ≡ plan_query other_plan → (items others : List Listed) → IsListOf catalogue query plan items
+      → IsListOf catalogue query other_plan others → items ≡ others
+  items_one plan other_plan plans items others list other_list =
+      same_items laws.orders laws.weights (patterns_of catalogue.fragments) (weights_of catalogue.fragments) (plan_query plan).body items others
+      (laws.sets (rules_of catalogue.rules) (views_of catalogue.fragments) (patterns_of catalogue.fragments) (query_of query) (plan_query plan)
+      (sets_of items) (sets_of others) list.sets
+      (subst (λ it. AreListed (rules_of catalogue.rules) (views_of catalogue.fragments) (patterns_of catalogue.fragments) (query_of query) it
+      (sets_of others)) (sym plans) other_list.sets))
+      list.orders
+      (subst (λ it. All (HasOrder laws.orders laws.weights (patterns_of catalogue.fragments) (weights_of catalogue.fragments) it.body) others)
+      (sym plans) other_list.orders)
+      list.weights
+      (subst (λ it. All (HasWeight laws.orders laws.weights (patterns_of catalogue.fragments) (weights_of catalogue.fragments) it.body) others)
+      (sym plans) other_list.weights)
+
+  texts_one : (plan other_plan : Plan) → IsSamePlan plan other_plan → (text other_text : List ℕ) → IsListing catalogue query plan text
+      → IsListing catalogue query other_plan other_text → text ≡ other_text
+  texts_one plan other_plan plans text other_text listing other_listing =
+      let items : listing.items ≡ other_listing.items = items_one plan other_plan plans.0 listing.items other_listing.items listing.list
+      other_listing.list in
+      let pick = same_pick laws.picks other_listing.items listing.printed.0 other_listing.printed.0
+      (subst (λ it. IsPickOf it listing.printed.0) items listing.printed.1) other_listing.printed.1 in
+      let texts : list_text catalogue.fragments plan listing.items listing.printed.0
+      ≡ list_text catalogue.fragments plan other_listing.items other_listing.printed.0 =
+      λ i. list_text catalogue.fragments plan (items i) (pick i) in
+      listing.printed.2 ∙ texts
+      ∙ same_text catalogue.fragments catalogue.fragments refl plan other_plan other_listing.items other_listing.printed.0
+      (same_atoms plan.atoms other_plan.atoms (ap (λ (it : ConjunctiveQuery). it.body) plans.0))
+      (ap (λ (it : ConjunctiveQuery). it.head) plans.0) plans.1
+      ∙ sym other_listing.printed.2
+
+  rules_are : AreRules (rules_of catalogue.rules)
+  rules_are = are_rules laws.rules catalogue.rules
+
+  plans_one : (plan other_plan : Plan) → IsPlanned catalogue query plan → IsPlanned catalogue query other_plan → IsSamePlan plan other_plan
+  plans_one plan other_plan =
+      laws.plan catalogue.core (rules_of catalogue.rules) (views_of catalogue.fragments) query.names (query_of query) plan other_plan rules_are
+
+  clashes_one : (clash other_clash : Clash) → IsClash catalogue query clash → IsClash catalogue query other_clash → clash ≡ other_clash
+  clashes_one clash other_clash = laws.clash (rules_of catalogue.rules) (query_of query) clash other_clash rules_are
+
+  apart : (plan : Plan) (clash : Clash) → IsPlanned catalogue query plan → IsClash catalogue query clash → ⊥
+  apart plan clash =
+      laws.apart catalogue.core (rules_of catalogue.rules) (views_of catalogue.fragments) query.names (query_of query) plan clash rules_are
+
+-- ---- over catalogues that say the same
+
+module _ (laws : OneLaws) (catalogue other : Catalogue) (query other_query : Query) (alike : AreSame catalogue other)
+    (same : IsSameQuery query other_query) where
+  plan_here : (plan : Plan) → IsPlanned other other_query plan → IsPlanned catalogue query plan
+  plan_here = planned_moved catalogue other alike query other_query same
+
+  clash_here : (clash : Clash) → IsClash other other_query clash → IsClash catalogue query clash
+  clash_here = clash_moved catalogue other alike query other_query same
+
+  same_end : (end other_end : Either Plan Clash) → (ends_query catalogue query).goes end → (ends_query other other_query).goes other_end
+      → IsSameEnd end other_end
+  unfolding judges
+  same_end (Left plan) (Left other_plan) here there = plans_one laws catalogue query plan other_plan here (plan_here other_plan there)
+  same_end (Left plan) (Right clash) here there = apart laws catalogue query plan clash here (clash_here clash there)
+  same_end (Right clash) (Left plan) here there = apart laws catalogue query plan clash (plan_here plan there) here
+  same_end (Right clash) (Right other_clash) here there = clashes_one laws catalogue query clash other_clash here (clash_here other_clash there)
+
+  end_agrees : AgreeCalmly IsSameEnd (ends_query catalogue query) (ends_query other other_query)
+  unfolding judges
+  end_agrees = judges_agree _ _ _ _ _ _ same_end
+      (λ said other_said caused other_caused here there. absurd here) (λ value said caused here there. there) (λ value said caused here there. there)
+
+  plan_agrees : AgreeCalmly IsSamePlan (plans_query catalogue query) (plans_query other other_query)
+  plan_agrees = judges_agree _ _ _ _ _ _
+      (λ plan other_plan here there. plans_one laws catalogue query plan other_plan here (plan_here other_plan there))
+      (λ said other_said caused other_caused here there. here.2 ∙ ap status.Unsatisfiable (clashes_one laws catalogue query here.0 there.0 here.1
+      (clash_here there.0 there.1)) ∙ sym there.2)
+      (λ plan said caused here there. apart laws catalogue query plan there.0 here (clash_here there.0 there.1))
+      (λ plan said caused here there. apart laws catalogue query plan there.0 (plan_here plan here) there.1)
+
+  list_agrees : (plan other_plan : Plan) → IsSamePlan plan other_plan
+      → AgreeCalmly ◌≡◌ (lists_plan catalogue query plan) (lists_plan other other_query other_plan)
+  list_agrees plan other_plan plans = judges_agree _ _ _ _ _ _
+      (λ items others here there. items_one laws catalogue query plan other_plan plans.0 items others here
+      (list_moved catalogue other alike query other_query same other_plan others there))
+      (λ said other_said caused other_caused here there. absurd here) (λ value said caused here there. there) (λ value said caused here there. there)
+
+module _ (laws : OneLaws) where
+  pub end_one : EndIsOne
+  end_one catalogue other query other_query alike same = end_agrees laws catalogue other query other_query alike same
+
+  pub plan_one : PlanIsOne
+  plan_one catalogue other query other_query alike same = plan_agrees laws catalogue other query other_query alike same
+
+  pub list_one : ListIsOne
+  list_one catalogue other query other_query plan other_plan alike same plans =
+      list_agrees laws catalogue other query other_query alike same plan other_plan plans
+
+  pub listing_one : ListingIsOne
+  listing_one catalogue other query other_query plan other_plan text other_text alike same plans listing other_listing =
+      texts_one laws catalogue query plan other_plan plans text other_text listing
+      (listing_moved catalogue other alike query other_query same other_plan other_text other_listing)

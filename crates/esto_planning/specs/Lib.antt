@@ -1,0 +1,5 @@
+pub mod Listing
+pub mod Choice
+pub mod Planning
+pub mod Laws
+pub mod Alike

@@ -1,0 +1,14 @@
+//! The steps on a query's plan and list that commands share: the printed plan, its list, and the choice of an item.
+//! Start from `plan_of`, `listing_of` and `choose`.
+#![tactic(auto)]
+
+mod choice;
+mod laws;
+mod planning;
+
+pub use choice::choose;
+pub use laws::{
+    chosen_items_are_listed, planned_plans_are_universal, planned_plans_have_their_form,
+    plans_and_lists_are_moved, plans_and_lists_are_one,
+};
+pub use planning::{listing_of, plan_of};

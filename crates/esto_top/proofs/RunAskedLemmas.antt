@@ -1,0 +1,109 @@
+-- What a run asks of the shelf.
+use Rattle.std.proofs.Common.{◌≡◌, ℕ, List, [], slice_get, Option, Some, Result, Ok, Err, refl}
+use Rattle.either.specs.declared.Either.TheVariants.{Left, Right}
+use Rattle.esto_catalog.specs.declared.catalogue.Catalogue.{Catalogue}
+use Rattle.esto_chase_laws.specs.declared.clash.Clash.{Clash}
+use Rattle.esto_course.specs.Course.{Course, Names, Stops, judges, gives, and_then}
+use Rattle.esto_course.specs.Course.Stops.{is_free}
+use Rattle.esto_course.proofs.Asking.{first_way_asks, quiet_gives, quiet_judges}
+use Rattle.esto_course.proofs.Steps.{gives_goes}
+use Rattle.esto_list.specs.declared.listing.Listed.{Listed}
+use Rattle.esto_ports.specs.Files.{Files}
+use Rattle.esto_query.specs.declared.query.Query.{Query}
+use Rattle.esto_run.specs.Answers.{rows_text}
+use Rattle.esto_run.specs.Used.{AreUsed}
+use Rattle.esto_views.specs.Plans.{plan_query}
+use Rattle.esto_views.specs.declared.plan.Plan.{Plan}
+use Rattle.esto_opening.specs.Answers.{IsCaused, IsWant}
+use Rattle.esto_opening.specs.Asked.{AsksIn}
+use Rattle.esto_opening.specs.Fragments.{opens_fragments}
+use Rattle.esto_opening.specs.declared.reply.Reply.{Reply}
+use Rattle.esto_opening.specs.declared.reply.Reply.TheVariants.{Done, Unsatisfiable}
+use Rattle.esto_opening.specs.declared.status.Status.{Status}
+use Rattle.esto_opening.specs.declared.status.Status.TheVariants.{OutOfMemory}
+use Rattle.esto_opening.proofs.AskedSteps.{early_want, exit_asks, later_asks, quiet_asks}
+use Rattle.esto_planning.specs.Listing.{IsClash, IsListOf, IsPlanned}
+use Rattle.esto_planning.specs.Planning.{chooses, ends_query}
+use Rattle.esto_top.specs.Run.{IsRunText, runs_end, runs_item, runs_plan, runs_query}
+
+-- a judgement accepts a value, and asks for nothing
+accepted : {A : Type 0} (told : Option Names) (accepts : A → Type 0) (refused : Status → Type 0) (value : A) → accepts value
+    → AsksIn told told (judges accepts refused) (Ok value)
+unfolding judges
+accepted told accepts refused value is = quiet_asks (judges accepts refused) told (Ok value) (quiet_judges accepts refused) is
+
+-- want of memory in a judgement that is a first step
+wanted : {A B : Type 0} (told : Option Names) (accepts : A → Type 0) (refused : Status → Type 0) (next : A → Course Status B)
+    → AsksIn told told (and_then (judges accepts refused) next) (Err OutOfMemory)
+wanted told accepts refused next =
+    early_want (and_then (judges accepts refused) next) told (first_way_asks (judges accepts refused) next [] (quiet_judges accepts refused).underway)
+
+-- ---- the item
+
+module _ (files : Option Files) (catalogue : Catalogue) (query : Query) (plan : Plan) (item : Listed) where
+  -- memory is wanting before a file is fetched
+  pub item_wants : (told : Option Names) → AsksIn told told (runs_item files catalogue query plan item) (Err OutOfMemory)
+  item_wants told = wanted told _ _ _
+
+  module _ (numbers : List ℕ) (used : AreUsed (plan_query plan).body item.set numbers) {old new : Option Names} where
+    -- a file of the set's is not opened
+    pub item_exit_asks : (refusal : Status) → AsksIn old new (opens_fragments files catalogue numbers) (Err refusal)
+        → AsksIn old new (runs_item files catalogue query plan item) (Err refusal)
+    item_exit_asks refusal asked = later_asks _ _ (accepted old _ _ numbers used) (exit_asks _ _ asked)
+
+    module _ (contents : ℕ → List ℕ) (opened : AsksIn old new (opens_fragments files catalogue numbers) (Ok contents)) where
+      -- all are opened, and the text is made
+      pub item_asks : (text : List ℕ) → IsRunText catalogue query plan item.set contents text
+          → AsksIn old new (runs_item files catalogue query plan item) (Ok (Done text))
+      item_asks text is = later_asks _ _ (accepted old _ _ numbers used) (later_asks _ _ opened (later_asks _ _ (accepted new _ _ text is)
+          (quiet_asks (gives (Done text)) new (Ok (Done text)) (quiet_gives Status (Done text)) (gives_goes Status (Done text) (Done text) refl))))
+
+      -- or memory is wanting for it
+      pub item_text_wants : AsksIn old new (runs_item files catalogue query plan item) (Err OutOfMemory)
+      item_text_wants = later_asks _ _ (accepted old _ _ numbers used) (later_asks _ _ opened (wanted new _ _ _))
+
+-- ---- the plan
+
+module _ (files : Option Files) (catalogue : Catalogue) (query : Query) (number : Option ℕ) (plan : Plan) where
+  -- memory is wanting for the list
+  pub list_wants : (told : Option Names) → AsksIn told told (runs_plan files catalogue query number plan) (Err OutOfMemory)
+  list_wants told = wanted told _ _ _
+
+  module _ (items : List Listed) (list : IsListOf catalogue query plan items) where
+    -- no item is chosen
+    pub choice_asks : (told : Option Names) (refusal : Status) → Stops IsWant (IsCaused ⊥) (chooses items number) refusal
+        → AsksIn told told (runs_plan files catalogue query number plan) (Err refusal)
+    choice_asks told refusal stops =
+        later_asks _ _ (accepted told _ _ items list) (exit_asks _ _ (quiet_asks (chooses items number) told (Err refusal) (quiet_judges _ _) stops))
+
+    -- the chosen item is run
+    pub chosen_asks : {old new : Option Names} (place : ℕ) → (chooses items number).goes place → (item : Listed) → slice_get items place ≡ Some item
+        → (result : Result Reply Status) → AsksIn old new (runs_item files catalogue query plan item) result
+        → AsksIn old new (runs_plan files catalogue query number plan) result
+    chosen_asks {old = old} place chosen item there result asked =
+        later_asks _ _ (accepted old _ _ items list) (later_asks _ _ (quiet_asks (chooses items number) old (Ok place) (quiet_judges _ _) chosen)
+        (later_asks _ _ (accepted old _ _ item there) asked))
+
+-- ---- the query
+
+module _ (files : Option Files) (catalogue : Catalogue) (query : Query) (number : Option ℕ) where
+  -- memory is wanting for the plan
+  pub plan_wants : (told : Option Names) → AsksIn told told (runs_query files catalogue query number) (Err OutOfMemory)
+  plan_wants told = wanted told _ _ _
+
+  -- the plan is run
+  pub plan_asks : {old new : Option Names} (plan : Plan) → IsPlanned catalogue query plan → (result : Result Reply Status)
+      → AsksIn old new (runs_plan files catalogue query number plan) result → AsksIn old new (runs_query files catalogue query number) result
+  plan_asks {old = old} plan planned result asked =
+      later_asks (ends_query catalogue query) (runs_end files catalogue query number) (accepted old _ _ (Left plan) planned) asked
+
+  module _ (told : Option Names) (clash : Clash) (clashes : IsClash catalogue query clash) where
+    -- the run ends with a clash
+    pub clash_asks : (reply : Reply) → reply ≡ Unsatisfiable clash (rows_text query []) → AsksIn told told (runs_query files catalogue query number) (Ok reply)
+    clash_asks reply is = later_asks (ends_query catalogue query) (runs_end files catalogue query number) (accepted told _ _ (Right clash) clashes)
+        (quiet_asks (gives (Unsatisfiable clash (rows_text query []))) told (Ok reply) (quiet_gives Status _) (gives_goes Status _ reply is))
+
+    -- and memory is wanting for its text
+    pub clash_wants : AsksIn told told (runs_query files catalogue query number) (Err OutOfMemory)
+    clash_wants = later_asks (ends_query catalogue query) (runs_end files catalogue query number) (accepted told _ _ (Right clash) clashes)
+        (quiet_asks (gives (Unsatisfiable clash (rows_text query []))) told (Err OutOfMemory) (quiet_gives Status _) (is_free refl))
