@@ -1,8 +1,12 @@
 mod TextLemmas
+mod LoopLemmas
 mod FoundLemmas
 mod MarkLemmas
 mod PlaceLemmas
 mod StateLemmas
 mod StepLemmas
 mod WriteLemmas
+mod UseLemmas
 mod MatchLemmas
+mod FinishLemmas
+mod FlatLemmas

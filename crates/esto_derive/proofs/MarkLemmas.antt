@@ -9,6 +9,7 @@ use Rattle.esto_world_laws.specs.Laws.{AreReasoned, IsReasoned}
 use Rattle.esto_world_laws.specs.declared.entry.Entry.{Entry}
 use Rattle.esto_world_laws.specs.declared.entry.Reason.{Reason}
 use Rattle.esto_world_laws.specs.declared.entry.Reason.TheVariants.{Expanded, Step, Equal}
+use Rattle.esto_derive.proofs.TextLemmas.{some_one}
 use Rattle.esto_derive.specs.Marking.{named_by, AddsNamed, AreClosed, AreUsedWithin, Closes}
 
 pub all_below : (count : ℕ) (places : List ℕ) → ((place : ℕ) → Contains places place → place < count) → All (λ place. place < count) places
@@ -61,7 +62,7 @@ module _ (entries : List Entry) (reasoned : AreReasoned entries) (place : ℕ) (
       | inl had ↦ elim (is_later at_place from) [
         | inl same ↦ (adds named).1 (inr (
           subst (λ (it : ℕ). Has old it) same had,
-          subst (λ (it : Entry). Contains (named_by it.reason) named) (some_entry (sym its_at ∙ ap (λ (it : ℕ). slice_get entries it) same ∙ at)) inside,
+          subst (λ (it : Entry). Contains (named_by it.reason) named) (some_one (sym its_at ∙ ap (λ (it : ℕ). slice_get entries it) same ∙ at)) inside,
         ))
         | inr later ↦ keeps named (closed at_place its later its_at had named inside)
       ]
@@ -70,8 +71,6 @@ module _ (entries : List Entry) (reasoned : AreReasoned entries) (place : ℕ) (
       where
         is_later : (number : ℕ) → place ≤ number → (number ≡ place) ⊎ (place + 1 ≤ number)
         is_later number from = same_or_later place number from
-        some_entry : {one other : Entry} → Some one ≡ Some other → one ≡ other
-        some_entry same = cc
 
     pub within_on : (set : List Bool) → AreUsedWithin entries set old → AreUsedWithin entries set new
     within_on set within at_place its its_at has number holds = elim ((adds at_place).0 has) [

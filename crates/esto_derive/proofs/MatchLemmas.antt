@@ -32,7 +32,7 @@ use Rattle.esto_cert.specs.declared.line.Line.{Line}
 use Rattle.esto_cert.specs.declared.line.Line.TheVariants as line
 use Rattle.esto_derive.specs.Printing.{line_text, IsReadable}
 use Rattle.esto_derive.specs.Searching.{ClaimsIn, GoesOn, AreLinks}
-use Rattle.esto_derive.specs.Writing.{IsBasis, IsState, IsMatchAt, IsWritten, AddsNew, lines_at}
+use Rattle.esto_derive.specs.Writing.{IsBasis, IsState, IsMatchAt, IsWritten, StandFor, AddsNew, lines_at}
 use Rattle.esto_derive.specs.declared.writing.Written.{Written}
 use Rattle.esto_derive.proofs.StateLemmas.{ended}
 use Rattle.esto_derive.proofs.StepLemmas.{matches, eqs, one, facts_fit, links_fit, facts_some}
@@ -50,10 +50,9 @@ module _ (Holds : Claim → Type 0) (head : List Term) (body : List (Fact Term))
   some_go_on =
       let c = choose Holds match.0 match.1 body match.2 in (
         c.0,
-        c.1,
-        Fits-linked Holds match.0 match.1 (head ++ terms_of body) (targets ++ terms_of c.0)
+        (c.1, Fits-linked Holds match.0 match.1 (head ++ terms_of body) (targets ++ terms_of c.0)
             (subst (AllZip (Linked Holds) (targets ++ terms_of c.0)) (sym (map-append match.0 head (terms_of body)))
-            (zip_append (Linked Holds) targets (terms_of c.0) (map match.0 head) (map match.0 (terms_of body)) match.3 c.2)),
+            (zip_append (Linked Holds) targets (terms_of c.0) (map match.0 head) (map match.0 (terms_of body)) match.3 c.2))),
       )
 
 -- ---- a match that is found
@@ -61,7 +60,7 @@ module _ (Holds : Claim → Type 0) (head : List Term) (body : List (Fact Term))
 module _ (Holds : Claim → Type 0) (head : List Term) (body chosen : List (Fact Term)) (targets : List Term)
     (lengths : length (terms_of body) ≡ length (terms_of chosen)) (head_lengths : length targets ≡ length head)
     (fits : Fits (Linked Holds) (head ++ terms_of body) (targets ++ terms_of chosen)) where
-  m : Term → Term
+  abbrev m : Term → Term
   m = taken (head ++ terms_of body) (targets ++ terms_of chosen)
 
   keeps : Keeps Const m
@@ -122,7 +121,7 @@ module _ (case : Case) (entries : List Entry) (used : List Bool) (basis : IsBasi
     (within : (place : ℕ) → Contains (facts ++ links) place → place < length lines) (has : (place : ℕ) → Contains (facts ++ links) place → Has used place)
     (match : IsMatchAt entries case.query.head case.targets case.query.body facts links) (some : case.query.body ≢ []) where
   stands : (place : ℕ) → Contains (facts ++ links) place → (claim : Claim) → Claims entries place claim
-      → (own : List ℕ) × (slice_get lines place ≡ Some own) × _
+      → (own : List ℕ) × (slice_get lines place ≡ Some own) × StandFor claims own claim
   stands place inside = stand_at case entries used basis lines written claims state place (within place inside) (has place inside)
 
   pub match_ends : (linked : List ℕ) → AddsNew [] (lines_at lines links) linked → length claims ≤ greatest_u64 → (bytes : List ℕ)

@@ -11,6 +11,8 @@ use Rattle.esto_world_laws.specs.Steps.{IsAsked}
 use Rattle.esto_world_laws.specs.declared.entry.Claim.{Claim}
 use Rattle.esto_world_laws.specs.declared.entry.Claim.TheVariants.{Fact as Stated, Same}
 use Rattle.esto_cert.specs.Certificates.{made_at, numbered}
+use Rattle.std.proofs.lemmas.Option.{slice_get_within}
+use Rattle.esto_derive.proofs.StepLemmas.{numbered_next}
 use Rattle.esto_derive.specs.Placing.{Makes}
 
 -- what is made of a place is a fact
@@ -25,6 +27,14 @@ module _ (number : ℕ) (body head : List (Fact Term)) (m : Term → Term) (clai
   pub made_exactly : (place : ℕ) → Makes place number (tuple body head) m claim → made_at place number (tuple body head) m ≡ Some claim
   made_exactly place (made, is, same) = made_fact (λ atom. image (extended number body head m) atom) (numbered head place) made claim is same
 
-  pub asked_at : IsAsked number (tuple body head) m claim
-      → (at : ℕ) × (slice_get head at ≡ Some (asked_atom at)) × Makes (at + 1) number (tuple body head) m claim
-  asked_at (atom, inside, is) = ?
+  pub asked_at : IsAsked number (tuple body head) m claim → (at : ℕ) × (at < length head) × Makes (at + 1) number (tuple body head) m claim
+  asked_at (atom, inside, is) =
+      let at = place-from_Contains head atom inside in (
+        at.0,
+        slice_get_within head at.0 atom at.1,
+        (
+          Stated (image (extended number body head m) atom),
+          ap (option_map (λ (it : Fact Term). Stated (image (extended number body head m) it))) (numbered_next head at.0 ∙ at.1),
+          subst (AreSameClaim (Stated (image (extended number body head m) atom))) (sym is) refl,
+        ),
+      )

@@ -1,10 +1,11 @@
 -- Certificates while they are written.
 use Rattle.std.proofs.Common.{◌≡◌, ◌⊎◌, ◌↔◌, inl, inr, ◌==◌, ℕ, ◌+◌, ◌<◌, ◌≤◌, Bool, true, false, List, [], ◌∷◌, ◌++◌, length, map, slice_get, slice_index_or, Option, Some, None, All, Contains, codes, subst, refl, sym, ap, ◌∙◌, arith}
 use Rattle.std.specs.List.{slice_split, flat_map}
-use Rattle.std.proofs.lemmas.List.{append_assoc, append-nil, flat_map-append, length-append}
+use Rattle.std.proofs.lemmas.List.{append_assoc, append-nil, length-append}
+use Rattle.std.proofs.lemmas.List.Concat.{flat_map-append}
 use Rattle.std.proofs.lemmas.List.Elements.{Contains-append_cases}
 use Rattle.std.proofs.lemmas.List.Splits.{slice_split_at}
-use Rattle.esto_term.proofs.ListLemmas.{Contains-nil, Contains-at, Contains-cases, Contains-head, Contains-rest, at_left, at_end}
+use Rattle.esto_term.proofs.ListLemmas.{Contains-nil, Contains-at, Contains-cases, Contains-head, Contains-rest, at_left, at_end, at_pushed}
 use Rattle.esto_term.specs.declared.term.Term.{Term}
 use Rattle.esto_semantics.specs.Sets.{Has, Within}
 use Rattle.esto_semantics.specs.declared.fact.Fact.{Fact}
@@ -13,15 +14,17 @@ use Rattle.esto_world_laws.specs.Worlds.{InWorld, Linked}
 use Rattle.esto_world_laws.specs.declared.entry.Claim.{Claim}
 use Rattle.esto_world_laws.specs.declared.entry.Claim.TheVariants.{Fact as Stated, Same}
 use Rattle.esto_world_laws.specs.declared.entry.Entry.{Entry}
+use Rattle.esto_constraint.specs.Constraints.{rules_of}
+use Rattle.esto_constraint.specs.declared.rule.Constraint.{Constraint}
 use Rattle.esto_cert.specs.Certificates.{Case, MayClaim, MayEnd}
 use Rattle.esto_cert.specs.Judging.{IsJudgedText}
 use Rattle.esto_cert.specs.Lines.{line_of}
 use Rattle.esto_cert.specs.declared.line.Line.{Line}
 use Rattle.esto_cert.specs.declared.judging.Judged.TheVariants.{Claims as Makes, Ends}
 use Rattle.esto_derive.specs.Printing.{line_text, IsReadable}
-use Rattle.esto_derive.specs.Writing.{AreAccepted, AreLines, AtLines, AreEqualities, StandFor, IsState, IsWritten}
+use Rattle.esto_derive.specs.Writing.{AreAccepted, AreLines, AtLines, AreEqualities, StandFor, IsBasis, IsState, IsWritten, WritesIfUsed}
 use Rattle.esto_derive.specs.declared.writing.Written.{Written}
-use Rattle.esto_derive.proofs.TextLemmas.{read_back, no_feed}
+use Rattle.esto_derive.proofs.TextLemmas.{read_back, no_feed, some_one}
 
 -- ---- what stands for a claim still does after more lines
 
@@ -119,3 +122,60 @@ module _ (case : Case) (entries : List Entry) (used : List Bool) (lines : List (
       state.follow (line_text line ∷ []) claims (subst (λ (it : Option Line). IsJudgedText case claims it Ends) (sym (read_back line readable)) may, refl),
       state.in_world,
     )
+
+-- ---- the start, and one entry more
+
+pub state_start : (case : Case) (entries : List Entry) (used : List Bool) (lines : List (List ℕ)) (written : Written) → lines ≡ [] → written.text ≡ []
+    → written.count ≡ 0 → IsState case entries used lines written []
+state_start case entries used lines written none text count = record {
+  texts = [];
+  text_is = text;
+  one_line = λ its inside. absurd (Contains-nil its inside);
+  follow = λ rest made accepted. accepted;
+  counted = sym count;
+  in_world = λ claim inside. absurd (Contains-nil claim inside);
+  stand = λ place entry own at has is. absurd (let wrong : None ≡ Some own = ap (λ (it : List (List ℕ)). slice_get it place) (sym none) ∙ is in cc);
+}
+
+module _ (case : Case) (entries : List Entry) (used : List Bool) (lines : List (List ℕ)) (written : Written) (claims : List Claim)
+    (state : IsState case entries used lines written claims) (entry : Entry) (at : slice_get entries (length lines) ≡ Some entry) (own : List ℕ) where
+  pub state_push : (Has used (length lines) → StandFor claims own entry.claim) → IsState case entries used (lines ++ own ∷ []) written claims
+  state_push stands = record {
+    texts = state.texts;
+    text_is = state.text_is;
+    one_line = state.one_line;
+    follow = state.follow;
+    counted = state.counted;
+    in_world = state.in_world;
+    stand = λ place its its_own its_at has is. elim (at_pushed lines own place its_own is) [
+      | inl earlier ↦ state.stand place its its_own its_at has earlier
+      | inr (place_is, own_is) ↦ pushed place its its_own its_at has place_is (sym own_is)
+    ];
+  }
+    where
+      pushed : (place : ℕ) (its : Entry) (its_own : List ℕ) → slice_get entries place ≡ Some its → Has used place → place ≡ length lines → its_own ≡ own
+          → StandFor claims its_own its.claim
+      pushed place its its_own its_at has place_is own_is =
+          let same : its ≡ entry = some_one (sym its_at ∙ ap (slice_get entries) place_is ∙ at) in
+          subst (λ (it : List ℕ). StandFor claims it its.claim) (sym own_is)
+          (subst (λ (it : Entry). StandFor claims own it.claim) (sym same) (stands (subst (Has used) place_is has)))
+
+-- one entry more, used or not
+pub used_goes : (rules : List Constraint) (entries : List Entry) (used : List Bool) (lines shown more : List (List ℕ)) (entry : Entry) (old new : Written)
+    (own : List ℕ) → shown ≡ lines → slice_get entries (length lines) ≡ Some entry → WritesIfUsed rules entries used shown entry.claim old new own
+    → more ≡ lines ++ own ∷ [] → (case : Case) → case.rules ≡ rules_of rules → IsBasis case entries used
+    → (claims : List Claim) × IsState case entries used lines old claims → (claims : List Claim) × IsState case entries used more new claims
+used_goes rules entries used lines shown more entry old new own shown_is at writes more_is case rules_is basis (claims, state) =
+    elim (subst (λ (it : List (List ℕ)). WritesIfUsed rules entries used it entry.claim old new own) shown_is writes) [
+      | inl (has, goes) ↦ (let later = goes case claims rules_is basis has state in (
+          later.0,
+          subst (λ (it : List (List ℕ)). IsState case entries used it new later.0) (sym more_is)
+              (state_push case entries used lines new later.0 later.1 entry at own (λ again. later.2)),
+        ))
+      | inr (unused, same) ↦ (
+          claims,
+          subst (λ (it : List (List ℕ)). IsState case entries used it new claims) (sym more_is)
+              (subst (λ (it : Written). IsState case entries used (lines ++ own ∷ []) it claims) (sym same)
+              (state_push case entries used lines old claims state entry at own (λ has. absurd (unused has)))),
+        )
+    ]

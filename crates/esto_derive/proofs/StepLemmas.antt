@@ -21,7 +21,6 @@ use Rattle.esto_cert.specs.Lines.{with_item}
 use Rattle.esto_cert.specs.Linking.{IsAmong}
 use Rattle.esto_cert.specs.Matching.{IsLike}
 use Rattle.esto_cert.specs.declared.linking.Equality.{Equality}
-use Rattle.esto_cert.proofs.LinkLemmas.{Linked-more}
 use Rattle.esto_derive.specs.Printing.{Fit}
 use Rattle.esto_derive.specs.Writing.{AtLines, AreEqualities, StandFor, own_lines, lines_at, AddsNew}
 
@@ -43,6 +42,9 @@ pub Linked-through : {P Q : Claim → Type 0} → ((s t : Term) → P (Same s t)
 Linked-through through s t here = here
 Linked-through through s t (along holds linked) = Linked-then _ _ _ (through _ _ holds) (Linked-through through _ _ linked)
 Linked-through through s t (back holds linked) = Linked-then _ _ _ (Linked-back _ _ (through _ _ holds)) (Linked-through through _ _ linked)
+
+pub Linked-said : {P Q : Claim → Type 0} → ((s t : Term) → P (Same s t) → Q (Same s t)) → (s t : Term) → Linked P s t → Linked Q s t
+Linked-said said = Linked-through (λ s t holds. one_link s t (said s t holds))
 
 -- ---- equalities by their lines
 
@@ -89,7 +91,7 @@ module _ (claims : List Claim) (lines : List (List ℕ)) (its : List Entry) (pla
   facts_named [] (fact ∷ chosen) among stated = absurd stated
   facts_named (place ∷ facts) [] among stated = absurd stated
   facts_named (place ∷ facts) (fact ∷ chosen) among stated =
-      let (own, at, line, is, claimed) = stands place (among place (Contains-head place facts)) (Stated fact) stated.0 in
+      let (own, at, (line, is, claimed)) = stands place (among place (Contains-head place facts)) (Stated fact) stated.0 in
       ap (λ (it : List ℕ). facts_at claims (map (λ line. line + 1) (it ++ lines_at lines facts))) (ap own_lines at ∙ is)
       ∙ ap (λ (it : Option Claim). with_item (fact_of it) (facts_at claims (map (λ line. line + 1) (lines_at lines facts)))) (numbered_next claims line ∙ claimed)
       ∙ ap (with_item (Some fact)) (facts_named facts chosen (λ other inside. among other (Contains-rest place facts other inside)) stated.1)
@@ -101,7 +103,7 @@ module _ (claims : List Claim) (lines : List (List ℕ)) (its : List Entry) (pla
   facts_there facts chosen among stated line inside =
       let (place, place_inside, own_inside) = Contains-flat_from (λ place. own_lines (slice_get lines place)) facts line inside in
       let (fact, fact_inside, claims_fact) = zip_left (λ (place : ℕ) (fact : Fact Term). Claims its place (Stated fact)) facts chosen stated place place_inside in
-      let (own, at, its_line, is, claimed) = stands place (among place place_inside) (Stated fact) claims_fact in
+      let (own, at, (its_line, is, claimed)) = stands place (among place place_inside) (Stated fact) claims_fact in
       elim (Contains-cases its_line [] line (subst (λ (it : List ℕ). Contains it line) (ap own_lines at ∙ is) own_inside)) [
         | inl same ↦ subst (λ (it : ℕ). it < length claims) same (slice_get_within claims its_line (Stated fact) claimed)
         | inr none ↦ absurd (Contains-nil line none)
@@ -116,14 +118,14 @@ module _ (claims : List Claim) (lines : List (List ℕ)) (its : List Entry) (pla
     are_equalities line inside =
         let (place, place_inside, own_inside) = Contains-flat_from (λ place. own_lines (slice_get lines place)) links line (from_links line inside) in
         let (left, right, claims_it) = equalities place place_inside in
-        let (own, at, are, by) = stands place (among place place_inside) (Same left right) claims_it in
+        let (own, at, (are, by)) = stands place (among place place_inside) (Same left right) claims_it in
         are line (subst (λ (it : List ℕ). Contains it line) (ap own_lines at) own_inside)
 
     -- what the entries link the lines link
     pub lines_link : (place : ℕ) → Contains links place → (left right : Term) → Claims its place (Same left right) → Linked (AtLines claims linked) left right
     lines_link place inside left right claims_it =
-        let (own, at, are, by) = stands place (among place inside) (Same left right) claims_it in
-        Linked-more (λ s t (line, line_inside, claimed). (
+        let (own, at, (are, by)) = stands place (among place inside) (Same left right) claims_it in
+        Linked-said (λ s t (line, line_inside, claimed). (
           line,
           (adds line).1 (inr (Contains-flat (λ place. own_lines (slice_get lines place)) links place line inside
           (subst (λ (it : List ℕ). Contains it line) (sym (ap own_lines at)) line_inside))),
@@ -144,7 +146,7 @@ module _ (claims : List Claim) (lines : List (List ℕ)) (its : List Entry) (pla
     eqs = equalities_of claims linked (are_equalities links links_among equalities linked adds)
 
     among_linked : (s t : Term) → Linked (AtLines claims linked) s t → Linked (IsAmong chosen eqs.equalities) s t
-    among_linked = Linked-more (λ s t held. eqs.has s t held)
+    among_linked = Linked-said (λ s t held. eqs.has s t held)
 
     pub one : (s t : Term) → Linked (IsNamed its links) s t → Linked (IsAmong chosen eqs.equalities) s t
     one s t by = among_linked s t (all_link links links_among equalities linked adds s t by)

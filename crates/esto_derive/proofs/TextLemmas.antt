@@ -9,12 +9,14 @@ use Rattle.std.proofs.lemmas.List.Elements.{All-nil, All-cons, All-head, All-app
 use Rattle.std.proofs.lemmas.List.Splits.{slice_split_at, slice_split_none}
 use Rattle.esto_term.proofs.ListLemmas.{Contains-head, Contains-rest}
 use Rattle.esto_term.specs.Nesting.{greatest_u64}
-use Rattle.esto_cert.proofs.MatchLemmas.{some_one}
 use Rattle.esto_list.specs.Text.{each_from, comma_before, numbers_text}
 use Rattle.esto_cert.specs.Lines.{number_after, number_of, numbers_of, list_of, links_of, is_word, with_item, line_of, line_of_words, expanded_of, step_of, match_of}
 use Rattle.esto_cert.specs.declared.line.Line.{Line}
 use Rattle.esto_cert.specs.declared.line.Line.TheVariants.{Expanded, Step, Match}
 use Rattle.esto_derive.specs.Printing.{after_commas, list_text, line_text, Fit, IsReadable, LinesAreReadBack}
+
+pub some_one : {A : Type 0} {one other : A} → Some one ≡ Some other → one ≡ other
+some_one same = cc
 
 -- ---- numbers
 
@@ -41,18 +43,20 @@ digit_more (byte ∷ digits) value number digit is small fits =
         → (number_after (value * 10 + (byte - 48)) digits ≡ Some number
         → number_after (value * 10 + (byte - 48)) (digits ++ (48 + digit) ∷ []) ≡ Some (number * 10 + digit))
         → (if test then number_after (value * 10 + (byte - 48)) (digits ++ (48 + digit) ∷ []) else None) ≡ Some (number * 10 + digit)
-    by true goes then = then goes
-    by false wrong then = cc
+    by true goes again = again goes
+    by false wrong again = cc
 
 digits_read : (number : ℕ) → number ≤ greatest_u64 → number_after 0 (decimal number) ≡ Some number
 digits_read number fits = decimal_by_steps (λ n digits. n ≤ greatest_u64 → number_after 0 digits ≡ Some n)
-    (λ n small small_too. one_more 0 n small (omega arith))
+    (λ n small fits. one_more 0 n small (omega arith) ∙ ap (λ (it : ℕ). Some it) (none n))
     (λ n digits large read fits.
     digit_more digits 0 (n / 10) (n % 10) (read (omega (arith, fits))) (omega arith) (omega (arith, fits)) ∙ ap (λ (it : ℕ). Some it) (whole n))
     number (omega (arith, fits)) fits
   where
     whole : (n : ℕ) → n / 10 * 10 + n % 10 ≡ n
     whole n = omega arith
+    none : (n : ℕ) → 0 * 10 + n ≡ n
+    none n = omega arith
 
 read_whole : (digits : List ℕ) (number : ℕ) → 0 < length digits → (2 ≤ length digits → 48 < get_or digits 0 0) → number_after 0 digits ≡ Some number
     → number_of digits ≡ Some number
@@ -148,14 +152,14 @@ links_read (number ∷ numbers) fit =
 
 -- ---- lines
 
-words : (word rest : List ℕ) → All IsOfList word → slice_split (λ byte. byte == 32) (word ++ codes " " ++ rest)
+words : (word rest : List ℕ) → All IsOfList word → slice_split (λ byte. byte == 32) (word ++ (codes " " ++ rest))
     ≡ word ∷ slice_split (λ byte. byte == 32) rest
 words word rest are = slice_split_at (λ byte. byte == 32) word 32 rest (no_space word are) refl
 
 last_word : (word : List ℕ) → All IsOfList word → slice_split (λ byte. byte == 32) word ≡ word ∷ []
 last_word word are = slice_split_none (λ byte. byte == 32) word (no_space word are)
 
-two_words : (verb first second : List ℕ) → All IsOfList first → All IsOfList second → (λ (it : List (List ℕ)). line_of_words (verb ∷ it)) (slice_split (λ byte. byte == 32) (first ++ codes " " ++ second))
+two_words : (verb first second : List ℕ) → All IsOfList first → All IsOfList second → (λ (it : List (List ℕ)). line_of_words (verb ∷ it)) (slice_split (λ byte. byte == 32) (first ++ (codes " " ++ second)))
     ≡ line_of_words (verb ∷ first ∷ second ∷ [])
 two_words verb first second are are_too =
     ap (λ (it : List (List ℕ)). line_of_words (verb ∷ it)) (words first second are ∙ ap (λ (it : List (List ℕ)). first ∷ it) (last_word second are_too))
@@ -171,9 +175,9 @@ read_back (Match facts links) (some, fit, fit_too) =
     ∙ ap (match_of (Some facts)) (links_read links fit_too)
 read_back (Step number place facts links) (fits, fits_too, some, fit, fit_too) =
     ap (λ (it : List (List ℕ)). line_of_words (codes "step" ∷ it))
-    (words (decimal number) (decimal place ++ codes " " ++ list_text facts ++ codes " " ++ list_text links) (of_digits number fits)
+    (words (decimal number) (decimal place ++ (codes " " ++ (list_text facts ++ (codes " " ++ list_text links)))) (of_digits number fits)
     ∙ ap (λ (it : List (List ℕ)). decimal number ∷ it)
-    (words (decimal place) (list_text facts ++ codes " " ++ list_text links) (of_digits place fits_too)
+    (words (decimal place) (list_text facts ++ (codes " " ++ list_text links)) (of_digits place fits_too)
     ∙ ap (λ (it : List (List ℕ)). decimal place ∷ it)
     (words (list_text facts) (list_text links) (list-of_list facts fit)
     ∙ ap (λ (it : List (List ℕ)). list_text facts ∷ it) (last_word (list_text links) (list-of_list links fit_too)))))
@@ -185,35 +189,38 @@ read_back (Step number place facts links) (fits, fits_too, some, fit, fit_too) =
 -- ---- lists of lines
 
 -- numbers of lines that are counted from 0, in print
-commas_text : (from : ℕ) (lines : List ℕ) → each_from (λ place line. comma_before place ++ decimal (line + 1)) (suc from) lines
+commas_text : (from : ℕ) → 0 < from → (lines : List ℕ) → each_from (λ place line. comma_before place ++ decimal (line + 1)) from lines
     ≡ after_commas (map (λ line. line + 1) lines)
-commas_text from [] = refl
-commas_text from (line ∷ lines) = ap (λ (it : List ℕ). codes "," ++ decimal (line + 1) ++ it) (commas_text (suc from) lines)
+commas_text from some [] = refl
+commas_text zero some (line ∷ lines) = absurd (omega (arith, some))
+commas_text (suc from) some (line ∷ lines) =
+    ap (λ (it : List ℕ). (codes "," ++ decimal (line + 1)) ++ it) (commas_text (suc from + 1) (omega arith) lines)
+    ∙ append_assoc (codes ",") (decimal (line + 1)) (after_commas (map (λ line. line + 1) lines))
 
 pub lines_text : (lines : List ℕ) → length lines ≢ 0 → numbers_text lines ≡ list_text (map (λ line. line + 1) lines)
 lines_text [] some = absurd (some refl)
-lines_text (line ∷ lines) some = ap (λ (it : List ℕ). decimal (line + 1) ++ it) (commas_text 0 lines)
+lines_text (line ∷ lines) some = ap (λ (it : List ℕ). decimal (line + 1) ++ it) (commas_text 1 (omega arith) lines)
 
 -- ---- no line feed
 
 above : (word : List ℕ) → All IsOfList word → All (λ byte. 32 ≤ byte) word
 above = All-weaker IsOfList (λ byte. 32 ≤ byte) (λ byte (from, to). omega (arith, from))
 
-spaced : (word rest : List ℕ) → All IsOfList word → All (λ byte. 32 ≤ byte) rest → All (λ byte. 32 ≤ byte) (word ++ codes " " ++ rest)
+spaced : (word rest : List ℕ) → All IsOfList word → All (λ byte. 32 ≤ byte) rest → All (λ byte. 32 ≤ byte) (word ++ (codes " " ++ rest))
 spaced word rest are are_too = All-append (λ byte. 32 ≤ byte) word (codes " " ++ rest) (above word are) (All-cons (λ byte. 32 ≤ byte) 32 rest (omega arith) are_too)
 
 printable : (line : Line) → IsReadable line → All (λ byte. 32 ≤ byte) (line_text line)
 printable (Expanded atom place) (fits, fits_too) =
     All-append (λ byte. 32 ≤ byte) (codes "fact ") _
-    (All-from_recursion (λ byte. 32 ≤ byte) (codes "fact ") (omega arith, omega arith, omega arith, omega arith, omega arith, tt))
+    (All-from_recursion (λ byte. 32 ≤ byte) (codes "fact ") (omega arith, (omega arith, (omega arith, (omega arith, (omega arith, tt))))))
     (spaced (decimal atom) (decimal place) (of_digits atom fits) (above (decimal place) (of_digits place fits_too)))
 printable (Match facts links) (some, fit, fit_too) =
     All-append (λ byte. 32 ≤ byte) (codes "match ") _
-    (All-from_recursion (λ byte. 32 ≤ byte) (codes "match ") (omega arith, omega arith, omega arith, omega arith, omega arith, omega arith, tt))
+    (All-from_recursion (λ byte. 32 ≤ byte) (codes "match ") (omega arith, (omega arith, (omega arith, (omega arith, (omega arith, (omega arith, tt)))))))
     (spaced (list_text facts) (list_text links) (list-of_list facts fit) (above (list_text links) (list-of_list links fit_too)))
 printable (Step number place facts links) (fits, fits_too, some, fit, fit_too) =
     All-append (λ byte. 32 ≤ byte) (codes "step ") _
-    (All-from_recursion (λ byte. 32 ≤ byte) (codes "step ") (omega arith, omega arith, omega arith, omega arith, omega arith, tt))
+    (All-from_recursion (λ byte. 32 ≤ byte) (codes "step ") (omega arith, (omega arith, (omega arith, (omega arith, (omega arith, tt))))))
     (spaced (decimal number) _ (of_digits number fits)
     (spaced (decimal place) _ (of_digits place fits_too)
     (spaced (list_text facts) (list_text links) (list-of_list facts fit) (above (list_text links) (list-of_list links fit_too)))))

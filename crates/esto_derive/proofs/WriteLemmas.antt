@@ -27,14 +27,13 @@ use Rattle.esto_cert.specs.Certificates.{Case, MayClaim, made_at}
 use Rattle.esto_cert.specs.Matching.{IsLike}
 use Rattle.esto_cert.specs.declared.line.Line.{Line}
 use Rattle.esto_cert.specs.declared.line.Line.TheVariants as line
-use Rattle.esto_cert.proofs.MatchLemmas.{some_one}
-use Rattle.esto_cert.proofs.LinkLemmas.{Linked-more}
 use Rattle.esto_derive.specs.Marking.{named_by}
 use Rattle.esto_derive.specs.Printing.{line_text, IsReadable}
 use Rattle.esto_derive.specs.Writing.{AtLines, AreEqualities, StandFor, IsBasis, IsState, AddsNew, lines_at}
 use Rattle.esto_derive.specs.declared.writing.Written.{Written}
 use Rattle.esto_derive.proofs.StateLemmas.{line_more, own_line}
-use Rattle.esto_derive.proofs.StepLemmas.{numbered_next, are_equalities, lines_link, matches, eqs, facts_fit, links_fit, facts_some}
+use Rattle.esto_derive.proofs.TextLemmas.{some_one}
+use Rattle.esto_derive.proofs.StepLemmas.{numbered_next, Linked-said, are_equalities, lines_link, matches, eqs, facts_fit, links_fit, facts_some}
 
 -- ---- what a step names
 
@@ -42,7 +41,7 @@ use Rattle.esto_derive.proofs.StepLemmas.{numbered_next, are_equalities, lines_l
 pub claims_in_all : (entries : List Entry) (count place : ℕ) (claim : Claim) → Claims (take count entries) place claim → Claims entries place claim
 claims_in_all entries count place claim (entry, at, is) = (entry, taken_at entries count place entry at, is)
 
-like_chosen : (Holds : Claim → Type 0) (body chosen : List (Fact Term)) → AreChosen Holds body chosen → AllZip IsLike body chosen
+pub like_chosen : (Holds : Claim → Type 0) (body chosen : List (Fact Term)) → AreChosen Holds body chosen → AllZip IsLike body chosen
 like_chosen Holds body chosen = zip_weaker
     (λ (atom : Fact Term) (fact : Fact Term). Holds (Stated fact) × (fact.relation ≡ atom.relation) × (length fact.terms ≡ length atom.terms)) IsLike body chosen
     (λ atom fact inside are. (are.1, are.2))
@@ -69,21 +68,21 @@ step_of expanded rules entries count entry derived at number places is =
 
 module _ (entries : List Entry) (rules : List Rule) (count number : ℕ) (places : List ℕ) (claim : Claim) (product : List Bool)
     (step : IsStep entries rules count number places claim product) where
-  by : FollowsBy (take count entries) number step.0 places claim
+  abbrev pub by : FollowsBy (take count entries) number step.0 places claim
   by = step.2
 
-  few : length by.facts ≡ length (body_of step.0)
-  few = zip_length (λ (place : ℕ) (fact : Fact Term). Claims (take count entries) place (Stated fact)) by.facts by.chosen by.stated
+  few_facts : length by.facts ≡ length (body_of step.0)
+  few_facts = zip_length (λ (place : ℕ) (fact : Fact Term). Claims (take count entries) place (Stated fact)) by.facts by.chosen by.stated
       ∙ sym (zip_length IsLike (body_of step.0) by.chosen (like_chosen (IsNamed (take count entries) places) (body_of step.0) by.chosen by.matches.0))
 
   pub long_enough : length (body_of step.0) ≤ length places
-  long_enough = omega (arith, few, ap length by.in_order, length-append by.facts by.links)
+  long_enough = omega (arith, few_facts, ap length by.in_order, length-append by.facts by.links)
 
   pub facts_are : take (length (body_of step.0)) places ≡ by.facts
-  facts_are = ap (λ (it : ℕ). take it places) (sym few) ∙ ap (take (length by.facts)) by.in_order ∙ take_front by.facts by.links
+  facts_are = ap (λ (it : ℕ). take it places) (sym few_facts) ∙ ap (take (length by.facts)) by.in_order ∙ take_front by.facts by.links
 
   pub links_are : drop (length (body_of step.0)) places ≡ by.links
-  links_are = ap (λ (it : ℕ). drop it places) (sym few) ∙ ap (drop (length by.facts)) by.in_order ∙ drop_front by.facts by.links
+  links_are = ap (λ (it : ℕ). drop it places) (sym few_facts) ∙ ap (drop (length by.facts)) by.in_order ∙ drop_front by.facts by.links
 
   pub named_before : (place : ℕ) → Contains places place → place < count
   named_before place inside = omega (arith, step.3.there place inside, length-take count entries)
@@ -117,16 +116,17 @@ module _ (entries : List Entry) (rules : List Rule) (count number : ℕ) (places
     where
       apart : (place : ℕ) (fact : Fact Term) (s t : Term) → Claims (take count entries) place (Stated fact) → Claims (take count entries) place (Same s t) → ⊥
       apart place fact s t (entry, at, is) (other, other_at, other_is) =
-          let same : entry ≡ other = some_entry (sym at ∙ other_at) in
+          let same : entry ≡ other = some_one (sym at ∙ other_at) in
           let wrong : Stated fact ≡ Same s t = sym is ∙ ap (λ (it : Entry). it.claim) same ∙ other_is in cc
-      some_entry : {one other : Entry} → Some one ≡ Some other → one ≡ other
-      some_entry same = cc
 
   pub fits_by_links : Fits (Linked (IsNamed entries by.links)) (terms_of (body_of step.0)) (terms_of by.chosen)
   fits_by_links = zip_weaker (Linked (IsNamed (take count entries) places)) (Linked (IsNamed entries by.links)) _ _
-      (λ s t inside linked. Linked-more by_links s t linked) by.matches.1
+      (λ s t inside linked. Linked-said by_links s t linked) by.matches.1
 
 -- ---- the line of an entry
+
+less_one : (number : ℕ) → number + 1 - 1 ≡ number
+less_one number = omega arith
 
 module _ (case : Case) (entries : List Entry) (used : List Bool) (basis : IsBasis case entries used) (lines : List (List ℕ)) (written : Written)
     (claims : List Claim) (state : IsState case entries used lines written claims) where
@@ -230,7 +230,7 @@ module _ (case : Case) (entries : List Entry) (used : List Bool) (basis : IsBasi
                   found.equalities,
                   matches claims lines entries places stands facts links step.2.chosen (body_of step.0) facts_among links_among stated equalities linked adds
                       like fit,
-                  ap (λ (it : ℕ). made_at at_place it step.0 (match_map (body_of step.0) step.2.chosen)) minus ∙ made,
+                  ap (λ (it : ℕ). made_at at_place it step.0 (match_map (body_of step.0) step.2.chosen)) (less_one number) ∙ made,
                 ),
               ) in
               let readable : IsReadable its = (
@@ -248,8 +248,6 @@ module _ (case : Case) (entries : List Entry) (used : List Bool) (basis : IsBasi
                 subst (λ (it : List ℕ). StandFor (claims ++ entry.claim ∷ []) it entry.claim) (sym own_is)
                     (own_line case entries used lines written claims state its readable entry.claim may holds new text count),
               )
-          minus : number + 1 - 1 ≡ number
-          minus = omega arith
 
       pub step_goes : (rule : Rule) → slice_get case.rules number ≡ Some rule → StepGoes rule
       step_goes rule rule_at = subst StepGoes (some_one (sym step.1 ∙ rule_at)) step_goes_on

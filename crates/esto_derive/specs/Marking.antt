@@ -35,8 +35,8 @@ pub record Closes (entries : List Entry) (old new : List Bool) : Type 0 where
 -- The entries at the places, and all that they name directly or through others, are used, and these stay within each set that the entries at the places are
 -- within.
 pub record AreUsed (entries : List Entry) (facts links : List ℕ) (used : List Bool) : Type 0 where
-  pub facts : (place : ℕ) → Contains facts place → Has used place
-  pub links : (place : ℕ) → Contains links place → Has used place
+  pub has_facts : (place : ℕ) → Contains facts place → Has used place
+  pub has_links : (place : ℕ) → Contains links place → Has used place
   pub closed : AreClosed entries used
   pub within : (set : List Bool)
       → ((place : ℕ) (entry : Entry) → Contains facts place ⊎ Contains links place → slice_get entries place ≡ Some entry → Within entry.product set)

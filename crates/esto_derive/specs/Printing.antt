@@ -9,7 +9,7 @@ use Rattle.esto_cert.specs.declared.line.Line.TheVariants.{Expanded, Step, Match
 -- Each of the numbers, with a comma before it.
 abbrev pub after_commas : List ℕ → List ℕ
 after_commas [] = []
-after_commas (number ∷ numbers) = codes "," ++ decimal number ++ after_commas numbers
+after_commas (number ∷ numbers) = codes "," ++ (decimal number ++ after_commas numbers)
 
 -- The numbers of a list between commas, or a minus for none.
 abbrev pub list_text : List ℕ → List ℕ
@@ -18,10 +18,10 @@ list_text (number ∷ numbers) = decimal number ++ after_commas numbers
 
 -- A line in print, without the line feed that ends it.
 abbrev pub line_text : Line → List ℕ
-line_text (Expanded atom place) = codes "fact " ++ decimal atom ++ codes " " ++ decimal place
+line_text (Expanded atom place) = codes "fact " ++ (decimal atom ++ (codes " " ++ decimal place))
 line_text (Step number place facts links) =
-    codes "step " ++ decimal number ++ codes " " ++ decimal place ++ codes " " ++ list_text facts ++ codes " " ++ list_text links
-line_text (Match facts links) = codes "match " ++ list_text facts ++ codes " " ++ list_text links
+    codes "step " ++ (decimal number ++ (codes " " ++ (decimal place ++ (codes " " ++ (list_text facts ++ (codes " " ++ list_text links))))))
+line_text (Match facts links) = codes "match " ++ (list_text facts ++ (codes " " ++ list_text links))
 
 -- Each of the numbers is at most the greatest of 64 bits.
 abbrev pub Fit : List ℕ → Type 0

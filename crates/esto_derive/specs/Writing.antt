@@ -127,7 +127,10 @@ abbrev pub claimed_terms : Claim → List Term
 claimed_terms (Stated fact) = fact.terms
 claimed_terms (Same left right) = []
 
--- The terms are those of facts that the entries at the places state.
-abbrev pub AreTermsAt : List Entry → List ℕ → List Term → Type 0
-AreTermsAt entries places terms =
-    (chosen : List (Fact Term)) → AllZip (λ (place : ℕ) (fact : Fact Term). Claims entries place (Stated fact)) places chosen → terms ≡ terms_of chosen
+-- The terms of the facts that the entries at the places state, in order.
+abbrev pub entry_terms : Option Entry → List Term
+entry_terms None = []
+entry_terms (Some entry) = claimed_terms entry.claim
+
+abbrev pub terms_at : List Entry → List ℕ → List Term
+terms_at entries places = flat_map (λ place. entry_terms (slice_get entries place)) places

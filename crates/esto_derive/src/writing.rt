@@ -5,13 +5,13 @@ ghost use Rattle.esto_semantics.specs.Sets.{Has};
 ghost use Rattle.esto_views.specs.declared.expansion.ExpandedFact.{ExpandedFact};
 ghost use Rattle.esto_world_laws.specs.Derived.{AreDerived};
 ghost use Rattle.esto_world_laws.specs.declared.entry.Reason.TheVariants.{Expanded, Step, Equal};
-ghost use Rattle.esto_derive.specs.Writing.{lines_at, claimed_terms, AddsNew, AreTermsAt, Writes, WritesIfUsed, WritesAll, WritesMatch};
+ghost use Rattle.esto_derive.specs.Writing.{lines_at, claimed_terms, terms_at, AddsNew, Writes, WritesIfUsed, WritesAll, WritesMatch};
 
 use crate::placing::place_of;
 use crate::printing::{put_expanded, put_match, put_step};
 use esto_bits::RowBits;
 use esto_cert::{body_of, terms_of};
-use esto_constraint::Constraint;
+use esto_constraint::{Constraint, rules_are_sound};
 use esto_prov::{Claim, Entry, Reason};
 use esto_term::{Bytes, List, OutOfMemory, Places, Replicate, Terms, Values};
 use std::alloc::Global;
@@ -98,7 +98,7 @@ fn links_at(alloc: Global, lines: &[Places], places: &[usize]) -> Result<Places,
 /// The terms of the facts that the entries at the places state.
 pub fn terms_at(alloc: Global, entries: &[Entry], places: &[usize]) -> Result<Terms, OutOfMemory>
     requires { (place : ℕ) → Contains places.now place → place < length entries.now }
-    ensures { IfOk result (AreTermsAt entries.now places.now) }
+    ensures { IfOk result (λ it. it ≡ terms_at entries.now places.now) }
 {
     let mut terms = List::new(alloc);
     'places: for place in places {
@@ -124,6 +124,7 @@ impl Written {
         ensures text { OnOk result (self.new.text ≡ self.old.text) }
         ensures count { OnOk result (self.new.count ≡ self.old.count + 1) }
         ensures own { IfOk result (λ own. own ≡ self.old.count ∷ []) }
+        ensures fits { self.old.count < 18446744073709551615 }
     {
         let mut own = Values::new(alloc);
         own.push(self.count)?;
@@ -175,6 +176,7 @@ impl Writer<'_> {
         ensures writes { IfOk result (Writes self.now.rules.now self.now.entries.now
             self.now.used.now lines.now entry.now.claim written.old written.new) }
     {
+        rules_are_sound();
         let rule = &self.rules[number];
         let body = body_of(rule);
         let (facts, links) = places.split_at(body.len());
@@ -246,6 +248,7 @@ impl Writer<'_> {
         requires text { written.old.text ≡ [] }
         requires count { written.old.count ≡ 0 }
         ensures length { IfOk result (λ lines. length lines ≡ length self.now.entries.now) }
+        ensures count { OnOk result (written.new.count ≤ length self.now.entries.now) }
         ensures writes { IfOk result (WritesAll self.now.rules.now self.now.entries.now
             self.now.used.now written.new) }
     {
