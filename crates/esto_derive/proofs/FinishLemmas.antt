@@ -18,7 +18,10 @@ use Rattle.esto_world_laws.specs.declared.entry.Entry.{Entry}
 use Rattle.esto_cert.specs.Certificates.{Case}
 use Rattle.esto_derive.specs.Marking.{AreUsed, AreUsedWithin}
 use Rattle.esto_derive.specs.Searching.{ClaimsIn, GoesOn, IsFound, AreLinks}
-use Rattle.esto_derive.specs.Writing.{IsBasis, IsMatchAt, terms_at}
+use Rattle.esto_derive.specs.Writing.{IsBasis, IsMatchAt, IsWritten, WritesMatch, terms_at}
+use Rattle.esto_constraint.specs.Constraints.{rules_of}
+use Rattle.esto_constraint.specs.declared.rule.Constraint.{Constraint}
+use Rattle.esto_views.specs.declared.expansion.ExpandedFact.{ExpandedFact}
 use Rattle.esto_derive.proofs.LoopLemmas.{terms_stated}
 use Rattle.esto_derive.proofs.MatchLemmas.{match_at, some_go_on}
 use Rattle.esto_derive.proofs.TextLemmas.{some_one}
@@ -86,3 +89,18 @@ module _ (entries : List Entry) (set : List Bool) (head targets : List Term) (bo
           match_at entries set head body found.0 targets facts links found.1 found.2 lengths are
           (subst (λ (it : List Term). Fits (Linked (IsNamed entries links)) it (targets ++ terms_of found.0)) from_is
           (subst (λ (it : List Term). Fits (Linked (IsNamed entries links)) from it) (to_is ∙ ap (λ (it : List Term). targets ++ it) terms_found) fits)) safe
+
+      -- what is written of such a match is a certificate
+      pub finished : (rules : List Constraint) (used : List Bool) → AreUsed entries facts links used → (bytes : List ℕ)
+          → WritesMatch rules entries used facts links bytes → (from to : List Term) → from ≡ head ++ terms_of body → to ≡ targets ++ terms_at entries facts
+          → Fits (Linked (IsNamed entries links)) from to → length targets ≡ length head → body ≢ []
+          → ((term : Term) → Contains head term → IsFixedBy body term) → (expanded : List ExpandedFact) → AreDerived expanded (rules_of rules) entries
+          → IsWritten (record {
+            expanded = expanded;
+            set = set;
+            rules = rules_of rules;
+            query = record { head = head; body = body };
+            targets = targets;
+          }) entries bytes
+      finished rules used is bytes writes from to from_is to_is fits lengths some safe expanded derived =
+          writes _ refl (basis _ refl derived used is) some is.has_facts is.has_links (match_found from to from_is to_is fits lengths safe)

@@ -2,6 +2,7 @@
 use Rattle.std.proofs.Common.{◌≡◌, ◌⊎◌, inl, inr, ℕ, ◌<◌, Bool, true, false, List, Some, length, map, slice_get, Contains, subst, refl, sym, ap, ◌∙◌}
 use Rattle.std.specs.Bool.{Decides}
 use Rattle.std.specs.Set.{is_member}
+use Rattle.std.proofs.lemmas.List.{length-map}
 use Rattle.std.proofs.lemmas.Map.Made.{is_member-Decides}
 use Rattle.esto_term.proofs.ListLemmas.{Contains-at, Contains-map, Contains-map_from, map_at, map_at-from, thing_at}
 use Rattle.esto_term.specs.Order.{same_term}
@@ -61,7 +62,7 @@ module _ (plan : Plan) (fragments : List FragmentDef) (expanded : List ExpandedF
         by true decides variable = flat_atom (expands.of.spread number term)
             (subst (λ (it : List Term). Contains it (expands.of.spread number term)) (expands.of.head number (fact_of atom.0) in_query)
             (Contains-map (expands.of.spread number) (expands.of.view number).head term (decides.0 refl)))
-        by false decides variable = inr (expands.of.variable number term ? (record {
+        by false decides variable = inr (expands.of.variable number term (subst (λ (it : ℕ). number < it) (sym (length-map plan.atoms fact_of)) within) (record {
           in_body = (part, part_inside, inside);
           no_constant = λ constant. let wrong : Plain variable.0 ≡ Const constant.0 = sym variable.1 ∙ constant.1 in cc;
           not_in_head = λ in_head. let wrong : false ≡ true = decides.1 in_head in cc;

@@ -10,3 +10,4 @@ mod UseLemmas
 mod MatchLemmas
 mod FinishLemmas
 mod FlatLemmas
+mod AcceptLemmas

@@ -15,7 +15,12 @@ use Rattle.esto_world_laws.specs.declared.entry.Claim.{Claim}
 use Rattle.esto_world_laws.specs.declared.entry.Claim.TheVariants.{Fact as Stated, Same}
 use Rattle.esto_world_laws.specs.declared.entry.Entry.{Entry}
 use Rattle.std.specs.List.{AllZip}
+use Rattle.esto_catalog.specs.declared.catalogue.Catalogue.{Catalogue}
+use Rattle.esto_query.specs.Making.{query_of}
+use Rattle.esto_query.specs.declared.query.Query.{Query}
+use Rattle.esto_views.specs.Expanded.{AreExpanded, Expands}
 use Rattle.esto_views.specs.declared.expansion.ExpandedFact.{ExpandedFact}
+use Rattle.esto_views.specs.declared.plan.Plan.{Plan}
 use Rattle.esto_cert.specs.Certificates.{Case}
 use Rattle.esto_cert.specs.Judging.{IsJudgedText}
 use Rattle.esto_cert.specs.Lines.{line_of}
@@ -41,6 +46,13 @@ abbrev pub IsWritten : Case → List Entry → List ℕ → Type 0
 IsWritten case entries bytes =
     (texts : List (List ℕ)) × (made : List Claim) × AreLines bytes texts × AreAccepted case [] texts made
     × ((claim : Claim) → Contains made claim → InWorld entries case.set claim)
+
+-- The same of a certificate for a set of a plan's atoms, by the plan's expansion over the catalogue's fragments.
+abbrev pub IsWrittenFor : Catalogue → Query → Plan → List Bool → List Entry → List ℕ → Type 0
+IsWrittenFor catalogue query plan set entries bytes =
+    (expanded : List ExpandedFact) × AreExpanded catalogue.fragments 0 (length plan.names) plan.atoms expanded
+    × Expands plan catalogue.fragments expanded
+    × IsWritten (record { expanded = expanded; set = set; rules = rules_of catalogue.rules; query = query_of query; targets = plan.head }) entries bytes
 
 -- ---- while it is written
 
