@@ -1,6 +1,5 @@
 -- What is written is accepted.
-use Rattle.std.proofs.Common.{◌≡◌, Bool, inl, inr, ◌==◌, ℕ, ◌+◌, List, [], ◌∷◌, ◌++◌, Option, None, length, refl, sym, subst}
-use Rattle.std.specs.List.{slice_split}
+use Rattle.std.proofs.Common.{◌≡◌, Bool, inl, inr, ℕ, ◌+◌, List, [], ◌∷◌, ◌++◌, None, refl, sym, subst}
 use Rattle.esto_term.specs.declared.term.Term.{Term}
 use Rattle.esto_constraint.specs.Constraints.{rules_of}
 use Rattle.esto_constraint.specs.declared.rule.Constraint.{Constraint}

@@ -1,12 +1,11 @@
 -- The match of a world that is found, and the entries that it uses.
-use Rattle.std.proofs.Common.{◌≡◌, ◌≢◌, ◌⊎◌, inl, inr, ℕ, ◌<◌, List, [], ◌++◌, length, map, slice_get, Option, Some, None, Contains, Bool, subst, refl, sym, ap, ◌∙◌, arith}
-use Rattle.std.specs.List.{AllZip}
+use Rattle.std.proofs.Common.{◌≡◌, ◌≢◌, inl, inr, ℕ, ◌<◌, List, [], ◌++◌, length, map, slice_get, Option, Some, None, Contains, Bool, subst, refl, sym, ap, ◌∙◌}
 use Rattle.std.proofs.lemmas.List.{length-map}
 use Rattle.std.proofs.lemmas.Option.{slice_get_within}
 use Rattle.esto_term.specs.declared.term.Term.{Term}
 use Rattle.esto_semantics.specs.Facts.{terms_of}
 use Rattle.esto_semantics.specs.Maps.{IsFixedBy}
-use Rattle.esto_semantics.specs.Sets.{Has, Within}
+use Rattle.esto_semantics.specs.Sets.{Within}
 use Rattle.esto_semantics.specs.declared.fact.Fact.{Fact}
 use Rattle.esto_world_laws.proofs.LinkLemmas.{zip_weaker, zip_left, zip_length}
 use Rattle.esto_world_laws.specs.Derived.{Claims, IsNamed, AreDerived}
@@ -17,7 +16,7 @@ use Rattle.esto_world_laws.specs.declared.entry.Claim.TheVariants.{Fact as State
 use Rattle.esto_world_laws.specs.declared.entry.Entry.{Entry}
 use Rattle.esto_cert.specs.Certificates.{Case}
 use Rattle.esto_derive.specs.Marking.{AreUsed, AreUsedWithin}
-use Rattle.esto_derive.specs.Searching.{ClaimsIn, GoesOn, IsFound, AreLinks}
+use Rattle.esto_derive.specs.Searching.{ClaimsIn, IsFound, AreLinks}
 use Rattle.esto_derive.specs.Writing.{IsBasis, IsMatchAt, IsWritten, WritesMatch, terms_at}
 use Rattle.esto_constraint.specs.Constraints.{rules_of}
 use Rattle.esto_constraint.specs.declared.rule.Constraint.{Constraint}

@@ -1,5 +1,5 @@
 -- The expanded facts of a plan are of constants and variables.
-use Rattle.std.proofs.Common.{◌≡◌, ◌⊎◌, inl, inr, ℕ, ◌<◌, Bool, true, false, List, Some, length, map, slice_get, Contains, subst, refl, sym, ap, ◌∙◌}
+use Rattle.std.proofs.Common.{◌≡◌, inl, inr, ℕ, ◌<◌, Bool, true, false, List, Some, length, slice_get, Contains, subst, refl, sym, ap, ◌∙◌}
 use Rattle.std.specs.Bool.{Decides}
 use Rattle.std.specs.Set.{is_member}
 use Rattle.std.proofs.lemmas.List.{length-map}
@@ -9,14 +9,12 @@ use Rattle.esto_term.specs.Order.{same_term}
 use Rattle.esto_term.specs.declared.term.Term.{Term}
 use Rattle.esto_term.specs.declared.term.Term.TheVariants.{Const, Plain}
 use Rattle.esto_semantics.proofs.TermLemmas.{same_term-Decides}
-use Rattle.esto_semantics.specs.Facts.{image}
-use Rattle.esto_semantics.specs.Maps.{AreFlat, IsFlat, IsConstant, IsVariable}
+use Rattle.esto_semantics.specs.Maps.{AreFlat, IsFlat, IsVariable}
 use Rattle.esto_semantics.specs.declared.fact.Fact.{Fact}
 use Rattle.esto_query.specs.Making.{query_of}
 use Rattle.esto_query.specs.Soundness.{IsSound}
 use Rattle.esto_query.specs.declared.query.Query.{Query}
 use Rattle.esto_views.specs.Expanded.{Expands, facts_of}
-use Rattle.esto_views.specs.Fragments.{views_of}
 use Rattle.esto_views.specs.Plans.{plan_query, fact_of}
 use Rattle.esto_views.specs.Soundness.{IsSoundPlan}
 use Rattle.esto_views.specs.declared.expansion.ExpandedFact.{ExpandedFact}
@@ -55,7 +53,7 @@ module _ (plan : Plan) (fragments : List FragmentDef) (expanded : List ExpandedF
         elim (flat_view part part_inside term inside) [
           | inl constant ↦ inl (constant.0, ap (expands.of.spread number) constant.1 ∙ expands.of.keeps number constant.0)
           | inr variable ↦ by (is_member same_term (expands.of.view number).head term)
-            (is_member-Decides same_term-Decides (expands.of.view number).head term) variable
+              (is_member-Decides same_term-Decides (expands.of.view number).head term) variable
         ]
       where
         by : (answer : Bool) → Decides answer (Contains (expands.of.view number).head term) → IsVariable term → IsFlat (expands.of.spread number term)

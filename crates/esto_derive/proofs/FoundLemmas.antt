@@ -1,18 +1,18 @@
 -- Matches that are found atom by atom, and the equalities that they use.
-use Rattle.std.proofs.Common.{◌≡◌, ◌≢◌, ◌⊎◌, ◌↔◌, inl, inr, ℕ, ◌+◌, ◌<◌, ◌≤◌, Bool, true, false, is_some, List, [], ◌∷◌, ◌++◌, length, map, take, get_or, slice_get, Option, Some, None, Contains, option_map, subst, refl, sym, ap, ◌∙◌, arith, zero, suc}
+use Rattle.std.proofs.Common.{◌≡◌, ◌≢◌, ◌↔◌, inl, inr, ℕ, ◌+◌, ◌<◌, ◌≤◌, Bool, true, false, is_some, List, [], ◌∷◌, ◌++◌, length, map, slice_get, Option, Some, None, Contains, option_map, subst, refl, sym, ap, ◌∙◌, arith, zero, suc}
 use Rattle.std.specs.List.{AllZip}
 use Rattle.std.proofs.lemmas.List.Elements.{Contains-append_left, Contains-append_right, Contains-append_cases}
 use Rattle.std.proofs.lemmas.List.{append-nil, append_assoc, length-append, length-map}
-use Rattle.esto_term.proofs.ListLemmas.{Contains-nil, Contains-at, Contains-cases, Contains-head, Contains-rest}
+use Rattle.esto_term.proofs.ListLemmas.{Contains-nil, Contains-at, Contains-cases, Contains-head}
 use Rattle.esto_term.specs.declared.term.Term.{Term}
 use Rattle.esto_semantics.specs.Facts.{terms_of}
 use Rattle.esto_semantics.specs.Sets.{Within}
 use Rattle.esto_semantics.specs.declared.fact.Fact.{Fact}
 use Rattle.esto_world_laws.proofs.ClosedLemmas.{touching}
-use Rattle.esto_world_laws.proofs.LinkLemmas.{Linked-more, Linked-touching, one_link, zip_length}
+use Rattle.esto_world_laws.proofs.LinkLemmas.{Linked-more, Linked-touching, zip_length}
 use Rattle.esto_world_laws.proofs.TakenLemmas.{Fits-split, Fits-join}
 use Rattle.esto_world_laws.specs.Derived.{IsNamed}
-use Rattle.esto_world_laws.specs.Matches.{taken, Fits, AreChosen, Touching}
+use Rattle.esto_world_laws.specs.Matches.{taken, Fits, Touching}
 use Rattle.esto_world_laws.specs.Steps.{AreJoined}
 use Rattle.esto_world_laws.specs.Worlds.{InWorld, Linked, here}
 use Rattle.esto_world_laws.specs.declared.entry.Claim.{Claim}
@@ -21,7 +21,7 @@ use Rattle.esto_world_laws.specs.declared.entry.Entry.{Entry}
 use Rattle.std.proofs.lemmas.Option.{slice_get_within}
 use Rattle.esto_derive.proofs.MarkLemmas.{same_or_later}
 use Rattle.esto_derive.proofs.TextLemmas.{some_one}
-use Rattle.esto_derive.specs.Searching.{SaysOne, ClaimsIn, IsLink, GoesOn, IsFound, IsFoundAfter, IsFoundBy, AreLinks, AddsLink}
+use Rattle.esto_derive.specs.Searching.{SaysOne, ClaimsIn, IsLink, GoesOn, IsFound, IsFoundAfter, IsFoundBy, AddsLink}
 
 -- ---- going on
 
@@ -39,9 +39,17 @@ module _ (Holds : Claim → Type 0) (from to : List Term) (lengths : length from
       let all : length (to ++ (fact.terms ++ terms_of chosen)) ≡ length (map (taken (from ++ (atom.terms ++ terms_of rest)) (to ++ (fact.terms ++ terms_of chosen))) (from ++ (atom.terms ++ terms_of rest))) =
       zip_length One _ _ fits in
       let left : length (terms_of rest) ≡ length (terms_of chosen) =
-      omega (arith, all, lengths, are.0.2, length-map (from ++ (atom.terms ++ terms_of rest)) (taken (from ++ (atom.terms ++ terms_of rest)) (to ++ (fact.terms ++ terms_of chosen))),
-      length-append from (atom.terms ++ terms_of rest), length-append atom.terms (terms_of rest), length-append to (fact.terms ++ terms_of chosen),
-      length-append fact.terms (terms_of chosen)) in
+      omega (
+        arith,
+        all,
+        lengths,
+        are.0.2,
+        length-map (from ++ (atom.terms ++ terms_of rest)) (taken (from ++ (atom.terms ++ terms_of rest)) (to ++ (fact.terms ++ terms_of chosen))),
+        length-append from (atom.terms ++ terms_of rest),
+        length-append atom.terms (terms_of rest),
+        length-append to (fact.terms ++ terms_of chosen),
+        length-append fact.terms (terms_of chosen),
+      ) in
       let whole : Fits One ((from ++ atom.terms) ++ terms_of rest) ((to ++ fact.terms) ++ terms_of chosen) =
       subst (λ (it : List Term). Fits One it ((to ++ fact.terms) ++ terms_of chosen)) (sym (append_assoc from atom.terms (terms_of rest)))
       (subst (λ (it : List Term). Fits One (from ++ (atom.terms ++ terms_of rest)) it) (sym (append_assoc to fact.terms (terms_of chosen))) fits) in

@@ -1,5 +1,5 @@
 -- The entries that are used, directly or through reasons.
-use Rattle.std.proofs.Common.{◌≡◌, ◌⊎◌, ◌↔◌, inl, inr, ℕ, ◌+◌, ◌<◌, ◌≤◌, Bool, true, false, List, [], ◌∷◌, take, length, slice_get, Some, Contains, All, subst, refl, sym, ap, ◌∙◌, arith, zero, suc}
+use Rattle.std.proofs.Common.{◌≡◌, ◌⊎◌, inl, inr, ℕ, ◌+◌, ◌<◌, ◌≤◌, Bool, List, [], ◌∷◌, take, slice_get, Some, Contains, All, subst, refl, sym, ap, ◌∙◌, arith, zero, suc}
 use Rattle.std.proofs.lemmas.List.{length-take}
 use Rattle.std.proofs.lemmas.List.Elements.{All-weaker, All-contains_itself}
 use Rattle.esto_term.proofs.ListLemmas.{Contains-nil}
@@ -10,7 +10,7 @@ use Rattle.esto_world_laws.specs.declared.entry.Entry.{Entry}
 use Rattle.esto_world_laws.specs.declared.entry.Reason.{Reason}
 use Rattle.esto_world_laws.specs.declared.entry.Reason.TheVariants.{Expanded, Step, Equal}
 use Rattle.esto_derive.proofs.TextLemmas.{some_one}
-use Rattle.esto_derive.specs.Marking.{named_by, AddsNamed, AreClosed, AreUsedWithin, Closes}
+use Rattle.esto_derive.specs.Marking.{named_by, AddsNamed, AreUsedWithin}
 
 pub all_below : (count : ℕ) (places : List ℕ) → ((place : ℕ) → Contains places place → place < count) → All (λ place. place < count) places
 all_below count places below = All-weaker (Contains places) (λ place. place < count) below places (All-contains_itself places)

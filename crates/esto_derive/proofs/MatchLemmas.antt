@@ -1,33 +1,28 @@
 -- The match that a certificate ends with.
-use Rattle.std.proofs.Common.{◌≡◌, ◌≢◌, ◌⊎◌, ◌↔◌, inl, inr, ℕ, ◌+◌, ◌<◌, ◌≤◌, Bool, List, [], ◌∷◌, ◌++◌, length, map, slice_get, Option, Some, None, Contains, codes, subst, refl, sym, ap, ◌∙◌, arith}
+use Rattle.std.proofs.Common.{◌≡◌, ◌≢◌, inl, inr, ℕ, ◌+◌, ◌<◌, ◌≤◌, Bool, List, [], ◌++◌, length, map, slice_get, Some, Contains, codes, subst, sym, ap, ◌∙◌, arith}
 use Rattle.std.specs.List.{AllZip}
 use Rattle.std.proofs.lemmas.List.{length-append, length-map, map-append}
 use Rattle.std.proofs.lemmas.List.Elements.{Contains-append_left, Contains-append_right}
-use Rattle.std.proofs.lemmas.Option.{slice_get_within}
-use Rattle.esto_term.proofs.ListLemmas.{Contains-at, Contains-head, Contains-rest, map_agree}
+use Rattle.esto_term.proofs.ListLemmas.{map_agree}
 use Rattle.esto_term.specs.Nesting.{greatest_u64}
 use Rattle.esto_term.specs.declared.term.Term.{Term}
 use Rattle.esto_term.specs.declared.term.Term.TheVariants.{Const}
-use Rattle.esto_constraint.specs.Constraints.{rules_of}
-use Rattle.esto_constraint.specs.declared.rule.Constraint.{Constraint}
 use Rattle.esto_semantics.proofs.CanonicalLemmas.{Mentions-terms_of}
 use Rattle.esto_semantics.specs.Facts.{terms_of}
 use Rattle.esto_semantics.specs.Maps.{Keeps, IsFixedBy}
-use Rattle.esto_semantics.specs.Sets.{Has, Within}
+use Rattle.esto_semantics.specs.Sets.{Has}
 use Rattle.esto_semantics.specs.declared.fact.Fact.{Fact}
 use Rattle.esto_world_laws.proofs.ClosedLemmas.{choose, Fits-linked}
 use Rattle.esto_world_laws.proofs.LinkLemmas.{zip_weaker, zip_append, zip_split, zip_length}
 use Rattle.esto_world_laws.proofs.TakenLemmas.{taken-Const, taken-stays, Fits-split}
-use Rattle.esto_world_laws.specs.Derived.{Claims, IsNamed, IsEquality}
+use Rattle.esto_world_laws.specs.Derived.{Claims, IsNamed}
 use Rattle.esto_world_laws.specs.Laws.{HasMatch}
 use Rattle.esto_world_laws.specs.Matches.{Fits, taken, match_map}
 use Rattle.esto_world_laws.specs.Worlds.{InWorld, Linked}
 use Rattle.esto_world_laws.specs.declared.entry.Claim.{Claim}
-use Rattle.esto_world_laws.specs.declared.entry.Claim.TheVariants.{Fact as Stated, Same}
+use Rattle.esto_world_laws.specs.declared.entry.Claim.TheVariants.{Fact as Stated}
 use Rattle.esto_world_laws.specs.declared.entry.Entry.{Entry}
 use Rattle.esto_cert.specs.Certificates.{Case, MayEnd}
-use Rattle.esto_cert.specs.Linking.{IsAmong}
-use Rattle.esto_cert.specs.Matching.{IsLike}
 use Rattle.esto_cert.specs.declared.line.Line.{Line}
 use Rattle.esto_cert.specs.declared.line.Line.TheVariants as line
 use Rattle.esto_derive.specs.Printing.{line_text, IsReadable}
@@ -50,9 +45,12 @@ module _ (Holds : Claim → Type 0) (head : List Term) (body : List (Fact Term))
   some_go_on =
       let c = choose Holds match.0 match.1 body match.2 in (
         c.0,
-        (c.1, Fits-linked Holds match.0 match.1 (head ++ terms_of body) (targets ++ terms_of c.0)
-            (subst (AllZip (Linked Holds) (targets ++ terms_of c.0)) (sym (map-append match.0 head (terms_of body)))
-            (zip_append (Linked Holds) targets (terms_of c.0) (map match.0 head) (map match.0 (terms_of body)) match.3 c.2))),
+        (
+          c.1,
+          Fits-linked Holds match.0 match.1 (head ++ terms_of body) (targets ++ terms_of c.0)
+              (subst (AllZip (Linked Holds) (targets ++ terms_of c.0)) (sym (map-append match.0 head (terms_of body)))
+              (zip_append (Linked Holds) targets (terms_of c.0) (map match.0 head) (map match.0 (terms_of body)) match.3 c.2)),
+        ),
       )
 
 -- ---- a match that is found
@@ -111,6 +109,7 @@ match_at entries set head body chosen targets facts links stated (are, fits) hea
   where
     whole : length (targets ++ terms_of chosen) ≡ length (head ++ terms_of body)
     whole = zip_length (Linked (InWorld entries set)) _ _ fits ∙ length-map (head ++ terms_of body) (taken (head ++ terms_of body) (targets ++ terms_of chosen))
+
     lengths : length (terms_of body) ≡ length (terms_of chosen)
     lengths = omega (arith, whole, head_lengths, length-append targets (terms_of chosen), length-append head (terms_of body))
 

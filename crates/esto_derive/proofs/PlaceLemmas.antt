@@ -1,9 +1,9 @@
 -- The place at which a rule makes a claim.
-use Rattle.std.proofs.Common.{◌≡◌, ◌⊎◌, ℕ, ◌+◌, ◌-◌, ◌<◌, ◌==◌, cond, List, Option, Some, None, slice_get, option_map, length, subst, refl, sym, ap, ◌∙◌, Contains}
+use Rattle.std.proofs.Common.{◌≡◌, ℕ, ◌+◌, ◌<◌, List, Option, Some, None, option_map, length, subst, refl, sym, ap, ◌∙◌}
 use Rattle.esto_term.proofs.ListLemmas.{place-from_Contains}
 use Rattle.esto_term.specs.declared.term.Term.{Term}
 use Rattle.esto_semantics.specs.Facts.{image}
-use Rattle.esto_semantics.specs.Rules.{Rule, tuple, equality}
+use Rattle.esto_semantics.specs.Rules.{tuple}
 use Rattle.esto_semantics.specs.declared.fact.Fact.{Fact}
 use Rattle.esto_chase_laws.specs.Making.{extended}
 use Rattle.esto_world_laws.specs.Claims.{AreSameClaim}

@@ -1,16 +1,14 @@
 -- Certificates while they are written.
-use Rattle.std.proofs.Common.{◌≡◌, ◌⊎◌, ◌↔◌, inl, inr, ◌==◌, ℕ, ◌+◌, ◌<◌, ◌≤◌, Bool, true, false, List, [], ◌∷◌, ◌++◌, length, map, slice_get, slice_index_or, Option, Some, None, All, Contains, codes, subst, refl, sym, ap, ◌∙◌, arith}
+use Rattle.std.proofs.Common.{◌≡◌, inl, inr, ◌==◌, ℕ, ◌+◌, Bool, false, List, [], ◌∷◌, ◌++◌, length, slice_get, Option, Some, None, All, Contains, codes, subst, refl, sym, ap, ◌∙◌, arith}
 use Rattle.std.specs.List.{slice_split, flat_map}
 use Rattle.std.proofs.lemmas.List.{append_assoc, append-nil, length-append}
 use Rattle.std.proofs.lemmas.List.Concat.{flat_map-append}
 use Rattle.std.proofs.lemmas.List.Elements.{Contains-append_cases}
 use Rattle.std.proofs.lemmas.List.Splits.{slice_split_at}
-use Rattle.esto_term.proofs.ListLemmas.{Contains-nil, Contains-at, Contains-cases, Contains-head, Contains-rest, at_left, at_end, at_pushed}
-use Rattle.esto_term.specs.declared.term.Term.{Term}
-use Rattle.esto_semantics.specs.Sets.{Has, Within}
-use Rattle.esto_semantics.specs.declared.fact.Fact.{Fact}
+use Rattle.esto_term.proofs.ListLemmas.{Contains-nil, Contains-cases, Contains-head, Contains-rest, at_left, at_end, at_pushed}
+use Rattle.esto_semantics.specs.Sets.{Has}
 use Rattle.esto_world_laws.proofs.LinkLemmas.{Linked-more, one_link}
-use Rattle.esto_world_laws.specs.Worlds.{InWorld, Linked}
+use Rattle.esto_world_laws.specs.Worlds.{InWorld}
 use Rattle.esto_world_laws.specs.declared.entry.Claim.{Claim}
 use Rattle.esto_world_laws.specs.declared.entry.Claim.TheVariants.{Fact as Stated, Same}
 use Rattle.esto_world_laws.specs.declared.entry.Entry.{Entry}
@@ -18,11 +16,10 @@ use Rattle.esto_constraint.specs.Constraints.{rules_of}
 use Rattle.esto_constraint.specs.declared.rule.Constraint.{Constraint}
 use Rattle.esto_cert.specs.Certificates.{Case, MayClaim, MayEnd}
 use Rattle.esto_cert.specs.Judging.{IsJudgedText}
-use Rattle.esto_cert.specs.Lines.{line_of}
 use Rattle.esto_cert.specs.declared.line.Line.{Line}
 use Rattle.esto_cert.specs.declared.judging.Judged.TheVariants.{Claims as Makes, Ends}
 use Rattle.esto_derive.specs.Printing.{line_text, IsReadable}
-use Rattle.esto_derive.specs.Writing.{AreAccepted, AreLines, AtLines, AreEqualities, StandFor, IsBasis, IsState, IsWritten, WritesIfUsed}
+use Rattle.esto_derive.specs.Writing.{AreAccepted, AreLines, AtLines, StandFor, IsBasis, IsState, IsWritten, WritesIfUsed}
 use Rattle.esto_derive.specs.declared.writing.Written.{Written}
 use Rattle.esto_derive.proofs.TextLemmas.{read_back, no_feed, some_one}
 
@@ -168,14 +165,14 @@ pub used_goes : (rules : List Constraint) (entries : List Entry) (used : List Bo
 used_goes rules entries used lines shown more entry old new own shown_is at writes more_is case rules_is basis (claims, state) =
     elim (subst (λ (it : List (List ℕ)). WritesIfUsed rules entries used it entry.claim old new own) shown_is writes) [
       | inl (has, goes) ↦ (let later = goes case claims rules_is basis has state in (
-          later.0,
-          subst (λ (it : List (List ℕ)). IsState case entries used it new later.0) (sym more_is)
-              (state_push case entries used lines new later.0 later.1 entry at own (λ again. later.2)),
-        ))
+        later.0,
+        subst (λ (it : List (List ℕ)). IsState case entries used it new later.0) (sym more_is)
+            (state_push case entries used lines new later.0 later.1 entry at own (λ again. later.2)),
+      ))
       | inr (unused, same) ↦ (
-          claims,
-          subst (λ (it : List (List ℕ)). IsState case entries used it new claims) (sym more_is)
-              (subst (λ (it : Written). IsState case entries used (lines ++ own ∷ []) it claims) (sym same)
-              (state_push case entries used lines old claims state entry at own (λ has. absurd (unused has)))),
-        )
+        claims,
+        subst (λ (it : List (List ℕ)). IsState case entries used it new claims) (sym more_is)
+            (subst (λ (it : Written). IsState case entries used (lines ++ own ∷ []) it claims) (sym same)
+            (state_push case entries used lines old claims state entry at own (λ has. absurd (unused has)))),
+      )
     ]

@@ -1,8 +1,7 @@
 -- What lines that stand for entries state, and what follows from them.
-use Rattle.std.proofs.Common.{◌≡◌, ◌≢◌, ◌⊎◌, ◌↔◌, inl, inr, ◌==◌, ℕ, ◌+◌, ◌-◌, ◌<◌, ◌≤◌, Bool, true, false, cond, List, [], ◌∷◌, ◌++◌, length, map, take, slice_get, Option, Some, None, Contains, subst, refl, sym, ap, ◌∙◌, arith}
-use Rattle.std.specs.List.{AllZip, flat_map}
+use Rattle.std.proofs.Common.{◌≡◌, ◌≢◌, inl, inr, ◌==◌, ℕ, ◌+◌, ◌-◌, ◌<◌, ◌≤◌, Bool, false, cond, List, [], ◌∷◌, ◌++◌, length, map, slice_get, Option, Some, None, Contains, subst, refl, sym, ap, ◌∙◌, arith}
+use Rattle.std.specs.List.{AllZip}
 use Rattle.std.proofs.lemmas.Bool.Decides.{nat_tests}
-use Rattle.std.proofs.lemmas.List.Elements.{Contains-append_left, Contains-append_right, Contains-append_cases}
 use Rattle.std.proofs.lemmas.Option.{slice_get_within}
 use Rattle.esto_term.proofs.ListLemmas.{Contains-nil, Contains-cases, Contains-head, Contains-rest, Contains-flat, Contains-flat_from, Contains-map_from}
 use Rattle.esto_term.specs.Nesting.{greatest_u64}
@@ -10,8 +9,8 @@ use Rattle.esto_term.specs.declared.term.Term.{Term}
 use Rattle.esto_semantics.specs.Facts.{terms_of}
 use Rattle.esto_semantics.specs.declared.fact.Fact.{Fact}
 use Rattle.esto_world_laws.proofs.LinkLemmas.{zip_weaker, zip_left, Linked-then, Linked-back, one_link}
-use Rattle.esto_world_laws.specs.Derived.{Claims, IsNamed, IsEquality, IsChain}
-use Rattle.esto_world_laws.specs.Matches.{Fits, AreChosen, IsMatch}
+use Rattle.esto_world_laws.specs.Derived.{Claims, IsNamed, IsEquality}
+use Rattle.esto_world_laws.specs.Matches.{Fits, AreChosen}
 use Rattle.esto_world_laws.specs.Worlds.{Linked, here, along, back}
 use Rattle.esto_world_laws.specs.declared.entry.Claim.{Claim}
 use Rattle.esto_world_laws.specs.declared.entry.Claim.TheVariants.{Fact as Stated, Same}
@@ -32,6 +31,7 @@ numbered_next items place =
   where
     some : (place + 1 == 0) ≡ false
     some = grind (arith, nat_tests)
+
     minus : place + 1 - 1 ≡ place
     minus = omega arith
 
@@ -128,7 +128,7 @@ module _ (claims : List Claim) (lines : List (List ℕ)) (its : List Entry) (pla
         Linked-said (λ s t (line, line_inside, claimed). (
           line,
           (adds line).1 (inr (Contains-flat (λ place. own_lines (slice_get lines place)) links place line inside
-          (subst (λ (it : List ℕ). Contains it line) (sym (ap own_lines at)) line_inside))),
+              (subst (λ (it : List ℕ). Contains it line) (sym (ap own_lines at)) line_inside))),
           claimed,
         )) left right by
 

@@ -1,5 +1,5 @@
 -- Lines in print are read back.
-use Rattle.std.proofs.Common.{◌≡◌, ◌≢◌, ◌==◌, ◌&&◌, ℕ, ◌+◌, ◌-◌, ◌*◌, ◌/◌, ◌%◌, ◌^◌, ◌<◌, ◌≤◌, nat_le, nat_eq, Bool, true, false, cond, if◌then◌else◌, List, [], ◌∷◌, ◌++◌, length, map, get_or, Option, Some, None, All, Contains, codes, decimal, refl, sym, ap, ◌∙◌, subst, arith, zero, suc}
+use Rattle.std.proofs.Common.{◌≡◌, ◌≢◌, ◌==◌, ◌&&◌, ℕ, ◌+◌, ◌-◌, ◌*◌, ◌/◌, ◌%◌, ◌<◌, ◌≤◌, nat_le, nat_eq, Bool, true, false, if◌then◌else◌, List, [], ◌∷◌, ◌++◌, length, map, get_or, Option, Some, None, All, codes, decimal, refl, ap, ◌∙◌, arith, zero, suc}
 use Rattle.std.specs.List.{slice_split}
 use Rattle.std.specs.Cmp.Lexicographic.{pointwise}
 use Rattle.std.proofs.lemmas.Bool.Decides.{nat_tests}
@@ -10,7 +10,7 @@ use Rattle.std.proofs.lemmas.List.Splits.{slice_split_at, slice_split_none}
 use Rattle.esto_term.proofs.ListLemmas.{Contains-head, Contains-rest}
 use Rattle.esto_term.specs.Nesting.{greatest_u64}
 use Rattle.esto_list.specs.Text.{each_from, comma_before, numbers_text}
-use Rattle.esto_cert.specs.Lines.{number_after, number_of, numbers_of, list_of, links_of, is_word, with_item, line_of, line_of_words, expanded_of, step_of, match_of}
+use Rattle.esto_cert.specs.Lines.{number_after, number_of, numbers_of, list_of, links_of, is_word, with_item, line_of_words, expanded_of, step_of, match_of}
 use Rattle.esto_cert.specs.declared.line.Line.{Line}
 use Rattle.esto_cert.specs.declared.line.Line.TheVariants.{Expanded, Step, Match}
 use Rattle.esto_derive.specs.Printing.{after_commas, list_text, line_text, Fit, IsReadable, LinesAreReadBack}
@@ -26,6 +26,7 @@ one_more value digit is fits =
   where
     minus : (48 + digit) - 48 ≡ digit
     minus = omega arith
+
     test : (nat_le 48 (48 + digit) && (nat_le (48 + digit) 57 && nat_le (value * 10 + ((48 + digit) - 48)) greatest_u64)) ≡ true
     test = grind (arith, nat_tests)
 
@@ -55,6 +56,7 @@ digits_read number fits = decimal_by_steps (λ n digits. n ≤ greatest_u64 → 
   where
     whole : (n : ℕ) → n / 10 * 10 + n % 10 ≡ n
     whole n = omega arith
+
     none : (n : ℕ) → 0 * 10 + n ≡ n
     none n = omega arith
 

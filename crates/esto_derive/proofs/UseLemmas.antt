@@ -1,5 +1,5 @@
 -- What a step's and a chain's entry names, where the rule and the places are read.
-use Rattle.std.proofs.Common.{◌≡◌, ◌≢◌, inl, inr, ℕ, ◌+◌, ◌<◌, ◌≤◌, List, ◌++◌, length, map, take, drop, slice_get, Some, Contains, subst, refl, sym, ap, ◌∙◌, arith, zero, suc, [], ◌∷◌}
+use Rattle.std.proofs.Common.{◌≡◌, ◌≢◌, inl, inr, ℕ, ◌<◌, ◌≤◌, List, length, take, drop, slice_get, Some, Contains, subst, sym, ap, ◌∙◌, arith, zero, suc, [], ◌∷◌}
 use Rattle.std.specs.List.{AllZip}
 use Rattle.std.proofs.lemmas.List.{length-map, length-take}
 use Rattle.std.proofs.lemmas.Option.{slice_get_within}

@@ -1,22 +1,20 @@
 -- The line of an entry, and what stands for it then.
-use Rattle.std.proofs.Common.{◌≡◌, ◌≢◌, ◌⊎◌, ◌↔◌, inl, inr, ℕ, ◌+◌, ◌-◌, ◌<◌, ◌≤◌, Bool, List, [], ◌∷◌, ◌++◌, length, map, take, drop, slice_get, Option, Some, None, Contains, codes, subst, refl, sym, ap, ◌∙◌, arith}
+use Rattle.std.proofs.Common.{◌≡◌, ◌≢◌, inl, inr, ℕ, ◌+◌, ◌-◌, ◌<◌, ◌≤◌, Bool, List, [], ◌∷◌, ◌++◌, length, map, take, drop, slice_get, Some, Contains, codes, subst, refl, sym, ap, ◌∙◌, arith}
 use Rattle.std.specs.List.{AllZip}
 use Rattle.std.proofs.lemmas.List.{length-take, length-append}
 use Rattle.std.proofs.lemmas.List.Elements.{Contains-append_left, Contains-append_right, Contains-append_cases}
 use Rattle.esto_term.proofs.ListLemmas.{Contains-at, Contains-cases, Contains-head, Contains-rest, Contains-nil, thing_at}
 use Rattle.esto_term.specs.Nesting.{greatest_u64}
 use Rattle.esto_term.specs.declared.term.Term.{Term}
-use Rattle.esto_constraint.specs.Constraints.{rules_of}
-use Rattle.esto_constraint.specs.declared.rule.Constraint.{Constraint}
 use Rattle.esto_semantics.specs.Facts.{terms_of}
 use Rattle.esto_semantics.specs.Rules.{Rule, body_of}
-use Rattle.esto_semantics.specs.Sets.{Has, Within}
+use Rattle.esto_semantics.specs.Sets.{Has}
 use Rattle.esto_semantics.specs.declared.fact.Fact.{Fact}
 use Rattle.esto_views.specs.declared.expansion.ExpandedFact.{ExpandedFact}
 use Rattle.esto_world_laws.proofs.InductionLemmas.{taken_at}
 use Rattle.esto_world_laws.proofs.LinkLemmas.{zip_weaker, zip_left, zip_length, Linked-then, Linked-back}
 use Rattle.esto_world_laws.specs.Derived.{Claims, IsNamed, IsUnion, IsEquality, IsChain, FollowsBy, Follows, AreDerived}
-use Rattle.esto_world_laws.specs.Matches.{Fits, AreChosen, taken, match_map}
+use Rattle.esto_world_laws.specs.Matches.{Fits, AreChosen, match_map}
 use Rattle.esto_world_laws.specs.Worlds.{InWorld, Linked, here}
 use Rattle.esto_world_laws.specs.declared.entry.Claim.{Claim}
 use Rattle.esto_world_laws.specs.declared.entry.Claim.TheVariants.{Fact as Stated, Same}
@@ -29,7 +27,7 @@ use Rattle.esto_cert.specs.declared.line.Line.{Line}
 use Rattle.esto_cert.specs.declared.line.Line.TheVariants as line
 use Rattle.esto_derive.specs.Marking.{named_by}
 use Rattle.esto_derive.specs.Printing.{line_text, IsReadable}
-use Rattle.esto_derive.specs.Writing.{AtLines, AreEqualities, StandFor, IsBasis, IsState, AddsNew, lines_at}
+use Rattle.esto_derive.specs.Writing.{AtLines, StandFor, IsBasis, IsState, AddsNew, lines_at}
 use Rattle.esto_derive.specs.declared.writing.Written.{Written}
 use Rattle.esto_derive.proofs.StateLemmas.{line_more, own_line}
 use Rattle.esto_derive.proofs.TextLemmas.{some_one}
@@ -156,9 +154,16 @@ module _ (case : Case) (entries : List Entry) (used : List Bool) (basis : IsBasi
         → (own : List ℕ) → own ≡ written.count ∷ [] → Goes new own
     expanded_goes atom place is fits fits_too new text count own own_is =
         let (fact, inside, atom_is, place_is, claim_is, has_atom) = follows (Expanded atom place) is in
-        let may : MayClaim case claims (line.Expanded (atom + 1) (place + 1)) entry.claim =
-        (fact, inside, (ap (λ (it : ℕ). it + 1) (sym atom_is), ap (λ (it : ℕ). it + 1) (sym place_is),
-        subst (Has case.set) (sym atom_is) (basis.within (length lines) entry at has atom ((has_atom atom).1 refl))), claim_is) in (
+        let may : MayClaim case claims (line.Expanded (atom + 1) (place + 1)) entry.claim = (
+          fact,
+          inside,
+          (
+            ap (λ (it : ℕ). it + 1) (sym atom_is),
+            ap (λ (it : ℕ). it + 1) (sym place_is),
+            subst (Has case.set) (sym atom_is) (basis.within (length lines) entry at has atom ((has_atom atom).1 refl)),
+          ),
+          claim_is,
+        ) in (
           claims ++ entry.claim ∷ [],
           line_more case entries used lines written claims state (line.Expanded (atom + 1) (place + 1)) (fits, fits_too) entry.claim may holds new text count,
           subst (λ (it : List ℕ). StandFor (claims ++ entry.claim ∷ []) it entry.claim) (sym own_is)

@@ -16,13 +16,14 @@ ghost use Rattle.esto_semantics.specs.Listed.{IsListed};
 ghost use Rattle.esto_semantics.specs.Plans.{IsUniversalPlan};
 ghost use Rattle.esto_views.specs.Fragments.{views_of, patterns_of};
 ghost use Rattle.esto_views.specs.Plans.{plan_query};
+
 use crate::marking::close;
 use crate::searching::{World, joined};
 use crate::writing::{Writer, terms_at};
-use esto_bits::RowBits;
-use esto_cert::terms_of;
 use esto_backchase::entries_decide_answers;
+use esto_bits::RowBits;
 use esto_catalog::Catalogue;
+use esto_cert::terms_of;
 use esto_constraint::Constraint;
 use esto_prov::{Entries, Entry};
 use esto_query::{Query, queries_are_sound};

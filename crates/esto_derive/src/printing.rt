@@ -20,12 +20,7 @@ fn put_list(alloc: Global, text: &mut Bytes, lines: &[usize]) -> Result<(), OutO
 }
 
 /// Puts a number and what follows it at the end.
-fn put_word(
-    alloc: Global,
-    text: &mut Bytes,
-    number: usize,
-    after: &[u8],
-) -> Result<(), OutOfMemory>
+fn put_word(alloc: Global, text: &mut Bytes, number: usize, after: &[u8]) -> Result<(), OutOfMemory>
     ensures { OnOk result (text.new ≡ text.old ++ (decimal number ++ after.now)) }
 {
     put_number(alloc, text, number as u128)?;

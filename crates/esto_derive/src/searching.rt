@@ -12,7 +12,7 @@ ghost use Rattle.esto_world_laws.specs.declared.entry.Claim.TheVariants.{Fact as
 ghost use Rattle.esto_derive.specs.Searching.{SaysOne, IsLink, IsFound, IsFoundAfter, IsFoundBy, AreLinks, AddsLink};
 
 use esto_bits::RowBits;
-use esto_cert::{taken_terms};
+use esto_cert::taken_terms;
 use esto_prov::{Claim, Entry};
 use esto_semantics::Atom;
 use esto_term::{List, OutOfMemory, Replicate, Term, Terms};
@@ -41,10 +41,7 @@ fn says_one(claim: &Claim, term: &Term, other: &Term) -> bool
 }
 
 /// The places with one more before them, where there are places.
-fn with_first(
-    place: usize,
-    places: Option<List<usize>>,
-) -> Result<Option<List<usize>>, OutOfMemory>
+fn with_first(place: usize, places: Option<List<usize>>) -> Result<Option<List<usize>>, OutOfMemory>
     ensures { IfOk result (λ it. it ≡ option_map (λ rest. place ∷ rest) places) }
 {
     match places {
@@ -197,7 +194,12 @@ impl World<'_> {
     }
 
     /// Adds an entry that says that the terms are one, unless they are equal.
-    fn put_link(&self, term: &Term, other: &Term, links: &mut List<usize>) -> Result<(), OutOfMemory>
+    fn put_link(
+        &self,
+        term: &Term,
+        other: &Term,
+        links: &mut List<usize>,
+    ) -> Result<(), OutOfMemory>
         requires counts { AreOfCount (length self.now.set.now) self.now.entries.now }
         requires joined { AreJoined self.now.entries.now self.now.entries.now }
         requires one { Linked (InWorld self.now.entries.now self.now.set.now) term.now other.now }

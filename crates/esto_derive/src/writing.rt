@@ -186,7 +186,14 @@ impl Writer<'_> {
         let named = lines_at(alloc, lines, facts)?;
         let linked = links_at(alloc, lines, links)?;
         let numbered = counted(number)?;
-        put_step(alloc, &mut written.text, numbered, place, named.items(), linked.items())?;
+        put_step(
+            alloc,
+            &mut written.text,
+            numbered,
+            place,
+            named.items(),
+            linked.items(),
+        )?;
         written.end_line(alloc)
     }
 

@@ -1,14 +1,13 @@
-use Rattle.std.proofs.Common.{List, ℕ, Option, Some, None, ◌++◌, ◌<◌, length, Contains, refl, subst, sym, ap, ◌∙◌}
+use Rattle.std.proofs.Common.{List, ℕ, Some, ◌++◌, Contains, subst, ap, ◌∙◌}
 use Rattle.std.proofs.lemmas.Result.{IfOk-weaker}
 use Rattle.esto_term.specs.declared.term.Term.{Term}
 use Rattle.esto_semantics.specs.Facts.{terms_of}
 use Rattle.esto_semantics.specs.declared.fact.Fact.{Fact}
-use Rattle.esto_world_laws.proofs.LinkLemmas.{zip_length}
-use Rattle.esto_world_laws.specs.Worlds.{InWorld, Linked}
+use Rattle.esto_world_laws.specs.Worlds.{InWorld}
 use Rattle.esto_derive.specs.Marking.{AreUsed}
 use Rattle.esto_derive.specs.Searching.{IsFound}
 use Rattle.esto_derive.specs.Writing.{terms_at, WritesMatch}
-use Rattle.esto_derive.proofs.FinishLemmas.{head_lengths, found_some, facts_there, fits_found, links_there, basis, match_found, finished}
+use Rattle.esto_derive.proofs.FinishLemmas.{head_lengths, found_some, facts_there, fits_found, links_there, finished}
 use Rattle.esto_derive.proofs.MatchLemmas.{head_fits}
 use Rattle.esto_derive.proofs.certificate.write_match.Goals as goal
 

@@ -7,8 +7,14 @@ pub put_behind-requires-clause-named : goal.put_behind-requires-clause-named
 put_behind-requires-clause-named c = λ named inside.
     let at = slice_get_read c.args.entries.now (length c.args.entries.now) (c.entries.place - 1) c.index-entries-place.result refl
     (omega (arith, c.entries-test.true, c.entries.auto.place)) c.index-entries-place.is in
-    omega (arith, named_before c.args.entries.now c.requires.reasoned (c.entries.place - 1) c.index-entries-place.result at named inside, c.entries-test.true,
-    c.entries.auto.place, c.entries.invariant.count, c.requires.count)
+    omega (
+      arith,
+      named_before c.args.entries.now c.requires.reasoned (c.entries.place - 1) c.index-entries-place.result at named inside,
+      c.entries-test.true,
+      c.entries.auto.place,
+      c.entries.invariant.count,
+      c.requires.count,
+    )
 
 pub entries-preserved : goal.entries-preserved
 entries-preserved c =

@@ -1,4 +1,4 @@
-use Rattle.std.proofs.Common.{ℕ, ◌<◌, List, sym, subst}
+use Rattle.std.proofs.Common.{ℕ, ◌<◌, sym, subst}
 use Rattle.esto_derive.proofs.MarkLemmas.{all_below}
 use Rattle.esto_derive.proofs.marking.put_all.Goals as goal
 

@@ -1,4 +1,4 @@
-use Rattle.std.proofs.Common.{List, ℕ, ◌+◌, ◌++◌, map, ap, ◌∙◌, length, ◌≡◌, ◌==◌, true, false, sym}
+use Rattle.std.proofs.Common.{List, ℕ, ◌++◌, ap, ◌∙◌, ◌≡◌, ◌==◌, true, false, sym}
 use Rattle.std.proofs.lemmas.Result.{on_ok_weaker}
 use Rattle.esto_derive.proofs.TextLemmas.{lines_text}
 use Rattle.esto_derive.proofs.printing.put_list.Goals as goal

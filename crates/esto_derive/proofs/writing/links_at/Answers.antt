@@ -1,8 +1,8 @@
-use Rattle.std.proofs.Common.{List, ℕ, [], ◌++◌, ◌+◌, take, length, slice_get, refl, sym, subst, ap, ◌∙◌, arith}
+use Rattle.std.proofs.Common.{List, ℕ, [], ◌++◌, take, length, slice_get, refl, sym, subst, ap, ◌∙◌, arith}
 use Rattle.std.proofs.lemmas.List.{take_all}
 use Rattle.std.proofs.lemmas.Option.{slice_get_read}
 use Rattle.esto_derive.specs.Writing.{own_lines, lines_at, AddsNew}
-use Rattle.esto_derive.proofs.LoopLemmas.{flat_taken, here, here_inside, adds_then}
+use Rattle.esto_derive.proofs.LoopLemmas.{flat_taken, here_inside, adds_then}
 use Rattle.esto_derive.proofs.writing.links_at.Goals as goal
 
 pub offset_bounds-lines-place : goal.offset_bounds-lines-place

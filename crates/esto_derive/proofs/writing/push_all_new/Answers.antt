@@ -1,4 +1,4 @@
-use Rattle.std.proofs.Common.{List, ℕ, [], ◌∷◌, ◌++◌, ◌+◌, take, get_or, subst, sym, ap, ◌∙◌, arith}
+use Rattle.std.proofs.Common.{List, ℕ, [], ◌∷◌, take, get_or, subst, sym, arith}
 use Rattle.std.proofs.lemmas.List.{take_more, take_all}
 use Rattle.esto_derive.specs.Writing.{AddsNew}
 use Rattle.esto_derive.proofs.LoopLemmas.{adds_then}

@@ -1,7 +1,7 @@
-use Rattle.std.proofs.Common.{length, get_or, slice_get, refl, sym, ap, ◌∙◌, arith}
+use Rattle.std.proofs.Common.{get_or, slice_get, ap, arith}
 use Rattle.std.proofs.lemmas.Option.{slice_get-get_or}
 use Rattle.esto_derive.specs.Writing.{claimed_terms, entry_terms, terms_at}
-use Rattle.esto_derive.proofs.LoopLemmas.{flat_step, here, here_inside}
+use Rattle.esto_derive.proofs.LoopLemmas.{flat_step, here_inside}
 use Rattle.esto_derive.proofs.writing.terms_at.Goals as goal
 
 pub offset_bounds-entries-place : goal.offset_bounds-entries-place

@@ -1,4 +1,4 @@
-use Rattle.std.proofs.Common.{List, ℕ, Option, ◌≡◌, ◌+◌, ◌++◌, ◌∷◌, length, map, None, Contains, subst, sym, ap, ◌∙◌, arith}
+use Rattle.std.proofs.Common.{List, ◌≡◌, ◌++◌, length, map, None, subst, sym, ap, ◌∙◌, arith}
 use Rattle.std.specs.List.{AllZip}
 use Rattle.std.proofs.lemmas.List.{length-append}
 use Rattle.std.proofs.lemmas.Result.{IfOk-weaker}
@@ -8,7 +8,7 @@ use Rattle.esto_semantics.specs.declared.fact.Fact.{Fact}
 use Rattle.esto_world_laws.specs.Matches.{Fits, taken}
 use Rattle.esto_world_laws.specs.Worlds.{InWorld, Linked}
 use Rattle.esto_world_laws.specs.declared.entry.Entry.{Entry}
-use Rattle.esto_derive.specs.Searching.{IsFound, IsFoundBy, IsFoundAfter}
+use Rattle.esto_derive.specs.Searching.{IsFound, IsFoundBy}
 use Rattle.esto_derive.proofs.FoundLemmas.{found_after, found_by, found_none, found_nothing, fits_row, row_of, unfit}
 use Rattle.esto_derive.proofs.searching.World.+find.Goals as goal
 
@@ -42,8 +42,15 @@ pub find_after-find-requires : goal.find_after-find-requires
 find_after-find-requires t c =
     let it = c.args.self.now in
     let lengths : length c.in_ok-longer.longer ≡ length c.in_ok-met.met =
-    omega (arith, ap length c.in_ok-longer.ensures, ap length c.in_ok-met.ensures, length-append c.args.from.now c.args.atom.now.terms,
-    length-append c.args.to.now c.args.fact.now.terms, c.requires.lengths, (sym c.len.ensures ∙ c.if-len.false ∙ c.len-else-fact-atom.ensures)) in
+    omega (
+      arith,
+      ap length c.in_ok-longer.ensures,
+      ap length c.in_ok-met.ensures,
+      length-append c.args.from.now c.args.atom.now.terms,
+      length-append c.args.to.now c.args.fact.now.terms,
+      c.requires.lengths,
+      (sym c.len.ensures ∙ c.if-len.false ∙ c.len-else-fact-atom.ensures),
+    ) in
     let row = (row_of (InWorld it.entries.now it.set.now) c.items.result.now c.items-2.result.now c.args.from.now c.args.to.now c.args.atom.now.terms c.args.fact.now.terms c.items-5.result.now
     (c.items.ensures ∙ c.in_ok-longer.ensures) (c.items-2.ensures ∙ c.in_ok-met.ensures)
     (c.items-5.ensures ∙ c.in_ok-wanted.ensures ∙ ap (map (taken c.items.result.now c.items-2.result.now)) c.items-3.ensures)).0

@@ -1,5 +1,4 @@
-use Rattle.std.proofs.Common.{Contains, length, refl, arith}
-use Rattle.std.proofs.lemmas.Option.{slice_get_read}
+use Rattle.std.proofs.Common.{arith}
 use Rattle.esto_term.proofs.ListLemmas.{each_more, each_seen}
 use Rattle.esto_semantics.specs.Sets.{Within}
 use Rattle.esto_world_laws.specs.declared.entry.Entry.{Entry}

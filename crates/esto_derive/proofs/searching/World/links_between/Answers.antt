@@ -1,6 +1,5 @@
-use Rattle.std.proofs.Common.{List, ℕ, length, refl, arith}
+use Rattle.std.proofs.Common.{length, refl, arith}
 use Rattle.std.proofs.lemmas.Option.{slice_get_read}
-use Rattle.esto_term.specs.declared.term.Term.{Term}
 use Rattle.esto_world_laws.proofs.LinkLemmas.{zip_length}
 use Rattle.esto_world_laws.specs.Derived.{IsNamed}
 use Rattle.esto_world_laws.specs.Worlds.{InWorld, Linked}

@@ -1,4 +1,4 @@
-use Rattle.std.proofs.Common.{ℕ, Option, None, Some, subst}
+use Rattle.std.proofs.Common.{subst}
 use Rattle.std.proofs.lemmas.Result.{on_ok_weaker}
 use Rattle.esto_derive.specs.Searching.{IsLink}
 use Rattle.esto_derive.proofs.FoundLemmas.{adds_none, adds_one, linked_said}

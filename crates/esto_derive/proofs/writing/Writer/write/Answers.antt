@@ -1,4 +1,4 @@
-use Rattle.std.proofs.Common.{List, ℕ, [], ◌+◌, ◌++◌, ◌<◌, inl, inr, length, map, Contains, codes, subst, sym, ap, ◌∙◌, arith}
+use Rattle.std.proofs.Common.{List, ℕ, [], ◌+◌, ◌++◌, ◌<◌, inl, inr, length, map, codes, subst, sym, ap, ◌∙◌, arith}
 use Rattle.std.proofs.lemmas.List.Elements.{Contains-append_cases}
 use Rattle.esto_cert.specs.declared.line.Line.TheVariants.{Match}
 use Rattle.esto_derive.specs.Printing.{line_text}

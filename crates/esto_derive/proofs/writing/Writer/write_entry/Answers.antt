@@ -1,4 +1,4 @@
-use Rattle.std.proofs.Common.{List, ℕ, [], Contains, subst, sym, ap, ◌∙◌}
+use Rattle.std.proofs.Common.{List, ℕ, [], Contains, subst}
 use Rattle.std.proofs.lemmas.Result.{IfOk-weaker}
 use Rattle.esto_derive.specs.Writing.{AddsNew, lines_at}
 use Rattle.esto_derive.proofs.UseLemmas.{chain_below}

@@ -1,4 +1,4 @@
-use Rattle.std.proofs.Common.{ℕ, List, ◌+◌, ◌++◌, ◌≤◌, codes, subst, ap, ◌∙◌}
+use Rattle.std.proofs.Common.{ℕ, ◌+◌, ◌++◌, ◌≤◌, codes, subst, ap, ◌∙◌}
 use Rattle.esto_term.specs.Nesting.{greatest_u64}
 use Rattle.esto_cert.specs.declared.line.Line.TheVariants.{Expanded}
 use Rattle.esto_derive.specs.Printing.{line_text}

@@ -2,7 +2,7 @@ use Rattle.std.proofs.Common.{◌≡◌, ℕ, List, [], ◌+◌, ◌++◌, ◌�
 use Rattle.std.proofs.lemmas.Option.{slice_get-get_or}
 use Rattle.esto_term.specs.Nesting.{greatest_u64}
 use Rattle.esto_constraint.specs.Constraints.{rule_of}
-use Rattle.esto_semantics.specs.Rules.{Rule, body_of}
+use Rattle.esto_semantics.specs.Rules.{Rule}
 use Rattle.esto_semantics.specs.declared.fact.Fact.{Fact}
 use Rattle.esto_term.specs.declared.term.Term.{Term}
 use Rattle.esto_cert.specs.declared.line.Line.TheVariants.{Step}

@@ -1,4 +1,4 @@
-use Rattle.std.proofs.Common.{List, ℕ, [], ◌+◌, ◌++◌, ◌∷◌, ◌≡◌, length, slice_get, Some, refl, sym, subst, ap, ◌∙◌, arith}
+use Rattle.std.proofs.Common.{ℕ, [], ◌+◌, ◌∷◌, ◌≡◌, length, slice_get, Some, refl, sym, subst, ap, ◌∙◌, arith}
 use Rattle.std.proofs.lemmas.List.{length-append}
 use Rattle.std.proofs.lemmas.Option.{slice_get_read}
 use Rattle.esto_derive.proofs.StateLemmas.{state_start, used_goes}
