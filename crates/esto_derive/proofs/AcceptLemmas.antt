@@ -31,7 +31,9 @@ pub as_read : (expanded : List ExpandedFact) (set : List Bool) (query : Conjunct
     → AreDerived expanded (rules_of rules) entries
     → IsWritten (record { expanded = expanded; set = set; rules = rules_of rules; query = query; targets = targets }) entries bytes
 as_read expanded set query targets bytes entries shown rules its shown_is its_is writes derived =
-    subst (λ (it : List Constraint). IsWritten (record { expanded = expanded; set = set; rules = rules_of it; query = query; targets = targets }) entries bytes) its_is
-    (subst (λ (it : List Entry). IsWritten (record { expanded = expanded; set = set; rules = rules_of its; query = query; targets = targets }) it bytes) shown_is
+    subst (λ (it : List Constraint). IsWritten
+    (record { expanded = expanded; set = set; rules = rules_of it; query = query; targets = targets }) entries bytes) its_is
+    (subst (λ (it : List Entry). IsWritten
+    (record { expanded = expanded; set = set; rules = rules_of its; query = query; targets = targets }) it bytes) shown_is
     (writes (subst (λ (it : List Constraint). AreDerived expanded (rules_of it) shown) (sym its_is)
     (subst (AreDerived expanded (rules_of rules)) (sym shown_is) derived))))

@@ -60,11 +60,12 @@ module _ (plan : Plan) (fragments : List FragmentDef) (expanded : List ExpandedF
         by true decides variable = flat_atom (expands.of.spread number term)
             (subst (λ (it : List Term). Contains it (expands.of.spread number term)) (expands.of.head number (fact_of atom.0) in_query)
             (Contains-map (expands.of.spread number) (expands.of.view number).head term (decides.0 refl)))
-        by false decides variable = inr (expands.of.variable number term (subst (λ (it : ℕ). number < it) (sym (length-map plan.atoms fact_of)) within) (record {
-          in_body = (part, part_inside, inside);
-          no_constant = λ constant. let wrong : Plain variable.0 ≡ Const constant.0 = sym variable.1 ∙ constant.1 in cc;
-          not_in_head = λ in_head. let wrong : false ≡ true = decides.1 in_head in cc;
-        }))
+        by false decides variable = inr (expands.of.variable number term (subst (λ (it : ℕ). number < it) (sym (length-map plan.atoms fact_of)) within)
+            (record {
+              in_body = (part, part_inside, inside);
+              no_constant = λ constant. let wrong : Plain variable.0 ≡ Const constant.0 = sym variable.1 ∙ constant.1 in cc;
+              not_in_head = λ in_head. let wrong : false ≡ true = decides.1 in_head in cc;
+            }))
 
   pub flat : AreFlat (facts_of expanded)
   flat term (fact, fact_inside, inside) =
@@ -72,4 +73,5 @@ module _ (plan : Plan) (fragments : List FragmentDef) (expanded : List ExpandedF
       let known = (expands.exact its.0).0 its.1 in
       let source = Contains-map_from (expands.of.spread its.0.atom) known.1.0.terms term
       (subst (λ (it : Fact Term). Contains it.terms term) (sym (known.1.2 ∙ its.2)) inside) in
-      subst IsFlat source.2 (sent its.0.atom known.0 known.1.0 (Contains-at (expands.of.view its.0.atom).body its.0.place known.1.0 known.1.1) source.0 source.1)
+      subst IsFlat source.2 (sent its.0.atom known.0 known.1.0 (Contains-at
+      (expands.of.view its.0.atom).body its.0.place known.1.0 known.1.1) source.0 source.1)

@@ -36,7 +36,8 @@ module _ (Holds : Claim → Type 0) (from to : List Term) (lengths : length from
       × GoesOn Holds (from ++ atom.terms) (to ++ fact.terms) rest chosen
   goes_first atom fact rest chosen (are, fits) =
       let both : length (from ++ atom.terms) ≡ length (to ++ fact.terms) = rw (length-append, length-append) (omega (arith, lengths, are.0.2)) in
-      let all : length (to ++ (fact.terms ++ terms_of chosen)) ≡ length (map (taken (from ++ (atom.terms ++ terms_of rest)) (to ++ (fact.terms ++ terms_of chosen))) (from ++ (atom.terms ++ terms_of rest))) =
+      let all : length (to ++ (fact.terms ++ terms_of chosen)) ≡ length (map (taken (from ++ (atom.terms ++ terms_of rest)) (to ++
+      (fact.terms ++ terms_of chosen))) (from ++ (atom.terms ++ terms_of rest))) =
       zip_length One _ _ fits in
       let left : length (terms_of rest) ≡ length (terms_of chosen) =
       omega (
@@ -84,7 +85,8 @@ module _ (entries : List Entry) (set : List Bool) (from to : List Term) (lengths
   abbrev World : Claim → Type 0
   World = InWorld entries set
 
-  pub unlike : (fact : Fact Term) → ¬ ((fact.relation ≡ atom.relation) × (length fact.terms ≡ length atom.terms)) → IsFoundAfter entries set from to atom rest fact None
+  pub unlike : (fact : Fact Term) → ¬ ((fact.relation ≡ atom.relation) × (length fact.terms ≡ length atom.terms))
+      → IsFoundAfter entries set from to atom rest fact None
   unlike fact wrong chosen goes = let first = goes_first World from to lengths atom fact rest chosen goes in wrong (first.0.1, first.0.2)
 
   pub unfit : (fact : Fact Term) → ¬ (AllZip (Linked World) fact.terms (map (taken (from ++ atom.terms) (to ++ fact.terms)) atom.terms))
@@ -206,7 +208,8 @@ module _ {X Y : Type 0} (R : X → Y → Type 0) (xs : List X) (ys : List Y) whe
       | inr later ↦ below place one other (omega (arith, later)) at_one at_other
     ]
       where
-        same_item : {Z : Type 0} (items : List Z) (item : Z) → slice_get items place ≡ Some item → (other : Z) → slice_get items place ≡ Some other → other ≡ item
+        same_item : {Z : Type 0} (items : List Z) (item : Z) → slice_get items place ≡ Some item → (other : Z) → slice_get items place ≡ Some other
+            → other ≡ item
         same_item items item is other other_is = let both : Some other ≡ Some item = sym other_is ∙ is in some_one both
 
     pub related_not : ¬ (R x y) → ¬ (AllZip R xs ys)

@@ -45,7 +45,8 @@ module _ (entries : List Entry) (reasoned : AreReasoned entries) (place : ℕ) (
   pub named_before : (named : ℕ) → Contains (named_by entry.reason) named → named < place
   named_before named inside = omega (arith, (union named inside).there named inside, length-take place entries)
 
-  named_within : (named : ℕ) (other : Entry) → Contains (named_by entry.reason) named → slice_get entries named ≡ Some other → Within other.product entry.product
+  named_within : (named : ℕ) (other : Entry) → Contains (named_by entry.reason) named → slice_get entries named ≡ Some other
+      → Within other.product entry.product
   named_within named other inside other_at number has =
       ((union named inside).exact number).1 (named, other, inside, at_before entries named place other (named_before named inside) other_at, has)
 

@@ -83,7 +83,8 @@ module _ (Holds : Claim → Type 0) (head : List Term) (body chosen : List (Fact
   pub heads_linked : ((term : Term) → Contains head term → IsFixedBy body term) → AllZip (Linked Holds) targets (map (match_map body chosen) head)
   heads_linked safe =
       subst (AllZip (Linked Holds) targets)
-      (map_agree (taken (terms_of body ++ head) (terms_of chosen ++ targets)) (match_map body chosen) head (λ term inside. same term (safe term inside))) split.1
+      (map_agree (taken (terms_of body ++ head) (terms_of chosen ++ targets)) (match_map body chosen) head (λ term inside. same term
+      (safe term inside))) split.1
     where
       same : (term : Term) → IsFixedBy body term → taken (terms_of body ++ head) (terms_of chosen ++ targets) term ≡ match_map body chosen term
       same term (inl (text, is)) =

@@ -67,7 +67,8 @@ module _ (case : Case) (entries : List Entry) (used : List Bool) (lines : List (
     line_more = record {
       texts = state.texts ++ line_text line ∷ [];
       text_is = text ∙ ap (λ (it : List ℕ). it ++ (line_text line ++ codes "\n")) state.text_is
-          ∙ sym (flat_map-append (λ (it : List ℕ). it ++ codes "\n") state.texts (line_text line ∷ []) ∙ ap (λ (it : List ℕ). flat_map (λ text. text ++ codes "\n") state.texts ++ it) (append-nil (line_text line ++ codes "\n")));
+          ∙ sym (flat_map-append (λ (it : List ℕ). it ++ codes "\n") state.texts (line_text line ∷ [])
+          ∙ ap (λ (it : List ℕ). flat_map (λ text. text ++ codes "\n") state.texts ++ it) (append-nil (line_text line ++ codes "\n")));
       one_line = λ its inside. elim (Contains-append_cases state.texts (line_text line ∷ []) its inside) [
         | inl earlier ↦ state.one_line its earlier
         | inr last ↦ elim (Contains-cases (line_text line) [] its last) [

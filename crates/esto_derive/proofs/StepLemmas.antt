@@ -93,7 +93,8 @@ module _ (claims : List Claim) (lines : List (List ℕ)) (its : List Entry) (pla
   facts_named (place ∷ facts) (fact ∷ chosen) among stated =
       let (own, at, (line, is, claimed)) = stands place (among place (Contains-head place facts)) (Stated fact) stated.0 in
       ap (λ (it : List ℕ). facts_at claims (map (λ line. line + 1) (it ++ lines_at lines facts))) (ap own_lines at ∙ is)
-      ∙ ap (λ (it : Option Claim). with_item (fact_of it) (facts_at claims (map (λ line. line + 1) (lines_at lines facts)))) (numbered_next claims line ∙ claimed)
+      ∙ ap (λ (it : Option Claim). with_item (fact_of it) (facts_at claims (map (λ line. line + 1) (lines_at lines facts)))) (numbered_next claims line
+      ∙ claimed)
       ∙ ap (with_item (Some fact)) (facts_named facts chosen (λ other inside. among other (Contains-rest place facts other inside)) stated.1)
 
   -- each of these lines is there
@@ -102,7 +103,8 @@ module _ (claims : List Claim) (lines : List (List ℕ)) (its : List Entry) (pla
       → (line : ℕ) → Contains (lines_at lines facts) line → line < length claims
   facts_there facts chosen among stated line inside =
       let (place, place_inside, own_inside) = Contains-flat_from (λ place. own_lines (slice_get lines place)) facts line inside in
-      let (fact, fact_inside, claims_fact) = zip_left (λ (place : ℕ) (fact : Fact Term). Claims its place (Stated fact)) facts chosen stated place place_inside in
+      let (fact, fact_inside, claims_fact) = zip_left (λ (place : ℕ) (fact : Fact Term). Claims its place
+      (Stated fact)) facts chosen stated place place_inside in
       let (own, at, (its_line, is, claimed)) = stands place (among place place_inside) (Stated fact) claims_fact in
       elim (Contains-cases its_line [] line (subst (λ (it : List ℕ). Contains it line) (ap own_lines at ∙ is) own_inside)) [
         | inl same ↦ subst (λ (it : ℕ). it < length claims) same (slice_get_within claims its_line (Stated fact) claimed)

@@ -64,7 +64,8 @@ read_whole : (digits : List ℕ) (number : ℕ) → 0 < length digits → (2 ≤
     → number_of digits ≡ Some number
 read_whole [] number some first is = absurd (omega (arith, some))
 read_whole (byte ∷ []) number some first is = is
-read_whole (byte ∷ second ∷ rest) number some first is = ap (λ (it : Bool). if it then None else number_after 0 (byte ∷ second ∷ rest)) (test (first (omega arith))) ∙ is
+read_whole (byte ∷ second ∷ rest) number some first is = ap (λ (it : Bool). if it then None else number_after 0 (byte ∷ second ∷ rest)) (test (first
+    (omega arith))) ∙ is
   where
     test : 48 < byte → (byte == 48) ≡ false
     test more = grind (arith, nat_tests)
@@ -84,7 +85,8 @@ abbrev IsDigit : ℕ → Type 0
 IsDigit byte = (48 ≤ byte) × (byte ≤ 57)
 
 are_digits : (number : ℕ) → number ≤ greatest_u64 → All IsDigit (decimal number)
-are_digits number fits = decimal_by_steps (λ n digits. All IsDigit digits) (λ n small. All-cons IsDigit (48 + n) [] (omega arith, omega arith) (All-nil IsDigit))
+are_digits number fits = decimal_by_steps (λ n digits. All IsDigit digits) (λ n small. All-cons IsDigit (48 + n) [] (omega arith, omega arith)
+    (All-nil IsDigit))
     (λ n digits large are. All-push IsDigit digits (48 + n % 10) are (omega arith, omega arith)) number (omega (arith, fits))
 
 -- a digit, a comma or a minus
@@ -107,7 +109,8 @@ list-of_list : (numbers : List ℕ) → Fit numbers → All IsOfList (list_text 
 list-of_list [] fit = All-cons IsOfList 45 [] (omega arith, omega arith) (All-nil IsOfList)
 list-of_list (number ∷ numbers) fit =
     All-append IsOfList (decimal number) (after_commas numbers)
-    (All-weaker IsDigit IsOfList (λ byte (from, to). (omega (arith, from), to)) (decimal number) (are_digits number (fit number (Contains-head number numbers))))
+    (All-weaker IsDigit IsOfList (λ byte (from, to). (omega (arith, from), to)) (decimal number) (are_digits number (fit number
+    (Contains-head number numbers))))
     (after-of_list numbers (λ other inside. fit other (Contains-rest number numbers other inside)))
 
 no_space : (word : List ℕ) → All IsOfList word → All (λ byte. (byte == 32) ≡ false) word
@@ -161,7 +164,8 @@ words word rest are = slice_split_at (λ byte. byte == 32) word 32 rest (no_spac
 last_word : (word : List ℕ) → All IsOfList word → slice_split (λ byte. byte == 32) word ≡ word ∷ []
 last_word word are = slice_split_none (λ byte. byte == 32) word (no_space word are)
 
-two_words : (verb first second : List ℕ) → All IsOfList first → All IsOfList second → (λ (it : List (List ℕ)). line_of_words (verb ∷ it)) (slice_split (λ byte. byte == 32) (first ++ (codes " " ++ second)))
+two_words : (verb first second : List ℕ) → All IsOfList first → All IsOfList second
+    → (λ (it : List (List ℕ)). line_of_words (verb ∷ it)) (slice_split (λ byte. byte == 32) (first ++ (codes " " ++ second)))
     ≡ line_of_words (verb ∷ first ∷ second ∷ [])
 two_words verb first second are are_too =
     ap (λ (it : List (List ℕ)). line_of_words (verb ∷ it)) (words first second are ∙ ap (λ (it : List (List ℕ)). first ∷ it) (last_word second are_too))
@@ -209,7 +213,8 @@ above : (word : List ℕ) → All IsOfList word → All (λ byte. 32 ≤ byte) w
 above = All-weaker IsOfList (λ byte. 32 ≤ byte) (λ byte (from, to). omega (arith, from))
 
 spaced : (word rest : List ℕ) → All IsOfList word → All (λ byte. 32 ≤ byte) rest → All (λ byte. 32 ≤ byte) (word ++ (codes " " ++ rest))
-spaced word rest are are_too = All-append (λ byte. 32 ≤ byte) word (codes " " ++ rest) (above word are) (All-cons (λ byte. 32 ≤ byte) 32 rest (omega arith) are_too)
+spaced word rest are are_too = All-append (λ byte. 32 ≤ byte) word (codes " " ++ rest) (above word are) (All-cons (λ byte. 32 ≤ byte) 32 rest
+    (omega arith) are_too)
 
 printable : (line : Line) → IsReadable line → All (λ byte. 32 ≤ byte) (line_text line)
 printable (Expanded atom place) (fits, fits_too) =

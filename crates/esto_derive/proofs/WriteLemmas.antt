@@ -41,7 +41,8 @@ claims_in_all entries count place claim (entry, at, is) = (entry, taken_at entri
 
 pub like_chosen : (Holds : Claim → Type 0) (body chosen : List (Fact Term)) → AreChosen Holds body chosen → AllZip IsLike body chosen
 like_chosen Holds body chosen = zip_weaker
-    (λ (atom : Fact Term) (fact : Fact Term). Holds (Stated fact) × (fact.relation ≡ atom.relation) × (length fact.terms ≡ length atom.terms)) IsLike body chosen
+    (λ (atom : Fact Term) (fact : Fact Term). Holds (Stated fact) × (fact.relation ≡ atom.relation)
+    × (length fact.terms ≡ length atom.terms)) IsLike body chosen
     (λ atom fact inside are. (are.1, are.2))
 
 take_front : {X : Type 0} (xs ys : List X) → take (length xs) (xs ++ ys) ≡ xs
@@ -107,7 +108,8 @@ module _ (entries : List Entry) (rules : List Rule) (count number : ℕ) (places
   by_links : (s t : Term) → IsNamed (take count entries) places (Same s t) → IsNamed entries by.links (Same s t)
   by_links s t (place, inside, claims_it) =
       elim (Contains-append_cases by.facts by.links place (subst (λ (it : List ℕ). Contains it place) by.in_order inside)) [
-        | inl among ↦ (let found = zip_left (λ (place : ℕ) (fact : Fact Term). Claims (take count entries) place (Stated fact)) by.facts by.chosen by.stated place among in
+        | inl among ↦ (let found = zip_left (λ (place : ℕ) (fact : Fact Term). Claims (take count entries) place
+            (Stated fact)) by.facts by.chosen by.stated place among in
             absurd (apart place found.0 s t found.2 claims_it))
         | inr among ↦ (place, among, claims_in_all entries count place (Same s t) claims_it)
       ]
@@ -167,7 +169,8 @@ module _ (case : Case) (entries : List Entry) (used : List Bool) (basis : IsBasi
           claims ++ entry.claim ∷ [],
           line_more case entries used lines written claims state (line.Expanded (atom + 1) (place + 1)) (fits, fits_too) entry.claim may holds new text count,
           subst (λ (it : List ℕ). StandFor (claims ++ entry.claim ∷ []) it entry.claim) (sym own_is)
-              (own_line case entries used lines written claims state (line.Expanded (atom + 1) (place + 1)) (fits, fits_too) entry.claim may holds new text count),
+              (own_line case entries used lines written claims state (line.Expanded (atom + 1) (place + 1))
+              (fits, fits_too) entry.claim may holds new text count),
         )
 
     module _ (number : ℕ) (places : List ℕ) (is : entry.reason ≡ Step number places) where
@@ -187,7 +190,8 @@ module _ (case : Case) (entries : List Entry) (used : List Bool) (basis : IsBasi
           → ((chosen : List (Fact Term)) → AllZip (λ (place : ℕ) (fact : Fact Term). Claims entries place (Stated fact)) facts chosen
           → made_at at_place number rule (match_map (body_of rule) chosen) ≡ Some entry.claim)
           → number + 1 ≤ greatest_u64 → at_place ≤ greatest_u64 → length claims ≤ greatest_u64 → (new : Written)
-          → new.text ≡ written.text ++ (line_text (line.Step (number + 1) at_place (map (λ line. line + 1) (lines_at lines facts)) (map (λ line. line + 1) linked))
+          → new.text ≡ written.text ++ (line_text (line.Step (number + 1) at_place (map (λ line. line + 1) (lines_at lines facts)) (map
+          (λ line. line + 1) linked))
           ++ codes "\n") → new.count ≡ written.count + 1 → (own : List ℕ) → own ≡ written.count ∷ [] → Goes new own
 
       step_goes_on : StepGoes step.0
@@ -225,7 +229,8 @@ module _ (case : Case) (entries : List Entry) (used : List Bool) (basis : IsBasi
               → new.count ≡ written.count + 1 → (own : List ℕ) → own ≡ written.count ∷ [] → Goes new own
           step_line some facts links facts_among links_among linked adds at_place fits fits_too few stated equalities like fit made new text count own own_is =
               let its : Line = line.Step (number + 1) at_place (map (λ line. line + 1) (lines_at lines facts)) (map (λ line. line + 1) linked) in
-              let found = eqs claims lines entries places stands facts links step.2.chosen (body_of step.0) facts_among links_among stated equalities linked adds
+              let found = eqs claims lines entries places stands facts links step.2.chosen
+              (body_of step.0) facts_among links_among stated equalities linked adds
               like fit in
               let may : MayClaim case claims its entry.claim = (
                 step.0,
@@ -279,7 +284,8 @@ module _ (case : Case) (entries : List Entry) (used : List Bool) (basis : IsBasi
 
       module _ (linked : List ℕ) (adds : AddsNew [] (lines_at lines places) linked)
           (equalities : (place : ℕ) → Contains places place → IsEquality entries place) where
-        by_line : (place : ℕ) → Contains places place → (s t : Term) → Claims (take (length lines) entries) place (Same s t) → Linked (AtLines claims linked) s t
+        by_line : (place : ℕ) → Contains places place → (s t : Term) → Claims (take (length lines) entries) place (Same s t)
+            → Linked (AtLines claims linked) s t
         by_line place inside s t on =
             lines_link claims lines entries places chain_stands places (λ its there. there) equalities linked adds place inside s t
             (claims_in_all entries (length lines) place (Same s t) on)

@@ -19,6 +19,7 @@ places-preserved c =
     let below = c.requires _
     (here_inside (λ place. entry_terms (slice_get c.args.entries.now place)) c.args.places.now c.places.place-index c.places-test.true) in
     flat_step (λ place. entry_terms (slice_get c.args.entries.now place)) c.args.places.now c.places.place-index c.places-test.true c.places.terms
-    (claimed_terms (get_or c.args.entries.now (get_or c.args.places.now c.places.place-index 0) c.index-entries-place.result).claim) c.put_terms.new.terms (terms_at c.args.entries.now c.args.places.now)
+    (claimed_terms (get_or c.args.entries.now (get_or c.args.places.now c.places.place-index 0) c.index-entries-place.result).claim) c.put_terms.new.terms
+    (terms_at c.args.entries.now c.args.places.now)
     (ap entry_terms (slice_get-get_or c.args.entries.now (get_or c.args.places.now c.places.place-index 0) c.index-entries-place.result below))
     c.in_ok-put_terms.ensures c.places.invariant

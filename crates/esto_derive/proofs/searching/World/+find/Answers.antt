@@ -33,10 +33,13 @@ pub find_after-returns-then-not-are_one : goal.find_after-returns-then-not-are_o
 find_after-returns-then-not-are_one t c =
     let it = c.args.self.now in
     unfit it.entries.now it.set.now c.args.from.now c.args.to.now c.requires.lengths c.args.atom.now c.args.rest.now c.args.fact.now
-    (λ row. let told = c.are_one.ensures.1 (subst (λ (its : List Term). AllZip (Linked (InWorld it.entries.now it.set.now)) its c.items-5.result.now) (sym c.items-4.ensures)
-    ((row_of (InWorld it.entries.now it.set.now) c.items.result.now c.items-2.result.now c.args.from.now c.args.to.now c.args.atom.now.terms c.args.fact.now.terms c.items-5.result.now
+    (λ row. let told = c.are_one.ensures.1 (subst (λ (its : List Term). AllZip (Linked (InWorld it.entries.now it.set.now)) its c.items-5.result.now)
+    (sym c.items-4.ensures)
+    ((row_of (InWorld it.entries.now it.set.now) c.items.result.now c.items-2.result.now c.args.from.now c.args.to.now c.args.atom.now.terms
+    c.args.fact.now.terms c.items-5.result.now
     (c.items.ensures ∙ c.in_ok-longer.ensures) (c.items-2.ensures ∙ c.in_ok-met.ensures)
-    (c.items-5.ensures ∙ c.in_ok-wanted.ensures ∙ ap (map (taken c.items.result.now c.items-2.result.now)) c.items-3.ensures)).1 row)) in let not_told = c.if-not-are_one.true in cc)
+    (c.items-5.ensures ∙ c.in_ok-wanted.ensures ∙ ap (map (taken c.items.result.now c.items-2.result.now)) c.items-3.ensures)).1 row)) in let not_told =
+    c.if-not-are_one.true in cc)
 
 pub find_after-find-requires : goal.find_after-find-requires
 find_after-find-requires t c =
@@ -51,11 +54,14 @@ find_after-find-requires t c =
       c.requires.lengths,
       (sym c.len.ensures ∙ c.if-len.false ∙ c.len-else-fact-atom.ensures),
     ) in
-    let row = (row_of (InWorld it.entries.now it.set.now) c.items.result.now c.items-2.result.now c.args.from.now c.args.to.now c.args.atom.now.terms c.args.fact.now.terms c.items-5.result.now
+    let row = (row_of (InWorld it.entries.now it.set.now) c.items.result.now c.items-2.result.now c.args.from.now c.args.to.now c.args.atom.now.terms
+    c.args.fact.now.terms c.items-5.result.now
     (c.items.ensures ∙ c.in_ok-longer.ensures) (c.items-2.ensures ∙ c.in_ok-met.ensures)
     (c.items-5.ensures ∙ c.in_ok-wanted.ensures ∙ ap (map (taken c.items.result.now c.items-2.result.now)) c.items-3.ensures)).0
-    (subst (λ (its : List Term). AllZip (Linked (InWorld it.entries.now it.set.now)) its c.items-5.result.now) c.items-4.ensures (c.are_one.ensures.0 c.if-not-are_one.false)) in
-    let fits = fits_row (InWorld it.entries.now it.set.now) c.args.from.now c.args.to.now c.requires.lengths c.args.atom.now c.args.fact.now c.requires.fits row in (
+    (subst (λ (its : List Term). AllZip (Linked (InWorld it.entries.now it.set.now)) its c.items-5.result.now) c.items-4.ensures (c.are_one.ensures.0
+    c.if-not-are_one.false)) in
+    let fits = fits_row (InWorld it.entries.now it.set.now) c.args.from.now c.args.to.now c.requires.lengths c.args.atom.now c.args.fact.now
+    c.requires.fits row in (
       omega (arith, c.decreases),
       (
         c.requires.counts,
@@ -64,7 +70,8 @@ find_after-find-requires t c =
           (
             lengths,
             subst (λ (longer : List Term). Fits (Linked (InWorld it.entries.now it.set.now)) longer c.in_ok-met.met) (sym c.in_ok-longer.ensures)
-                (subst (λ (met : List Term). Fits (Linked (InWorld it.entries.now it.set.now)) (c.args.from.now ++ c.args.atom.now.terms) met) (sym c.in_ok-met.ensures) fits),
+                (subst (λ (met : List Term). Fits (Linked (InWorld it.entries.now it.set.now)) (c.args.from.now ++ c.args.atom.now.terms) met) (sym
+                c.in_ok-met.ensures) fits),
           ),
         ),
       ),
@@ -76,7 +83,8 @@ find_after-returns t c =
     IfOk-weaker c.find.result _ _
     (λ places found. found_after it.entries.now it.set.now c.args.from.now c.args.to.now c.requires.lengths c.args.atom.now c.args.rest.now c.args.fact.now
     c.if-fact-atom.false (sym c.len.ensures ∙ c.if-len.false ∙ c.len-else-fact-atom.ensures) places
-    (subst (λ (longer : List Term). IsFound it.entries.now it.set.now longer (c.args.to.now ++ c.args.fact.now.terms) c.args.rest.now places) c.in_ok-longer.ensures
+    (subst (λ (longer : List Term). IsFound it.entries.now it.set.now longer (c.args.to.now ++ c.args.fact.now.terms) c.args.rest.now places)
+    c.in_ok-longer.ensures
     (subst (λ (met : List Term). IsFound it.entries.now it.set.now c.in_ok-longer.longer met c.args.rest.now places) c.in_ok-met.ensures found)))
     c.find.ensures
 

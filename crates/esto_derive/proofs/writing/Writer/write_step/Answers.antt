@@ -14,44 +14,56 @@ use Rattle.esto_derive.proofs.WriteLemmas.{step_goes}
 use Rattle.esto_derive.proofs.writing.Writer.write_step.Goals as goal
 
 pub bounds-self-number : goal.bounds-self-number
-bounds-self-number c = number_within c.args.self.now.entries.now c.args.self.now.rules.now c.args.lines.now c.args.entry.now c.requires.at c.requires.derived c.args.number c.args.places.now c.requires.reason
+bounds-self-number c = number_within c.args.self.now.entries.now c.args.self.now.rules.now c.args.lines.now c.args.entry.now c.requires.at
+    c.requires.derived c.args.number c.args.places.now c.requires.reason
 
 pub split_at-requires : goal.split_at-requires
-split_at-requires c = splits c.args.self.now.entries.now c.args.self.now.rules.now c.args.lines.now c.args.entry.now c.requires.at c.requires.derived c.args.number c.args.places.now c.requires.reason
+split_at-requires c = splits c.args.self.now.entries.now c.args.self.now.rules.now c.args.lines.now c.args.entry.now c.requires.at c.requires.derived
+    c.args.number c.args.places.now c.requires.reason
     (slice_index_or c.args.self.now.rules.now c.args.number c.index-self-number.result)
     (slice_get-get_or c.args.self.now.rules.now c.args.number c.index-self-number.result
-    (number_within c.args.self.now.entries.now c.args.self.now.rules.now c.args.lines.now c.args.entry.now c.requires.at c.requires.derived c.args.number c.args.places.now c.requires.reason))
+    (number_within c.args.self.now.entries.now c.args.self.now.rules.now c.args.lines.now c.args.entry.now c.requires.at c.requires.derived c.args.number
+    c.args.places.now c.requires.reason))
     c.body_of-body.result.now c.body_of-body.ensures
 
 pub terms_at-requires : goal.terms_at-requires
-terms_at-requires c = facts_there c.args.self.now.entries.now c.args.self.now.rules.now c.args.lines.now c.args.entry.now c.requires.at c.requires.derived c.args.number c.args.places.now c.requires.reason
+terms_at-requires c = facts_there c.args.self.now.entries.now c.args.self.now.rules.now c.args.lines.now c.args.entry.now c.requires.at
+    c.requires.derived c.args.number c.args.places.now c.requires.reason
     (slice_index_or c.args.self.now.rules.now c.args.number c.index-self-number.result)
     (slice_get-get_or c.args.self.now.rules.now c.args.number c.index-self-number.result
-    (number_within c.args.self.now.entries.now c.args.self.now.rules.now c.args.lines.now c.args.entry.now c.requires.at c.requires.derived c.args.number c.args.places.now c.requires.reason))
+    (number_within c.args.self.now.entries.now c.args.self.now.rules.now c.args.lines.now c.args.entry.now c.requires.at c.requires.derived c.args.number
+    c.args.places.now c.requires.reason))
     c.body_of-body.result.now c.body_of-body.ensures
     c.split_at.result.0.now c.split_at.ensures.front
 
 pub place_of-requires-clause-asked : goal.place_of-requires-clause-asked
-place_of-requires-clause-asked c = asked c.args.self.now.entries.now c.args.self.now.rules.now c.args.lines.now c.args.entry.now c.requires.at c.requires.derived c.args.number c.args.places.now c.requires.reason
+place_of-requires-clause-asked c = asked c.args.self.now.entries.now c.args.self.now.rules.now c.args.lines.now c.args.entry.now c.requires.at
+    c.requires.derived c.args.number c.args.places.now c.requires.reason
     (slice_index_or c.args.self.now.rules.now c.args.number c.index-self-number.result)
     (slice_get-get_or c.args.self.now.rules.now c.args.number c.index-self-number.result
-    (number_within c.args.self.now.entries.now c.args.self.now.rules.now c.args.lines.now c.args.entry.now c.requires.at c.requires.derived c.args.number c.args.places.now c.requires.reason))
+    (number_within c.args.self.now.entries.now c.args.self.now.rules.now c.args.lines.now c.args.entry.now c.requires.at c.requires.derived c.args.number
+    c.args.places.now c.requires.reason))
     c.body_of-body.result.now c.body_of-body.ensures
-    c.split_at.result.0.now c.split_at.ensures.front c.items.result.now c.items-2.result.now (c.items.ensures ∙ c.in_ok-from.ensures) (c.items-2.ensures ∙ c.in_ok-to.ensures)
+    c.split_at.result.0.now c.split_at.ensures.front c.items.result.now c.items-2.result.now (c.items.ensures ∙ c.in_ok-from.ensures) (c.items-2.ensures
+    ∙ c.in_ok-to.ensures)
 
 pub lines_at-requires : goal.lines_at-requires
-lines_at-requires c = facts_below c.args.self.now.entries.now c.args.self.now.rules.now c.args.lines.now c.args.entry.now c.requires.at c.requires.derived c.args.number c.args.places.now c.requires.reason
+lines_at-requires c = facts_below c.args.self.now.entries.now c.args.self.now.rules.now c.args.lines.now c.args.entry.now c.requires.at
+    c.requires.derived c.args.number c.args.places.now c.requires.reason
     (slice_index_or c.args.self.now.rules.now c.args.number c.index-self-number.result)
     (slice_get-get_or c.args.self.now.rules.now c.args.number c.index-self-number.result
-    (number_within c.args.self.now.entries.now c.args.self.now.rules.now c.args.lines.now c.args.entry.now c.requires.at c.requires.derived c.args.number c.args.places.now c.requires.reason))
+    (number_within c.args.self.now.entries.now c.args.self.now.rules.now c.args.lines.now c.args.entry.now c.requires.at c.requires.derived c.args.number
+    c.args.places.now c.requires.reason))
     c.body_of-body.result.now c.body_of-body.ensures
     c.split_at.result.0.now c.split_at.ensures.front
 
 pub links_at-requires : goal.links_at-requires
-links_at-requires c = links_below c.args.self.now.entries.now c.args.self.now.rules.now c.args.lines.now c.args.entry.now c.requires.at c.requires.derived c.args.number c.args.places.now c.requires.reason
+links_at-requires c = links_below c.args.self.now.entries.now c.args.self.now.rules.now c.args.lines.now c.args.entry.now c.requires.at
+    c.requires.derived c.args.number c.args.places.now c.requires.reason
     (slice_index_or c.args.self.now.rules.now c.args.number c.index-self-number.result)
     (slice_get-get_or c.args.self.now.rules.now c.args.number c.index-self-number.result
-    (number_within c.args.self.now.entries.now c.args.self.now.rules.now c.args.lines.now c.args.entry.now c.requires.at c.requires.derived c.args.number c.args.places.now c.requires.reason))
+    (number_within c.args.self.now.entries.now c.args.self.now.rules.now c.args.lines.now c.args.entry.now c.requires.at c.requires.derived c.args.number
+    c.args.places.now c.requires.reason))
     c.body_of-body.result.now c.body_of-body.ensures
     c.split_at.result.1.now c.split_at.ensures.back
 
@@ -65,10 +77,12 @@ returns-clause-writes c =
     (λ own own_is text count case claims rules_is basis has state.
     step_goes case c.args.self.now.entries.now c.args.self.now.used.now basis c.args.lines.now c.args.written.now claims state c.args.entry.now
     c.requires.at has c.args.number c.args.places.now c.requires.reason rule
-    (subst (λ (it : List Rule). slice_get it c.args.number ≡ Some rule) (sym rules_is) (rule_there c.args.self.now.entries.now c.args.self.now.rules.now c.args.lines.now c.args.entry.now c.requires.at c.requires.derived c.args.number c.args.places.now c.requires.reason
+    (subst (λ (it : List Rule). slice_get it c.args.number ≡ Some rule) (sym rules_is) (rule_there c.args.self.now.entries.now c.args.self.now.rules.now
+    c.args.lines.now c.args.entry.now c.requires.at c.requires.derived c.args.number c.args.places.now c.requires.reason
     (slice_index_or c.args.self.now.rules.now c.args.number c.index-self-number.result)
     (slice_get-get_or c.args.self.now.rules.now c.args.number c.index-self-number.result
-    (number_within c.args.self.now.entries.now c.args.self.now.rules.now c.args.lines.now c.args.entry.now c.requires.at c.requires.derived c.args.number c.args.places.now c.requires.reason))
+    (number_within c.args.self.now.entries.now c.args.self.now.rules.now c.args.lines.now c.args.entry.now c.requires.at c.requires.derived c.args.number
+    c.args.places.now c.requires.reason))
     c.body_of-body.result.now c.body_of-body.ensures))
     (has_body rule (c.rules_are_sound.ensures.rules (slice_index_or c.args.self.now.rules.now c.args.number c.index-self-number.result)))
     c.split_at.result.0.now c.split_at.result.1.now
@@ -77,10 +91,12 @@ returns-clause-writes c =
     c.items-4.result.now
     (subst (AddsNew [] (lines_at c.args.lines.now c.split_at.result.1.now)) (sym c.items-4.ensures) c.in_ok-linked.ensures)
     c.in_ok-place.place
-    (made_by c.args.self.now.entries.now c.args.self.now.rules.now c.args.lines.now c.args.entry.now c.requires.at c.requires.derived c.args.number c.args.places.now c.requires.reason
+    (made_by c.args.self.now.entries.now c.args.self.now.rules.now c.args.lines.now c.args.entry.now c.requires.at c.requires.derived c.args.number
+    c.args.places.now c.requires.reason
     (slice_index_or c.args.self.now.rules.now c.args.number c.index-self-number.result)
     (slice_get-get_or c.args.self.now.rules.now c.args.number c.index-self-number.result
-    (number_within c.args.self.now.entries.now c.args.self.now.rules.now c.args.lines.now c.args.entry.now c.requires.at c.requires.derived c.args.number c.args.places.now c.requires.reason))
+    (number_within c.args.self.now.entries.now c.args.self.now.rules.now c.args.lines.now c.args.entry.now c.requires.at c.requires.derived c.args.number
+    c.args.places.now c.requires.reason))
     c.body_of-body.result.now c.body_of-body.ensures
     c.split_at.result.0.now c.split_at.ensures.front c.items.result.now c.items-2.result.now from_is to_is c.in_ok-place.place c.in_ok-place.ensures)
     (subst (λ (it : ℕ). it ≤ greatest_u64) c.in_ok-numbered.ensures c.put_step.ensures.number)
