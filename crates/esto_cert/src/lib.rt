@@ -13,5 +13,5 @@ mod reading;
 mod taking;
 
 pub use check::{CertError, check_certificate};
-pub use laws::{accepted_certificates_show, verdicts_are_one};
+pub use laws::{accepted_certificates_derive, accepted_certificates_show, verdicts_are_one};
 pub use line::{Line, Numbers};
