@@ -217,7 +217,8 @@ module _ (rules : List Rule) (fragments : List FragmentDef) (plan : Plan) (expan
         let kept = Contains-filter_from is_in expanded from.0 from.1 in
         (from.0, kept.0, kept.1, from.2),
     λ (part, there, has, is).
-        subst (Contains start.body) is (Contains-map (λ (it : ExpandedFact). it.fact) (filter is_in expanded) part (Contains-filter is_in expanded part there has)),
+        subst (Contains start.body) is
+        (Contains-map (λ (it : ExpandedFact). it.fact) (filter is_in expanded) part (Contains-filter is_in expanded part there has)),
   )
 
   is_part : IsPartOf expands.of set start.body
