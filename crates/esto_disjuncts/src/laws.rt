@@ -1,5 +1,5 @@
 //! Laws of members and lists of unions.
-ghost use Rattle.esto_disjuncts.specs.Laws.{EmptyListsAreTold, MembersAreOne, MembersCoverUnions, MembersTellSatisfiable, UnionListsAreExact, UnionListsAreOne};
+ghost use Rattle.esto_disjuncts.specs.Laws.{EmptyListsAreTold, MembersAreOne, MembersAreUniversal, MembersCoverUnions, MembersTellSatisfiable, UnionListsAreExact, UnionListsAreOne};
 ghost use Rattle.esto_disjuncts.specs.RunExact.{UnionRunsAreExact};
 ghost use Rattle.esto_disjuncts.specs.RunLaws.{RunsAnswerUnions};
 
@@ -24,11 +24,12 @@ pub fn members_are_one()
     weights_exist();
 }
 
-/// A law: the members of a union have plans exactly for its satisfiable queries. Each executable rewriting of the union has,
-/// for each of these plans, a query that maps onto a set of the plan's atoms that has a listed set within it; and there is
-/// none exactly where some plan has no listed set.
+/// A law: the members of a union have plans exactly for its satisfiable queries, and these are universal. Each executable
+/// rewriting of the union has, for each of these plans, a query that maps onto a set of the plan's atoms that has a listed
+/// set within it; and there is none exactly where some plan has no listed set.
 pub fn members_tell_rewritings()
     ensures satisfiable { MembersTellSatisfiable }
+    ensures universal { MembersAreUniversal }
     ensures complete { MembersCoverUnions }
     ensures empty { EmptyListsAreTold }
 {
