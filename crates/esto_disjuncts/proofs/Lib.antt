@@ -7,3 +7,4 @@ pub mod PickingLemmas
 pub mod RunLemmas
 pub mod RunAskedLemmas
 pub mod AnswerLemmas
+pub mod RunExactLemmas

@@ -1,5 +1,6 @@
 //! Laws of members and lists of unions.
 ghost use Rattle.esto_disjuncts.specs.Laws.{EmptyListsAreTold, MembersAreOne, MembersAreUniversal, MembersCoverUnions, MembersTellSatisfiable, UnionListsAreExact, UnionListsAreOne};
+ghost use Rattle.esto_disjuncts.specs.RunExact.{UnionRunsAreExact};
 ghost use Rattle.esto_disjuncts.specs.RunLaws.{RunsAnswerUnions};
 
 use esto_plan_laws::{
@@ -65,4 +66,14 @@ pub fn runs_answer_unions()
     planned_plans_are_universal();
     picks_answer_unions();
     unions_answer_over_files();
+}
+
+/// A law: over files that are told, `run` replies to a union of which no query is satisfiable with the clash of the first
+/// query's run; else it refuses it with `NoRewriting` exactly where it has no executable rewriting, and a text that it
+/// replies has exactly the union's answers, for each database of which the files hold the view rows.
+pub fn union_runs_are_exact()
+    ensures { UnionRunsAreExact }
+{
+    members_tell_rewritings();
+    runs_answer_unions();
 }
