@@ -12,7 +12,7 @@ use Rattle.esto_course.specs.Course.{Course, judges}
 use Rattle.esto_course.proofs.Determined.{then_agree, gives_agree, judges_agree}
 use Rattle.esto_fill.specs.Databases.{database_of}
 use Rattle.esto_fill.specs.Filled.{Fills}
-use Rattle.esto_fill.specs.Laws.{AnswersAreOne, AuditsAreOne, FactsAreOne, FillsAreOne, JudgementsAreOne}
+use Rattle.esto_fill.specs.Laws.{AuditsAreOne, FactsAreOne, FillsAreOne, JudgementsAreOne, UnionAnswersAreOne}
 use Rattle.esto_fill.specs.Texts.{AreTextsOf, AreTextViews, IsFirstNodeColumn, IsFirstNodeView}
 use Rattle.esto_fill.specs.declared.auditing.Difference.{Difference}
 use Rattle.esto_fill.specs.declared.filled.FillError.{FillError}
@@ -22,44 +22,46 @@ use Rattle.esto_fill.specs.declared.rows.AnswerError.TheVariants as answer
 use Rattle.esto_ports.specs.Files.{Files}
 use Rattle.esto_query.specs.Making.{query_of}
 use Rattle.esto_query.specs.declared.query.Query.{Query}
-use Rattle.esto_run.specs.Answers.{rows_text}
 use Rattle.esto_run.specs.Stores.{IsFileRow}
 use Rattle.esto_semantics.specs.Maps.{AreFlat}
 use Rattle.esto_semantics.specs.Queries.{ConjunctiveQuery, IsAnswer}
 use Rattle.esto_semantics.specs.Rules.{AreRules, IsRule}
+use Rattle.esto_semantics.specs.Unions.{IsUnionAnswer}
 use Rattle.esto_semantics.specs.declared.fact.Fact.{Fact}
 use Rattle.esto_stores.specs.Rows.{Row}
 use Rattle.esto_term.proofs.ListLemmas.{Contains-at}
 use Rattle.esto_term.specs.declared.term.Term.{Term}
 use Rattle.esto_views.specs.Fragments.{views_of}
-use Rattle.esto_opening.specs.Alike.{CataloguesOpenAlike, FragmentOpensAlike, FragmentsOpenAlike, IsSameQuery, QueriesOpenAlike, StoresHaveOneContent, StoresHaveOneFault, StoresHaveOneFile}
+use Rattle.esto_opening.specs.Alike.{CataloguesOpenAlike, FragmentOpensAlike, FragmentsOpenAlike, AreSameQueries, StoresHaveOneContent, StoresHaveOneFault, StoresHaveOneFile, UnionsOpenAlike}
 use Rattle.esto_opening.specs.Answers.{IsCaused}
 use Rattle.esto_opening.specs.Calm.{AgreeCalmly}
 use Rattle.esto_opening.specs.Fragments.{Stored, IsStoredAt, opens_fragments}
+use Rattle.esto_opening.specs.Unions.{union_rows_text}
 use Rattle.esto_opening.specs.declared.reply.Reply.TheVariants.{Done}
 use Rattle.esto_opening.specs.declared.status.Status.{Status}
 use Rattle.esto_opening.specs.declared.status.Status.TheVariants as status
 use Rattle.esto_opening.proofs.Steps.{never_wanting}
-use Rattle.esto_data.specs.Answer.{answer_course, answers_facts, answers_query}
+use Rattle.esto_data.specs.Answer.{IsUnionAnswerOfFacts, answer_course, answers_union, lists_texts}
 use Rattle.esto_data.specs.Audit.{AuditsFiles, all_fragments, audit_course, audit_text, audits_catalogue, audits_facts, compares, judges_views}
-use Rattle.esto_data.specs.Datasets.{IsAny, Names, loads}
+use Rattle.esto_data.specs.Datasets.{IsAny, Names, OneNames, loads}
 use Rattle.esto_data.specs.Fill.{IsFirstOf, fill_course, fill_status, fills_file, fills_fragment, fills_named, finds_fragment, names_of}
 use Rattle.esto_data.specs.Laws.{IsOne}
-use Rattle.esto_data.proofs.AlikeLemmas.{are_rules, audits_over, first_one, fragments_long, texts_one, same_query, same_rows_text, same_stored, same_view}
+use Rattle.esto_data.proofs.AlikeLemmas.{are_rules, audits_over, first_one, fragments_long, texts_one, same_stored, same_view}
 use Rattle.esto_data.proofs.LoadLemmas.{loads_agree, loads_flat}
+use Rattle.esto_data.proofs.UnionLemmas.{same_queries, same_union_text}
 
 -- the laws by which the commands on data are determined
 pub record DataLaws : Type 0 where
   pub rules : (constraint : Constraint) → IsRule (rule_of constraint)
   pub catalogues : CataloguesOpenAlike
-  pub queries : QueriesOpenAlike
+  pub unions : UnionsOpenAlike
   pub fragment : FragmentOpensAlike
   pub fragments : FragmentsOpenAlike
   pub file : StoresHaveOneFile
   pub fault : StoresHaveOneFault
   pub rows : StoresHaveOneContent
   pub facts : FactsAreOne
-  pub answers : AnswersAreOne
+  pub answers : UnionAnswersAreOne
   pub judgements : JudgementsAreOne
   pub fills : FillsAreOne
   pub audits : AuditsAreOne
@@ -92,25 +94,24 @@ same_difference : (difference other_difference : Difference) → Some difference
 same_difference difference other_difference same = cc
 
 module _ (laws : DataLaws) where
-  module _ (query : ConjunctiveQuery) (facts : List (Fact Term)) where
+  module _ (queries : List ConjunctiveQuery) (facts : List (Fact Term)) where
     abbrev texts_course : Course Status (List Row)
-    texts_course = judges (AreTextsOf (IsAnswer query (database_of facts))) (λ refusal. (column : ℕ) × IsFirstNodeColumn (IsAnswer query (database_of facts)) column
-        × (refusal ≡ status.NodeInRow column))
+    texts_course = lists_texts (IsUnionAnswer queries (database_of facts))
 
-    pub listed_not_node : (rows : List Row) (column : ℕ) → AreTextsOf (IsAnswer query (database_of facts)) rows
-        → IsFirstNodeColumn (IsAnswer query (database_of facts)) column → ⊥
+    pub listed_not_node : (rows : List Row) (column : ℕ) → AreTextsOf (IsUnionAnswer queries (database_of facts)) rows
+        → IsFirstNodeColumn (IsUnionAnswer queries (database_of facts)) column → ⊥
     listed_not_node rows column here there = ok_not_err rows (answer.NodeInRow column)
-        (laws.answers query (database_of facts) (Ok rows) (Err (answer.NodeInRow column)) here there (λ same. ok_not_err rows answer.OutOfMemory same)
+        (laws.answers queries (database_of facts) (Ok rows) (Err (answer.NodeInRow column)) here there (λ same. ok_not_err rows answer.OutOfMemory same)
         (node_not_want (List Row) column))
 
     texts_agree : AgreeCalmly ◌≡◌ texts_course texts_course
     texts_agree = judges_agree _ _ _ _ _ _
         (λ rows others here there. ok_same rows others
-        (laws.answers query (database_of facts) (Ok rows) (Ok others) here there (λ same. ok_not_err rows answer.OutOfMemory same)
+        (laws.answers queries (database_of facts) (Ok rows) (Ok others) here there (λ same. ok_not_err rows answer.OutOfMemory same)
         (λ same. ok_not_err others answer.OutOfMemory same)))
         (λ said other caused other_caused here there. here.2 ∙ ap status.NodeInRow (same_column here.0 there.0
         (err_same (answer.NodeInRow here.0) (answer.NodeInRow there.0)
-        (laws.answers query (database_of facts) (Err (answer.NodeInRow here.0)) (Err (answer.NodeInRow there.0)) here.1 there.1
+        (laws.answers queries (database_of facts) (Err (answer.NodeInRow here.0)) (Err (answer.NodeInRow there.0)) here.1 there.1
         (node_not_want (List Row) here.0)
         (node_not_want (List Row) there.0)))) ∙ sym there.2)
         (λ rows said caused here there. listed_not_node rows there.0 here there.1) (λ rows said caused here there. listed_not_node rows there.0 here there.1)
@@ -125,19 +126,30 @@ module _ (laws : DataLaws) where
         (subst (λ (it : List (Fact Term)). AgreeCalmly ◌≡◌ (loads (Some files) catalogue.datasets (Names body))
         (loads (Some files) catalogue.datasets (Names it))) same (loads_agree files catalogue.datasets laws.facts (Names body)))
 
-    module _ (query other_query : Query) (same : IsSameQuery query other_query) where
-      rows_agree : (facts : List (Fact Term)) → AgreeCalmly ◌≡◌ (answers_facts query facts) (answers_facts other_query facts)
-      rows_agree facts =
-          subst (λ (it : ConjunctiveQuery). AgreeCalmly ◌≡◌ (texts_course (query_of query) facts) (texts_course it facts)) (same_query query other_query same)
-          (texts_agree (query_of query) facts)
+    union_named_agree : (queries others : List ConjunctiveQuery) → queries ≡ others
+        → AgreeCalmly ◌≡◌ (loads (Some files) catalogue.datasets (OneNames queries)) (loads (Some files) other.datasets (OneNames others))
+    union_named_agree queries others same =
+        subst (λ (it : List Dataset). AgreeCalmly ◌≡◌ (loads (Some files) catalogue.datasets (OneNames queries)) (loads (Some files) it (OneNames others)))
+        alike.datasets
+        (subst (λ (it : List ConjunctiveQuery). AgreeCalmly ◌≡◌ (loads (Some files) catalogue.datasets (OneNames queries))
+        (loads (Some files) catalogue.datasets (OneNames it))) same (loads_agree files catalogue.datasets laws.facts (OneNames queries)))
 
-      pub answers_agree : AgreeCalmly ◌≡◌ (answers_query (Some files) catalogue query) (answers_query (Some files) other other_query)
+    module _ (queries others : List Query) (same : AreSameQueries queries others) where
+      rows_agree : (facts : List (Fact Term))
+          → AgreeCalmly ◌≡◌ (lists_texts (IsUnionAnswerOfFacts queries facts)) (lists_texts (IsUnionAnswerOfFacts others facts))
+      rows_agree facts =
+          subst (λ (it : List ConjunctiveQuery). AgreeCalmly ◌≡◌ (texts_course (map query_of queries) facts) (texts_course it facts))
+          (same_queries queries others same) (texts_agree (map query_of queries) facts)
+
+      pub answers_agree : AgreeCalmly ◌≡◌ (answers_union (Some files) catalogue queries) (answers_union (Some files) other others)
       answers_agree =
-          then_agree _ ◌≡◌ ◌≡◌ _ _ _ _ (named_agree query.body other_query.body same.body) (λ facts others goes one.
           then_agree _ ◌≡◌ ◌≡◌ _ _ _ _
-          (subst (λ (it : List (Fact Term)). AgreeCalmly ◌≡◌ (answers_facts query facts) (answers_facts other_query it)) one (rows_agree facts))
-          (λ rows other_rows goes1 one1. gives_agree _ (Done (rows_text query rows)) (Done (rows_text other_query other_rows))
-          (ap (λ (it : List Row). Done (rows_text query it)) one1 ∙ ap Done (same_rows_text query other_query same other_rows))))
+          (union_named_agree (map query_of queries) (map query_of others) (same_queries queries others same)) (λ facts other_facts goes one.
+          then_agree _ ◌≡◌ ◌≡◌ _ _ _ _
+          (subst (λ (it : List (Fact Term)). AgreeCalmly ◌≡◌ (lists_texts (IsUnionAnswerOfFacts queries facts))
+          (lists_texts (IsUnionAnswerOfFacts others it))) one (rows_agree facts))
+          (λ rows other_rows goes1 one1. gives_agree _ (Done (union_rows_text queries rows)) (Done (union_rows_text others other_rows))
+          (ap (λ (it : List Row). Done (union_rows_text queries it)) one1 ∙ ap Done (same_union_text queries others same other_rows))))
 
     -- ---- `fill`
 
@@ -280,8 +292,8 @@ module _ (laws : DataLaws) where
 
     pub answers_one : (catalogue_name query_name : List ℕ) → IsOne (answer_course (Some files) catalogue_name query_name)
     answers_one catalogue_name query_name = then_agree _ AreSame ◌≡◌ _ _ _ _ (laws.catalogues files catalogue_name)
-        (λ catalogue other goes alike. then_agree _ IsSameQuery ◌≡◌ _ _ _ _ (laws.queries files query_name catalogue other alike)
-        (λ query other_query goes1 same. answers_agree files catalogue other alike query other_query same))
+        (λ catalogue other goes alike. then_agree _ AreSameQueries ◌≡◌ _ _ _ _ (laws.unions files query_name catalogue other alike)
+        (λ queries others goes1 same. answers_agree files catalogue other alike queries others same))
 
     pub audits_one : (name : List ℕ) → IsOne (audit_course (Some files) name)
     audits_one name = then_agree _ AreSame ◌≡◌ _ _ _ _ (laws.catalogues files name)

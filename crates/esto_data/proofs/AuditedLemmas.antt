@@ -1,5 +1,5 @@
 -- Where `audit` has a reply, and what `answer` prints then.
-use Rattle.std.proofs.Common.{◌≡◌, ◌↔◌, ◌<◌, ℕ, List, map, length, get_or, slice_get, Contains, Option, Some, None, refl, sym, ap, subst, ◌∙◌, arith}
+use Rattle.std.proofs.Common.{◌≡◌, ◌↔◌, ◌<◌, ℕ, List, [], ◌∷◌, map, length, get_or, slice_get, Contains, Option, Some, None, refl, sym, ap, subst, ◌∙◌, arith}
 use Rattle.std.specs.Prelude.{AllPairs, IsSome}
 use Rattle.std.proofs.lemmas.List.{get_or-map, length-map}
 use Rattle.std.proofs.lemmas.Option.{same_Some}
@@ -22,12 +22,13 @@ use Rattle.esto_semantics.specs.declared.fact.Value.TheVariants.{Text}
 use Rattle.esto_stores.specs.Rows.{Row}
 use Rattle.esto_term.proofs.ListLemmas.{Contains-map, Contains-map_from}
 use Rattle.esto_term.specs.declared.term.Term.{Term}
-use Rattle.esto_opening.specs.Alike.{IsSameQuery}
+use Rattle.esto_opening.specs.Alike.{AreSameQueries}
 use Rattle.esto_opening.specs.Calm.{Leads}
+use Rattle.esto_opening.specs.Unions.{UnionsOfOneAreQueries}
 use Rattle.esto_opening.specs.declared.reply.Reply.TheVariants.{Done}
 use Rattle.esto_opening.proofs.LeadLemmas.{then-leads, leads-more, gives-leads}
-use Rattle.esto_data.specs.Answer.{IsAnswerOfFacts, answers_facts, answers_query}
-use Rattle.esto_data.specs.Datasets.{IsAny, Names, loads, opens_dataset}
+use Rattle.esto_data.specs.Answer.{IsAnswerOfFacts, IsUnionAnswerOfFacts, answers_union, lists_texts}
+use Rattle.esto_data.specs.Datasets.{IsAny, Names, OneNames, loads, opens_dataset}
 use Rattle.esto_data.specs.Exact.{PrintsAnswersOfFacts}
 use Rattle.esto_data.specs.Laws.{RepliesAreAudited}
 use Rattle.esto_data.proofs.AgreeLemmas.{DataLaws}
@@ -38,6 +39,7 @@ use Rattle.esto_data.proofs.FragmentLemmas.{each_opened, opened_within}
 use Rattle.esto_data.proofs.LeadLemmas.{AreLoaded, AreOpenedFiles, CanOpen, are_loaded, loads_never}
 use Rattle.esto_data.proofs.LoadLemmas.{dataset_agree}
 use Rattle.esto_data.proofs.MovedLemmas.{over_this}
+use Rattle.esto_data.proofs.UnionLemmas.{column_moved, loads_moved, one_names, one_union, texts_moved}
 
 -- ---- the files of some of the datasets
 
@@ -48,7 +50,8 @@ entries_apart numbers entries is rising i j d less within same =
     let within_numbers : j < length numbers = omega (arith, within, length-map entries (λ (entry : DatasetBytes). entry.dataset), ap length is) in
     let below = rising i j d.dataset less within_numbers in
     let first : get_or numbers i d.dataset ≡ (get_or entries i d).dataset =
-    ap (λ (it : List ℕ). get_or it i d.dataset) (sym is) ∙ get_or-map (λ (entry : DatasetBytes). entry.dataset) entries i d d.dataset (omega (arith, less, within)) in
+    ap (λ (it : List ℕ). get_or it i d.dataset) (sym is)
+    ∙ get_or-map (λ (entry : DatasetBytes). entry.dataset) entries i d d.dataset (omega (arith, less, within)) in
     let second : get_or numbers j d.dataset ≡ (get_or entries j d).dataset =
     ap (λ (it : List ℕ). get_or it j d.dataset) (sym is) ∙ get_or-map (λ (entry : DatasetBytes). entry.dataset) entries j d d.dataset within in
     omega (arith, below, first, second, same)
@@ -143,36 +146,42 @@ texts_over query facts some same texts rows are = record {
 module _ (laws : DataLaws) (rest : AnswersRestOnDatasets) (files : Files) (datasets : List Dataset) (facts : List (Fact Term))
     (loaded : (loads (Some files) datasets IsAny).goes facts) where
   module _ (query : Query) (texts : HaveTextsOnly (IsAnswerOfFacts query facts)) where
-    rows_lead : (some : List (Fact Term)) → (loads (Some files) datasets (Names (query_of query).body)).goes some
-        → Leads (answers_facts query some) (AreTextsOf (IsAnswerOfFacts query facts)) (λ _. ⊥)
+    abbrev needs : Dataset → Type 0
+    needs = OneNames (query_of query ∷ [])
+
+    rows_lead : (some : List (Fact Term)) → (loads (Some files) datasets needs).goes some
+        → Leads (lists_texts (IsUnionAnswerOfFacts (query ∷ []) some)) (AreTextsOf (IsAnswerOfFacts query facts)) (λ _. ⊥)
     unfolding judges
     rows_lead some goes =
+        let own = loads_moved needs (Names (query_of query).body) (one_names (query_of query)) (Some files) datasets some goes in
         let same = same_answers files datasets facts (are_loaded (Some files) datasets IsAny facts loaded) (query_of query) some
-        (are_loaded (Some files) datasets (Names (query_of query).body) some goes) rest in record {
-          goes = λ rows are. texts_over (query_of query) facts some same.0 texts rows are;
-          stops = λ said caused (column, first, is). no_node (IsAnswerOfFacts query some) column (same.1 texts) first;
+        (are_loaded (Some files) datasets (Names (query_of query).body) some own) rest in record {
+          goes = λ rows are. texts_over (query_of query) facts some same.0 texts rows
+              (texts_moved (IsUnionAnswerOfFacts (query ∷ []) some) (IsAnswerOfFacts query some) (one_union query some) rows are);
+          stops = λ said caused (column, first, is). no_node (IsAnswerOfFacts query some) column (same.1 texts)
+              (column_moved (IsUnionAnswerOfFacts (query ∷ []) some) (IsAnswerOfFacts query some) (one_union query some) column first);
         }
 
-    loads_lead : Leads (loads (Some files) datasets (Names (query_of query).body))
-        (λ some. (loads (Some files) datasets (Names (query_of query).body)).goes some) (λ _. ⊥)
+    loads_lead : Leads (loads (Some files) datasets needs) (λ some. (loads (Some files) datasets needs).goes some) (λ _. ⊥)
     loads_lead = record {
       goes = λ some goes. goes;
-      stops = loads_never (Some files) datasets (Names (query_of query).body)
-          (each_can files datasets facts (are_loaded (Some files) datasets IsAny facts loaded) (have_files (Some files) datasets facts loaded)
-          (Names (query_of query).body));
+      stops = loads_never (Some files) datasets needs
+          (each_can files datasets facts (are_loaded (Some files) datasets IsAny facts loaded) (have_files (Some files) datasets facts loaded) needs);
     }
 
-  -- the query is answered
-  pub query_leads : (query other : Query) → IsSameQuery query other → HaveTextsOnly (IsAnswerOfFacts query facts) → (catalogue : Catalogue)
-      → datasets ≡ catalogue.datasets
-      → Leads (answers_query (Some files) catalogue other) (λ reply. (text : List ℕ) × (reply ≡ Done text) × PrintsAnswersOfFacts query facts text) (λ _. ⊥)
-  query_leads query other same texts catalogue is =
+  -- the query is answered, as the union of one
+  pub query_leads : (query : Query) (others : List Query) → AreSameQueries (query ∷ []) others → HaveTextsOnly (IsAnswerOfFacts query facts)
+      → (catalogue : Catalogue) → datasets ≡ catalogue.datasets
+      → Leads (answers_union (Some files) catalogue others) (λ reply. (text : List ℕ) × (reply ≡ Done text) × PrintsAnswersOfFacts query facts text) (λ _. ⊥)
+  query_leads query [] same texts catalogue is = absurd same
+  query_leads query (other ∷ another ∷ rest) (same, none) texts catalogue is = absurd none
+  query_leads query (other ∷ []) (same, none) texts catalogue is =
       let one : query_of query ≡ query_of other = same_query query other same in
       let other_texts : HaveTextsOnly (IsAnswerOfFacts other facts) =
       subst (λ (it : ConjunctiveQuery). HaveTextsOnly (IsAnswer it (database_of facts))) one texts in
-      then-leads _ _ (λ some. (loads (Some files) datasets (Names (query_of other).body)).goes some) _ _
-      (subst (λ (it : List Dataset). Leads (loads (Some files) it (Names (query_of other).body))
-      (λ some. (loads (Some files) datasets (Names (query_of other).body)).goes some) (λ _. ⊥)) is (loads_lead other other_texts))
+      then-leads _ _ (λ some. (loads (Some files) datasets (OneNames (query_of other ∷ []))).goes some) _ _
+      (subst (λ (it : List Dataset). Leads (loads (Some files) it (OneNames (query_of other ∷ [])))
+      (λ some. (loads (Some files) datasets (OneNames (query_of other ∷ []))).goes some) (λ _. ⊥)) is (loads_lead other other_texts))
       (λ some goes. then-leads _ _ (AreTextsOf (IsAnswerOfFacts other facts)) _ _ (rows_lead other other_texts some goes)
       (λ rows are. leads-more _ _ _ (λ _. ⊥) (λ reply reply_is. (
         rows_text other rows,
@@ -180,9 +189,9 @@ module _ (laws : DataLaws) (rest : AnswersRestOnDatasets) (files : Files) (datas
         (rows, subst (λ (it : ConjunctiveQuery). AreTextsOf (IsAnswer it (database_of facts)) rows) (sym one) are, sym (same_rows_text query other same rows)),
       )) (gives-leads (Done (rows_text other rows)) (λ _. ⊥))))
 
-pub replies_audited : DataLaws → AnswersRestOnDatasets → RepliesAreAudited
+pub replies_audited : DataLaws → UnionsOfOneAreQueries → AnswersRestOnDatasets → RepliesAreAudited
 unfolding and_then judges
-replies_audited laws rest files catalogue_name catalogue reply (other, opens, (facts, loaded, (value, texts, (contents, opened, (given, agree, done))))) here =
+replies_audited laws one rest files catalogue_name catalogue reply (other, opens, (facts, loaded, (value, texts, (contents, opened, (given, agree, done))))) here =
     let alike : AreSame catalogue other = (laws.catalogues files catalogue_name).one catalogue other here opens in record {
       facts = facts;
       contents = contents;
@@ -194,8 +203,9 @@ replies_audited laws rest files catalogue_name catalogue reply (other, opens, (f
           (each_opened (Some files) other contents opened number within);
       answers = λ query_name query reads query_texts.
           then-leads _ _ (AreSame catalogue) _ _ (agreed-leads AreSame _ _ catalogue _ (laws.catalogues files catalogue_name) here)
-          (λ third third_alike. then-leads _ _ (IsSameQuery query) _ _
-          (agreed-leads IsSameQuery _ _ query _ (laws.queries files query_name catalogue third third_alike) reads)
-          (λ third_query same. query_leads laws rest files other.datasets facts loaded query third_query same query_texts third
+          (λ third third_alike. then-leads _ _ (AreSameQueries (query ∷ [])) _ _
+          (agreed-leads AreSameQueries _ _ (query ∷ []) _ (laws.unions files query_name catalogue third third_alike)
+          ((one (Some files) query_name catalogue query).1 reads))
+          (λ queries same. query_leads laws rest files other.datasets facts loaded query queries same query_texts third
           (sym alike.datasets ∙ third_alike.datasets)));
     }

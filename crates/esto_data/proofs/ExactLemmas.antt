@@ -32,14 +32,15 @@ use Rattle.esto_stores.specs.Rows.{Row}
 use Rattle.esto_term.proofs.ListLemmas.{Contains-at, map_at-from, place-from_Contains}
 use Rattle.esto_term.specs.declared.term.Term.{Term}
 use Rattle.esto_views.specs.Fragments.{views_of}
-use Rattle.esto_opening.specs.Alike.{IsSameQuery}
+use Rattle.esto_opening.specs.Alike.{AreSameQueries}
 use Rattle.esto_opening.specs.Answers.{IsCaused}
 use Rattle.esto_opening.specs.Calm.{AgreeCalmly, Leads}
 use Rattle.esto_opening.specs.Fetch.{fetches, FetchStops}
 use Rattle.esto_opening.specs.Fetch.FetchStops.{fails, is_longer}
 use Rattle.esto_opening.specs.Fragments.{Stored, IsStoredAt, opens_fragments}
 use Rattle.esto_opening.specs.Line.{line_of}
-use Rattle.esto_opening.specs.Opening.{FilesSayCatalogue, FilesSayQuery, opens_catalogue, opens_query, reads_catalogue, reads_query}
+use Rattle.esto_opening.specs.Opening.{FilesSayCatalogue, FilesSayQuery, opens_catalogue, opens_query, opens_union, reads_catalogue, reads_query}
+use Rattle.esto_opening.specs.Unions.{FilesSayUnion, SaidUnionsOpen, UnionsOfOneAreQueries, union_rows_text}
 use Rattle.esto_opening.specs.declared.opening.TheConstants.{CATALOGUE_LIMIT, QUERY_LIMIT}
 use Rattle.esto_opening.specs.declared.reply.Reply.{Reply}
 use Rattle.esto_opening.specs.declared.reply.Reply.TheVariants.{Done}
@@ -48,21 +49,22 @@ use Rattle.esto_opening.specs.declared.status.Status.TheVariants as status
 use Rattle.esto_opening.proofs.LeadLemmas.{then-leads, leads-more, gives-leads}
 use Rattle.esto_opening.proofs.Steps.{never_wanting, read_cause}
 use Rattle.esto_course.proofs.Steps.{then_goes}
-use Rattle.esto_data.specs.Answer.{IsAnswerOfFacts, answer_course, answers_query}
+use Rattle.esto_data.specs.Answer.{IsAnswerOfFacts, IsUnionAnswerOfFacts, answer_course, answers_union}
 use Rattle.esto_data.specs.Audit.{AuditsFiles, all_fragments, audit_course, audit_text, audits_catalogue}
-use Rattle.esto_data.specs.Datasets.{IsAny, Names, demands_file, loads, loads_next, opens_dataset}
+use Rattle.esto_data.specs.Datasets.{IsAny, Names, OneNames, demands_file, loads, loads_next, opens_dataset}
 use Rattle.esto_data.specs.declared.datasets.TheConstants.{DATASET_LIMIT}
-use Rattle.esto_data.specs.Exact.{AnswersExactly, AreReadableFragments, AuditsExactly, FillsExactly, HoldFacts, IsExactAnswer, IsExactAudit, IsExactFill}
+use Rattle.esto_data.specs.Exact.{AreReadableFragments, AuditsExactly, FillsExactly, GivesExactly, HoldFacts, IsExactAnswer, IsExactAudit, IsExactFill, IsExactUnionAnswer}
 use Rattle.esto_data.specs.Exact.FillsExactly.{prints, tells_key, tells_node}
 use Rattle.esto_data.specs.Fill.{IsFilled, IsFirstOf, IsRowOfView, fill_course, fill_status, fills_file, fills_named, names_of}
 use Rattle.esto_data.specs.Laws.{Says}
-use Rattle.esto_data.proofs.AgreeLemmas.{DataLaws, listed_not_node}
+use Rattle.esto_data.proofs.AgreeLemmas.{DataLaws}
 use Rattle.esto_data.proofs.AlikeLemmas.{are_rules, audits-moved, first_one}
 use Rattle.esto_data.proofs.FragmentLemmas.{fragments_never, rows_same}
 use Rattle.esto_data.proofs.LeadLemmas.{holds-leads, holds_leads}
 use Rattle.esto_data.proofs.LoadLemmas.{loads_flat}
 use Rattle.esto_data.proofs.MovedLemmas.{answer_moved, audit_moved, fill_moved}
 use Rattle.esto_data.proofs.NodeLemmas.{TellsNoNode, opened_without_node}
+use Rattle.esto_data.proofs.UnionLemmas.{gives_moved, holds_for, one_names, one_union}
 
 -- ---- the catalogue and the query that the files say
 
@@ -120,45 +122,58 @@ node_same column other same = cc
 
 -- ---- `answer`
 
+module _ (Rows : List Value → Type 0) (text_of : List Row → List ℕ) where
+  answered : (rows : List Row) → AreTextsOf Rows rows → GivesExactly Rows text_of status.Done (text_of rows)
+  answered rows texts = record {
+    prints = λ only. (refl, (rows, texts, refl));
+    node = λ column. (
+      (λ same. absurd (done_not_node column same)),
+      (λ first. absurd (no_node Rows column (λ values there. let found = (texts.exact values).0 there in (found.0, found.2)) first)),
+    );
+  }
+
+  refused : (column : ℕ) (said : Status) (text : List ℕ) → IsFirstNodeColumn Rows column → said ≡ status.NodeInRow column
+      → GivesExactly Rows text_of said text
+  refused column said text first is = record {
+    prints = λ only. absurd (no_node Rows column only first);
+    node = λ other. (
+      (λ same. subst (IsFirstNodeColumn Rows) (node_same column other (sym is ∙ same)) first),
+      (λ its. is ∙ ap status.NodeInRow (one_column Rows column other first its)),
+    );
+  }
+
+-- what is exact of the union of one query is exact of the query
+one_exact : (files : Files) (catalogue : Catalogue) (query : Query) (said : Status) (text : List ℕ)
+    → IsExactUnionAnswer files catalogue (query ∷ []) said text → IsExactAnswer files catalogue query said text
+one_exact files catalogue query said text exact facts holds =
+    gives_moved (IsUnionAnswerOfFacts (query ∷ []) facts) (IsAnswerOfFacts query facts) (one_union query facts) (union_rows_text (query ∷ [])) (rows_text query)
+    (λ rows. refl) said text
+    (exact facts (holds_for (Names (query_of query).body) (OneNames (query_of query ∷ []))
+    (λ dataset. ((one_names (query_of query) dataset).1, (one_names (query_of query) dataset).0)) files catalogue.datasets facts holds))
+
 module _ (laws : DataLaws) (files : Files) (catalogue : Catalogue) where
-  module _ (query : Query) where
-    answered : (facts : List (Fact Term)) (rows : List Row) → AreTextsOf (IsAnswerOfFacts query facts) rows
-        → AnswersExactly query facts status.Done (rows_text query rows)
-    answered facts rows texts = record {
-      prints = λ only. (refl, (rows, texts, refl));
-      node = λ column. (
-        (λ same. absurd (done_not_node column same)),
-        (λ first. absurd (listed_not_node laws (query_of query) facts rows column texts first)),
-      );
-    }
+  module _ (queries : List Query) where
+    abbrev needs : Dataset → Type 0
+    needs = OneNames (map query_of queries)
 
-    refused : (facts : List (Fact Term)) (column : ℕ) (said : Status) (text : List ℕ) → IsFirstNodeColumn (IsAnswerOfFacts query facts) column
-        → said ≡ status.NodeInRow column → AnswersExactly query facts said text
-    refused facts column said text first is = record {
-      prints = λ only. absurd (no_node (IsAnswerOfFacts query facts) column only first);
-      node = λ other. (
-        (λ same. subst (IsFirstNodeColumn (IsAnswerOfFacts query facts)) (node_same column other (sym is ∙ same)) first),
-        (λ its. is ∙ ap status.NodeInRow (one_column (IsAnswerOfFacts query facts) column other first its)),
-      );
-    }
-
-    answer_says : Says (answers_query (Some files) catalogue query) (IsExactAnswer files catalogue query)
+    answer_says : Says (answers_union (Some files) catalogue queries) (IsExactUnionAnswer files catalogue queries)
     unfolding and_then judges gives
     answer_says = record {
       goes = λ reply (others, loaded, (rows, texts, done)). (
-        rows_text query rows,
+        union_rows_text queries rows,
         done,
         (λ facts holds.
-            let same : others ≡ facts = (holds_leads files catalogue.datasets (Names (query_of query).body) facts holds laws.facts).goes others loaded in
-            answered facts rows (subst (λ (it : List (Fact Term)). AreTextsOf (IsAnswerOfFacts query it) rows) same texts)),
+            let same : others ≡ facts = (holds_leads files catalogue.datasets needs facts holds laws.facts).goes others loaded in
+            answered (IsUnionAnswerOfFacts queries facts) (union_rows_text queries) rows
+            (subst (λ (it : List (Fact Term)). AreTextsOf (IsUnionAnswerOfFacts queries it) rows) same texts)),
       );
       stops = λ said caused stop facts holds. elim stop [
-        | inl unloaded ↦ absurd ((holds_leads files catalogue.datasets (Names (query_of query).body) facts holds laws.facts).stops said caused unloaded)
+        | inl unloaded ↦ absurd ((holds_leads files catalogue.datasets needs facts holds laws.facts).stops said caused unloaded)
         | inr (others, loaded, more) ↦
-            let same : others ≡ facts = (holds_leads files catalogue.datasets (Names (query_of query).body) facts holds laws.facts).goes others loaded in
+            let same : others ≡ facts = (holds_leads files catalogue.datasets needs facts holds laws.facts).goes others loaded in
             elim more [
-              | inl (column, first, is) ↦ refused facts column said (line_of said)
-                  (subst (λ (it : List (Fact Term)). IsFirstNodeColumn (IsAnswerOfFacts query it) column) same first) is
+              | inl (column, first, is) ↦ refused (IsUnionAnswerOfFacts queries facts) (union_rows_text queries) column said (line_of said)
+                  (subst (λ (it : List (Fact Term)). IsFirstNodeColumn (IsUnionAnswerOfFacts queries it) column) same first) is
               | inr (rows, texts, none) ↦ absurd none
             ]
       ];
@@ -527,14 +542,24 @@ module _ (laws : DataLaws) (sound : CataloguesAreSound) (files : Files) (catalog
       says-more _ (IsExactFill files other name) (IsExactFill files catalogue name)
       (fill_moved files catalogue other alike laws.fault laws.rows name) (fill_says laws files other name))
 
-  pub answers_exact : (query_name : List ℕ) (query : Query) → FilesSayQuery files query_name catalogue query
+  -- the union that is opened is answered
+  union_exact : (query_name : List ℕ) (queries : List Query) → (opens_union (Some files) query_name catalogue).goes queries
+      → Says (answer_course (Some files) catalogue_name query_name) (IsExactUnionAnswer files catalogue queries)
+  union_exact query_name queries opens = then-leads _ _ (AreSame catalogue) _ _ (opened-leads _) (λ other alike.
+      then-leads _ _ (AreSameQueries queries) _ _
+      (agreed-leads AreSameQueries _ _ queries _ (laws.unions files query_name catalogue other alike) opens)
+      (λ others same. says-more _ (IsExactUnionAnswer files other others) (IsExactUnionAnswer files catalogue queries)
+      (answer_moved files catalogue other alike queries others same) (answer_says laws files other others)))
+
+  pub unions_exact : SaidUnionsOpen → (query_name : List ℕ) (queries : List Query) → FilesSayUnion files query_name catalogue queries
+      → Says (answer_course (Some files) catalogue_name query_name) (IsExactUnionAnswer files catalogue queries)
+  unions_exact said query_name queries say_union = union_exact query_name queries (said files query_name catalogue queries say_union)
+
+  pub answers_exact : UnionsOfOneAreQueries → (query_name : List ℕ) (query : Query) → FilesSayQuery files query_name catalogue query
       → Says (answer_course (Some files) catalogue_name query_name) (IsExactAnswer files catalogue query)
-  answers_exact query_name query say_query = then-leads _ _ (AreSame catalogue) _ _ (opened-leads _) (λ other alike.
-      then-leads _ _ (IsSameQuery query) _ _
-      (agreed-leads IsSameQuery _ _ query _ (laws.queries files query_name catalogue other alike)
-      (said_query_opens files query_name catalogue query say_query))
-      (λ other_query same. says-more _ (IsExactAnswer files other other_query) (IsExactAnswer files catalogue query)
-      (answer_moved files catalogue other alike query other_query same) (answer_says laws files other other_query)))
+  answers_exact one query_name query say_query = says-more _ (IsExactUnionAnswer files catalogue (query ∷ [])) (IsExactAnswer files catalogue query)
+      (one_exact files catalogue query)
+      (union_exact query_name (query ∷ []) ((one (Some files) query_name catalogue query).1 (said_query_opens files query_name catalogue query say_query)))
 
   pub audits_exact : Says (audit_course (Some files) catalogue_name) (IsExactAudit files catalogue)
   audits_exact = then-leads _ _ (AreSame catalogue) _ _ (opened-leads _) (λ other alike.

@@ -5,6 +5,7 @@ pub mod RowLemmas
 pub mod FindLemmas
 pub mod AlikeLemmas
 pub mod LoadLemmas
+pub mod UnionLemmas
 pub mod AgreeLemmas
 pub mod LeadLemmas
 pub mod FragmentLemmas

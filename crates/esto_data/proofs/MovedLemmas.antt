@@ -9,7 +9,7 @@ use Rattle.esto_constraint.specs.Constraints.{rules_of}
 use Rattle.esto_constraint.specs.EncodingRules.{written}
 use Rattle.esto_fill.specs.Databases.{database_of}
 use Rattle.esto_fill.specs.Filled.{Fills, IsOpenedAs, without_mark}
-use Rattle.esto_fill.specs.Texts.{AreTextViews, AreTextsOf, HaveTextsOnly, IsFirstNodeColumn, IsFirstNodeView}
+use Rattle.esto_fill.specs.Texts.{AreTextViews, IsFirstNodeView}
 use Rattle.esto_fill.specs.declared.auditing.Difference.{Difference}
 use Rattle.esto_fill.specs.declared.filled.FillError.{FillError}
 use Rattle.esto_fill.specs.declared.filled.FillError.TheVariants as filled
@@ -18,23 +18,27 @@ use Rattle.esto_query.specs.Making.{query_of}
 use Rattle.esto_query.specs.declared.query.Query.{Query}
 use Rattle.esto_run.specs.Stores.{IsFileRow, IsRowIn, first_fault_in}
 use Rattle.esto_semantics.specs.Queries.{ConjunctiveQuery, IsAnswer}
+use Rattle.esto_semantics.specs.Unions.{IsUnionAnswer}
 use Rattle.esto_semantics.specs.declared.fact.Fact.{Fact}
 use Rattle.esto_semantics.specs.declared.fact.Value.TheVariants.{Text}
 use Rattle.esto_stores.specs.Rows.{Row}
 use Rattle.esto_term.specs.declared.term.Term.{Term}
 use Rattle.esto_views.specs.Fragments.{views_of}
-use Rattle.esto_opening.specs.Alike.{IsSameQuery, StoresHaveOneContent, StoresHaveOneFault, StoresHaveOneFile}
+use Rattle.esto_opening.specs.Alike.{AreSameQueries, StoresHaveOneContent, StoresHaveOneFault, StoresHaveOneFile}
 use Rattle.esto_opening.specs.Fetch.{HasWithin}
 use Rattle.esto_opening.specs.Fragments.{Stored, IsStoredAt, content_fault}
+use Rattle.esto_opening.specs.Unions.{union_rows_text}
 use Rattle.esto_opening.specs.declared.fragments.TheConstants.{FRAGMENT_LIMIT}
 use Rattle.esto_opening.specs.declared.status.Status.{Status}
 use Rattle.esto_opening.specs.declared.status.Status.TheVariants as status
+use Rattle.esto_data.specs.Answer.{IsUnionAnswerOfFacts}
 use Rattle.esto_data.specs.Audit.{AuditsFiles}
-use Rattle.esto_data.specs.Datasets.{IsAny, Names}
-use Rattle.esto_data.specs.Exact.{AreReadableFragments, FillsExactly, HoldFacts, IsExactAnswer, IsExactAudit, IsExactFill}
+use Rattle.esto_data.specs.Datasets.{IsAny, Names, OneNames}
+use Rattle.esto_data.specs.Exact.{AreReadableFragments, FillsExactly, HoldFacts, IsExactAudit, IsExactFill, IsExactUnionAnswer}
 use Rattle.esto_data.specs.Exact.FillsExactly.{prints, tells_key, tells_node}
 use Rattle.esto_data.specs.Fill.{IsFirstOf, IsRowOfView, names_of}
-use Rattle.esto_data.proofs.AlikeLemmas.{alike_back, audits-moved, audits_over, fills_moved, fragments_long, other_stored, texts_one, same_query, same_rows_text, same_stored, same_view}
+use Rattle.esto_data.proofs.AlikeLemmas.{alike_back, audits-moved, audits_over, fills_moved, fragments_long, other_stored, texts_one, same_stored, same_view}
+use Rattle.esto_data.proofs.UnionLemmas.{gives_moved, same_queries, same_union, same_union_text}
 
 -- ---- `answer`
 
@@ -49,25 +53,15 @@ module _ (files : Files) (catalogue other : Catalogue) (alike : AreSame catalogu
   named_moved one two same facts holds =
       subst (λ (it : ConjunctiveQuery). HoldFacts files other.datasets (Names it.body) facts) same (holds_moved (Names one.body) facts holds)
 
-  pub answer_moved : (query other_query : Query) → IsSameQuery query other_query → (said : Status) (text : List ℕ)
-      → IsExactAnswer files other other_query said text → IsExactAnswer files catalogue query said text
-  answer_moved query other_query same said text exact facts holds =
-      let is : query_of query ≡ query_of other_query = same_query query other_query same in
-      let answers = exact facts (named_moved (query_of query) (query_of other_query) is facts holds) in record {
-        prints = λ texts.
-            let found = answers.prints (subst (λ (it : ConjunctiveQuery). HaveTextsOnly (IsAnswer it (database_of facts))) is texts) in (
-              found.0,
-              (
-                found.1.0,
-                subst (λ (it : ConjunctiveQuery). AreTextsOf (IsAnswer it (database_of facts)) found.1.0) (sym is) found.1.1,
-                found.1.2 ∙ sym (same_rows_text query other_query same found.1.0),
-              ),
-            );
-        node = λ column. (
-          (λ told. subst (λ (it : ConjunctiveQuery). IsFirstNodeColumn (IsAnswer it (database_of facts)) column) (sym is) ((answers.node column).0 told)),
-          (λ first. (answers.node column).1 (subst (λ (it : ConjunctiveQuery). IsFirstNodeColumn (IsAnswer it (database_of facts)) column) is first)),
-        );
-      }
+  pub answer_moved : (queries others : List Query) → AreSameQueries queries others → (said : Status) (text : List ℕ)
+      → IsExactUnionAnswer files other others said text → IsExactUnionAnswer files catalogue queries said text
+  answer_moved queries others same said text exact facts holds =
+      let is : map query_of queries ≡ map query_of others = same_queries queries others same in
+      gives_moved (IsUnionAnswerOfFacts others facts) (IsUnionAnswerOfFacts queries facts)
+      (same_union (map query_of others) (map query_of queries) (sym is) (λ those values. IsUnionAnswer those (database_of facts) values))
+      (union_rows_text others) (union_rows_text queries) (λ rows. sym (same_union_text queries others same rows)) said text
+      (exact facts (subst (λ (it : List ConjunctiveQuery). HoldFacts files other.datasets (OneNames it) facts) is
+      (holds_moved (OneNames (map query_of queries)) facts holds)))
 
   -- ---- `fill`
 

@@ -1,8 +1,6 @@
 -- The steps of the commands on data.
-use Rattle.std.proofs.Common.{◌≡◌, ◌<◌, ℕ, List, All, map, length, get_or, slice_get, Option, Some, None, Result, Ok, Err, refl, sym, ap, subst, ◌∙◌, arith}
+use Rattle.std.proofs.Common.{◌≡◌, ◌<◌, ℕ, List, length, slice_get, Option, Some, None, Result, Ok, Err, refl, subst, arith}
 use Rattle.std.specs.Prelude.{IfSome}
-use Rattle.std.proofs.lemmas.List.{length-map}
-use Rattle.std.proofs.lemmas.List.Elements.{Contains-get_or}
 use Rattle.esto_catalog.specs.declared.catalogue.Catalogue.{Catalogue}
 use Rattle.esto_opening.specs.Fragments.{Stored, IsStoredAt, opens_fragments}
 use Rattle.esto_course.specs.Course.{Course, Stops, judges, gives, and_then}
@@ -18,15 +16,13 @@ use Rattle.esto_fill.specs.declared.filled.FillError.{FillError}
 use Rattle.esto_fill.specs.declared.filled.FillError.TheVariants as filled
 use Rattle.esto_ports.specs.Files.{Files}
 use Rattle.esto_query.specs.Making.{query_of}
-use Rattle.esto_query.specs.declared.query.Query.{Query}
 use Rattle.esto_semantics.specs.Queries.{IsAnswer}
 use Rattle.esto_views.specs.Fragments.{views_of}
 use Rattle.esto_semantics.specs.declared.fact.Fact.{Fact}
-use Rattle.esto_semantics.specs.declared.fact.Value.TheVariants.{Text}
-use Rattle.esto_stores.specs.Rows.{Row}
+use Rattle.esto_semantics.specs.declared.fact.Value.{Value}
 use Rattle.esto_term.specs.declared.term.Term.{Term}
 use Rattle.esto_views.specs.declared.fragments.FragmentDef.{FragmentDef}
-use Rattle.esto_data.specs.Answer.{IsAnswerOfFacts, answers_facts}
+use Rattle.esto_data.specs.Answer.{lists_texts}
 use Rattle.esto_opening.specs.Answers.{Answers, IsWant, IsCaused}
 use Rattle.esto_opening.specs.Asked.{AsksIn}
 use Rattle.esto_data.specs.Audit.{AuditsFiles, all_fragments, audit_text, audits_facts, compares, judges_views}
@@ -54,19 +50,10 @@ module _ {A : Type 0} (first : Course Status A) (rest : Option Files → A → C
 
 -- ---- `answer`
 
-pub node_stops : (query : Query) (facts : List (Fact Term)) (column : ℕ) → IsFirstNodeColumn (IsAnswerOfFacts query facts) column
-    → Stops IsWant (IsCaused ⊥) (answers_facts query facts) (status.NodeInRow column)
+pub node_stops : (Rows : List Value → Type 0) (column : ℕ) → IsFirstNodeColumn Rows column
+    → Stops IsWant (IsCaused ⊥) (lists_texts Rows) (status.NodeInRow column)
 unfolding judges
-node_stops query facts column first = refused (record { cause = tt }) (column, first, refl)
-
--- the rows have as many cells as the query's head has terms
-pub rows_wide : (query : Query) (facts : List (Fact Term)) (rows : List Row) → (answers_facts query facts).goes rows
-    → All (λ row. length row ≡ length query.head) rows
-unfolding judges
-rows_wide query facts rows texts k d below =
-    let (m, keeps, sends, is) =
-    (texts.exact (map Text (get_or rows k d))).1 (get_or rows k d, Contains-get_or rows k d below, refl) in
-    sym (length-map (get_or rows k d) Text) ∙ ap length is ∙ length-map query.head m
+node_stops Rows column first = refused (record { cause = tt }) (column, first, refl)
 
 -- ---- `fill`
 

@@ -10,6 +10,7 @@ use Rattle.esto_fill.specs.declared.loaded.Loaded.{Loaded}
 use Rattle.esto_ports.specs.Files.{Files}
 use Rattle.esto_ports.specs.declared.file_fault.FileFault.{FileFault}
 use Rattle.esto_semantics.specs.Maps.{AreFlat}
+use Rattle.esto_semantics.specs.Queries.{ConjunctiveQuery}
 use Rattle.esto_semantics.specs.declared.fact.Fact.{Fact}
 use Rattle.esto_term.specs.declared.term.Term.{Term}
 use Rattle.esto_opening.specs.Answers.{IsWant, IsCaused}
@@ -28,6 +29,10 @@ HasRelation dataset relation = (dataset.base ≤ relation) × (relation < datase
 -- The body names the dataset: some atom is over a relation of it.
 abbrev pub Names : List (Fact Term) → Dataset → Type 0
 Names body dataset = (atom : Fact Term) × Contains body atom × HasRelation dataset atom.relation
+
+-- One of the queries names the dataset.
+abbrev pub OneNames : List ConjunctiveQuery → Dataset → Type 0
+OneNames queries dataset = (query : ConjunctiveQuery) × Contains queries query × Names query.body dataset
 
 -- Any dataset.
 abbrev pub IsAny : Dataset → Type 0

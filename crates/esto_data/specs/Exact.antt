@@ -18,16 +18,18 @@ use Rattle.esto_query.specs.declared.query.Query.{Query}
 use Rattle.esto_run.specs.Answers.{rows_text}
 use Rattle.esto_run.specs.Stores.{IsFileRow}
 use Rattle.esto_semantics.specs.declared.fact.Fact.{Fact}
+use Rattle.esto_semantics.specs.declared.fact.Value.{Value}
 use Rattle.esto_stores.specs.Rows.{Row}
 use Rattle.esto_term.specs.declared.term.Term.{Term}
 use Rattle.esto_views.specs.Fragments.{views_of}
 use Rattle.esto_opening.specs.Fetch.{HasWithin}
 use Rattle.esto_opening.specs.Fragments.{Stored, IsReadableFragment, IsStoredAt}
+use Rattle.esto_opening.specs.Unions.{union_rows_text}
 use Rattle.esto_opening.specs.declared.status.Status.{Status}
 use Rattle.esto_opening.specs.declared.status.Status.TheVariants as status
-use Rattle.esto_data.specs.Answer.{IsAnswerOfFacts}
+use Rattle.esto_data.specs.Answer.{IsAnswerOfFacts, IsUnionAnswerOfFacts}
 use Rattle.esto_data.specs.Audit.{audit_text}
-use Rattle.esto_data.specs.Datasets.{AreFactsOfFiles, AreNeeded, IsAny, Names}
+use Rattle.esto_data.specs.Datasets.{AreFactsOfFiles, AreNeeded, IsAny, Names, OneNames}
 use Rattle.esto_data.specs.Fill.{IsFilled, IsFirstOf, IsRowOfView, names_of}
 use Rattle.esto_data.specs.declared.datasets.TheConstants.{DATASET_LIMIT}
 
@@ -58,20 +60,36 @@ AreReadableFragments files catalogue contents =
 
 -- ---- `answer`
 
+-- The text prints exactly the rows of values, all of which are of texts, each once, in order.
+abbrev pub PrintsRows : (List Value → Type 0) → (List Row → List ℕ) → List ℕ → Type 0
+PrintsRows Rows text_of text = (rows : List Row) × AreTextsOf Rows rows × (text ≡ text_of rows)
+
+-- Where each of the rows of values is a row of texts, the status is Done and the text prints exactly the rows. The status tells of a node exactly where a row
+-- holds one, with the least column that has one.
+pub record GivesExactly (Rows : List Value → Type 0) (text_of : List Row → List ℕ) (said : Status) (text : List ℕ) : Type 0 where
+  pub prints : HaveTextsOnly Rows → (said ≡ status.Done) × PrintsRows Rows text_of text
+  pub node : (column : ℕ) → (said ≡ status.NodeInRow column) ↔ IsFirstNodeColumn Rows column
+
 -- The text prints exactly the answers of the query over the facts, all of which are rows of texts, each once, in order.
 abbrev pub PrintsAnswersOfFacts : Query → List (Fact Term) → List ℕ → Type 0
-PrintsAnswersOfFacts query facts text = (rows : List Row) × AreTextsOf (IsAnswerOfFacts query facts) rows × (text ≡ rows_text query rows)
+PrintsAnswersOfFacts query facts text = PrintsRows (IsAnswerOfFacts query facts) (rows_text query) text
 
 -- Where each answer of the query over the facts is a row of texts, the status is Done and the text prints exactly the answers. The status tells of a node
 -- exactly where an answer holds one, with the least column that has one.
-pub record AnswersExactly (query : Query) (facts : List (Fact Term)) (said : Status) (text : List ℕ) : Type 0 where
-  pub prints : HaveTextsOnly (IsAnswerOfFacts query facts) → (said ≡ status.Done) × PrintsAnswersOfFacts query facts text
-  pub node : (column : ℕ) → (said ≡ status.NodeInRow column) ↔ IsFirstNodeColumn (IsAnswerOfFacts query facts) column
+abbrev pub AnswersExactly : Query → List (Fact Term) → Status → List ℕ → Type 0
+AnswersExactly query facts said text = GivesExactly (IsAnswerOfFacts query facts) (rows_text query) said text
 
 -- So it is where the files of the datasets that the query names are readable. No rule is asked of their facts.
 abbrev pub IsExactAnswer : Files → Catalogue → Query → Status → List ℕ → Type 0
 IsExactAnswer files catalogue query said text =
     (facts : List (Fact Term)) → HoldFacts files catalogue.datasets (Names (query_of query).body) facts → AnswersExactly query facts said text
+
+-- And so it is with the answers of the union of the queries, under the names of the first one's head, where the files of the datasets that one of the queries
+-- names are readable.
+abbrev pub IsExactUnionAnswer : Files → Catalogue → List Query → Status → List ℕ → Type 0
+IsExactUnionAnswer files catalogue queries said text =
+    (facts : List (Fact Term)) → HoldFacts files catalogue.datasets (OneNames (map query_of queries)) facts
+    → GivesExactly (IsUnionAnswerOfFacts queries facts) (union_rows_text queries) said text
 
 -- ---- `fill`
 

@@ -17,13 +17,14 @@ use Rattle.esto_opening.specs.Calm.{AgreeCalmly, Leads}
 use Rattle.esto_opening.specs.Fragments.{opens_fragment}
 use Rattle.esto_opening.specs.Line.{line_of}
 use Rattle.esto_opening.specs.Opening.{FilesSayCatalogue, FilesSayQuery, opens_catalogue, opens_query}
+use Rattle.esto_opening.specs.Unions.{FilesSayUnion}
 use Rattle.esto_opening.specs.declared.reply.Reply.{Reply}
 use Rattle.esto_opening.specs.declared.reply.Reply.TheVariants.{Done}
 use Rattle.esto_opening.specs.declared.status.Status.{Status}
 use Rattle.esto_opening.specs.declared.status.Status.TheVariants as status
 use Rattle.esto_data.specs.Answer.{IsAnswerOfFacts, answer_course}
 use Rattle.esto_data.specs.Audit.{audit_course}
-use Rattle.esto_data.specs.Exact.{IsExactAnswer, IsExactAudit, IsExactFill, PrintsAnswersOfFacts}
+use Rattle.esto_data.specs.Exact.{IsExactAnswer, IsExactAudit, IsExactFill, IsExactUnionAnswer, PrintsAnswersOfFacts}
 use Rattle.esto_data.specs.Fill.{fill_course}
 
 -- ---- one outcome
@@ -57,6 +58,12 @@ AnswersAreExact =
     (files : Files) (catalogue_name query_name : List ℕ) (catalogue : Catalogue) (query : Query) → FilesSayCatalogue files catalogue_name catalogue
     → FilesSayQuery files query_name catalogue query
     → Says (answer_course (Some files) catalogue_name query_name) (IsExactAnswer files catalogue query)
+
+abbrev pub UnionAnswersAreExact : Type 0
+UnionAnswersAreExact =
+    (files : Files) (catalogue_name query_name : List ℕ) (catalogue : Catalogue) (queries : List Query) → FilesSayCatalogue files catalogue_name catalogue
+    → FilesSayUnion files query_name catalogue queries
+    → Says (answer_course (Some files) catalogue_name query_name) (IsExactUnionAnswer files catalogue queries)
 
 abbrev pub AuditsAreExact : Type 0
 AuditsAreExact =

@@ -37,8 +37,8 @@ fn has_relation(dataset: &Dataset, relation: usize) -> bool
     relation >= dataset.base && relation - dataset.base < relation_count(dataset.model)
 }
 
-// Whether the body names the dataset.
-fn names(body: &[Atom], dataset: &Dataset) -> bool
+/// Whether the body names the dataset.
+pub fn names(body: &[Atom], dataset: &Dataset) -> bool
     ensures { IsTrue result ↔ Names body.now dataset.now }
 {
     'atoms: for atom in body {
@@ -98,8 +98,8 @@ fn demand_file(alloc: Global, datasets: &Datasets, number: usize) -> Result<(), 
     }
 }
 
-// Each of the datasets of the numbers has a file; else NoData with the name of the first that has none.
-fn demand_files(alloc: Global, datasets: &Datasets, numbers: &Places) -> Result<(), Status>
+/// Each of the datasets of the numbers has a file; else NoData with the name of the first that has none.
+pub fn demand_files(alloc: Global, datasets: &Datasets, numbers: &Places) -> Result<(), Status>
     requires { (number : ℕ) → Contains numbers.now number → number < length datasets.now }
     ensures { Answers (demands_files datasets.now numbers.now) ⊥ result }
 {
@@ -153,8 +153,8 @@ fn load_next<S: Shelf>(
     load_content(alloc, catalogue, number, &bytes, loaded)
 }
 
-// Loads the facts of the files of the datasets of the numbers, in order.
-fn load_files<S: Shelf>(
+/// Loads the facts of the files of the datasets of the numbers, in order.
+pub fn load_files<S: Shelf>(
     alloc: Global,
     shelf: &mut S,
     catalogue: &Catalogue,

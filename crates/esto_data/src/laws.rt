@@ -1,10 +1,10 @@
 //! Laws of the commands on data.
-ghost use Rattle.esto_data.specs.Laws.{AnswersAreExact, AnswersAreOne, AuditsAreExact, AuditsAreOne, AuditsRefuse, FillsAreExact, FillsAreOne, RepliesAreAudited};
+ghost use Rattle.esto_data.specs.Laws.{AnswersAreExact, AnswersAreOne, AuditsAreExact, AuditsAreOne, AuditsRefuse, FillsAreExact, FillsAreOne, RepliesAreAudited, UnionAnswersAreExact};
 
 use esto_catalog::catalogues_are_sound;
 use esto_constraint::rules_are_sound;
 use esto_fill::{answers_rest_on_their_datasets, outcomes_are_one};
-use esto_opening::openings_are_one;
+use esto_opening::{opened_unions_are_queries, openings_are_one};
 
 /// A law: over the same files `fill`, `answer` and `audit` have one reply or one refusal each, where no fetch is at a fault.
 pub fn data_outcomes_are_one()
@@ -17,16 +17,19 @@ pub fn data_outcomes_are_one()
     rules_are_sound();
 }
 
-/// A law: where the files say a catalogue, and a query over it, and the files of what a command needs are readable, `fill`
-/// replies with the file of the fragment's view rows, `answer` with the query's answers, and `audit` where all agree; or
+/// A law: where the files say a catalogue, and a query, or a union of queries, over it, and the files of what a command needs
+/// are readable, `fill` replies with the file of the fragment's view rows, `answer` with the answers of the query, or of the
+/// union, and `audit` where all agree; or
 /// each refuses with the cause that there is.
 pub fn data_outcomes_are_exact()
     ensures fills { FillsAreExact }
     ensures answers { AnswersAreExact }
+    ensures unions { UnionAnswersAreExact }
     ensures audits { AuditsAreExact }
 {
     catalogues_are_sound();
     openings_are_one();
+    opened_unions_are_queries();
     outcomes_are_one();
     rules_are_sound();
 }
@@ -38,6 +41,7 @@ pub fn audited_datasets_answer()
     ensures refusals { AuditsRefuse }
 {
     openings_are_one();
+    opened_unions_are_queries();
     outcomes_are_one();
     answers_rest_on_their_datasets();
     rules_are_sound();

@@ -1,4 +1,4 @@
-//! The commands on data: `fill` writes the file of a fragment, `answer` answers a query, and `audit` compares, each over the
+//! The commands on data: `fill` writes the file of a fragment, `answer` answers a union of queries, and `audit` compares, each over the
 //! facts of the datasets' files. Start from `fill`, `answer` and `audit`.
 #![tactic(auto)]
 
@@ -7,6 +7,7 @@ mod auditing;
 mod datasets;
 mod filling;
 mod laws;
+mod unions;
 
 pub use answering::answer;
 pub use auditing::audit;

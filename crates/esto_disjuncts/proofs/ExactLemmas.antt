@@ -18,7 +18,7 @@ use Rattle.esto_semantics.specs.Containment.{IsSatisfiable}
 use Rattle.esto_term.proofs.ListLemmas.{Contains-cases, Contains-head, Contains-nil, Contains-rest}
 use Rattle.esto_views.specs.declared.plan.Plan.{Plan}
 use Rattle.esto_disjuncts.specs.Exact.{HaveAnswers, ListsUnionExactly, TellsSatisfiable}
-use Rattle.esto_disjuncts.specs.Laws.{EmptyListsAreTold, MembersCoverUnions, MembersTellSatisfiable}
+use Rattle.esto_disjuncts.specs.Laws.{EmptyListsAreTold, MembersAreUniversal, MembersCoverUnions, MembersTellSatisfiable}
 use Rattle.esto_disjuncts.specs.List.{IsUnionText, lists_union}
 use Rattle.esto_disjuncts.specs.Members.{AreMembersOf, ClashAt, HavePlan, IsMemberOf, has_plan}
 use Rattle.esto_disjuncts.specs.declared.members.Member.{Member}
@@ -84,7 +84,7 @@ done_not_clash clash same = cc
 same_clash : (clash other : Clash) → status.Unsatisfiable clash ≡ status.Unsatisfiable other → clash ≡ other
 same_clash clash other same = cc
 
-module _ (tell : MembersTellSatisfiable) (cover : MembersCoverUnions) (empty : EmptyListsAreTold) (catalogue : Catalogue) (queries : List Query) where
+module _ (tell : MembersTellSatisfiable) (universal : MembersAreUniversal) (cover : MembersCoverUnions) (empty : EmptyListsAreTold) (catalogue : Catalogue) (queries : List Query) where
   says_text : (members : List Member) → AreMembersOf catalogue queries members → HavePlan members → (text : List ℕ) → IsUnionText catalogue members text
       → ListsUnionExactly catalogue queries status.Done text
   says_text members are some text printed =
@@ -95,11 +95,13 @@ module _ (tell : MembersTellSatisfiable) (cover : MembersCoverUnions) (empty : E
           are = are;
           printed = printed;
           satisfiable = tell catalogue queries members are;
+          universal = universal catalogue queries members are;
           complete = cover catalogue queries members are;
           empty = empty catalogue queries members are;
         };
         unsatisfiable = ((λ (clash, same). absurd (done_not_clash clash same)), (λ none. absurd (none answers)));
         clash = λ clash same. absurd (done_not_clash clash same);
+        line = λ other. absurd (other refl);
       }
 
   says_clash : (members : List Member) → AreMembersOf catalogue queries members → (clash : Clash) → ClashAt members clash → (said : Status)
@@ -110,11 +112,10 @@ module _ (tell : MembersTellSatisfiable) (cover : MembersCoverUnions) (empty : E
         done = ((λ done. absurd (done_not_clash clash (sym done ∙ is))), (λ answers. absurd (never answers)));
         prints = λ done. absurd (done_not_clash clash (sym done ∙ is));
         unsatisfiable = ((λ some. never), (λ unsatisfiable. (clash, is)));
-        clash = λ other same. (
-          subst (λ (it : Clash). (first : Query) × (slice_get queries 0 ≡ Some first) × IsClash catalogue first it)
-              (same_clash clash other (sym is ∙ same)) (first_clash catalogue queries queries members are clash first),
-          refl,
-        );
+        clash = λ other same.
+            subst (λ (it : Clash). (first : Query) × (slice_get queries 0 ≡ Some first) × IsClash catalogue first it)
+            (same_clash clash other (sym is ∙ same)) (first_clash catalogue queries queries members are clash first);
+        line = λ other. refl;
       }
 
   pub lists_exactly : Leads (lists_union catalogue queries) (ListsUnionExactly catalogue queries status.Done)

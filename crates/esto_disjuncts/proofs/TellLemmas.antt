@@ -17,8 +17,8 @@ use Rattle.esto_union.specs.Unions.{queries_of}
 use Rattle.esto_views.specs.Fragments.{patterns_of, views_of}
 use Rattle.esto_views.specs.Plans.{plan_query}
 use Rattle.esto_views.specs.declared.plan.Plan.{Plan}
-use Rattle.esto_disjuncts.specs.Exact.{CoversUnions, HasNoRewriting, TellsSatisfiable}
-use Rattle.esto_disjuncts.specs.Laws.{EmptyListsAreTold, MembersCoverUnions, MembersTellSatisfiable}
+use Rattle.esto_disjuncts.specs.Exact.{CoversUnions, HasNoRewriting, HasUniversalPlan, TellsSatisfiable}
+use Rattle.esto_disjuncts.specs.Laws.{EmptyListsAreTold, MembersAreUniversal, MembersCoverUnions, MembersTellSatisfiable}
 use Rattle.esto_disjuncts.specs.Members.{AreMembersOf, IsMemberOf, OneIsEmpty}
 use Rattle.esto_disjuncts.specs.declared.members.Member.{Member}
 use Rattle.esto_disjuncts.specs.declared.members.Member.TheVariants.{Planned, Clashed}
@@ -55,6 +55,10 @@ module _ (laws : TellLaws) (catalogue : Catalogue) (queries : List Query) where
   )
   tells query (Clashed clash) is = (λ has. absurd (let never : false ≡ true = has in cc), λ satisfiable. absurd (laws.unsatisfiable catalogue query clash is satisfiable))
 
+  universal : (query : Query) (member : Member) → IsMemberOf catalogue queries query member → HasUniversalPlan catalogue query member
+  universal query (Planned plan items) is = laws.universal rules views (query_of query) (plan_query plan) (laws.receives catalogue query plan is.0)
+  universal query (Clashed clash) is = tt
+
   -- ---- rewritings
 
   covers : (member : Member) (query : Query) → Contains queries query → IsMemberOf catalogue queries query member → CoversUnions catalogue queries member
@@ -82,7 +86,7 @@ module _ (laws : TellLaws) (catalogue : Catalogue) (queries : List Query) where
         item.set,
         record {
           form = laws.form catalogue query plan is.0;
-          universal = laws.universal rules views (query_of query) (plan_query plan) (laws.receives catalogue query plan is.0);
+          universal = universal query (Planned plan (item ∷ items)) is;
           rewriting = ((is.1.sets.exact item.set).0 (Contains-head item.set (sets_of items))).0;
         },
       ))
@@ -122,6 +126,10 @@ module _ (laws : TellLaws) where
   pub members_tell : MembersTellSatisfiable
   members_tell catalogue queries members are =
       zip_more (IsMemberOf catalogue queries) (TellsSatisfiable catalogue) (tells laws catalogue queries) queries members are
+
+  pub members_universal : MembersAreUniversal
+  members_universal catalogue queries members are =
+      zip_more (IsMemberOf catalogue queries) (HasUniversalPlan catalogue) (universal laws catalogue queries) queries members are
 
   pub members_cover : MembersCoverUnions
   members_cover catalogue queries members are member inside =

@@ -1,5 +1,5 @@
 -- What `list` answers to a union.
-use Rattle.std.specs.Prelude.{◌≡◌, ◌↔◌, ⊤, ℕ, IsTrue, List, slice_get, Some, Contains}
+use Rattle.std.specs.Prelude.{◌≡◌, ◌≢◌, ◌↔◌, ⊤, ℕ, IsTrue, List, slice_get, Some, Contains}
 use Rattle.std.specs.List.{AllZip}
 use Rattle.esto_catalog.specs.declared.catalogue.Catalogue.{Catalogue}
 use Rattle.esto_chase_laws.specs.declared.clash.Clash.{Clash}
@@ -12,8 +12,10 @@ use Rattle.esto_planning.specs.Listing.{IsClash}
 use Rattle.esto_query.specs.Making.{query_of}
 use Rattle.esto_query.specs.declared.query.Query.{Query}
 use Rattle.esto_semantics.specs.Containment.{IsSatisfiable}
+use Rattle.esto_semantics.specs.Plans.{IsUniversalPlan}
 use Rattle.esto_semantics.specs.Queries.{ConjunctiveQuery}
 use Rattle.esto_union.specs.Unions.{AreRewritingOf, OneMapsOntoOne}
+use Rattle.esto_views.specs.Fragments.{views_of}
 use Rattle.esto_views.specs.Plans.{plan_query}
 use Rattle.esto_disjuncts.specs.List.{IsUnionText}
 use Rattle.esto_disjuncts.specs.Members.{AreMembersOf, OneIsEmpty, has_plan}
@@ -32,6 +34,12 @@ HasNoRewriting catalogue queries = (others : List ConjunctiveQuery) → ¬ (AreR
 abbrev pub TellsSatisfiable : Catalogue → Query → Member → Type 0
 TellsSatisfiable catalogue query member = IsTrue (has_plan member) ↔ IsSatisfiable (rules_of catalogue.rules) (query_of query)
 
+-- The member's plan is universal for the query.
+abbrev pub HasUniversalPlan : Catalogue → Query → Member → Type 0
+HasUniversalPlan catalogue query (Planned plan items) =
+    IsUniversalPlan (rules_of catalogue.rules) (views_of catalogue.fragments) (query_of query) (plan_query plan)
+HasUniversalPlan catalogue query (Clashed clash) = ⊤
+
 -- Every executable rewriting of the union, with whatever variables and of whatever size, has a query that maps, head to head, onto a set of the member's plan
 -- that has a listed set within it.
 abbrev pub CoversUnions : Catalogue → List Query → Member → Type 0
@@ -39,13 +47,14 @@ CoversUnions catalogue queries (Planned plan items) =
     (others : List ConjunctiveQuery) → AreRewritingOf catalogue queries others → OneMapsOntoOne others (plan_query plan) (sets_of items)
 CoversUnions catalogue queries (Clashed clash) = ⊤
 
--- The text is that of the union's members. They have plans exactly for the satisfiable queries, with lists that cover the union's executable rewritings, of which
--- there are none exactly where some list is empty.
+-- The text is that of the union's members. They have plans exactly for the satisfiable queries. The plans are universal, and their lists cover the union's
+-- executable rewritings, of which there are none exactly where some list is empty.
 pub record PrintsUnion (catalogue : Catalogue) (queries : List Query) (text : List ℕ) : Type 0 where
   pub members : List Member
   pub are : AreMembersOf catalogue queries members
   pub printed : IsUnionText catalogue members text
   pub satisfiable : AllZip (TellsSatisfiable catalogue) queries members
+  pub universal : AllZip (HasUniversalPlan catalogue) queries members
   pub complete : (member : Member) → Contains members member → CoversUnions catalogue queries member
   pub empty : OneIsEmpty members ↔ HasNoRewriting catalogue queries
 
@@ -55,5 +64,5 @@ pub record ListsUnionExactly (catalogue : Catalogue) (queries : List Query) (sai
   pub done : (said ≡ status.Done) ↔ HaveAnswers catalogue queries
   pub prints : said ≡ status.Done → PrintsUnion catalogue queries text
   pub unsatisfiable : ((clash : Clash) × (said ≡ status.Unsatisfiable clash)) ↔ ¬ (HaveAnswers catalogue queries)
-  pub clash : (clash : Clash) → said ≡ status.Unsatisfiable clash
-      → ((first : Query) × (slice_get queries 0 ≡ Some first) × IsClash catalogue first clash) × (text ≡ line_of said)
+  pub clash : (clash : Clash) → said ≡ status.Unsatisfiable clash → (first : Query) × (slice_get queries 0 ≡ Some first) × IsClash catalogue first clash
+  pub line : said ≢ status.Done → text ≡ line_of said

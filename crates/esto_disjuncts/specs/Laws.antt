@@ -9,7 +9,7 @@ use Rattle.esto_opening.specs.Line.{line_of}
 use Rattle.esto_opening.specs.declared.status.Status.TheVariants.{Done}
 use Rattle.esto_query.specs.declared.query.Query.{Query}
 use Rattle.esto_planning.specs.Alike.{IsSamePlan}
-use Rattle.esto_disjuncts.specs.Exact.{CoversUnions, HasNoRewriting, ListsUnionExactly, TellsSatisfiable}
+use Rattle.esto_disjuncts.specs.Exact.{CoversUnions, HasNoRewriting, HasUniversalPlan, ListsUnionExactly, TellsSatisfiable}
 use Rattle.esto_disjuncts.specs.List.{lists_union}
 use Rattle.esto_disjuncts.specs.Members.{AreMembersOf, OneIsEmpty}
 use Rattle.esto_disjuncts.specs.declared.members.Member.{Member}
@@ -42,6 +42,12 @@ abbrev pub MembersTellSatisfiable : Type 0
 MembersTellSatisfiable =
     (catalogue : Catalogue) (queries : List Query) (members : List Member) → AreMembersOf catalogue queries members
     → AllZip (TellsSatisfiable catalogue) queries members
+
+-- Their plans are universal.
+abbrev pub MembersAreUniversal : Type 0
+MembersAreUniversal =
+    (catalogue : Catalogue) (queries : List Query) (members : List Member) → AreMembersOf catalogue queries members
+    → AllZip (HasUniversalPlan catalogue) queries members
 
 -- Their lists cover the executable rewritings of the union.
 abbrev pub MembersCoverUnions : Type 0

@@ -1,5 +1,6 @@
 //! Laws of members and lists of unions.
-ghost use Rattle.esto_disjuncts.specs.Laws.{EmptyListsAreTold, MembersAreOne, MembersCoverUnions, MembersTellSatisfiable, UnionListsAreExact, UnionListsAreOne};
+ghost use Rattle.esto_disjuncts.specs.Laws.{EmptyListsAreTold, MembersAreOne, MembersAreUniversal, MembersCoverUnions, MembersTellSatisfiable, UnionListsAreExact, UnionListsAreOne};
+ghost use Rattle.esto_disjuncts.specs.RunLaws.{RunsAnswerUnions};
 
 use esto_plan_laws::{
     choices_are_executable_unions, executable_unions_exist, executable_unions_map_onto_sets,
@@ -8,7 +9,9 @@ use esto_plan_laws::{
 use esto_planning::{
     planned_plans_are_universal, planned_plans_have_their_form, plans_and_lists_are_one,
 };
+use esto_run::unions_answer_over_files;
 use esto_semantics::{picks_exist, stated_orders_exist, weights_exist};
+use esto_union::picks_answer_unions;
 
 /// A law: over catalogues that say the same, unions of the same queries have the same members.
 pub fn members_are_one()
@@ -20,11 +23,12 @@ pub fn members_are_one()
     weights_exist();
 }
 
-/// A law: the members of a union have plans exactly for its satisfiable queries. Each executable rewriting of the union has,
-/// for each of these plans, a query that maps onto a set of the plan's atoms that has a listed set within it; and there is
-/// none exactly where some plan has no listed set.
+/// A law: the members of a union have plans exactly for its satisfiable queries, and these are universal. Each executable
+/// rewriting of the union has, for each of these plans, a query that maps onto a set of the plan's atoms that has a listed
+/// set within it; and there is none exactly where some plan has no listed set.
 pub fn members_tell_rewritings()
     ensures satisfiable { MembersTellSatisfiable }
+    ensures universal { MembersAreUniversal }
     ensures complete { MembersCoverUnions }
     ensures empty { EmptyListsAreTold }
 {
@@ -50,4 +54,15 @@ pub fn union_lists_are_exact()
     ensures { UnionListsAreExact }
 {
     members_tell_rewritings();
+}
+
+/// A law: for each database that meets the rules, and whose view rows are the rows of the files for the fragments that the
+/// chosen sets of a union's members use, the rows of their candidates over the files are exactly the union's answers.
+pub fn runs_answer_unions()
+    ensures { RunsAnswerUnions }
+{
+    planned_plans_have_their_form();
+    planned_plans_are_universal();
+    picks_answer_unions();
+    unions_answer_over_files();
 }

@@ -1,4 +1,4 @@
-use Rattle.esto_disjuncts.proofs.TellLemmas.{TellLaws, empty_told, members_cover, members_tell}
+use Rattle.esto_disjuncts.proofs.TellLemmas.{TellLaws, empty_told, members_cover, members_tell, members_universal}
 use Rattle.esto_disjuncts.proofs.laws.members_tell_rewritings.Goals as goal
 
 pub returns : goal.returns
@@ -13,4 +13,4 @@ returns c =
       excludes = c.executable_unions_exist.ensures.none;
       exists = c.choices_are_executable_unions.ensures.exist;
       executable = c.choices_are_executable_unions.ensures.executable;
-    } in record { satisfiable = members_tell laws; complete = members_cover laws; empty = empty_told laws }
+    } in record { satisfiable = members_tell laws; universal = members_universal laws; complete = members_cover laws; empty = empty_told laws }

@@ -3,11 +3,14 @@ use Rattle.esto_course.proofs.Asking.{quiet_gives, quiet_judges}
 use Rattle.esto_course.proofs.Steps.{gives_goes}
 use Rattle.esto_opening.specs.declared.reply.Reply.TheVariants.{Done}
 use Rattle.esto_opening.proofs.AskedSteps.{exit_asks, handed_asks, later_asks, quiet_asks}
-use Rattle.esto_data.proofs.StepLemmas.{rows_wide}
-use Rattle.esto_data.proofs.answering.answer_query.Goals as goal
+use Rattle.esto_data.proofs.UnionLemmas.{rows_fit}
+use Rattle.esto_data.proofs.answering.answer_queries.Goals as goal
 
-pub answers_text-requires : goal.answers_text-requires
-answers_text-requires g c = rows_wide c.args.query.now c.in_ok-loaded.loaded.facts c.in_ok-rows.rows c.in_ok-rows.ensures
+pub union_text-requires : goal.union_text-requires
+union_text-requires g c = record {
+  union = c.requires;
+  fit = rows_fit c.args.queries.now c.in_ok-loaded.loaded.facts c.in_ok-rows.rows c.requires c.in_ok-rows.ensures;
+}
 
 pub returns-in_err-rows-clause-asked : goal.returns-in_err-rows-clause-asked
 returns-in_err-rows-clause-asked g c =
