@@ -1,5 +1,5 @@
 -- What the files say is read: the catalogue up to what it means, and the same queries over it.
-use Rattle.std.proofs.Common.{◌≡◌, ℕ, List, [], ◌∷◌, Some, refl}
+use Rattle.std.proofs.Common.{ℕ, List, [], ◌∷◌, Some}
 use Rattle.esto_catalog.specs.Determined.{AreSame}
 use Rattle.esto_catalog.specs.declared.catalogue.Catalogue.{Catalogue}
 use Rattle.esto_course.specs.Course.{Course, judges}

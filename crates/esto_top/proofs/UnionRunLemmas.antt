@@ -1,5 +1,5 @@
 -- What `run` answers to a union of two or more queries where nothing is wrong with the files.
-use Rattle.std.proofs.Common.{◌≡◌, ◌<◌, ℕ, List, [], ◌∷◌, length, Option, Some, None, sym, subst, ◌∙◌, inl, inr, arith}
+use Rattle.std.proofs.Common.{◌≡◌, ◌<◌, ℕ, List, [], ◌∷◌, length, Option, Some, None, sym, subst, inl, inr, arith}
 use Rattle.esto_catalog.specs.Determined.{AreSame}
 use Rattle.esto_catalog.specs.declared.catalogue.Catalogue.{Catalogue}
 use Rattle.esto_course.specs.Course.{and_then, gives, judges}
@@ -15,7 +15,6 @@ use Rattle.esto_opening.specs.Fetch.{FetchStops, fetches}
 use Rattle.esto_opening.specs.Fetch.FetchStops.{fails, is_longer}
 use Rattle.esto_opening.specs.Fragments.{IsStoredAt, content_fault, opens_fragment, opens_fragments}
 use Rattle.esto_opening.specs.declared.fragments.TheConstants.{FRAGMENT_LIMIT}
-use Rattle.esto_opening.specs.declared.reply.Reply.{Reply}
 use Rattle.esto_opening.specs.declared.reply.Reply.TheVariants.{Done, Unsatisfiable}
 use Rattle.esto_opening.specs.declared.status.Status.{Status}
 use Rattle.esto_opening.specs.declared.status.Status.TheVariants as status
@@ -23,7 +22,7 @@ use Rattle.esto_opening.proofs.LeadLemmas.{gives-leads, judges-leads, leads-more
 use Rattle.esto_ports.specs.Files.{Files}
 use Rattle.esto_ports.specs.declared.file_fault.FileFault.{FileFault}
 use Rattle.esto_query.specs.declared.query.Query.{Query}
-use Rattle.esto_top.specs.Outcome.{CompleteWhereTold, Says, reply_status}
+use Rattle.esto_top.specs.Outcome.{CompleteWhereTold, Says}
 use Rattle.esto_top.specs.Run.{run_course, runs_queries}
 use Rattle.esto_top.specs.Unions.{IsExactUnionRun, IsOfNoReply, FilesSayQueries, OutcomesAreUnionRuns, UnionRunsWhereTold}
 use Rattle.esto_top.specs.Unions.IsExactUnionRun.{replies, refuses}
