@@ -20,4 +20,6 @@ pub mod BenchLemmas
 pub mod DeterminedLemmas
 pub mod DataLemmas
 pub mod ReasoningLemmas
+pub mod CertificateLemmas
+pub mod AtomLemmas
 pub mod AgreedLemmas

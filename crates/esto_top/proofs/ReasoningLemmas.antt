@@ -19,13 +19,13 @@ use Rattle.esto_top.specs.Outcome.{CompleteWhereTold, Says}
 use Rattle.esto_top.specs.ReasoningOutcomes.{ContainsWhereTold, MinimisesWhereTold, OutcomesAreContainments, OutcomesAreMinimised}
 use Rattle.esto_top.proofs.DataLemmas.{says_fact}
 
-catalogue_opens : (files : Files) (name : List ℕ) (catalogue : Catalogue) → FilesSayCatalogue files name catalogue
+pub catalogue_opens : (files : Files) (name : List ℕ) (catalogue : Catalogue) → FilesSayCatalogue files name catalogue
     → (opens_catalogue (Some files) name).goes catalogue
 unfolding fetches judges
 catalogue_opens files name catalogue say =
     then_goes (fetches (Some files) name CATALOGUE_LIMIT) reads_catalogue say.bytes catalogue say.has say.is_catalogue
 
-query_opens : (files : Files) (name : List ℕ) (catalogue : Catalogue) (query : Query) → FilesSayQuery files name catalogue query
+pub query_opens : (files : Files) (name : List ℕ) (catalogue : Catalogue) (query : Query) → FilesSayQuery files name catalogue query
     → (opens_query (Some files) name catalogue).goes query
 unfolding fetches judges
 query_opens files name catalogue query say =

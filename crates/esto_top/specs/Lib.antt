@@ -10,3 +10,4 @@ pub mod Benches
 pub mod Determined
 pub mod DataOutcomes
 pub mod ReasoningOutcomes
+pub mod CertificateOutcomes

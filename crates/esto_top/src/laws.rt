@@ -1,4 +1,5 @@
 //! Laws of outcomes.
+ghost use Rattle.esto_top.specs.CertificateOutcomes.{OutcomesAreVerified};
 ghost use Rattle.esto_top.specs.DataOutcomes.{OutcomesAgree, OutcomesAreAnswers, OutcomesAreAudits, OutcomesAreFills};
 ghost use Rattle.esto_top.specs.Determined.{OutcomesAreDetermined};
 ghost use Rattle.esto_top.specs.Headline.{OutcomesAreLists, OutcomesAreRefusals};
@@ -8,6 +9,7 @@ ghost use Rattle.esto_top.specs.Runs.{OutcomesAreRuns};
 use esto_backchase::listed_sets_cover_rewritings;
 use esto_bench::summaries_are_one;
 use esto_catalog::{catalogues_are_determined, catalogues_are_sound};
+use esto_certify::{verify_outcomes_are_exact, verify_outcomes_are_one};
 use esto_data::{audited_datasets_answer, data_outcomes_are_exact, data_outcomes_are_one};
 use esto_fill::agreeing_answers_are_one;
 use esto_opening::openings_are_one;
@@ -76,6 +78,7 @@ pub fn outcomes_are_determined()
     summaries_are_one();
     data_outcomes_are_one();
     reasoning_outcomes_are_one();
+    verify_outcomes_are_one();
 }
 
 /// A law: where the files say what a command on data needs, each outcome of `fill` is the file of the fragment's view rows,
@@ -96,6 +99,15 @@ pub(crate) fn reasoning_outcomes_hold()
     ensures minimise { OutcomesAreMinimised }
 {
     reasoning_outcomes_are_exact();
+}
+
+/// A law: where the files say a catalogue and a query over it that has a printed plan, each outcome of `verify` refuses the
+/// first number above how many atoms the plan has; or it tells the verdict on the certificate for the set that the numbers
+/// name, which is accepted only where the set is safe and its candidate is contained in the query.
+pub(crate) fn verify_outcomes_hold()
+    ensures { OutcomesAreVerified }
+{
+    verify_outcomes_are_exact();
 }
 
 /// A law: where `audit` and `run` are Done over the same files, each outcome of `answer` is Done with the text of `run`.
