@@ -1,11 +1,19 @@
 -- The numbers of atoms that a word names.
-use Rattle.std.proofs.Common.{◌≡◌, ℕ, List, [], ◌∷◌, ◌++◌, Option, Some, None, refl, sym, ap, ◌∙◌}
+use Rattle.std.proofs.Common.{◌≡◌, ◌==◌, ℕ, List, [], ◌∷◌, ◌++◌, Option, Some, None, Result, Ok, refl, sym, ap, ◌∙◌}
 use Rattle.std.proofs.lemmas.List.{append_assoc}
-use Rattle.esto_course.specs.Course.{Stops, judges}
+use Rattle.std.specs.List.{slice_split}
+use Rattle.esto_certify.specs.Verify.{verify_course}
+use Rattle.esto_course.specs.Course.{Names, Stops, judges}
 use Rattle.esto_course.specs.Course.Stops.{refused}
+use Rattle.esto_course.proofs.Asking.{quiet_judges}
+use Rattle.esto_opening.proofs.AskedSteps.{later_asks, quiet_asks}
 use Rattle.esto_opening.specs.Answers.{IsCaused, IsWant}
+use Rattle.esto_opening.specs.Asked.{AsksIn}
+use Rattle.esto_opening.specs.declared.reply.Reply.{Reply}
+use Rattle.esto_opening.specs.declared.status.Status.{Status}
 use Rattle.esto_opening.specs.declared.status.Status.TheVariants.{Usage}
-use Rattle.esto_top.specs.Grammar.{atom_numbers, before_all, names_atoms, number_above, numbers_above, with_rest}
+use Rattle.esto_ports.specs.Files.{Files}
+use Rattle.esto_top.specs.Grammar.{atom_numbers, before_all, names_atoms, number_above, numbers_above, verifies_named, with_rest}
 
 -- the numbers before the others, if these are there
 abbrev pub after : List ℕ → Option (List ℕ) → Option (List ℕ)
@@ -35,10 +43,24 @@ module _ (done : List ℕ) (before : ℕ) (word : List ℕ) (words : List (List 
 
 -- ---- the step
 
-pub atoms_go : (word numbers : List ℕ) → Some numbers ≡ atom_numbers word → (names_atoms word).goes numbers
-unfolding judges
-atoms_go word numbers is = sym is
+-- what the words between its commas write is what the word names
+found_is : (bytes word : List ℕ) (parts : List (List ℕ)) (found : Option (List ℕ)) → bytes ≡ word → parts ≡ slice_split (λ byte. byte == 44) bytes
+    → found ≡ numbers_above 0 parts → found ≡ atom_numbers word
+found_is bytes word parts found bytes_are parts_are is = is ∙ ap (numbers_above 0) parts_are ∙ ap atom_numbers bytes_are
 
-pub atoms_stop : (word : List ℕ) → None ≡ atom_numbers word → Stops IsWant (IsCaused ⊥) (names_atoms word) Usage
-unfolding judges
-atoms_stop word is = refused (record { cause = tt }) (sym is, refl)
+module _ (bytes word : List ℕ) (parts : List (List ℕ)) (found : Option (List ℕ)) (bytes_are : bytes ≡ word)
+    (parts_are : parts ≡ slice_split (λ byte. byte == 44) bytes) (is : found ≡ numbers_above 0 parts) where
+  pub atoms_go : (numbers : List ℕ) → found ≡ Some numbers → (names_atoms word).goes numbers
+  unfolding judges
+  atoms_go numbers some = sym (found_is bytes word parts found bytes_are parts_are is) ∙ some
+
+  pub atoms_stop : found ≡ None → Stops IsWant (IsCaused ⊥) (names_atoms word) Usage
+  unfolding judges
+  atoms_stop none = refused (record { cause = tt }) (sym (found_is bytes word parts found bytes_are parts_are is) ∙ none, refl)
+
+-- what is asked for once the word has named its numbers
+pub named_asks : (files : Option Files) (catalogue query atoms file numbers : List ℕ) → (names_atoms atoms).goes numbers → {old new : Option Names}
+    (result : Result Reply Status) → AsksIn old new (verify_course files catalogue query numbers file) result
+    → AsksIn old new (verifies_named files catalogue query atoms file) result
+named_asks files catalogue query atoms file numbers named {old = old} result asked =
+    later_asks _ _ (quiet_asks (names_atoms atoms) old (Ok numbers) (quiet_judges _ _) named) asked
