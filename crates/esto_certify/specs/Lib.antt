@@ -1,2 +1,3 @@
 pub mod Verify
 pub mod Laws
+pub mod Explain

@@ -1,9 +1,13 @@
 pub mod TextLemmas
 pub mod ZipLemmas
 pub mod OneLemmas
+pub mod MovedLemmas
 pub mod TellLemmas
 pub mod ExactLemmas
 pub mod PickingLemmas
 pub mod RunLemmas
 pub mod RunAskedLemmas
 pub mod AnswerLemmas
+pub mod RunMovedLemmas
+pub mod RunOneLemmas
+pub mod RunExactLemmas

@@ -41,14 +41,14 @@ use Rattle.esto_disjuncts.specs.declared.members.Member.TheVariants.{Planned, Cl
 same_query : (query other : Query) → IsSameQuery query other → query_of query ≡ query_of other
 same_query query other same = λ i. record { head = same.head i; body = same.body i }
 
-same_queries : (queries others : List Query) → AreSameQueries queries others → queries_of queries ≡ queries_of others
+pub same_queries : (queries others : List Query) → AreSameQueries queries others → queries_of queries ≡ queries_of others
 same_queries [] [] same = refl
 same_queries [] (other ∷ others) same = absurd same
 same_queries (query ∷ queries) [] same = absurd same
 same_queries (query ∷ queries) (other ∷ others) (same, rest) = λ i. same_query query other same i ∷ same_queries queries others rest i
 
 -- a list over the other catalogue is one over this
-list_here : (catalogue other : Catalogue) → AreSame catalogue other → (queries others : List Query) → queries_of queries ≡ queries_of others → (plan : Plan)
+pub list_here : (catalogue other : Catalogue) → AreSame catalogue other → (queries others : List Query) → queries_of queries ≡ queries_of others → (plan : Plan)
     (items : List Listed) → IsListIn other others plan items → IsListIn catalogue queries plan items
 list_here catalogue other alike queries others same plan items list = record {
   sets =
@@ -173,13 +173,13 @@ same_has (Planned plan items) (Clashed clash) same = absurd same
 same_has (Clashed clash) (Planned plan items) same = absurd same
 same_has (Clashed clash) (Clashed other_clash) same = refl
 
-same_have : (members others : List Member) → AllZip IsSameMember members others → list_any has_plan members ≡ list_any has_plan others
+pub same_have : (members others : List Member) → AllZip IsSameMember members others → list_any has_plan members ≡ list_any has_plan others
 same_have [] [] same = refl
 same_have [] (other ∷ others) same = absurd same
 same_have (member ∷ members) [] same = absurd same
 same_have (member ∷ members) (other ∷ others) (same, rest) = λ i. same_has member other same i || same_have members others rest i
 
-clash_one : (members others : List Member) → AllZip IsSameMember members others → (clash other_clash : Clash) → slice_get members 0 ≡ Some (Clashed clash)
+pub clash_one : (members others : List Member) → AllZip IsSameMember members others → (clash other_clash : Clash) → slice_get members 0 ≡ Some (Clashed clash)
     → slice_get others 0 ≡ Some (Clashed other_clash) → clash ≡ other_clash
 clash_one [] others same clash other_clash is is_other = absurd (none-some (Clashed clash) is)
 clash_one (member ∷ members) [] same clash other_clash is is_other = absurd same

@@ -35,6 +35,20 @@ UnionListsAreOne =
     (catalogue other : Catalogue) (queries same : List Query) → AreSame catalogue other → AreSameQueries queries same
     → AgreeCalmly ◌≡◌ (lists_union catalogue queries) (lists_union other same)
 
+-- ---- over catalogues that say the same
+
+-- Members over one of two catalogues that say the same are members of the same queries over the other.
+abbrev pub MembersAreMoved : Type 0
+MembersAreMoved =
+    (catalogue other : Catalogue) (queries same : List Query) (members : List Member) → AreSame catalogue other → AreSameQueries queries same
+    → AreMembersOf other same members → AreMembersOf catalogue queries members
+
+-- What `list` prints of a union over the one it prints over the other, and so with what it refuses.
+abbrev pub UnionListsAreMoved : Type 0
+UnionListsAreMoved =
+    (catalogue other : Catalogue) (queries same : List Query) → AreSame catalogue other → AreSameQueries queries same
+    → Leads (lists_union other same) (lists_union catalogue queries).goes (lists_union catalogue queries).stops
+
 -- ---- which outcome
 
 -- Members have plans exactly for the satisfiable queries.

@@ -5,3 +5,4 @@ pub mod Laws
 pub mod Run
 pub mod Picking
 pub mod RunLaws
+pub mod RunExact

@@ -1,7 +1,11 @@
 -- What laws on runs of unions say.
-use Rattle.std.specs.Prelude.{◌≡◌, ◌↔◌, ℕ, List, map, Option, Contains}
+use Rattle.std.specs.Prelude.{◌≡◌, ◌↔◌, ℕ, List, map, Option, Some, Contains}
+use Rattle.esto_catalog.specs.Determined.{AreSame}
 use Rattle.esto_catalog.specs.declared.catalogue.Catalogue.{Catalogue}
 use Rattle.esto_constraint.specs.Constraints.{rules_of}
+use Rattle.esto_opening.specs.Alike.{AreSameQueries}
+use Rattle.esto_opening.specs.Calm.{AgreeCalmly, Leads}
+use Rattle.esto_ports.specs.Files.{Files}
 use Rattle.esto_query.specs.declared.query.Query.{Query}
 use Rattle.esto_run.specs.Laws.{FilesHoldViewRows, IsAnswerOfOne}
 use Rattle.esto_run.specs.Stores.{IsFileRow}
@@ -15,7 +19,7 @@ use Rattle.esto_stores.specs.Rows.{Row}
 use Rattle.esto_union.specs.Unions.{queries_of}
 use Rattle.esto_views.specs.Fragments.{views_of}
 use Rattle.esto_disjuncts.specs.Members.{AreMembersOf}
-use Rattle.esto_disjuncts.specs.Run.{AreChosen}
+use Rattle.esto_disjuncts.specs.Run.{AreChosen, runs_union}
 use Rattle.esto_disjuncts.specs.declared.members.Member.{Member}
 
 -- For each database that meets the catalogue's rules, and whose view rows are the rows of the files for the fragments that the chosen sets use, the rows over the
@@ -29,3 +33,16 @@ RunsAnswerUnions =
     → (values : List Value)
     → IsUnionAnswer (queries_of queries) database values
     ↔ ((row : Row) × (values ≡ map Text row) × IsAnswerOfOne (IsFileRow catalogue.stores contents) others row)
+
+-- What `run` answers to a union over one of two catalogues that say the same it may answer to the same queries over the other.
+abbrev pub UnionRunsAreMoved : Type 0
+UnionRunsAreMoved =
+    (files : Files) (catalogue other : Catalogue) (queries same : List Query) (number : Option ℕ) → AreSame catalogue other → AreSameQueries queries same
+    → Leads (runs_union (Some files) other same number) (runs_union (Some files) catalogue queries number).goes
+    (runs_union (Some files) catalogue queries number).stops
+
+-- And it answers to them with one reply, or one refusal.
+abbrev pub UnionRunsAreOne : Type 0
+UnionRunsAreOne =
+    (files : Files) (catalogue other : Catalogue) (queries same : List Query) (number : Option ℕ) → AreSame catalogue other → AreSameQueries queries same
+    → AgreeCalmly ◌≡◌ (runs_union (Some files) catalogue queries number) (runs_union (Some files) other same number)

@@ -1,15 +1,18 @@
 //! Laws of members and lists of unions.
-ghost use Rattle.esto_disjuncts.specs.Laws.{EmptyListsAreTold, MembersAreOne, MembersAreUniversal, MembersCoverUnions, MembersTellSatisfiable, UnionListsAreExact, UnionListsAreOne};
-ghost use Rattle.esto_disjuncts.specs.RunLaws.{RunsAnswerUnions};
+ghost use Rattle.esto_disjuncts.specs.Laws.{EmptyListsAreTold, MembersAreMoved, MembersAreOne, MembersAreUniversal, MembersCoverUnions, MembersTellSatisfiable, UnionListsAreExact, UnionListsAreMoved, UnionListsAreOne};
+ghost use Rattle.esto_disjuncts.specs.RunLaws.{RunsAnswerUnions, UnionRunsAreMoved, UnionRunsAreOne};
+ghost use Rattle.esto_disjuncts.specs.RunExact.{UnionRunsAreExact};
 
+use esto_opening::openings_are_one;
 use esto_plan_laws::{
     choices_are_executable_unions, executable_unions_exist, executable_unions_map_onto_sets,
     plans_receive_unions,
 };
 use esto_planning::{
-    planned_plans_are_universal, planned_plans_have_their_form, plans_and_lists_are_one,
+    planned_plans_are_universal, planned_plans_have_their_form, plans_and_lists_are_moved,
+    plans_and_lists_are_one,
 };
-use esto_run::unions_answer_over_files;
+use esto_run::{rising_rows_are_one, unions_answer_over_files, used_by_all_are_one};
 use esto_semantics::{picks_exist, stated_orders_exist, weights_exist};
 use esto_union::picks_answer_unions;
 
@@ -48,6 +51,15 @@ pub fn union_lists_are_one()
     picks_exist();
 }
 
+/// A law: members of a union, and what `list` prints of them or with what it refuses the union, over one of two catalogues
+/// that say the same, are ones of the same queries over the other.
+pub fn union_lists_are_moved()
+    ensures members { MembersAreMoved }
+    ensures lists { UnionListsAreMoved }
+{
+    plans_and_lists_are_moved();
+}
+
 /// A law: `list` prints the members of a union exactly where one of its queries is satisfiable, and else refuses it, with
 /// the clash of the first query's run.
 pub fn union_lists_are_exact()
@@ -65,4 +77,34 @@ pub fn runs_answer_unions()
     planned_plans_are_universal();
     picks_answer_unions();
     unions_answer_over_files();
+}
+
+/// A law: what `run` answers to a union over one of two catalogues that say the same it may answer to the same queries over
+/// the other.
+pub fn union_runs_are_moved()
+    ensures { UnionRunsAreMoved }
+{
+    plans_and_lists_are_moved();
+    openings_are_one();
+}
+
+/// A law: over catalogues that say the same, `run` answers to unions of the same queries with one reply, or one refusal.
+pub fn union_runs_are_one()
+    ensures { UnionRunsAreOne }
+{
+    members_are_one();
+    plans_and_lists_are_one();
+    used_by_all_are_one();
+    openings_are_one();
+    rising_rows_are_one();
+}
+
+/// A law: over files that are told, `run` replies to a union of which no query is satisfiable with the clash of the first
+/// query's run; else it refuses it with `NoRewriting` exactly where it has no executable rewriting, and a text that it
+/// replies has exactly the union's answers, for each database of which the files hold the view rows.
+pub fn union_runs_are_exact()
+    ensures { UnionRunsAreExact }
+{
+    members_tell_rewritings();
+    runs_answer_unions();
 }

@@ -11,7 +11,8 @@ mod run;
 
 pub use laws::{
     members_are_one, members_tell_rewritings, runs_answer_unions, union_lists_are_exact,
-    union_lists_are_one,
+    union_lists_are_moved, union_lists_are_one, union_runs_are_exact, union_runs_are_moved,
+    union_runs_are_one,
 };
 pub use list::list_union;
 pub use members::{Member, Members, clash_of, copy_clash, members_of};

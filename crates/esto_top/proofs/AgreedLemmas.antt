@@ -1,5 +1,5 @@
 -- Where `audit` and `run` are Done over the same files, `answer` is Done with the text of `run`.
-use Rattle.std.proofs.Common.{◌≡◌, ◌≢◌, ℕ, List, [], map, length, slice_get, Contains, Option, Some, refl, sym, ap, subst, ◌∙◌}
+use Rattle.std.proofs.Common.{◌≡◌, ◌≢◌, ℕ, List, [], ◌∷◌, map, length, slice_get, Contains, Option, Some, refl, sym, ap, subst, ◌∙◌}
 use Rattle.either.specs.declared.Either.{Either}
 use Rattle.either.specs.declared.Either.TheVariants.{Left, Right}
 use Rattle.esto_catalog.specs.declared.catalogue.Catalogue.{Catalogue}
@@ -31,19 +31,24 @@ use Rattle.esto_views.specs.Fragments.{views_of, patterns_of}
 use Rattle.esto_views.specs.Plans.{plan_query}
 use Rattle.esto_views.specs.declared.plan.Plan.{Plan}
 use Rattle.esto_opening.specs.Fragments.{opens_fragments}
-use Rattle.esto_opening.specs.Opening.{opens_query}
+use Rattle.esto_opening.specs.Alike.{AreSameQueries}
+use Rattle.esto_opening.specs.Opening.{opens_catalogue, opens_query, opens_union}
+use Rattle.esto_opening.proofs.LeadLemmas.{then-leads}
 use Rattle.esto_opening.specs.declared.reply.Reply.{Reply}
 use Rattle.esto_opening.specs.declared.reply.Reply.TheVariants.{Done, Unsatisfiable}
 use Rattle.esto_opening.specs.declared.status.Status.{Status}
 use Rattle.esto_opening.specs.declared.status.Status.TheVariants as status
-use Rattle.esto_opening.proofs.RefusalLemmas.{Refuses, catalogue_refuses, fragments_refuse, gives_refuses, judges_refuses, query_refuses, then_refuses}
+use Rattle.esto_opening.proofs.RefusalLemmas.{Refuses, fragments_refuse, gives_refuses, judges_refuses, then_refuses}
 use Rattle.esto_top.specs.DataOutcomes.{OutcomesAgree}
+use Rattle.esto_top.specs.Headline.{FilesSay}
 use Rattle.esto_top.specs.Outcome.{Says, reply_status, reply_text}
 use Rattle.esto_top.specs.Outcome.Says.{replies, refuses}
-use Rattle.esto_top.specs.Run.{IsRunText, run_course, runs_end, runs_item, runs_query}
+use Rattle.esto_top.specs.Run.{IsRunText, run_course, runs_end, runs_item, runs_queries, runs_query}
 use Rattle.esto_planning.specs.Choice.HasNoPlace.{is_empty, is_above}
-use Rattle.esto_top.proofs.OpenedLemmas.{opened_is}
+use Rattle.esto_top.proofs.LawRecords.{OpeningLaws}
 use Rattle.esto_top.proofs.RunLemmas.{same_rows, uses_only}
+use Rattle.esto_top.proofs.SayLemmas.{alone_opens, catalogue_leads, catalogue_opens, one_alone, union_leads}
+use Rattle.esto_top.proofs.OpenedLemmas.{opened_is}
 use Rattle.esto_top.proofs.RunsLemmas.{RunGoes, same_texts, over_same, query_runs, run_words}
 use Rattle.esto_top.proofs.RunsLemmas.RunGoes.{is_run, has_clash}
 use Rattle.esto_planning.specs.Choice.{HasNoPlace}
@@ -71,14 +76,11 @@ module _ (files : Files) (catalogue : Catalogue) (query : Query) (number : Optio
   runs_refuses : Refuses (runs_query (Some files) catalogue query number)
   runs_refuses = then_refuses _ _ (judges_refuses _ _ (λ said never. absurd never)) end_refuses
 
-run_refuses : (files : Files) (catalogue_name query_name : List ℕ) (number : Option ℕ) → Refuses (run_course (Some files) catalogue_name query_name number)
-run_refuses files catalogue_name query_name number = then_refuses _ _ (catalogue_refuses files catalogue_name)
-    (λ catalogue. then_refuses _ _ (query_refuses files query_name catalogue) (λ query. runs_refuses files catalogue query number))
-
 -- ---- the texts
 
 -- the laws of agreement
 pub record AgreementLaws : Type 0 where
+  pub opening : OpeningLaws
   pub audited : RepliesAreAudited
   pub refusals : AuditsRefuse
   pub texts : AgreeingAnswersAreTexts
@@ -146,27 +148,52 @@ module _ (laws : AgreementLaws) (files : Files) (catalogue_name query_name : Lis
   run_agrees reply (has_clash clash clashes is) done said answered says =
       absurd (let h : status.Unsatisfiable clash ≡ status.Done = sym (ap reply_status is) ∙ done in cc)
 
-module _ (laws : AgreementLaws) (files : Files) (catalogue_name query_name : List ℕ) (number : Option ℕ) where
-  course_agrees : (reply ran : Reply) → (audit_course (Some files) catalogue_name).goes reply
-      → (run_course (Some files) catalogue_name query_name number).goes ran
-      → reply_status ran ≡ status.Done → (said : Status) (answered : List ℕ) → Says (answer_course (Some files) catalogue_name query_name) ⊥ said answered
-      → (said ≡ status.Done) × (answered ≡ reply_text ran)
-  unfolding and_then
-  course_agrees reply ran audits (catalogue, opens, (query, reads, goes)) done said answered says =
-      run_agrees laws files catalogue_name query_name catalogue query number (laws.audited files catalogue_name catalogue reply audits opens) reads ran
-      ((query_runs files catalogue query number).goes ran goes) done said answered says
+module _ (laws : AgreementLaws) (files : Files) (catalogue_name query_name : List ℕ) (number : Option ℕ) (catalogue : Catalogue) (query : Query)
+    (say : FilesSay files catalogue_name query_name catalogue query) where
+  opens : (opens_catalogue (Some files) catalogue_name).goes catalogue
+  opens = catalogue_opens files catalogue_name catalogue say.says_catalogue
+
+  reads_alone : (opens_union (Some files) query_name catalogue).goes (query ∷ [])
+  reads_alone = alone_opens files query_name catalogue laws.opening.alone query say.says_query
+
+  -- no run of the query that the files say stops with Done
+  run_refuses : Refuses (run_course (Some files) catalogue_name query_name number)
+  run_refuses =
+      then-leads _ _ _ _ _ (catalogue_leads laws.opening files catalogue_name query_name catalogue (λ said. said ≢ status.Done) opens) (λ other alike.
+      then-leads _ _ _ _ _
+      (union_leads laws.opening files catalogue_name query_name catalogue (λ said. said ≢ status.Done) (query ∷ []) reads_alone other alike)
+      (one_alone query (λ queries. Refuses (runs_queries (Some files) other queries number)) (λ read same. runs_refuses files other read number)))
+
+  module _ (reply ran : Reply) (audits : (audit_course (Some files) catalogue_name).goes reply) (done : reply_status ran ≡ status.Done) (said : Status)
+      (answered : List ℕ) (says : Says (answer_course (Some files) catalogue_name query_name) ⊥ said answered) where
+    -- what was read is one query
+    read_agrees : (other : Catalogue) → (opens_catalogue (Some files) catalogue_name).goes other → (queries : List Query)
+        → AreSameQueries (query ∷ []) queries → (opens_union (Some files) query_name other).goes queries
+        → (runs_queries (Some files) other queries number).goes ran → (said ≡ status.Done) × (answered ≡ reply_text ran)
+    read_agrees other opened =
+        one_alone query (λ queries. (opens_union (Some files) query_name other).goes queries → (runs_queries (Some files) other queries number).goes ran
+        → (said ≡ status.Done) × (answered ≡ reply_text ran)) (λ read same reads goes.
+        run_agrees laws files catalogue_name query_name other read number (laws.audited files catalogue_name other reply audits opened)
+        ((laws.opening.alone (Some files) query_name other read).0 reads) ran ((query_runs files other read number).goes ran goes) done said answered says)
+
+    course_agrees : (run_course (Some files) catalogue_name query_name number).goes ran → (said ≡ status.Done) × (answered ≡ reply_text ran)
+    unfolding and_then
+    course_agrees (other, opened, (queries, reads, goes)) =
+        let alike = (laws.opening.catalogues files catalogue_name).one catalogue other opens opened in
+        let same = (laws.opening.unions files query_name catalogue other alike).one (query ∷ []) queries reads_alone reads in
+        read_agrees other opened queries same reads goes
 
   says_agreed : (audited ran answered : List ℕ) (said : Status) → Says (audit_course (Some files) catalogue_name) ⊥ status.Done audited
       → Says (run_course (Some files) catalogue_name query_name number) ⊥ status.Done ran
       → Says (answer_course (Some files) catalogue_name query_name) ⊥ said answered → (said ≡ status.Done) × (answered ≡ ran)
   says_agreed audited ran answered said (replies reply goes done text_is) (replies run_reply run_goes run_done run_text) says =
-      let found = course_agrees reply run_reply goes run_goes (sym run_done) said answered says in (found.0, found.1 ∙ sym run_text)
+      let found = course_agrees reply run_reply goes (sym run_done) said answered says run_goes in (found.0, found.1 ∙ sym run_text)
   says_agreed audited ran answered said (replies reply goes done text_is) (refuses caused stops line) says =
-      absurd ((run_refuses files catalogue_name query_name number).stops status.Done caused stops refl)
+      absurd (run_refuses.stops status.Done caused stops refl)
   says_agreed audited ran answered said (refuses caused stops line) runs says =
       absurd (laws.refusals files catalogue_name status.Done caused stops refl)
 
 pub outcomes_agree : AgreementLaws → OutcomesAgree
-outcomes_agree laws words files catalogue_name query_name number audited ran answered said audits asks runs answers =
-    says_agreed laws files catalogue_name query_name number audited ran answered said audits
+outcomes_agree laws words files catalogue_name query_name number catalogue query audited ran answered said say audits asks runs answers =
+    says_agreed laws files catalogue_name query_name number catalogue query say audited ran answered said audits
     (subst (λ it. Says it ⊥ status.Done ran) (run_words words catalogue_name query_name number (Some files) asks) runs) answers

@@ -23,7 +23,7 @@ use Rattle.esto_top.specs.Grammar.{atom_numbers, course_of, names_atoms, verifie
 use Rattle.esto_top.specs.Headline.{FilesSay}
 use Rattle.esto_top.specs.Outcome.{CompleteWhereTold, Says}
 use Rattle.esto_top.proofs.DataLemmas.{says_fact}
-use Rattle.esto_top.proofs.ReasoningLemmas.{catalogue_opens, query_opens}
+use Rattle.esto_top.proofs.SayLemmas.{catalogue_opens, query_opens}
 
 -- ---- one outcome
 

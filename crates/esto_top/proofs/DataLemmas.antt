@@ -3,13 +3,13 @@ use Rattle.std.proofs.Common.{ℕ, List, Option, Some, None, sym, ap, subst, ◌
 use Rattle.esto_course.specs.Course.{Course}
 use Rattle.esto_data.specs.Answer.{answer_course}
 use Rattle.esto_data.specs.Audit.{audit_course}
-use Rattle.esto_data.specs.Exact.{IsExactAnswer, IsExactAudit, IsExactFill}
+use Rattle.esto_data.specs.Exact.{IsExactAnswer, IsExactAudit, IsExactFill, IsExactUnionAnswer}
 use Rattle.esto_data.specs.Fill.{fill_course}
-use Rattle.esto_data.specs.Laws.{AnswersAreExact, AuditsAreExact, FillsAreExact, Says as SaysAlways}
+use Rattle.esto_data.specs.Laws.{AnswersAreExact, AuditsAreExact, FillsAreExact, UnionAnswersAreExact, Says as SaysAlways}
 use Rattle.esto_ports.specs.Files.{Files}
 use Rattle.esto_opening.specs.declared.reply.Reply.{Reply}
 use Rattle.esto_opening.specs.declared.status.Status.{Status}
-use Rattle.esto_top.specs.DataOutcomes.{AnswersWhereTold, AuditsWhereTold, FillsWhereTold, OutcomesAreAnswers, OutcomesAreAudits, OutcomesAreFills}
+use Rattle.esto_top.specs.DataOutcomes.{AnswersWhereTold, AuditsWhereTold, FillsWhereTold, OutcomesAreAnswers, OutcomesAreAudits, OutcomesAreFills, OutcomesAreUnionAnswers, UnionAnswersWhereTold}
 use Rattle.esto_top.specs.Grammar.{course_of}
 use Rattle.esto_top.specs.Outcome.{CompleteWhereTold, Says, reply_status, reply_text}
 use Rattle.esto_top.specs.Outcome.Says.{replies, refuses}
@@ -32,6 +32,12 @@ pub outcomes_are_answers : AnswersAreExact → OutcomesAreAnswers
 outcomes_are_answers exact words files catalogue_name query_name catalogue query said text is say outcome =
     says_fact (answer_course (Some files) catalogue_name query_name) (IsExactAnswer files catalogue query) said text
     (exact files catalogue_name query_name catalogue query say.says_catalogue say.says_query)
+    (subst (λ (it : List (List ℕ)). Says (course_of it (Some files)) ⊥ said text) is outcome)
+
+pub outcomes_are_union_answers : UnionAnswersAreExact → OutcomesAreUnionAnswers
+outcomes_are_union_answers exact words files catalogue_name query_name catalogue queries said text is say say_union outcome =
+    says_fact (answer_course (Some files) catalogue_name query_name) (IsExactUnionAnswer files catalogue queries) said text
+    (exact files catalogue_name query_name catalogue queries say say_union)
     (subst (λ (it : List (List ℕ)). Says (course_of it (Some files)) ⊥ said text) is outcome)
 
 pub outcomes_are_audits : AuditsAreExact → OutcomesAreAudits
@@ -57,6 +63,15 @@ module _ (words : List (List ℕ)) (rose sink_rose : Type 0) (old new : Option (
     | inl whole ↦ inl (whole.0, are words files catalogue_name query_name catalogue query result whole.0 is say whole.1, whole.2)
     | inr wanting ↦ inr wanting
   ]
+
+  pub union_answers_where_told : OutcomesAreUnionAnswers → (files : Option Files) → CompleteWhereTold words files rose sink_rose old new result
+      → UnionAnswersWhereTold words files rose sink_rose old new result
+  union_answers_where_told are None complete = tt
+  union_answers_where_told are (Some files) complete = λ calm sink_calm catalogue_name query_name catalogue queries is say say_union.
+      elim (complete calm sink_calm) [
+        | inl whole ↦ inl (whole.0, are words files catalogue_name query_name catalogue queries result whole.0 is say say_union whole.1, whole.2)
+        | inr wanting ↦ inr wanting
+      ]
 
   pub audits_where_told : OutcomesAreAudits → (files : Option Files) → CompleteWhereTold words files rose sink_rose old new result
       → AuditsWhereTold words files rose sink_rose old new result

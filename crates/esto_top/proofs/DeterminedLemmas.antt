@@ -1,5 +1,5 @@
 -- The same words over the same files have one status and one text.
-use Rattle.std.proofs.Common.{◌≡◌, ℕ, List, ◌++◌, length, Option, Some, None, sym, ap, subst, ◌∙◌, inl, inr}
+use Rattle.std.proofs.Common.{◌≡◌, ℕ, List, [], ◌∷◌, ◌++◌, length, Option, Some, None, sym, ap, subst, ◌∙◌, inl, inr}
 use Rattle.std.specs.Io.KnownBytes.{Appends}
 use Rattle.std.proofs.lemmas.List.{length-map}
 use Rattle.esto_catalog.specs.Determined.{AreSame}
@@ -17,10 +17,10 @@ use Rattle.esto_reasoning.specs.Laws.{ContainsIsOne, MinimiseIsOne}
 use Rattle.esto_top.specs.Determined.{OutcomesAreDetermined, ExactWhereTold}
 use Rattle.esto_top.specs.Grammar.{Request, request_of, course_of_request, course_of_asked}
 use Rattle.esto_top.specs.Grammar.Request.{CheckOf, ListFor, RunFor, FillFor, AnswerFor, AuditOf, ContainsFor, MinimiseFor, VerifyFor, BenchOf}
-use Rattle.esto_top.specs.List.{prints_list, lists_query, list_course}
-use Rattle.esto_top.specs.Run.{run_course}
+use Rattle.esto_top.specs.List.{list_course, lists_queries, lists_query, prints_list}
+use Rattle.esto_top.specs.Run.{run_course, runs_queries}
 use Rattle.esto_top.specs.Outcome.{CompleteWhereTold}
-use Rattle.esto_opening.specs.Opening.{opens_catalogue, opens_query}
+use Rattle.esto_opening.specs.Opening.{opens_catalogue, opens_union}
 use Rattle.esto_opening.specs.declared.reply.Reply.TheVariants.{Done}
 use Rattle.esto_opening.specs.declared.status.Status.{Status}
 use Rattle.esto_opening.specs.declared.status.Status.TheVariants as status
@@ -29,7 +29,9 @@ use Rattle.esto_top.proofs.AgreeLemmas.{says-agree}
 use Rattle.esto_top.proofs.CertificateLemmas.{verify_agrees}
 use Rattle.esto_top.proofs.BenchLemmas.{benches-agree}
 use Rattle.esto_top.proofs.RunAgreeLemmas.{CourseLaws, query_agree}
-use Rattle.esto_opening.specs.Alike.{IsSameQuery}
+use Rattle.esto_opening.specs.Alike.{AreSameQueries, IsSameQuery}
+use Rattle.esto_disjuncts.specs.Laws.{UnionListsAreOne}
+use Rattle.esto_disjuncts.specs.RunLaws.{UnionRunsAreOne}
 use Rattle.esto_planning.specs.Alike.{IsSamePlan}
 
 -- ---- the text of a check
@@ -42,6 +44,11 @@ check_one catalogue other alike =
 
 -- ---- the courses
 
+-- the laws by which `list` and `run` of unions have one outcome
+pub record UnionLaws : Type 0 where
+  pub lists : UnionListsAreOne
+  pub runs : UnionRunsAreOne
+
 -- the laws by which the commands on data, on queries and on certificates have one outcome
 pub record OneLaws : Type 0 where
   pub fills : FillsAreOne
@@ -51,13 +58,13 @@ pub record OneLaws : Type 0 where
   pub minimise : MinimiseIsOne
   pub verify : VerifyIsOne
 
-module _ (laws : CourseLaws) (summaries : SummariesAreOne) (on_each : OneLaws) (files : Files) where
+module _ (laws : CourseLaws) (unions : UnionLaws) (summaries : SummariesAreOne) (on_each : OneLaws) (files : Files) where
   opened_agree : (name : List ℕ) → AgreeCalmly AreSame (opens_catalogue (Some files) name) (opens_catalogue (Some files) name)
   opened_agree name = laws.opening.catalogues files name
 
   module _ (catalogue other : Catalogue) (alike : AreSame catalogue other) where
-    queries_agree : (name : List ℕ) → AgreeCalmly IsSameQuery (opens_query (Some files) name catalogue) (opens_query (Some files) name other)
-    queries_agree name = laws.opening.queries files name catalogue other alike
+    unions_agree : (name : List ℕ) → AgreeCalmly AreSameQueries (opens_union (Some files) name catalogue) (opens_union (Some files) name other)
+    unions_agree name = laws.opening.unions files name catalogue other alike
 
     module _ (query other_query : Query) (same : IsSameQuery query other_query) where
       printed_agree : (plan other_plan : Plan) → IsSamePlan plan other_plan
@@ -71,20 +78,43 @@ module _ (laws : CourseLaws) (summaries : SummariesAreOne) (on_each : OneLaws) (
       listed_agree = then_agree _ IsSamePlan ◌≡◌ _ _ _ _ (laws.planning.plan catalogue other query other_query alike same)
           (λ plan other_plan goes plans. printed_agree plan other_plan plans)
 
+    -- of one query, and of more
+    all_listed_agree : (queries others : List Query) → AreSameQueries queries others
+        → AgreeCalmly ◌≡◌ (lists_queries catalogue queries) (lists_queries other others)
+    all_listed_agree [] [] same = unions.lists catalogue other [] [] alike same
+    all_listed_agree [] (other_query ∷ others) same = absurd same
+    all_listed_agree (query ∷ queries) [] same = absurd same
+    all_listed_agree (query ∷ []) (other_query ∷ []) same = listed_agree query other_query same.0
+    all_listed_agree (query ∷ []) (other_query ∷ more ∷ others) same = absurd same.1
+    all_listed_agree (query ∷ next ∷ queries) (other_query ∷ []) same = absurd same.1
+    all_listed_agree (query ∷ next ∷ queries) (other_query ∷ more ∷ others) same =
+        unions.lists catalogue other (query ∷ next ∷ queries) (other_query ∷ more ∷ others) alike same
+
+    all_run_agree : (number : Option ℕ) (queries others : List Query) → AreSameQueries queries others
+        → AgreeCalmly ◌≡◌ (runs_queries (Some files) catalogue queries number) (runs_queries (Some files) other others number)
+    all_run_agree number [] [] same = unions.runs files catalogue other [] [] number alike same
+    all_run_agree number [] (other_query ∷ others) same = absurd same
+    all_run_agree number (query ∷ queries) [] same = absurd same
+    all_run_agree number (query ∷ []) (other_query ∷ []) same = query_agree laws files catalogue other alike query other_query same.0 number
+    all_run_agree number (query ∷ []) (other_query ∷ more ∷ others) same = absurd same.1
+    all_run_agree number (query ∷ next ∷ queries) (other_query ∷ []) same = absurd same.1
+    all_run_agree number (query ∷ next ∷ queries) (other_query ∷ more ∷ others) same =
+        unions.runs files catalogue other (query ∷ next ∷ queries) (other_query ∷ more ∷ others) number alike same
+
   list_agrees : (catalogue_name query_name : List ℕ) → AgreeCalmly ◌≡◌ (list_course (Some files) catalogue_name query_name)
       (list_course (Some files) catalogue_name query_name)
   list_agrees catalogue_name query_name =
       then_agree _ AreSame ◌≡◌ _ _ _ _ (opened_agree catalogue_name) (λ catalogue other goes alike.
-      then_agree _ IsSameQuery ◌≡◌ _ _ _ _ (queries_agree catalogue other alike query_name) (λ query other_query goes1 same.
-      then_agree _ ◌≡◌ ◌≡◌ _ _ _ _ (listed_agree catalogue other alike query other_query same)
+      then_agree _ AreSameQueries ◌≡◌ _ _ _ _ (unions_agree catalogue other alike query_name) (λ queries others goes1 same.
+      then_agree _ ◌≡◌ ◌≡◌ _ _ _ _ (all_listed_agree catalogue other alike queries others same)
       (λ text other_text goes2 texts. gives_agree _ (Done text) (Done other_text) (ap Done texts))))
 
   run_agrees : (catalogue_name query_name : List ℕ) (number : Option ℕ) → AgreeCalmly ◌≡◌ (run_course (Some files) catalogue_name query_name number)
       (run_course (Some files) catalogue_name query_name number)
   run_agrees catalogue_name query_name number =
       then_agree _ AreSame ◌≡◌ _ _ _ _ (opened_agree catalogue_name) (λ catalogue other goes alike.
-      then_agree _ IsSameQuery ◌≡◌ _ _ _ _ (queries_agree catalogue other alike query_name) (λ query other_query goes1 same.
-      query_agree laws files catalogue other alike query other_query same number))
+      then_agree _ AreSameQueries ◌≡◌ _ _ _ _ (unions_agree catalogue other alike query_name) (λ queries others goes1 same.
+      all_run_agree catalogue other alike number queries others same))
 
   check_agrees : (name : List ℕ) → AgreeCalmly ◌≡◌ (check_course (Some files) name) (check_course (Some files) name)
   check_agrees name =
@@ -107,9 +137,9 @@ module _ (laws : CourseLaws) (summaries : SummariesAreOne) (on_each : OneLaws) (
   asked_agrees None = refuses_agree _ _ status.Usage
   asked_agrees (Some request) = request_agrees request
 
-pub outcomes_determined : CourseLaws → SummariesAreOne → OneLaws → OutcomesAreDetermined
-outcomes_determined laws summaries on_each words files said other_said text other_text outcome other_outcome =
-    says-agree _ _ said other_said text other_text (asked_agrees laws summaries on_each files (request_of words)) outcome other_outcome
+pub outcomes_determined : CourseLaws → UnionLaws → SummariesAreOne → OneLaws → OutcomesAreDetermined
+outcomes_determined laws unions summaries on_each words files said other_said text other_text outcome other_outcome =
+    says-agree _ _ said other_said text other_text (asked_agrees laws unions summaries on_each files (request_of words)) outcome other_outcome
 
 pub exact : OutcomesAreDetermined → (words : List (List ℕ)) (files : Option Files) (rose sink_rose : Type 0) (old new : Option (List ℕ)) (result : Status)
     → CompleteWhereTold words files rose sink_rose old new result → ExactWhereTold words files rose sink_rose old new result

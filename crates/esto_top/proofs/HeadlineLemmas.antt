@@ -1,9 +1,8 @@
 -- What `list` answers where the files say a catalogue and a query over it.
-use Rattle.std.proofs.Common.{◌≡◌, ℕ, Bool, List, [], ◌∷◌, All, Option, Some, None, inl, inr, refl, sym, ap, subst, ◌∙◌}
+use Rattle.std.proofs.Common.{◌≡◌, ℕ, Bool, List, [], ◌∷◌, All, Option, Some, None, inl, inr, refl, ap, subst}
 use Rattle.std.specs.List.{AllZip}
 use Rattle.std.proofs.lemmas.List.Elements.{All-head, All-tail}
-use Rattle.esto_catalog.specs.Determined.{CataloguesAreSound, HaveOneCatalogue, HaveNoError}
-use Rattle.esto_catalog.specs.Reading.{IsCatalogueOf}
+use Rattle.esto_catalog.specs.Determined.{AreSame}
 use Rattle.esto_catalog.specs.declared.catalogue.Catalogue.{Catalogue}
 use Rattle.esto_backchase.specs.Listing.{ListedCoverRewritings}
 use Rattle.esto_chase_laws.specs.declared.clash.Clash.{Clash}
@@ -13,7 +12,6 @@ use Rattle.esto_list.specs.declared.listing.Listed.{Listed}
 use Rattle.esto_ports.specs.Files.{Files}
 use Rattle.esto_query.specs.Making.{query_of}
 use Rattle.esto_query.specs.declared.query.Query.{Query}
-use Rattle.esto_read.specs.Readings.{HaveNoFault}
 use Rattle.esto_semantics.specs.Listed.{chosen, IsWeight}
 use Rattle.esto_semantics.specs.ListedLaws.{AreWeights, NoRewritingExists, PickWeighsLeastOfAll}
 use Rattle.esto_semantics.specs.Plans.{IsUniversalPlan}
@@ -21,25 +19,26 @@ use Rattle.esto_semantics.specs.Rewritings.{IsPlanFor}
 use Rattle.esto_views.specs.Fragments.{views_of, patterns_of, weights_of}
 use Rattle.esto_views.specs.Plans.{plan_query}
 use Rattle.esto_views.specs.declared.plan.Plan.{Plan}
-use Rattle.esto_course.specs.Course.{gives}
+use Rattle.esto_course.specs.Course.{and_then, gives, judges}
+use Rattle.esto_data.specs.Laws.{Says as SaysAlways}
 use Rattle.esto_top.specs.Headline.{FilesSay, HasAnswers, PrintsExactly, IsExactList, IsExactRefusal, IsEmptyWithoutRewriting, SaidOfLists, OutcomesAreLists, OutcomesAreRefusals, HoldsOfLists}
 use Rattle.esto_opening.specs.Line.{line_of}
-use Rattle.esto_top.specs.List.{lists_query, list_course}
-use Rattle.esto_top.specs.Outcome.{Says, CompleteWhereTold, reply_status, reply_text}
+use Rattle.esto_top.specs.List.{list_course, lists_queries, lists_query}
+use Rattle.esto_top.specs.Outcome.{CompleteWhereTold, Says}
 use Rattle.esto_top.specs.Grammar.{course_of}
 use Rattle.esto_opening.specs.declared.reply.Reply.{Reply}
 use Rattle.esto_opening.specs.declared.reply.Reply.TheVariants.{Done}
 use Rattle.esto_opening.specs.declared.status.Status.{Status}
 use Rattle.esto_opening.specs.declared.status.Status.TheVariants as status
-use Rattle.esto_opening.specs.Alike.{QueriesOpenAlike}
-use Rattle.esto_top.proofs.LawRecords.{PlanningLaws}
+use Rattle.esto_opening.specs.Alike.{AreSameQueries, IsSameQuery}
+use Rattle.esto_opening.specs.Opening.{opens_catalogue, opens_union}
+use Rattle.esto_top.proofs.DataLemmas.{says_fact}
+use Rattle.esto_top.proofs.LawRecords.{OpeningLaws, PlanningLaws}
 use Rattle.esto_opening.specs.Calm.{Leads}
-use Rattle.esto_opening.proofs.LeadLemmas.{then-leads, leads-more, gives-leads, judges-leads}
-use Rattle.esto_top.proofs.LeadLemmas.{says-leads}
-use Rattle.esto_top.proofs.SayLemmas.{IsQueryOf, catalogue_leads, query_leads, same_as_read}
+use Rattle.esto_opening.proofs.LeadLemmas.{then-leads, leads-more, gives-leads}
+use Rattle.esto_top.proofs.SayLemmas.{alone_opens, catalogue_leads, catalogue_opens, one_alone, union_leads}
 use Rattle.esto_planning.specs.Listing.{IsClash, IsListOf, IsListing, IsPlanned}
 use Rattle.esto_planning.specs.Laws.{ClashExcludesAnswers, CoreHasNoRetract, CoreIsOnly, PlanHasForm, PlanIsUniversal, PlanTellsAnswers}
-use Rattle.esto_planning.specs.Planning.{plans_query}
 
 -- ---- the items
 
@@ -113,139 +112,101 @@ module _ (laws : ListingLaws) (catalogue : Catalogue) (query : Query) where
             empty = empty-without listing.items listing.list;
           }
 
+-- ---- the query
+
+-- what is told of a query: its exact list where it is satisfiable, and else its exact refusal
+pub data IsTold (catalogue : Catalogue) (query : Query) (said : Status) (text : List ℕ) : Type 0 where
+  lists : HasAnswers catalogue query → IsExactList catalogue query said text → IsTold catalogue query said text
+  refuses : ¬ (HasAnswers catalogue query) → IsExactRefusal catalogue query said text → IsTold catalogue query said text
+
+module _ (laws : ListingLaws) (catalogue : Catalogue) (query : Query) where
+  -- the query has a plan and its list is printed, or it is refused
+  pub query_told : (read_catalogue : Catalogue) → AreSame catalogue read_catalogue → (read : Query) → IsSameQuery query read
+      → Leads (lists_query read_catalogue read) (IsTold catalogue query status.Done) (λ said. IsTold catalogue query said (line_of said))
+  unfolding judges and_then
+  query_told other alike read same = record {
+    goes = λ text (plan, planned, listing). printed plan (laws.planning.plan_moved catalogue other query read plan alike same planned) text
+        (laws.planning.text_moved catalogue other query read plan text alike same listing);
+    stops = λ said caused stop. elim stop [
+      | inl (clash, clashes, is) ↦
+          refused clash (laws.planning.clash_moved catalogue other query read clash alike same clashes) said is
+      | inr (plan, planned, never) ↦ absurd never
+    ];
+  }
+    where
+      printed : (plan : Plan) → IsPlanned catalogue query plan → (text : List ℕ) → IsListing catalogue query plan text
+          → IsTold catalogue query status.Done text
+      printed plan planned text listing =
+          lists (laws.satisfiable catalogue query plan planned) (refl, prints-exactly laws catalogue query plan planned text listing)
+
+      refused : (clash : Clash) → IsClash catalogue query clash → (said : Status) → said ≡ status.Unsatisfiable clash
+          → IsTold catalogue query said (line_of said)
+      refused clash clashes said is = refuses (laws.unsatisfiable catalogue query clash clashes) (clash, clashes, is, ap line_of is)
+
 -- ---- the course
 
--- what `list` makes of a query
-record HasText (catalogue : Catalogue) (query : Query) (text : List ℕ) : Type 0 where
-  plan : Plan
-  planned : IsPlanned catalogue query plan
-  listing : IsListing catalogue query plan text
+module _ (opening : OpeningLaws) (files : Files) (catalogue_name query_name : List ℕ) (catalogue : Catalogue) (queries : List Query) where
+  module _ (Fact : Status → List ℕ → Type 0)
+      (tell : (other : Catalogue) → AreSame catalogue other → (read : List Query) → AreSameQueries queries read
+      → Leads (lists_queries other read) (Fact status.Done) (λ said. Fact said (line_of said))) where
+    abbrev Replied : Reply → Type 0
+    Replied reply = (text : List ℕ) × (reply ≡ Done text) × Fact status.Done text
 
--- what a whole run of `list` read and printed
-record HasPrinted (catalogue_bytes query_bytes : List ℕ) (reply : Reply) : Type 0 where
-  catalogue : Catalogue
-  is_catalogue : IsCatalogueOf catalogue_bytes catalogue
-  query : Query
-  is_query : IsQueryOf catalogue query_bytes query
-  text : List ℕ
-  has_text : HasText catalogue query text
-  reply_is : reply ≡ Done text
+    abbrev Refused : Status → Type 0
+    Refused said = Fact said (line_of said)
 
--- what `list` read, and why it refused the query
-record HasRefused (catalogue_bytes query_bytes : List ℕ) (refusal : Status) : Type 0 where
-  catalogue : Catalogue
-  is_catalogue : IsCatalogueOf catalogue_bytes catalogue
-  query : Query
-  is_query : IsQueryOf catalogue query_bytes query
-  clash : Clash
-  clashes : IsClash catalogue query clash
-  refusal_is : refusal ≡ status.Unsatisfiable clash
+    reply_leads : (text : List ℕ) → Fact status.Done text → Leads (gives (Done text)) Replied Refused
+    reply_leads text fact =
+        leads-more _ (λ reply. reply ≡ Done text) _ Refused (λ reply is. (text, is, fact)) (gives-leads (Done text) Refused)
 
-module _ (sound : CataloguesAreSound) (one : HaveOneCatalogue) (apart : HaveNoError) (queries : QueriesOpenAlike) (no_fault : HaveNoFault)
-    (files : Files) (catalogue_name query_name : List ℕ) (catalogue : Catalogue) (query : Query)
+    -- what is told of the queries that were read is what `list` says
+    pub list_says : (opens_catalogue (Some files) catalogue_name).goes catalogue → (opens_union (Some files) query_name catalogue).goes queries
+        → SaysAlways (list_course (Some files) catalogue_name query_name) Fact
+    list_says opens reads =
+        then-leads _ _ _ _ _ (catalogue_leads opening files catalogue_name query_name catalogue Refused opens) (λ other alike.
+        then-leads _ _ _ _ _ (union_leads opening files catalogue_name query_name catalogue Refused queries reads other alike) (λ read same.
+        then-leads _ _ _ _ _ (tell other alike read same) reply_leads))
+
+module _ (opening : OpeningLaws) (laws : ListingLaws) (files : Files) (catalogue_name query_name : List ℕ) (catalogue : Catalogue) (query : Query)
     (say : FilesSay files catalogue_name query_name catalogue query) where
-  abbrev Printed : Reply → Type 0
-  Printed = HasPrinted say.says_catalogue.bytes say.says_query.bytes
+  told : (said : Status) (text : List ℕ) → Says (list_course (Some files) catalogue_name query_name) ⊥ said text → IsTold catalogue query said text
+  told said text says =
+      says_fact _ (IsTold catalogue query) said text
+      (list_says opening files catalogue_name query_name catalogue (query ∷ []) (IsTold catalogue query)
+      (λ other alike. one_alone query
+      (λ read. Leads (lists_queries other read) (IsTold catalogue query status.Done) (λ said. IsTold catalogue query said (line_of said)))
+      (query_told laws catalogue query other alike))
+      (catalogue_opens files catalogue_name catalogue say.says_catalogue) (alone_opens files query_name catalogue opening.alone query say.says_query)) says
 
-  abbrev Refused : Status → Type 0
-  Refused = HasRefused say.says_catalogue.bytes say.says_query.bytes
+  -- a satisfiable query has its exact list
+  pub exact_list : (said : Status) (text : List ℕ) → Says (list_course (Some files) catalogue_name query_name) ⊥ said text
+      → HasAnswers catalogue query → IsExactList catalogue query said text
+  exact_list said text says answers = by (told said text says)
+    where
+      by : IsTold catalogue query said text → IsExactList catalogue query said text
+      by (lists some exact) = exact
+      by (refuses none exact) = absurd (none answers)
 
-  module _ (other : Catalogue) (is_other : IsCatalogueOf say.says_catalogue.bytes other) (read : Query)
-      (is_query : IsQueryOf other say.says_query.bytes read) where
-    -- the query has a plan, or is refused
-    plan_leads : Leads (plans_query other read) (IsPlanned other read) Refused
-    plan_leads = judges-leads _ _ Refused (λ refusal caused stop. record {
-      catalogue = other;
-      is_catalogue = is_other;
-      query = read;
-      is_query = is_query;
-      clash = stop.0;
-      clashes = stop.1;
-      refusal_is = stop.2;
-    })
-
-    -- the list is printed
-    text_leads : Leads (lists_query other read) (HasText other read) Refused
-    text_leads = then-leads _ _ (IsPlanned other read) _ _ plan_leads (λ plan planned.
-        leads-more _ (IsListing other read plan) _ Refused (λ text listing. record { plan = plan; planned = planned; listing = listing })
-        (judges-leads _ _ Refused (λ refusal caused stop. absurd stop)))
-
-    reply_leads : (text : List ℕ) → HasText other read text → Leads (gives (Done text)) Printed Refused
-    reply_leads text has_text =
-        leads-more _ (λ reply. reply ≡ Done text) _ Refused (λ reply reply_is. record {
-          catalogue = other;
-          is_catalogue = is_other;
-          query = read;
-          is_query = is_query;
-          text = text;
-          has_text = has_text;
-          reply_is = reply_is;
-        }) (gives-leads (Done text) Refused)
-
-  list_leads : Leads (list_course (Some files) catalogue_name query_name) Printed Refused
-  list_leads =
-      then-leads _ _ _ _ _ (catalogue_leads sound one apart queries no_fault files catalogue_name query_name catalogue query say Refused) (λ other is_other.
-      then-leads _ _ _ _ _ (query_leads sound one apart queries no_fault files catalogue_name query_name catalogue query say other is_other Refused)
-      (λ read is_query.
-      then-leads _ _ _ _ _ (text_leads other is_other read is_query) (λ text has_text. reply_leads other is_other read is_query text has_text)))
-
-  module _ (laws : ListingLaws) where
-    -- where the list was printed, the query is satisfiable and the text is exact
-    printed_exact : (reply : Reply) → Printed reply → HasAnswers catalogue query × IsExactList catalogue query (reply_status reply) (reply_text reply)
-    printed_exact reply run =
-        let alike = one say.says_catalogue.bytes catalogue run.catalogue say.says_catalogue.is_catalogue run.is_catalogue in
-        let same = same_as_read sound one apart queries no_fault files catalogue_name query_name catalogue query say
-        run.catalogue run.is_catalogue run.query run.is_query in
-        let plan = run.has_text.plan in
-        let planned = laws.planning.plan_moved catalogue run.catalogue query run.query plan alike same run.has_text.planned in
-        let listing = laws.planning.text_moved catalogue run.catalogue query run.query plan run.text alike same run.has_text.listing in (
-          laws.satisfiable catalogue query plan planned,
-          (
-            ap reply_status run.reply_is,
-            subst (PrintsExactly catalogue query) (sym (ap reply_text run.reply_is)) (prints-exactly laws catalogue query plan planned run.text listing),
-          ),
-        )
-
-    -- where the query was refused, it is unsatisfiable and the clash is exact
-    refused_exact : (said : Status) (text : List ℕ) → Refused said → text ≡ line_of said
-        → ¬ (HasAnswers catalogue query) × IsExactRefusal catalogue query said text
-    refused_exact said text run text_is =
-        let alike = one say.says_catalogue.bytes catalogue run.catalogue say.says_catalogue.is_catalogue run.is_catalogue in
-        let same = same_as_read sound one apart queries no_fault files catalogue_name query_name catalogue query say
-        run.catalogue run.is_catalogue run.query run.is_query in
-        let clashes = laws.planning.clash_moved catalogue run.catalogue query run.query run.clash alike same run.clashes in
-        (laws.unsatisfiable catalogue query run.clash clashes, (run.clash, clashes, run.refusal_is, text_is ∙ ap line_of run.refusal_is))
-
-    module _ (said : Status) (text : List ℕ) (says : Says (list_course (Some files) catalogue_name query_name) ⊥ said text) where
-      -- a satisfiable query has its exact list
-      pub exact_list : HasAnswers catalogue query → IsExactList catalogue query said text
-      exact_list answers = elim (says-leads _ Printed Refused said text list_leads says) [
-        | inl whole ↦ (
-            let exact = (printed_exact whole.0 whole.1).1 in
-            (whole.2 ∙ exact.0, subst (PrintsExactly catalogue query) (sym whole.3) exact.1)
-            )
-        | inr refused ↦ absurd ((refused_exact said text refused.0 refused.1).0 answers)
-      ]
-
-      -- a query is refused, with its clash, exactly where it is unsatisfiable
-      pub exact_refusal : ¬ (HasAnswers catalogue query) → IsExactRefusal catalogue query said text
-      exact_refusal none = elim (says-leads _ Printed Refused said text list_leads says) [
-        | inl whole ↦ absurd (none (printed_exact whole.0 whole.1).0)
-        | inr refused ↦ (refused_exact said text refused.0 refused.1).1
-      ]
+  -- a query is refused, with its clash, exactly where it is unsatisfiable
+  pub exact_refusal : (said : Status) (text : List ℕ) → Says (list_course (Some files) catalogue_name query_name) ⊥ said text
+      → ¬ (HasAnswers catalogue query) → IsExactRefusal catalogue query said text
+  exact_refusal said text says none = by (told said text says)
+    where
+      by : IsTold catalogue query said text → IsExactRefusal catalogue query said text
+      by (lists answers exact) = absurd (none answers)
+      by (refuses unsatisfiable exact) = exact
 
 -- ---- the outcomes
 
-module _ (sound : CataloguesAreSound) (one : HaveOneCatalogue) (apart : HaveNoError) (queries : QueriesOpenAlike) (no_fault : HaveNoFault)
-    (laws : ListingLaws) where
+module _ (opening : OpeningLaws) (laws : ListingLaws) where
   pub outcomes_are_lists : OutcomesAreLists
   outcomes_are_lists words files catalogue_name query_name catalogue query said text asks say outcome =
-      exact_list sound one apart queries no_fault files catalogue_name query_name catalogue query say laws said text
+      exact_list opening laws files catalogue_name query_name catalogue query say said text
       (subst (λ it. Says (course_of it (Some files)) ⊥ said text) asks outcome)
 
   pub outcomes_are_refusals : OutcomesAreRefusals
   outcomes_are_refusals words files catalogue_name query_name catalogue query said text asks say outcome = (
-    exact_refusal sound one apart queries no_fault files catalogue_name query_name catalogue query say laws said text
+    exact_refusal opening laws files catalogue_name query_name catalogue query say said text
         (subst (λ it. Says (course_of it (Some files)) ⊥ said text) asks outcome),
     λ refusal. laws.unsatisfiable catalogue query refusal.0 refusal.1,
   )

@@ -1,12 +1,14 @@
 -- The laws of what is opened, and of plans and lists, on which outcomes rest.
-use Rattle.esto_opening.specs.Alike.{CataloguesOpenAlike, FragmentOpensAlike, FragmentsOpenAlike, QueriesOpenAlike, StoresHaveOneContent}
+use Rattle.esto_opening.specs.Alike.{CataloguesOpenAlike, FragmentOpensAlike, FragmentsOpenAlike, StoresHaveOneContent, UnionsOpenAlike}
+use Rattle.esto_opening.specs.Unions.{UnionsOfOneAreQueries}
 use Rattle.esto_planning.specs.Alike.{ChoiceIsOne, ClashIsMoved, EndIsOne, ListIsMoved, ListIsOne, ListingIsMoved, ListingIsOne, PlanIsMoved, PlanIsOne}
 use Rattle.esto_planning.specs.Laws.{ItemIsListed}
 
 -- what is opened is one
 pub record OpeningLaws : Type 0 where
   pub catalogues : CataloguesOpenAlike
-  pub queries : QueriesOpenAlike
+  pub unions : UnionsOpenAlike
+  pub alone : UnionsOfOneAreQueries
   pub fragment : FragmentOpensAlike
   pub fragments : FragmentsOpenAlike
   pub rows : StoresHaveOneContent

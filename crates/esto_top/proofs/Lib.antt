@@ -12,13 +12,15 @@ pub mod LeadLemmas
 pub mod AlikeRunLemmas
 pub mod RunAgreeLemmas
 pub mod SayLemmas
+pub mod DataLemmas
 pub mod OpenedLemmas
 pub mod HeadlineLemmas
+pub mod UnionLemmas
 pub mod RunsLemmas
+pub mod UnionRunLemmas
 pub mod AgreeLemmas
 pub mod BenchLemmas
 pub mod DeterminedLemmas
-pub mod DataLemmas
 pub mod ReasoningLemmas
 pub mod CertificateLemmas
 pub mod AtomLemmas

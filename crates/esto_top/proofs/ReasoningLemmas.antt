@@ -1,14 +1,6 @@
 -- What `contains` and `minimise` answer where nothing is wrong with the files.
 use Rattle.std.proofs.Common.{ℕ, List, Option, Some, None, subst, inl, inr}
-use Rattle.esto_catalog.specs.declared.catalogue.Catalogue.{Catalogue}
-use Rattle.esto_course.specs.Course.{judges}
-use Rattle.esto_course.proofs.Steps.{then_goes}
-use Rattle.esto_opening.specs.Opening.{FilesSayCatalogue, FilesSayQuery}
 use Rattle.esto_ports.specs.Files.{Files}
-use Rattle.esto_query.specs.declared.query.Query.{Query}
-use Rattle.esto_opening.specs.Fetch.{fetches}
-use Rattle.esto_opening.specs.Opening.{opens_catalogue, opens_query, reads_catalogue, reads_query}
-use Rattle.esto_opening.specs.declared.opening.TheConstants.{CATALOGUE_LIMIT, QUERY_LIMIT}
 use Rattle.esto_opening.specs.declared.status.Status.{Status}
 use Rattle.esto_reasoning.specs.Contains.{contains_course}
 use Rattle.esto_reasoning.specs.Exact.{IsExactContains, IsExactMinimise}
@@ -18,18 +10,7 @@ use Rattle.esto_top.specs.Grammar.{course_of}
 use Rattle.esto_top.specs.Outcome.{CompleteWhereTold, Says}
 use Rattle.esto_top.specs.ReasoningOutcomes.{ContainsWhereTold, MinimisesWhereTold, OutcomesAreContainments, OutcomesAreMinimised}
 use Rattle.esto_top.proofs.DataLemmas.{says_fact}
-
-pub catalogue_opens : (files : Files) (name : List ℕ) (catalogue : Catalogue) → FilesSayCatalogue files name catalogue
-    → (opens_catalogue (Some files) name).goes catalogue
-unfolding fetches judges
-catalogue_opens files name catalogue say =
-    then_goes (fetches (Some files) name CATALOGUE_LIMIT) reads_catalogue say.bytes catalogue say.has say.is_catalogue
-
-pub query_opens : (files : Files) (name : List ℕ) (catalogue : Catalogue) (query : Query) → FilesSayQuery files name catalogue query
-    → (opens_query (Some files) name catalogue).goes query
-unfolding fetches judges
-query_opens files name catalogue query say =
-    then_goes (fetches (Some files) name QUERY_LIMIT) (reads_query catalogue) say.bytes query say.has (say.named, say.is_query, say.query_is)
+use Rattle.esto_top.proofs.SayLemmas.{catalogue_opens, query_opens}
 
 pub outcomes_are_containments : ContainsIsExact → OutcomesAreContainments
 outcomes_are_containments exact words files catalogue_name left_name right_name catalogue left right said text is say say_right outcome =

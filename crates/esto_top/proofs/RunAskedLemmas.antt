@@ -1,5 +1,5 @@
 -- What a run asks of the shelf.
-use Rattle.std.proofs.Common.{◌≡◌, ℕ, List, [], slice_get, Option, Some, Result, Ok, Err, refl}
+use Rattle.std.proofs.Common.{◌≡◌, ℕ, List, [], ◌∷◌, length, slice_get, Option, Some, Result, Ok, Err, refl, subst}
 use Rattle.either.specs.declared.Either.TheVariants.{Left, Right}
 use Rattle.esto_catalog.specs.declared.catalogue.Catalogue.{Catalogue}
 use Rattle.esto_chase_laws.specs.declared.clash.Clash.{Clash}
@@ -14,7 +14,8 @@ use Rattle.esto_run.specs.Answers.{rows_text}
 use Rattle.esto_run.specs.Used.{AreUsed}
 use Rattle.esto_views.specs.Plans.{plan_query}
 use Rattle.esto_views.specs.declared.plan.Plan.{Plan}
-use Rattle.esto_opening.specs.Answers.{IsCaused, IsWant}
+use Rattle.esto_disjuncts.specs.Run.{runs_union}
+use Rattle.esto_opening.specs.Answers.{Answers, IsCaused, IsWant}
 use Rattle.esto_opening.specs.Asked.{AsksIn}
 use Rattle.esto_opening.specs.Fragments.{opens_fragments}
 use Rattle.esto_opening.specs.declared.reply.Reply.{Reply}
@@ -24,7 +25,7 @@ use Rattle.esto_opening.specs.declared.status.Status.TheVariants.{OutOfMemory}
 use Rattle.esto_opening.proofs.AskedSteps.{early_want, exit_asks, later_asks, quiet_asks}
 use Rattle.esto_planning.specs.Listing.{IsClash, IsListOf, IsPlanned}
 use Rattle.esto_planning.specs.Planning.{chooses, ends_query}
-use Rattle.esto_top.specs.Run.{IsRunText, runs_end, runs_item, runs_plan, runs_query}
+use Rattle.esto_top.specs.Run.{IsRunText, runs_end, runs_item, runs_plan, runs_queries, runs_query}
 
 -- a judgement accepts a value, and asks for nothing
 accepted : {A : Type 0} (told : Option Names) (accepts : A → Type 0) (refused : Status → Type 0) (value : A) → accepts value
@@ -107,3 +108,27 @@ module _ (files : Option Files) (catalogue : Catalogue) (query : Query) (number 
     pub clash_wants : AsksIn told told (runs_query files catalogue query number) (Err OutOfMemory)
     clash_wants = later_asks (ends_query catalogue query) (runs_end files catalogue query number) (accepted told _ _ (Right clash) clashes)
         (quiet_asks (gives (Unsatisfiable clash (rows_text query []))) told (Err OutOfMemory) (quiet_gives Status _) (is_free refl))
+
+-- ---- the queries
+
+-- what was asked over the files and the queries that were handed on
+pub queries_asks : (files other : Option Files) → other ≡ files → (catalogue : Catalogue) (queries items : List Query) → items ≡ queries → (number : Option ℕ)
+    {old new : Option Names} (result : Result Reply Status) → AsksIn old new (runs_queries other catalogue items number) result
+    → AsksIn old new (runs_queries files catalogue queries number) result
+queries_asks files other same catalogue queries items are number {old = old} {new = new} result asked =
+    subst (λ (it : Option Files). AsksIn old new (runs_queries it catalogue queries number) result) same
+    (subst (λ (it : List Query). AsksIn old new (runs_queries other catalogue it number) result) are asked)
+
+-- two or more queries are run as a union
+module _ (files : Option Files) (catalogue : Catalogue) (number : Option ℕ) (result : Result Reply Status) where
+  pub more_answers : (rose : Type 0) (queries : List Query) → (length queries ≡ 1 → ⊥) → Answers (runs_union files catalogue queries number) rose result
+      → Answers (runs_queries files catalogue queries number) rose result
+  more_answers rose [] several answers = answers
+  more_answers rose (query ∷ []) several answers = absurd (several refl)
+  more_answers rose (query ∷ next ∷ queries) several answers = answers
+
+  pub more_asks : (old new : Option Names) (queries : List Query) → (length queries ≡ 1 → ⊥)
+      → AsksIn old new (runs_union files catalogue queries number) result → AsksIn old new (runs_queries files catalogue queries number) result
+  more_asks old new [] several asked = asked
+  more_asks old new (query ∷ []) several asked = absurd (several refl)
+  more_asks old new (query ∷ next ∷ queries) several asked = asked

@@ -3,8 +3,7 @@ use Rattle.std.proofs.Common.{◌≡◌, ◌≢◌, ◌↔◌, ℕ, true, false,
 use Rattle.std.specs.Prelude.{codes}
 use Rattle.std.proofs.lemmas.Option.{same_Some, none-some}
 use Rattle.either.specs.declared.Either.TheVariants.{Left, Right}
-use Rattle.esto_catalog.specs.Determined.{AreSame, CataloguesAreSound, HaveOneCatalogue, HaveNoError}
-use Rattle.esto_catalog.specs.Reading.{IsCatalogueOf}
+use Rattle.esto_catalog.specs.Determined.{AreSame}
 use Rattle.esto_catalog.specs.declared.catalogue.Catalogue.{Catalogue}
 use Rattle.esto_catalog.specs.declared.catalogue.Store.{Store}
 use Rattle.esto_chase_laws.specs.declared.clash.Clash.{Clash}
@@ -14,7 +13,6 @@ use Rattle.esto_list.specs.declared.listing.Listed.{Listed}
 use Rattle.esto_ports.specs.Files.{Files}
 use Rattle.esto_query.specs.Making.{query_of}
 use Rattle.esto_query.specs.declared.query.Query.{Query}
-use Rattle.esto_read.specs.Readings.{HaveNoFault}
 use Rattle.esto_run.specs.Answers.{rows_text}
 use Rattle.esto_run.specs.Laws.{IsAnswerOver, FilesHoldViewRows, RewritingsAnswerQueries}
 use Rattle.esto_run.specs.Stores.{IsFileRow, IsRowIn}
@@ -39,7 +37,7 @@ use Rattle.esto_opening.specs.Fragments.{IsReadableFragment, IsStoredAt, content
 use Rattle.esto_top.specs.Grammar.{course_of, is_list_number}
 use Rattle.esto_top.specs.Headline.{FilesSay, HasAnswers, Rewrites}
 use Rattle.esto_top.specs.Outcome.{Says, CompleteWhereTold, reply_status, reply_text}
-use Rattle.esto_top.specs.Run.{IsRunText, runs_query, run_course}
+use Rattle.esto_top.specs.Run.{IsRunText, run_course, runs_queries, runs_query}
 use Rattle.esto_planning.specs.Choice.HasNoPlace.{is_empty, is_above}
 use Rattle.esto_top.specs.Runs.{AsksRun, CanRun, PrintsAnswers, PrintsRun, IsExactRun, OutcomesAreRuns, RunsWhereTold}
 use Rattle.esto_opening.specs.declared.reply.Reply.{Reply}
@@ -55,8 +53,8 @@ use Rattle.esto_opening.proofs.LeadLemmas.{then-leads, leads-more, gives-leads, 
 use Rattle.esto_top.proofs.LeadLemmas.{says-leads}
 use Rattle.esto_top.proofs.OpenedLemmas.{all_refused, opened_is}
 use Rattle.esto_top.proofs.RunLemmas.{same_rows, uses_only}
-use Rattle.esto_top.proofs.SayLemmas.{IsQueryOf, catalogue_leads, query_leads, same_as_read}
-use Rattle.esto_opening.specs.Alike.{FragmentOpensAlike, IsSameQuery, QueriesOpenAlike}
+use Rattle.esto_top.proofs.SayLemmas.{alone_opens, catalogue_leads, catalogue_opens, one_alone, union_leads}
+use Rattle.esto_opening.specs.Alike.{FragmentOpensAlike, IsSameQuery}
 use Rattle.esto_planning.specs.Alike.{IsSamePlan}
 use Rattle.esto_planning.specs.Choice.{HasNoPlace, IsPlace}
 use Rattle.esto_planning.specs.Listing.{IsClash, IsListOf, IsPlanned}
@@ -250,44 +248,43 @@ module _ (laws : RunLaws) (catalogue : Catalogue) (query : Query) (plan : Plan) 
 
 -- ---- the whole course
 
-module _ (sound : CataloguesAreSound) (one : HaveOneCatalogue) (apart : HaveNoError) (queries : QueriesOpenAlike) (no_fault : HaveNoFault)
-    (files : Files) (catalogue_name query_name : List ℕ) (catalogue : Catalogue) (query : Query)
+module _ (opening : OpeningLaws) (files : Files) (catalogue_name query_name : List ℕ) (catalogue : Catalogue) (query : Query)
     (say : FilesSay files catalogue_name query_name catalogue query) (number : Option ℕ) where
-  -- what a whole run read, and how it replied or stopped
+  -- over which catalogue and query a whole run replied or stopped
   record HasRun (reply : Reply) : Type 0 where
     other : Catalogue
-    is_other : IsCatalogueOf say.says_catalogue.bytes other
+    alike : AreSame catalogue other
     read : Query
-    is_query : IsQueryOf other say.says_query.bytes read
+    same : IsSameQuery query read
     goes : RunGoes files other read number reply
 
   record HasStopped (refusal : Status) : Type 0 where
     other : Catalogue
-    is_other : IsCatalogueOf say.says_catalogue.bytes other
+    alike : AreSame catalogue other
     read : Query
-    is_query : IsQueryOf other say.says_query.bytes read
+    same : IsSameQuery query read
     stops : RunStops files other read number refusal
+
+  read_runs : (other : Catalogue) → AreSame catalogue other → (read : Query) → IsSameQuery query read
+      → Leads (runs_query (Some files) other read number) HasRun HasStopped
+  read_runs other alike read same =
+      let leads = query_runs files other read number in record {
+        goes = λ reply goes. record { other = other; alike = alike; read = read; same = same; goes = leads.goes reply goes };
+        stops = λ refusal caused stops. record { other = other; alike = alike; read = read; same = same; stops = leads.stops refusal caused stops };
+      }
 
   run_leads : Leads (run_course (Some files) catalogue_name query_name number) HasRun HasStopped
   run_leads =
-      then-leads _ _ _ _ _ (catalogue_leads sound one apart queries no_fault files catalogue_name query_name catalogue query say HasStopped)
-      (λ other is_other.
-      then-leads _ _ _ _ _ (query_leads sound one apart queries no_fault files catalogue_name query_name catalogue query say other is_other HasStopped)
-      (λ read is_query. let leads = query_runs files other read number in record {
-        goes = λ reply goes. record { other = other; is_other = is_other; read = read; is_query = is_query; goes = leads.goes reply goes };
-        stops = λ refusal caused stops.
-            record { other = other; is_other = is_other; read = read; is_query = is_query; stops = leads.stops refusal caused stops };
-      }))
+      then-leads _ _ _ _ _
+      (catalogue_leads opening files catalogue_name query_name catalogue HasStopped
+      (catalogue_opens files catalogue_name catalogue say.says_catalogue)) (λ other alike.
+      then-leads _ _ _ _ _
+      (union_leads opening files catalogue_name query_name catalogue HasStopped (query ∷ [])
+      (alone_opens files query_name catalogue opening.alone query say.says_query) other alike)
+      (one_alone query (λ queries. Leads (runs_queries (Some files) other queries number) HasRun HasStopped) (read_runs other alike)))
 
-  module _ (laws : ListingLaws) (opening : OpeningLaws) (run_laws : RunLaws) where
-    module _ (other : Catalogue) (is_other : IsCatalogueOf say.says_catalogue.bytes other) (read : Query)
-        (is_query : IsQueryOf other say.says_query.bytes read) where
-      alike : AreSame catalogue other
-      alike = one say.says_catalogue.bytes catalogue other say.says_catalogue.is_catalogue is_other
-
-      same : IsSameQuery query read
-      same = same_as_read sound one apart queries no_fault files catalogue_name query_name catalogue query say other is_other read is_query
-
+  module _ (laws : ListingLaws) (run_laws : RunLaws) where
+    module _ (other : Catalogue) (alike : AreSame catalogue other) (read : Query) (same : IsSameQuery query read) where
       module _ (plan : Plan) (planned : IsPlanned other read plan) where
         planned_here : IsPlanned catalogue query plan
         planned_here = laws.planning.plan_moved catalogue other query read plan alike same planned
@@ -426,27 +423,27 @@ module _ (sound : CataloguesAreSound) (one : HaveOneCatalogue) (apart : HaveNoEr
       pub exact_run : IsExactRun files number catalogue query said text
       exact_run = elim (says-leads _ HasRun HasStopped said text run_leads says) [
         | inl (reply, run, said_is, text_is) ↦ record {
-          runs = λ can. let exact = runs_reply run.other run.is_other run.read run.is_query reply run.goes can in (
+          runs = λ can. let exact = runs_reply run.other run.alike run.read run.same reply run.goes can in (
             said_is ∙ exact.0,
             subst (PrintsRun catalogue query can.plan can.item.set can.contents) (sym text_is) exact.1,
           );
           refused = (
-            λ none. let (clash, clashes, is, header) = refuses_reply run.other run.is_other run.read run.is_query reply run.goes none in
+            λ none. let (clash, clashes, is, header) = refuses_reply run.other run.alike run.read run.same reply run.goes none in
                 (clash, clashes, said_is ∙ is, text_is ∙ header),
             λ (clash, clashes, is, header). laws.unsatisfiable catalogue query clash clashes,
           );
           no_rewriting = λ answers. (
-            λ none. absurd (replies_apart run.other run.is_other run.read run.is_query reply (sym said_is ∙ none)),
-            λ absent. absurd (reply_needs run.other run.is_other run.read run.is_query reply run.goes answers absent),
+            λ none. absurd (replies_apart run.other run.alike run.read run.same reply (sym said_is ∙ none)),
+            λ absent. absurd (reply_needs run.other run.alike run.read run.same reply run.goes answers absent),
           );
         }
         | inr (stopped, text_is) ↦ record {
-          runs = λ can. absurd (never_stops stopped.other stopped.is_other stopped.read stopped.is_query said stopped.stops can);
+          runs = λ can. absurd (never_stops stopped.other stopped.alike stopped.read stopped.same said stopped.stops can);
           refused = (
-            λ none. absurd (none (answers_stops stopped.other stopped.is_other stopped.read stopped.is_query said stopped.stops)),
+            λ none. absurd (none (answers_stops stopped.other stopped.alike stopped.read stopped.same said stopped.stops)),
             λ (clash, clashes, is, header). laws.unsatisfiable catalogue query clash clashes,
           );
-          no_rewriting = λ answers. stop_tells stopped.other stopped.is_other stopped.read stopped.is_query said stopped.stops;
+          no_rewriting = λ answers. stop_tells stopped.other stopped.alike stopped.read stopped.same said stopped.stops;
         }
       ]
 
@@ -464,11 +461,10 @@ run_words words catalogue_name query_name (Some number) files (word, is_number, 
     by_test true test = rw (test, number_is) refl
     by_test false test = let h : false ≡ true = sym test ∙ is_number in absurd (cc)
 
-module _ (sound : CataloguesAreSound) (one : HaveOneCatalogue) (apart : HaveNoError) (queries : QueriesOpenAlike) (no_fault : HaveNoFault)
-    (laws : ListingLaws) (opening : OpeningLaws) (run_laws : RunLaws) where
+module _ (opening : OpeningLaws) (laws : ListingLaws) (run_laws : RunLaws) where
   pub outcomes_are_runs : OutcomesAreRuns
   outcomes_are_runs words files catalogue_name query_name number catalogue query said text asks say outcome =
-      exact_run sound one apart queries no_fault files catalogue_name query_name catalogue query say number laws opening run_laws said text
+      exact_run opening files catalogue_name query_name catalogue query say number laws run_laws said text
       (subst (λ it. Says it ⊥ said text) (run_words words catalogue_name query_name number (Some files) asks) outcome)
 
 -- what is said of each outcome holds of what was put

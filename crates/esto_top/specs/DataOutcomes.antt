@@ -1,8 +1,9 @@
 -- What `fill`, `answer` and `audit` answer where nothing is wrong with the files.
 use Rattle.std.specs.Prelude.{◌≡◌, ℕ, List, [], ◌∷◌, Option, Some, None, codes}
 use Rattle.esto_catalog.specs.declared.catalogue.Catalogue.{Catalogue}
-use Rattle.esto_data.specs.Exact.{IsExactAnswer, IsExactAudit, IsExactFill}
+use Rattle.esto_data.specs.Exact.{IsExactAnswer, IsExactAudit, IsExactFill, IsExactUnionAnswer}
 use Rattle.esto_opening.specs.Opening.{FilesSayCatalogue}
+use Rattle.esto_opening.specs.Unions.{FilesSayUnion}
 use Rattle.esto_ports.specs.Files.{Files}
 use Rattle.esto_query.specs.declared.query.Query.{Query}
 use Rattle.esto_opening.specs.declared.status.Status.{Status}
@@ -19,6 +20,13 @@ OutcomesAreAnswers =
     (words : List (List ℕ)) (files : Files) (catalogue_name query_name : List ℕ) (catalogue : Catalogue) (query : Query) (said : Status) (text : List ℕ)
     → words ≡ codes "answer" ∷ catalogue_name ∷ query_name ∷ [] → FilesSay files catalogue_name query_name catalogue query → Outcome words files said text
     → IsExactAnswer files catalogue query said text
+
+-- So it is where they say a union of queries over it, of any length.
+abbrev pub OutcomesAreUnionAnswers : Type 0
+OutcomesAreUnionAnswers =
+    (words : List (List ℕ)) (files : Files) (catalogue_name query_name : List ℕ) (catalogue : Catalogue) (queries : List Query) (said : Status)
+    (text : List ℕ) → words ≡ codes "answer" ∷ catalogue_name ∷ query_name ∷ [] → FilesSayCatalogue files catalogue_name catalogue
+    → FilesSayUnion files query_name catalogue queries → Outcome words files said text → IsExactUnionAnswer files catalogue queries said text
 
 -- Each outcome of `fill C F` is, where they say a catalogue.
 abbrev pub OutcomesAreFills : Type 0
@@ -44,6 +52,13 @@ AnswersWhereTold words (Some files) rose sink_rose old new result =
     → words ≡ codes "answer" ∷ catalogue_name ∷ query_name ∷ [] → FilesSay files catalogue_name query_name catalogue query
     → HoldsOfPut (IsExactAnswer files catalogue query) old new result
 
+abbrev pub UnionAnswersWhereTold : List (List ℕ) → Option Files → Type 0 → Type 0 → Option (List ℕ) → Option (List ℕ) → Status → Type 0
+UnionAnswersWhereTold words None rose sink_rose old new result = Unit {0}
+UnionAnswersWhereTold words (Some files) rose sink_rose old new result =
+    ¬ rose → ¬ sink_rose → (catalogue_name query_name : List ℕ) (catalogue : Catalogue) (queries : List Query)
+    → words ≡ codes "answer" ∷ catalogue_name ∷ query_name ∷ [] → FilesSayCatalogue files catalogue_name catalogue
+    → FilesSayUnion files query_name catalogue queries → HoldsOfPut (IsExactUnionAnswer files catalogue queries) old new result
+
 abbrev pub FillsWhereTold : List (List ℕ) → Option Files → Type 0 → Type 0 → Option (List ℕ) → Option (List ℕ) → Status → Type 0
 FillsWhereTold words None rose sink_rose old new result = Unit {0}
 FillsWhereTold words (Some files) rose sink_rose old new result =
@@ -60,10 +75,11 @@ AuditsWhereTold words (Some files) rose sink_rose old new result =
 
 -- ---- agreement
 
--- Where, over the same files, `audit` and `run` are Done, each outcome of `answer` is Done with the text of `run`.
+-- Where the files say a catalogue and a query over it, and over them `audit` and `run` are Done, each outcome of `answer` is Done with the text of `run`.
 abbrev pub OutcomesAgree : Type 0
 OutcomesAgree =
-    (words : List (List ℕ)) (files : Files) (catalogue_name query_name : List ℕ) (number : Option ℕ) (audited ran answered : List ℕ) (said : Status)
+    (words : List (List ℕ)) (files : Files) (catalogue_name query_name : List ℕ) (number : Option ℕ) (catalogue : Catalogue) (query : Query)
+    (audited ran answered : List ℕ) (said : Status) → FilesSay files catalogue_name query_name catalogue query
     → Outcome (codes "audit" ∷ catalogue_name ∷ []) files status.Done audited
     → AsksRun words catalogue_name query_name number → Outcome words files status.Done ran
     → Outcome (codes "answer" ∷ catalogue_name ∷ query_name ∷ []) files said answered

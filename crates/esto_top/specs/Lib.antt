@@ -11,3 +11,4 @@ pub mod Determined
 pub mod DataOutcomes
 pub mod ReasoningOutcomes
 pub mod CertificateOutcomes
+pub mod Unions

@@ -1,12 +1,13 @@
 -- The command `list`.
-use Rattle.std.specs.Prelude.{ℕ, List, Option}
+use Rattle.std.specs.Prelude.{ℕ, List, [], ◌∷◌, Option}
 use Rattle.esto_catalog.specs.declared.catalogue.Catalogue.{Catalogue}
+use Rattle.esto_disjuncts.specs.List.{lists_union}
 use Rattle.esto_ports.specs.Files.{Files}
 use Rattle.esto_query.specs.declared.query.Query.{Query}
 use Rattle.esto_views.specs.declared.plan.Plan.{Plan}
 use Rattle.esto_course.specs.Course.{Course, judges, gives, and_then}
+use Rattle.esto_opening.specs.Opening.{opens_catalogue, opens_union}
 use Rattle.esto_planning.specs.Planning.{plans_query}
-use Rattle.esto_opening.specs.Opening.{opens_catalogue, opens_query}
 use Rattle.esto_opening.specs.declared.reply.Reply.{Reply}
 use Rattle.esto_opening.specs.declared.reply.Reply.TheVariants.{Done}
 use Rattle.esto_opening.specs.declared.status.Status.{Status}
@@ -20,10 +21,15 @@ prints_list catalogue query plan = judges (IsListing catalogue query plan) (λ _
 abbrev pub lists_query : Catalogue → Query → Course Status (List ℕ)
 lists_query catalogue query = and_then (plans_query catalogue query) (prints_list catalogue query)
 
--- The catalogue is fetched and read, then the query, and the text of the query's list is the reply.
+-- Of one query the text of its list is made, and of more queries that of their union.
+abbrev pub lists_queries : Catalogue → List Query → Course Status (List ℕ)
+lists_queries catalogue (query ∷ []) = lists_query catalogue query
+lists_queries catalogue queries = lists_union catalogue queries
+
+-- The catalogue is fetched and read, then the queries, and the text of their list is the reply.
 abbrev pub list_course : Option Files → List ℕ → List ℕ → Course Status Reply
 list_course files catalogue_name query_name =
     and_then (opens_catalogue files catalogue_name) (λ catalogue.
-    and_then (opens_query files query_name catalogue) (λ query.
-    and_then (lists_query catalogue query) (λ text.
+    and_then (opens_union files query_name catalogue) (λ queries.
+    and_then (lists_queries catalogue queries) (λ text.
     gives (Done text))))

@@ -1,10 +1,11 @@
 -- The command `run`.
-use Rattle.std.specs.Prelude.{◌≡◌, ℕ, Bool, List, [], slice_get, Option, Some}
+use Rattle.std.specs.Prelude.{◌≡◌, ℕ, Bool, List, [], ◌∷◌, slice_get, Option, Some}
 use Rattle.either.specs.declared.Either.{Either}
 use Rattle.either.specs.declared.Either.TheVariants.{Left, Right}
 use Rattle.esto_catalog.specs.declared.catalogue.Catalogue.{Catalogue}
 use Rattle.esto_chase_laws.specs.declared.clash.Clash.{Clash}
 use Rattle.esto_course.specs.Course.{Course, judges, gives, and_then}
+use Rattle.esto_disjuncts.specs.Run.{runs_union}
 use Rattle.esto_list.specs.declared.listing.Listed.{Listed}
 use Rattle.esto_ports.specs.Files.{Files}
 use Rattle.esto_query.specs.declared.query.Query.{Query}
@@ -16,8 +17,8 @@ use Rattle.esto_semantics.specs.Listed.{candidate}
 use Rattle.esto_views.specs.Plans.{plan_query}
 use Rattle.esto_views.specs.declared.plan.Plan.{Plan}
 use Rattle.esto_opening.specs.Fragments.{opens_fragments}
+use Rattle.esto_opening.specs.Opening.{opens_catalogue, opens_union}
 use Rattle.esto_planning.specs.Planning.{chooses, ends_query, lists_plan}
-use Rattle.esto_opening.specs.Opening.{opens_catalogue, opens_query}
 use Rattle.esto_opening.specs.declared.reply.Reply.{Reply}
 use Rattle.esto_opening.specs.declared.reply.Reply.TheVariants.{Done, Unsatisfiable}
 use Rattle.esto_opening.specs.declared.status.Status.{Status}
@@ -57,9 +58,14 @@ runs_end files catalogue query number (Right clash) = gives (Unsatisfiable clash
 abbrev pub runs_query : Option Files → Catalogue → Query → Option ℕ → Course Status Reply
 runs_query files catalogue query number = and_then (ends_query catalogue query) (runs_end files catalogue query number)
 
--- The catalogue is fetched and read, then the query, and the query is run.
+-- One query is run, and of more their union.
+abbrev pub runs_queries : Option Files → Catalogue → List Query → Option ℕ → Course Status Reply
+runs_queries files catalogue (query ∷ []) number = runs_query files catalogue query number
+runs_queries files catalogue queries number = runs_union files catalogue queries number
+
+-- The catalogue is fetched and read, then the queries, and they are run.
 abbrev pub run_course : Option Files → List ℕ → List ℕ → Option ℕ → Course Status Reply
 run_course files catalogue_name query_name number =
     and_then (opens_catalogue files catalogue_name) (λ catalogue.
-    and_then (opens_query files query_name catalogue) (λ query.
-    runs_query files catalogue query number))
+    and_then (opens_union files query_name catalogue) (λ queries.
+    runs_queries files catalogue queries number))

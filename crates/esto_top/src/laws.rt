@@ -1,23 +1,26 @@
 //! Laws of outcomes.
 ghost use Rattle.esto_top.specs.CertificateOutcomes.{OutcomesAreVerified};
-ghost use Rattle.esto_top.specs.DataOutcomes.{OutcomesAgree, OutcomesAreAnswers, OutcomesAreAudits, OutcomesAreFills};
+ghost use Rattle.esto_top.specs.DataOutcomes.{OutcomesAgree, OutcomesAreAnswers, OutcomesAreAudits, OutcomesAreFills, OutcomesAreUnionAnswers};
 ghost use Rattle.esto_top.specs.Determined.{OutcomesAreDetermined};
 ghost use Rattle.esto_top.specs.Headline.{OutcomesAreLists, OutcomesAreRefusals};
 ghost use Rattle.esto_top.specs.ReasoningOutcomes.{OutcomesAreContainments, OutcomesAreMinimised};
 ghost use Rattle.esto_top.specs.Runs.{OutcomesAreRuns};
+ghost use Rattle.esto_top.specs.Unions.{OutcomesAreUnionLists, OutcomesAreUnionRuns};
 
 use esto_backchase::listed_sets_cover_rewritings;
 use esto_bench::summaries_are_one;
-use esto_catalog::{catalogues_are_determined, catalogues_are_sound};
 use esto_certify::{verify_outcomes_are_exact, verify_outcomes_are_one};
 use esto_data::{audited_datasets_answer, data_outcomes_are_exact, data_outcomes_are_one};
+use esto_disjuncts::{
+    union_lists_are_exact, union_lists_are_moved, union_lists_are_one, union_runs_are_exact,
+    union_runs_are_moved, union_runs_are_one,
+};
 use esto_fill::agreeing_answers_are_one;
-use esto_opening::openings_are_one;
+use esto_opening::{opened_unions_are_queries, openings_are_one};
 use esto_planning::{
     chosen_items_are_listed, planned_plans_are_universal, planned_plans_have_their_form,
     plans_and_lists_are_moved, plans_and_lists_are_one,
 };
-use esto_read::readings_are_determined;
 use esto_reasoning::{reasoning_outcomes_are_exact, reasoning_outcomes_are_one};
 use esto_run::{rewritings_answer_queries, rising_rows_are_one, used_fragments_are_one};
 use esto_semantics::{chosen_atoms_are_named, listed_sets_are_minimal, picks_exist};
@@ -29,10 +32,8 @@ pub(crate) fn lists_are_exact()
     ensures lists { OutcomesAreLists }
     ensures refusals { OutcomesAreRefusals }
 {
-    catalogues_are_sound();
-    catalogues_are_determined();
-    readings_are_determined();
     openings_are_one();
+    opened_unions_are_queries();
     planned_plans_are_universal();
     planned_plans_have_their_form();
     chosen_items_are_listed();
@@ -49,10 +50,8 @@ pub(crate) fn lists_are_exact()
 pub(crate) fn runs_are_exact()
     ensures { OutcomesAreRuns }
 {
-    catalogues_are_sound();
-    catalogues_are_determined();
-    readings_are_determined();
     openings_are_one();
+    opened_unions_are_queries();
     planned_plans_are_universal();
     planned_plans_have_their_form();
     chosen_items_are_listed();
@@ -65,16 +64,43 @@ pub(crate) fn runs_are_exact()
     chosen_atoms_are_named();
 }
 
+/// A law: where the files say a catalogue and a union of two or more queries over it, each outcome of `list` prints the
+/// union's members, each a query's printed plan with exactly the sets listed in the union, or the clash of its run; or it
+/// refuses the union, exactly where none of its queries is satisfiable.
+pub(crate) fn union_lists_hold()
+    ensures { OutcomesAreUnionLists }
+{
+    openings_are_one();
+    opened_unions_are_queries();
+    union_lists_are_moved();
+    union_lists_are_exact();
+}
+
+/// A law: there each outcome of `run` is an exact reply to the union, whose text has exactly the rows of the sets that are
+/// chosen over the files, which are the union's over each database that they are the view rows of, or the clash of its
+/// first query's run; or an exact refusal of it.
+pub(crate) fn union_runs_hold()
+    ensures { OutcomesAreUnionRuns }
+{
+    openings_are_one();
+    opened_unions_are_queries();
+    union_runs_are_moved();
+    union_runs_are_exact();
+}
+
 /// A law: the same words over the same files have at most one outcome.
 pub fn outcomes_are_determined()
     ensures { OutcomesAreDetermined }
 {
     openings_are_one();
+    opened_unions_are_queries();
     chosen_items_are_listed();
     plans_and_lists_are_moved();
     plans_and_lists_are_one();
     used_fragments_are_one();
     rising_rows_are_one();
+    union_lists_are_one();
+    union_runs_are_one();
     summaries_are_one();
     data_outcomes_are_one();
     reasoning_outcomes_are_one();
@@ -82,10 +108,12 @@ pub fn outcomes_are_determined()
 }
 
 /// A law: where the files say what a command on data needs, each outcome of `fill` is the file of the fragment's view rows,
-/// of `answer` the query's answers over the datasets' files, and of `audit` that all agrees, or the first cause that there is.
+/// of `answer` the answers of the query, or of the union, over the datasets' files, and of `audit` that all agrees, or the
+/// first cause that there is.
 pub(crate) fn data_outcomes_hold()
     ensures fills { OutcomesAreFills }
     ensures answers { OutcomesAreAnswers }
+    ensures unions { OutcomesAreUnionAnswers }
     ensures audits { OutcomesAreAudits }
 {
     data_outcomes_are_exact();
@@ -110,10 +138,12 @@ pub(crate) fn verify_outcomes_hold()
     verify_outcomes_are_exact();
 }
 
-/// A law: where `audit` and `run` are Done over the same files, each outcome of `answer` is Done with the text of `run`.
+/// A law: where the files say one query, and `audit` and `run` are Done over them, each outcome of `answer` is Done with the text of `run`.
 pub fn answers_agree_with_runs()
     ensures { OutcomesAgree }
 {
+    openings_are_one();
+    opened_unions_are_queries();
     chosen_items_are_listed();
     audited_datasets_answer();
     agreeing_answers_are_one();

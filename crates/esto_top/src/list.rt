@@ -3,11 +3,13 @@ ghost use Rattle.std.specs.Prelude.{◌≡◌, ◌≤◌, IfOk};
 ghost use Rattle.esto_ports.specs.Faults.{Rises};
 ghost use Rattle.esto_opening.specs.Answers.{Answers};
 ghost use Rattle.esto_opening.specs.Asked.{AsksIn};
-ghost use Rattle.esto_top.specs.List.{prints_list, lists_query, list_course};
+ghost use Rattle.esto_opening.specs.Unions.{FormUnion};
+ghost use Rattle.esto_top.specs.List.{prints_list, lists_query, lists_queries, list_course};
 ghost use Rattle.esto_planning.specs.Listing.{IsListing, IsPlanned};
 
 use esto_catalog::Catalogue;
-use esto_opening::{Reply, Status, open_catalogue, open_query};
+use esto_disjuncts::list_union;
+use esto_opening::{Reply, Status, open_catalogue, open_union};
 use esto_planning::{listing_of, plan_of};
 use esto_ports::Shelf;
 use esto_query::Query;
@@ -54,7 +56,19 @@ fn listed(alloc: Global, query: &Query, catalogue: &Catalogue) -> Result<Bytes, 
     Ok(text)
 }
 
-/// Fetches and reads the catalogue, then the query, makes the query's printed plan, and prints the plan and the list.
+// What the command prints of one query, or of a union of more, or the status with which it refuses them.
+fn listed_queries(alloc: Global, queries: &[Query], catalogue: &Catalogue) -> Result<Bytes, Status>
+    requires { FormUnion queries.now }
+    ensures { Answers (lists_queries catalogue.now queries.now) ⊥ result }
+{
+    match queries {
+        [query] => listed(alloc, query, catalogue),
+        _ => list_union(alloc, queries, catalogue),
+    }
+}
+
+/// Fetches and reads the catalogue, then the queries. For one query it makes the query's printed plan, and prints the plan
+/// and the list; for more it prints the plans and lists of their union.
 #[tactic(auto, using(crate::proofs::Steps::steps, crate::proofs::Steps::asked_steps))]
 pub fn list<S: Shelf>(
     alloc: Global,
@@ -70,7 +84,7 @@ pub fn list<S: Shelf>(
     ensures later { S.faults shelf.old ≤ S.faults shelf.new }
 {
     let catalogue = open_catalogue(alloc, shelf, catalogue)?;
-    let query = open_query(alloc, shelf, query, &catalogue)?;
-    let text = listed(alloc, &query, &catalogue)?;
+    let queries = open_union(alloc, shelf, query, &catalogue)?;
+    let text = listed_queries(alloc, queries.items(), &catalogue)?;
     Ok(Reply::Done(text))
 }

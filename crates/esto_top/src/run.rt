@@ -3,7 +3,8 @@ ghost use Rattle.std.specs.Prelude.{◌≡◌, ◌≤◌};
 ghost use Rattle.esto_ports.specs.Faults.{Rises};
 ghost use Rattle.esto_opening.specs.Answers.{Answers};
 ghost use Rattle.esto_opening.specs.Asked.{AsksIn};
-ghost use Rattle.esto_top.specs.Run.{runs_item, runs_plan, runs_query, run_course};
+ghost use Rattle.esto_opening.specs.Unions.{FormUnion};
+ghost use Rattle.esto_top.specs.Run.{runs_item, runs_plan, runs_query, runs_queries, run_course};
 ghost use Rattle.esto_opening.specs.declared.reply.Reply.TheVariants as reply;
 ghost use Rattle.esto_run.specs.Answers.{rows_text};
 ghost use Rattle.std.specs.Prelude.{IfOk, []};
@@ -14,8 +15,9 @@ use either::{Left, Right};
 use esto_catalog::Catalogue;
 use esto_chase::Clash;
 use esto_core::printed_plan;
+use esto_disjuncts::run_union;
 use esto_list::Listed;
-use esto_opening::{Reply, Status, open_catalogue, open_fragments, open_query};
+use esto_opening::{Reply, Status, open_catalogue, open_fragments, open_union};
 use esto_planning::{choose, chosen_items_are_listed, listing_of, planned_plans_have_their_form};
 use esto_ports::Shelf;
 use esto_query::Query;
@@ -114,9 +116,33 @@ fn run_query<S: Shelf>(
     }
 }
 
-/// Fetches and reads the catalogue, then the query, makes the query's plan and its list, opens the files of the fragments
-/// that the chosen set uses, and gives the text of the rows. The set is the pick, or that of the number, counted from 1.
-/// For a query that no database gives an answer the text has the names of its head alone.
+// Runs one query, or the union of more.
+fn run_queries<S: Shelf>(
+    alloc: Global,
+    shelf: &mut S,
+    queries: &[Query],
+    catalogue: &Catalogue,
+    number: Option<u64>,
+) -> Result<Reply, Status>
+    requires { FormUnion queries.now }
+    ensures answer { Answers
+        (runs_queries (S.files shelf.old) catalogue.now queries.now number)
+        (Rises S.faults shelf.old shelf.new) result }
+    ensures asked { AsksIn (S.asked shelf.old) (S.asked shelf.new)
+        (runs_queries (S.files shelf.old) catalogue.now queries.now number) result }
+    ensures files { S.files shelf.new ≡ S.files shelf.old }
+    ensures later { S.faults shelf.old ≤ S.faults shelf.new }
+{
+    match queries {
+        [query] => run_query(alloc, shelf, query, catalogue, number),
+        _ => run_union(alloc, shelf, queries, catalogue, number),
+    }
+}
+
+/// Fetches and reads the catalogue, then the queries. For one query it makes the query's plan and its list, opens the files
+/// of the fragments that the chosen set uses, and gives the text of the rows; for more it runs their union. The set is the
+/// pick, or that of the number, counted from 1. For a query that no database gives an answer the text has the names of its
+/// head alone.
 #[tactic(auto, using(crate::proofs::Steps::run_steps, crate::proofs::Steps::asked_steps))]
 pub fn run<S: Shelf>(
     alloc: Global,
@@ -133,7 +159,7 @@ pub fn run<S: Shelf>(
     ensures later { S.faults shelf.old ≤ S.faults shelf.new }
 {
     let catalogue = open_catalogue(alloc, shelf, catalogue)?;
-    let query = open_query(alloc, shelf, query, &catalogue)?;
-    let reply = run_query(alloc, shelf, &query, &catalogue, number)?;
+    let queries = open_union(alloc, shelf, query, &catalogue)?;
+    let reply = run_queries(alloc, shelf, queries.items(), &catalogue, number)?;
     Ok(reply)
 }

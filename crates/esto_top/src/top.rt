@@ -5,19 +5,20 @@ ghost use Rattle.esto_opening.specs.Answers.{Answers};
 ghost use Rattle.esto_opening.specs.Asked.{AsksIn, AsksAsTold};
 ghost use Rattle.esto_top.specs.Benches.{BenchesAlways};
 ghost use Rattle.esto_top.specs.CertificateOutcomes.{VerifiesWhereTold};
-ghost use Rattle.esto_top.specs.DataOutcomes.{AnswersWhereTold, AuditsWhereTold, FillsWhereTold};
+ghost use Rattle.esto_top.specs.DataOutcomes.{AnswersWhereTold, AuditsWhereTold, FillsWhereTold, UnionAnswersWhereTold};
 ghost use Rattle.esto_top.specs.Determined.{ExactWhereTold};
 ghost use Rattle.esto_top.specs.Grammar.{course_of};
 ghost use Rattle.esto_top.specs.Headline.{ListsWhereTold, RefusesWhereTold};
 ghost use Rattle.esto_top.specs.ReasoningOutcomes.{ContainsWhereTold, MinimisesWhereTold};
 ghost use Rattle.esto_top.specs.Runs.{RunsWhereTold};
+ghost use Rattle.esto_top.specs.Unions.{UnionListsWhereTold, UnionRunsWhereTold};
 ghost use Rattle.esto_top.specs.Outcome.{Mediates, CompleteWhereTold, CausedReadFault, CausedWriteFault, PutsOnce};
 
 use crate::command::{command_of, obey};
 use crate::ending::finish;
 use crate::laws::{
     data_outcomes_hold, lists_are_exact, outcomes_are_determined, reasoning_outcomes_hold,
-    runs_are_exact, verify_outcomes_hold,
+    runs_are_exact, union_lists_hold, union_runs_hold, verify_outcomes_hold,
 };
 use esto_opening::{Reply, Status};
 use esto_ports::{Shelf, Sink};
@@ -77,6 +78,16 @@ pub fn mediate<S: Shelf, O: Sink>(
         (Rises S.faults shelf.old shelf.new) (Rises O.faults out.old out.new) (O.written out.old)
         (O.written out.new) result }
 
+    // Where the files say a catalogue and a union of two or more queries over it, `list` refuses the union, with the clash of
+    // its first query's run, exactly where no database that meets the rules gives one of its queries an answer. Else it
+    // prints its queries in order, each with its printed plan and exactly the sets that are listed in the union, or with the
+    // clash of its run: a query has a plan exactly where it is satisfiable, each executable rewriting of the union, of any
+    // size, has for each plan a query that maps onto a set of its atoms that has a listed set within it, and some list is
+    // empty exactly where there is no such rewriting.
+    ensures list_union { UnionListsWhereTold words.now (S.files shelf.old)
+        (Rises S.faults shelf.old shelf.new) (Rises O.faults out.old out.new) (O.written out.old)
+        (O.written out.new) result }
+
     // The headline of `run`, where the files say a catalogue and a query over it. Where a listed set is the pick, or has the
     // number that is asked for, and the files of the fragments that it uses are readable, the status is Done and the text
     // is that of exactly the answers of the set's candidate over the rows of the files, each once, in order. For each
@@ -84,6 +95,16 @@ pub fn mediate<S: Shelf, O: Sink>(
     // The status is Unsatisfiable, and the text the names of the query's head, exactly where no database that meets the
     // rules gives the query an answer; else it is NoRewriting exactly where the query has no executable rewriting.
     ensures run { RunsWhereTold words.now (S.files shelf.old)
+        (Rises S.faults shelf.old shelf.new) (Rises O.faults out.old out.new) (O.written out.old)
+        (O.written out.new) result }
+
+    // There, over a union of two or more queries, `run` is exact too. Where no database that meets the rules gives one of
+    // its queries an answer, the status is Unsatisfiable, with the clash of the first query's run, and the text the names of
+    // its head. Else the text, where the status is Done, is that of exactly the rows over the files of one listed set of each
+    // satisfiable query, the pick or that of the number, which for each database that meets the rules, and whose view rows
+    // are the rows of these files, are exactly the union's answers; and the status is NoRewriting exactly where no union of
+    // executable queries over the fragments is equivalent to the union.
+    ensures run_union { UnionRunsWhereTold words.now (S.files shelf.old)
         (Rises S.faults shelf.old shelf.new) (Rises O.faults out.old out.new) (O.written out.old)
         (O.written out.new) result }
 
@@ -96,6 +117,11 @@ pub fn mediate<S: Shelf, O: Sink>(
     // with exactly the rows of the fragment's view, and `audit` is Done exactly where the facts of all datasets meet the
     // rules and each fragment's file holds exactly the rows of its view; else each tells its first cause.
     ensures answer { AnswersWhereTold words.now (S.files shelf.old)
+        (Rises S.faults shelf.old shelf.new) (Rises O.faults out.old out.new) (O.written out.old)
+        (O.written out.new) result }
+    // And where they say a union of queries over it, of any length, the text of `answer` is that of exactly the answers of all
+    // its queries together, under the names of the first one's head.
+    ensures answer_union { UnionAnswersWhereTold words.now (S.files shelf.old)
         (Rises S.faults shelf.old shelf.new) (Rises O.faults out.old out.new) (O.written out.old)
         (O.written out.new) result }
     ensures fill { FillsWhereTold words.now (S.files shelf.old)
@@ -154,6 +180,8 @@ pub fn mediate<S: Shelf, O: Sink>(
 {
     lists_are_exact();
     runs_are_exact();
+    union_lists_hold();
+    union_runs_hold();
     outcomes_are_determined();
     data_outcomes_hold();
     reasoning_outcomes_hold();

@@ -3,8 +3,15 @@ use Rattle.esto_top.proofs.laws.lists_are_exact.Goals as goal
 
 pub returns-clause-lists : goal.returns-clause-lists
 returns-clause-lists c =
-    outcomes_are_lists c.catalogues_are_sound.ensures c.catalogues_are_determined.ensures.catalogue c.catalogues_are_determined.ensures.apart
-    c.openings_are_one.ensures.queries c.readings_are_determined.ensures.apart
+    outcomes_are_lists
+    (record {
+      catalogues = c.openings_are_one.ensures.catalogues;
+      unions = c.openings_are_one.ensures.unions;
+      alone = c.opened_unions_are_queries.ensures.one;
+      fragment = c.openings_are_one.ensures.fragment;
+      fragments = c.openings_are_one.ensures.fragments;
+      rows = c.openings_are_one.ensures.rows;
+    })
     (record {
       planning = record {
         item = c.chosen_items_are_listed.ensures.item;
@@ -31,8 +38,15 @@ returns-clause-lists c =
 
 pub returns-clause-refusals : goal.returns-clause-refusals
 returns-clause-refusals c =
-    outcomes_are_refusals c.catalogues_are_sound.ensures c.catalogues_are_determined.ensures.catalogue c.catalogues_are_determined.ensures.apart
-    c.openings_are_one.ensures.queries c.readings_are_determined.ensures.apart
+    outcomes_are_refusals
+    (record {
+      catalogues = c.openings_are_one.ensures.catalogues;
+      unions = c.openings_are_one.ensures.unions;
+      alone = c.opened_unions_are_queries.ensures.one;
+      fragment = c.openings_are_one.ensures.fragment;
+      fragments = c.openings_are_one.ensures.fragments;
+      rows = c.openings_are_one.ensures.rows;
+    })
     (record {
       planning = record {
         item = c.chosen_items_are_listed.ensures.item;

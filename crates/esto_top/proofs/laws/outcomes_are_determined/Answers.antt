@@ -7,7 +7,8 @@ returns c =
     (record {
       opening = record {
         catalogues = c.openings_are_one.ensures.catalogues;
-        queries = c.openings_are_one.ensures.queries;
+        unions = c.openings_are_one.ensures.unions;
+        alone = c.opened_unions_are_queries.ensures.one;
         fragment = c.openings_are_one.ensures.fragment;
         fragments = c.openings_are_one.ensures.fragments;
         rows = c.openings_are_one.ensures.rows;
@@ -27,7 +28,7 @@ returns c =
       used = c.used_fragments_are_one.ensures;
       rising = c.rising_rows_are_one.ensures;
     })
-    c.summaries_are_one.ensures
+    (record { lists = c.union_lists_are_one.ensures; runs = c.union_runs_are_one.ensures }) c.summaries_are_one.ensures
     (record {
       fills = c.data_outcomes_are_one.ensures.fills;
       answers = c.data_outcomes_are_one.ensures.answers;

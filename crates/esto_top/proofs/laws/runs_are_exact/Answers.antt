@@ -3,8 +3,15 @@ use Rattle.esto_top.proofs.laws.runs_are_exact.Goals as goal
 
 pub returns : goal.returns
 returns c =
-    outcomes_are_runs c.catalogues_are_sound.ensures c.catalogues_are_determined.ensures.catalogue c.catalogues_are_determined.ensures.apart
-    c.openings_are_one.ensures.queries c.readings_are_determined.ensures.apart
+    outcomes_are_runs
+    (record {
+      catalogues = c.openings_are_one.ensures.catalogues;
+      unions = c.openings_are_one.ensures.unions;
+      alone = c.opened_unions_are_queries.ensures.one;
+      fragment = c.openings_are_one.ensures.fragment;
+      fragments = c.openings_are_one.ensures.fragments;
+      rows = c.openings_are_one.ensures.rows;
+    })
     (record {
       planning = record {
         item = c.chosen_items_are_listed.ensures.item;
@@ -27,12 +34,5 @@ returns c =
       covers = c.listed_sets_cover_rewritings.ensures;
       none = c.listed_sets_are_minimal.ensures.no_rewriting;
       lightest = c.picks_exist.ensures.least_of_all;
-    })
-    (record {
-      catalogues = c.openings_are_one.ensures.catalogues;
-      queries = c.openings_are_one.ensures.queries;
-      fragment = c.openings_are_one.ensures.fragment;
-      fragments = c.openings_are_one.ensures.fragments;
-      rows = c.openings_are_one.ensures.rows;
     })
     (record { answers = c.rewritings_answer_queries.ensures; named = c.chosen_atoms_are_named.ensures })

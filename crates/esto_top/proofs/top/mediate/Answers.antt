@@ -1,12 +1,14 @@
 use Rattle.esto_top.proofs.AskedLemmas.{asks_as_told}
 use Rattle.esto_top.proofs.BenchLemmas.{benches_always}
 use Rattle.esto_top.proofs.CertificateLemmas.{verifies_where_told}
-use Rattle.esto_top.proofs.DataLemmas.{answers_where_told, audits_where_told, fills_where_told}
+use Rattle.esto_top.proofs.DataLemmas.{answers_where_told, audits_where_told, fills_where_told, union_answers_where_told}
 use Rattle.esto_top.proofs.DeterminedLemmas.{exact}
 use Rattle.esto_top.proofs.HeadlineLemmas.{holds_of_lists}
 use Rattle.esto_top.proofs.ReasoningLemmas.{contains_where_told, minimises_where_told}
 use Rattle.esto_top.proofs.RunsLemmas.{runs_where_told}
 use Rattle.esto_top.proofs.Mediation.{mediates, complete, read_fault, write_fault}
+use Rattle.esto_top.proofs.UnionLemmas.{union_lists_where_told}
+use Rattle.esto_top.proofs.UnionRunLemmas.{union_runs_where_told}
 use Rattle.esto_top.proofs.top.mediate.Goals as goal
 
 pub returns-clause-outcome : goal.returns-clause-outcome
@@ -31,6 +33,16 @@ returns-clause-refusal g c =
     holds_of_lists _ c.lists_are_exact.ensures.refusals c.args.words.now _ _ _ _ _ _
     (complete c.args.words.now _ _ _ _ _ _ (mediates _ _ _ _ _ _ _ c.answer-answer.ensures.answer c.finish.ensures.put))
 
+pub returns-clause-list_union : goal.returns-clause-list_union
+returns-clause-list_union g c =
+    union_lists_where_told c.union_lists_hold.ensures c.args.words.now _ _ _ _ _ _
+    (complete c.args.words.now _ _ _ _ _ _ (mediates _ _ _ _ _ _ _ c.answer-answer.ensures.answer c.finish.ensures.put))
+
+pub returns-clause-run_union : goal.returns-clause-run_union
+returns-clause-run_union g c =
+    union_runs_where_told c.union_runs_hold.ensures c.args.words.now _ _ _ _ _ _
+    (complete c.args.words.now _ _ _ _ _ _ (mediates _ _ _ _ _ _ _ c.answer-answer.ensures.answer c.finish.ensures.put))
+
 pub returns-clause-exact : goal.returns-clause-exact
 returns-clause-exact g c =
     exact c.outcomes_are_determined.ensures c.args.words.now _ _ _ _ _ _
@@ -47,6 +59,11 @@ returns-clause-bench g c = benches_always c.args.words.now _ _ _ _ _ _ (mediates
 pub returns-clause-answer : goal.returns-clause-answer
 returns-clause-answer g c =
     answers_where_told c.args.words.now _ _ _ _ _ c.data_outcomes_hold.ensures.answers _
+    (complete c.args.words.now _ _ _ _ _ _ (mediates _ _ _ _ _ _ _ c.answer-answer.ensures.answer c.finish.ensures.put))
+
+pub returns-clause-answer_union : goal.returns-clause-answer_union
+returns-clause-answer_union g c =
+    union_answers_where_told c.args.words.now _ _ _ _ _ c.data_outcomes_hold.ensures.unions _
     (complete c.args.words.now _ _ _ _ _ _ (mediates _ _ _ _ _ _ _ c.answer-answer.ensures.answer c.finish.ensures.put))
 
 pub returns-clause-fill : goal.returns-clause-fill

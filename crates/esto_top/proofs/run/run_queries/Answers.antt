@@ -1,0 +1,19 @@
+use Rattle.std.proofs.Common.{arith}
+use Rattle.std.proofs.lemmas.Bool.Decides.{nat_tests}
+use Rattle.esto_top.proofs.RunAskedLemmas.{more_answers, more_asks}
+use Rattle.esto_top.proofs.run.run_queries.Goals as goal
+use Rattle.esto_top.proofs.run.run_queries.Goals.{in_default-via-then-queries-lt1, in_default-via-else-queries-lt1+else-queries-lt2}
+
+pub returns-in_default-clause-answer : goal.returns-in_default-clause-answer
+returns-in_default-clause-answer g c =
+    more_answers (g.S.Shelf.files c.args.shelf.now) c.args.catalogue.now c.args.number c.run_union.result _ c.args.queries.now (λ one. elim c.in_default.branch [
+      | in_default-via-then-queries-lt1 w ↦ grind (arith, nat_tests, one)
+      | in_default-via-else-queries-lt1+else-queries-lt2 w ↦ grind (arith, nat_tests, one)
+    ]) c.run_union.ensures.answer
+
+pub returns-in_default-clause-asked : goal.returns-in_default-clause-asked
+returns-in_default-clause-asked g c =
+    more_asks (g.S.Shelf.files c.args.shelf.now) c.args.catalogue.now c.args.number c.run_union.result _ _ c.args.queries.now (λ one. elim c.in_default.branch [
+      | in_default-via-then-queries-lt1 w ↦ grind (arith, nat_tests, one)
+      | in_default-via-else-queries-lt1+else-queries-lt2 w ↦ grind (arith, nat_tests, one)
+    ]) c.run_union.ensures.asked
