@@ -1,5 +1,5 @@
 -- The numbers of atoms that a word names.
-use Rattle.std.proofs.Common.{◌≡◌, ◌==◌, ℕ, List, [], ◌∷◌, ◌++◌, Option, Some, None, Result, Ok, refl, sym, ap, ◌∙◌}
+use Rattle.std.proofs.Common.{◌≡◌, ◌==◌, ℕ, List, [], ◌∷◌, ◌++◌, Option, Some, None, Result, Ok, refl, sym, ap, subst, ◌∙◌}
 use Rattle.std.proofs.lemmas.List.{append_assoc}
 use Rattle.std.specs.List.{slice_split}
 use Rattle.esto_certify.specs.Verify.{verify_course}
@@ -59,8 +59,9 @@ module _ (bytes word : List ℕ) (parts : List (List ℕ)) (found : Option (List
   atoms_stop none = refused (record { cause = tt }) (sym (found_is bytes word parts found bytes_are parts_are is) ∙ none, refl)
 
 -- what is asked for once the word has named its numbers
-pub named_asks : (files : Option Files) (catalogue query atoms file numbers : List ℕ) → (names_atoms atoms).goes numbers → {old new : Option Names}
-    (result : Result Reply Status) → AsksIn old new (verify_course files catalogue query numbers file) result
+pub named_asks : (files : Option Files) (catalogue query atoms file numbers used : List ℕ) → (names_atoms atoms).goes numbers → used ≡ numbers
+    → {old new : Option Names} (result : Result Reply Status) → AsksIn old new (verify_course files catalogue query used file) result
     → AsksIn old new (verifies_named files catalogue query atoms file) result
-named_asks files catalogue query atoms file numbers named {old = old} result asked =
-    later_asks _ _ (quiet_asks (names_atoms atoms) old (Ok numbers) (quiet_judges _ _) named) asked
+named_asks files catalogue query atoms file numbers used named same {old = old} {new = new} result asked =
+    later_asks _ _ (quiet_asks (names_atoms atoms) old (Ok numbers) (quiet_judges _ _) named)
+    (subst (λ (it : List ℕ). AsksIn old new (verify_course files catalogue query it file) result) same asked)

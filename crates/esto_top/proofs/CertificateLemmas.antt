@@ -1,6 +1,5 @@
 -- What `verify` answers where nothing is wrong with the catalogue's and the query's files.
 use Rattle.std.proofs.Common.{◌≡◌, ℕ, List, length, Option, Some, None, sym, subst, ◌∙◌, inl, inr}
-use Rattle.esto_catalog.specs.declared.catalogue.Catalogue.{Catalogue}
 use Rattle.esto_cert.specs.Showing.{IsSafelyContained}
 use Rattle.esto_certify.specs.Laws.{AcceptedSetsAreContained, Says as SaysAlways, SaysVerdict, VerifyIsOne, VerifyRefusesNumbers, VerifySaysVerdicts}
 use Rattle.esto_certify.specs.Verify.{verify_course}
@@ -11,16 +10,12 @@ use Rattle.esto_opening.specs.Calm.{AgreeCalmly}
 use Rattle.esto_opening.specs.Opening.{opens_catalogue, opens_query}
 use Rattle.esto_opening.specs.declared.status.Status.{Status}
 use Rattle.esto_opening.specs.declared.status.Status.TheVariants as status
-use Rattle.esto_planning.specs.Listing.{IsPlanned}
 use Rattle.esto_ports.specs.Files.{Files}
 use Rattle.esto_query.specs.Making.{query_of}
-use Rattle.esto_query.specs.declared.query.Query.{Query}
 use Rattle.esto_views.specs.Fragments.{views_of}
 use Rattle.esto_views.specs.Plans.{plan_query}
-use Rattle.esto_views.specs.declared.plan.Plan.{Plan}
-use Rattle.esto_top.specs.CertificateOutcomes.{IsExactVerify, OutcomesAreVerified, VerifiesWhereTold}
+use Rattle.esto_top.specs.CertificateOutcomes.{OutcomesAreVerified, VerifiesWhereTold}
 use Rattle.esto_top.specs.Grammar.{atom_numbers, course_of, names_atoms, verifies_named}
-use Rattle.esto_top.specs.Headline.{FilesSay}
 use Rattle.esto_top.specs.Outcome.{CompleteWhereTold, Says}
 use Rattle.esto_top.proofs.DataLemmas.{says_fact}
 use Rattle.esto_top.proofs.SayLemmas.{catalogue_opens, query_opens}
@@ -58,12 +53,12 @@ module _ (files : Files) (catalogue_name query_name atoms numbers file : List �
   named_says Fact always = record {
     goes = λ reply goes.
         always.goes reply (subst (λ (it : List ℕ). (verify_course (Some files) catalogue_name query_name it file).goes reply)
-        (some_one _ _ (sym goes.1.0 ∙ named)) goes.1.1);
+        (some_one _ _ (sym goes.1 ∙ named)) goes.2);
     stops = λ said caused stops. elim stops [
       | inl early ↦ absurd (some_none numbers (sym early.0 ∙ named))
       | inr late ↦
           always.stops said caused (subst (λ (it : List ℕ). (verify_course (Some files) catalogue_name query_name it file).stops said)
-          (some_one _ _ (sym late.1.0 ∙ named)) late.1.1)
+          (some_one _ _ (sym late.1 ∙ named)) late.2)
     ];
   }
 
@@ -88,8 +83,8 @@ module _ (number_laws : VerifyRefusesNumbers) (verdicts : VerifySaysVerdicts) (c
       holds : (Fact : Status → List ℕ → Type 0) → SaysAlways (verify_course (Some files) catalogue_name query_name numbers file) Fact → Fact said text
       holds Fact always =
           says_fact (verifies_named (Some files) catalogue_name query_name asks.0 file) Fact said text
-          (named_says files catalogue_name query_name asks.0 numbers file asks.1.0 Fact always)
-          (subst (λ (it : List (List ℕ)). Says (course_of it (Some files)) ⊥ said text) asks.1.1 outcome)
+          (named_says files catalogue_name query_name asks.0 numbers file asks.1 Fact always)
+          (subst (λ (it : List (List ℕ)). Says (course_of it (Some files)) ⊥ said text) asks.2 outcome)
 
 -- ---- where the files are told
 

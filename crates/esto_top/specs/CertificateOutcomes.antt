@@ -25,7 +25,8 @@ use Rattle.esto_top.specs.Outcome.{Outcome}
 -- What is said for numbers of the plan's atoms and a certificate's file. The first number above how many atoms there are is refused, with how many they are.
 -- Where the numbers name a set, and the certificate is within its limit, its verdict for the set is said: Done and that it is accepted, or Rejected with the
 -- line. Done is said only where the set has a candidate, which is safe and contained in the query under the catalogue's rules.
-pub record IsExactVerify (files : Files) (catalogue : Catalogue) (query : Query) (plan : Plan) (numbers file : List ℕ) (said : Status) (text : List ℕ) : Type 0 where
+pub record IsExactVerify (files : Files) (catalogue : Catalogue) (query : Query) (plan : Plan) (numbers file : List ℕ) (said : Status)
+    (text : List ℕ) : Type 0 where
   pub number : (number : ℕ) → first_above (length plan.atoms) numbers ≡ Some number → said ≡ status.NoSuchNumber number (length plan.atoms)
   pub verdict : (set : List Bool) (bytes : List ℕ) (verdict : Option ℕ) → IsSetOf (length plan.atoms) numbers set
       → HasWithin files file CERTIFICATE_LIMIT bytes → HasVerdict catalogue query plan set bytes verdict → SaysVerdict verdict said text

@@ -1,4 +1,4 @@
-use Rattle.std.proofs.Common.{List, map, ap, ◌∙◌}
+use Rattle.std.proofs.Common.{map, ap, ◌∙◌}
 use Rattle.esto_top.proofs.AtomLemmas.{atoms_go, atoms_stop}
 use Rattle.esto_top.proofs.command.named_atoms.Goals as goal
 
