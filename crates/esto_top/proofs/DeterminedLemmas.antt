@@ -11,11 +11,12 @@ use Rattle.esto_views.specs.declared.plan.Plan.{Plan}
 use Rattle.esto_top.specs.Check.{check_text, check_course, count_lines, rank_lines}
 use Rattle.esto_course.proofs.Determined.{then_agree, gives_agree, refuses_agree, judges_agree}
 use Rattle.esto_data.specs.Laws.{AnswersAreOne, AuditsAreOne, FillsAreOne}
+use Rattle.esto_certify.specs.Laws.{VerifyIsOne}
 use Rattle.esto_bench.specs.Summary.{SummariesAreOne}
 use Rattle.esto_reasoning.specs.Laws.{ContainsIsOne, MinimiseIsOne}
 use Rattle.esto_top.specs.Determined.{OutcomesAreDetermined, ExactWhereTold}
 use Rattle.esto_top.specs.Grammar.{Request, request_of, course_of_request, course_of_asked}
-use Rattle.esto_top.specs.Grammar.Request.{CheckOf, ListFor, RunFor, FillFor, AnswerFor, AuditOf, ContainsFor, MinimiseFor, BenchOf}
+use Rattle.esto_top.specs.Grammar.Request.{CheckOf, ListFor, RunFor, FillFor, AnswerFor, AuditOf, ContainsFor, MinimiseFor, VerifyFor, BenchOf}
 use Rattle.esto_top.specs.List.{list_course, lists_queries, lists_query, prints_list}
 use Rattle.esto_top.specs.Run.{run_course, runs_queries}
 use Rattle.esto_top.specs.Outcome.{CompleteWhereTold}
@@ -25,6 +26,7 @@ use Rattle.esto_opening.specs.declared.status.Status.{Status}
 use Rattle.esto_opening.specs.declared.status.Status.TheVariants as status
 use Rattle.esto_opening.specs.Calm.{AgreeCalmly}
 use Rattle.esto_top.proofs.AgreeLemmas.{says-agree}
+use Rattle.esto_top.proofs.CertificateLemmas.{verify_agrees}
 use Rattle.esto_top.proofs.BenchLemmas.{benches-agree}
 use Rattle.esto_top.proofs.RunAgreeLemmas.{CourseLaws, query_agree}
 use Rattle.esto_opening.specs.Alike.{AreSameQueries, IsSameQuery}
@@ -47,13 +49,14 @@ pub record UnionLaws : Type 0 where
   pub lists : UnionListsAreOne
   pub runs : UnionRunsAreOne
 
--- the laws by which the commands on data and on queries have one outcome
+-- the laws by which the commands on data, on queries and on certificates have one outcome
 pub record OneLaws : Type 0 where
   pub fills : FillsAreOne
   pub answers : AnswersAreOne
   pub audits : AuditsAreOne
   pub contains : ContainsIsOne
   pub minimise : MinimiseIsOne
+  pub verify : VerifyIsOne
 
 module _ (laws : CourseLaws) (unions : UnionLaws) (summaries : SummariesAreOne) (on_each : OneLaws) (files : Files) where
   opened_agree : (name : List ℕ) → AgreeCalmly AreSame (opens_catalogue (Some files) name) (opens_catalogue (Some files) name)
@@ -128,6 +131,7 @@ module _ (laws : CourseLaws) (unions : UnionLaws) (summaries : SummariesAreOne) 
   request_agrees (AuditOf name) = on_each.audits files name
   request_agrees (ContainsFor catalogue_name left_name right_name) = on_each.contains files catalogue_name left_name right_name
   request_agrees (MinimiseFor catalogue_name query_name) = on_each.minimise files catalogue_name query_name
+  request_agrees (VerifyFor catalogue_name query_name atoms file) = verify_agrees on_each.verify files catalogue_name query_name atoms file
 
   pub asked_agrees : (asked : Option Request) → AgreeCalmly ◌≡◌ (course_of_asked (Some files) asked) (course_of_asked (Some files) asked)
   asked_agrees None = refuses_agree _ _ status.Usage

@@ -22,4 +22,6 @@ pub mod AgreeLemmas
 pub mod BenchLemmas
 pub mod DeterminedLemmas
 pub mod ReasoningLemmas
+pub mod CertificateLemmas
+pub mod AtomLemmas
 pub mod AgreedLemmas

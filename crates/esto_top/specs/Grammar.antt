@@ -1,9 +1,10 @@
 -- The command line: its grammar, and the course of each command.
-use Rattle.std.specs.Prelude.{ℕ, ◌+◌, ◌-◌, ◌*◌, ◌==◌, ◌<◌, ◌≤◌, nat_le, nat_lt, List, [], ◌∷◌, length, Bool, false, ◌&&◌, Option, Some, None, if◌then◌else◌, codes, nat_eq}
+use Rattle.std.specs.Prelude.{◌≡◌, ℕ, ◌+◌, ◌-◌, ◌*◌, ◌==◌, ◌<◌, ◌≤◌, nat_le, nat_lt, List, [], ◌∷◌, length, Bool, false, ◌&&◌, Option, Some, None, if◌then◌else◌, codes, nat_eq}
 use Rattle.std.specs.Cmp.Lexicographic.{pointwise}
-use Rattle.std.specs.List.{list_all}
+use Rattle.std.specs.List.{list_all, slice_split}
 use Rattle.esto_ports.specs.Files.{Files}
 use Rattle.esto_bench.specs.declared.case.TheConstants.{MAX_SIZE}
+use Rattle.esto_certify.specs.Verify.{verify_course}
 use Rattle.esto_data.specs.Answer.{answer_course}
 use Rattle.esto_data.specs.Audit.{audit_course}
 use Rattle.esto_data.specs.Fill.{fill_course}
@@ -11,7 +12,7 @@ use Rattle.esto_reasoning.specs.Contains.{contains_course}
 use Rattle.esto_reasoning.specs.Minimise.{minimise_course}
 use Rattle.esto_top.specs.Bench.{bench_course}
 use Rattle.esto_top.specs.Check.{check_course}
-use Rattle.esto_course.specs.Course.{Course, refuses}
+use Rattle.esto_course.specs.Course.{Course, and_then, judges, refuses}
 use Rattle.esto_top.specs.List.{list_course}
 use Rattle.esto_top.specs.Run.{run_course}
 use Rattle.esto_top.specs.declared.command.Command.{Command}
@@ -24,7 +25,8 @@ use Rattle.esto_opening.specs.declared.status.Status.{Status}
 -- What words of the grammar ask for: the check of a catalogue's file; the list for a catalogue's and a query's file; the run for them of the pick, or of the
 -- set of a number of the list; the fill of the fragment of a name, for a catalogue's file; the answers for a catalogue's and a query's file; the audit of a
 -- catalogue's file; whether one query is contained in another, for a catalogue's and two queries' files; the minimal equivalent parts for a catalogue's and a
--- query's file; or the summary of the made case of a size.
+-- query's file; whether the certificate of a file is accepted for the plan's atoms that a word names, for a catalogue's and a query's file; or the summary of
+-- the made case of a size.
 pub data Request : Type 0 where
   CheckOf : List ℕ → Request
   ListFor : List ℕ → List ℕ → Request
@@ -35,6 +37,7 @@ pub data Request : Type 0 where
   AuditOf : List ℕ → Request
   ContainsFor : List ℕ → List ℕ → List ℕ → Request
   MinimiseFor : List ℕ → List ℕ → Request
+  VerifyFor : List ℕ → List ℕ → List ℕ → List ℕ → Request
 
 -- The word has these bytes.
 abbrev pub is_word : List ℕ → List ℕ → Bool
@@ -61,6 +64,36 @@ value_after value (digit ∷ rest) = value_after (value * 10 + (digit - 48)) res
 -- The number that digits write in decimal.
 abbrev pub value_of : List ℕ → ℕ
 value_of digits = value_after 0 digits
+
+-- The number of a word that is a number of the list, above the one before it.
+abbrev pub number_above : ℕ → List ℕ → Option ℕ
+number_above before word = if is_list_number word && nat_lt before (value_of word) then Some (value_of word) else None
+
+-- The number before those that follow it, where all are there.
+abbrev pub before_all : ℕ → Option (List ℕ) → Option (List ℕ)
+before_all number None = None
+before_all number (Some numbers) = Some (number ∷ numbers)
+
+abbrev pub with_rest : Option ℕ → (ℕ → Option (List ℕ)) → Option (List ℕ)
+with_rest None rest = None
+with_rest (Some number) rest = before_all number (rest number)
+
+-- The numbers of words, each above the one before it.
+abbrev pub numbers_above : ℕ → List (List ℕ) → Option (List ℕ)
+numbers_above before [] = Some []
+numbers_above before (word ∷ words) = with_rest (number_above before word) (λ number. numbers_above number words)
+
+-- The rising numbers that the word names, joined by commas: each is one to nine digits, of which the first is not 0.
+abbrev pub atom_numbers : List ℕ → Option (List ℕ)
+atom_numbers word = numbers_above 0 (slice_split (λ byte. byte == 44) word)
+
+-- The word names numbers of atoms, or is outside the grammar.
+abbrev pub names_atoms : List ℕ → Course Status (List ℕ)
+names_atoms word = judges (λ numbers. atom_numbers word ≡ Some numbers) (λ refusal. (atom_numbers word ≡ None) × (refusal ≡ Usage))
+
+-- The certificate of a file is verified for the atoms that a word names.
+abbrev pub verifies_named : Option Files → List ℕ → List ℕ → List ℕ → List ℕ → Course Status Reply
+verifies_named files catalogue query atoms file = and_then (names_atoms atoms) (λ numbers. verify_course files catalogue query numbers file)
 
 -- The word is a size of the made case: 1 to 14 in decimal, so a digit other than 0, or 1 and a digit up to 4.
 abbrev pub is_made_size : List ℕ → Bool
@@ -93,11 +126,17 @@ request_of_three verb first second third =
     else if is_word verb (codes "run") && is_list_number third then Some (Request.RunFor first second (Some (value_of third)))
     else None
 
+-- The command of four words: verify C Q A FILE.
+abbrev pub request_of_four : List ℕ → List ℕ → List ℕ → List ℕ → List ℕ → Option Request
+request_of_four verb first second third fourth =
+    if is_word verb (codes "verify") then Some (Request.VerifyFor first second third fourth) else None
+
 -- What the words ask for; nothing where they are outside the grammar.
 abbrev pub request_of : List (List ℕ) → Option Request
 request_of (verb ∷ word ∷ []) = request_of_one verb word
 request_of (verb ∷ first ∷ second ∷ []) = request_of_two verb first second
 request_of (verb ∷ first ∷ second ∷ third ∷ []) = request_of_three verb first second third
+request_of (verb ∷ first ∷ second ∷ third ∷ fourth ∷ []) = request_of_four verb first second third fourth
 request_of _ = None
 
 -- A command of the program as what its words ask for.
@@ -111,6 +150,7 @@ asked (command.Answer catalogue query) = Request.AnswerFor catalogue.now query.n
 asked (command.Audit catalogue) = Request.AuditOf catalogue.now
 asked (command.Contains catalogue left right) = Request.ContainsFor catalogue.now left.now right.now
 asked (command.Minimise catalogue query) = Request.MinimiseFor catalogue.now query.now
+asked (command.Verify catalogue query atoms file) = Request.VerifyFor catalogue.now query.now atoms.now file.now
 
 -- The size of `bench` is one of the made case.
 abbrev pub IsSized : Command → Type 0
@@ -123,6 +163,7 @@ IsSized (command.Answer catalogue query) = Unit {0}
 IsSized (command.Audit catalogue) = Unit {0}
 IsSized (command.Contains catalogue left right) = Unit {0}
 IsSized (command.Minimise catalogue query) = Unit {0}
+IsSized (command.Verify catalogue query atoms file) = Unit {0}
 
 -- The course of what is asked for.
 abbrev pub course_of_request : Option Files → Request → Course Status Reply
@@ -135,6 +176,7 @@ course_of_request files (Request.AnswerFor catalogue query) = answer_course file
 course_of_request files (Request.AuditOf catalogue) = audit_course files catalogue
 course_of_request files (Request.ContainsFor catalogue left right) = contains_course files catalogue left right
 course_of_request files (Request.MinimiseFor catalogue query) = minimise_course files catalogue query
+course_of_request files (Request.VerifyFor catalogue query atoms file) = verifies_named files catalogue query atoms file
 
 -- The course of the words that ask for something, and the refusal of words outside the grammar.
 abbrev pub course_of_asked : Option Files → Option Request → Course Status Reply

@@ -10,4 +10,5 @@ pub mod Benches
 pub mod Determined
 pub mod DataOutcomes
 pub mod ReasoningOutcomes
+pub mod CertificateOutcomes
 pub mod Unions

@@ -1,22 +1,23 @@
 //! The words of the command line.
-ghost use Rattle.std.specs.Prelude.{◌≡◌, ◌≤◌, ◌<◌, ◌+◌, length, true, None, Some, IfSome, MatchOption};
-ghost use Rattle.std.specs.List.{list_all};
+ghost use Rattle.std.specs.Prelude.{◌≡◌, ◌==◌, ◌≤◌, ◌<◌, ◌+◌, length, map, true, None, Some, IfOk, IfSome, MatchOption};
+ghost use Rattle.std.specs.List.{list_all, slice_split};
 ghost use Rattle.esto_ports.specs.Faults.{Rises};
 ghost use Rattle.esto_opening.specs.Answers.{Answers};
 ghost use Rattle.esto_opening.specs.Asked.{AsksIn};
-ghost use Rattle.esto_top.specs.Grammar.{is_word, is_digit, is_leading_digit, is_list_number, is_made_size, value_of, request_of_one, request_of_two, request_of_three, request_of, asked, IsSized, course_of_request};
+ghost use Rattle.esto_top.specs.Grammar.{is_word, is_digit, is_leading_digit, is_list_number, is_made_size, value_of, request_of_one, request_of_two, request_of_three, request_of_four, request_of, asked, IsSized, course_of_request, number_above, numbers_above, names_atoms, verifies_named};
 
 use crate::bench::bench;
 use crate::check::check;
 use crate::list::list;
 use crate::run::run;
 use esto_bench::MAX_SIZE;
+use esto_certify::verify;
 use esto_data::{answer, audit, fill};
 use esto_opening::{Reply, Status};
 use esto_ports::Shelf;
 use esto_reasoning::{contains, minimise};
-use esto_term::Text;
-use std::alloc::Global;
+use esto_term::{OutOfMemory, Text, Values};
+use std::alloc::{AllocError, Global};
 
 /// The greatest number of digits of the number of a list.
 const MAX_DIGITS: usize = 9;
@@ -44,6 +45,9 @@ pub enum Command<'a> {
     Contains(&'a Text, &'a Text, &'a Text),
     /// `minimise C Q`: the minimal equivalent parts of a query's chase, for a catalogue's file and a query's file.
     Minimise(&'a Text, &'a Text),
+    /// `verify C Q A FILE`: whether a certificate's file is accepted for the atoms of the plan that a word names, for a
+    /// catalogue's file and a query's file.
+    Verify(&'a Text, &'a Text, &'a Text, &'a Text),
 }
 
 fn is_word(word: &Text, name: &[u8]) -> bool
@@ -91,6 +95,76 @@ fn value_of(digits: &[u8]) -> u64
         value = value * 10 + (*digit - b'0') as u64;
     }
     value
+}
+
+// The number that the word writes, where it is a number of the list and above the one before it.
+fn number_above(before: u64, word: &[u8]) -> Option<u64>
+    ensures { result ≡ number_above before word.now }
+{
+    if !is_list_number(word) {
+        return None;
+    }
+    let number = value_of(word);
+    if number > before { Some(number) } else { None }
+}
+
+// The numbers that the words write, where each is above the one before it.
+fn numbers_of(alloc: Global, words: &[&[u8]]) -> Result<Option<Values<u64>>, OutOfMemory>
+    ensures { IfOk result (λ it. it ≡ numbers_above 0 (map (λ word. word.now) words.now)) }
+{
+    let mut numbers = Values::new(alloc);
+    let mut before: u64 = 0;
+    'words: for word in words {
+        let Some(number) = number_above(before, word) else {
+            return Ok(None);
+        };
+        numbers.push(number)?;
+        before = number;
+    }
+    Ok(Some(numbers))
+}
+
+// The parts between commas.
+fn parts_by_comma<'a>(alloc: Global, word: &'a [u8]) -> Result<Vec<&'a [u8]>, AllocError>
+    ensures { IfOk result (λ parts.
+        map (λ part. part.now) parts.items ≡ slice_split (λ byte. byte == 44) word.now) }
+{
+    word.split(|byte| *byte == b',').collect(alloc)
+}
+
+// The numbers of atoms that the word names.
+fn named_atoms(alloc: Global, word: &Text) -> Result<Values<u64>, Status>
+    ensures { Answers (names_atoms word.now) ⊥ result }
+{
+    let Ok(parts) = parts_by_comma(alloc, word.bytes()) else {
+        return Err(Status::OutOfMemory);
+    };
+    match numbers_of(alloc, parts.as_slice())? {
+        Some(numbers) => Ok(numbers),
+        None => Err(Status::Usage),
+    }
+}
+
+// Verifies the certificate of a file for the atoms that a word names.
+#[tactic(auto, using(crate::proofs::Steps::run_steps, crate::proofs::Steps::asked_steps))]
+fn verify_named<S: Shelf>(
+    alloc: Global,
+    shelf: &mut S,
+    catalogue: &Text,
+    query: &Text,
+    atoms: &Text,
+    file: &Text,
+) -> Result<Reply, Status>
+    ensures answer { Answers (verifies_named (S.files shelf.old) catalogue.now query.now atoms.now
+        file.now) (Rises S.faults shelf.old shelf.new) result }
+    ensures asked { AsksIn (S.asked shelf.old) (S.asked shelf.new) (verifies_named
+        (S.files shelf.old) catalogue.now query.now atoms.now file.now) result }
+    ensures files { S.files shelf.new ≡ S.files shelf.old }
+    ensures later { S.faults shelf.old ≤ S.faults shelf.new }
+{
+    let numbers = named_atoms(alloc, atoms)?;
+    let reply = verify(alloc, shelf, catalogue, query, numbers.items(), file)?;
+    Ok(reply)
 }
 
 // Whether the word is 1 to 14 in decimal.
@@ -174,6 +248,27 @@ fn command_of_three<'a>(
     }
 }
 
+// The command of four words after the verb.
+fn command_of_four<'a>(
+    verb: &Text,
+    first: &'a Text,
+    second: &'a Text,
+    third: &'a Text,
+    fourth: &'a Text,
+) -> Option<Command<'a>>
+    ensures command { MatchOption result
+        (request_of_four verb.now first.now second.now third.now fourth.now ≡ None)
+        (λ command. request_of_four verb.now first.now second.now third.now fourth.now
+        ≡ Some (asked command)) }
+    ensures sized { IfSome result IsSized }
+{
+    if is_word(verb, b"verify") {
+        Some(Command::Verify(first, second, third, fourth))
+    } else {
+        None
+    }
+}
+
 /// The command that the words ask for, or nothing where they are outside the grammar.
 pub fn command_of<'a>(words: &'a [Text]) -> Option<Command<'a>>
     ensures command { MatchOption result (request_of words.now ≡ None)
@@ -184,6 +279,9 @@ pub fn command_of<'a>(words: &'a [Text]) -> Option<Command<'a>>
         [verb, word] => command_of_one(verb, word),
         [verb, first, second] => command_of_two(verb, first, second),
         [verb, first, second, third] => command_of_three(verb, first, second, third),
+        [verb, first, second, third, fourth] => {
+            command_of_four(verb, first, second, third, fourth)
+        }
         _ => None,
     }
 }
@@ -208,5 +306,8 @@ pub fn obey<S: Shelf>(alloc: Global, shelf: &mut S, command: Command<'_>) -> Res
         Command::Audit(catalogue) => audit(alloc, shelf, catalogue),
         Command::Contains(catalogue, left, right) => contains(alloc, shelf, catalogue, left, right),
         Command::Minimise(catalogue, query) => minimise(alloc, shelf, catalogue, query),
+        Command::Verify(catalogue, query, atoms, file) => {
+            verify_named(alloc, shelf, catalogue, query, atoms, file)
+        }
     }
 }

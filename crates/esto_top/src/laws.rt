@@ -1,4 +1,5 @@
 //! Laws of outcomes.
+ghost use Rattle.esto_top.specs.CertificateOutcomes.{OutcomesAreVerified};
 ghost use Rattle.esto_top.specs.DataOutcomes.{OutcomesAgree, OutcomesAreAnswers, OutcomesAreAudits, OutcomesAreFills, OutcomesAreUnionAnswers};
 ghost use Rattle.esto_top.specs.Determined.{OutcomesAreDetermined};
 ghost use Rattle.esto_top.specs.Headline.{OutcomesAreLists, OutcomesAreRefusals};
@@ -8,6 +9,7 @@ ghost use Rattle.esto_top.specs.Unions.{OutcomesAreUnionLists, OutcomesAreUnionR
 
 use esto_backchase::listed_sets_cover_rewritings;
 use esto_bench::summaries_are_one;
+use esto_certify::{verify_outcomes_are_exact, verify_outcomes_are_one};
 use esto_data::{audited_datasets_answer, data_outcomes_are_exact, data_outcomes_are_one};
 use esto_disjuncts::{
     union_lists_are_exact, union_lists_are_moved, union_lists_are_one, union_runs_are_exact,
@@ -102,6 +104,7 @@ pub fn outcomes_are_determined()
     summaries_are_one();
     data_outcomes_are_one();
     reasoning_outcomes_are_one();
+    verify_outcomes_are_one();
 }
 
 /// A law: where the files say what a command on data needs, each outcome of `fill` is the file of the fragment's view rows,
@@ -124,6 +127,15 @@ pub(crate) fn reasoning_outcomes_hold()
     ensures minimise { OutcomesAreMinimised }
 {
     reasoning_outcomes_are_exact();
+}
+
+/// A law: where the files say a catalogue and a query over it that has a printed plan, each outcome of `verify` refuses the
+/// first number above how many atoms the plan has; or it tells the verdict on the certificate for the set that the numbers
+/// name, which is accepted only where the set is safe and its candidate is contained in the query.
+pub(crate) fn verify_outcomes_hold()
+    ensures { OutcomesAreVerified }
+{
+    verify_outcomes_are_exact();
 }
 
 /// A law: where the files say one query, and `audit` and `run` are Done over them, each outcome of `answer` is Done with the text of `run`.

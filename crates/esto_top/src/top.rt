@@ -4,6 +4,7 @@ ghost use Rattle.esto_ports.specs.Faults.{Rises};
 ghost use Rattle.esto_opening.specs.Answers.{Answers};
 ghost use Rattle.esto_opening.specs.Asked.{AsksIn, AsksAsTold};
 ghost use Rattle.esto_top.specs.Benches.{BenchesAlways};
+ghost use Rattle.esto_top.specs.CertificateOutcomes.{VerifiesWhereTold};
 ghost use Rattle.esto_top.specs.DataOutcomes.{AnswersWhereTold, AuditsWhereTold, FillsWhereTold, UnionAnswersWhereTold};
 ghost use Rattle.esto_top.specs.Determined.{ExactWhereTold};
 ghost use Rattle.esto_top.specs.Grammar.{course_of};
@@ -17,7 +18,7 @@ use crate::command::{command_of, obey};
 use crate::ending::finish;
 use crate::laws::{
     data_outcomes_hold, lists_are_exact, outcomes_are_determined, reasoning_outcomes_hold,
-    runs_are_exact, union_lists_hold, union_runs_hold,
+    runs_are_exact, union_lists_hold, union_runs_hold, verify_outcomes_hold,
 };
 use esto_opening::{Reply, Status};
 use esto_ports::{Shelf, Sink};
@@ -146,6 +147,15 @@ pub fn mediate<S: Shelf, O: Sink>(
         (Rises S.faults shelf.old shelf.new) (Rises O.faults out.old out.new) (O.written out.old)
         (O.written out.new) result }
 
+    // Where they say a catalogue and a query over it that has a printed plan, the status of `verify` is NoSuchNumber, with
+    // the first number above how many atoms the plan has and how many they are, where there is one. Else, where the
+    // certificate is within its limit, it is Done with the text `accepted` where the checker accepts the certificate for the
+    // set that the numbers name, and Rejected with the line where it rejects it there. Done is said only where the set is
+    // safe and its candidate is contained in the query over every database that meets the catalogue's rules.
+    ensures verify { VerifiesWhereTold words.now (S.files shelf.old)
+        (Rises S.faults shelf.old shelf.new) (Rises O.faults out.old out.new) (O.written out.old)
+        (O.written out.new) result }
+
     // A fault has its cause.
     ensures read_fault { CausedReadFault (course_of words.now (S.files shelf.old))
         (Rises S.faults shelf.old shelf.new) (O.written out.old) (O.written out.new) result }
@@ -175,6 +185,7 @@ pub fn mediate<S: Shelf, O: Sink>(
     outcomes_are_determined();
     data_outcomes_hold();
     reasoning_outcomes_hold();
+    verify_outcomes_hold();
     let answer = answer(alloc, words, shelf);
     finish(alloc, answer, out)
 }

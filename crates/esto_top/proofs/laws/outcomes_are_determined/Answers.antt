@@ -35,4 +35,5 @@ returns c =
       audits = c.data_outcomes_are_one.ensures.audits;
       contains = c.reasoning_outcomes_are_one.ensures.contains;
       minimise = c.reasoning_outcomes_are_one.ensures.minimise;
+      verify = c.verify_outcomes_are_one.ensures;
     })
