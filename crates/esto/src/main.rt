@@ -2,7 +2,7 @@
 #![tactic(auto)]
 
 use esto_opening::Status;
-use esto_ports::{FolderShelf, OutSink};
+use esto_ports::{FolderShelf, OutSink, Shelf, Sink};
 use esto_term::{List, Text, TextError};
 use esto_top::mediate;
 use std::alloc::Global;
@@ -26,15 +26,20 @@ fn words_of(rt: &HostRuntime, alloc: Global) -> Result<List<Text>, Status> {
     Ok(words)
 }
 
+// The code of the status that the words end with, over a shelf and a sink.
+fn code_of<S: Shelf, O: Sink>(alloc: Global, words: &[Text], shelf: &mut S, out: &mut O) -> u8 {
+    mediate(alloc, words, shelf, out).code()
+}
+
 fn main(rt: HostRuntime) -> ExitCode {
     let alloc = rt.alloc();
-    let status = match words_of(&rt, alloc) {
+    let code = match words_of(&rt, alloc) {
         Ok(words) => {
             let mut shelf = FolderShelf::new(&rt);
             let mut out = OutSink::new(&rt);
-            mediate(alloc, words.items(), &mut shelf, &mut out)
+            code_of(alloc, words.items(), &mut shelf, &mut out)
         }
-        Err(status) => status,
+        Err(status) => status.code(),
     };
-    ExitCode::from(status.code())
+    ExitCode::from(code)
 }
