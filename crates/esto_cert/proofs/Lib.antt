@@ -8,3 +8,4 @@ mod VerdictLemmas
 mod WorldLemmas
 mod ShowLemmas
 mod OneLemmas
+mod DeriveLemmas

@@ -62,7 +62,7 @@ with_in {A} (Some first) (Some others) all is item inside =
     ]
 
 module _ (claims : List Claim) where
-  stated_in : (numbers : List ℕ) (facts : List (Fact Term)) → facts_at claims numbers ≡ Some facts → (fact : Fact Term) → Contains facts fact
+  pub stated_in : (numbers : List ℕ) (facts : List (Fact Term)) → facts_at claims numbers ≡ Some facts → (fact : Fact Term) → Contains facts fact
       → Contains claims (Stated fact)
   stated_in [] facts is fact inside = absurd (Contains-nil fact (subst (λ (it : List (Fact Term)). Contains it fact) (sym (some_one is)) inside))
   stated_in (number ∷ numbers) facts is fact inside =
@@ -76,7 +76,7 @@ module _ (claims : List Claim) where
       by (Some (Stated it)) at own = subst (λ (its : Fact Term). Contains claims (Stated its)) (some_one own) (numbered_in claims number (Stated it) at)
       by (Some (Same left right)) at own = absurd (cc)
 
-  equal_in : (numbers : List ℕ) (equalities : List Equality) → equalities_at claims numbers ≡ Some equalities → (it : Equality) → Contains equalities it
+  pub equal_in : (numbers : List ℕ) (equalities : List Equality) → equalities_at claims numbers ≡ Some equalities → (it : Equality) → Contains equalities it
       → Contains claims (Same it.left it.right)
   equal_in [] equalities is it inside = absurd (Contains-nil it (subst (λ (its : List Equality). Contains its it) (sym (some_one is)) inside))
   equal_in (number ∷ numbers) equalities is it inside =
@@ -217,7 +217,8 @@ module _ (rules : List Rule) (fragments : List FragmentDef) (plan : Plan) (expan
         let kept = Contains-filter_from is_in expanded from.0 from.1 in
         (from.0, kept.0, kept.1, from.2),
     λ (part, there, has, is).
-        subst (Contains start.body) is (Contains-map (λ (it : ExpandedFact). it.fact) (filter is_in expanded) part (Contains-filter is_in expanded part there has)),
+        subst (Contains start.body) is
+        (Contains-map (λ (it : ExpandedFact). it.fact) (filter is_in expanded) part (Contains-filter is_in expanded part there has)),
   )
 
   is_part : IsPartOf expands.of set start.body

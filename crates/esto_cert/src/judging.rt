@@ -12,7 +12,7 @@ ghost use Rattle.esto_cert.specs.declared.line.Line.TheVariants.{Expanded, Step,
 
 use crate::line::Line;
 use crate::linking::stand_as_one;
-use crate::matching::{Found, find_match};
+use crate::matching::find_match;
 use crate::naming::numbered;
 use crate::reading::read_line;
 use crate::taking::{made_fact, taken_term, taken_terms};
@@ -38,7 +38,7 @@ pub enum Judged {
 }
 
 /// The body of a rule.
-fn body_of(rule: &Constraint) -> &[Atom]
+pub fn body_of(rule: &Constraint) -> &[Atom]
     ensures { result.now ≡ body_of (rule_of rule.now) }
 {
     match rule {
@@ -54,17 +54,16 @@ fn made_of_tuple(
     place: u64,
     number: usize,
     rule: &Tgd,
-    found: &Found,
+    from: &[Term],
+    to: &[Term],
 ) -> Result<Option<Claim>, OutOfMemory>
-    requires { found.now.from ≡ terms_of rule.now.body }
+    requires { from.now ≡ terms_of rule.now.body }
     ensures { IfOk result (λ it. it ≡ made_at place number (tuple rule.now.body rule.now.head)
-        (taken found.now.from found.now.to)) }
+        (taken from.now to.now)) }
 {
     let Some(atom) = numbered(rule.head.items(), place) else {
         return Ok(None);
     };
-    let from = found.from.items();
-    let to = found.to.items();
     let shared = frontier_of(alloc, rule.body.items(), rule.head.items())?;
     let values = taken_terms(alloc, from, to, shared.items())?;
     let fact = made_fact(alloc, number, from, to, &values, atom)?;
@@ -77,37 +76,37 @@ fn made_of_equality(
     place: u64,
     number: usize,
     rule: &Egd,
-    found: &Found,
+    from: &[Term],
+    to: &[Term],
 ) -> Result<Option<Claim>, OutOfMemory>
     ensures { IfOk result (λ it. it ≡ made_at place number
-        (equality rule.now.body rule.now.left rule.now.right)
-        (taken found.now.from found.now.to)) }
+        (equality rule.now.body rule.now.left rule.now.right) (taken from.now to.now)) }
 {
     if place != 0 {
         return Ok(None);
     }
-    let from = found.from.items();
-    let to = found.to.items();
     let left = taken_term(from, to, &rule.left).copy(alloc)?;
     let right = taken_term(from, to, &rule.right).copy(alloc)?;
     Ok(Some(Claim::Same(left, right)))
 }
 
-/// What the rule makes at a place.
-fn made_at(
+/// What the rule of the number makes at a place of its head, counted from 1, or at 0 for the equality of its sides, where
+/// the terms of its body meet these terms.
+pub fn made_at(
     alloc: Global,
     place: u64,
     number: usize,
     rule: &Constraint,
-    found: &Found,
+    from: &[Term],
+    to: &[Term],
 ) -> Result<Option<Claim>, OutOfMemory>
-    requires { found.now.from ≡ terms_of (body_of (rule_of rule.now)) }
-    ensures { IfOk result (λ it. it ≡ made_at place number (rule_of rule.now)
-        (taken found.now.from found.now.to)) }
+    requires { from.now ≡ terms_of (body_of (rule_of rule.now)) }
+    ensures { IfOk result
+        (λ it. it ≡ made_at place number (rule_of rule.now) (taken from.now to.now)) }
 {
     match rule {
-        Constraint::Tuple(tuple) => made_of_tuple(alloc, place, number, tuple, found),
-        Constraint::Equal(equality) => made_of_equality(alloc, place, number, equality, found),
+        Constraint::Tuple(tuple) => made_of_tuple(alloc, place, number, tuple, from, to),
+        Constraint::Equal(equality) => made_of_equality(alloc, place, number, equality, from, to),
         Constraint::Never(_) => Ok(None),
     }
 }
@@ -171,7 +170,9 @@ impl Case<'_> {
         let Some(it) = find_match(alloc, claims, body_of(rule), facts, links)? else {
             return Ok(Judged::Refused);
         };
-        match made_at(alloc, place, (number - 1) as usize, rule, &it)? {
+        let from = it.from.items();
+        let to = it.to.items();
+        match made_at(alloc, place, (number - 1) as usize, rule, from, to)? {
             Some(claim) => Ok(Judged::Claims(claim)),
             None => Ok(Judged::Refused),
         }

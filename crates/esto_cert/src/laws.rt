@@ -1,5 +1,5 @@
 //! Laws of certificates.
-ghost use Rattle.esto_cert.specs.Showing.{AcceptedCertificatesShow, VerdictsAreOne};
+ghost use Rattle.esto_cert.specs.Showing.{AcceptedCertificatesDerive, AcceptedCertificatesShow, VerdictsAreOne};
 
 use esto_constraint::rules_are_sound;
 use esto_query::queries_are_sound;
@@ -27,6 +27,12 @@ pub fn accepted_certificates_show()
     an_expansion_means_the_same();
     an_expansion_of_a_plan_expands_its_candidates();
 }
+
+/// A law: an accepted certificate holds derivations, from the expanded facts of the set's atoms alone, of the facts and the
+/// equalities of a match of the query whose head is the plan's.
+pub fn accepted_certificates_derive()
+    ensures { AcceptedCertificatesDerive }
+{}
 
 /// A law: a file is accepted or rejected in one way, whatever the plan's names and the fragments' are.
 pub fn verdicts_are_one()

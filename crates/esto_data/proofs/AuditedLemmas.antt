@@ -50,7 +50,8 @@ entries_apart numbers entries is rising i j d less within same =
     let within_numbers : j < length numbers = omega (arith, within, length-map entries (λ (entry : DatasetBytes). entry.dataset), ap length is) in
     let below = rising i j d.dataset less within_numbers in
     let first : get_or numbers i d.dataset ≡ (get_or entries i d).dataset =
-    ap (λ (it : List ℕ). get_or it i d.dataset) (sym is) ∙ get_or-map (λ (entry : DatasetBytes). entry.dataset) entries i d d.dataset (omega (arith, less, within)) in
+    ap (λ (it : List ℕ). get_or it i d.dataset) (sym is)
+    ∙ get_or-map (λ (entry : DatasetBytes). entry.dataset) entries i d d.dataset (omega (arith, less, within)) in
     let second : get_or numbers j d.dataset ≡ (get_or entries j d).dataset =
     ap (λ (it : List ℕ). get_or it j d.dataset) (sym is) ∙ get_or-map (λ (entry : DatasetBytes). entry.dataset) entries j d d.dataset within in
     omega (arith, below, first, second, same)

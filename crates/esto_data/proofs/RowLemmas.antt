@@ -201,7 +201,8 @@ module _ (files : Option Files) (catalogue : Catalogue) (before : Option Names) 
         pushed_rows number its store at there row = elim (at_pushed rows own number its at) [
           | inl earlier ↦
               let less : number < index = omega (arith, slice_get_within rows number its earlier, so_far.long) in
-              subst (λ (it : List ℕ). Contains its row ↔ IsRowIn store.shape it row) (sym (elsewhere_than so_far.contents index number bytes (λ same. omega (arith, less, same))))
+              subst (λ (it : List ℕ). Contains its row ↔ IsRowIn store.shape it row)
+              (sym (elsewhere_than so_far.contents index number bytes (λ same. omega (arith, less, same))))
               (so_far.are number its store earlier there row)
           | inr last ↦
               let is : number ≡ index = last.0 ∙ so_far.long in
@@ -214,8 +215,8 @@ module _ (files : Option Files) (catalogue : Catalogue) (before : Option Names) 
     -- the file is not opened
     pub rows_stop : {rose : Type 0} {refusal : Status} → Stops IsWant (IsCaused rose) (opens_fragment files catalogue index) refusal
         → Stops IsWant (IsCaused rose) (opens_fragments files catalogue (all_fragments catalogue)) refusal
-    rows_stop stops = along_stops (opens_next files catalogue) (all_fragments catalogue) (opens_fragments files catalogue (all_fragments catalogue)) before index
-        so_far.contents now so_far.along index (numbered index below) (counted index below) (first_stops _ _ stops)
+    rows_stop stops = along_stops (opens_next files catalogue) (all_fragments catalogue) (opens_fragments files catalogue (all_fragments catalogue)) before
+        index so_far.contents now so_far.along index (numbered index below) (counted index below) (first_stops _ _ stops)
 
     pub rows_stop_asks : (later : Option Names) (refusal : Status) → AsksIn now later (opens_fragment files catalogue index) (Err refusal)
         → AsksIn before later (opens_fragments files catalogue (all_fragments catalogue)) (Err refusal)

@@ -95,7 +95,8 @@ abbrev pub ReadsRows : Stored → List ℕ → Result (List Row) Status → Type
 ReadsRows stored bytes (Ok rows) = (reads_content stored bytes).goes tt × ((row : Row) → Contains rows row ↔ IsRowIn stored.store.shape bytes row)
 ReadsRows stored bytes (Err refusal) = Stops IsWant (IsCaused ⊥) (reads_content stored bytes) refusal
 
--- The file of the fragment of the number was opened, and these are its rows; or the course stops. To the names that were asked for came those for which it asked.
+-- The file of the fragment of the number was opened, and these are its rows; or the course stops. To the names that were asked for came those for which it
+-- asked.
 abbrev pub OpensNextRows : Option Files → Catalogue → ℕ → Type 0 → Option Names → Option Names → Result (List Row) Status → Type 0
 OpensNextRows files catalogue number rose before after (Ok rows) =
     (bytes : List ℕ) × (opens_fragment files catalogue number).goes bytes

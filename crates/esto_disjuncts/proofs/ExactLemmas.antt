@@ -42,7 +42,7 @@ first_not_planned (member ∷ members) plan items none is =
     subst (λ (it : Member). (has_plan it || list_any has_plan members) ≡ false) (same_Some member (Planned plan items) is) none in cc
 
 module _ (catalogue : Catalogue) where
-  have_answers : (queries : List Query) (members : List Member) → AllZip (TellsSatisfiable catalogue) queries members → HavePlan members
+  pub have_answers : (queries : List Query) (members : List Member) → AllZip (TellsSatisfiable catalogue) queries members → HavePlan members
       → HaveAnswers catalogue queries
   have_answers [] [] zip has = absurd (let never : false ≡ true = has in cc)
   have_answers [] (member ∷ members) zip has = absurd zip
@@ -55,7 +55,7 @@ module _ (catalogue : Catalogue) where
           let found = later (subst (λ (it : Bool). (it || list_any has_plan members) ≡ true) is has) in
           (found.0, Contains-rest query queries found.0 found.1, found.2)
 
-  have_plan : (queries : List Query) (members : List Member) → AllZip (TellsSatisfiable catalogue) queries members → HaveAnswers catalogue queries
+  pub have_plan : (queries : List Query) (members : List Member) → AllZip (TellsSatisfiable catalogue) queries members → HaveAnswers catalogue queries
       → HavePlan members
   have_plan [] members zip (query, inside, satisfiable) = absurd (Contains-nil query inside)
   have_plan (first ∷ queries) [] zip answers = absurd zip
@@ -68,7 +68,7 @@ module _ (catalogue : Catalogue) where
   ]
 
   -- the first query has the first member's clash
-  first_clash : (all queries : List Query) (members : List Member) → AllZip (IsMemberOf catalogue all) queries members → (clash : Clash)
+  pub first_clash : (all queries : List Query) (members : List Member) → AllZip (IsMemberOf catalogue all) queries members → (clash : Clash)
       → slice_get members 0 ≡ Some (Clashed clash) → (first : Query) × (slice_get queries 0 ≡ Some first) × IsClash catalogue first clash
   first_clash all [] [] zip clash is = absurd (none-some (Clashed clash) is)
   first_clash all [] (member ∷ members) zip clash is = absurd zip

@@ -3,3 +3,8 @@ pub mod ZipLemmas
 pub mod OneLemmas
 pub mod TellLemmas
 pub mod ExactLemmas
+pub mod PickingLemmas
+pub mod RunLemmas
+pub mod RunAskedLemmas
+pub mod AnswerLemmas
+pub mod RunExactLemmas

@@ -1,5 +1,7 @@
 //! Laws of members and lists of unions.
 ghost use Rattle.esto_disjuncts.specs.Laws.{EmptyListsAreTold, MembersAreOne, MembersAreUniversal, MembersCoverUnions, MembersTellSatisfiable, UnionListsAreExact, UnionListsAreOne};
+ghost use Rattle.esto_disjuncts.specs.RunExact.{UnionRunsAreExact};
+ghost use Rattle.esto_disjuncts.specs.RunLaws.{RunsAnswerUnions};
 
 use esto_plan_laws::{
     choices_are_executable_unions, executable_unions_exist, executable_unions_map_onto_sets,
@@ -8,7 +10,9 @@ use esto_plan_laws::{
 use esto_planning::{
     planned_plans_are_universal, planned_plans_have_their_form, plans_and_lists_are_one,
 };
+use esto_run::unions_answer_over_files;
 use esto_semantics::{picks_exist, stated_orders_exist, weights_exist};
+use esto_union::picks_answer_unions;
 
 /// A law: over catalogues that say the same, unions of the same queries have the same members.
 pub fn members_are_one()
@@ -51,4 +55,25 @@ pub fn union_lists_are_exact()
     ensures { UnionListsAreExact }
 {
     members_tell_rewritings();
+}
+
+/// A law: for each database that meets the rules, and whose view rows are the rows of the files for the fragments that the
+/// chosen sets of a union's members use, the rows of their candidates over the files are exactly the union's answers.
+pub fn runs_answer_unions()
+    ensures { RunsAnswerUnions }
+{
+    planned_plans_have_their_form();
+    planned_plans_are_universal();
+    picks_answer_unions();
+    unions_answer_over_files();
+}
+
+/// A law: over files that are told, `run` replies to a union of which no query is satisfiable with the clash of the first
+/// query's run; else it refuses it with `NoRewriting` exactly where it has no executable rewriting, and a text that it
+/// replies has exactly the union's answers, for each database of which the files hold the view rows.
+pub fn union_runs_are_exact()
+    ensures { UnionRunsAreExact }
+{
+    members_tell_rewritings();
+    runs_answer_unions();
 }

@@ -16,7 +16,8 @@ returns-in_err-judge_views-clause-answer g c =
 pub returns-in_err-rows-clause-answer : goal.returns-in_err-rows-clause-answer
 returns-in_err-rows-clause-answer g c =
     at_exit _ _ c.from_residual-in_err-rows.result c.from_residual-in_err-rows.ensures.1
-    (audit_unopened (g.S.Shelf.files c.args.shelf.now) c.args.catalogue.now c.args.loaded.now.facts c.in_ok-judge_views.ensures _ _ c.in_err-rows.ensures.answer.0)
+    (audit_unopened (g.S.Shelf.files c.args.shelf.now) c.args.catalogue.now c.args.loaded.now.facts c.in_ok-judge_views.ensures _ _
+    c.in_err-rows.ensures.answer.0)
 
 pub compare-requires-clause-texts : goal.compare-requires-clause-texts
 unfolding judges

@@ -22,8 +22,8 @@ returns-clause-answer g c =
 
 pub returns-in_err-numbers-clause-asked : goal.returns-in_err-numbers-clause-asked
 returns-in_err-numbers-clause-asked g c =
-    wanting_asks (g.S.Shelf.files c.args.shelf.now) c.args.catalogue.now.datasets (Names c.args.body.now) (g.S.Shelf.asked c.args.shelf.now) c.from_residual.result
-    c.from_residual.ensures.1
+    wanting_asks (g.S.Shelf.files c.args.shelf.now) c.args.catalogue.now.datasets (Names c.args.body.now) (g.S.Shelf.asked c.args.shelf.now)
+    c.from_residual.result c.from_residual.ensures.1
 
 pub returns-in_err-demand_files-clause-asked : goal.returns-in_err-demand_files-clause-asked
 returns-in_err-demand_files-clause-asked g c =

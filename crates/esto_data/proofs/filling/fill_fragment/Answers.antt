@@ -39,8 +39,8 @@ returns-in_err-text-clause-asked g c =
     let stored = fragment_stored c.args.catalogue.now c.args.number c.item-fragment.result.now c.requires c.item-fragment.ensures
     (c.catalogues_are_sound.ensures c.args.catalogue.now).stored in
     handed_asks _ _ c.from_residual-in_err-text.result c.from_residual-in_err-text.ensures.1
-    (fill_unfilled_asks (g.S.Shelf.files c.args.shelf.now) c.args.catalogue.now c.args.number _ stored.1 c.in_ok-loaded.loaded.facts c.in_ok-loaded.ensures.asked
-    _ (c.in_err-text.ensures _ stored.1))
+    (fill_unfilled_asks (g.S.Shelf.files c.args.shelf.now) c.args.catalogue.now c.args.number _ stored.1 c.in_ok-loaded.loaded.facts
+    c.in_ok-loaded.ensures.asked _ (c.in_err-text.ensures _ stored.1))
 
 pub returns-clause-asked : goal.returns-clause-asked
 returns-clause-asked g c =

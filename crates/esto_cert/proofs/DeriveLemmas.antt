@@ -1,0 +1,186 @@
+-- What the lines of an accepted certificate claim has derivations.
+use Rattle.std.proofs.Common.{◌≡◌, zero, suc, ℕ, ◌+◌, ◌-◌, Bool, List, [], ◌∷◌, ◌++◌, length, map, slice_get, Option, Some, None, Contains, refl, sym, ap, ◌∙◌, subst, inl, inr}
+use Rattle.std.specs.List.{flat_map}
+use Rattle.std.proofs.lemmas.List.Elements.{Contains-append_left, Contains-append_right, Contains-append_cases}
+use Rattle.esto_term.specs.declared.term.Term.{Term}
+use Rattle.esto_term.proofs.ListLemmas.{Contains-cases, Contains-flat_from, Contains-head, Contains-map, Contains-map_from, Contains-nil, Contains-rest}
+use Rattle.esto_semantics.specs.Rules.{Rule, body_of}
+use Rattle.esto_semantics.specs.Sets.{Has}
+use Rattle.esto_semantics.specs.declared.fact.Fact.{Fact}
+use Rattle.esto_prov.specs.Derivations.{Derives, FollowsFrom, leaves_of, leaves_of_level}
+use Rattle.esto_prov.specs.Derivations.Derives.{given, by_rule}
+use Rattle.esto_prov.specs.declared.why.Why.{Why, fold-roll-Why}
+use Rattle.esto_prov.specs.declared.why.Why.TheOpen.{Why-F}
+use Rattle.esto_prov.specs.declared.why.Why.TheVariants as why
+use Rattle.esto_prov.specs.declared.why.Why.TheVariants.{rolls-Expanded, rolls-Step}
+use Rattle.esto_views.specs.declared.expansion.ExpandedFact.{ExpandedFact}
+use Rattle.esto_world_laws.specs.Worlds.{here, along}
+use Rattle.esto_world_laws.specs.Matches.{match_map, IsMatch}
+use Rattle.esto_world_laws.specs.declared.entry.Claim.{Claim}
+use Rattle.esto_world_laws.specs.declared.entry.Claim.TheVariants.{Fact as Stated, Same}
+use Rattle.esto_cert.specs.Certificates.{Case, made_at, MayClaim, MayEnd}
+use Rattle.esto_cert.specs.Judging.{IsJudgedText, Verdict}
+use Rattle.esto_cert.specs.Lines.{line_of}
+use Rattle.esto_cert.specs.Linking.{IsAmong}
+use Rattle.esto_cert.specs.Showing.{HasDerivedMatch, IsDerivedFrom}
+use Rattle.esto_cert.specs.declared.judging.Judged.TheVariants.{Claims, Ends}
+use Rattle.esto_cert.specs.declared.line.Line.{Line}
+use Rattle.esto_cert.specs.declared.line.Line.TheVariants.{Expanded, Step, Match}
+use Rattle.esto_cert.specs.declared.linking.Equality.{Equality}
+use Rattle.esto_cert.proofs.MatchLemmas.{some_one}
+use Rattle.esto_cert.proofs.ShowLemmas.{equal_in, stated_in}
+use Rattle.esto_cert.proofs.WorldLemmas.{made_asked, match_holds, numbered_there}
+
+-- ---- leaves
+
+leaf_of_expanded : (atom place leaf : ℕ) → Contains (leaves_of (why.Expanded atom place)) leaf → atom ≡ leaf
+leaf_of_expanded atom place leaf inside =
+    let is : leaves_of (why.Expanded atom place) ≡ atom ∷ [] =
+    ap leaves_of (sym (rolls-Expanded atom place)) ∙ fold-roll-Why (List ℕ) leaves_of_level (Why-F.Expanded atom place) in
+    elim (Contains-cases atom [] leaf (subst (λ (it : List ℕ). Contains it leaf) is inside)) [ inl same ↦ same | inr none ↦ absurd (Contains-nil leaf none) ]
+
+leaf_of_step : (number : ℕ) (parts : List Why) (leaf : ℕ) → Contains (leaves_of (why.Step number parts)) leaf
+    → (part : Why) × Contains parts part × Contains (leaves_of part) leaf
+leaf_of_step number parts leaf inside =
+    let is : leaves_of (why.Step number parts) ≡ flat_map (λ part. part) (map leaves_of parts) =
+    ap leaves_of (sym (rolls-Step number parts)) ∙ fold-roll-Why (List ℕ) leaves_of_level (Why-F.Step number parts) in
+    let found = Contains-flat_from (λ (it : List ℕ). it) (map leaves_of parts) leaf (subst (λ (it : List ℕ). Contains it leaf) is inside) in
+    let part = Contains-map_from leaves_of parts found.0 found.1 in
+    (part.0, part.1, subst (λ (it : List ℕ). Contains it leaf) (sym part.2) found.2)
+
+-- ---- claim by claim
+
+equal_of : Equality → Claim
+equal_of it = Same it.left it.right
+
+module _ (expanded : List ExpandedFact) (rules : List Rule) (set : List Bool) where
+  abbrev pub IsFrom : Claim → Type 0
+  IsFrom = IsDerivedFrom expanded rules set
+
+  abbrev DeriveEach : List Why → List Claim → Type 0
+  DeriveEach whys claims =
+      (part : ℕ) (one : Why) (claim : Claim) → slice_get whys part ≡ Some one → slice_get claims part ≡ Some claim → Derives expanded rules one claim
+
+  -- the derivations of claims, in order
+  record AreFrom (claims : List Claim) : Type 0 where
+    pub whys : List Why
+    pub as_many : length claims ≡ length whys
+    pub each : DeriveEach whys claims
+    pub leaves : (one : Why) → Contains whys one → (atom : ℕ) → Contains (leaves_of one) atom → Has set atom
+
+  each_more : (one : Why) (whys : List Why) (claim : Claim) (claims : List Claim) → Derives expanded rules one claim → DeriveEach whys claims
+      → DeriveEach (one ∷ whys) (claim ∷ claims)
+  each_more one whys claim claims derives each zero it its at at_too =
+      subst (λ (known : Why). Derives expanded rules known its) (some_one at) (subst (Derives expanded rules one) (some_one at_too) derives)
+  each_more one whys claim claims derives each (suc part) it its at at_too = each part it its at at_too
+
+  all_from : (claims : List Claim) → ((claim : Claim) → Contains claims claim → IsFrom claim) → AreFrom claims
+  all_from [] all = record {
+    whys = [];
+    as_many = refl;
+    each = λ part one claim at at_too. absurd (cc);
+    leaves = λ one inside. absurd (Contains-nil one inside);
+  }
+  all_from (claim ∷ claims) all =
+      let own = all claim (Contains-head claim claims) in
+      let rest = all_from claims (λ other inside. all other (Contains-rest claim claims other inside)) in record {
+        whys = own.0 ∷ rest.whys;
+        as_many = ap suc rest.as_many;
+        each = each_more own.0 rest.whys claim claims own.1 rest.each;
+        leaves = λ one inside. elim (Contains-cases own.0 rest.whys one inside) [
+          | inl is ↦ (λ atom leaf. own.2 atom (subst (λ (it : Why). Contains (leaves_of it) atom) (sym is) leaf))
+          | inr later ↦ rest.leaves one later
+        ];
+      }
+
+  given_from : (fact : ExpandedFact) → Contains expanded fact → Has set fact.atom → IsFrom (Stated fact.fact)
+  given_from fact inside has =
+      (why.Expanded fact.atom fact.place, given fact inside, λ leaf own. subst (Has set) (leaf_of_expanded fact.atom fact.place leaf own) has)
+
+  module _ (chosen : List (Fact Term)) (equalities : List Equality) (facts : (fact : Fact Term) → Contains chosen fact → IsFrom (Stated fact))
+      (links : (it : Equality) → Contains equalities it → IsFrom (Same it.left it.right)) where
+    abbrev named : List Claim
+    named = map Stated chosen ++ map equal_of equalities
+
+    named_from : (claim : Claim) → Contains named claim → IsFrom claim
+    unfolding equal_of
+    named_from claim inside = elim (Contains-append_cases (map Stated chosen) (map equal_of equalities) claim inside) [
+      | inl early ↦ (let from = Contains-map_from Stated chosen claim early in subst IsFrom from.2 (facts from.0 from.1))
+      | inr later ↦ (let from = Contains-map_from equal_of equalities claim later in subst IsFrom from.2 (links from.0 from.1))
+    ]
+
+    step_from : (number place : ℕ) (rule : Rule) (claim : Claim) → slice_get rules number ≡ Some rule
+        → IsMatch (IsAmong chosen equalities) (body_of rule) chosen → made_at place number rule (match_map (body_of rule) chosen) ≡ Some claim → IsFrom claim
+    unfolding equal_of
+    step_from number place rule claim at matches made =
+        let are = all_from named named_from in
+        let follows : FollowsFrom number rule named claim = record {
+          chosen = chosen;
+          links = map equal_of equalities;
+          in_order = refl;
+          equalities = λ link inside. let from = Contains-map_from equal_of equalities link inside in (from.0.left, from.0.right, sym from.2);
+          matches = match_holds (Contains named) chosen equalities
+              (λ fact inside. Contains-append_left (map Stated chosen) (map equal_of equalities) (Stated fact) (Contains-map Stated chosen fact inside))
+              (λ s t inside. along (Contains-append_right (map Stated chosen) (map equal_of equalities) (Same s t)
+              (Contains-map equal_of equalities (record { left = s; right = t }) inside)) here) (body_of rule) matches;
+          asked = made_asked place number rule (match_map (body_of rule) chosen) claim made;
+        } in (
+          why.Step number are.whys,
+          by_rule number rule are.whys named claim at are.as_many are.each follows,
+          λ leaf inside. let part = leaf_of_step number are.whys leaf inside in are.leaves part.0 part.1 leaf part.2,
+        )
+
+-- ---- line by line
+
+module _ (case : Case) where
+  abbrev AllFrom : List Claim → Type 0
+  AllFrom claims = (claim : Claim) → Contains claims claim → IsFrom case.expanded case.rules case.set claim
+
+  module _ (claims : List Claim) (all : AllFrom claims) where
+    claim_from : (line : Line) (claim : Claim) → MayClaim case claims line claim → IsFrom case.expanded case.rules case.set claim
+    claim_from (Expanded atom place) claim (fact, inside, is_named, is) =
+        subst (IsFrom case.expanded case.rules case.set) (sym is) (given_from case.expanded case.rules case.set fact inside is_named.2)
+    claim_from (Step number place facts links) claim (rule, at, (chosen, equalities, matches, made)) =
+        step_from case.expanded case.rules case.set chosen equalities
+        (λ fact inside. all (Stated fact) (stated_in claims facts chosen matches.stated fact inside))
+        (λ it inside. all (Same it.left it.right) (equal_in claims links equalities matches.named it inside)) (number - 1) place rule claim
+        (numbered_there case.rules number rule at) matches.fits made
+    claim_from (Match facts links) claim wrong = absurd wrong
+
+    end_from : (line : Line) → MayEnd case claims line → HasDerivedMatch case.expanded case.rules case.set case.query case.targets
+    end_from (Expanded atom place) wrong = absurd wrong
+    end_from (Step number place facts links) wrong = absurd wrong
+    end_from (Match facts links) (found, equal, matches, linked) = record {
+      chosen = found;
+      equalities = equal;
+      facts = λ fact inside. all (Stated fact) (stated_in claims facts found matches.stated fact inside);
+      links = λ it inside. all (Same it.left it.right) (equal_in claims links equal matches.named it inside);
+      matches = matches.fits;
+      heads = linked;
+    }
+
+    text_from : (found : Option Line) (claim : Claim) → IsJudgedText case claims found (Claims claim) → IsFrom case.expanded case.rules case.set claim
+    text_from None claim wrong = absurd (cc)
+    text_from (Some line) claim may = claim_from line claim may
+
+    last_from : (found : Option Line) → IsJudgedText case claims found Ends → HasDerivedMatch case.expanded case.rules case.set case.query case.targets
+    last_from None wrong = absurd (cc)
+    last_from (Some line) may = end_from line may
+
+    all_more : (claim : Claim) → IsFrom case.expanded case.rules case.set claim → AllFrom (claims ++ claim ∷ [])
+    all_more claim derived other inside = elim (Contains-append_cases claims (claim ∷ []) other inside) [
+      | inl old ↦ all other old
+      | inr last ↦ elim (Contains-cases claim [] other last) [
+        | inl is ↦ subst (IsFrom case.expanded case.rules case.set) is derived
+        | inr none ↦ absurd (Contains-nil other none)
+      ]
+    ]
+
+  pub derived_match : (parts : List (List ℕ)) (number : ℕ) (claims : List Claim) → AllFrom claims → Verdict case claims number parts None
+      → HasDerivedMatch case.expanded case.rules case.set case.query case.targets
+  derived_match [] number claims all wrong = absurd (cc)
+  derived_match (part ∷ []) number claims all wrong = absurd (cc)
+  derived_match (part ∷ next ∷ rest) number claims all (inl (inl (claim, judged, later))) =
+      derived_match (next ∷ rest) (number + 1) (claims ++ claim ∷ []) (all_more claims all claim (text_from claims all (line_of part) claim judged)) later
+  derived_match (part ∷ next ∷ rest) number claims all (inl (inr (judged, is))) = last_from claims all (line_of part) judged
+  derived_match (part ∷ next ∷ rest) number claims all (inr (judged, wrong)) = absurd (cc)

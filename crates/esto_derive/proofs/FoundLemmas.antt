@@ -1,0 +1,272 @@
+-- Matches that are found atom by atom, and the equalities that they use.
+use Rattle.std.proofs.Common.{◌≡◌, ◌≢◌, ◌↔◌, inl, inr, ℕ, ◌+◌, ◌<◌, ◌≤◌, Bool, true, false, is_some, List, [], ◌∷◌, ◌++◌, length, map, slice_get, Option, Some, None, Contains, option_map, subst, refl, sym, ap, ◌∙◌, arith, zero, suc}
+use Rattle.std.specs.List.{AllZip}
+use Rattle.std.proofs.lemmas.List.Elements.{Contains-append_left, Contains-append_right, Contains-append_cases}
+use Rattle.std.proofs.lemmas.List.{append-nil, append_assoc, length-append, length-map}
+use Rattle.esto_term.proofs.ListLemmas.{Contains-nil, Contains-at, Contains-cases, Contains-head}
+use Rattle.esto_term.specs.declared.term.Term.{Term}
+use Rattle.esto_semantics.specs.Facts.{terms_of}
+use Rattle.esto_semantics.specs.Sets.{Within}
+use Rattle.esto_semantics.specs.declared.fact.Fact.{Fact}
+use Rattle.esto_world_laws.proofs.ClosedLemmas.{touching}
+use Rattle.esto_world_laws.proofs.LinkLemmas.{Linked-more, Linked-touching, zip_length}
+use Rattle.esto_world_laws.proofs.TakenLemmas.{Fits-split, Fits-join}
+use Rattle.esto_world_laws.specs.Derived.{IsNamed}
+use Rattle.esto_world_laws.specs.Matches.{taken, Fits, Touching}
+use Rattle.esto_world_laws.specs.Steps.{AreJoined}
+use Rattle.esto_world_laws.specs.Worlds.{InWorld, Linked, here}
+use Rattle.esto_world_laws.specs.declared.entry.Claim.{Claim}
+use Rattle.esto_world_laws.specs.declared.entry.Claim.TheVariants.{Fact as Stated, Same}
+use Rattle.esto_world_laws.specs.declared.entry.Entry.{Entry}
+use Rattle.std.proofs.lemmas.Option.{slice_get_within}
+use Rattle.esto_derive.proofs.MarkLemmas.{same_or_later}
+use Rattle.esto_derive.proofs.TextLemmas.{some_one}
+use Rattle.esto_derive.specs.Searching.{SaysOne, ClaimsIn, IsLink, GoesOn, IsFound, IsFoundAfter, IsFoundBy, AddsLink}
+
+-- ---- going on
+
+module _ (Holds : Claim → Type 0) (from to : List Term) (lengths : length from ≡ length to) where
+  abbrev One : Term → Term → Type 0
+  One = Linked Holds
+
+  -- what goes on with a body does so by a fact for its first atom
+  pub goes_first : (atom fact : Fact Term) (rest chosen : List (Fact Term)) → GoesOn Holds from to (atom ∷ rest) (fact ∷ chosen)
+      → (Holds (Stated fact) × (fact.relation ≡ atom.relation) × (length fact.terms ≡ length atom.terms))
+      × AllZip One fact.terms (map (taken (from ++ atom.terms) (to ++ fact.terms)) atom.terms)
+      × GoesOn Holds (from ++ atom.terms) (to ++ fact.terms) rest chosen
+  goes_first atom fact rest chosen (are, fits) =
+      let both : length (from ++ atom.terms) ≡ length (to ++ fact.terms) = rw (length-append, length-append) (omega (arith, lengths, are.0.2)) in
+      let all : length (to ++ (fact.terms ++ terms_of chosen)) ≡ length (map (taken (from ++ (atom.terms ++ terms_of rest)) (to ++
+      (fact.terms ++ terms_of chosen))) (from ++ (atom.terms ++ terms_of rest))) =
+      zip_length One _ _ fits in
+      let left : length (terms_of rest) ≡ length (terms_of chosen) =
+      omega (
+        arith,
+        all,
+        lengths,
+        are.0.2,
+        length-map (from ++ (atom.terms ++ terms_of rest)) (taken (from ++ (atom.terms ++ terms_of rest)) (to ++ (fact.terms ++ terms_of chosen))),
+        length-append from (atom.terms ++ terms_of rest),
+        length-append atom.terms (terms_of rest),
+        length-append to (fact.terms ++ terms_of chosen),
+        length-append fact.terms (terms_of chosen),
+      ) in
+      let whole : Fits One ((from ++ atom.terms) ++ terms_of rest) ((to ++ fact.terms) ++ terms_of chosen) =
+      subst (λ (it : List Term). Fits One it ((to ++ fact.terms) ++ terms_of chosen)) (sym (append_assoc from atom.terms (terms_of rest)))
+      (subst (λ (it : List Term). Fits One (from ++ (atom.terms ++ terms_of rest)) it) (sym (append_assoc to fact.terms (terms_of chosen))) fits) in
+      let parts = Fits-split One (from ++ atom.terms) (to ++ fact.terms) both (terms_of rest) (terms_of chosen) left whole in
+      let row = Fits-split One from to lengths atom.terms fact.terms (sym are.0.2) parts.0 in
+      (are.0, row.1, (are.1, whole))
+
+  -- and such a fact, with what goes on after it, goes on with the body
+  pub goes_more : (atom fact : Fact Term) (rest chosen : List (Fact Term)) → Holds (Stated fact) → fact.relation ≡ atom.relation
+      → length fact.terms ≡ length atom.terms → GoesOn Holds (from ++ atom.terms) (to ++ fact.terms) rest chosen
+      → GoesOn Holds from to (atom ∷ rest) (fact ∷ chosen)
+  goes_more atom fact rest chosen holds relation terms (are, fits) = (
+    ((holds, relation, terms), are),
+    subst (λ (it : List Term). Fits One it (to ++ (fact.terms ++ terms_of chosen))) (append_assoc from atom.terms (terms_of rest))
+        (subst (λ (it : List Term). Fits One ((from ++ atom.terms) ++ terms_of rest) it) (append_assoc to fact.terms (terms_of chosen)) fits),
+  )
+
+  pub goes_none : Fits One from to → GoesOn Holds from to [] []
+  goes_none fits = (
+    tt,
+    subst (λ (it : List Term). Fits One it (to ++ [])) (sym (append-nil from)) (subst (λ (it : List Term). Fits One from it) (sym (append-nil to)) fits),
+  )
+
+  -- the row that is tested
+  pub fits_row : (atom fact : Fact Term) → Fits One from to → AllZip One fact.terms (map (taken (from ++ atom.terms) (to ++ fact.terms)) atom.terms)
+      → Fits One (from ++ atom.terms) (to ++ fact.terms)
+  fits_row atom fact fits row = Fits-join One from to lengths atom.terms fact.terms fits row
+
+-- ---- found
+
+module _ (entries : List Entry) (set : List Bool) (from to : List Term) (lengths : length from ≡ length to) (atom : Fact Term) (rest : List (Fact Term)) where
+  abbrev World : Claim → Type 0
+  World = InWorld entries set
+
+  pub unlike : (fact : Fact Term) → ¬ ((fact.relation ≡ atom.relation) × (length fact.terms ≡ length atom.terms))
+      → IsFoundAfter entries set from to atom rest fact None
+  unlike fact wrong chosen goes = let first = goes_first World from to lengths atom fact rest chosen goes in wrong (first.0.1, first.0.2)
+
+  pub unfit : (fact : Fact Term) → ¬ (AllZip (Linked World) fact.terms (map (taken (from ++ atom.terms) (to ++ fact.terms)) atom.terms))
+      → IsFoundAfter entries set from to atom rest fact None
+  unfit fact wrong chosen goes = wrong (goes_first World from to lengths atom fact rest chosen goes).1
+
+  pub found_after : (fact : Fact Term) → fact.relation ≡ atom.relation → length fact.terms ≡ length atom.terms
+      → (places : Option (List ℕ)) → IsFound entries set (from ++ atom.terms) (to ++ fact.terms) rest places
+      → IsFoundAfter entries set from to atom rest fact places
+  found_after fact relation terms None none = λ chosen goes. none chosen (goes_first World from to lengths atom fact rest chosen goes).2
+  found_after fact relation terms (Some places) (chosen, stated, goes) =
+      (chosen, stated, (λ holds. goes_more World from to lengths atom fact rest chosen holds relation terms goes))
+
+  -- an entry outside the world, or of an equality, has no fact to go on with
+  pub outside : (entry : Entry) → ¬ (Within entry.product set) → IsFoundBy entries set from to atom rest entry None
+  outside entry wrong fact chosen within is goes = wrong within
+
+  pub equality_found : (entry : Entry) (left right : Term) → entry.claim ≡ Same left right → IsFoundBy entries set from to atom rest entry None
+  equality_found entry left right is fact chosen within states goes = let wrong : Stated fact ≡ Same left right = sym states ∙ is in cc
+
+  pub found_by : (entry : Entry) (place : ℕ) (fact : Fact Term) → slice_get entries place ≡ Some entry → Within entry.product set → entry.claim ≡ Stated fact
+      → (places : Option (List ℕ)) → IsFoundAfter entries set from to atom rest fact places
+      → IsFoundBy entries set from to atom rest entry (option_map (λ its. place ∷ its) places)
+  found_by entry place fact at within is None none = λ other chosen within_too is_too goes.
+      none chosen (subst (λ (it : Fact Term). GoesOn World from to (atom ∷ rest) (it ∷ chosen)) (same other is_too) goes)
+    where
+      same : (other : Fact Term) → entry.claim ≡ Stated other → other ≡ fact
+      same other is_too = let both : Stated other ≡ Stated fact = sym is_too ∙ is in cc
+  found_by entry place fact at within is (Some places) (chosen, stated, goes) =
+      (fact ∷ chosen, ((entry, at, within, is), stated), goes (entry, Contains-at entries place entry at, within, is))
+
+  -- where there are no places, an entry has no such fact
+  pub found_nothing : (entry : Entry) (found : Option (List ℕ)) → IsFoundBy entries set from to atom rest entry found → is_some found ≡ false
+      → IsFoundBy entries set from to atom rest entry None
+  found_nothing entry None is nothing = is
+  found_nothing entry (Some places) is nothing = absurd (let wrong : true ≡ false = nothing in cc)
+
+  pub found_something : (entry : Entry) (found : Option (List ℕ)) → IsFoundBy entries set from to atom rest entry found → is_some found ≡ true
+      → IsFound entries set from to (atom ∷ rest) found
+  found_something entry None is some = absurd (let wrong : false ≡ true = some in cc)
+  found_something entry (Some places) is some = is
+
+  -- no entry has such a fact
+  pub found_none : ((entry : Entry) → Contains entries entry → IsFoundBy entries set from to atom rest entry None)
+      → IsFound entries set from to (atom ∷ rest) None
+  found_none none [] (are, fits) = are
+  found_none none (fact ∷ chosen) goes =
+      let holds : World (Stated fact) = goes.0.0.0 in none holds.0 holds.1 fact chosen holds.2 holds.3 goes
+
+-- ---- equalities
+
+module _ (entries : List Entry) (set : List Bool) (term other : Term) where
+  pub said : (place : ℕ) (entry : Entry) → slice_get entries place ≡ Some entry → Within entry.product set → SaysOne entry.claim term other
+      → IsLink entries set term other (Some place)
+  said place entry at within says = (entry.claim, (entry, at, within, refl), says)
+
+  pub unsaid : ((entry : Entry) → Contains entries entry → Within entry.product set → ¬ (SaysOne entry.claim term other)) → IsLink entries set term other None
+  unsaid none claim (entry, inside, within, is) says = none entry inside within (subst (λ (it : Claim). SaysOne it term other) (sym is) says)
+
+  touches : (claim : Claim) → InWorld entries set claim → SaysOne claim term other → Touching (InWorld entries set) term other
+  touches claim holds (inl is) = inr (inl (subst (InWorld entries set) is holds))
+  touches claim holds (inr is) = inr (inr (subst (InWorld entries set) is holds))
+
+  in_world : (claim : Claim) (place : ℕ) → ClaimsIn entries set place claim → InWorld entries set claim
+  in_world claim place (entry, at, within, is) = (entry, Contains-at entries place entry at, within, is)
+
+  module _ (joined : AreJoined entries entries) (apart : term ≢ other) where
+    -- linked terms that are not equal are said to be one
+    pub linked_said : IsLink entries set term other None → ¬ (Linked (InWorld entries set) term other)
+    linked_said none linked = elim (touching (joined set) term other linked) [
+      | inl same ↦ apart same
+      | inr (inl holds) ↦ none (Same term other) holds (inl refl)
+      | inr (inr holds) ↦ none (Same other term) holds (inr refl)
+    ]
+
+  pub said_linked : (place : ℕ) → IsLink entries set term other (Some place) → Linked (InWorld entries set) term other
+  said_linked place (claim, claims, says) = Linked-touching term other (touches claim (in_world claim place claims) says)
+
+-- whether terms that are not equal are one
+pub told : (entries : List Entry) (set : List Bool) (term other : Term) → AreJoined entries entries → term ≢ other → (found : Option ℕ)
+    → IsLink entries set term other found → (answer : Bool) → answer ≡ is_some found → (answer ≡ true) ↔ Linked (InWorld entries set) term other
+told entries set term other joined apart None none answer is = (
+  (λ yes. let wrong : false ≡ true = sym is ∙ yes in cc),
+  (λ linked. absurd (linked_said entries set term other joined apart none linked)),
+)
+told entries set term other joined apart (Some place) link answer is = ((λ yes. said_linked entries set term other place link), (λ linked. is))
+
+-- ---- places one by one
+
+-- places at which two lists are related
+pub zip_at : {X Y : Type 0} (R : X → Y → Type 0) (xs : List X) (ys : List Y) → AllZip R xs ys → (place : ℕ) (x : X) (y : Y) → slice_get xs place ≡ Some x
+    → slice_get ys place ≡ Some y → R x y
+zip_at R [] ys all place x y at at_y = absurd (let wrong = at in cc)
+zip_at R (first ∷ xs) [] all place x y at at_y = absurd all
+zip_at {X} {Y} R (first ∷ xs) (own ∷ ys) all zero x y at at_y =
+    subst (λ (it : X). R it y) (some_one at) (subst (λ (it : Y). R first it) (some_one at_y) all.0)
+zip_at R (first ∷ xs) (own ∷ ys) all (suc place) x y at at_y = zip_at R xs ys all.1 place x y at at_y
+
+pub zip_by_places : {X Y : Type 0} (R : X → Y → Type 0) (xs : List X) (ys : List Y) → length xs ≡ length ys
+    → ((place : ℕ) (x : X) (y : Y) → slice_get xs place ≡ Some x → slice_get ys place ≡ Some y → R x y) → AllZip R xs ys
+zip_by_places R [] [] lengths each = tt
+zip_by_places R [] (own ∷ ys) lengths each = absurd (omega (arith, lengths))
+zip_by_places R (first ∷ xs) [] lengths each = absurd (omega (arith, lengths))
+zip_by_places R (first ∷ xs) (own ∷ ys) lengths each = (
+  each 0 first own refl refl,
+  zip_by_places R xs ys (omega (arith, lengths)) (λ place x y at at_y. each (suc place) x y at at_y),
+)
+
+module _ {X Y : Type 0} (R : X → Y → Type 0) (xs : List X) (ys : List Y) where
+  -- the first few are related
+  abbrev pub RelatedBelow : ℕ → Type 0
+  RelatedBelow count = (place : ℕ) (x : X) (y : Y) → place < count → slice_get xs place ≡ Some x → slice_get ys place ≡ Some y → R x y
+
+  module _ (count : ℕ) (x : X) (y : Y) (at : slice_get xs count ≡ Some x) (at_y : slice_get ys count ≡ Some y) where
+    pub related_more : R x y → RelatedBelow count → RelatedBelow (count + 1)
+    related_more holds below place one other within at_one at_other = elim (same_or_later place count (omega (arith, within))) [
+      | inl same ↦ subst (λ (it : X). R it other) (same_item xs one at_one x (ap (slice_get xs) (sym same) ∙ at))
+          (subst (λ (it : Y). R x it) (same_item ys other at_other y (ap (slice_get ys) (sym same) ∙ at_y)) holds)
+      | inr later ↦ below place one other (omega (arith, later)) at_one at_other
+    ]
+      where
+        same_item : {Z : Type 0} (items : List Z) (item : Z) → slice_get items place ≡ Some item → (other : Z) → slice_get items place ≡ Some other
+            → other ≡ item
+        same_item items item is other other_is = let both : Some other ≡ Some item = sym other_is ∙ is in some_one both
+
+    pub related_not : ¬ (R x y) → ¬ (AllZip R xs ys)
+    related_not wrong all = wrong (zip_at R xs ys all count x y at at_y)
+
+  pub related_all : (count : ℕ) → length xs ≡ length ys → length xs ≤ count → RelatedBelow count → AllZip R xs ys
+  related_all count lengths past below =
+      zip_by_places R xs ys lengths (λ place x y at at_y. below place x y (omega (arith, past, slice_get_within xs place x at)) at at_y)
+
+-- ---- links that are kept
+
+pub named_more : (entries : List Entry) (old new : List ℕ) → ((place : ℕ) → Contains old place → Contains new place) → (s t : Term)
+    → Linked (IsNamed entries old) s t → Linked (IsNamed entries new) s t
+named_more entries old new keeps = Linked-more (λ claim (place, inside, claims). (place, keeps place inside, claims))
+
+module _ (entries : List Entry) (set : List Bool) (term other : Term) where
+  pub adds_none : (places : List ℕ) → term ≡ other → AddsLink entries set term other places places
+  adds_none places same = record {
+    keeps = λ place inside. inside;
+    are = λ links. links;
+    one = subst (Linked (IsNamed entries places) term) same here;
+  }
+
+  pub adds_one : (place : ℕ) (old new : List ℕ) → IsLink entries set term other (Some place) → new ≡ old ++ place ∷ [] → AddsLink entries set term other old new
+  adds_one place old new (claim, claims, says) is = record {
+    keeps = λ its inside. subst (λ (it : List ℕ). Contains it its) (sym is) (Contains-append_left old (place ∷ []) its inside);
+    are = λ links its inside. elim (Contains-append_cases old (place ∷ []) its (subst (λ (it : List ℕ). Contains it its) is inside)) [
+      | inl earlier ↦ links its earlier
+      | inr last ↦ elim (Contains-cases place [] its last) [
+        | inl same ↦ subst (λ (it : ℕ). (left : Term) × (right : Term) × ClaimsIn entries set it (Same left right)) same (elim says [
+          | inl on ↦ (term, other, subst (ClaimsIn entries set place) on claims)
+          | inr on ↦ (other, term, subst (ClaimsIn entries set place) on claims)
+        ])
+        | inr none ↦ absurd (Contains-nil its none)
+      ]
+    ];
+    one = Linked-touching term other (elim says [
+      | inl on ↦ inr (inl (named on))
+      | inr on ↦ inr (inr (named on))
+    ]);
+  }
+    where
+      named : {its : Claim} → claim ≡ its → IsNamed entries new its
+      named on = (
+        place,
+        subst (λ (it : List ℕ). Contains it place) (sym is) (Contains-append_right old (place ∷ []) place (Contains-head place [])),
+        (claims.0, claims.1, claims.3 ∙ on),
+      )
+
+-- ---- the row that is tested
+
+pub row_of : (Holds : Claim → Type 0) (longer met from to terms owns wanted : List Term) → longer ≡ from ++ terms → met ≡ to ++ owns
+    → wanted ≡ map (taken longer met) terms → AllZip (Linked Holds) owns wanted ↔ AllZip (Linked Holds) owns (map (taken (from ++ terms) (to ++ owns)) terms)
+row_of Holds longer met from to terms owns wanted longer_is met_is wanted_is = (
+  subst (AllZip (Linked Holds) owns) all,
+  subst (AllZip (Linked Holds) owns) (sym all),
+)
+  where
+    all : wanted ≡ map (taken (from ++ terms) (to ++ owns)) terms
+    all = wanted_is ∙ ap (λ (it : List Term). map (taken it met) terms) longer_is ∙ ap (λ (it : List Term). map (taken (from ++ terms) it) terms) met_is

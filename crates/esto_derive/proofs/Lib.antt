@@ -1,0 +1,13 @@
+mod TextLemmas
+mod LoopLemmas
+mod FoundLemmas
+mod MarkLemmas
+mod PlaceLemmas
+mod StateLemmas
+mod StepLemmas
+mod WriteLemmas
+mod UseLemmas
+mod MatchLemmas
+mod FinishLemmas
+mod FlatLemmas
+mod AcceptLemmas

@@ -1,0 +1,80 @@
+-- The entries that are used, directly or through reasons.
+use Rattle.std.proofs.Common.{◌≡◌, ◌⊎◌, inl, inr, ℕ, ◌+◌, ◌<◌, ◌≤◌, Bool, List, [], ◌∷◌, take, slice_get, Some, Contains, All, subst, refl, sym, ap, ◌∙◌, arith, zero, suc}
+use Rattle.std.proofs.lemmas.List.{length-take}
+use Rattle.std.proofs.lemmas.List.Elements.{All-weaker, All-contains_itself}
+use Rattle.esto_term.proofs.ListLemmas.{Contains-nil}
+use Rattle.esto_semantics.specs.Sets.{Has, Within}
+use Rattle.esto_world_laws.specs.Derived.{IsUnion}
+use Rattle.esto_world_laws.specs.Laws.{AreReasoned, IsReasoned}
+use Rattle.esto_world_laws.specs.declared.entry.Entry.{Entry}
+use Rattle.esto_world_laws.specs.declared.entry.Reason.{Reason}
+use Rattle.esto_world_laws.specs.declared.entry.Reason.TheVariants.{Expanded, Step, Equal}
+use Rattle.esto_derive.proofs.TextLemmas.{some_one}
+use Rattle.esto_derive.specs.Marking.{named_by, AddsNamed, AreUsedWithin}
+
+pub all_below : (count : ℕ) (places : List ℕ) → ((place : ℕ) → Contains places place → place < count) → All (λ place. place < count) places
+all_below count places below = All-weaker (Contains places) (λ place. place < count) below places (All-contains_itself places)
+
+-- an entry of a list is one of those before a later place
+pub at_before : {X : Type 0} (xs : List X) (place bound : ℕ) (x : X) → place < bound → slice_get xs place ≡ Some x → slice_get (take bound xs) place ≡ Some x
+at_before [] place bound x before at = absurd (let wrong = at in cc)
+at_before (first ∷ xs) place zero x before at = absurd (omega (arith, before))
+at_before (first ∷ xs) zero (suc bound) x before at = at
+at_before (first ∷ xs) (suc place) (suc bound) x before at = at_before xs place bound x (omega (arith, before)) at
+
+pub same_or_later : (place number : ℕ) → place ≤ number → (number ≡ place) ⊎ (place + 1 ≤ number)
+same_or_later zero zero from = inl refl
+same_or_later zero (suc number) from = inr (omega arith)
+same_or_later (suc place) zero from = absurd (omega (arith, from))
+same_or_later (suc place) (suc number) from = elim (same_or_later place number (omega (arith, from))) [
+  | inl same ↦ inl (ap suc same)
+  | inr later ↦ inr (omega (arith, later))
+]
+
+-- a reason that names an entry is one of a union
+named_union : (entries : List Entry) (product : List Bool) (reason : Reason) → IsReasoned entries product reason → (place : ℕ)
+    → Contains (named_by reason) place → IsUnion entries (named_by reason) product
+named_union entries product (Expanded atom at) is place inside = absurd (Contains-nil place inside)
+named_union entries product (Step number places) is place inside = is
+named_union entries product (Equal places) is place inside = is
+
+module _ (entries : List Entry) (reasoned : AreReasoned entries) (place : ℕ) (entry : Entry) (at : slice_get entries place ≡ Some entry) where
+  union : (named : ℕ) → Contains (named_by entry.reason) named → IsUnion (take place entries) (named_by entry.reason) entry.product
+  union named inside = named_union (take place entries) entry.product entry.reason (reasoned.reasoned place entry at) named inside
+
+  pub named_before : (named : ℕ) → Contains (named_by entry.reason) named → named < place
+  named_before named inside = omega (arith, (union named inside).there named inside, length-take place entries)
+
+  named_within : (named : ℕ) (other : Entry) → Contains (named_by entry.reason) named → slice_get entries named ≡ Some other
+      → Within other.product entry.product
+  named_within named other inside other_at number has =
+      ((union named inside).exact number).1 (named, other, inside, at_before entries named place other (named_before named inside) other_at, has)
+
+  module _ (old new : List Bool) (adds : AddsNamed place entry old new) where
+    keeps : (number : ℕ) → Has old number → Has new number
+    keeps number has = (adds number).1 (inl has)
+
+    -- all that stands at the place or later names what is used, and what is used stays within a set
+    pub closed_on : ((at_place : ℕ) (its : Entry) → place + 1 ≤ at_place → slice_get entries at_place ≡ Some its → Has old at_place
+        → (named : ℕ) → Contains (named_by its.reason) named → Has old named)
+        → (at_place : ℕ) (its : Entry) → place ≤ at_place → slice_get entries at_place ≡ Some its → Has new at_place
+        → (named : ℕ) → Contains (named_by its.reason) named → Has new named
+    closed_on closed at_place its from its_at has named inside = elim ((adds at_place).0 has) [
+      | inl had ↦ elim (is_later at_place from) [
+        | inl same ↦ (adds named).1 (inr (
+          subst (λ (it : ℕ). Has old it) same had,
+          subst (λ (it : Entry). Contains (named_by it.reason) named) (some_one (sym its_at ∙ ap (λ (it : ℕ). slice_get entries it) same ∙ at)) inside,
+        ))
+        | inr later ↦ keeps named (closed at_place its later its_at had named inside)
+      ]
+      | inr (had, its_named) ↦ absurd (omega (arith, from, named_before at_place its_named))
+    ]
+      where
+        is_later : (number : ℕ) → place ≤ number → (number ≡ place) ⊎ (place + 1 ≤ number)
+        is_later number from = same_or_later place number from
+
+    pub within_on : (set : List Bool) → AreUsedWithin entries set old → AreUsedWithin entries set new
+    within_on set within at_place its its_at has number holds = elim ((adds at_place).0 has) [
+      | inl had ↦ within at_place its its_at had number holds
+      | inr (had, its_named) ↦ within place entry at had number (named_within at_place its its_named its_at number holds)
+    ]

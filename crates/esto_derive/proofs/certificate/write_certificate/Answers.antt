@@ -1,0 +1,60 @@
+use Rattle.std.proofs.Common.{List, length, subst, sym, ◌∙◌}
+use Rattle.std.proofs.lemmas.List.{length-map}
+use Rattle.esto_constraint.specs.Constraints.{rules_of}
+use Rattle.esto_constraint.specs.declared.rule.Constraint.{Constraint}
+use Rattle.esto_query.specs.Making.{query_of}
+use Rattle.esto_views.specs.Plans.{fact_of}
+use Rattle.esto_world_laws.specs.Derived.{AreDerived}
+use Rattle.esto_world_laws.specs.Laws.{HasMatch}
+use Rattle.esto_world_laws.specs.Steps.{AreJoined}
+use Rattle.esto_world_laws.specs.Worlds.{AreOfCount, InWorld}
+use Rattle.esto_world_laws.specs.declared.entry.Entry.{Entry}
+use Rattle.esto_derive.proofs.AcceptLemmas.{accepted, as_read}
+use Rattle.esto_derive.proofs.FlatLemmas.{flat}
+use Rattle.esto_derive.proofs.certificate.write_certificate.Goals as goal
+
+pub write_match-requires-clause-counts : goal.write_match-requires-clause-counts
+write_match-requires-clause-counts c =
+    let over = c.requires.listed.0.has_candidate.over ∙ length-map c.args.plan.now.atoms fact_of in
+    subst (AreOfCount (length c.args.set.now)) (sym c.items.ensures) (λ entry inside. c.requires.entries.3.counted entry inside ∙ sym over)
+
+pub write_match-requires-clause-joined : goal.write_match-requires-clause-joined
+write_match-requires-clause-joined c = subst (λ (it : List Entry). AreJoined it it) (sym c.items.ensures) c.requires.joined
+
+pub write_match-requires-clause-derived : goal.write_match-requires-clause-derived
+write_match-requires-clause-derived c = (
+  c.requires.entries.0,
+  subst (λ (it : List Constraint). AreDerived c.requires.entries.0 (rules_of it) c.items.result.now) (sym c.items-2.ensures)
+      (subst (AreDerived c.requires.entries.0 (rules_of c.args.catalogue.now.rules)) (sym c.items.ensures) c.requires.entries.3.derived),
+)
+
+pub write_match-requires-clause-found : goal.write_match-requires-clause-found
+write_match-requires-clause-found c =
+    let over = c.requires.listed.0.has_candidate.over ∙ length-map c.args.plan.now.atoms fact_of in
+    subst (λ (it : List Entry). HasMatch (InWorld it c.args.set.now) c.args.query.now.head c.args.query.now.body c.args.plan.now.head) (sym c.items.ensures)
+    ((c.entries_decide_answers.ensures.decide c.args.catalogue.now c.args.query.now c.args.plan.now c.args.entries.now c.requires.same_length
+    c.requires.universal c.requires.satisfiable c.requires.entries c.args.set.now over).0 (record {
+      has_candidate = c.requires.listed.0.has_candidate;
+      safe = c.requires.listed.0.safe;
+      equivalent = c.requires.listed.0.equivalent;
+    }))
+
+pub returns-clause-written : goal.returns-clause-written
+returns-clause-written c = (
+  c.requires.entries.0,
+  c.requires.entries.1,
+  c.requires.entries.2,
+  as_read c.requires.entries.0 c.args.set.now (query_of c.args.query.now) c.args.plan.now.head c.in_ok-bytes.bytes c.args.entries.now c.items.result.now
+      c.args.catalogue.now.rules c.items-2.result.now c.items.ensures c.items-2.ensures (c.in_ok-bytes.ensures c.requires.entries.0)
+      c.requires.entries.3.derived,
+)
+
+pub returns-clause-accepted : goal.returns-clause-accepted
+returns-clause-accepted c =
+    let written = returns-clause-written c in (
+      written.0,
+      written.1,
+      written.2,
+      flat c.args.plan.now c.args.catalogue.now.fragments written.0 written.2 (c.plans_are_sound.ensures c.args.plan.now) c.queries_are_sound.ensures,
+      accepted _ c.args.entries.now c.in_ok-bytes.bytes written.3,
+    )

@@ -1,0 +1,18 @@
+use Rattle.std.proofs.Common.{◌+◌, ◌*◌, length, Contains, None, take}
+use Rattle.esto_world_laws.specs.declared.entry.Entry.{Entry}
+use Rattle.esto_derive.specs.Searching.{IsFoundBy}
+use Rattle.esto_derive.proofs.searching.World.+find.Given as goal
+
+abbrev pub decreases-find : goal.decreases-find
+decreases-find l = 3 * length l.body.now
+
+abbrev pub decreases-find_by : goal.decreases-find_by
+decreases-find_by l = 3 * length l.rest.now + 2
+
+abbrev pub decreases-find_after : goal.decreases-find_after
+decreases-find_after l = 3 * length l.rest.now + 1
+
+abbrev pub invariant-find-entries : goal.invariant-find-entries
+invariant-find-entries l =
+    (entry : Entry) → Contains (take l.place l.self.entries.now) entry
+    → IsFoundBy l.self.entries.now l.self.set.now l.from l.to l.atom l.rest entry None

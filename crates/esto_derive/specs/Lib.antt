@@ -1,0 +1,5 @@
+pub mod Printing
+pub mod Searching
+pub mod Marking
+pub mod Placing
+pub mod Writing

@@ -1,0 +1,63 @@
+-- Matches of a body in the world of a set, found atom by atom, and the equalities that they use.
+use Rattle.std.specs.Prelude.{◌≡◌, ◌⊎◌, ℕ, Bool, List, ◌∷◌, ◌++◌, Option, Some, None, slice_get, Contains}
+use Rattle.std.specs.List.{AllZip}
+use Rattle.esto_term.specs.declared.term.Term.{Term}
+use Rattle.esto_semantics.specs.Facts.{terms_of}
+use Rattle.esto_semantics.specs.Sets.{Within}
+use Rattle.esto_semantics.specs.declared.fact.Fact.{Fact}
+use Rattle.esto_world_laws.specs.Derived.{IsNamed}
+use Rattle.esto_world_laws.specs.Matches.{AreChosen, Fits}
+use Rattle.esto_world_laws.specs.Worlds.{InWorld, Linked}
+use Rattle.esto_world_laws.specs.declared.entry.Claim.{Claim}
+use Rattle.esto_world_laws.specs.declared.entry.Claim.TheVariants.{Fact as Stated, Same}
+use Rattle.esto_world_laws.specs.declared.entry.Entry.{Entry}
+
+-- The claim says that the two terms are one, in either order.
+abbrev pub SaysOne : Claim → Term → Term → Type 0
+SaysOne claim term other = (claim ≡ Same term other) ⊎ (claim ≡ Same other term)
+
+-- The entry at the place makes the claim in the world of the set.
+abbrev pub ClaimsIn : List Entry → List Bool → ℕ → Claim → Type 0
+ClaimsIn entries set place claim = (entry : Entry) × (slice_get entries place ≡ Some entry) × Within entry.product set × (entry.claim ≡ claim)
+
+-- The entry at the place says in the world of the set that the two terms are one; where there is no place, no entry does.
+abbrev pub IsLink : List Entry → List Bool → Term → Term → Option ℕ → Type 0
+IsLink entries set term other None = (claim : Claim) → InWorld entries set claim → ¬ (SaysOne claim term other)
+IsLink entries set term other (Some place) = (claim : Claim) × ClaimsIn entries set place claim × SaysOne claim term other
+
+-- The terms `from` have met the terms `to`. The chosen facts hold and go on with the body: each of their terms is one with what the body's term at its place
+-- meets first.
+abbrev pub GoesOn : (Claim → Type 0) → List Term → List Term → List (Fact Term) → List (Fact Term) → Type 0
+GoesOn Holds from to body chosen = AreChosen Holds body chosen × Fits (Linked Holds) (from ++ terms_of body) (to ++ terms_of chosen)
+
+-- The entries at the places state facts that go on with the body in the world of the set; where there are no places, no facts do.
+abbrev pub IsFound : List Entry → List Bool → List Term → List Term → List (Fact Term) → Option (List ℕ) → Type 0
+IsFound entries set from to body None = (chosen : List (Fact Term)) → ¬ (GoesOn (InWorld entries set) from to body chosen)
+IsFound entries set from to body (Some places) =
+    (chosen : List (Fact Term)) × AllZip (λ (place : ℕ) (fact : Fact Term). ClaimsIn entries set place (Stated fact)) places chosen
+    × GoesOn (InWorld entries set) from to body chosen
+
+-- The same of a body whose first atom is to match this fact, where the places are those for the rest of the body.
+abbrev pub IsFoundAfter : List Entry → List Bool → List Term → List Term → Fact Term → List (Fact Term) → Fact Term → Option (List ℕ) → Type 0
+IsFoundAfter entries set from to atom rest fact None =
+    (chosen : List (Fact Term)) → ¬ (GoesOn (InWorld entries set) from to (atom ∷ rest) (fact ∷ chosen))
+IsFoundAfter entries set from to atom rest fact (Some places) =
+    (chosen : List (Fact Term)) × AllZip (λ (place : ℕ) (other : Fact Term). ClaimsIn entries set place (Stated other)) places chosen
+    × (InWorld entries set (Stated fact) → GoesOn (InWorld entries set) from to (atom ∷ rest) (fact ∷ chosen))
+
+-- The same of a body whose first atom is to match the fact of this entry, where the places are those for the whole body.
+abbrev pub IsFoundBy : List Entry → List Bool → List Term → List Term → Fact Term → List (Fact Term) → Entry → Option (List ℕ) → Type 0
+IsFoundBy entries set from to atom rest entry None =
+    (fact : Fact Term) (chosen : List (Fact Term)) → Within entry.product set → entry.claim ≡ Stated fact
+    → ¬ (GoesOn (InWorld entries set) from to (atom ∷ rest) (fact ∷ chosen))
+IsFoundBy entries set from to atom rest entry (Some places) = IsFound entries set from to (atom ∷ rest) (Some places)
+
+-- The entries at the places say in the world of the set that two terms are one.
+abbrev pub AreLinks : List Entry → List Bool → List ℕ → Type 0
+AreLinks entries set places = (place : ℕ) → Contains places place → (left : Term) × (right : Term) × ClaimsIn entries set place (Same left right)
+
+-- The new places are the old ones, and such that the two terms are one by what they name.
+pub record AddsLink (entries : List Entry) (set : List Bool) (term other : Term) (old new : List ℕ) : Type 0 where
+  pub keeps : (place : ℕ) → Contains old place → Contains new place
+  pub are : AreLinks entries set old → AreLinks entries set new
+  pub one : Linked (IsNamed entries new) term other

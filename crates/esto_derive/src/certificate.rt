@@ -1,0 +1,133 @@
+//! Writing a certificate.
+ghost use Rattle.std.specs.Prelude.{◌≡◌, ◌<◌, ℕ, List, Contains, None, length, IfOk};
+ghost use Rattle.esto_constraint.specs.Constraints.{rules_of};
+ghost use Rattle.esto_query.specs.Making.{query_of};
+ghost use Rattle.esto_views.specs.declared.expansion.ExpandedFact.{ExpandedFact};
+ghost use Rattle.esto_world_laws.specs.Derived.{AreDerived};
+ghost use Rattle.esto_world_laws.specs.Laws.{AreReasoned, HasMatch};
+ghost use Rattle.esto_world_laws.specs.Steps.{AreJoined};
+ghost use Rattle.esto_world_laws.specs.Worlds.{AreOfCount, InWorld};
+ghost use Rattle.esto_derive.specs.Marking.{AreUsed};
+ghost use Rattle.esto_backchase.specs.Evidence.{AreEntriesOf};
+ghost use Rattle.esto_cert.specs.Judging.{DecidesFor};
+ghost use Rattle.esto_derive.specs.Writing.{IsWritten, IsWrittenFor};
+ghost use Rattle.esto_semantics.specs.Containment.{IsSatisfiable};
+ghost use Rattle.esto_semantics.specs.Listed.{IsListed};
+ghost use Rattle.esto_semantics.specs.Plans.{IsUniversalPlan};
+ghost use Rattle.esto_views.specs.Fragments.{views_of, patterns_of};
+ghost use Rattle.esto_views.specs.Plans.{plan_query};
+
+use crate::marking::close;
+use crate::searching::{World, joined};
+use crate::writing::{Writer, terms_at};
+use esto_backchase::entries_decide_answers;
+use esto_bits::RowBits;
+use esto_catalog::Catalogue;
+use esto_cert::terms_of;
+use esto_constraint::Constraint;
+use esto_prov::{Entries, Entry};
+use esto_query::{Query, queries_are_sound};
+use esto_term::{Bytes, OutOfMemory, Terms};
+use esto_views::{Plan, plans_are_sound};
+use esto_world_laws::derived_entries_are_reasoned;
+use std::alloc::Global;
+
+/// The places of the entries that are used where those at these places are.
+fn used_by(
+    alloc: Global,
+    entries: &[Entry],
+    facts: &[usize],
+    links: &[usize],
+) -> Result<RowBits, OutOfMemory>
+    requires reasoned { AreReasoned entries.now }
+    requires facts { (place : ℕ) → Contains facts.now place → place < length entries.now }
+    requires links { (place : ℕ) → Contains links.now place → place < length entries.now }
+    ensures count { IfOk result (λ used. length used ≡ length entries.now) }
+    ensures used { IfOk result (AreUsed entries.now facts.now links.now) }
+{
+    let mut used = RowBits::of(alloc, entries.len(), facts)?;
+    used.union(&RowBits::of(alloc, entries.len(), links)?);
+    close(alloc, entries, &mut used)?;
+    Ok(used)
+}
+
+/// Writes a certificate of a match of the query in the set's world.
+fn write_match(
+    alloc: Global,
+    set: &RowBits,
+    targets: &Terms,
+    query: &Query,
+    entries: &[Entry],
+    rules: &[Constraint],
+) -> Result<Bytes, OutOfMemory>
+    requires counts { AreOfCount (length set.now) entries.now }
+    requires joined { AreJoined entries.now entries.now }
+    requires derived { (expanded : List ExpandedFact)
+        × AreDerived expanded (rules_of rules.now) entries.now }
+    requires found { HasMatch (InWorld entries.now set.now) query.now.head query.now.body
+        targets.now }
+    ensures { IfOk result (λ bytes. (expanded : List ExpandedFact)
+        → AreDerived expanded (rules_of rules.now) entries.now
+        → IsWritten (record {
+          expanded = expanded;
+          set = set.now;
+          rules = rules_of rules.now;
+          query = query_of query.now;
+          targets = targets.now;
+        }) entries.now bytes) }
+{
+    queries_are_sound();
+    derived_entries_are_reasoned();
+    let world = World { entries, set };
+    let body = query.body.items();
+    let Some(facts) = world.find(alloc, &query.head, targets, body)? else {
+        unreachable!()
+    };
+    let from = joined(alloc, &query.head, &terms_of(alloc, body)?)?;
+    let to = joined(alloc, targets, &terms_at(alloc, entries, facts.items())?)?;
+    let links = world.links_of(alloc, from.items(), to.items())?;
+    let used = used_by(alloc, entries, facts.items(), links.items())?;
+    let writer = Writer {
+        entries,
+        used: &used,
+        rules,
+    };
+    writer.write(alloc, facts.items(), links.items())
+}
+
+/// Writes a certificate that the set's candidate is contained in the query, from the entries of the conditional chase of the
+/// plan's expansion. Each line before the last claims what some entry claims whose product is a subset of the set.
+pub fn write_certificate(
+    alloc: Global,
+    set: &RowBits,
+    plan: &Plan,
+    query: &Query,
+    entries: &Entries,
+    catalogue: &Catalogue,
+) -> Result<Bytes, OutOfMemory>
+    requires same_length { length plan.now.head ≡ length query.now.head }
+    requires universal { IsUniversalPlan (rules_of catalogue.now.rules)
+        (views_of catalogue.now.fragments) (query_of query.now) (plan_query plan.now) }
+    requires satisfiable { IsSatisfiable (rules_of catalogue.now.rules) (query_of query.now) }
+    requires listed { IsListed (rules_of catalogue.now.rules) (views_of catalogue.now.fragments)
+        (patterns_of catalogue.now.fragments) (query_of query.now) (plan_query plan.now) set.now }
+    requires entries { AreEntriesOf catalogue.now plan.now entries.now }
+    requires joined { AreJoined entries.now entries.now }
+    ensures written { IfOk result
+        (IsWrittenFor catalogue.now query.now plan.now set.now entries.now) }
+    ensures accepted { IfOk result (λ bytes. DecidesFor plan.now catalogue.now.fragments set.now
+        catalogue.now.rules query.now bytes None) }
+{
+    plans_are_sound();
+    queries_are_sound();
+    entries_decide_answers();
+    let bytes = write_match(
+        alloc,
+        set,
+        &plan.head,
+        query,
+        entries.items(),
+        catalogue.rules.items(),
+    )?;
+    Ok(bytes)
+}

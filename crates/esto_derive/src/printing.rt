@@ -1,0 +1,101 @@
+//! Lines of a certificate in print.
+ghost use Rattle.std.specs.Prelude.{◌≡◌, ◌+◌, ◌++◌, ◌≤◌, map, codes, IfOk, OnOk};
+ghost use Rattle.std.specs.Fmt.{decimal};
+ghost use Rattle.esto_term.specs.Nesting.{greatest_u64};
+ghost use Rattle.esto_cert.specs.declared.line.Line.TheVariants.{Expanded, Step, Match};
+ghost use Rattle.esto_derive.specs.Printing.{line_text, list_text, LinesAreReadBack};
+
+use esto_list::{put_number, put_numbers};
+use esto_term::{Bytes, OutOfMemory};
+use std::alloc::Global;
+
+/// Puts numbers of lines at the end, which are given counted from 0, or a minus for none.
+fn put_list(alloc: Global, text: &mut Bytes, lines: &[usize]) -> Result<(), OutOfMemory>
+    ensures { OnOk result (text.new ≡ text.old ++ list_text (map (λ line. line + 1) lines.now)) }
+{
+    if lines.is_empty() {
+        return text.append(b"-");
+    }
+    put_numbers(alloc, text, lines)
+}
+
+/// Puts a number and what follows it at the end.
+fn put_word(alloc: Global, text: &mut Bytes, number: usize, after: &[u8]) -> Result<(), OutOfMemory>
+    ensures { OnOk result (text.new ≡ text.old ++ (decimal number ++ after.now)) }
+{
+    put_number(alloc, text, number as u128)?;
+    text.append(after)
+}
+
+/// Puts two lists at the end, and the end of the line.
+fn put_lists(
+    alloc: Global,
+    text: &mut Bytes,
+    facts: &[usize],
+    links: &[usize],
+) -> Result<(), OutOfMemory>
+    ensures { OnOk result (text.new ≡ text.old ++ (list_text (map (λ line. line + 1) facts.now)
+        ++ (codes " " ++ (list_text (map (λ line. line + 1) links.now) ++ codes "\n")))) }
+{
+    put_list(alloc, text, facts)?;
+    text.append(b" ")?;
+    put_list(alloc, text, links)?;
+    text.append(b"\n")
+}
+
+/// Puts the line of an expanded fact at the end.
+pub fn put_expanded(
+    alloc: Global,
+    text: &mut Bytes,
+    atom: usize,
+    place: usize,
+) -> Result<(), OutOfMemory>
+    ensures text { OnOk result
+        (text.new ≡ text.old ++ (line_text (Expanded atom place) ++ codes "\n")) }
+    ensures atom { atom ≤ greatest_u64 }
+    ensures place { place ≤ greatest_u64 }
+{
+    text.append(b"fact ")?;
+    put_word(alloc, text, atom, b" ")?;
+    put_word(alloc, text, place, b"\n")
+}
+
+/// Puts the line of a step at the end. The lines that it names are given counted from 0.
+pub fn put_step(
+    alloc: Global,
+    text: &mut Bytes,
+    number: usize,
+    place: usize,
+    facts: &[usize],
+    links: &[usize],
+) -> Result<(), OutOfMemory>
+    ensures text { OnOk result (text.new ≡ text.old ++ (line_text (Step number place
+        (map (λ line. line + 1) facts.now) (map (λ line. line + 1) links.now)) ++ codes "\n")) }
+    ensures number { number ≤ greatest_u64 }
+    ensures place { place ≤ greatest_u64 }
+{
+    text.append(b"step ")?;
+    put_word(alloc, text, number, b" ")?;
+    put_word(alloc, text, place, b" ")?;
+    put_lists(alloc, text, facts, links)
+}
+
+/// Puts the line of a match at the end. The lines that it names are given counted from 0.
+pub fn put_match(
+    alloc: Global,
+    text: &mut Bytes,
+    facts: &[usize],
+    links: &[usize],
+) -> Result<(), OutOfMemory>
+    ensures { OnOk result (text.new ≡ text.old ++ (line_text (Match
+        (map (λ line. line + 1) facts.now) (map (λ line. line + 1) links.now)) ++ codes "\n")) }
+{
+    text.append(b"match ")?;
+    put_lists(alloc, text, facts, links)
+}
+
+/// A law: a line in print says what the line says, where its numbers are at most the greatest of 64 bits, and it names a
+/// fact unless it is an expanded one.
+pub fn written_lines_are_read_back()
+    ensures { LinesAreReadBack }
+{}
