@@ -16,8 +16,7 @@ use Rattle.esto_opening.specs.Answers.{IsCaused}
 use Rattle.esto_opening.specs.Calm.{AgreeCalmly, Leads}
 use Rattle.esto_opening.specs.Fragments.{opens_fragment}
 use Rattle.esto_opening.specs.Line.{line_of}
-use Rattle.esto_opening.specs.Opening.{FilesSayCatalogue, FilesSayQuery, opens_catalogue, opens_query}
-use Rattle.esto_opening.specs.Unions.{FilesSayUnion}
+use Rattle.esto_opening.specs.Opening.{FilesSayCatalogue, FilesSayQuery, FilesSayUnion, opens_catalogue, opens_query}
 use Rattle.esto_opening.specs.declared.reply.Reply.{Reply}
 use Rattle.esto_opening.specs.declared.reply.Reply.TheVariants.{Done}
 use Rattle.esto_opening.specs.declared.status.Status.{Status}

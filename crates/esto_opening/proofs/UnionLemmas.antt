@@ -23,8 +23,8 @@ use Rattle.esto_text.specs.declared.fault.TextFault.{TextFault}
 use Rattle.esto_opening.specs.Alike.{AreSameQueries, IsSameQuery}
 use Rattle.esto_opening.specs.Calm.{AgreeCalmly, Leads}
 use Rattle.esto_opening.specs.Fetch.{fetches}
-use Rattle.esto_opening.specs.Opening.{opens_query, opens_union, reads_query, reads_union, unnamed}
-use Rattle.esto_opening.specs.Unions.{FilesSayUnion, FormUnion, HaveOneHeadLength, union_rows_text}
+use Rattle.esto_opening.specs.Opening.{FilesSayUnion, opens_query, opens_union, reads_query, reads_union, unnamed}
+use Rattle.esto_opening.specs.Unions.{FormUnion, HaveOneHeadLength, union_rows_text}
 use Rattle.esto_opening.specs.declared.opening.TheConstants.{QUERY_LIMIT}
 use Rattle.esto_opening.specs.declared.status.Status.TheVariants as status
 use Rattle.esto_opening.proofs.AgreeLemmas.{fetches-agree}
@@ -67,7 +67,7 @@ pub said_open : (files : Files) (name : List ℕ) (catalogue : Catalogue) (queri
     → (opens_union (Some files) name catalogue).goes queries
 unfolding fetches judges
 said_open files name catalogue queries say = then_goes (fetches (Some files) name QUERY_LIMIT) (reads_union catalogue) say.bytes queries say.has
-    (say.named, say.are_queries, say.queries_are)
+    (say.named, say.is_union, say.queries_are)
 
 -- ---- the same queries
 

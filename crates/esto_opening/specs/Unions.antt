@@ -2,17 +2,12 @@
 use Rattle.std.specs.Prelude.{◌≡◌, ◌↔◌, ℕ, ◌<◌, List, [], ◌∷◌, length, All, Contains, Option, Some}
 use Rattle.esto_catalog.specs.declared.catalogue.Catalogue.{Catalogue}
 use Rattle.esto_ports.specs.Files.{Files}
-use Rattle.esto_query.specs.Schemas.{arities_of}
 use Rattle.esto_query.specs.declared.query.Query.{Query}
-use Rattle.esto_read.specs.Unions.{IsUnionReading}
-use Rattle.esto_read.specs.declared.read.NamedQuery.{NamedQuery}
 use Rattle.esto_run.specs.Answers.{rows_text}
 use Rattle.esto_stores.specs.Rows.{Row}
 use Rattle.esto_opening.specs.Alike.{AreSameQueries}
 use Rattle.esto_opening.specs.Calm.{Leads}
-use Rattle.esto_opening.specs.Fetch.{HasWithin}
-use Rattle.esto_opening.specs.Opening.{opens_query, opens_union, unnamed}
-use Rattle.esto_opening.specs.declared.opening.TheConstants.{QUERY_LIMIT}
+use Rattle.esto_opening.specs.Opening.{FilesSayUnion, opens_query, opens_union}
 
 -- The heads of the queries are of one length.
 abbrev pub HaveOneHeadLength : List Query → Type 0
@@ -31,14 +26,6 @@ union_rows_text (query ∷ queries) rows = rows_text query rows
 -- Each row has as many cells as each query's head has terms.
 abbrev pub FitHeads : List Query → List Row → Type 0
 FitHeads queries rows = (query : Query) → Contains queries query → All (λ row. length row ≡ length query.head) rows
-
--- The file is no longer than a query may be, and its bytes after one leading mark are the text of these queries.
-pub record FilesSayUnion (files : Files) (name : List ℕ) (catalogue : Catalogue) (queries : List Query) : Type 0 where
-  pub bytes : List ℕ
-  pub has : HasWithin files name QUERY_LIMIT bytes
-  pub named : List NamedQuery
-  pub are_queries : IsUnionReading catalogue.words (arities_of catalogue.schema) bytes named
-  pub queries_are : queries ≡ unnamed named
 
 -- ---- laws
 
