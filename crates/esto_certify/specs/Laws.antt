@@ -1,9 +1,10 @@
 -- What laws on the commands on certificates say.
-use Rattle.std.specs.Prelude.{◌≡◌, ℕ, Bool, List, length, Option, Some, None, codes}
+use Rattle.std.specs.Prelude.{◌≡◌, ℕ, ◌-◌, Bool, List, length, slice_get, Option, Some, None, codes}
 use Rattle.esto_catalog.specs.declared.catalogue.Catalogue.{Catalogue}
 use Rattle.esto_cert.specs.Showing.{IsSafelyContained}
 use Rattle.esto_constraint.specs.Constraints.{rules_of}
 use Rattle.esto_course.specs.Course.{Course}
+use Rattle.esto_list.specs.declared.listing.Listed.{Listed}
 use Rattle.esto_ports.specs.Files.{Files}
 use Rattle.esto_query.specs.Making.{query_of}
 use Rattle.esto_query.specs.declared.query.Query.{Query}
@@ -18,7 +19,8 @@ use Rattle.esto_opening.specs.declared.reply.Reply.{Reply}
 use Rattle.esto_opening.specs.declared.reply.Reply.TheVariants.{Done}
 use Rattle.esto_opening.specs.declared.status.Status.{Status}
 use Rattle.esto_opening.specs.declared.status.Status.TheVariants as status
-use Rattle.esto_planning.specs.Listing.{IsPlanned}
+use Rattle.esto_planning.specs.Listing.{IsListOf, IsPlanned}
+use Rattle.esto_certify.specs.Explain.{explain_course}
 use Rattle.esto_certify.specs.Verify.{first_above, HasVerdict, IsSetOf, verify_course}
 use Rattle.esto_certify.specs.declared.verifying.TheConstants.{CERTIFICATE_LIMIT}
 
@@ -31,6 +33,17 @@ IsOne course = AgreeCalmly ◌≡◌ course course
 abbrev pub VerifyIsOne : Type 0
 VerifyIsOne =
     (files : Files) (catalogue_name query_name numbers file : List ℕ) → IsOne (verify_course (Some files) catalogue_name query_name numbers file)
+
+-- Both replies are Done, each with a text.
+abbrev pub AreDone : Reply → Reply → Type 0
+AreDone reply other = ((text : List ℕ) × (reply ≡ Done text)) × ((text : List ℕ) × (other ≡ Done text))
+
+-- The course over the files has one status where no fetch is at a fault: it is Done with some text, or it has one refusal.
+abbrev pub HasOneStatus : Course Status Reply → Type 0
+HasOneStatus course = AgreeCalmly AreDone course course
+
+abbrev pub ExplainHasOneStatus : Type 0
+ExplainHasOneStatus = (files : Files) (catalogue_name query_name : List ℕ) (number : ℕ) → HasOneStatus (explain_course (Some files) catalogue_name query_name number)
 
 -- ---- which outcome
 
@@ -71,3 +84,14 @@ AcceptedSetsAreContained =
     → IsSetOf (length plan.atoms) numbers set
     → IsSaid files catalogue query plan numbers file (λ said text. said ≡ status.Done
     → IsSafelyContained (rules_of catalogue.rules) (views_of catalogue.fragments) (query_of query) (plan_query plan) set)
+
+-- Let the files say a catalogue and a query over it, whose printed plan has a list with an item of a number. A text that `explain` may write for the number,
+-- within the limit of a certificate's file, is accepted by `verify` for the numbers of the atoms of the item's set.
+abbrev pub ExplainedSetsAreVerified : Type 0
+ExplainedSetsAreVerified =
+    (files : Files) (catalogue : Catalogue) (query : Query) (plan : Plan) (items : List Listed) (number : ℕ) (item : Listed) (numbers file text : List ℕ)
+    (catalogue_name query_name : List ℕ) → (opens_catalogue (Some files) catalogue_name).goes catalogue
+    → (opens_query (Some files) query_name catalogue).goes query → IsPlanned catalogue query plan → IsListOf catalogue query plan items
+    → slice_get items (number - 1) ≡ Some item → IsSetOf (length plan.atoms) numbers item.set → HasWithin files file CERTIFICATE_LIMIT text
+    → (explain_course (Some files) catalogue_name query_name number).goes (Done text)
+    → Says (verify_course (Some files) catalogue_name query_name numbers file) (SaysVerdict None)

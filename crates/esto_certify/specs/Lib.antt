@@ -1,3 +1,3 @@
 pub mod Verify
-pub mod Laws
 pub mod Explain
+pub mod Laws

@@ -1,5 +1,5 @@
 //! Laws of the commands on certificates.
-ghost use Rattle.esto_certify.specs.Laws.{AcceptedSetsAreContained, VerifyIsOne, VerifyRefusesNumbers, VerifySaysVerdicts};
+ghost use Rattle.esto_certify.specs.Laws.{AcceptedSetsAreContained, ExplainedSetsAreVerified, ExplainHasOneStatus, VerifyIsOne, VerifyRefusesNumbers, VerifySaysVerdicts};
 
 use esto_cert::{accepted_certificates_show, verdicts_are_one};
 use esto_opening::openings_are_one;
@@ -30,4 +30,22 @@ pub fn verify_outcomes_are_exact()
     sets_are_ordered();
     verdicts_are_one();
     accepted_certificates_show();
+}
+
+/// A law: over the same files `explain` has one status, where no fetch is at a fault. Of its texts any may be printed.
+pub fn explain_has_one_status()
+    ensures { ExplainHasOneStatus }
+{
+    openings_are_one();
+    plans_and_lists_are_one();
+}
+
+/// A law: what `explain` may write for the set of a number of the list is accepted by `verify` for the numbers of the set's
+/// atoms, where its length is within the limit of a certificate's file.
+pub fn explained_sets_are_verified()
+    ensures { ExplainedSetsAreVerified }
+{
+    openings_are_one();
+    plans_and_lists_are_one();
+    verify_outcomes_are_exact();
 }

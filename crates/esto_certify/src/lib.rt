@@ -7,5 +7,8 @@ mod laws;
 mod verifying;
 
 pub use explaining::explain;
-pub use laws::{verify_outcomes_are_exact, verify_outcomes_are_one};
+pub use laws::{
+    explain_has_one_status, explained_sets_are_verified, verify_outcomes_are_exact,
+    verify_outcomes_are_one,
+};
 pub use verifying::{CERTIFICATE_LIMIT, verify};
