@@ -7,8 +7,9 @@ use Rattle.std.proofs.lemmas.List.Elements.{Contains-append_cases, Contains-appe
 use Rattle.std.proofs.lemmas.List.Quantifiers.{all_pairs_push}
 use Rattle.std.proofs.lemmas.Option.{same_Some, slice_get-get_or, slice_get_within}
 use Rattle.esto_catalog.specs.declared.dataset.Dataset.{Dataset}
-use Rattle.esto_course.specs.Course.{Course, Stops, judges, demands, gives, and_then, each}
+use Rattle.esto_course.specs.Course.{Course, IsQuiet, Stops, judges, demands, gives, and_then, each}
 use Rattle.esto_course.specs.Course.Stops.{is_free, refused}
+use Rattle.esto_course.proofs.Asking.{first_way_asks, quiet_demands, quiet_judges, quiet_then}
 use Rattle.esto_course.proofs.Steps.{Leads, first_stops, then_stops, then_goes, gives_goes, caused_more, each_next, each_stops, each_goes}
 use Rattle.esto_fill.specs.Files.{FindsFault, IsLoadedFrom, dataset_fault}
 use Rattle.esto_fill.specs.Laws.{LoadedAreFlat}
@@ -18,15 +19,20 @@ use Rattle.esto_ports.specs.Files.{Files}
 use Rattle.esto_ports.specs.declared.file_fault.FileError.{FileError}
 use Rattle.esto_ports.specs.declared.file_fault.FileError.TheVariants.{Fault}
 use Rattle.esto_ports.specs.declared.file_fault.FileFault.{FileFault}
+use Rattle.esto_semantics.specs.Maps.{AreFlat}
 use Rattle.esto_semantics.specs.declared.fact.Fact.{Fact}
 use Rattle.esto_term.proofs.ListLemmas.{Contains-cases, Contains-head, Contains-nil}
 use Rattle.esto_term.specs.declared.term.Term.{Term}
 use Rattle.esto_opening.specs.Answers.{IsWant, IsCaused}
-use Rattle.esto_data.specs.Datasets.{AddsNeeded, AreNeeded, IsSourceAt, Loads, LoadsFiles, LoadsMore, LoadsNext, ReadsData, Source, demands_file, demands_files, loads, loads_files, loads_next, opens_dataset, opens_source, reads_data}
+use Rattle.esto_opening.specs.Asked.{AsksIn}
+use Rattle.esto_data.specs.Datasets.{AddsNeeded, AreFactsOfFiles, AreNeeded, IsSourceAt, Loads, LoadsAsking, LoadsFiles, LoadsMore, LoadsNext, ReadsData, Source, demands_file, demands_files, loads, loads_files, loads_next, opens_dataset, opens_source, reads_data}
 use Rattle.esto_opening.specs.Fetch.{fetches}
 use Rattle.esto_data.specs.declared.datasets.TheConstants.{DATASET_LIMIT}
 use Rattle.esto_opening.specs.declared.status.Status.{Status}
 use Rattle.esto_opening.specs.declared.status.Status.TheVariants.{BadDataset, NoData, OutOfMemory}
+use Rattle.esto_opening.proofs.AskedSteps.{early_want, exit_asks, later_asks, quiet_asks}
+use Rattle.esto_opening.proofs.FileSteps.{opened_asks, opened_goes, unfetched_asks, unfetched_stops, unread_asks, unread_stops}
+use Rattle.esto_opening.proofs.LoopSteps.{IsAlong, along_end_asks, along_ends, along_goes, along_starts, along_stop_asks, along_stops, kept_asks, quiet_each}
 use Rattle.esto_opening.proofs.Steps.{caused_weaker}
 
 -- ---- the content of one file
@@ -59,88 +65,97 @@ own_name datasets number dataset own at is = ap (λ (it : Dataset). it.name) (sa
 -- ---- one file
 
 module _ (files : Option Files) (datasets : List Dataset) (number : ℕ) (source : Source) (at : IsSourceAt datasets number source) where
-  source_goes : (bytes : List ℕ) → (opens_source files source).goes bytes → (opens_dataset files datasets number).goes bytes
-  unfolding judges
-  source_goes bytes goes = then_goes (judges (IsSourceAt datasets number) (λ _. ⊥)) (opens_source files) source bytes at goes
-
-  source_stops : {rose : Type 0} {refusal : Status} → Stops IsWant (IsCaused rose) (opens_source files source) refusal
-      → Stops IsWant (IsCaused rose) (opens_dataset files datasets number) refusal
-  unfolding judges
-  source_stops stops = then_stops (judges (IsSourceAt datasets number) (λ _. ⊥)) (opens_source files) source at stops
-
   -- an error that `?` hands on where the file is not fetched
-  pub load_exit : {rose : Type 0} (old : Loaded) (error : Status) (result : Result Loaded Status) → IsErrAnd result (λ handed. handed ≡ error)
-      → Stops IsWant (IsCaused rose) (fetches files source.file DATASET_LIMIT) error → LoadsNext files datasets number old rose result
-  load_exit old error (Ok _) handed stops = absurd handed
-  load_exit old error (Err handed_on) handed stops = rw handed (source_stops (first_stops _ _ stops))
+  pub load_exit : {rose : Type 0} {before after : Option (List (List ℕ))} (old : Loaded) (error : Status) (result : Result Loaded Status)
+      → IsErrAnd result (λ handed. handed ≡ error) → Stops IsWant (IsCaused rose) (fetches files source.file DATASET_LIMIT) error
+      → AsksIn before after (fetches files source.file DATASET_LIMIT) (Err error)
+      → LoadsNext files datasets number old rose before after result
+  load_exit old error (Ok _) handed stops asks = absurd handed
+  load_exit old error (Err handed_on) handed stops asks = rw handed (
+    unfetched_stops (IsSourceAt datasets number) (λ it. it.file) DATASET_LIMIT (λ it. reads_data it.dataset) files source at stops,
+    unfetched_asks (IsSourceAt datasets number) (λ it. it.file) DATASET_LIMIT (λ it. reads_data it.dataset) files source at asks,
+  )
 
-  -- it is fetched, and its content read
-  pub loads_next_by : (bytes : List ℕ) → (fetches files source.file DATASET_LIMIT).goes bytes → (old : Loaded) (rose : Type 0) (result : Result Loaded Status)
-      → ReadsData datasets number source.dataset bytes old result → LoadsNext files datasets number old rose result
-  loads_next_by bytes fetched old rose (Ok new) (good, more) =
-      (bytes, source_goes bytes (then_goes _ _ bytes bytes fetched (then_goes _ _ tt bytes good (gives_goes Status bytes bytes refl))), more)
-  loads_next_by bytes fetched old rose (Err refusal) stops =
-      source_stops (then_stops _ _ bytes fetched (first_stops _ _ (caused_more _ refusal (caused_weaker (λ none. absurd none)) stops)))
-
--- the file that the dataset at the number has is the source's
-pub same_source : (datasets : List Dataset) (number : ℕ) (source : Source) → IsSourceAt datasets number source → (dataset : Dataset)
-    → slice_get datasets number ≡ Some dataset → source.dataset ≡ dataset
-same_source datasets number source at dataset is = same_Some source.dataset dataset (sym at.there ∙ is)
+  module _ (bytes : List ℕ) (fetched : (fetches files source.file DATASET_LIMIT).goes bytes) (before after : Option (List (List ℕ)))
+      (asked : AsksIn before after (fetches files source.file DATASET_LIMIT) (Ok bytes)) where
+    -- it is fetched, and its content read
+    pub loads_next_by : (old : Loaded) (rose : Type 0) (result : Result Loaded Status) → ReadsData datasets number source.dataset bytes old result
+        → LoadsNext files datasets number old rose before after result
+    loads_next_by old rose (Ok new) (good, more) = (
+      bytes,
+      opened_goes (IsSourceAt datasets number) (λ it. it.file) DATASET_LIMIT (λ it. reads_data it.dataset) files source at bytes fetched good,
+      more,
+      opened_asks (IsSourceAt datasets number) (λ it. it.file) DATASET_LIMIT (λ it. reads_data it.dataset) files source at bytes (quiet_judges _ _) asked
+          good,
+    )
+    loads_next_by old rose (Err refusal) stops = (
+      unread_stops (IsSourceAt datasets number) (λ it. it.file) DATASET_LIMIT (λ it. reads_data it.dataset) files source at bytes fetched stops,
+      unread_asks (IsSourceAt datasets number) (λ it. it.file) DATASET_LIMIT (λ it. reads_data it.dataset) files source at bytes (quiet_judges _ _) asked
+          stops,
+    )
 
 -- ---- all files
 
--- after the files of the first numbers, so many: these, with which the course goes on, and their facts
-pub record SoFarLoaded (files : Option Files) (datasets : List Dataset) (numbers : List ℕ) (index : ℕ) (loaded : Loaded) : Type 0 where
-  pub counter : ℕ
+-- the files, with that of the dataset of the number
+abbrev with_file : List DatasetBytes → ℕ → List ℕ → List DatasetBytes
+with_file contents number bytes = contents ++ record { dataset = number; bytes = bytes } ∷ []
+
+-- after the files of the first numbers, so many: these, with which the course goes on, their facts, and the names that came to those that were asked for
+pub record SoFarLoaded (files : Option Files) (datasets : List Dataset) (numbers : List ℕ) (before : Option (List (List ℕ))) (index : ℕ) (loaded : Loaded)
+    (now : Option (List (List ℕ))) : Type 0 where
   pub contents : List DatasetBytes
-  pub leads : Leads (each (loads_next files datasets) counter contents (drop index numbers)) (loads_files files datasets numbers)
+  pub along : IsAlong (loads_next files datasets) numbers (loads_files files datasets numbers) before index contents now
   pub are : IsLoadedFrom datasets contents loaded
 
-module _ (files : Option Files) (datasets : List Dataset) (numbers : List ℕ) where
-  pub loading_starts : (loaded : Loaded) → loaded.facts ≡ [] → loaded.next ≡ 0 → SoFarLoaded files datasets numbers 0 loaded
-  loading_starts loaded facts next = record {
-    counter = 0;
-    contents = [];
-    leads = record { goes = λ value goes. goes; stops = λ refusal stops. stops };
-    are = (facts, next);
-  }
+module _ (files : Option Files) (datasets : List Dataset) (numbers : List ℕ) (before : Option (List (List ℕ))) where
+  pub loading_starts : (loaded : Loaded) → loaded.facts ≡ [] → loaded.next ≡ 0 → SoFarLoaded files datasets numbers before 0 loaded before
+  loading_starts loaded facts next =
+      record { contents = []; along = along_starts (loads_next files datasets) numbers [] before; are = (facts, next) }
 
-  module _ (index : ℕ) (loaded : Loaded) (so_far : SoFarLoaded files datasets numbers index loaded) where
+  module _ (index : ℕ) (loaded : Loaded) (now : Option (List (List ℕ))) (so_far : SoFarLoaded files datasets numbers before index loaded now) where
     module _ (number : ℕ) (below : index < length numbers) (is : number ≡ get_or numbers index number) where
       -- one file more
       pub loading_goes : (next : Loaded) (bytes : List ℕ) → (opens_dataset files datasets number).goes bytes → LoadsMore datasets number bytes loaded next
-          → SoFarLoaded files datasets numbers (index + 1) next
-      loading_goes next bytes goes more =
-          let contents : List DatasetBytes = so_far.contents ++ record { dataset = number; bytes = bytes } ∷ [] in record {
-            counter = suc so_far.counter;
-            contents = contents;
-            leads = each_next (loads_next files datasets) numbers (loads_files files datasets numbers) so_far.counter index so_far.contents so_far.leads
-                number below is contents
-                (then_goes (opens_dataset files datasets number) (λ it. gives (so_far.contents ++ record { dataset = number; bytes = it } ∷ [])) bytes contents
-                goes (gives_goes Status _ _ refl));
-            are = more so_far.contents so_far.are;
-          }
+          → (later : Option (List (List ℕ))) → AsksIn now later (opens_dataset files datasets number) (Ok bytes)
+          → SoFarLoaded files datasets numbers before (index + 1) next later
+      loading_goes next bytes goes more later asked = record {
+        contents = with_file so_far.contents number bytes;
+        along = along_goes (loads_next files datasets) numbers (loads_files files datasets numbers) before index so_far.contents now so_far.along number below
+            is (with_file so_far.contents number bytes) later
+            (then_goes (opens_dataset files datasets number) (λ it. gives (with_file so_far.contents number it)) bytes
+            (with_file so_far.contents number bytes) goes (gives_goes Status _ _ refl))
+            (kept_asks (opens_dataset files datasets number) (with_file so_far.contents number) bytes asked);
+        are = more so_far.contents so_far.are;
+      }
 
       -- the file is not opened
       pub loading_stops : {rose : Type 0} {refusal : Status} → Stops IsWant (IsCaused rose) (opens_dataset files datasets number) refusal
           → Stops IsWant (IsCaused rose) (loads_files files datasets numbers) refusal
-      loading_stops stops = each_stops (loads_next files datasets) numbers (loads_files files datasets numbers) so_far.counter index so_far.contents
-          so_far.leads number below is (first_stops _ _ stops)
+      loading_stops stops = along_stops (loads_next files datasets) numbers (loads_files files datasets numbers) before index so_far.contents now
+          so_far.along number below is (first_stops _ _ stops)
+
+      pub loading_stop_asks : (later : Option (List (List ℕ))) (refusal : Status) → AsksIn now later (opens_dataset files datasets number) (Err refusal)
+          → AsksIn before later (loads_files files datasets numbers) (Err refusal)
+      loading_stop_asks later refusal asked = along_stop_asks (loads_next files datasets) numbers (loads_files files datasets numbers) before index
+          so_far.contents now so_far.along number below is later refusal
+          (exit_asks (opens_dataset files datasets number) (λ it. gives (with_file so_far.contents number it)) asked)
 
     -- no file is left
-    pub loading_ends : length numbers ≤ index → (rose : Type 0) → LoadsFiles files datasets numbers rose (Ok loaded)
+    pub loading_ends : length numbers ≤ index → (rose : Type 0) → LoadsFiles files datasets numbers rose before now (Ok loaded)
     loading_ends le rose = (
       so_far.contents,
-      each_goes (loads_next files datasets) numbers (loads_files files datasets numbers) so_far.counter index so_far.contents so_far.leads le,
+      along_ends (loads_next files datasets) numbers (loads_files files datasets numbers) before index so_far.contents now so_far.along le,
       so_far.are,
+      along_end_asks (loads_next files datasets) numbers (loads_files files datasets numbers) before index so_far.contents now so_far.along le,
     )
 
 -- the error of one file that `?` hands on
-pub loading_exit : {rose : Type 0} (files : Option Files) (datasets : List Dataset) (numbers : List ℕ) (error : Status) (result : Result Loaded Status)
-    → IsErrAnd result (λ handed. handed ≡ error) → Stops IsWant (IsCaused rose) (loads_files files datasets numbers) error
-    → LoadsFiles files datasets numbers rose result
-loading_exit files datasets numbers error (Ok _) handed stops = absurd handed
-loading_exit files datasets numbers error (Err handed_on) handed stops = rw handed stops
+pub loading_exit : {rose : Type 0} {before after : Option (List (List ℕ))} (files : Option Files) (datasets : List Dataset) (numbers : List ℕ) (error : Status)
+    (result : Result Loaded Status) → IsErrAnd result (λ handed. handed ≡ error) → Stops IsWant (IsCaused rose) (loads_files files datasets numbers) error
+    → AsksIn before after (loads_files files datasets numbers) (Err error)
+    → LoadsFiles files datasets numbers rose before after result
+loading_exit files datasets numbers error (Ok _) handed stops asks = absurd handed
+loading_exit files datasets numbers error (Err handed_on) handed stops asks = rw handed (stops, asks)
 
 -- ---- that each has a file
 
@@ -197,6 +212,17 @@ sources_there datasets counter (first ∷ rest) (given, (dataset, at, some), mor
   | inr later ↦ sources_there datasets (suc counter) rest more number later
 ]
 
+-- that is asked of datasets alone
+demands_quiet : (datasets : List Dataset) (numbers : List ℕ) → IsQuiet (demands_files datasets numbers)
+demands_quiet datasets numbers = quiet_each (demands_file datasets)
+    (λ place given number. quiet_then (judges (λ dataset. slice_get datasets number ≡ Some dataset) (λ _. ⊥)) _ (quiet_judges _ _)
+    (λ dataset. quiet_demands (IsSome dataset.file) (NoData dataset.name))) 0 tt numbers
+
+facts_go : (datasets : List Dataset) (contents : List DatasetBytes) (loaded : Loaded) → IsLoadedFrom datasets contents loaded → AreFlat loaded.facts
+    → (judges {E = Status} (AreFactsOfFiles datasets contents) (λ _. ⊥)).goes loaded.facts
+unfolding judges
+facts_go datasets contents loaded are flat = record { next = loaded.next; are = are; flat = flat }
+
 -- ---- all together
 
 module _ (files : Option Files) (datasets : List Dataset) (Needs : Dataset → Type 0) (numbers : List ℕ) (needed : AreNeeded datasets Needs numbers) where
@@ -213,24 +239,65 @@ module _ (files : Option Files) (datasets : List Dataset) (Needs : Dataset → T
       (first_stops _ _ (caused_more _ error (caused_weaker (λ none. absurd none)) stops)))
 
   -- all have one, and the files are opened
-  pub loads_by : LoadedAreFlat → (demands_files datasets numbers).goes tt → (rose : Type 0) (result : Result Loaded Status)
-      → LoadsFiles files datasets numbers rose result
+  pub loads_by : LoadedAreFlat → (demands_files datasets numbers).goes tt → (rose : Type 0) {before after : Option (List (List ℕ))}
+      (result : Result Loaded Status) → LoadsFiles files datasets numbers rose before after result
       → Loads (loads files datasets Needs) rose result
   unfolding judges
-  loads_by flat have rose (Ok loaded) (contents, goes, are) =
+  loads_by flat have rose (Ok loaded) (contents, goes, are, asked) =
       then_goes (judges (AreNeeded datasets Needs) (λ _. ⊥)) _ numbers loaded.facts needed
       (then_goes (demands_files datasets numbers) _ tt loaded.facts have
       (then_goes (loads_files files datasets numbers) _ contents loaded.facts goes (record { next = loaded.next; are = are; flat = flat loaded })))
-  loads_by flat have rose (Err refusal) stops =
+  loads_by flat have rose (Err refusal) (stops, asked) =
       then_stops (judges (AreNeeded datasets Needs) (λ _. ⊥)) _ numbers needed
       (then_stops (demands_files datasets numbers) _ tt have (first_stops _ _ stops))
 
--- want of memory
-pub loads_wanting : (rose : Type 0) (course : Course Status (List (Fact Term))) (result : Result Loaded Status)
+  -- what follows, once the files of the datasets are demanded, and once the datasets are found
+  abbrev then_loads : Unit {0} → Course Status (List (Fact Term))
+  then_loads _ = and_then (loads_files files datasets numbers) (λ contents. judges (AreFactsOfFiles datasets contents) (λ _. ⊥))
+
+  abbrev then_demands : List ℕ → Course Status (List (Fact Term))
+  then_demands them = and_then (demands_files datasets them) (λ _. and_then (loads_files files datasets them) (λ contents.
+      judges (AreFactsOfFiles datasets contents) (λ _. ⊥)))
+
+  found_asks : {before after : Option (List (List ℕ))} {result : Result (List (Fact Term)) Status} → AsksIn before after (then_demands numbers) result
+      → AsksIn before after (loads files datasets Needs) result
+  unfolding judges
+  found_asks {before = before} asks =
+      later_asks (judges (AreNeeded datasets Needs) (λ _. ⊥)) then_demands
+      (quiet_asks (judges (AreNeeded datasets Needs) (λ _. ⊥)) before (Ok numbers) (quiet_judges _ _) needed) asks
+
+  have_asks : {before after : Option (List (List ℕ))} {result : Result (List (Fact Term)) Status} → (demands_files datasets numbers).goes tt
+      → AsksIn before after (then_loads tt) result → AsksIn before after (loads files datasets Needs) result
+  have_asks {before = before} have asks =
+      found_asks (later_asks (demands_files datasets numbers) then_loads
+      (quiet_asks (demands_files datasets numbers) before (Ok tt) (demands_quiet datasets numbers) have) asks)
+
+  -- what is asked for where a dataset has no file, and where all have one
+  pub demand_exit_asks : (told : Option (List (List ℕ))) (error : Status) (result : Result Loaded Status) → IsErrAnd result (λ handed. handed ≡ error)
+      → Stops IsWant (IsCaused ⊥) (demands_files datasets numbers) error
+      → LoadsAsking told told (loads files datasets Needs) result
+  demand_exit_asks told error (Ok _) handed stops = absurd handed
+  demand_exit_asks told error (Err handed_on) handed stops =
+      rw handed (found_asks (exit_asks (demands_files datasets numbers) then_loads
+      (quiet_asks (demands_files datasets numbers) told (Err error) (demands_quiet datasets numbers) stops)))
+
+  pub loads_by_asks : LoadedAreFlat → (demands_files datasets numbers).goes tt → {rose : Type 0} {before after : Option (List (List ℕ))}
+      (result : Result Loaded Status) → LoadsFiles files datasets numbers rose before after result
+      → LoadsAsking before after (loads files datasets Needs) result
+  loads_by_asks flat have {after = after} (Ok loaded) (contents, goes, are, asked) =
+      have_asks have (later_asks (loads_files files datasets numbers) (λ it. judges (AreFactsOfFiles datasets it) (λ _. ⊥)) asked
+      (quiet_asks (judges (AreFactsOfFiles datasets contents) (λ _. ⊥)) after (Ok loaded.facts) (quiet_judges _ _)
+      (facts_go datasets contents loaded are (flat loaded))))
+  loads_by_asks flat have (Err refusal) (stops, asked) =
+      have_asks have (exit_asks (loads_files files datasets numbers) (λ it. judges (AreFactsOfFiles datasets it) (λ _. ⊥)) asked)
+
+-- want of memory, before anything is asked for
+pub wanting_asks : (files : Option Files) (datasets : List Dataset) (Needs : Dataset → Type 0) (told : Option (List (List ℕ))) (result : Result Loaded Status)
     → IsErrAnd result (λ handed. handed ≡ OutOfMemory)
-    → Loads course rose result
-loads_wanting rose course (Ok _) handed = absurd handed
-loads_wanting rose course (Err handed_on) handed = is_free handed
+    → LoadsAsking told told (loads files datasets Needs) result
+wanting_asks files datasets Needs told (Ok _) handed = absurd handed
+wanting_asks files datasets Needs told (Err handed_on) handed =
+    rw handed (early_want (loads files datasets Needs) told (first_way_asks (judges (AreNeeded datasets Needs) (λ _. ⊥)) _ [] (quiet_judges _ _).underway))
 
 -- ---- which are needed
 

@@ -39,7 +39,7 @@ use Rattle.esto_opening.specs.Fetch.{fetches, FetchStops}
 use Rattle.esto_opening.specs.Fetch.FetchStops.{fails, is_longer}
 use Rattle.esto_opening.specs.Fragments.{Stored, IsStoredAt, opens_fragments}
 use Rattle.esto_opening.specs.Line.{line_of}
-use Rattle.esto_opening.specs.Opening.{opens_catalogue, opens_query, reads_catalogue, reads_query}
+use Rattle.esto_opening.specs.Opening.{FilesSayCatalogue, FilesSayQuery, opens_catalogue, opens_query, reads_catalogue, reads_query}
 use Rattle.esto_opening.specs.declared.opening.TheConstants.{CATALOGUE_LIMIT, QUERY_LIMIT}
 use Rattle.esto_opening.specs.declared.reply.Reply.{Reply}
 use Rattle.esto_opening.specs.declared.reply.Reply.TheVariants.{Done}
@@ -52,7 +52,7 @@ use Rattle.esto_data.specs.Answer.{IsAnswerOfFacts, answer_course, answers_query
 use Rattle.esto_data.specs.Audit.{AuditsFiles, all_fragments, audit_course, audit_text, audits_catalogue}
 use Rattle.esto_data.specs.Datasets.{IsAny, Names, demands_file, loads, loads_next, opens_dataset}
 use Rattle.esto_data.specs.declared.datasets.TheConstants.{DATASET_LIMIT}
-use Rattle.esto_data.specs.Exact.{AnswersExactly, AreReadableFragments, AuditsExactly, FilesSayCatalogue, FilesSayQuery, FillsExactly, HoldFacts, IsExactAnswer, IsExactAudit, IsExactFill}
+use Rattle.esto_data.specs.Exact.{AnswersExactly, AreReadableFragments, AuditsExactly, FillsExactly, HoldFacts, IsExactAnswer, IsExactAudit, IsExactFill}
 use Rattle.esto_data.specs.Exact.FillsExactly.{prints, tells_key, tells_node}
 use Rattle.esto_data.specs.Fill.{IsFilled, IsFirstOf, IsRowOfView, fill_course, fill_status, fills_file, fills_named, names_of}
 use Rattle.esto_data.specs.Laws.{Says}

@@ -8,6 +8,7 @@ use Rattle.std.proofs.lemmas.Option.{same_Some, none-some}
 use Rattle.esto_catalog.specs.declared.dataset.Dataset.{Dataset}
 use Rattle.esto_course.specs.Agreement.{IsDetermined}
 use Rattle.esto_course.specs.Course.{Course, each, gives, judges, and_then}
+use Rattle.esto_course.proofs.Alike.{fewer_alike}
 use Rattle.esto_course.proofs.Determined.{then_agree, gives_agree, judges_agree, judges_determined, then_determined, demands_determined, each_determined}
 use Rattle.esto_fill.specs.Laws.{FactsAreOne}
 use Rattle.esto_fill.specs.declared.datasets.DatasetBytes.{DatasetBytes}
@@ -16,6 +17,7 @@ use Rattle.esto_semantics.specs.Maps.{AreFlat}
 use Rattle.esto_semantics.specs.declared.fact.Fact.{Fact}
 use Rattle.esto_term.proofs.ChoiceLemmas.{one_list}
 use Rattle.esto_term.specs.declared.term.Term.{Term}
+use Rattle.esto_opening.specs.Answers.{IsCaused}
 use Rattle.esto_opening.specs.Calm.{AgreeCalmly}
 use Rattle.esto_opening.specs.declared.status.Status.{Status}
 use Rattle.esto_opening.specs.declared.status.Status.TheVariants as status
@@ -30,6 +32,7 @@ calm course one = record {
   one_stop = λ said other caused other_caused here there. one.one_stop said other tt tt here there;
   apart = λ value said caused here there. one.apart value said tt here there;
   other_apart = λ value said caused here there. one.other_apart value said tt here there;
+  alike = fewer_alike (IsCaused ⊥) (λ _. Unit {0}) course course (λ said caused. tt) one.alike;
 }
 
 -- ---- the datasets that are needed

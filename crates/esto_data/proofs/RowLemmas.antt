@@ -6,9 +6,10 @@ use Rattle.std.proofs.lemmas.List.FromFn.{length-range_with_len, get_or-range_wi
 use Rattle.std.proofs.lemmas.Option.{same_Some, slice_get_within}
 use Rattle.esto_catalog.specs.declared.catalogue.Catalogue.{Catalogue}
 use Rattle.esto_catalog.specs.declared.catalogue.Store.{Store}
-use Rattle.esto_course.specs.Course.{Stops, judges, gives, each}
+use Rattle.esto_course.specs.Course.{Names, Stops, judges, gives}
 use Rattle.esto_course.specs.Course.Stops.{refused}
-use Rattle.esto_course.proofs.Steps.{Leads, first_stops, then_stops, then_goes, gives_goes, caused_more, each_next, each_stops, each_goes}
+use Rattle.esto_course.proofs.Asking.{quiet_judges}
+use Rattle.esto_course.proofs.Steps.{first_stops, then_goes, gives_goes}
 use Rattle.esto_plan.specs.Rows.{IsRowOf, held_by}
 use Rattle.esto_ports.specs.Files.{Files}
 use Rattle.esto_ports.specs.declared.file_fault.FileError.{FileError}
@@ -20,12 +21,16 @@ use Rattle.esto_stores.specs.Rows.{Row}
 use Rattle.esto_term.proofs.ListLemmas.{Contains-nil, at_pushed, thing_at}
 use Rattle.esto_views.specs.declared.fragments.FragmentDef.{FragmentDef}
 use Rattle.esto_opening.specs.Answers.{IsWant, IsCaused}
+use Rattle.esto_opening.specs.Asked.{AsksIn}
 use Rattle.esto_opening.specs.Fetch.{fetches}
-use Rattle.esto_opening.specs.Fragments.{Stored, IsStoredAt, content_fault, opens_stored, opens_fragment, no_contents, with_content, opens_next, opens_fragments}
+use Rattle.esto_opening.specs.Fragments.{Stored, IsStoredAt, content_fault, opens_fragment, no_contents, with_content, opens_next, opens_fragments}
 use Rattle.esto_opening.specs.declared.fragments.TheConstants.{FRAGMENT_LIMIT}
 use Rattle.esto_opening.specs.declared.status.Status.{Status}
-use Rattle.esto_opening.specs.declared.status.Status.TheVariants.{BadFragment}
-use Rattle.esto_opening.proofs.Steps.{caused_weaker}
+use Rattle.esto_opening.specs.declared.status.Status.TheVariants.{BadFragment, OutOfMemory}
+use Rattle.esto_opening.proofs.AskedSteps.{exit_asks}
+use Rattle.esto_opening.proofs.FileSteps.{opened_asks, opened_goes, unfetched_asks, unfetched_stops, unread_asks, unread_stops}
+use Rattle.esto_opening.proofs.FragmentLemmas.{next_way}
+use Rattle.esto_opening.proofs.LoopSteps.{IsAlong, along_end_asks, along_ends, along_goes, along_starts, along_stop_asks, along_stops, along_wants, kept_asks}
 use Rattle.esto_data.specs.Audit.{OpensNextRows, OpensRows, ReadsRows, all_fragments}
 
 -- ---- the content of one file
@@ -78,40 +83,42 @@ module _ (catalogue : Catalogue) (number : ℕ) (stored : Stored) (at : IsStored
 -- ---- one file
 
 module _ (files : Option Files) (catalogue : Catalogue) (number : ℕ) (stored : Stored) (at : IsStoredAt catalogue number stored) where
-  found_goes : (bytes : List ℕ) → (opens_stored files stored).goes bytes → (opens_fragment files catalogue number).goes bytes
-  unfolding judges
-  found_goes bytes goes = then_goes (judges (IsStoredAt catalogue number) (λ _. ⊥)) (opens_stored files) stored bytes at goes
-
-  found_stops : {rose : Type 0} {refusal : Status} → Stops IsWant (IsCaused rose) (opens_stored files stored) refusal
-      → Stops IsWant (IsCaused rose) (opens_fragment files catalogue number) refusal
-  unfolding judges
-  found_stops stops = then_stops (judges (IsStoredAt catalogue number) (λ _. ⊥)) (opens_stored files) stored at stops
-
   -- an error that `?` hands on
-  pub rows_exit : {rose : Type 0} (error : Status) (result : Result (List Row) Status)
+  pub rows_exit : {rose : Type 0} {before after : Option Names} (error : Status) (result : Result (List Row) Status)
       → IsErrAnd result (λ handed. handed ≡ error) → Stops IsWant (IsCaused rose) (fetches files stored.store.file FRAGMENT_LIMIT) error
-      → OpensNextRows files catalogue number rose result
-  rows_exit error (Ok _) handed stops = absurd handed
-  rows_exit error (Err handed_on) handed stops = rw handed (found_stops (first_stops _ _ stops))
-
-  -- it is fetched and its content read
-  pub rows_by : (bytes : List ℕ) → (fetches files stored.store.file FRAGMENT_LIMIT).goes bytes → (rose : Type 0) (result : Result (List Row) Status)
-      → ReadsRows stored bytes result → OpensNextRows files catalogue number rose result
-  rows_by bytes fetched rose (Ok rows) (good, are) = (
-    bytes,
-    found_goes bytes (then_goes _ _ bytes bytes fetched (then_goes _ _ tt bytes good (gives_goes Status bytes bytes refl))),
-    (λ store there row. subst (λ (it : Store). Contains rows row ↔ IsRowIn it.shape bytes row) (same_Some stored.store store (sym at.store ∙ there)) (are row)),
+      → AsksIn before after (fetches files stored.store.file FRAGMENT_LIMIT) (Err error)
+      → OpensNextRows files catalogue number rose before after result
+  rows_exit error (Ok _) handed stops asks = absurd handed
+  rows_exit error (Err handed_on) handed stops asks = rw handed (
+    unfetched_stops (IsStoredAt catalogue number) (λ it. it.store.file) FRAGMENT_LIMIT reads_content files stored at stops,
+    unfetched_asks (IsStoredAt catalogue number) (λ it. it.store.file) FRAGMENT_LIMIT reads_content files stored at asks,
   )
-  rows_by bytes fetched rose (Err refusal) stops =
-      found_stops (then_stops _ _ bytes fetched (first_stops _ _ (caused_more _ refusal (caused_weaker (λ none. absurd none)) stops)))
+
+  module _ (bytes : List ℕ) (fetched : (fetches files stored.store.file FRAGMENT_LIMIT).goes bytes) (before after : Option Names)
+      (asked : AsksIn before after (fetches files stored.store.file FRAGMENT_LIMIT) (Ok bytes)) where
+    -- it is fetched and its content read
+    pub rows_by : (rose : Type 0) (result : Result (List Row) Status) → ReadsRows stored bytes result
+        → OpensNextRows files catalogue number rose before after result
+    rows_by rose (Ok rows) (good, are) = (
+      bytes,
+      opened_goes (IsStoredAt catalogue number) (λ it. it.store.file) FRAGMENT_LIMIT reads_content files stored at bytes fetched good,
+      (λ store there row. subst (λ (it : Store). Contains rows row ↔ IsRowIn it.shape bytes row) (same_Some stored.store store (sym at.store ∙ there))
+          (are row)),
+      opened_asks (IsStoredAt catalogue number) (λ it. it.store.file) FRAGMENT_LIMIT reads_content files stored at bytes (quiet_judges _ _) asked good,
+    )
+    rows_by rose (Err refusal) stops = (
+      unread_stops (IsStoredAt catalogue number) (λ it. it.store.file) FRAGMENT_LIMIT reads_content files stored at bytes fetched stops,
+      unread_asks (IsStoredAt catalogue number) (λ it. it.store.file) FRAGMENT_LIMIT reads_content files stored at bytes (quiet_judges _ _) asked stops,
+    )
 
 -- ---- all files
 
--- of the first fragments, so many: the contents of their files, with which the course goes on, and their rows
-pub record SoFarRows (files : Option Files) (catalogue : Catalogue) (index : ℕ) (rows : List (List Row)) : Type 0 where
+-- of the first fragments, so many: the contents of their files, with which the course goes on, their rows, and the names that came to those that were asked for
+pub record SoFarRows (files : Option Files) (catalogue : Catalogue) (before : Option Names) (index : ℕ) (rows : List (List Row)) (now : Option Names)
+    : Type 0 where
   pub contents : ℕ → List ℕ
-  pub leads : Leads (each (opens_next files catalogue) index contents (drop index (all_fragments catalogue)))
-      (opens_fragments files catalogue (all_fragments catalogue))
+  pub along : IsAlong (opens_next files catalogue) (all_fragments catalogue) (opens_fragments files catalogue (all_fragments catalogue)) before index contents
+      now
   pub long : length rows ≡ index
   pub are : (number : ℕ) (own : List Row) (store : Store) → slice_get rows number ≡ Some own → slice_get catalogue.stores number ≡ Some store
       → (row : Row) → Contains own row ↔ IsRowIn store.shape (contents number) row
@@ -135,11 +142,11 @@ held_there [] number own at row inside = absurd (cc)
 held_there (first ∷ rows) zero own at row inside = let is : first ≡ own = cc in subst (λ (it : List Row). Contains it row) (sym is) inside
 held_there (first ∷ rows) (suc number) own at row inside = held_there rows number own at row inside
 
-module _ (files : Option Files) (catalogue : Catalogue) where
-  pub rows_start : (rows : List (List Row)) → rows ≡ [] → SoFarRows files catalogue 0 rows
-  rows_start rows none = subst (SoFarRows files catalogue 0) (sym none) (record {
+module _ (files : Option Files) (catalogue : Catalogue) (before : Option Names) where
+  pub rows_start : (rows : List (List Row)) → rows ≡ [] → SoFarRows files catalogue before 0 rows before
+  rows_start rows none = subst (λ (it : List (List Row)). SoFarRows files catalogue before 0 it before) (sym none) (record {
     contents = no_contents;
-    leads = record { goes = λ value goes. goes; stops = λ refusal stops. stops };
+    along = along_starts (opens_next files catalogue) (all_fragments catalogue) no_contents before;
     long = refl;
     are = λ number own store at. absurd (cc);
   })
@@ -150,23 +157,40 @@ module _ (files : Option Files) (catalogue : Catalogue) where
   counted : (index : ℕ) → index < length catalogue.fragments → index ≡ get_or (all_fragments catalogue) index index
   counted index below = let is = get_or-range_with_len 0 (length catalogue.fragments) index index below in omega (arith, is)
 
-  module _ (index : ℕ) (rows : List (List Row)) (so_far : SoFarRows files catalogue index rows) (below : index < length catalogue.fragments) where
+  module _ (index : ℕ) (rows : List (List Row)) (now : Option Names) (so_far : SoFarRows files catalogue before index rows now)
+      (below : index < length catalogue.fragments) where
+    -- the file of one more is opened
+    along_one : (bytes : List ℕ) → (opens_fragment files catalogue index).goes bytes → (later : Option Names)
+        → AsksIn now later (opens_fragment files catalogue index) (Ok bytes)
+        → IsAlong (opens_next files catalogue) (all_fragments catalogue) (opens_fragments files catalogue (all_fragments catalogue)) before (index + 1)
+        (with_content so_far.contents index bytes) later
+    along_one bytes opens later asked =
+        along_goes (opens_next files catalogue) (all_fragments catalogue) (opens_fragments files catalogue (all_fragments catalogue)) before index
+        so_far.contents now so_far.along index (numbered index below) (counted index below) (with_content so_far.contents index bytes) later
+        (then_goes (opens_fragment files catalogue index) (λ it. gives (with_content so_far.contents index it)) bytes
+        (with_content so_far.contents index bytes) opens (gives_goes Status _ _ refl))
+        (kept_asks (opens_fragment files catalogue index) (with_content so_far.contents index) bytes asked)
+
+    -- want of memory after it
+    pub rows_want : (bytes : List ℕ) → (opens_fragment files catalogue index).goes bytes → (later : Option Names)
+        → AsksIn now later (opens_fragment files catalogue index) (Ok bytes)
+        → AsksIn before later (opens_fragments files catalogue (all_fragments catalogue)) (Err OutOfMemory)
+    rows_want bytes opens later asked =
+        along_wants (opens_next files catalogue) (all_fragments catalogue) (opens_fragments files catalogue (all_fragments catalogue)) before (index + 1)
+        (with_content so_far.contents index bytes) later (along_one bytes opens later asked) (next_way files catalogue)
+
     -- one file more
     pub rows_go : (more : List (List Row)) (own : List Row) (bytes : List ℕ) → more ≡ rows ++ own ∷ [] → (opens_fragment files catalogue index).goes bytes
         → ((store : Store) → slice_get catalogue.stores index ≡ Some store → (row : Row) → Contains own row ↔ IsRowIn store.shape bytes row)
-        → SoFarRows files catalogue (index + 1) more
-    rows_go more own bytes pushed opens are = subst (SoFarRows files catalogue (index + 1)) (sym pushed) (record {
-      contents = with_content so_far.contents index bytes;
-      leads = let one : index + 1 ≡ suc index = omega arith in
-          subst (λ (it : ℕ). Leads (each (opens_next files catalogue) it (with_content so_far.contents index bytes) (drop (index + 1) (all_fragments catalogue)))
-          (opens_fragments files catalogue (all_fragments catalogue))) (sym one)
-          (each_next (opens_next files catalogue) (all_fragments catalogue) (opens_fragments files catalogue (all_fragments catalogue)) index index
-          so_far.contents so_far.leads index (numbered index below) (counted index below) (with_content so_far.contents index bytes)
-          (then_goes (opens_fragment files catalogue index) (λ it. gives (with_content so_far.contents index it)) bytes
-          (with_content so_far.contents index bytes) opens (gives_goes Status _ _ refl)));
-      long = longer;
-      are = λ number its store at there row. pushed_rows number its store at there row;
-    })
+        → (later : Option Names) → AsksIn now later (opens_fragment files catalogue index) (Ok bytes)
+        → SoFarRows files catalogue before (index + 1) more later
+    rows_go more own bytes pushed opens are later asked =
+        subst (λ (it : List (List Row)). SoFarRows files catalogue before (index + 1) it later) (sym pushed) (record {
+          contents = with_content so_far.contents index bytes;
+          along = along_one bytes opens later asked;
+          long = longer;
+          are = λ number its store at there row. pushed_rows number its store at there row;
+        })
       where
         longer : length (rows ++ own ∷ []) ≡ index + 1
         longer = length-append rows (own ∷ []) ∙ ap (λ (it : ℕ). it + 1) so_far.long
@@ -190,21 +214,32 @@ module _ (files : Option Files) (catalogue : Catalogue) where
     -- the file is not opened
     pub rows_stop : {rose : Type 0} {refusal : Status} → Stops IsWant (IsCaused rose) (opens_fragment files catalogue index) refusal
         → Stops IsWant (IsCaused rose) (opens_fragments files catalogue (all_fragments catalogue)) refusal
-    rows_stop stops = each_stops (opens_next files catalogue) (all_fragments catalogue) (opens_fragments files catalogue (all_fragments catalogue)) index index
-        so_far.contents so_far.leads index (numbered index below) (counted index below) (first_stops _ _ stops)
+    rows_stop stops = along_stops (opens_next files catalogue) (all_fragments catalogue) (opens_fragments files catalogue (all_fragments catalogue)) before index
+        so_far.contents now so_far.along index (numbered index below) (counted index below) (first_stops _ _ stops)
+
+    pub rows_stop_asks : (later : Option Names) (refusal : Status) → AsksIn now later (opens_fragment files catalogue index) (Err refusal)
+        → AsksIn before later (opens_fragments files catalogue (all_fragments catalogue)) (Err refusal)
+    rows_stop_asks later refusal asked = along_stop_asks (opens_next files catalogue) (all_fragments catalogue)
+        (opens_fragments files catalogue (all_fragments catalogue)) before index so_far.contents now so_far.along index (numbered index below)
+        (counted index below) later refusal
+        (exit_asks (opens_fragment files catalogue index) (λ it. gives (with_content so_far.contents index it)) asked)
 
   -- no file is left
-  pub rows_end : (rows : List (List Row)) → SoFarRows files catalogue (length catalogue.fragments) rows
-      → length catalogue.stores ≡ length catalogue.fragments → (rose : Type 0) → OpensRows files catalogue rose (Ok rows)
-  rows_end rows so_far many rose = (
+  pub rows_end : (rows : List (List Row)) (now : Option Names) → SoFarRows files catalogue before (length catalogue.fragments) rows now
+      → length catalogue.stores ≡ length catalogue.fragments → (rose : Type 0) → OpensRows files catalogue rose before now (Ok rows)
+  rows_end rows now so_far many rose = (
     so_far.contents,
-    each_goes (opens_next files catalogue) (all_fragments catalogue) (opens_fragments files catalogue (all_fragments catalogue))
-        (length catalogue.fragments) (length catalogue.fragments) so_far.contents so_far.leads
-        (omega (arith, length-range_with_len 0 (length catalogue.fragments))),
+    along_ends (opens_next files catalogue) (all_fragments catalogue) (opens_fragments files catalogue (all_fragments catalogue)) before
+        (length catalogue.fragments) so_far.contents now so_far.along all_done,
     so_far.long,
     (λ fact. (told fact, held fact)),
+    along_end_asks (opens_next files catalogue) (all_fragments catalogue) (opens_fragments files catalogue (all_fragments catalogue)) before
+        (length catalogue.fragments) so_far.contents now so_far.along all_done,
   )
     where
+      all_done : length (all_fragments catalogue) ≤ length catalogue.fragments
+      all_done = omega (arith, length-range_with_len 0 (length catalogue.fragments))
+
       told : (fact : Fact (List ℕ)) → IsRowOf (held_by rows) fact → IsFileRow catalogue.stores so_far.contents fact
       told fact inside =
           let own = row_from rows fact.relation fact.terms inside in
@@ -219,19 +254,17 @@ module _ (files : Option Files) (catalogue : Catalogue) where
           let inside = (so_far.are fact.relation own.0 store own.1 there fact.terms).1 is in
           held_there rows fact.relation own.0 own.1 fact.terms inside
 
-  pub rows_end_at : (number : ℕ) (rows : List (List Row)) → SoFarRows files catalogue number rows → number ≡ length catalogue.fragments
-      → length catalogue.stores ≡ length catalogue.fragments → (rose : Type 0) → OpensRows files catalogue rose (Ok rows)
-  rows_end_at number rows so_far is many rose = rows_end rows (subst (λ (it : ℕ). SoFarRows files catalogue it rows) is so_far) many rose
-
--- there is a fragment at the number, with the store
-pub stored_at : (catalogue : Catalogue) (number : ℕ) (store : Store) → number < length catalogue.fragments → slice_get catalogue.stores number ≡ Some store
-    → (definition : FragmentDef) × IsStoredAt catalogue number (record { definition = definition; store = store })
-stored_at catalogue number store below is =
-    let found = thing_at catalogue.fragments number below in (found.0, record { definition = found.1; store = is })
+  pub rows_end_at : (number : ℕ) (rows : List (List Row)) (now : Option Names) → SoFarRows files catalogue before number rows now
+      → number ≡ length catalogue.fragments → length catalogue.stores ≡ length catalogue.fragments
+      → (rose : Type 0) → OpensRows files catalogue rose before now (Ok rows)
+  rows_end_at number rows now so_far is many rose =
+      rows_end rows now (subst (λ (it : ℕ). SoFarRows files catalogue before it rows now) is so_far) many rose
 
 -- the error of one file that `?` hands on
-pub all_rows_exit : {rose : Type 0} (files : Option Files) (catalogue : Catalogue) (error : Status) (result : Result (List (List Row)) Status)
-    → IsErrAnd result (λ handed. handed ≡ error) → Stops IsWant (IsCaused rose) (opens_fragments files catalogue (all_fragments catalogue)) error
-    → OpensRows files catalogue rose result
-all_rows_exit files catalogue error (Ok _) handed stops = absurd handed
-all_rows_exit files catalogue error (Err handed_on) handed stops = rw handed stops
+pub all_rows_exit : {rose : Type 0} {before after : Option Names} (files : Option Files) (catalogue : Catalogue) (error : Status)
+    (result : Result (List (List Row)) Status) → IsErrAnd result (λ handed. handed ≡ error)
+    → Stops IsWant (IsCaused rose) (opens_fragments files catalogue (all_fragments catalogue)) error
+    → AsksIn before after (opens_fragments files catalogue (all_fragments catalogue)) (Err error)
+    → OpensRows files catalogue rose before after result
+all_rows_exit files catalogue error (Ok _) handed stops asks = absurd handed
+all_rows_exit files catalogue error (Err handed_on) handed stops asks = rw handed (stops, asks)

@@ -7,7 +7,7 @@ use Rattle.esto_catalog.specs.declared.catalogue.Store.{Store}
 use Rattle.esto_opening.specs.Fragments.{Stored}
 use Rattle.esto_constraint.specs.Constraints.{rules_of}
 use Rattle.esto_constraint.specs.EncodingRules.{written}
-use Rattle.esto_course.specs.Course.{Course, Stops, judges, gives, and_then}
+use Rattle.esto_course.specs.Course.{Course, Names, Stops, judges, gives, and_then}
 use Rattle.esto_fill.specs.Databases.{database_of}
 use Rattle.esto_fill.specs.Differences.{Audits}
 use Rattle.esto_fill.specs.Texts.{AreTextViews, IsFirstNodeView}
@@ -20,6 +20,7 @@ use Rattle.esto_stores.specs.Rows.{Row}
 use Rattle.esto_term.specs.declared.term.Term.{Term}
 use Rattle.esto_views.specs.Fragments.{views_of}
 use Rattle.esto_opening.specs.Answers.{IsWant, IsCaused}
+use Rattle.esto_opening.specs.Asked.{AsksIn}
 use Rattle.esto_data.specs.Datasets.{IsAny, loads}
 use Rattle.esto_data.specs.Fill.{names_of}
 use Rattle.esto_opening.specs.Fragments.{opens_fragment, opens_fragments, reads_content}
@@ -78,21 +79,27 @@ audit_course files name = and_then (opens_catalogue files name) (audits_catalogu
 
 -- ---- what functions answer
 
--- The rows of all fragments are those of their files, all of which were opened; or the course stops.
-abbrev pub OpensRows : Option Files → Catalogue → Type 0 → Result (List (List Row)) Status → Type 0
-OpensRows files catalogue rose (Ok rows) =
+-- The rows of all fragments are those of their files, all of which were opened; or the course stops. To the names that were asked for came those for which it
+-- asked.
+abbrev pub OpensRows : Option Files → Catalogue → Type 0 → Option Names → Option Names → Result (List (List Row)) Status → Type 0
+OpensRows files catalogue rose before after (Ok rows) =
     (contents : ℕ → List ℕ) × (opens_fragments files catalogue (all_fragments catalogue)).goes contents × (length rows ≡ length catalogue.fragments)
     × ((fact : Fact (List ℕ)) → IsRowOf (held_by rows) fact ↔ IsFileRow catalogue.stores contents fact)
-OpensRows files catalogue rose (Err refusal) = Stops IsWant (IsCaused rose) (opens_fragments files catalogue (all_fragments catalogue)) refusal
+    × AsksIn before after (opens_fragments files catalogue (all_fragments catalogue)) (Ok contents)
+OpensRows files catalogue rose before after (Err refusal) =
+    Stops IsWant (IsCaused rose) (opens_fragments files catalogue (all_fragments catalogue)) refusal
+    × AsksIn before after (opens_fragments files catalogue (all_fragments catalogue)) (Err refusal)
 
 -- The content of the fragment's file has no fault, and these are its rows; or the course stops.
 abbrev pub ReadsRows : Stored → List ℕ → Result (List Row) Status → Type 0
 ReadsRows stored bytes (Ok rows) = (reads_content stored bytes).goes tt × ((row : Row) → Contains rows row ↔ IsRowIn stored.store.shape bytes row)
 ReadsRows stored bytes (Err refusal) = Stops IsWant (IsCaused ⊥) (reads_content stored bytes) refusal
 
--- The file of the fragment of the number was opened, and these are its rows; or the course stops.
-abbrev pub OpensNextRows : Option Files → Catalogue → ℕ → Type 0 → Result (List Row) Status → Type 0
-OpensNextRows files catalogue number rose (Ok rows) =
+-- The file of the fragment of the number was opened, and these are its rows; or the course stops. To the names that were asked for came those for which it asked.
+abbrev pub OpensNextRows : Option Files → Catalogue → ℕ → Type 0 → Option Names → Option Names → Result (List Row) Status → Type 0
+OpensNextRows files catalogue number rose before after (Ok rows) =
     (bytes : List ℕ) × (opens_fragment files catalogue number).goes bytes
     × ((store : Store) → slice_get catalogue.stores number ≡ Some store → (row : Row) → Contains rows row ↔ IsRowIn store.shape bytes row)
-OpensNextRows files catalogue number rose (Err refusal) = Stops IsWant (IsCaused rose) (opens_fragment files catalogue number) refusal
+    × AsksIn before after (opens_fragment files catalogue number) (Ok bytes)
+OpensNextRows files catalogue number rose before after (Err refusal) =
+    Stops IsWant (IsCaused rose) (opens_fragment files catalogue number) refusal × AsksIn before after (opens_fragment files catalogue number) (Err refusal)

@@ -13,6 +13,7 @@ use Rattle.esto_semantics.specs.Maps.{AreFlat}
 use Rattle.esto_semantics.specs.declared.fact.Fact.{Fact}
 use Rattle.esto_term.specs.declared.term.Term.{Term}
 use Rattle.esto_opening.specs.Answers.{IsWant, IsCaused}
+use Rattle.esto_opening.specs.Asked.{AsksIn}
 use Rattle.esto_opening.specs.Fetch.{fetches}
 use Rattle.esto_data.specs.declared.datasets.TheConstants.{DATASET_LIMIT}
 use Rattle.esto_opening.specs.declared.status.Status.{Status}
@@ -107,6 +108,11 @@ abbrev pub Loads : Course Status (List (Fact Term)) → Type 0 → Result Loaded
 Loads course rose (Ok loaded) = course.goes loaded.facts
 Loads course rose (Err refusal) = Stops IsWant (IsCaused rose) course refusal
 
+-- To the names that were asked for came those for which the course asked, up to the facts that are loaded or to its stop.
+abbrev pub LoadsAsking : Option (List (List ℕ)) → Option (List (List ℕ)) → Course Status (List (Fact Term)) → Result Loaded Status → Type 0
+LoadsAsking before after course (Ok loaded) = AsksIn before after course (Ok loaded.facts)
+LoadsAsking before after course (Err refusal) = AsksIn before after course (Err refusal)
+
 -- After what was loaded come the facts of the file of the dataset of the number, with these bytes.
 abbrev pub LoadsMore : List Dataset → ℕ → List ℕ → Loaded → Loaded → Type 0
 LoadsMore datasets number bytes old new =
@@ -118,14 +124,20 @@ abbrev pub ReadsData : List Dataset → ℕ → Dataset → List ℕ → Loaded 
 ReadsData datasets number dataset bytes old (Ok new) = (reads_data dataset bytes).goes tt × LoadsMore datasets number bytes old new
 ReadsData datasets number dataset bytes old (Err refusal) = Stops IsWant (IsCaused ⊥) (reads_data dataset bytes) refusal
 
--- The file of the dataset of the number was opened, and its facts come after what was loaded; or the course stops.
-abbrev pub LoadsNext : Option Files → List Dataset → ℕ → Loaded → Type 0 → Result Loaded Status → Type 0
-LoadsNext files datasets number old rose (Ok new) =
+-- The file of the dataset of the number was opened, and its facts come after what was loaded; or the course stops. To the names that were asked for came those
+-- for which it asked.
+abbrev pub LoadsNext : Option Files → List Dataset → ℕ → Loaded → Type 0 → Option (List (List ℕ)) → Option (List (List ℕ)) → Result Loaded Status → Type 0
+LoadsNext files datasets number old rose before after (Ok new) =
     (bytes : List ℕ) × (opens_dataset files datasets number).goes bytes × LoadsMore datasets number bytes old new
-LoadsNext files datasets number old rose (Err refusal) = Stops IsWant (IsCaused rose) (opens_dataset files datasets number) refusal
+    × AsksIn before after (opens_dataset files datasets number) (Ok bytes)
+LoadsNext files datasets number old rose before after (Err refusal) =
+    Stops IsWant (IsCaused rose) (opens_dataset files datasets number) refusal × AsksIn before after (opens_dataset files datasets number) (Err refusal)
 
--- The facts that are loaded are those of the files, all of which were opened; or the course stops.
-abbrev pub LoadsFiles : Option Files → List Dataset → List ℕ → Type 0 → Result Loaded Status → Type 0
-LoadsFiles files datasets numbers rose (Ok loaded) =
+-- The facts that are loaded are those of the files, all of which were opened; or the course stops. To the names that were asked for came those for which it
+-- asked.
+abbrev pub LoadsFiles : Option Files → List Dataset → List ℕ → Type 0 → Option (List (List ℕ)) → Option (List (List ℕ)) → Result Loaded Status → Type 0
+LoadsFiles files datasets numbers rose before after (Ok loaded) =
     (contents : List DatasetBytes) × (loads_files files datasets numbers).goes contents × IsLoadedFrom datasets contents loaded
-LoadsFiles files datasets numbers rose (Err refusal) = Stops IsWant (IsCaused rose) (loads_files files datasets numbers) refusal
+    × AsksIn before after (loads_files files datasets numbers) (Ok contents)
+LoadsFiles files datasets numbers rose before after (Err refusal) =
+    Stops IsWant (IsCaused rose) (loads_files files datasets numbers) refusal × AsksIn before after (loads_files files datasets numbers) (Err refusal)

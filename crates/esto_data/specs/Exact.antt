@@ -1,6 +1,5 @@
 -- What `fill`, `answer` and `audit` answer where nothing is wrong with the files.
 use Rattle.std.specs.Prelude.{◌≡◌, ◌↔◌, ℕ, ◌<◌, List, length, map, slice_get, Contains, Some, None, Err}
-use Rattle.esto_catalog.specs.Reading.{IsCatalogueOf}
 use Rattle.esto_catalog.specs.declared.catalogue.Catalogue.{Catalogue}
 use Rattle.esto_catalog.specs.declared.dataset.Dataset.{Dataset}
 use Rattle.esto_constraint.specs.Constraints.{rules_of}
@@ -15,11 +14,7 @@ use Rattle.esto_fill.specs.declared.datasets.DatasetBytes.{DatasetBytes}
 use Rattle.esto_fill.specs.declared.filled.FillError.TheVariants.{KeyText}
 use Rattle.esto_ports.specs.Files.{Files}
 use Rattle.esto_query.specs.Making.{query_of}
-use Rattle.esto_query.specs.Schemas.{arities_of}
 use Rattle.esto_query.specs.declared.query.Query.{Query}
-use Rattle.esto_read.specs.Readings.{IsReading}
-use Rattle.esto_read.specs.declared.read.Form.TheVariants as form
-use Rattle.esto_read.specs.declared.read.NamedQuery.{NamedQuery}
 use Rattle.esto_run.specs.Answers.{rows_text}
 use Rattle.esto_run.specs.Stores.{IsFileRow}
 use Rattle.esto_semantics.specs.declared.fact.Fact.{Fact}
@@ -27,9 +22,7 @@ use Rattle.esto_stores.specs.Rows.{Row}
 use Rattle.esto_term.specs.declared.term.Term.{Term}
 use Rattle.esto_views.specs.Fragments.{views_of}
 use Rattle.esto_opening.specs.Fetch.{HasWithin}
-use Rattle.esto_opening.specs.Fragments.{Stored, IsStoredAt, content_fault}
-use Rattle.esto_opening.specs.declared.fragments.TheConstants.{FRAGMENT_LIMIT}
-use Rattle.esto_opening.specs.declared.opening.TheConstants.{CATALOGUE_LIMIT, QUERY_LIMIT}
+use Rattle.esto_opening.specs.Fragments.{Stored, IsReadableFragment, IsStoredAt}
 use Rattle.esto_opening.specs.declared.status.Status.{Status}
 use Rattle.esto_opening.specs.declared.status.Status.TheVariants as status
 use Rattle.esto_data.specs.Answer.{IsAnswerOfFacts}
@@ -39,20 +32,6 @@ use Rattle.esto_data.specs.Fill.{IsFilled, IsFirstOf, IsRowOfView, names_of}
 use Rattle.esto_data.specs.declared.datasets.TheConstants.{DATASET_LIMIT}
 
 -- ---- the files
-
--- The files say this catalogue.
-pub record FilesSayCatalogue (files : Files) (name : List ℕ) (catalogue : Catalogue) : Type 0 where
-  pub bytes : List ℕ
-  pub has : HasWithin files name CATALOGUE_LIMIT bytes
-  pub is_catalogue : IsCatalogueOf bytes catalogue
-
--- They say this query over the catalogue.
-pub record FilesSayQuery (files : Files) (name : List ℕ) (catalogue : Catalogue) (query : Query) : Type 0 where
-  pub bytes : List ℕ
-  pub has : HasWithin files name QUERY_LIMIT bytes
-  pub named : NamedQuery
-  pub is_query : IsReading form.Query catalogue.words (arities_of catalogue.schema) bytes named
-  pub query_is : query ≡ named.query
 
 -- The dataset has a file, which is no longer than a dataset's may be, has these bytes after one leading mark, and they have no fault.
 abbrev pub IsReadableDataset : Files → Dataset → List ℕ → Type 0
@@ -71,11 +50,6 @@ pub record HoldFacts (files : Files) (datasets : List Dataset) (Needs : Dataset 
   pub numbers : List ℕ
   pub needed : AreNeeded datasets Needs numbers
   pub facts_are : AreFactsOfFiles datasets (files_of contents numbers) facts
-
--- The file of the fragment of the number is no longer than a fragment's may be, has these bytes after one leading mark, and they have no fault.
-abbrev pub IsReadableFragment : Files → Catalogue → ℕ → List ℕ → Type 0
-IsReadableFragment files catalogue number bytes =
-    (stored : Stored) × IsStoredAt catalogue number stored × HasWithin files stored.store.file FRAGMENT_LIMIT bytes × (content_fault stored bytes ≡ None)
 
 -- The files of all fragments are readable, with these contents.
 abbrev pub AreReadableFragments : Files → Catalogue → (ℕ → List ℕ) → Type 0

@@ -3,6 +3,7 @@ ghost use Rattle.std.specs.Prelude.{◌≡◌, ◌≤◌};
 ghost use Rattle.esto_ports.specs.Faults.{Rises};
 ghost use Rattle.esto_data.specs.Answer.{answer_course, answers_facts, answers_query};
 ghost use Rattle.esto_opening.specs.Answers.{Answers};
+ghost use Rattle.esto_opening.specs.Asked.{AsksIn};
 
 use crate::datasets::load_named;
 use esto_catalog::Catalogue;
@@ -26,7 +27,7 @@ fn rows_of(alloc: Global, query: &Query, loaded: &Loaded) -> Result<TextRows, St
 }
 
 // Loads the datasets that the query names, and gives the text of its answers.
-#[tactic(auto, using(crate::proofs::Steps::steps))]
+#[tactic(auto, using(crate::proofs::Steps::steps, crate::proofs::Steps::asked_steps))]
 fn answer_query<S: Shelf>(
     alloc: Global,
     shelf: &mut S,
@@ -35,6 +36,8 @@ fn answer_query<S: Shelf>(
 ) -> Result<Reply, Status>
     ensures answer { Answers (answers_query (S.files shelf.old) catalogue.now query.now)
         (Rises S.faults shelf.old shelf.new) result }
+    ensures asked { AsksIn (S.asked shelf.old) (S.asked shelf.new)
+        (answers_query (S.files shelf.old) catalogue.now query.now) result }
     ensures files { S.files shelf.new ≡ S.files shelf.old }
     ensures later { S.faults shelf.old ≤ S.faults shelf.new }
 {
@@ -46,7 +49,7 @@ fn answer_query<S: Shelf>(
 
 /// Fetches and reads the catalogue, then the query, loads the datasets that the query names, and gives the text of its
 /// answers over their facts.
-#[tactic(auto, using(crate::proofs::Steps::run_steps))]
+#[tactic(auto, using(crate::proofs::Steps::run_steps, crate::proofs::Steps::asked_steps))]
 pub fn answer<S: Shelf>(
     alloc: Global,
     shelf: &mut S,
@@ -55,6 +58,8 @@ pub fn answer<S: Shelf>(
 ) -> Result<Reply, Status>
     ensures answer { Answers (answer_course (S.files shelf.old) catalogue.now query.now)
         (Rises S.faults shelf.old shelf.new) result }
+    ensures asked { AsksIn (S.asked shelf.old) (S.asked shelf.new)
+        (answer_course (S.files shelf.old) catalogue.now query.now) result }
     ensures files { S.files shelf.new ≡ S.files shelf.old }
     ensures later { S.faults shelf.old ≤ S.faults shelf.new }
 {

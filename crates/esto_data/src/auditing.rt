@@ -9,6 +9,7 @@ ghost use Rattle.esto_run.specs.Stores.{IsFileRow};
 ghost use Rattle.esto_semantics.specs.declared.fact.Fact.{Fact};
 ghost use Rattle.esto_views.specs.Fragments.{views_of};
 ghost use Rattle.esto_opening.specs.Answers.{Answers};
+ghost use Rattle.esto_opening.specs.Asked.{AsksIn};
 ghost use Rattle.esto_data.specs.Audit.{OpensNextRows, OpensRows, ReadsRows, audit_course, audit_text, audits_catalogue, audits_facts, compares, judges_views};
 ghost use Rattle.esto_opening.specs.Fragments.{IsStoredAt};
 
@@ -65,7 +66,7 @@ fn open_rows<S: Shelf>(
 ) -> Result<TextRows, Status>
     requires { number < length catalogue.now.fragments }
     ensures answer { OpensNextRows (S.files shelf.old) catalogue.now number
-        (Rises S.faults shelf.old shelf.new) result }
+        (Rises S.faults shelf.old shelf.new) (S.asked shelf.old) (S.asked shelf.new) result }
     ensures files { S.files shelf.new ≡ S.files shelf.old }
     ensures later { S.faults shelf.old ≤ S.faults shelf.new }
 {
@@ -82,7 +83,7 @@ fn open_all_rows<S: Shelf>(
     catalogue: &Catalogue,
 ) -> Result<TextRowsList, Status>
     ensures answer { OpensRows (S.files shelf.old) catalogue.now
-        (Rises S.faults shelf.old shelf.new) result }
+        (Rises S.faults shelf.old shelf.new) (S.asked shelf.old) (S.asked shelf.new) result }
     ensures files { S.files shelf.new ≡ S.files shelf.old }
     ensures later { S.faults shelf.old ≤ S.faults shelf.new }
 {
@@ -134,6 +135,8 @@ fn audit_facts<S: Shelf>(
 ) -> Result<Reply, Status>
     ensures answer { Answers (audits_facts (S.files shelf.old) catalogue.now loaded.now.facts)
         (Rises S.faults shelf.old shelf.new) result }
+    ensures asked { AsksIn (S.asked shelf.old) (S.asked shelf.new)
+        (audits_facts (S.files shelf.old) catalogue.now loaded.now.facts) result }
     ensures files { S.files shelf.new ≡ S.files shelf.old }
     ensures later { S.faults shelf.old ≤ S.faults shelf.new }
 {
@@ -145,7 +148,7 @@ fn audit_facts<S: Shelf>(
 }
 
 // Loads all datasets, and audits their facts.
-#[tactic(auto, using(crate::proofs::Steps::run_steps))]
+#[tactic(auto, using(crate::proofs::Steps::run_steps, crate::proofs::Steps::asked_steps))]
 fn audit_catalogue<S: Shelf>(
     alloc: Global,
     shelf: &mut S,
@@ -153,6 +156,8 @@ fn audit_catalogue<S: Shelf>(
 ) -> Result<Reply, Status>
     ensures answer { Answers (audits_catalogue (S.files shelf.old) catalogue.now)
         (Rises S.faults shelf.old shelf.new) result }
+    ensures asked { AsksIn (S.asked shelf.old) (S.asked shelf.new)
+        (audits_catalogue (S.files shelf.old) catalogue.now) result }
     ensures files { S.files shelf.new ≡ S.files shelf.old }
     ensures later { S.faults shelf.old ≤ S.faults shelf.new }
 {
@@ -163,10 +168,12 @@ fn audit_catalogue<S: Shelf>(
 
 /// Fetches and reads the catalogue, loads all datasets, opens the files of all fragments, and tells that the facts meet the
 /// rules and that each fragment holds exactly the rows of its view, or the first difference.
-#[tactic(auto, using(crate::proofs::Steps::run_steps))]
+#[tactic(auto, using(crate::proofs::Steps::run_steps, crate::proofs::Steps::asked_steps))]
 pub fn audit<S: Shelf>(alloc: Global, shelf: &mut S, catalogue: &Text) -> Result<Reply, Status>
     ensures answer { Answers (audit_course (S.files shelf.old) catalogue.now)
         (Rises S.faults shelf.old shelf.new) result }
+    ensures asked { AsksIn (S.asked shelf.old) (S.asked shelf.new)
+        (audit_course (S.files shelf.old) catalogue.now) result }
     ensures files { S.files shelf.new ≡ S.files shelf.old }
     ensures later { S.faults shelf.old ≤ S.faults shelf.new }
 {

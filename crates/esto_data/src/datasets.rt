@@ -5,7 +5,7 @@ ghost use Rattle.esto_catalog.specs.Datasets.{relation_count};
 ghost use Rattle.esto_catalog.specs.declared.dataset.Dataset.{Dataset};
 ghost use Rattle.esto_ports.specs.Faults.{Rises};
 ghost use Rattle.esto_opening.specs.Answers.{Answers};
-ghost use Rattle.esto_data.specs.Datasets.{AddsNeeded, AreNeeded, IsAny, HasRelation, IsSourceAt, Loads, LoadsFiles, LoadsNext, Names, ReadsData, Source, demands_file, demands_files, loads};
+ghost use Rattle.esto_data.specs.Datasets.{AddsNeeded, AreNeeded, IsAny, HasRelation, IsSourceAt, Loads, LoadsAsking, LoadsFiles, LoadsNext, Names, ReadsData, Source, demands_file, demands_files, loads};
 
 use esto_catalog::{Catalogue, Dataset, Datasets};
 use esto_fill::{Loaded, load_dataset, loaded_facts_are_flat, nothing_loaded};
@@ -142,7 +142,7 @@ fn load_next<S: Shelf>(
 ) -> Result<Loaded, Status>
     requires { (source : Source) × IsSourceAt catalogue.now.datasets number source }
     ensures answer { LoadsNext (S.files shelf.old) catalogue.now.datasets number loaded
-        (Rises S.faults shelf.old shelf.new) result }
+        (Rises S.faults shelf.old shelf.new) (S.asked shelf.old) (S.asked shelf.new) result }
     ensures files { S.files shelf.new ≡ S.files shelf.old }
     ensures later { S.faults shelf.old ≤ S.faults shelf.new }
 {
@@ -163,7 +163,7 @@ fn load_files<S: Shelf>(
     requires { (number : ℕ) → Contains numbers.now number
         → (source : Source) × IsSourceAt catalogue.now.datasets number source }
     ensures answer { LoadsFiles (S.files shelf.old) catalogue.now.datasets numbers.now
-        (Rises S.faults shelf.old shelf.new) result }
+        (Rises S.faults shelf.old shelf.new) (S.asked shelf.old) (S.asked shelf.new) result }
     ensures files { S.files shelf.new ≡ S.files shelf.old }
     ensures later { S.faults shelf.old ≤ S.faults shelf.new }
 {
@@ -184,6 +184,8 @@ pub fn load_named<S: Shelf>(
 ) -> Result<Loaded, Status>
     ensures answer { Loads (loads (S.files shelf.old) catalogue.now.datasets (Names body.now))
         (Rises S.faults shelf.old shelf.new) result }
+    ensures asked { LoadsAsking (S.asked shelf.old) (S.asked shelf.new)
+        (loads (S.files shelf.old) catalogue.now.datasets (Names body.now)) result }
     ensures files { S.files shelf.new ≡ S.files shelf.old }
     ensures later { S.faults shelf.old ≤ S.faults shelf.new }
 {
@@ -201,6 +203,8 @@ pub fn load_all<S: Shelf>(
 ) -> Result<Loaded, Status>
     ensures answer { Loads (loads (S.files shelf.old) catalogue.now.datasets IsAny)
         (Rises S.faults shelf.old shelf.new) result }
+    ensures asked { LoadsAsking (S.asked shelf.old) (S.asked shelf.new)
+        (loads (S.files shelf.old) catalogue.now.datasets IsAny) result }
     ensures files { S.files shelf.new ≡ S.files shelf.old }
     ensures later { S.faults shelf.old ≤ S.faults shelf.new }
 {

@@ -3,6 +3,7 @@ ghost use Rattle.std.specs.Prelude.{◌≡◌, ◌<◌, ◌≤◌, length, IfOk,
 ghost use Rattle.esto_opening.specs.Fragments.{Stored};
 ghost use Rattle.esto_ports.specs.Faults.{Rises};
 ghost use Rattle.esto_opening.specs.Answers.{Answers};
+ghost use Rattle.esto_opening.specs.Asked.{AsksIn};
 ghost use Rattle.esto_data.specs.Fill.{fill_course, fill_status, fills_file, fills_fragment, fills_named, finds_fragment};
 ghost use Rattle.esto_opening.specs.Fragments.{IsStoredAt};
 
@@ -72,6 +73,8 @@ fn fill_fragment<S: Shelf>(
     requires { number < length catalogue.now.fragments }
     ensures answer { Answers (fills_fragment (S.files shelf.old) catalogue.now number)
         (Rises S.faults shelf.old shelf.new) result }
+    ensures asked { AsksIn (S.asked shelf.old) (S.asked shelf.new)
+        (fills_fragment (S.files shelf.old) catalogue.now number) result }
     ensures files { S.files shelf.new ≡ S.files shelf.old }
     ensures later { S.faults shelf.old ≤ S.faults shelf.new }
 {
@@ -83,7 +86,7 @@ fn fill_fragment<S: Shelf>(
 }
 
 // Finds the fragment of the name, and fills its file.
-#[tactic(auto, using(crate::proofs::Steps::run_steps))]
+#[tactic(auto, using(crate::proofs::Steps::run_steps, crate::proofs::Steps::asked_steps))]
 fn fill_named<S: Shelf>(
     alloc: Global,
     shelf: &mut S,
@@ -92,6 +95,8 @@ fn fill_named<S: Shelf>(
 ) -> Result<Reply, Status>
     ensures answer { Answers (fills_named (S.files shelf.old) name.now catalogue.now)
         (Rises S.faults shelf.old shelf.new) result }
+    ensures asked { AsksIn (S.asked shelf.old) (S.asked shelf.new)
+        (fills_named (S.files shelf.old) name.now catalogue.now) result }
     ensures files { S.files shelf.new ≡ S.files shelf.old }
     ensures later { S.faults shelf.old ≤ S.faults shelf.new }
 {
@@ -102,7 +107,7 @@ fn fill_named<S: Shelf>(
 
 /// Fetches and reads the catalogue, finds the fragment of the name, loads the datasets that its view names, and gives the
 /// text of its file with the rows of the view over their facts.
-#[tactic(auto, using(crate::proofs::Steps::run_steps))]
+#[tactic(auto, using(crate::proofs::Steps::run_steps, crate::proofs::Steps::asked_steps))]
 pub fn fill<S: Shelf>(
     alloc: Global,
     shelf: &mut S,
@@ -111,6 +116,8 @@ pub fn fill<S: Shelf>(
 ) -> Result<Reply, Status>
     ensures answer { Answers (fill_course (S.files shelf.old) catalogue.now name.now)
         (Rises S.faults shelf.old shelf.new) result }
+    ensures asked { AsksIn (S.asked shelf.old) (S.asked shelf.new)
+        (fill_course (S.files shelf.old) catalogue.now name.now) result }
     ensures files { S.files shelf.new ≡ S.files shelf.old }
     ensures later { S.faults shelf.old ≤ S.faults shelf.new }
 {

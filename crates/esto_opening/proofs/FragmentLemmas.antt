@@ -9,9 +9,9 @@ use Rattle.std.proofs.lemmas.List.Elements.{Contains-append_left, Contains-get_o
 use Rattle.std.proofs.lemmas.Option.{same_Some}
 use Rattle.esto_catalog.specs.declared.catalogue.Catalogue.{Catalogue}
 use Rattle.esto_catalog.specs.declared.catalogue.Store.{Store}
-use Rattle.esto_course.specs.Course.{Course, Stops, judges, gives, and_then, each}
+use Rattle.esto_course.specs.Course.{Stops, judges, gives, each}
 use Rattle.esto_course.specs.Course.Stops.{refused}
-use Rattle.esto_course.proofs.Steps.{Leads, first_stops, then_stops, then_goes, gives_goes, caused_more, each_next, each_stops, each_goes}
+use Rattle.esto_course.proofs.Steps.{first_stops, then_goes, gives_goes}
 use Rattle.esto_lines.specs.Faults.{Gives}
 use Rattle.esto_ports.specs.Files.{Files}
 use Rattle.esto_ports.specs.declared.file_fault.FileError.{FileError}
@@ -31,13 +31,12 @@ use Rattle.esto_opening.specs.declared.fragments.TheConstants.{FRAGMENT_LIMIT}
 use Rattle.esto_opening.specs.declared.status.Status.{Status}
 use Rattle.esto_opening.specs.declared.status.Status.TheVariants.{BadFragment}
 use Rattle.esto_course.specs.Course.{Names}
-use Rattle.esto_course.specs.Course.Point.{went, underway}
-use Rattle.esto_course.proofs.Asking.{LeadsAsking, each_asks_next, each_asks_end, each_stop_asks, each_way_asks, first_stop_asks, first_way_asks, then_asks, quiet_gives, quiet_judges}
-use Rattle.esto_ports.specs.Asked.{AsksFor}
-use Rattle.esto_opening.specs.Asked.{AsksIn, AsksToStop}
-use Rattle.esto_opening.specs.Asked.AsksToStop.{wanting, stopping}
-use Rattle.esto_opening.proofs.AskedSteps.{ends_after, exit_asks, later_asks, quiet_asks, told_both, told_nothing}
-use Rattle.esto_opening.proofs.Steps.{caused_weaker}
+use Rattle.esto_course.specs.Course.Point.{underway}
+use Rattle.esto_course.proofs.Asking.{first_way_asks, quiet_judges}
+use Rattle.esto_opening.specs.Asked.{AsksIn}
+use Rattle.esto_opening.proofs.AskedSteps.{exit_asks}
+use Rattle.esto_opening.proofs.FileSteps.{opened_asks, opened_goes, unfetched_asks, unfetched_stops, unread_asks, unread_stops}
+use Rattle.esto_opening.proofs.LoopSteps.{IsAlong, along_end_asks, along_ends, along_goes, along_starts, along_stop_asks, along_stops, each_way, kept_asks}
 
 -- ---- the content of one file
 
@@ -82,45 +81,17 @@ stored_at catalogue number store below is =
 
 -- ---- one file
 
-judged_goes : {A : Type 0} (accepts : A → Type 0) (value : A) → accepts value → (judges {E = Status} accepts (λ _. ⊥)).goes value
-unfolding judges
-judged_goes accepts value is = is
-
 module _ (files : Option Files) (catalogue : Catalogue) (number : ℕ) (stored : Stored) (at : IsStoredAt catalogue number stored) where
-  found_goes : (bytes : List ℕ) → (opens_stored files stored).goes bytes → (opens_fragment files catalogue number).goes bytes
-  unfolding judges
-  found_goes bytes goes = then_goes (judges (IsStoredAt catalogue number) (λ _. ⊥)) (opens_stored files) stored bytes at goes
-
-  found_stops : {rose : Type 0} {refusal : Status} → Stops IsWant (IsCaused rose) (opens_stored files stored) refusal
-      → Stops IsWant (IsCaused rose) (opens_fragment files catalogue number) refusal
-  unfolding judges
-  found_stops stops = then_stops (judges (IsStoredAt catalogue number) (λ _. ⊥)) (opens_stored files) stored at stops
-
-  -- what follows the fetch of the file
-  abbrev read_on : List ℕ → Course Status (List ℕ)
-  read_on bytes = and_then (reads_content stored bytes) (λ _. gives bytes)
-
-  -- what is asked for, once the fragment is found
-  found_asks : {before after : Option Names} {result : Result (List ℕ) Status} → AsksIn before after (opens_stored files stored) result
-      → AsksIn before after (opens_fragment files catalogue number) result
-  found_asks {before = before} asks = later_asks (judges (IsStoredAt catalogue number) (λ _. ⊥)) (opens_stored files) (found before) asks
-    where
-      found : (told : Option Names) → AsksIn told told (judges (IsStoredAt catalogue number) (λ _. ⊥)) (Ok stored)
-      found told = quiet_asks (judges (IsStoredAt catalogue number) (λ _. ⊥)) told (Ok stored) (quiet_judges _ _)
-          (judged_goes (IsStoredAt catalogue number) stored at)
-
-  -- the file is not fetched
-  pub fetch_stops : {rose : Type 0} {refusal : Status} → Stops IsWant (IsCaused rose) (fetches files stored.store.file FRAGMENT_LIMIT) refusal
-      → Stops IsWant (IsCaused rose) (opens_fragment files catalogue number) refusal
-  fetch_stops stops = found_stops (first_stops _ _ stops)
-
   -- an error that `?` hands on
   pub next_exit : {rose : Type 0} {before after : Option Names} (old new : List (List Row)) (error : Status) (result : Result (Unit {0}) Status)
       → IsErrAnd result (λ handed. handed ≡ error) → Stops IsWant (IsCaused rose) (fetches files stored.store.file FRAGMENT_LIMIT) error
       → AsksIn before after (fetches files stored.store.file FRAGMENT_LIMIT) (Err error)
       → OpensNext files catalogue number old new rose before after result
   next_exit old new error (Ok _) handed stops asks = absurd handed
-  next_exit old new error (Err handed_on) handed stops asks = rw handed (fetch_stops stops, found_asks (exit_asks (fetches files stored.store.file FRAGMENT_LIMIT) read_on asks))
+  next_exit old new error (Err handed_on) handed stops asks = rw handed (
+    unfetched_stops (IsStoredAt catalogue number) (λ it. it.store.file) FRAGMENT_LIMIT reads_content files stored at stops,
+    unfetched_asks (IsStoredAt catalogue number) (λ it. it.store.file) FRAGMENT_LIMIT reads_content files stored at asks,
+  )
 
   module _ (bytes : List ℕ) (fetched : (fetches files stored.store.file FRAGMENT_LIMIT).goes bytes) (before after : Option Names)
       (asked : AsksIn before after (fetches files stored.store.file FRAGMENT_LIMIT) (Ok bytes)) where
@@ -129,16 +100,13 @@ module _ (files : Option Files) (catalogue : Catalogue) (number : ℕ) (stored :
         → OpensNext files catalogue number old new rose before after result
     opens_next_by old new rose (Ok _) (good, taken) = (
       bytes,
-      found_goes bytes (then_goes _ _ bytes bytes fetched (then_goes _ _ tt bytes good (gives_goes Status bytes bytes refl))),
+      opened_goes (IsStoredAt catalogue number) (λ it. it.store.file) FRAGMENT_LIMIT reads_content files stored at bytes fetched good,
       taken,
-      found_asks (later_asks (fetches files stored.store.file FRAGMENT_LIMIT) read_on asked (later_asks (reads_content stored bytes) (λ _. gives bytes)
-          (quiet_asks (reads_content stored bytes) after (Ok tt) (quiet_judges _ _) good)
-          (quiet_asks (gives bytes) after (Ok bytes) (quiet_gives Status bytes) (gives_goes Status bytes bytes refl)))),
+      opened_asks (IsStoredAt catalogue number) (λ it. it.store.file) FRAGMENT_LIMIT reads_content files stored at bytes (quiet_judges _ _) asked good,
     )
     opens_next_by old new rose (Err refusal) stops = (
-      found_stops (then_stops _ _ bytes fetched (first_stops _ _ (caused_more _ refusal (caused_weaker (λ none. absurd none)) stops))),
-      found_asks (later_asks (fetches files stored.store.file FRAGMENT_LIMIT) read_on asked (exit_asks (reads_content stored bytes) (λ _. gives bytes)
-          (quiet_asks (reads_content stored bytes) after (Err refusal) (quiet_judges _ _) stops))),
+      unread_stops (IsStoredAt catalogue number) (λ it. it.store.file) FRAGMENT_LIMIT reads_content files stored at bytes fetched stops,
+      unread_asks (IsStoredAt catalogue number) (λ it. it.store.file) FRAGMENT_LIMIT reads_content files stored at bytes (quiet_judges _ _) asked stops,
     )
 
 -- ---- all files
@@ -159,49 +127,29 @@ still_opened stores contents numbers opened number bytes absent are fact inside 
 content_there : (contents : ℕ → List ℕ) (number : ℕ) (bytes : List ℕ) → with_content contents number bytes number ≡ bytes
 content_there contents number bytes = let test : (number == number) ≡ true = grind (arith, nat_tests) in rw test refl
 
--- the step of one file asks for what its opening asks for
-next_asks : (files : Option Files) (catalogue : Catalogue) (counter : ℕ) (contents : ℕ → List ℕ) (number : ℕ) (bytes : List ℕ) (early : Names)
-    → (opens_fragment files catalogue number).asks early (went bytes)
-    → (opens_next files catalogue counter contents number).asks early (went (with_content contents number bytes))
-next_asks files catalogue counter contents number bytes early asks =
-    let given = with_content contents number bytes in
-    subst (λ (all : Names). (opens_next files catalogue counter contents number).asks all (went given)) (append-nil early)
-    (then_asks (opens_fragment files catalogue number) (λ it. gives (with_content contents number it)) early [] bytes (went given) asks
-    ((quiet_gives Status given).goes given (gives_goes Status given given refl)))
+-- before the file of a fragment is asked for
+pub next_way : (files : Option Files) (catalogue : Catalogue) (counter : ℕ) (contents : ℕ → List ℕ) (number : ℕ)
+    → (opens_next files catalogue counter contents number).asks [] underway
+next_way files catalogue counter contents number =
+    first_way_asks (opens_fragment files catalogue number) (λ bytes. gives (with_content contents number bytes)) []
+    (first_way_asks (judges (IsStoredAt catalogue number) (λ _. ⊥)) (opens_stored files) [] (quiet_judges _ _).underway)
+
+pub fragments_way : (files : Option Files) (catalogue : Catalogue) (numbers : List ℕ) → (opens_fragments files catalogue numbers).asks [] underway
+fragments_way files catalogue numbers = each_way (opens_next files catalogue) numbers 0 no_contents (next_way files catalogue)
 
 -- after the files of the first numbers, so many: the contents of these, with which the course goes on, their rows, and the names that came to those that were
 -- asked for
 pub record SoFar (files : Option Files) (catalogue : Catalogue) (numbers : List ℕ) (before : Option Names) (index : ℕ) (opened : List (List Row))
     (now : Option Names) : Type 0 where
-  pub counter : ℕ
   pub contents : ℕ → List ℕ
-  pub leads : Leads (each (opens_next files catalogue) counter contents (drop index numbers)) (opens_fragments files catalogue numbers)
+  pub along : IsAlong (opens_next files catalogue) numbers (opens_fragments files catalogue numbers) before index contents now
   pub are : AreOpened catalogue.stores contents (take index numbers) opened
-  pub names : Names
-  pub told : AsksFor before now names
-  pub asking : LeadsAsking names (each (opens_next files catalogue) counter contents (drop index numbers)) (opens_fragments files catalogue numbers)
-
--- before anything is asked for
-pub fragments_way : (files : Option Files) (catalogue : Catalogue) (counter : ℕ) (contents : ℕ → List ℕ) (numbers : List ℕ)
-    → (each (opens_next files catalogue) counter contents numbers).asks [] underway
-fragments_way files catalogue counter contents [] = (quiet_gives Status contents).underway
-fragments_way files catalogue counter contents (number ∷ numbers) =
-    first_way_asks (opens_next files catalogue counter contents number) (λ next. each (opens_next files catalogue) (suc counter) next numbers) []
-    (first_way_asks (opens_fragment files catalogue number) (λ bytes. gives (with_content contents number bytes)) []
-    (first_way_asks (judges (IsStoredAt catalogue number) (λ _. ⊥)) (opens_stored files) [] (quiet_judges _ _).underway))
 
 module _ (files : Option Files) (catalogue : Catalogue) (numbers : List ℕ) (before : Option Names) where
   pub opening_starts : (opened : List (List Row)) → AreOpened catalogue.stores no_contents [] opened
       → SoFar files catalogue numbers before 0 opened before
-  opening_starts opened are = record {
-    counter = 0;
-    contents = no_contents;
-    leads = record { goes = λ value goes. goes; stops = λ refusal stops. stops };
-    are = are;
-    names = [];
-    told = told_nothing before;
-    asking = record { asks = λ names point asks. asks };
-  }
+  opening_starts opened are =
+      record { contents = no_contents; along = along_starts (opens_next files catalogue) numbers no_contents before; are = are }
 
   module _ (index : ℕ) (opened : List (List Row)) (now : Option Names) (so_far : SoFar files catalogue numbers before index opened now) where
     module _ (number : ℕ) (below : index < length numbers) (is : number ≡ get_or numbers index number) where
@@ -210,20 +158,15 @@ module _ (files : Option Files) (catalogue : Catalogue) (numbers : List ℕ) (be
           → Takes catalogue number bytes opened next → (later : Option Names) → AsksIn now later (opens_fragment files catalogue number) (Ok bytes)
           → SoFar files catalogue numbers before (index + 1) next later
       opening_goes next bytes distinct goes takes later asked = record {
-        counter = suc so_far.counter;
         contents = with_content so_far.contents number bytes;
-        leads = each_next (opens_next files catalogue) numbers (opens_fragments files catalogue numbers) so_far.counter index so_far.contents so_far.leads
-            number below is (with_content so_far.contents number bytes)
+        along = along_goes (opens_next files catalogue) numbers (opens_fragments files catalogue numbers) before index so_far.contents now so_far.along
+            number below is (with_content so_far.contents number bytes) later
             (then_goes (opens_fragment files catalogue number) (λ it. gives (with_content so_far.contents number it)) bytes
-            (with_content so_far.contents number bytes) goes (gives_goes Status _ _ refl));
+            (with_content so_far.contents number bytes) goes (gives_goes Status _ _ refl))
+            (kept_asks (opens_fragment files catalogue number) (with_content so_far.contents number) bytes asked);
         are = subst (λ (it : List ℕ). AreOpened catalogue.stores (with_content so_far.contents number bytes) it next) (sym taken)
             (takes (with_content so_far.contents number bytes) (take index numbers) (content_there so_far.contents number bytes)
             (still_opened catalogue.stores so_far.contents (take index numbers) opened number bytes absent so_far.are));
-        names = so_far.names ++ asked.names;
-        told = told_both before now later so_far.names asked.names so_far.told asked.told;
-        asking = each_asks_next (opens_next files catalogue) numbers (opens_fragments files catalogue numbers) so_far.counter index so_far.contents
-            so_far.names so_far.asking number below is asked.names (with_content so_far.contents number bytes)
-            (next_asks files catalogue so_far.counter so_far.contents number bytes asked.names asked.asks);
       }
         where
           taken : take (index + 1) numbers ≡ take index numbers ++ number ∷ []
@@ -237,30 +180,17 @@ module _ (files : Option Files) (catalogue : Catalogue) (numbers : List ℕ) (be
               (subst (AllPairs ◌≢◌) (sym (take-append-drop index numbers) ∙ ap (λ (it : List ℕ). take index numbers ++ it) left) distinct)
               (Contains-append_left (take index numbers) (drop (index + 1) numbers) number inside)
 
-      -- for what was asked where the file is not opened
+      -- the file is not opened
       pub opening_stop_asks : (later : Option Names) (refusal : Status) → AsksIn now later (opens_fragment files catalogue number) (Err refusal)
           → AsksIn before later (opens_fragments files catalogue numbers) (Err refusal)
-      opening_stop_asks later refusal asked = record {
-        names = so_far.names ++ asked.names;
-        told = told_both before now later so_far.names asked.names so_far.told asked.told;
-        asks = stop_at asked.names asked.asks;
-      }
-        where
-          stop_at : (early : Names) → AsksToStop (opens_fragment files catalogue number) early refusal
-              → AsksToStop (opens_fragments files catalogue numbers) (so_far.names ++ early) refusal
-          stop_at early (wanting want asks) = wanting want
-              (each_way_asks (opens_next files catalogue) numbers (opens_fragments files catalogue numbers) so_far.counter index so_far.contents so_far.names
-              so_far.asking number below is early (first_way_asks _ _ early asks))
-          stop_at early (stopping isnt asks ends) = stopping isnt
-              (each_stop_asks (opens_next files catalogue) numbers (opens_fragments files catalogue numbers) so_far.counter index so_far.contents so_far.names
-              so_far.asking number below is early refusal (first_stop_asks _ _ early refusal asks))
-              (ends_after refusal so_far.names early ends)
+      opening_stop_asks later refusal asked = along_stop_asks (opens_next files catalogue) numbers (opens_fragments files catalogue numbers) before index
+          so_far.contents now so_far.along number below is later refusal
+          (exit_asks (opens_fragment files catalogue number) (λ it. gives (with_content so_far.contents number it)) asked)
 
-      -- the file is not opened
       pub opening_stops : {rose : Type 0} {refusal : Status} → Stops IsWant (IsCaused rose) (opens_fragment files catalogue number) refusal
           → Stops IsWant (IsCaused rose) (opens_fragments files catalogue numbers) refusal
-      opening_stops stops = each_stops (opens_next files catalogue) numbers (opens_fragments files catalogue numbers) so_far.counter index so_far.contents
-          so_far.leads number below is (first_stops _ _ stops)
+      opening_stops stops = along_stops (opens_next files catalogue) numbers (opens_fragments files catalogue numbers) before index so_far.contents now
+          so_far.along number below is (first_stops _ _ stops)
 
   -- no file is left
   pub opening_ends : (index : ℕ) (opened : List Held) (now : Option Names) → SoFar files catalogue numbers before index (rows_held opened) now
@@ -268,15 +198,10 @@ module _ (files : Option Files) (catalogue : Catalogue) (numbers : List ℕ) (be
       → OpensAll files catalogue numbers rose before now (Ok opened)
   opening_ends index opened now so_far le rows rose = (
     so_far.contents,
-    each_goes (opens_next files catalogue) numbers (opens_fragments files catalogue numbers) so_far.counter index so_far.contents so_far.leads le,
+    along_ends (opens_next files catalogue) numbers (opens_fragments files catalogue numbers) before index so_far.contents now so_far.along le,
     subst (λ (it : List ℕ). AreOpened catalogue.stores so_far.contents it (rows_held opened)) (take_all index numbers le) so_far.are,
     rows,
-    record {
-      names = so_far.names;
-      told = so_far.told;
-      asks = each_asks_end (opens_next files catalogue) numbers (opens_fragments files catalogue numbers) so_far.counter index so_far.contents so_far.names
-          so_far.asking le;
-    },
+    along_end_asks (opens_next files catalogue) numbers (opens_fragments files catalogue numbers) before index so_far.contents now so_far.along le,
   )
 
 -- the number at a place of the list, as it is read off a slice of it

@@ -1,5 +1,7 @@
 pub mod Steps
 pub mod AskedSteps
+pub mod FileSteps
+pub mod LoopSteps
 pub mod OpeningLemmas
 pub mod FragmentLemmas
 pub mod LeadLemmas

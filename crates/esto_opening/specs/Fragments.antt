@@ -11,7 +11,7 @@ use Rattle.esto_stores.specs.Rows.{Row}
 use Rattle.esto_views.specs.declared.fragments.FragmentDef.{FragmentDef}
 use Rattle.esto_opening.specs.Answers.{IsWant, IsCaused}
 use Rattle.esto_opening.specs.Asked.{AsksIn}
-use Rattle.esto_opening.specs.Fetch.{fetches}
+use Rattle.esto_opening.specs.Fetch.{HasWithin, fetches}
 use Rattle.esto_opening.specs.declared.fragments.TheConstants.{FRAGMENT_LIMIT}
 use Rattle.esto_opening.specs.declared.status.Status.{Status}
 use Rattle.esto_opening.specs.declared.status.Status.TheVariants.{BadFragment}
@@ -44,6 +44,11 @@ opens_stored files stored =
 -- The file of the fragment of the number is opened.
 abbrev pub opens_fragment : Option Files → Catalogue → ℕ → Course Status (List ℕ)
 opens_fragment files catalogue number = and_then (judges (IsStoredAt catalogue number) (λ _. ⊥)) (opens_stored files)
+
+-- The file of the fragment of the number is no longer than a fragment's may be, has these bytes after one leading mark, and they have no fault.
+abbrev pub IsReadableFragment : Files → Catalogue → ℕ → List ℕ → Type 0
+IsReadableFragment files catalogue number bytes =
+    (stored : Stored) × IsStoredAt catalogue number stored × HasWithin files stored.store.file FRAGMENT_LIMIT bytes × (content_fault stored bytes ≡ None)
 
 -- The contents of files, by the numbers of their fragments, before any is opened.
 abbrev pub no_contents : ℕ → List ℕ

@@ -12,7 +12,7 @@ use Rattle.esto_read.specs.declared.read.Form.TheVariants as form
 use Rattle.esto_read.specs.declared.read.NamedQuery.{NamedQuery}
 use Rattle.esto_text.specs.declared.fault.TextFault.{TextFault}
 use Rattle.esto_course.specs.Course.{Course, judges, and_then}
-use Rattle.esto_opening.specs.Fetch.{fetches}
+use Rattle.esto_opening.specs.Fetch.{HasWithin, fetches}
 use Rattle.esto_opening.specs.declared.status.Status.{Status}
 use Rattle.esto_opening.specs.declared.status.Status.TheVariants as status
 use Rattle.esto_opening.specs.declared.opening.TheConstants.{CATALOGUE_LIMIT, QUERY_LIMIT}
@@ -41,3 +41,17 @@ reads_query catalogue bytes =
 -- The query of a file that is no longer than a query may be.
 abbrev pub opens_query : Option Files → List ℕ → Catalogue → Course Status Query
 opens_query files name catalogue = and_then (fetches files name QUERY_LIMIT) (reads_query catalogue)
+
+-- The files say this catalogue.
+pub record FilesSayCatalogue (files : Files) (name : List ℕ) (catalogue : Catalogue) : Type 0 where
+  pub bytes : List ℕ
+  pub has : HasWithin files name CATALOGUE_LIMIT bytes
+  pub is_catalogue : IsCatalogueOf bytes catalogue
+
+-- They say this query over the catalogue.
+pub record FilesSayQuery (files : Files) (name : List ℕ) (catalogue : Catalogue) (query : Query) : Type 0 where
+  pub bytes : List ℕ
+  pub has : HasWithin files name QUERY_LIMIT bytes
+  pub named : NamedQuery
+  pub is_query : IsReading form.Query catalogue.words (arities_of catalogue.schema) bytes named
+  pub query_is : query ≡ named.query

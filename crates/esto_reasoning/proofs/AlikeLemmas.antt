@@ -16,6 +16,7 @@ use Rattle.esto_contain.specs.declared.containing.Contain.TheVariants.{Yes, No}
 use Rattle.esto_contain.specs.declared.minimising.Minimal.{Minimal}
 use Rattle.esto_course.specs.Agreement.{IsDetermined}
 use Rattle.esto_course.specs.Course.{Course, and_then, demands, judges}
+use Rattle.esto_course.proofs.Alike.{fewer_alike}
 use Rattle.esto_course.proofs.Determined.{demands_determined, judges_agree, judges_determined, then_agree, then_determined}
 use Rattle.esto_opening.specs.Answers.{IsCaused}
 use Rattle.esto_opening.specs.Calm.{AgreeCalmly}
@@ -44,6 +45,7 @@ calmly course determined = record {
   one_stop = λ error other because because'. determined.one_stop error other tt tt;
   apart = λ value error because. determined.apart value error tt;
   other_apart = λ value error because. determined.other_apart value error tt;
+  alike = fewer_alike (IsCaused ⊥) (λ _. Unit {0}) course course (λ said caused. tt) determined.alike;
 }
 
 -- ---- what is told of two queries

@@ -49,13 +49,14 @@ module _ (shown : NoIsShown) (rules : List Rule) (relations : List (List ℕ)) (
   abbrev is_exact : Status → List ℕ → Type 0
   is_exact = ContainsExactly rules relations names left right
 
-  says_lengths : (said : Status) (text : List ℕ) → length left.head ≢ length right.head → said ≡ status.HeadLengths (length left.head) (length right.head)
-      → is_exact said text
-  says_lengths said text apart is = record {
+  says_lengths : (said : Status) → length left.head ≢ length right.head → said ≡ status.HeadLengths (length left.head) (length right.head)
+      → is_exact said (line_of said)
+  says_lengths said apart is = record {
     lengths = ((λ same. apart), (λ still. is));
     done = ((λ same. absurd (done_not_lengths _ _ (sym same ∙ is))), (λ same. absurd (apart same)));
     yes = λ same. absurd (done_not_lengths _ _ (sym same ∙ is));
     no = λ same. absurd (done_not_lengths _ _ (sym same ∙ is));
+    line = λ refused. refl;
   }
 
   says_yes : length left.head ≡ length right.head → IsWithin rules left right → (text : List ℕ) → text ≡ codes "yes\n" → is_exact status.Done text
@@ -64,6 +65,7 @@ module _ (shown : NoIsShown) (rules : List Rule) (relations : List (List ℕ)) (
     done = ((λ done. same), (λ lengths. refl));
     yes = λ done. ((λ yes_text. within), (λ still. is));
     no = λ done never. absurd (never within);
+    line = λ refused. absurd (refused refl);
   }
 
   says_no : length left.head ≡ length right.head → (facts : List (Fact Term)) (row : List Term) → TellsContained rules left right (No facts row)
@@ -72,7 +74,8 @@ module _ (shown : NoIsShown) (rules : List Rule) (relations : List (List ℕ)) (
     lengths = ((λ other. absurd (done_not_lengths _ _ other)), (λ apart. absurd (apart same)));
     done = ((λ done. same), (λ lengths. refl));
     yes = λ done. ((λ yes_text. absurd (no_not_yes _ (sym is.2 ∙ yes_text))), (λ within. absurd (tells.0 within)));
-    no = λ done never. (facts, row, shown rules left right facts row are_rules is_query tells, is);
+    no = λ done never. (facts, row, tells.1, shown rules left right facts row are_rules is_query tells, is);
+    line = λ refused. absurd (refused refl);
   }
 
   says_told : length left.head ≡ length right.head → (told : Contain) → TellsContained rules left right told → (text : List ℕ)
@@ -85,7 +88,7 @@ module _ (shown : NoIsShown) (rules : List Rule) (relations : List (List ℕ)) (
   compares_exactly = record {
     goes = λ text (given, same, (told, tells, says)). says_told same told tells text says;
     stops = λ said caused stop. elim stop [
-      | inl (apart, is) ↦ says_lengths said (line_of said) apart is
+      | inl (apart, is) ↦ says_lengths said apart is
       | inr (given, same, more) ↦ elim more [
         | inl none ↦ absurd none
         | inr (told, tells, none) ↦ absurd none
@@ -114,11 +117,12 @@ module _ (clash_one : ClashOfRunIsOne) (clashed : ClashedIsUnsatisfiable)
           (λ same. absurd (done_not_clash clash same)),
           (λ clashes. absurd (clashed rules query clash are_rules is_query clashes satisfiable)),
         );
+        line = λ refused. absurd (refused refl);
       }
 
-  says_clash : (clash : Clash) → RunClashes rules (start_of query) clash → (said : Status) (text : List ℕ) → said ≡ status.Unsatisfiable clash
-      → is_minimised said text
-  says_clash clash clashes said text is =
+  says_clash : (clash : Clash) → RunClashes rules (start_of query) clash → (said : Status) → said ≡ status.Unsatisfiable clash
+      → is_minimised said (line_of said)
+  says_clash clash clashes said is =
       let never = clashed rules query clash are_rules is_query clashes in record {
         done = ((λ same. absurd (done_not_clash clash (sym same ∙ is))), (λ has. absurd (never has)));
         prints = λ same. absurd (done_not_clash clash (sym same ∙ is));
@@ -127,6 +131,7 @@ module _ (clash_one : ClashOfRunIsOne) (clashed : ClashedIsUnsatisfiable)
           (λ same. subst (λ (it : Clash). RunClashes rules (start_of query) it) (same_clash clash other (sym is ∙ same)) clashes),
           (λ ends. is ∙ ap status.Unsatisfiable (clash_one rules query clash other are_rules clashes ends)),
         );
+        line = λ refused. refl;
       }
 
   pub minimises_exactly : Leads (minimises_by rules relations names query) (is_minimised status.Done) (λ said. is_minimised said (line_of said))
@@ -134,7 +139,7 @@ module _ (clash_one : ClashOfRunIsOne) (clashed : ClashedIsUnsatisfiable)
   minimises_exactly = record {
     goes = λ text (minimal, is_minimal, is). says_parts minimal is_minimal text is;
     stops = λ said caused stop. elim stop [
-      | inl (clash, clashes, is) ↦ says_clash clash clashes said (line_of said) is
+      | inl (clash, clashes, is) ↦ says_clash clash clashes said is
       | inr (minimal, is_minimal, none) ↦ absurd none
     ];
   }

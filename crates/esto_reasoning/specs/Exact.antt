@@ -6,10 +6,13 @@ use Rattle.esto_chase_laws.specs.Runs.{start_of}
 use Rattle.esto_chase_laws.specs.declared.clash.Clash.{Clash}
 use Rattle.esto_constraint.specs.Constraints.{rules_of}
 use Rattle.esto_contain.specs.Contained.{IsCounterexample}
+use Rattle.esto_contain.specs.Ends.{FinishesAt}
 use Rattle.esto_contain.specs.Minimised.{IsMinimised}
 use Rattle.esto_contain.specs.declared.minimising.Minimal.{Minimal}
+use Rattle.esto_opening.specs.Line.{line_of}
 use Rattle.esto_opening.specs.declared.status.Status.{Status}
 use Rattle.esto_opening.specs.declared.status.Status.TheVariants as status
+use Rattle.esto_plan_laws.specs.Cores.{with_head}
 use Rattle.esto_query.specs.Making.{query_of}
 use Rattle.esto_query.specs.Schemas.{names_of}
 use Rattle.esto_query.specs.declared.query.Name.{Name}
@@ -28,19 +31,22 @@ use Rattle.esto_reasoning.specs.Minimise.{IsMinimalText}
 abbrev pub IsWithin : List Rule → ConjunctiveQuery → ConjunctiveQuery → Type 0
 IsWithin rules left right = IsContained rules (IsAnswer left) (IsAnswer right)
 
--- The text is that of facts and a row, under new names, which show that the left query is not contained in the right one.
+-- The text is that of the last facts of the left query's run and of the run's head, under new names, which show that the left query is not contained in the
+-- right one.
 abbrev pub ShowsNo : List Rule → List (List ℕ) → List Name → ConjunctiveQuery → ConjunctiveQuery → List ℕ → Type 0
 ShowsNo rules relations names left right text =
-    (facts : List (Fact Term)) × (row : List Term) × IsCounterexample rules left right facts row × IsNoText relations names facts row text
+    (facts : List (Fact Term)) × (row : List Term) × FinishesAt rules (start_of left) (with_head row facts)
+    × IsCounterexample rules left right facts row × IsNoText relations names facts row text
 
--- The status is HeadLengths of the lengths of the two heads exactly where they differ, and else Done. Then the text is `yes` exactly where the left query is
--- contained in the right one, and else that of a counterexample.
+-- The status is HeadLengths of the lengths of the two heads exactly where they differ, with its line; and else Done. Then the text is `yes` exactly where the
+-- left query is contained in the right one, and else that of a counterexample.
 pub record ContainsExactly (rules : List Rule) (relations : List (List ℕ)) (names : List Name) (left right : ConjunctiveQuery) (said : Status)
     (text : List ℕ) : Type 0 where
   pub lengths : (said ≡ status.HeadLengths (length left.head) (length right.head)) ↔ (length left.head ≢ length right.head)
   pub done : (said ≡ status.Done) ↔ (length left.head ≡ length right.head)
   pub yes : said ≡ status.Done → (text ≡ codes "yes\n") ↔ IsWithin rules left right
   pub no : said ≡ status.Done → ¬ (IsWithin rules left right) → ShowsNo rules relations names left right text
+  pub line : said ≢ status.Done → text ≡ line_of said
 
 -- So it is of two queries over a catalogue.
 abbrev pub IsExactContains : Catalogue → Query → Query → Status → List ℕ → Type 0
@@ -55,13 +61,14 @@ PrintsMinimal rules relations names query text =
     (minimal : Minimal) × IsMinimised rules names query minimal × IsMinimalText rules relations query minimal text
 
 -- The status is Done exactly where some database that meets the rules gives the query an answer, and then the text prints its minimal equivalent parts. Else
--- it is Unsatisfiable, with the clash of the query's run.
+-- it is Unsatisfiable, with the clash of the query's run, and the text is its line.
 pub record MinimisesExactly (rules : List Rule) (relations : List (List ℕ)) (names : List Name) (query : ConjunctiveQuery) (said : Status) (text : List ℕ)
     : Type 0 where
   pub done : (said ≡ status.Done) ↔ IsSatisfiable rules query
   pub prints : said ≡ status.Done → PrintsMinimal rules relations names query text
   pub unsatisfiable : ((clash : Clash) × (said ≡ status.Unsatisfiable clash)) ↔ ¬ (IsSatisfiable rules query)
   pub clash : (clash : Clash) → (said ≡ status.Unsatisfiable clash) ↔ RunClashes rules (start_of query) clash
+  pub line : said ≢ status.Done → text ≡ line_of said
 
 -- So it is of a query over a catalogue.
 abbrev pub IsExactMinimise : Catalogue → Query → Status → List ℕ → Type 0

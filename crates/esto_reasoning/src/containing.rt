@@ -2,6 +2,7 @@
 ghost use Rattle.std.specs.Prelude.{◌≡◌, ◌≢◌, ◌≤◌, [], IfOk};
 ghost use Rattle.esto_contain.specs.Contained.{IfNo};
 ghost use Rattle.esto_opening.specs.Answers.{Answers};
+ghost use Rattle.esto_opening.specs.Asked.{AsksIn};
 ghost use Rattle.esto_ports.specs.Faults.{Rises};
 ghost use Rattle.esto_query.specs.Schemas.{names_of};
 ghost use Rattle.esto_reasoning.specs.Contains.{IsNoText, SaysTold, compares, contains_course, have_one_length, prints_told, tells_contained};
@@ -115,7 +116,7 @@ fn compared(
 
 /// Fetches and reads the catalogue, then the left query, then the right one, and prints whether the left query is contained in
 /// the right one under the catalogue's rules; of a no, with a database that meets the rules and a row that shows it.
-#[tactic(auto, using(crate::proofs::Steps::steps))]
+#[tactic(auto, using(crate::proofs::Steps::steps, crate::proofs::Steps::asked_steps))]
 pub fn contains<S: Shelf>(
     alloc: Global,
     shelf: &mut S,
@@ -126,6 +127,8 @@ pub fn contains<S: Shelf>(
     ensures answer { Answers
         (contains_course (S.files shelf.old) catalogue.now left.now right.now)
         (Rises S.faults shelf.old shelf.new) result }
+    ensures asked { AsksIn (S.asked shelf.old) (S.asked shelf.new)
+        (contains_course (S.files shelf.old) catalogue.now left.now right.now) result }
     ensures files { S.files shelf.new ≡ S.files shelf.old }
     ensures later { S.faults shelf.old ≤ S.faults shelf.new }
 {

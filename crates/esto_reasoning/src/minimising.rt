@@ -2,6 +2,7 @@
 ghost use Rattle.std.specs.Prelude.{◌≡◌, ◌≤◌, IfOk};
 ghost use Rattle.esto_constraint.specs.Constraints.{rules_of};
 ghost use Rattle.esto_opening.specs.Answers.{Answers};
+ghost use Rattle.esto_opening.specs.Asked.{AsksIn};
 ghost use Rattle.esto_ports.specs.Faults.{Rises};
 ghost use Rattle.esto_query.specs.Making.{query_of};
 ghost use Rattle.esto_query.specs.Schemas.{names_of};
@@ -77,7 +78,7 @@ fn minimised(alloc: Global, query: &Query, catalogue: &Catalogue) -> Result<Byte
 
 /// Fetches and reads the catalogue, then the query, and prints the last facts of the query's run, its head, and the minimal
 /// sets of these facts that are equivalent to the query under the catalogue's rules.
-#[tactic(auto, using(crate::proofs::Steps::steps))]
+#[tactic(auto, using(crate::proofs::Steps::steps, crate::proofs::Steps::asked_steps))]
 pub fn minimise<S: Shelf>(
     alloc: Global,
     shelf: &mut S,
@@ -86,6 +87,8 @@ pub fn minimise<S: Shelf>(
 ) -> Result<Reply, Status>
     ensures answer { Answers (minimise_course (S.files shelf.old) catalogue.now query.now)
         (Rises S.faults shelf.old shelf.new) result }
+    ensures asked { AsksIn (S.asked shelf.old) (S.asked shelf.new)
+        (minimise_course (S.files shelf.old) catalogue.now query.now) result }
     ensures files { S.files shelf.new ≡ S.files shelf.old }
     ensures later { S.faults shelf.old ≤ S.faults shelf.new }
 {

@@ -191,7 +191,8 @@ module _ (laws : AgreementLaws) (files : Files) (catalogue_name query_name : Lis
       absurd (let h : status.Unsatisfiable clash ≡ status.Done = sym (ap reply_status is) ∙ done in cc)
 
 module _ (laws : AgreementLaws) (files : Files) (catalogue_name query_name : List ℕ) (number : Option ℕ) where
-  course_agrees : (reply ran : Reply) → (audit_course (Some files) catalogue_name).goes reply → (run_course (Some files) catalogue_name query_name number).goes ran
+  course_agrees : (reply ran : Reply) → (audit_course (Some files) catalogue_name).goes reply
+      → (run_course (Some files) catalogue_name query_name number).goes ran
       → reply_status ran ≡ status.Done → (said : Status) (answered : List ℕ) → Says (answer_course (Some files) catalogue_name query_name) ⊥ said answered
       → (said ≡ status.Done) × (answered ≡ reply_text ran)
   unfolding and_then

@@ -3,17 +3,14 @@ use Rattle.std.proofs.Common.{ℕ, List, Option, Some, None, sym, ap, subst, ◌
 use Rattle.esto_course.specs.Course.{Course}
 use Rattle.esto_data.specs.Answer.{answer_course}
 use Rattle.esto_data.specs.Audit.{audit_course}
-use Rattle.esto_data.specs.Exact.{FilesSayCatalogue, FilesSayQuery, IsExactAnswer, IsExactAudit, IsExactFill}
+use Rattle.esto_data.specs.Exact.{IsExactAnswer, IsExactAudit, IsExactFill}
 use Rattle.esto_data.specs.Fill.{fill_course}
 use Rattle.esto_data.specs.Laws.{AnswersAreExact, AuditsAreExact, FillsAreExact, Says as SaysAlways}
-use Rattle.esto_catalog.specs.declared.catalogue.Catalogue.{Catalogue}
 use Rattle.esto_ports.specs.Files.{Files}
-use Rattle.esto_query.specs.declared.query.Query.{Query}
 use Rattle.esto_opening.specs.declared.reply.Reply.{Reply}
 use Rattle.esto_opening.specs.declared.status.Status.{Status}
 use Rattle.esto_top.specs.DataOutcomes.{AnswersWhereTold, AuditsWhereTold, FillsWhereTold, OutcomesAreAnswers, OutcomesAreAudits, OutcomesAreFills}
 use Rattle.esto_top.specs.Grammar.{course_of}
-use Rattle.esto_top.specs.Headline.{FilesSay}
 use Rattle.esto_top.specs.Outcome.{CompleteWhereTold, Says, reply_status, reply_text}
 use Rattle.esto_top.specs.Outcome.Says.{replies, refuses}
 
@@ -26,16 +23,6 @@ says_fact course Fact said text always (replies reply goes said_is text_is) =
     (subst (λ (it : Status). Fact it found.0) (sym (said_is ∙ ap reply_status found.1)) found.2)
 says_fact course Fact said text always (refuses caused stops text_is) = subst (Fact said) (sym text_is) (always.stops said caused stops)
 
-catalogue_said : (files : Files) (catalogue_name query_name : List ℕ) (catalogue : Catalogue) (query : Query)
-    → FilesSay files catalogue_name query_name catalogue query → FilesSayCatalogue files catalogue_name catalogue
-catalogue_said files catalogue_name query_name catalogue query say =
-    record { bytes = say.catalogue_bytes; has = say.has_catalogue; is_catalogue = say.is_catalogue }
-
-pub query_said : (files : Files) (catalogue_name query_name : List ℕ) (catalogue : Catalogue) (query : Query)
-    → FilesSay files catalogue_name query_name catalogue query → FilesSayQuery files query_name catalogue query
-query_said files catalogue_name query_name catalogue query say =
-    record { bytes = say.query_bytes; has = say.has_query; named = say.named; is_query = say.is_query; query_is = say.query_is }
-
 pub outcomes_are_fills : FillsAreExact → OutcomesAreFills
 outcomes_are_fills exact words files catalogue_name name catalogue said text is say outcome =
     says_fact (fill_course (Some files) catalogue_name name) (IsExactFill files catalogue name) said text (exact files catalogue_name name catalogue say)
@@ -44,8 +31,7 @@ outcomes_are_fills exact words files catalogue_name name catalogue said text is 
 pub outcomes_are_answers : AnswersAreExact → OutcomesAreAnswers
 outcomes_are_answers exact words files catalogue_name query_name catalogue query said text is say outcome =
     says_fact (answer_course (Some files) catalogue_name query_name) (IsExactAnswer files catalogue query) said text
-    (exact files catalogue_name query_name catalogue query (catalogue_said files catalogue_name query_name catalogue query say)
-    (query_said files catalogue_name query_name catalogue query say))
+    (exact files catalogue_name query_name catalogue query say.says_catalogue say.says_query)
     (subst (λ (it : List (List ℕ)). Says (course_of it (Some files)) ⊥ said text) is outcome)
 
 pub outcomes_are_audits : AuditsAreExact → OutcomesAreAudits

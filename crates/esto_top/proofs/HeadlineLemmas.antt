@@ -145,12 +145,13 @@ module _ (sound : CataloguesAreSound) (one : HaveOneCatalogue) (apart : HaveNoEr
     (files : Files) (catalogue_name query_name : List ℕ) (catalogue : Catalogue) (query : Query)
     (say : FilesSay files catalogue_name query_name catalogue query) where
   abbrev Printed : Reply → Type 0
-  Printed = HasPrinted say.catalogue_bytes say.query_bytes
+  Printed = HasPrinted say.says_catalogue.bytes say.says_query.bytes
 
   abbrev Refused : Status → Type 0
-  Refused = HasRefused say.catalogue_bytes say.query_bytes
+  Refused = HasRefused say.says_catalogue.bytes say.says_query.bytes
 
-  module _ (other : Catalogue) (is_other : IsCatalogueOf say.catalogue_bytes other) (read : Query) (is_query : IsQueryOf other say.query_bytes read) where
+  module _ (other : Catalogue) (is_other : IsCatalogueOf say.says_catalogue.bytes other) (read : Query)
+      (is_query : IsQueryOf other say.says_query.bytes read) where
     -- the query has a plan, or is refused
     plan_leads : Leads (plans_query other read) (IsPlanned other read) Refused
     plan_leads = judges-leads _ _ Refused (λ refusal caused stop. record {
@@ -192,7 +193,7 @@ module _ (sound : CataloguesAreSound) (one : HaveOneCatalogue) (apart : HaveNoEr
     -- where the list was printed, the query is satisfiable and the text is exact
     printed_exact : (reply : Reply) → Printed reply → HasAnswers catalogue query × IsExactList catalogue query (reply_status reply) (reply_text reply)
     printed_exact reply run =
-        let alike = one say.catalogue_bytes catalogue run.catalogue say.is_catalogue run.is_catalogue in
+        let alike = one say.says_catalogue.bytes catalogue run.catalogue say.says_catalogue.is_catalogue run.is_catalogue in
         let same = same_as_read sound one apart queries no_fault files catalogue_name query_name catalogue query say
         run.catalogue run.is_catalogue run.query run.is_query in
         let plan = run.has_text.plan in
@@ -209,7 +210,7 @@ module _ (sound : CataloguesAreSound) (one : HaveOneCatalogue) (apart : HaveNoEr
     refused_exact : (said : Status) (text : List ℕ) → Refused said → text ≡ line_of said
         → ¬ (HasAnswers catalogue query) × IsExactRefusal catalogue query said text
     refused_exact said text run text_is =
-        let alike = one say.catalogue_bytes catalogue run.catalogue say.is_catalogue run.is_catalogue in
+        let alike = one say.says_catalogue.bytes catalogue run.catalogue say.says_catalogue.is_catalogue run.is_catalogue in
         let same = same_as_read sound one apart queries no_fault files catalogue_name query_name catalogue query say
         run.catalogue run.is_catalogue run.query run.is_query in
         let clashes = laws.planning.clash_moved catalogue run.catalogue query run.query run.clash alike same run.clashes in

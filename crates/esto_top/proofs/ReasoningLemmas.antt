@@ -3,7 +3,7 @@ use Rattle.std.proofs.Common.{ℕ, List, Option, Some, None, subst, inl, inr}
 use Rattle.esto_catalog.specs.declared.catalogue.Catalogue.{Catalogue}
 use Rattle.esto_course.specs.Course.{judges}
 use Rattle.esto_course.proofs.Steps.{then_goes}
-use Rattle.esto_data.specs.Exact.{FilesSayQuery}
+use Rattle.esto_opening.specs.Opening.{FilesSayCatalogue, FilesSayQuery}
 use Rattle.esto_ports.specs.Files.{Files}
 use Rattle.esto_query.specs.declared.query.Query.{Query}
 use Rattle.esto_opening.specs.Fetch.{fetches}
@@ -15,16 +15,15 @@ use Rattle.esto_reasoning.specs.Exact.{IsExactContains, IsExactMinimise}
 use Rattle.esto_reasoning.specs.Laws.{ContainsIsExact, MinimiseIsExact}
 use Rattle.esto_reasoning.specs.Minimise.{minimise_course}
 use Rattle.esto_top.specs.Grammar.{course_of}
-use Rattle.esto_top.specs.Headline.{FilesSay}
 use Rattle.esto_top.specs.Outcome.{CompleteWhereTold, Says}
 use Rattle.esto_top.specs.ReasoningOutcomes.{ContainsWhereTold, MinimisesWhereTold, OutcomesAreContainments, OutcomesAreMinimised}
-use Rattle.esto_top.proofs.DataLemmas.{query_said, says_fact}
+use Rattle.esto_top.proofs.DataLemmas.{says_fact}
 
-catalogue_opens : (files : Files) (catalogue_name query_name : List ℕ) (catalogue : Catalogue) (query : Query)
-    → FilesSay files catalogue_name query_name catalogue query → (opens_catalogue (Some files) catalogue_name).goes catalogue
+catalogue_opens : (files : Files) (name : List ℕ) (catalogue : Catalogue) → FilesSayCatalogue files name catalogue
+    → (opens_catalogue (Some files) name).goes catalogue
 unfolding fetches judges
-catalogue_opens files catalogue_name query_name catalogue query say =
-    then_goes (fetches (Some files) catalogue_name CATALOGUE_LIMIT) reads_catalogue say.catalogue_bytes catalogue say.has_catalogue say.is_catalogue
+catalogue_opens files name catalogue say =
+    then_goes (fetches (Some files) name CATALOGUE_LIMIT) reads_catalogue say.bytes catalogue say.has say.is_catalogue
 
 query_opens : (files : Files) (name : List ℕ) (catalogue : Catalogue) (query : Query) → FilesSayQuery files name catalogue query
     → (opens_query (Some files) name catalogue).goes query
@@ -35,16 +34,16 @@ query_opens files name catalogue query say =
 pub outcomes_are_containments : ContainsIsExact → OutcomesAreContainments
 outcomes_are_containments exact words files catalogue_name left_name right_name catalogue left right said text is say say_right outcome =
     says_fact (contains_course (Some files) catalogue_name left_name right_name) (IsExactContains catalogue left right) said text
-    (exact files catalogue_name left_name right_name catalogue left right (catalogue_opens files catalogue_name left_name catalogue left say)
-    (query_opens files left_name catalogue left (query_said files catalogue_name left_name catalogue left say))
+    (exact files catalogue_name left_name right_name catalogue left right (catalogue_opens files catalogue_name catalogue say.says_catalogue)
+    (query_opens files left_name catalogue left say.says_query)
     (query_opens files right_name catalogue right say_right))
     (subst (λ (it : List (List ℕ)). Says (course_of it (Some files)) ⊥ said text) is outcome)
 
 pub outcomes_are_minimised : MinimiseIsExact → OutcomesAreMinimised
 outcomes_are_minimised exact words files catalogue_name query_name catalogue query said text is say outcome =
     says_fact (minimise_course (Some files) catalogue_name query_name) (IsExactMinimise catalogue query) said text
-    (exact files catalogue_name query_name catalogue query (catalogue_opens files catalogue_name query_name catalogue query say)
-    (query_opens files query_name catalogue query (query_said files catalogue_name query_name catalogue query say)))
+    (exact files catalogue_name query_name catalogue query (catalogue_opens files catalogue_name catalogue say.says_catalogue)
+    (query_opens files query_name catalogue query say.says_query))
     (subst (λ (it : List (List ℕ)). Says (course_of it (Some files)) ⊥ said text) is outcome)
 
 -- ---- where the files are told

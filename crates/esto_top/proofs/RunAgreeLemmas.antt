@@ -50,7 +50,8 @@ module _ (laws : CourseLaws) (files : Files) (catalogue other : Catalogue) (alik
         (judges (IsRunText other other_query other_plan set contents) (λ _. ⊥))
     text_agree set contents = judges_agree _ _ _ _ _ _
         (λ text other_text here there. one_text laws.rising query (IsAnswerOver (IsFileRow catalogue.stores contents) (candidate (plan_query plan) set))
-        text other_text here (run_text_moved laws.opening.rows catalogue other alike query other_query same plan other_plan plans set contents other_text there))
+        text other_text here (run_text_moved laws.opening.rows catalogue
+        other alike query other_query same plan other_plan plans set contents other_text there))
         (λ said other_said caused other_caused here there. absurd here) (λ value said caused here there. there) (λ value said caused here there. there)
 
     item_agree : (item : Listed) → AgreeCalmly ◌≡◌ (runs_item (Some files) catalogue query plan item)
@@ -58,7 +59,8 @@ module _ (laws : CourseLaws) (files : Files) (catalogue other : Catalogue) (alik
     item_agree item =
         then_agree _ ◌≡◌ ◌≡◌ _ _ _ _ (used_agree item.set) (λ numbers others goes one.
         then_agree _ ◌≡◌ ◌≡◌ _ _ _ _
-        (subst (λ it. AgreeCalmly ◌≡◌ (opens_fragments (Some files) catalogue numbers) (opens_fragments (Some files) other it)) one (laws.opening.fragments files catalogue other numbers alike))
+        (subst (λ it. AgreeCalmly ◌≡◌ (opens_fragments (Some files) catalogue numbers) (opens_fragments (Some files) other it)) one
+        (laws.opening.fragments files catalogue other numbers alike))
         (λ contents other_contents goes1 one1.
         then_agree _ ◌≡◌ ◌≡◌ _ _ _ _
         (subst (λ (it : ℕ → List ℕ). AgreeCalmly ◌≡◌ (judges (IsRunText catalogue query plan item.set contents) (λ _. ⊥))

@@ -37,13 +37,13 @@ use Rattle.esto_views.specs.declared.plan.Plan.{Plan}
 use Rattle.esto_opening.specs.Answers.{IsCaused}
 use Rattle.esto_opening.specs.Fetch.{FetchStops, fetches}
 use Rattle.esto_opening.specs.Fetch.FetchStops.{fails, is_longer}
-use Rattle.esto_opening.specs.Fragments.{IsStoredAt, content_fault, opens_fragment, opens_next, opens_fragments, with_content, no_contents}
+use Rattle.esto_opening.specs.Fragments.{IsReadableFragment, IsStoredAt, content_fault, opens_fragment, opens_next, opens_fragments, with_content, no_contents}
 use Rattle.esto_top.specs.Grammar.{course_of, is_list_number}
 use Rattle.esto_top.specs.Headline.{FilesSay, HasAnswers, Rewrites}
 use Rattle.esto_top.specs.Outcome.{Says, CompleteWhereTold, reply_status, reply_text}
 use Rattle.esto_top.specs.Run.{IsRunText, runs_query, run_course}
 use Rattle.esto_planning.specs.Choice.HasNoPlace.{is_empty, is_above}
-use Rattle.esto_top.specs.Runs.{AsksRun, IsReadable, CanRun, PrintsAnswers, PrintsRun, IsExactRun, OutcomesAreRuns, RunsWhereTold}
+use Rattle.esto_top.specs.Runs.{AsksRun, CanRun, PrintsAnswers, PrintsRun, IsExactRun, OutcomesAreRuns, RunsWhereTold}
 use Rattle.esto_opening.specs.declared.reply.Reply.{Reply}
 use Rattle.esto_opening.specs.declared.reply.Reply.TheVariants.{Done, Unsatisfiable}
 use Rattle.esto_opening.specs.declared.fragments.TheConstants.{FRAGMENT_LIMIT}
@@ -198,11 +198,11 @@ module _ (alike_opens : FragmentOpensAlike) (files : Files) (catalogue other : C
   abbrev Never : Status → Type 0
   Never refusal = ⊥
 
-  readable_opens : (number : ℕ) (bytes : List ℕ) → IsReadable files catalogue number bytes → (opens_fragment (Some files) catalogue number).goes bytes
+  readable_opens : (number : ℕ) (bytes : List ℕ) → IsReadableFragment files catalogue number bytes → (opens_fragment (Some files) catalogue number).goes bytes
   unfolding fetches judges and_then gives
   readable_opens number bytes (stored, at, has, none) = (stored, at, (bytes, has, (tt, none, refl)))
 
-  read_leads : (number : ℕ) (bytes : List ℕ) → IsReadable files catalogue number bytes
+  read_leads : (number : ℕ) (bytes : List ℕ) → IsReadableFragment files catalogue number bytes
       → Leads (opens_fragment (Some files) other number) (λ got. got ≡ bytes) Never
   read_leads number bytes readable =
       let agree = alike_opens files catalogue other number alike in
@@ -215,7 +215,7 @@ module _ (alike_opens : FragmentOpensAlike) (files : Files) (catalogue other : C
     AreWanted numbers before got = (number : ℕ) → Contains numbers number ⊎ (before number ≡ want number) → got number ≡ want number
 
     each_leads : (counter : ℕ) (before : ℕ → List ℕ) (numbers : List ℕ)
-        → ((number : ℕ) → Contains numbers number → IsReadable files catalogue number (want number))
+        → ((number : ℕ) → Contains numbers number → IsReadableFragment files catalogue number (want number))
         → Leads (each (opens_next (Some files) other) counter before numbers) (AreWanted numbers before) Never
     each_leads counter before [] readable = leads-more _ (λ got. got ≡ before) _ Never (λ got is number cases.
         elim cases [ inl inside ↦ absurd (Contains-nil number inside) | inr same ↦ ap (λ (it : ℕ → List ℕ). it number) is ∙ same ]) (gives-leads before Never)
@@ -251,7 +251,7 @@ module _ (alike_opens : FragmentOpensAlike) (files : Files) (catalogue other : C
           | inr later ↦ are number (inl later)
         ]
 
-    module _ (numbers : List ℕ) (readable : (number : ℕ) → Contains numbers number → IsReadable files catalogue number (want number)) where
+    module _ (numbers : List ℕ) (readable : (number : ℕ) → Contains numbers number → IsReadableFragment files catalogue number (want number)) where
       pub opened_wanted : (contents : ℕ → List ℕ) → (opens_fragments (Some files) other numbers).goes contents → (number : ℕ) → Contains numbers number
           → contents number ≡ want number
       opened_wanted contents goes number inside = (each_leads 0 no_contents numbers readable).goes contents goes number (inl inside)
@@ -324,16 +324,16 @@ module _ (sound : CataloguesAreSound) (one : HaveOneCatalogue) (apart : HaveNoEr
   -- what a whole run read, and how it replied or stopped
   record HasRun (reply : Reply) : Type 0 where
     other : Catalogue
-    is_other : IsCatalogueOf say.catalogue_bytes other
+    is_other : IsCatalogueOf say.says_catalogue.bytes other
     read : Query
-    is_query : IsQueryOf other say.query_bytes read
+    is_query : IsQueryOf other say.says_query.bytes read
     goes : RunGoes files other read number reply
 
   record HasStopped (refusal : Status) : Type 0 where
     other : Catalogue
-    is_other : IsCatalogueOf say.catalogue_bytes other
+    is_other : IsCatalogueOf say.says_catalogue.bytes other
     read : Query
-    is_query : IsQueryOf other say.query_bytes read
+    is_query : IsQueryOf other say.says_query.bytes read
     stops : RunStops files other read number refusal
 
   run_leads : Leads (run_course (Some files) catalogue_name query_name number) HasRun HasStopped
@@ -348,9 +348,10 @@ module _ (sound : CataloguesAreSound) (one : HaveOneCatalogue) (apart : HaveNoEr
       }))
 
   module _ (laws : ListingLaws) (opening : OpeningLaws) (run_laws : RunLaws) where
-    module _ (other : Catalogue) (is_other : IsCatalogueOf say.catalogue_bytes other) (read : Query) (is_query : IsQueryOf other say.query_bytes read) where
+    module _ (other : Catalogue) (is_other : IsCatalogueOf say.says_catalogue.bytes other) (read : Query)
+        (is_query : IsQueryOf other say.says_query.bytes read) where
       alike : AreSame catalogue other
-      alike = one say.catalogue_bytes catalogue other say.is_catalogue is_other
+      alike = one say.says_catalogue.bytes catalogue other say.says_catalogue.is_catalogue is_other
 
       same : IsSameQuery query read
       same = same_as_read sound one apart queries no_fault files catalogue_name query_name catalogue query say other is_other read is_query
@@ -398,11 +399,11 @@ module _ (sound : CataloguesAreSound) (one : HaveOneCatalogue) (apart : HaveNoEr
                 (subst (λ (it : Listed). AreUsed (plan_query plan).body it.set numbers) (sym same_item) used)
 
             -- the files of the used fragments are readable
-            readable : (fragment : ℕ) → Contains numbers fragment → IsReadable files catalogue fragment (can.contents fragment)
+            readable : (fragment : ℕ) → Contains numbers fragment → IsReadableFragment files catalogue fragment (can.contents fragment)
             readable fragment inside =
                 let at = (used_here.exact fragment).0 inside in
                 let atom : Fact Term = at.1.1.0 in
-                subst (λ (it : ℕ). IsReadable files catalogue it (can.contents it)) at.1.1.2
+                subst (λ (it : ℕ). IsReadableFragment files catalogue it (can.contents it)) at.1.1.2
                 (can.readable atom ((run_laws.named can.item.set (plan_query can.plan).body atom).1 (at.0, at.1.0, at.1.1.1)))
 
             opened_anyway : (refusal : Status) → IsCaused ⊥ refusal → (opens_fragments (Some files) other numbers).stops refusal → ⊥

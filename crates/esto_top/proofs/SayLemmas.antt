@@ -40,45 +40,47 @@ module _ (sound : CataloguesAreSound) (one : HaveOneCatalogue) (apart : HaveNoEr
     (files : Files) (catalogue_name query_name : List ℕ) (catalogue : Catalogue) (query : Query)
     (say : FilesSay files catalogue_name query_name catalogue query) where
   -- the catalogue is fetched and read
-  pub catalogue_leads : (Refused : Status → Type 0) → Leads (opens_catalogue (Some files) catalogue_name) (IsCatalogueOf say.catalogue_bytes) Refused
+  pub catalogue_leads : (Refused : Status → Type 0) → Leads (opens_catalogue (Some files) catalogue_name) (IsCatalogueOf say.says_catalogue.bytes) Refused
   catalogue_leads Refused =
-      then-leads _ _ (λ bytes. bytes ≡ say.catalogue_bytes) _ _
-      (fetches-leads files catalogue_name CATALOGUE_LIMIT say.catalogue_bytes say.has_catalogue Refused)
-      (λ bytes is. subst (λ it. Leads (reads_catalogue it) (IsCatalogueOf say.catalogue_bytes) Refused) (sym is)
+      then-leads _ _ (λ bytes. bytes ≡ say.says_catalogue.bytes) _ _
+      (fetches-leads files catalogue_name CATALOGUE_LIMIT say.says_catalogue.bytes say.says_catalogue.has Refused)
+      (λ bytes is. subst (λ it. Leads (reads_catalogue it) (IsCatalogueOf say.says_catalogue.bytes) Refused) (sym is)
       (judges-leads _ _ Refused (λ refusal caused stop. absurd (no_error refusal caused stop))))
     where
-      no_error : (refusal : Status) → IsCaused ⊥ refusal → (cause : CatalogueError) × IsCatalogueError say.catalogue_bytes cause
+      no_error : (refusal : Status) → IsCaused ⊥ refusal → (cause : CatalogueError) × IsCatalogueError say.says_catalogue.bytes cause
           × (refusal ≡ status_of cause) → ⊥
       no_error refusal caused (cause, is_error, is) =
-          let wanting : refusal ≡ status.OutOfMemory = is ∙ ap status_of (apart say.catalogue_bytes catalogue cause say.is_catalogue is_error) in
+          let wanting : refusal ≡ status.OutOfMemory =
+          is ∙ ap status_of (apart say.says_catalogue.bytes catalogue cause say.says_catalogue.is_catalogue is_error) in
           never_wanting ⊥ refusal wanting caused
 
-  module _ (other : Catalogue) (is_other : IsCatalogueOf say.catalogue_bytes other) where
-    reading : IsReading form.Query other.words (arities_of other.schema) say.query_bytes say.named
+  module _ (other : Catalogue) (is_other : IsCatalogueOf say.says_catalogue.bytes other) where
+    reading : IsReading form.Query other.words (arities_of other.schema) say.says_query.bytes say.says_query.named
     reading =
-        let same = one say.catalogue_bytes catalogue other say.is_catalogue is_other in
-        reading-same catalogue.words other.words (arities_of catalogue.schema) (arities_of other.schema) say.query_bytes say.named same.words
-        (ap arities_of same.schema) say.is_query
+        let same = one say.says_catalogue.bytes catalogue other say.says_catalogue.is_catalogue is_other in
+        reading-same catalogue.words other.words (arities_of catalogue.schema) (arities_of other.schema) say.says_query.bytes say.says_query.named same.words
+        (ap arities_of same.schema) say.says_query.is_query
 
     -- the query is fetched and read
-    pub query_leads : (Refused : Status → Type 0) → Leads (opens_query (Some files) query_name other) (IsQueryOf other say.query_bytes) Refused
+    pub query_leads : (Refused : Status → Type 0) → Leads (opens_query (Some files) query_name other) (IsQueryOf other say.says_query.bytes) Refused
     query_leads Refused =
-        then-leads _ _ (λ bytes. bytes ≡ say.query_bytes) _ _ (fetches-leads files query_name QUERY_LIMIT say.query_bytes say.has_query Refused)
-        (λ bytes is. subst (λ it. Leads (reads_query other it) (IsQueryOf other say.query_bytes) Refused) (sym is)
+        then-leads _ _ (λ bytes. bytes ≡ say.says_query.bytes) _ _ (fetches-leads files query_name QUERY_LIMIT say.says_query.bytes say.says_query.has Refused)
+        (λ bytes is. subst (λ it. Leads (reads_query other it) (IsQueryOf other say.says_query.bytes) Refused) (sym is)
         (judges-leads _ _ Refused (λ refusal caused stop. absurd (none refusal caused stop))))
       where
         none : (refusal : Status) → IsCaused ⊥ refusal
-            → (fault : TextFault) × IsFirstFault form.Query other.words (arities_of other.schema) say.query_bytes fault × (refusal ≡ status.BadQuery fault) → ⊥
+            → (fault : TextFault) × IsFirstFault form.Query other.words (arities_of other.schema) say.says_query.bytes fault
+            × (refusal ≡ status.BadQuery fault) → ⊥
         none refusal caused (fault, first, is) =
-            no_fault form.Query other.words (arities_of other.schema) say.query_bytes say.named fault (sound other).vocabulary reading first
+            no_fault form.Query other.words (arities_of other.schema) say.says_query.bytes say.says_query.named fault (sound other).vocabulary reading first
 
-  query_opens : (it : Catalogue) (made : Query) → IsQueryOf it say.query_bytes made → (opens_query (Some files) query_name it).goes made
+  query_opens : (it : Catalogue) (made : Query) → IsQueryOf it say.says_query.bytes made → (opens_query (Some files) query_name it).goes made
   unfolding fetches judges
-  query_opens it made is = then_goes (fetches (Some files) query_name QUERY_LIMIT) (reads_query it) say.query_bytes made say.has_query is
+  query_opens it made is = then_goes (fetches (Some files) query_name QUERY_LIMIT) (reads_query it) say.says_query.bytes made say.says_query.has is
 
   -- what was read is the catalogue and the query that the files say
-  pub same_as_read : (other : Catalogue) → IsCatalogueOf say.catalogue_bytes other → (read : Query) → IsQueryOf other say.query_bytes read
+  pub same_as_read : (other : Catalogue) → IsCatalogueOf say.says_catalogue.bytes other → (read : Query) → IsQueryOf other say.says_query.bytes read
       → IsSameQuery query read
   same_as_read other is_other read is_query =
-      (queries files query_name catalogue other (one say.catalogue_bytes catalogue other say.is_catalogue is_other)).one query read
-      (query_opens catalogue query (say.named, say.is_query, say.query_is)) (query_opens other read is_query)
+      (queries files query_name catalogue other (one say.says_catalogue.bytes catalogue other say.says_catalogue.is_catalogue is_other)).one query read
+      (query_opens catalogue query (say.says_query.named, say.says_query.is_query, say.says_query.query_is)) (query_opens other read is_query)

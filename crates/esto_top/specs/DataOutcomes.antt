@@ -1,7 +1,8 @@
 -- What `fill`, `answer` and `audit` answer where nothing is wrong with the files.
 use Rattle.std.specs.Prelude.{◌≡◌, ℕ, List, [], ◌∷◌, Option, Some, None, codes}
 use Rattle.esto_catalog.specs.declared.catalogue.Catalogue.{Catalogue}
-use Rattle.esto_data.specs.Exact.{FilesSayCatalogue, IsExactAnswer, IsExactAudit, IsExactFill}
+use Rattle.esto_data.specs.Exact.{IsExactAnswer, IsExactAudit, IsExactFill}
+use Rattle.esto_opening.specs.Opening.{FilesSayCatalogue}
 use Rattle.esto_ports.specs.Files.{Files}
 use Rattle.esto_query.specs.declared.query.Query.{Query}
 use Rattle.esto_opening.specs.declared.status.Status.{Status}

@@ -1,7 +1,6 @@
 -- What `list` answers where nothing is wrong with the files.
 use Rattle.std.specs.Prelude.{◌≡◌, ◌⊎◌, ◌↔◌, ℕ, ◌≤◌, Bool, IsTrue, List, [], ◌∷◌, slice_index_or, Option, Some, None, codes}
 use Rattle.std.specs.Io.KnownBytes.{Appends, Keeps}
-use Rattle.esto_catalog.specs.Reading.{IsCatalogueOf}
 use Rattle.esto_catalog.specs.declared.catalogue.Catalogue.{Catalogue}
 use Rattle.esto_chase_laws.specs.declared.clash.Clash.{Clash}
 use Rattle.esto_constraint.specs.Constraints.{rules_of}
@@ -12,11 +11,7 @@ use Rattle.esto_list.specs.declared.listing.Listed.{Listed}
 use Rattle.esto_plan_laws.specs.Cores.{HasNoRetract}
 use Rattle.esto_ports.specs.Files.{Files}
 use Rattle.esto_query.specs.Making.{query_of}
-use Rattle.esto_query.specs.Schemas.{arities_of}
 use Rattle.esto_query.specs.declared.query.Query.{Query}
-use Rattle.esto_read.specs.Readings.{IsReading}
-use Rattle.esto_read.specs.declared.read.Form.TheVariants as form
-use Rattle.esto_read.specs.declared.read.NamedQuery.{NamedQuery}
 use Rattle.esto_semantics.specs.Containment.{IsSatisfiable}
 use Rattle.esto_semantics.specs.Listed.{IsExecutableRewriting, IsPick, IsWeight}
 use Rattle.esto_semantics.specs.Plans.{IsUniversalPlan}
@@ -26,26 +21,19 @@ use Rattle.esto_semantics.specs.Sets.{Covers}
 use Rattle.esto_views.specs.Fragments.{views_of, patterns_of, weights_of}
 use Rattle.esto_views.specs.Plans.{plan_query}
 use Rattle.esto_views.specs.declared.plan.Plan.{Plan}
-use Rattle.esto_opening.specs.Fetch.{HasWithin}
 use Rattle.esto_opening.specs.Line.{line_of}
+use Rattle.esto_opening.specs.Opening.{FilesSayCatalogue, FilesSayQuery}
 use Rattle.esto_top.specs.Outcome.{Outcome}
 use Rattle.esto_opening.specs.declared.status.Status.{Status}
 use Rattle.esto_opening.specs.declared.status.Status.TheVariants as status
-use Rattle.esto_opening.specs.declared.opening.TheConstants.{CATALOGUE_LIMIT, QUERY_LIMIT}
 use Rattle.esto_planning.specs.Listing.{IsClash, IsListOf, IsPlanned}
 
 -- ---- the files
 
 -- The files say this catalogue, and this query over it.
 pub record FilesSay (files : Files) (catalogue_name query_name : List ℕ) (catalogue : Catalogue) (query : Query) : Type 0 where
-  pub catalogue_bytes : List ℕ
-  pub has_catalogue : HasWithin files catalogue_name CATALOGUE_LIMIT catalogue_bytes
-  pub is_catalogue : IsCatalogueOf catalogue_bytes catalogue
-  pub query_bytes : List ℕ
-  pub has_query : HasWithin files query_name QUERY_LIMIT query_bytes
-  pub named : NamedQuery
-  pub is_query : IsReading form.Query catalogue.words (arities_of catalogue.schema) query_bytes named
-  pub query_is : query ≡ named.query
+  pub says_catalogue : FilesSayCatalogue files catalogue_name catalogue
+  pub says_query : FilesSayQuery files query_name catalogue query
 
 -- ---- satisfiable queries
 

@@ -21,13 +21,11 @@ use Rattle.esto_term.specs.declared.term.Term.{Term}
 use Rattle.esto_views.specs.Fragments.{views_of}
 use Rattle.esto_views.specs.Plans.{plan_query}
 use Rattle.esto_views.specs.declared.plan.Plan.{Plan}
-use Rattle.esto_opening.specs.Fragments.{Stored, IsStoredAt, content_fault}
+use Rattle.esto_opening.specs.Fragments.{IsReadableFragment}
 use Rattle.esto_top.specs.Grammar.{is_list_number, value_of}
 use Rattle.esto_top.specs.Headline.{FilesSay, HasAnswers, HoldsOfPut, Rewrites}
-use Rattle.esto_opening.specs.Fetch.{HasWithin}
 use Rattle.esto_top.specs.Outcome.{Outcome}
 use Rattle.esto_top.specs.Run.{IsRunText}
-use Rattle.esto_opening.specs.declared.fragments.TheConstants.{FRAGMENT_LIMIT}
 use Rattle.esto_opening.specs.declared.status.Status.{Status}
 use Rattle.esto_opening.specs.declared.status.Status.TheVariants as status
 use Rattle.esto_planning.specs.Choice.{IsPlace}
@@ -41,11 +39,6 @@ AsksRun words catalogue_name query_name None = words ≡ codes "run" ∷ catalog
 AsksRun words catalogue_name query_name (Some number) =
     (word : List ℕ) × IsTrue (is_list_number word) × (number ≡ value_of word) × (words ≡ codes "run" ∷ catalogue_name ∷ query_name ∷ word ∷ [])
 
--- The file of the fragment of the number is no longer than a fragment's may be, has these bytes after one leading mark, and they have no fault.
-abbrev pub IsReadable : Files → Catalogue → ℕ → List ℕ → Type 0
-IsReadable files catalogue number bytes =
-    (stored : Stored) × IsStoredAt catalogue number stored × HasWithin files stored.store.file FRAGMENT_LIMIT bytes × (content_fault stored bytes ≡ None)
-
 -- The query has a plan, a set of its list is the pick or has the number, and the files of the fragments that the set uses are readable, with these contents.
 pub record CanRun (files : Files) (catalogue : Catalogue) (query : Query) (number : Option ℕ) : Type 0 where
   pub plan : Plan
@@ -58,7 +51,7 @@ pub record CanRun (files : Files) (catalogue : Catalogue) (query : Query) (numbe
   pub there : slice_get items place ≡ Some item
   pub contents : ℕ → List ℕ
   pub readable : (atom : Fact Term) → Contains (candidate (plan_query plan) item.set).body atom
-      → IsReadable files catalogue atom.relation (contents atom.relation)
+      → IsReadableFragment files catalogue atom.relation (contents atom.relation)
 
 -- ---- the text
 

@@ -1,7 +1,8 @@
 use Rattle.std.proofs.Common.{refl}
 use Rattle.esto_course.proofs.Steps.{at_exit}
 use Rattle.esto_opening.specs.declared.reply.Reply.TheVariants.{Done}
-use Rattle.esto_data.proofs.StepLemmas.{fill_goes, fill_unfilled, fill_unloaded, fragment_stored}
+use Rattle.esto_opening.proofs.AskedSteps.{handed_asks}
+use Rattle.esto_data.proofs.StepLemmas.{fill_goes, fill_goes_asks, fill_unfilled, fill_unfilled_asks, fill_unloaded, fill_unloaded_asks, fragment_stored}
 use Rattle.esto_data.proofs.filling.fill_fragment.Goals as goal
 
 pub returns-in_err-loaded-clause-answer : goal.returns-in_err-loaded-clause-answer
@@ -25,3 +26,25 @@ returns-clause-answer g c =
     (c.catalogues_are_sound.ensures c.args.catalogue.now).stored in
     fill_goes (g.S.Shelf.files c.args.shelf.now) c.args.catalogue.now c.args.number _ stored.1 c.in_ok-loaded.loaded.facts c.in_ok-loaded.ensures.answer
     c.in_ok-text.text (c.in_ok-text.ensures _ stored.1) (Done c.in_ok-text.text) refl
+
+pub returns-in_err-loaded-clause-asked : goal.returns-in_err-loaded-clause-asked
+returns-in_err-loaded-clause-asked g c =
+    let stored = fragment_stored c.args.catalogue.now c.args.number c.item-fragment.result.now c.requires c.item-fragment.ensures
+    (c.catalogues_are_sound.ensures c.args.catalogue.now).stored in
+    handed_asks _ _ c.from_residual.result c.from_residual.ensures.1
+    (fill_unloaded_asks (g.S.Shelf.files c.args.shelf.now) c.args.catalogue.now c.args.number _ stored.1 _ c.in_err-loaded.ensures.asked)
+
+pub returns-in_err-text-clause-asked : goal.returns-in_err-text-clause-asked
+returns-in_err-text-clause-asked g c =
+    let stored = fragment_stored c.args.catalogue.now c.args.number c.item-fragment.result.now c.requires c.item-fragment.ensures
+    (c.catalogues_are_sound.ensures c.args.catalogue.now).stored in
+    handed_asks _ _ c.from_residual-in_err-text.result c.from_residual-in_err-text.ensures.1
+    (fill_unfilled_asks (g.S.Shelf.files c.args.shelf.now) c.args.catalogue.now c.args.number _ stored.1 c.in_ok-loaded.loaded.facts c.in_ok-loaded.ensures.asked
+    _ (c.in_err-text.ensures _ stored.1))
+
+pub returns-clause-asked : goal.returns-clause-asked
+returns-clause-asked g c =
+    let stored = fragment_stored c.args.catalogue.now c.args.number c.item-fragment.result.now c.requires c.item-fragment.ensures
+    (c.catalogues_are_sound.ensures c.args.catalogue.now).stored in
+    fill_goes_asks (g.S.Shelf.files c.args.shelf.now) c.args.catalogue.now c.args.number _ stored.1 c.in_ok-loaded.loaded.facts c.in_ok-loaded.ensures.asked
+    c.in_ok-text.text (c.in_ok-text.ensures _ stored.1)

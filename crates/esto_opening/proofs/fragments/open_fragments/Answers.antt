@@ -23,7 +23,7 @@ returns-in_err-opened-clause-answer g c =
     let files = g.S.Shelf.files c.args.shelf.now in
     opening_exit files c.args.catalogue.now c.args.numbers.now OutOfMemory c.from_residual.result c.from_residual.ensures.1 (is_free refl)
     (early_want (opens_fragments files c.args.catalogue.now c.args.numbers.now) (g.S.Shelf.asked c.args.shelf.now)
-    (fragments_way files c.args.catalogue.now 0 no_contents c.args.numbers.now))
+    (fragments_way files c.args.catalogue.now c.args.numbers.now))
 
 pub open_next-requires-clause-there : goal.open_next-requires-clause-there
 open_next-requires-clause-there g c =

@@ -25,27 +25,31 @@ returns-in_ok-reply-in-Right-clause-answer g c =
 
 pub returns-in_err-plan-clause-asked : goal.returns-in_err-plan-clause-asked
 returns-in_err-plan-clause-asked g c =
-    handed_asks _ _ _ c.from_residual.ensures.1 (plan_wants (g.S.Shelf.files c.args.shelf.now) c.args.catalogue.now c.args.query.now c.args.number (g.S.Shelf.asked c.args.shelf.now))
+    handed_asks _ _ _ c.from_residual.ensures.1
+    (plan_wants (g.S.Shelf.files c.args.shelf.now) c.args.catalogue.now c.args.query.now c.args.number (g.S.Shelf.asked c.args.shelf.now))
 
 pub returns-in_err-reply-in-Left-clause-asked : goal.returns-in_err-reply-in-Left-clause-asked
 returns-in_err-reply-in-Left-clause-asked g c =
     let planned = rw c.in-Left.is at c.in_ok-plan.ensures.run in
     handed_asks _ _ _ c.from_residual-in_err-reply-in-Left.ensures.1
-    (plan_asks (g.S.Shelf.files c.args.shelf.now) c.args.catalogue.now c.args.query.now c.args.number c.in-Left.plan planned _ c.in_err-reply-in-Left.ensures.asked)
+    (plan_asks (g.S.Shelf.files c.args.shelf.now) c.args.catalogue.now c.args.query.now c.args.number c.in-Left.plan planned _
+    c.in_err-reply-in-Left.ensures.asked)
 
 pub returns-in_ok-reply-in-Left-clause-asked : goal.returns-in_ok-reply-in-Left-clause-asked
 returns-in_ok-reply-in-Left-clause-asked g c =
     let planned = rw c.in-Left.is at c.in_ok-plan.ensures.run in
-    plan_asks (g.S.Shelf.files c.args.shelf.now) c.args.catalogue.now c.args.query.now c.args.number c.in-Left.plan planned _ c.in_ok-reply-in-Left.ensures.asked
+    plan_asks (g.S.Shelf.files c.args.shelf.now) c.args.catalogue.now c.args.query.now c.args.number c.in-Left.plan planned _
+    c.in_ok-reply-in-Left.ensures.asked
 
 pub returns-in_err-reply-in-Right-clause-asked : goal.returns-in_err-reply-in-Right-clause-asked
 returns-in_err-reply-in-Right-clause-asked g c =
     let clashes = rw c.in-Right.is at c.in_ok-plan.ensures.run in
     handed_asks _ _ _ c.from_residual-in_err-reply-in-Right.ensures.1
-    (clash_wants (g.S.Shelf.files c.args.shelf.now) c.args.catalogue.now c.args.query.now c.args.number (g.S.Shelf.asked c.args.shelf.now) c.in-Right.clash clashes)
+    (clash_wants (g.S.Shelf.files c.args.shelf.now) c.args.catalogue.now c.args.query.now c.args.number
+    (g.S.Shelf.asked c.args.shelf.now) c.in-Right.clash clashes)
 
 pub returns-in_ok-reply-in-Right-clause-asked : goal.returns-in_ok-reply-in-Right-clause-asked
 returns-in_ok-reply-in-Right-clause-asked g c =
     let clashes = rw c.in-Right.is at c.in_ok-plan.ensures.run in
-    clash_asks (g.S.Shelf.files c.args.shelf.now) c.args.catalogue.now c.args.query.now c.args.number (g.S.Shelf.asked c.args.shelf.now) c.in-Right.clash clashes
-    c.in_ok-reply-in-Right.reply c.in_ok-reply-in-Right.ensures
+    clash_asks (g.S.Shelf.files c.args.shelf.now) c.args.catalogue.now c.args.query.now c.args.number
+    (g.S.Shelf.asked c.args.shelf.now) c.in-Right.clash clashes c.in_ok-reply-in-Right.reply c.in_ok-reply-in-Right.ensures
