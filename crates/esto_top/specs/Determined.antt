@@ -21,13 +21,13 @@ OutcomesAreDetermined =
 abbrev pub FetchesAreDetermined : Type 0
 FetchesAreDetermined =
     (words : List (List ℕ)) (files : Files) (names others : Names)
-    → Fetches (course_of words (Some files)) (Some files) names → Fetches (course_of words (Some files)) (Some files) others → names ≡ others
+    → Fetches (course_of words (Some files)) names → Fetches (course_of words (Some files)) others → names ≡ others
 
 -- What it asked for at any point of its course begins that sequence.
 abbrev pub AskedBeginsFetches : Type 0
 AskedBeginsFetches =
     (words : List (List ℕ)) (files : Files) (names all : Names) (point : Point Status Reply)
-    → Fetches (course_of words (Some files)) (Some files) all → (course_of words (Some files)).asks names point → Begins names all
+    → Fetches (course_of words (Some files)) all → (course_of words (Some files)).asks names point → Begins names all
 
 -- Where the shelf tells its files, and neither count rose, any outcome of the words and the files is the one that was answered and put; or memory was
 -- refused, and nothing was put.

@@ -1,6 +1,6 @@
 //! Laws of outcomes.
 ghost use Rattle.esto_top.specs.DataOutcomes.{OutcomesAgree, OutcomesAreAnswers, OutcomesAreAudits, OutcomesAreFills};
-ghost use Rattle.esto_top.specs.Determined.{OutcomesAreDetermined};
+ghost use Rattle.esto_top.specs.Determined.{AskedBeginsFetches, FetchesAreDetermined, OutcomesAreDetermined};
 ghost use Rattle.esto_top.specs.Headline.{OutcomesAreLists, OutcomesAreRefusals};
 ghost use Rattle.esto_top.specs.ReasoningOutcomes.{OutcomesAreContainments, OutcomesAreMinimised};
 ghost use Rattle.esto_top.specs.Runs.{OutcomesAreRuns};
@@ -63,9 +63,12 @@ pub(crate) fn runs_are_exact()
     chosen_atoms_are_named();
 }
 
-/// A law: the same words over the same files have at most one outcome.
+/// A law: the same words over the same files have at most one outcome, and fetch one sequence of names, which whatever was
+/// asked for on the way begins.
 pub fn outcomes_are_determined()
-    ensures { OutcomesAreDetermined }
+    ensures outcomes { OutcomesAreDetermined }
+    ensures fetches { FetchesAreDetermined }
+    ensures asked { AskedBeginsFetches }
 {
     openings_are_one();
     chosen_items_are_listed();

@@ -32,7 +32,7 @@ returns-clause-refusal g c =
 
 pub returns-clause-exact : goal.returns-clause-exact
 returns-clause-exact g c =
-    exact c.outcomes_are_determined.ensures c.args.words.now _ _ _ _ _ _
+    exact c.outcomes_are_determined.ensures.outcomes c.args.words.now _ _ _ _ _ _
     (complete c.args.words.now _ _ _ _ _ _ (mediates _ _ _ _ _ _ _ c.answer-answer.ensures.answer c.finish.ensures.put))
 
 pub returns-clause-run : goal.returns-clause-run
@@ -70,4 +70,4 @@ returns-clause-minimise g c =
 
 pub returns-clause-asked : goal.returns-clause-asked
 returns-clause-asked g c =
-    asks_as_told _ _ _ _ _ _ _ _ _ _ c.answer-answer.ensures.answer c.answer-answer.ensures.asked c.finish.ensures.put
+    asks_as_told _ _ _ _ _ _ _ _ _ c.answer-answer.ensures.answer c.answer-answer.ensures.asked c.finish.ensures.put
