@@ -11,6 +11,7 @@ mod models;
 mod orders;
 mod printing;
 mod reading;
+mod refusing;
 mod script;
 mod sets;
 mod stage;

@@ -3,7 +3,8 @@
 use crate::contents::{put_constraint, put_dataset, put_fragment, put_line};
 use crate::files::{FileSet, run_on_machine};
 use crate::models::{put_codes, put_inside, put_key_row, put_table};
-use crate::reading::Refused;
+use crate::reading::{Refused, number};
+use crate::refusing::put_refused_gets;
 use crate::sets::ask_sets;
 use crate::stage::Stage;
 use crate::sweep::put_sweep;
@@ -113,6 +114,7 @@ impl Script {
             "run" => self.files.run(rt, alloc, rest),
             "ends" => self.files.run_for_ends(rt, alloc, rest),
             "sweep" => put_sweep(rt, alloc, &self.files, rest),
+            "refused_gets" => put_refused_gets(rt, alloc, number(rest)),
             "machine" => run_on_machine(rt, alloc, rest),
             "terms" => put_terms(rt, alloc),
             "table" | "key_row" | "codes" | "inside" => ask_model(rt, alloc, word, rest),

@@ -1,12 +1,11 @@
 -- Where `audit` and `run` are Done over the same files, `answer` is Done with the text of `run`.
-use Rattle.std.proofs.Common.{◌≡◌, ◌≢◌, ◌⊎◌, ◌==◌, arith, ℕ, suc, true, List, [], ◌∷◌, map, length, slice_get, Contains, Option, Some, refl, sym, ap, subst, ◌∙◌, inl, inr}
-use Rattle.std.proofs.lemmas.Bool.Decides.{nat_tests}
+use Rattle.std.proofs.Common.{◌≡◌, ◌≢◌, ℕ, List, [], map, length, slice_get, Contains, Option, Some, refl, sym, ap, subst, ◌∙◌}
 use Rattle.either.specs.declared.Either.{Either}
 use Rattle.either.specs.declared.Either.TheVariants.{Left, Right}
 use Rattle.esto_catalog.specs.declared.catalogue.Catalogue.{Catalogue}
 use Rattle.esto_chase_laws.specs.declared.clash.Clash.{Clash}
 use Rattle.esto_constraint.specs.Constraints.{rules_of}
-use Rattle.esto_course.specs.Course.{and_then, each, gives}
+use Rattle.esto_course.specs.Course.{and_then}
 use Rattle.esto_data.specs.Answer.{IsAnswerOfFacts, answer_course}
 use Rattle.esto_data.specs.Audit.{audit_course}
 use Rattle.esto_data.specs.Exact.{PrintsAnswersOfFacts}
@@ -27,12 +26,11 @@ use Rattle.esto_semantics.specs.Listed.{candidate}
 use Rattle.esto_semantics.specs.declared.fact.Fact.{Fact}
 use Rattle.esto_semantics.specs.declared.fact.Value.TheVariants.{Text}
 use Rattle.esto_stores.specs.Rows.{Row}
-use Rattle.esto_term.proofs.ListLemmas.{Contains-cases, Contains-nil}
 use Rattle.esto_term.specs.declared.term.Term.{Term}
 use Rattle.esto_views.specs.Fragments.{views_of, patterns_of}
 use Rattle.esto_views.specs.Plans.{plan_query}
 use Rattle.esto_views.specs.declared.plan.Plan.{Plan}
-use Rattle.esto_opening.specs.Fragments.{opens_fragment, opens_fragments, opens_next, no_contents, with_content}
+use Rattle.esto_opening.specs.Fragments.{opens_fragments}
 use Rattle.esto_opening.specs.Opening.{opens_query}
 use Rattle.esto_opening.specs.declared.reply.Reply.{Reply}
 use Rattle.esto_opening.specs.declared.reply.Reply.TheVariants.{Done, Unsatisfiable}
@@ -44,8 +42,9 @@ use Rattle.esto_top.specs.Outcome.{Says, reply_status, reply_text}
 use Rattle.esto_top.specs.Outcome.Says.{replies, refuses}
 use Rattle.esto_top.specs.Run.{IsRunText, run_course, runs_end, runs_item, runs_query}
 use Rattle.esto_planning.specs.Choice.HasNoPlace.{is_empty, is_above}
+use Rattle.esto_top.proofs.OpenedLemmas.{opened_is}
 use Rattle.esto_top.proofs.RunLemmas.{same_rows, uses_only}
-use Rattle.esto_top.proofs.RunsLemmas.{RunGoes, content_cases, same_texts, over_same, query_runs, run_words}
+use Rattle.esto_top.proofs.RunsLemmas.{RunGoes, same_texts, over_same, query_runs, run_words}
 use Rattle.esto_top.proofs.RunsLemmas.RunGoes.{is_run, has_clash}
 use Rattle.esto_planning.specs.Choice.{HasNoPlace}
 use Rattle.esto_planning.specs.Laws.{ItemIsListed}
@@ -76,49 +75,6 @@ run_refuses : (files : Files) (catalogue_name query_name : List ℕ) (number : O
 run_refuses files catalogue_name query_name number = then_refuses _ _ (catalogue_refuses files catalogue_name)
     (λ catalogue. then_refuses _ _ (query_refuses files query_name catalogue) (λ query. runs_refuses files catalogue query number))
 
--- ---- what was opened
-
--- where each file that is opened has the wanted content, the contents that are opened are the wanted ones
-module _ (files : Files) (catalogue : Catalogue) (want : ℕ → List ℕ)
-    (wanted : (number : ℕ) (bytes : List ℕ) → (opens_fragment (Some files) catalogue number).goes bytes → bytes ≡ want number) where
-  each_wanted : (numbers : List ℕ) (counter : ℕ) (before got : ℕ → List ℕ) → (each (opens_next (Some files) catalogue) counter before numbers).goes got
-      → (number : ℕ) → Contains numbers number ⊎ (before number ≡ want number) → got number ≡ want number
-  unfolding and_then gives
-  each_wanted [] counter before got is number cases = elim cases [
-    | inl inside ↦ absurd (Contains-nil number inside)
-    | inr same ↦ ap (λ (it : ℕ → List ℕ). it number) is ∙ same
-  ]
-  each_wanted (first ∷ rest) counter before got (next, (bytes, opens, next_is), more) number cases =
-      each_wanted rest (suc counter) next got more number (later (elim cases [
-        | inl inside ↦ elim (Contains-cases first rest number inside) [
-          | inl same ↦ inr (inl same)
-          | inr after ↦ inl after
-        ]
-        | inr was ↦ inr (inr was)
-      ]))
-    where
-      own : (it : ℕ) → bytes ≡ want it → with_content before it bytes it ≡ want it
-      own it is = elim (content_cases before it bytes it) [
-        | inl changed ↦ changed.1 ∙ is
-        | inr stays ↦ (let test : (it == it) ≡ true = grind (arith, nat_tests) in rw test is)
-      ]
-
-      here : (first ≡ number) ⊎ (before number ≡ want number) → next number ≡ want number
-      here either = ap (λ (it : ℕ → List ℕ). it number) next_is ∙ (elim (content_cases before first bytes number) [
-        | inl changed ↦ changed.1 ∙ wanted first bytes opens ∙ ap want (sym changed.0)
-        | inr stays ↦ elim either [
-          | inl same ↦ subst (λ (it : ℕ). with_content before first bytes it ≡ want it) same (own first (wanted first bytes opens))
-          | inr was ↦ stays ∙ was
-        ]
-      ])
-
-      later : Contains rest number ⊎ ((first ≡ number) ⊎ (before number ≡ want number)) → Contains rest number ⊎ (next number ≡ want number)
-      later either = elim either [ inl after ↦ inl after | inr now ↦ inr (here now) ]
-
-  opened_is : (numbers : List ℕ) (contents : ℕ → List ℕ) → (opens_fragments (Some files) catalogue numbers).goes contents → (number : ℕ)
-      → Contains numbers number → contents number ≡ want number
-  opened_is numbers contents goes number inside = each_wanted numbers 0 no_contents contents goes number (inl inside)
-
 -- ---- the texts
 
 -- the laws of agreement
@@ -138,7 +94,7 @@ module _ (laws : AgreementLaws) (files : Files) (catalogue_name query_name : Lis
       (opened : (opens_fragments (Some files) catalogue numbers).goes contents) (text : List ℕ)
       (printed : IsRunText catalogue query plan item.set contents text) where
     same_contents : (atom : Fact Term) → Contains (candidate (plan_query plan) item.set).body atom → contents atom.relation ≡ audited.contents atom.relation
-    same_contents atom inside = opened_is files catalogue audited.contents audited.opened numbers contents opened atom.relation
+    same_contents atom inside = opened_is files catalogue audited.contents numbers (λ it within. audited.opened it) contents opened atom.relation
         (uses_only laws.named plan item.set numbers used atom inside)
 
     over_audited : IsRunText catalogue query plan item.set audited.contents text

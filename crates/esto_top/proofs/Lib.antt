@@ -12,6 +12,7 @@ pub mod LeadLemmas
 pub mod AlikeRunLemmas
 pub mod RunAgreeLemmas
 pub mod SayLemmas
+pub mod OpenedLemmas
 pub mod HeadlineLemmas
 pub mod RunsLemmas
 pub mod AgreeLemmas

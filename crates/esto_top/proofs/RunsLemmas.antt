@@ -1,7 +1,6 @@
 -- What `run` answers where the files say a catalogue and a query over it.
-use Rattle.std.proofs.Common.{◌≡◌, ◌≢◌, ◌⊎◌, ◌↔◌, ◌==◌, ℕ, suc, true, false, Bool, List, [], ◌∷◌, map, length, slice_get, Contains, Option, Some, None, refl, sym, ap, subst, ◌∙◌, inl, inr, arith}
+use Rattle.std.proofs.Common.{◌≡◌, ◌≢◌, ◌↔◌, ℕ, true, false, Bool, List, [], ◌∷◌, map, length, slice_get, Contains, Option, Some, None, refl, sym, ap, subst, ◌∙◌, inl, inr}
 use Rattle.std.specs.Prelude.{codes}
-use Rattle.std.proofs.lemmas.Bool.Decides.{nat_tests}
 use Rattle.std.proofs.lemmas.Option.{same_Some, none-some}
 use Rattle.either.specs.declared.Either.TheVariants.{Left, Right}
 use Rattle.esto_catalog.specs.Determined.{AreSame, CataloguesAreSound, HaveOneCatalogue, HaveNoError}
@@ -10,7 +9,7 @@ use Rattle.esto_catalog.specs.declared.catalogue.Catalogue.{Catalogue}
 use Rattle.esto_catalog.specs.declared.catalogue.Store.{Store}
 use Rattle.esto_chase_laws.specs.declared.clash.Clash.{Clash}
 use Rattle.esto_constraint.specs.Constraints.{rules_of}
-use Rattle.esto_course.specs.Course.{judges, gives, and_then, each}
+use Rattle.esto_course.specs.Course.{judges, gives, and_then}
 use Rattle.esto_list.specs.declared.listing.Listed.{Listed}
 use Rattle.esto_ports.specs.Files.{Files}
 use Rattle.esto_query.specs.Making.{query_of}
@@ -30,14 +29,13 @@ use Rattle.esto_semantics.specs.declared.fact.Value.{Value}
 use Rattle.esto_semantics.specs.declared.fact.Value.TheVariants.{Text}
 use Rattle.esto_stores.specs.Rows.{Row}
 use Rattle.esto_term.specs.declared.term.Term.{Term}
-use Rattle.esto_term.proofs.ListLemmas.{Contains-nil, Contains-head, Contains-rest, Contains-cases}
 use Rattle.esto_views.specs.Fragments.{views_of, patterns_of}
 use Rattle.esto_views.specs.Plans.{plan_query}
 use Rattle.esto_views.specs.declared.plan.Plan.{Plan}
 use Rattle.esto_opening.specs.Answers.{IsCaused}
 use Rattle.esto_opening.specs.Fetch.{FetchStops, fetches}
 use Rattle.esto_opening.specs.Fetch.FetchStops.{fails, is_longer}
-use Rattle.esto_opening.specs.Fragments.{IsReadableFragment, IsStoredAt, content_fault, opens_fragment, opens_next, opens_fragments, with_content, no_contents}
+use Rattle.esto_opening.specs.Fragments.{IsReadableFragment, IsStoredAt, content_fault, opens_fragment, opens_fragments}
 use Rattle.esto_top.specs.Grammar.{course_of, is_list_number}
 use Rattle.esto_top.specs.Headline.{FilesSay, HasAnswers, Rewrites}
 use Rattle.esto_top.specs.Outcome.{Says, CompleteWhereTold, reply_status, reply_text}
@@ -55,6 +53,7 @@ use Rattle.esto_top.proofs.HeadlineLemmas.{ListingLaws, empty-without}
 use Rattle.esto_opening.specs.Calm.{Leads}
 use Rattle.esto_opening.proofs.LeadLemmas.{then-leads, leads-more, gives-leads, judges-leads}
 use Rattle.esto_top.proofs.LeadLemmas.{says-leads}
+use Rattle.esto_top.proofs.OpenedLemmas.{all_refused, opened_is}
 use Rattle.esto_top.proofs.RunLemmas.{same_rows, uses_only}
 use Rattle.esto_top.proofs.SayLemmas.{IsQueryOf, catalogue_leads, query_leads, same_as_read}
 use Rattle.esto_opening.specs.Alike.{FragmentOpensAlike, IsSameQuery, QueriesOpenAlike}
@@ -169,95 +168,28 @@ module _ (files : Files) (catalogue : Catalogue) where
       let h : status.BadFragment stored.definition.name fault ≡ status.NoRewriting = sym is ∙ none in cc))
       (λ value good. leads-more _ (λ other. other ≡ bytes) _ IsOther (λ other is. tt) (gives-leads bytes IsOther))))
 
-  each_other : (counter : ℕ) (contents : ℕ → List ℕ) (numbers : List ℕ)
-      → Leads (each (opens_next (Some files) catalogue) counter contents numbers) (λ _. Unit {0}) IsOther
-  each_other counter contents [] = leads-more _ (λ other. other ≡ contents) _ IsOther (λ other is. tt) (gives-leads contents IsOther)
-  each_other counter contents (number ∷ rest) =
-      then-leads _ _ (λ _. Unit {0}) _ IsOther
-      (then-leads _ _ (λ _. Unit {0}) _ IsOther (content_other number) (λ bytes goes.
-      leads-more _ (λ other. other ≡ with_content contents number bytes) _ IsOther (λ other is. tt)
-      (gives-leads (with_content contents number bytes) IsOther)))
-      (λ next goes. each_other (suc counter) next rest)
-
   pub opened_other : (numbers : List ℕ) (refusal : Status) → IsCaused ⊥ refusal → (opens_fragments (Some files) catalogue numbers).stops refusal
       → refusal ≢ status.NoRewriting
-  opened_other numbers refusal caused stops = (each_other 0 no_contents numbers).stops refusal caused stops
-
--- with a further content: that of its number, and the others as they were
-pub content_cases : (contents : ℕ → List ℕ) (number : ℕ) (bytes : List ℕ) (other : ℕ)
-    → ((other ≡ number) × (with_content contents number bytes other ≡ bytes)) ⊎ (with_content contents number bytes other ≡ contents other)
-content_cases contents number bytes other = decide (other == number) refl
-  where
-    decide : (test : Bool) → (other == number) ≡ test
-        → ((other ≡ number) × (with_content contents number bytes other ≡ bytes)) ⊎ (with_content contents number bytes other ≡ contents other)
-    decide true is = inl (grind (arith, nat_tests, is), rw is refl)
-    decide false is = inr (rw is refl)
+  opened_other numbers = all_refused files catalogue IsOther numbers (λ number inside. (content_other number).stops)
 
 -- readable files are opened, over each catalogue that says the same
 module _ (alike_opens : FragmentOpensAlike) (files : Files) (catalogue other : Catalogue) (alike : AreSame catalogue other) where
-  abbrev Never : Status → Type 0
-  Never refusal = ⊥
-
-  readable_opens : (number : ℕ) (bytes : List ℕ) → IsReadableFragment files catalogue number bytes → (opens_fragment (Some files) catalogue number).goes bytes
+  readable_opens : (number : ℕ) (bytes : List ℕ) → IsReadableFragment files catalogue number bytes
+      → (opens_fragment (Some files) catalogue number).goes bytes
   unfolding fetches judges and_then gives
   readable_opens number bytes (stored, at, has, none) = (stored, at, (bytes, has, (tt, none, refl)))
 
-  read_leads : (number : ℕ) (bytes : List ℕ) → IsReadableFragment files catalogue number bytes
-      → Leads (opens_fragment (Some files) other number) (λ got. got ≡ bytes) Never
-  read_leads number bytes readable =
-      let agree = alike_opens files catalogue other number alike in
-      let opens = readable_opens number bytes readable in
-      record { goes = λ got goes. sym (agree.one bytes got opens goes); stops = λ refusal caused stops. agree.apart bytes refusal caused opens stops }
+  module _ (want : ℕ → List ℕ) (numbers : List ℕ)
+      (readable : (number : ℕ) → Contains numbers number → IsReadableFragment files catalogue number (want number)) where
+    pub opened_wanted : (contents : ℕ → List ℕ) → (opens_fragments (Some files) other numbers).goes contents → (number : ℕ) → Contains numbers number
+        → contents number ≡ want number
+    opened_wanted contents goes number inside = opened_is files other want numbers (λ it within bytes opens.
+        sym ((alike_opens files catalogue other it alike).one (want it) bytes (readable_opens it (want it) (readable it within)) opens))
+        contents goes number inside
 
-  module _ (want : ℕ → List ℕ) where
-    -- the contents of the numbers are the wanted ones, and those of others that were stay so
-    abbrev AreWanted : List ℕ → (ℕ → List ℕ) → (ℕ → List ℕ) → Type 0
-    AreWanted numbers before got = (number : ℕ) → Contains numbers number ⊎ (before number ≡ want number) → got number ≡ want number
-
-    each_leads : (counter : ℕ) (before : ℕ → List ℕ) (numbers : List ℕ)
-        → ((number : ℕ) → Contains numbers number → IsReadableFragment files catalogue number (want number))
-        → Leads (each (opens_next (Some files) other) counter before numbers) (AreWanted numbers before) Never
-    each_leads counter before [] readable = leads-more _ (λ got. got ≡ before) _ Never (λ got is number cases.
-        elim cases [ inl inside ↦ absurd (Contains-nil number inside) | inr same ↦ ap (λ (it : ℕ → List ℕ). it number) is ∙ same ]) (gives-leads before Never)
-    each_leads counter before (first ∷ rest) readable =
-        then-leads _ _ (λ next. next ≡ with_content before first (want first)) _ Never
-        (then-leads _ _ (λ bytes. bytes ≡ want first) _ Never (read_leads first (want first) (readable first (Contains-head first rest)))
-        (λ bytes is. leads-more _ (λ next. next ≡ with_content before first bytes) _ Never
-        (λ next same. same ∙ ap (with_content before first) is) (gives-leads (with_content before first bytes) Never)))
-        (λ next is. leads-more _ (AreWanted rest next) _ Never (λ got are. wider next is got are)
-        (each_leads (suc counter) next rest (λ number inside. readable number (Contains-rest first rest number inside))))
-      where
-        here : (next : ℕ → List ℕ) → next ≡ with_content before first (want first) → (number : ℕ)
-            → (first ≡ number) ⊎ (before number ≡ want number) → next number ≡ want number
-        here next is number cases = ap (λ (it : ℕ → List ℕ). it number) is ∙ (elim (content_cases before first (want first) number) [
-          | inl changed ↦ changed.1 ∙ ap want (sym changed.0)
-          | inr stays ↦ (elim cases [
-            | inl same ↦ subst (λ (it : ℕ). with_content before first (want first) it ≡ want it) same (own first)
-            | inr was ↦ stays ∙ was
-          ])
-        ])
-          where
-            own : (it : ℕ) → with_content before it (want it) it ≡ want it
-            own it = elim (content_cases before it (want it) it) [
-              | inl changed ↦ changed.1
-              | inr stays ↦ (let test : (it == it) ≡ true = grind (arith, nat_tests) in rw test refl)
-            ]
-
-        wider : (next : ℕ → List ℕ) → next ≡ with_content before first (want first) → (got : ℕ → List ℕ) → AreWanted rest next got
-            → AreWanted (first ∷ rest) before got
-        wider next is got are number (inr was) = are number (inr (here next is number (inr was)))
-        wider next is got are number (inl inside) = elim (Contains-cases first rest number inside) [
-          | inl same ↦ are number (inr (here next is number (inl same)))
-          | inr later ↦ are number (inl later)
-        ]
-
-    module _ (numbers : List ℕ) (readable : (number : ℕ) → Contains numbers number → IsReadableFragment files catalogue number (want number)) where
-      pub opened_wanted : (contents : ℕ → List ℕ) → (opens_fragments (Some files) other numbers).goes contents → (number : ℕ) → Contains numbers number
-          → contents number ≡ want number
-      opened_wanted contents goes number inside = (each_leads 0 no_contents numbers readable).goes contents goes number (inl inside)
-
-      pub opened_always : (refusal : Status) → IsCaused ⊥ refusal → (opens_fragments (Some files) other numbers).stops refusal → ⊥
-      opened_always refusal caused stops = (each_leads 0 no_contents numbers readable).stops refusal caused stops
+    pub opened_always : (refusal : Status) → IsCaused ⊥ refusal → (opens_fragments (Some files) other numbers).stops refusal → ⊥
+    opened_always = all_refused files other (λ _. ⊥) numbers (λ it within refusal caused stops.
+        (alike_opens files catalogue other it alike).apart (want it) refusal caused (readable_opens it (want it) (readable it within)) stops)
 
 -- ---- the rows
 

@@ -16,7 +16,8 @@ returns-clause-unions c = λ catalogue query plan planned.
 
 pub returns-clause-core : goal.returns-clause-core
 returns-clause-core c = λ catalogue query plan planned asked.
-    c.printed_plans_are_universal.ensures.core catalogue.core (rules_of catalogue.rules) (views_of catalogue.fragments) query.names (query_of query) plan asked planned
+    c.printed_plans_are_universal.ensures.core catalogue.core (rules_of catalogue.rules) (views_of catalogue.fragments) query.names (query_of query) plan asked
+    planned
 
 pub returns-clause-only_core : goal.returns-clause-only_core
 returns-clause-only_core c = λ catalogue query plan planned asked.
@@ -30,4 +31,5 @@ returns-clause-satisfiable c = λ catalogue query plan planned.
 
 pub returns-clause-unsatisfiable : goal.returns-clause-unsatisfiable
 returns-clause-unsatisfiable c = λ catalogue query clash clashes.
-    c.plans_tell_satisfiable_queries.ensures.clash (rules_of catalogue.rules) (query_of query) clash (are_rules c.rules_are_sound.ensures.rules catalogue.rules) (c.queries_are_sound.ensures query).query clashes
+    c.plans_tell_satisfiable_queries.ensures.clash (rules_of catalogue.rules) (query_of query) clash
+    (are_rules c.rules_are_sound.ensures.rules catalogue.rules) (c.queries_are_sound.ensures query).query clashes
