@@ -17,8 +17,8 @@ pub one_more : (count : ℕ) (gets : List Get) (get : Get) → AskAll count gets
 one_more count gets get all at none other there =
     let place = place-from_Contains (gets ++ get ∷ []) other there in
     elim (at_pushed gets get place.0 other place.1) [
-      inl before ↦ (omega (arith, (all other (Contains-at gets place.0 other before)).0), (all other (Contains-at gets place.0 other before)).1)
-    | inr last ↦ (subst (λ it. it.fragment < count + 1) last.1 (omega (arith, at)), subst (λ it. it.inputs ≡ []) last.1 none)
+      | inl before ↦ (omega (arith, (all other (Contains-at gets place.0 other before)).0), (all other (Contains-at gets place.0 other before)).1)
+      | inr last ↦ (subst (λ it. it.fragment < count + 1) last.1 (omega (arith, at)), subst (λ it. it.inputs ≡ []) last.1 none)
     ]
 
 -- all rows may be asked for where one way has no inputs
@@ -34,8 +34,7 @@ pub runnable : (count : ℕ) (fragments : List Flagged) (gets : List Get) → Ar
 runnable count fragments gets may all get there =
     let asked = all get there in
     let found = thing_at fragments get.fragment (omega (arith, asked.0, may.number)) in
-    let shape = shape_of found.0 in
-    (
+    let shape = shape_of found.0 in (
       shape,
       slice_get-map shape_of fragments get.fragment ∙ ap (option_map shape_of) found.1,
       subst (λ inputs. IsAllowed shape (map (λ link. link.column) inputs)) (sym asked.1) (none_allowed shape (may.asked found.0 (Contains-at fragments get.fragment found.0 found.1))),

@@ -5,3 +5,6 @@ mod LinkLemmas
 mod MatchLemmas
 mod JudgeLemmas
 mod VerdictLemmas
+mod WorldLemmas
+mod ShowLemmas
+mod OneLemmas

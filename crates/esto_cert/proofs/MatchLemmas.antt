@@ -23,7 +23,7 @@ zip_weaker weaker (x ∷ xs) (y ∷ ys) all = (weaker x y all.0, zip_weaker weak
 pub some_one : {A : Type 0} {one other : A} → Some one ≡ Some other → one ≡ other
 some_one same = cc
 
-are_chosen : (Holds : Claim → Type 0) (body chosen : List (Fact Term)) → ((fact : Fact Term) → Contains chosen fact → Holds (Stated fact))
+pub are_chosen : (Holds : Claim → Type 0) (body chosen : List (Fact Term)) → ((fact : Fact Term) → Contains chosen fact → Holds (Stated fact))
     → AllZip IsLike body chosen → AreChosen Holds body chosen
 are_chosen Holds [] [] holds all = all
 are_chosen Holds [] (fact ∷ chosen) holds all = absurd all
@@ -33,7 +33,7 @@ are_chosen Holds (atom ∷ body) (fact ∷ chosen) holds all = (
   are_chosen Holds body chosen (λ other inside. holds other (Contains-rest fact chosen other inside)) all.1,
 )
 
-are_like : (Holds : Claim → Type 0) (body chosen : List (Fact Term)) → AreChosen Holds body chosen → AllZip IsLike body chosen
+pub are_like : (Holds : Claim → Type 0) (body chosen : List (Fact Term)) → AreChosen Holds body chosen → AllZip IsLike body chosen
 are_like Holds [] [] all = all
 are_like Holds [] (fact ∷ chosen) all = absurd all
 are_like Holds (atom ∷ body) [] all = absurd all

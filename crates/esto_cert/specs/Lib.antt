@@ -4,3 +4,4 @@ pub mod Taking
 pub mod Certificates
 pub mod Matching
 pub mod Judging
+pub mod Showing

@@ -4,6 +4,7 @@
 
 mod check;
 mod judging;
+mod laws;
 mod line;
 mod linking;
 mod matching;
@@ -12,4 +13,5 @@ mod reading;
 mod taking;
 
 pub use check::{CertError, check_certificate};
+pub use laws::{accepted_certificates_show, verdicts_are_one};
 pub use line::{Line, Numbers};

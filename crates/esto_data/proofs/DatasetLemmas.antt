@@ -239,15 +239,15 @@ module _ (files : Option Files) (datasets : List Dataset) (Needs : Dataset → T
       (first_stops _ _ (caused_more _ error (caused_weaker (λ none. absurd none)) stops)))
 
   -- all have one, and the files are opened
-  pub loads_by : LoadedAreFlat → (demands_files datasets numbers).goes tt → (rose : Type 0) {before after : Option (List (List ℕ))}
+  pub loads_by : LoadedAreFlat → (demands_files datasets numbers).goes tt → (rose : Type 0) (before after : Option (List (List ℕ)))
       (result : Result Loaded Status) → LoadsFiles files datasets numbers rose before after result
       → Loads (loads files datasets Needs) rose result
   unfolding judges
-  loads_by flat have rose (Ok loaded) (contents, goes, are, asked) =
+  loads_by flat have rose before after (Ok loaded) (contents, goes, are, asked) =
       then_goes (judges (AreNeeded datasets Needs) (λ _. ⊥)) _ numbers loaded.facts needed
       (then_goes (demands_files datasets numbers) _ tt loaded.facts have
       (then_goes (loads_files files datasets numbers) _ contents loaded.facts goes (record { next = loaded.next; are = are; flat = flat loaded })))
-  loads_by flat have rose (Err refusal) (stops, asked) =
+  loads_by flat have rose before after (Err refusal) (stops, asked) =
       then_stops (judges (AreNeeded datasets Needs) (λ _. ⊥)) _ numbers needed
       (then_stops (demands_files datasets numbers) _ tt have (first_stops _ _ stops))
 
@@ -281,14 +281,14 @@ module _ (files : Option Files) (datasets : List Dataset) (Needs : Dataset → T
       rw handed (found_asks (exit_asks (demands_files datasets numbers) then_loads
       (quiet_asks (demands_files datasets numbers) told (Err error) (demands_quiet datasets numbers) stops)))
 
-  pub loads_by_asks : LoadedAreFlat → (demands_files datasets numbers).goes tt → {rose : Type 0} {before after : Option (List (List ℕ))}
+  pub loads_by_asks : LoadedAreFlat → (demands_files datasets numbers).goes tt → (rose : Type 0) (before after : Option (List (List ℕ)))
       (result : Result Loaded Status) → LoadsFiles files datasets numbers rose before after result
       → LoadsAsking before after (loads files datasets Needs) result
-  loads_by_asks flat have {after = after} (Ok loaded) (contents, goes, are, asked) =
+  loads_by_asks flat have rose before after (Ok loaded) (contents, goes, are, asked) =
       have_asks have (later_asks (loads_files files datasets numbers) (λ it. judges (AreFactsOfFiles datasets it) (λ _. ⊥)) asked
       (quiet_asks (judges (AreFactsOfFiles datasets contents) (λ _. ⊥)) after (Ok loaded.facts) (quiet_judges _ _)
       (facts_go datasets contents loaded are (flat loaded))))
-  loads_by_asks flat have (Err refusal) (stops, asked) =
+  loads_by_asks flat have rose before after (Err refusal) (stops, asked) =
       have_asks have (exit_asks (loads_files files datasets numbers) (λ it. judges (AreFactsOfFiles datasets it) (λ _. ⊥)) asked)
 
 -- want of memory, before anything is asked for

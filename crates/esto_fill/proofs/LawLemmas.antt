@@ -20,6 +20,7 @@ use Rattle.esto_run.specs.Stores.{IsFileRow}
 use Rattle.esto_semantics.specs.Facts.{Database}
 use Rattle.esto_semantics.specs.Listed.{candidate}
 use Rattle.esto_semantics.specs.Queries.{ConjunctiveQuery, IsAnswer}
+use Rattle.esto_semantics.specs.Unions.{IsUnionAnswer}
 use Rattle.esto_semantics.specs.declared.fact.Fact.{Fact}
 use Rattle.esto_semantics.specs.declared.fact.Value.{Value}
 use Rattle.esto_semantics.specs.declared.fact.Value.TheVariants.{Text, Node}
@@ -31,11 +32,12 @@ use Rattle.esto_term.proofs.ListLemmas.{Contains-at, map_at-from}
 use Rattle.esto_fill.specs.Differences.{HoldViewRows}
 use Rattle.esto_fill.specs.Files.{nodes_in, AreFactsByModel, AreFactsOf, AreFactsFrom, dataset_fault}
 use Rattle.esto_fill.specs.Filled.{CanHold, Fills, IsFirstUnfit, text_in, with_mark}
-use Rattle.esto_fill.specs.Laws.{FactsAreOne, FaultsAreOne, ReadableHaveNone, AnswersAreOne, JudgementsAreOne, FillsAreOne, AgreeingAnswersAreTexts, AgreeingAnswersAreOne}
-use Rattle.esto_fill.specs.Texts.{AreExactly, AreTextsOf, AreTextViews, HasNodeIn, HaveTextsOnly, IsFirstNodeColumn, IsFirstNodeView, IsTextRow}
+use Rattle.esto_fill.specs.Laws.{FactsAreOne, FaultsAreOne, ReadableHaveNone, AnswersAreOne, UnionAnswersAreOne, JudgementsAreOne, FillsAreOne, AgreeingAnswersAreTexts, AgreeingAnswersAreOne}
+use Rattle.esto_fill.specs.Texts.{AreExactly, AreTextsOf, AreTextViews, GivesTexts, HasNodeIn, HaveTextsOnly, IsFirstNodeColumn, IsFirstNodeView, IsTextRow}
 use Rattle.esto_fill.specs.declared.datasets.DatasetBytes.{DatasetBytes}
 use Rattle.esto_fill.specs.declared.filled.FillError.{FillError}
 use Rattle.esto_fill.specs.declared.filled.FillError.TheVariants as filled
+use Rattle.esto_fill.specs.declared.rows.AnswerError.{AnswerError}
 use Rattle.esto_fill.specs.declared.rows.AnswerError.TheVariants as answer
 use Rattle.esto_fill.proofs.FilledLemmas.{in_rows, same_texts}
 
@@ -119,17 +121,22 @@ lists_one law Rows rows others one two = law rows others one.rising two.rising (
   (λ inside. (in_rows Rows rows one.exact row).1 ((in_rows Rows others two.exact row).0 inside)),
 ))
 
+texts_one : (law : RisingRowsAreOne) (Rows : List Value → Type 0) (result other : Result (List Row) AnswerError) → GivesTexts Rows result
+    → GivesTexts Rows other → result ≢ Err answer.OutOfMemory → other ≢ Err answer.OutOfMemory → result ≡ other
+texts_one law Rows (Ok rows) (Ok others) one two said too = ap Ok (lists_one law Rows rows others one two)
+texts_one law Rows (Ok rows) (Err (answer.NodeInRow column)) one two said too = absurd (texts_no_node Rows column (exact_only Rows rows one.exact) two)
+texts_one law Rows (Err (answer.NodeInRow column)) (Ok rows) one two said too = absurd (texts_no_node Rows column (exact_only Rows rows two.exact) one)
+texts_one law Rows (Err (answer.NodeInRow column)) (Err (answer.NodeInRow other)) one two said too =
+    ap (λ n. Err (answer.NodeInRow n)) (columns_one Rows column other one two)
+texts_one law Rows (Ok rows) (Err answer.OutOfMemory) one two said too = absurd (too refl)
+texts_one law Rows (Err (answer.NodeInRow column)) (Err answer.OutOfMemory) one two said too = absurd (too refl)
+texts_one law Rows (Err answer.OutOfMemory) other one two said too = absurd (said refl)
+
 pub answers_are_one : (law : RisingRowsAreOne) → AnswersAreOne
-answers_are_one law query database (Ok rows) (Ok others) one two said too = ap Ok (lists_one law (IsAnswer query database) rows others one two)
-answers_are_one law query database (Ok rows) (Err (answer.NodeInRow column)) one two said too =
-    absurd (texts_no_node (IsAnswer query database) column (exact_only (IsAnswer query database) rows one.exact) two)
-answers_are_one law query database (Err (answer.NodeInRow column)) (Ok rows) one two said too =
-    absurd (texts_no_node (IsAnswer query database) column (exact_only (IsAnswer query database) rows two.exact) one)
-answers_are_one law query database (Err (answer.NodeInRow column)) (Err (answer.NodeInRow other)) one two said too =
-    ap (λ n. Err (answer.NodeInRow n)) (columns_one (IsAnswer query database) column other one two)
-answers_are_one law query database (Ok rows) (Err answer.OutOfMemory) one two said too = absurd (too refl)
-answers_are_one law query database (Err (answer.NodeInRow column)) (Err answer.OutOfMemory) one two said too = absurd (too refl)
-answers_are_one law query database (Err answer.OutOfMemory) other one two said too = absurd (said refl)
+answers_are_one law query database result other one two said too = texts_one law (IsAnswer query database) result other one two said too
+
+pub union_answers_are_one : (law : RisingRowsAreOne) → UnionAnswersAreOne
+union_answers_are_one law queries database result other one two said too = texts_one law (IsUnionAnswer queries database) result other one two said too
 
 views_no_node : (views : List ConjunctiveQuery) (database : Database) (column : ℕ) → AreTextViews views database → IsFirstNodeView views database column → ⊥
 views_no_node views database column texts node =

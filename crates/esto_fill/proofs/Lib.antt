@@ -9,3 +9,4 @@ pub mod DifferenceLemmas
 pub mod LawLemmas
 pub mod AuditLemmas
 pub mod MovedLemmas
+pub mod UnionLemmas

@@ -16,6 +16,7 @@ use Rattle.esto_semantics.specs.Maps.{AreFlat}
 use Rattle.esto_semantics.specs.Queries.{ConjunctiveQuery, IsAnswer}
 use Rattle.esto_semantics.specs.Rules.{Rule, AreRules}
 use Rattle.esto_semantics.specs.Standing.{Stands}
+use Rattle.esto_semantics.specs.Unions.{IsUnionAnswer}
 use Rattle.esto_semantics.specs.declared.fact.Fact.{Fact}
 use Rattle.esto_semantics.specs.declared.fact.Value.TheVariants.{Text}
 use Rattle.esto_stores.specs.Rows.{Row}
@@ -67,6 +68,14 @@ abbrev pub AnswersAreOne : Type 0
 AnswersAreOne =
     (query : ConjunctiveQuery) (database : Database) (result other : Result (List Row) AnswerError)
     → GivesTexts (IsAnswer query database) result → GivesTexts (IsAnswer query database) other → result ≢ Err answer.OutOfMemory
+    → other ≢ Err answer.OutOfMemory
+    → result ≡ other
+
+-- And so are those of a union of queries.
+abbrev pub UnionAnswersAreOne : Type 0
+UnionAnswersAreOne =
+    (queries : List ConjunctiveQuery) (database : Database) (result other : Result (List Row) AnswerError)
+    → GivesTexts (IsUnionAnswer queries database) result → GivesTexts (IsUnionAnswer queries database) other → result ≢ Err answer.OutOfMemory
     → other ≢ Err answer.OutOfMemory
     → result ≡ other
 

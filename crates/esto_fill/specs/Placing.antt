@@ -3,14 +3,19 @@ use Rattle.std.specs.Prelude.{◌≡◌, ◌≢◌, ℕ, ◌+◌, ◌≤◌, min
 use Rattle.std.specs.declared.cmp.Ordering.TheVariants.{Greater}
 use Rattle.esto_catalog.specs.declared.catalogue.Shape.{Shape}
 use Rattle.esto_catalog.specs.declared.catalogue.Shape.TheVariants.{Keys}
-use Rattle.esto_query.specs.Rows.{row_cmp}
+use Rattle.esto_query.specs.Making.{query_of}
+use Rattle.esto_query.specs.Rows.{Adds, row_cmp}
 use Rattle.esto_query.specs.declared.query.Name.{Name}
+use Rattle.esto_query.specs.declared.query.Query.{Query}
 use Rattle.esto_relmodel.specs.Once.{AreEachOnce}
+use Rattle.esto_semantics.specs.Queries.{IsAnswerInto}
+use Rattle.esto_semantics.specs.declared.fact.Fact.{Fact}
 use Rattle.esto_semantics.specs.declared.fact.Value.{Value}
 use Rattle.esto_stores.specs.Rows.{Row}
 use Rattle.esto_term.specs.Kinds.{IsConstant}
 use Rattle.esto_term.specs.declared.term.Term.{Term, out-Term}
 use Rattle.esto_term.specs.declared.term.Term.TheOpen.{Term-F}
+use Rattle.esto_term.specs.declared.term.Term.TheVariants.{Const}
 use Rattle.esto_fill.specs.Databases.{value_of}
 use Rattle.esto_fill.specs.Differences.{IsInOne}
 use Rattle.esto_fill.specs.Filled.{CanHold, IsFirstUnfit, text_in}
@@ -21,6 +26,16 @@ use Rattle.esto_fill.specs.declared.rows.AnswerError.{AnswerError}
 use Rattle.esto_fill.specs.declared.rows.AnswerError.TheVariants as answer
 use Rattle.esto_fill.specs.declared.filled.FillError.{FillError}
 use Rattle.esto_fill.specs.declared.filled.FillError.TheVariants.{NodeInRow, KeyText, OutOfMemory}
+
+-- ---- the answers of queries, over terms
+
+-- The row is an answer over the facts of one of the queries.
+abbrev pub IsUnionRow : List Query → List (Fact Term) → List Term → Type 0
+IsUnionRow queries facts row = (query : Query) × Contains queries query × IsAnswerInto Const (query_of query) (Contains facts) row
+
+-- The answers of the query over the facts have come to the rows.
+abbrev pub AddsAnswers : Query → List (Fact Term) → List (List Term) → List (List Term) → Type 0
+AddsAnswers query facts old new = Adds old new (IsAnswerInto Const (query_of query) (Contains facts))
 
 -- ---- rows of terms and rows of texts
 

@@ -1,5 +1,5 @@
 //! Laws of the facts of datasets and the rows of fragments.
-ghost use Rattle.esto_fill.specs.Laws.{AnswersRestOnDatasets, LoadedAreFlat, FactsStand, FactsAreOne, FaultsAreOne, ReadableHaveNone, AnswersAreOne, JudgementsAreOne, FillsAreOne, AuditsAreOne, AuditsAreOverFiles, AgreeingAnswersAreTexts, AgreeingAnswersAreOne};
+ghost use Rattle.esto_fill.specs.Laws.{AnswersRestOnDatasets, LoadedAreFlat, FactsStand, FactsAreOne, FaultsAreOne, ReadableHaveNone, AnswersAreOne, UnionAnswersAreOne, JudgementsAreOne, FillsAreOne, AuditsAreOne, AuditsAreOverFiles, AgreeingAnswersAreTexts, AgreeingAnswersAreOne};
 
 use esto_run::{rewritings_answer_queries, rising_rows_are_one};
 use esto_semantics::databases_stand_for_facts;
@@ -16,13 +16,14 @@ pub fn facts_stand_as_databases()
     ensures { FactsStand }
 {}
 
-/// A law: where memory is not wanting, files give one list of facts or one first fault, a query's answers, a judgement of
-/// views and a filled file are one, and an audit of files comes to one end.
+/// A law: where memory is not wanting, files give one list of facts or one first fault, the answers of a query and of a
+/// union, a judgement of views and a filled file are one, and an audit of files comes to one end.
 pub fn outcomes_are_one()
     ensures facts { FactsAreOne }
     ensures faults { FaultsAreOne }
     ensures readable { ReadableHaveNone }
     ensures answers { AnswersAreOne }
+    ensures unions { UnionAnswersAreOne }
     ensures judgements { JudgementsAreOne }
     ensures fills { FillsAreOne }
     ensures audits { AuditsAreOne }

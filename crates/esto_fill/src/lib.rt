@@ -14,7 +14,7 @@ mod record;
 mod rows;
 mod views;
 
-pub use answering::answer;
+pub use answering::{answer, answer_union};
 pub use auditing::{Difference, TextRowsList, audit};
 pub use datasets::{DatasetBytes, LoadError, LoadList, dataset_facts, load_dataset};
 pub use filled::{FillError, fill};

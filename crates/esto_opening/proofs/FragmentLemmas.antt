@@ -1,5 +1,5 @@
 -- The files of the fragments that a set uses, opened one after the other.
-use Rattle.std.proofs.Common.{◌≡◌, ◌≢◌, ◌↔◌, ◌<◌, ◌≤◌, ◌+◌, ◌==◌, ℕ, suc, true, false, List, [], ◌∷◌, ◌++◌, take, drop, length, get_or, drop-cons, add-one, Contains, slice_get, Option, Some, None, Result, Ok, Err, refl, sym, ap, subst, ◌∙◌, arith, append-nil}
+use Rattle.std.proofs.Common.{◌≡◌, ◌≢◌, ◌↔◌, ◌<◌, ◌≤◌, ◌+◌, ◌==◌, ℕ, suc, true, false, List, [], ◌∷◌, ◌++◌, take, drop, length, get_or, drop-cons, add-one, Contains, slice_get, Option, Some, None, Result, Ok, Err, refl, sym, ap, subst, ◌∙◌, arith}
 use Rattle.std.proofs.lemmas.Bool.Decides.{nat_tests}
 use Rattle.std.specs.Prelude.{IfSome}
 use Rattle.std.specs.List.{AllPairs}
@@ -9,7 +9,7 @@ use Rattle.std.proofs.lemmas.List.Elements.{Contains-append_left, Contains-get_o
 use Rattle.std.proofs.lemmas.Option.{same_Some}
 use Rattle.esto_catalog.specs.declared.catalogue.Catalogue.{Catalogue}
 use Rattle.esto_catalog.specs.declared.catalogue.Store.{Store}
-use Rattle.esto_course.specs.Course.{Stops, judges, gives, each}
+use Rattle.esto_course.specs.Course.{Stops, judges, gives}
 use Rattle.esto_course.specs.Course.Stops.{refused}
 use Rattle.esto_course.proofs.Steps.{first_stops, then_goes, gives_goes}
 use Rattle.esto_lines.specs.Faults.{Gives}

@@ -9,3 +9,4 @@ pub mod AgreeLemmas
 pub mod StoreLemmas
 pub mod AlikeLemmas
 pub mod RefusalLemmas
+pub mod UnionLemmas

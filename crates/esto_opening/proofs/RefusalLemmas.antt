@@ -9,7 +9,7 @@ use Rattle.esto_opening.specs.Calm.{Leads}
 use Rattle.esto_opening.specs.Fetch.{FetchStops, fetches}
 use Rattle.esto_opening.specs.Fetch.FetchStops.{fails, is_longer}
 use Rattle.esto_opening.specs.Fragments.{opens_fragment, opens_fragments, opens_next, no_contents, with_content}
-use Rattle.esto_opening.specs.Opening.{opens_catalogue, opens_query, status_of}
+use Rattle.esto_opening.specs.Opening.{opens_catalogue, opens_query, opens_union, status_of}
 use Rattle.esto_opening.specs.declared.fragments.TheConstants.{FRAGMENT_LIMIT}
 use Rattle.esto_opening.specs.declared.opening.TheConstants.{CATALOGUE_LIMIT, QUERY_LIMIT}
 use Rattle.esto_opening.specs.declared.status.Status.{Status}
@@ -59,6 +59,10 @@ module _ (files : Files) where
 
   pub query_refuses : (name : List ℕ) (catalogue : Catalogue) → Refuses (opens_query (Some files) name catalogue)
   query_refuses name catalogue = then_refuses _ _ (fetch_refuses files name QUERY_LIMIT)
+      (λ bytes. judges_refuses _ _ (λ said (fault, first, is). λ done. let h : status.BadQuery fault ≡ status.Done = sym is ∙ done in cc))
+
+  pub union_refuses : (name : List ℕ) (catalogue : Catalogue) → Refuses (opens_union (Some files) name catalogue)
+  union_refuses name catalogue = then_refuses _ _ (fetch_refuses files name QUERY_LIMIT)
       (λ bytes. judges_refuses _ _ (λ said (fault, first, is). λ done. let h : status.BadQuery fault ≡ status.Done = sym is ∙ done in cc))
 
   pub fragment_refuses : (catalogue : Catalogue) (number : ℕ) → Refuses (opens_fragment (Some files) catalogue number)

@@ -1,5 +1,5 @@
 -- What is opened over the same files is the same: catalogues up to what they mean, and queries and fragments' files over such catalogues.
-use Rattle.std.specs.Prelude.{◌≡◌, ◌↔◌, ℕ, List, map, Some}
+use Rattle.std.specs.Prelude.{◌≡◌, ◌↔◌, ℕ, List, [], ◌∷◌, map, Some}
 use Rattle.esto_catalog.specs.Determined.{AreSame, stored_as}
 use Rattle.esto_catalog.specs.declared.catalogue.Catalogue.{Catalogue}
 use Rattle.esto_catalog.specs.declared.catalogue.Store.{Store}
@@ -9,13 +9,19 @@ use Rattle.esto_run.specs.Stores.{IsFileRow, first_fault_in}
 use Rattle.esto_semantics.specs.declared.fact.Fact.{Fact}
 use Rattle.esto_opening.specs.Calm.{AgreeCalmly}
 use Rattle.esto_opening.specs.Fragments.{opens_fragment, opens_fragments}
-use Rattle.esto_opening.specs.Opening.{opens_catalogue, opens_query}
+use Rattle.esto_opening.specs.Opening.{opens_catalogue, opens_query, opens_union}
 
 -- Two queries with one head, one body and the same names.
 pub record IsSameQuery (query other : Query) : Type 0 where
   pub head : query.head ≡ other.head
   pub body : query.body ≡ other.body
   pub names : query.names ≡ other.names
+
+-- Two lists have the same queries, one by one.
+abbrev pub AreSameQueries : List Query → List Query → Type 0
+AreSameQueries [] [] = Unit {0}
+AreSameQueries (query ∷ queries) (other ∷ others) = IsSameQuery query other × AreSameQueries queries others
+AreSameQueries _ _ = ⊥
 
 -- One file says catalogues that say the same, or refuses in one way.
 abbrev pub CataloguesOpenAlike : Type 0
@@ -26,6 +32,12 @@ abbrev pub QueriesOpenAlike : Type 0
 QueriesOpenAlike =
     (files : Files) (name : List ℕ) (catalogue other : Catalogue) → AreSame catalogue other
     → AgreeCalmly IsSameQuery (opens_query (Some files) name catalogue) (opens_query (Some files) name other)
+
+-- And the same union of queries.
+abbrev pub UnionsOpenAlike : Type 0
+UnionsOpenAlike =
+    (files : Files) (name : List ℕ) (catalogue other : Catalogue) → AreSame catalogue other
+    → AgreeCalmly AreSameQueries (opens_union (Some files) name catalogue) (opens_union (Some files) name other)
 
 -- Over catalogues that say the same, the file of a fragment has the same content, or is refused in one way.
 abbrev pub FragmentOpensAlike : Type 0

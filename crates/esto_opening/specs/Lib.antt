@@ -6,3 +6,4 @@ pub mod Asked
 pub mod Opening
 pub mod Fragments
 pub mod Alike
+pub mod Unions

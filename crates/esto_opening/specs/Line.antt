@@ -18,7 +18,7 @@ use Rattle.esto_text.specs.declared.fault.TextFault.{TextFault}
 use Rattle.esto_text.specs.declared.fault.TextKind.{TextKind}
 use Rattle.esto_text.specs.declared.fault.TextKind.TheVariants.{Utf8, Syntax, Unknown, Arity, TooLarge, SameVariable, Unsafe, HeadLength}
 use Rattle.esto_opening.specs.declared.status.Status.{Status}
-use Rattle.esto_opening.specs.declared.status.Status.TheVariants.{Done, OutOfMemory, Usage, ReadFault, WriteFault, TooLong, BadCatalogue, BadQuery, NotAcyclic, BadFragment, Unsatisfiable, NoRewriting, NoSuchNumber, NoData, BadDataset, NodeInRow, Differs, KeyText, NoSuchFragment, HeadLengths}
+use Rattle.esto_opening.specs.declared.status.Status.TheVariants.{Done, OutOfMemory, Usage, ReadFault, WriteFault, TooLong, BadCatalogue, BadQuery, NotAcyclic, BadFragment, Unsatisfiable, NoRewriting, NoSuchNumber, NoData, BadDataset, NodeInRow, Differs, KeyText, NoSuchFragment, Rejected, HeadLengths}
 
 -- A cell as the record of this one cell has it, without the line feed that ends the record. The empty cell is two quotes.
 abbrev pub cell_of : List ℕ → List ℕ
@@ -45,6 +45,7 @@ code_of (NodeInRow column) = 15
 code_of (Differs difference) = 16
 code_of (KeyText cell) = 17
 code_of (NoSuchFragment name) = 19
+code_of (Rejected number) = 20
 code_of (HeadLengths one other) = 21
 
 -- The word that names a kind of fault.
@@ -142,4 +143,5 @@ line_of (NodeInRow column) = codes "NodeInRow " ++ (decimal column ++ codes "\n"
 line_of (Differs difference) = codes "Differs " ++ difference_text difference
 line_of (KeyText cell) = codes "KeyText " ++ cell_of cell ++ codes "\n"
 line_of (NoSuchFragment name) = codes "NoSuchFragment " ++ cell_of name ++ codes "\n"
+line_of (Rejected number) = codes "Rejected " ++ (decimal number ++ codes "\n")
 line_of (HeadLengths one other) = codes "HeadLengths " ++ (decimal one ++ (codes " " ++ (decimal other ++ codes "\n")))

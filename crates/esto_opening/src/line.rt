@@ -255,6 +255,14 @@ fn bad_file_line(
     Ok(line)
 }
 
+// The line of a certificate's first line that is not so.
+fn rejected_line(alloc: Global, number: u64) -> Result<Bytes, OutOfMemory>
+    ensures { IfOk result (λ line. line ≡ line_of (status.Rejected number)) }
+{
+    let line = format!(in alloc; "Rejected {number}\n")?;
+    Bytes::from_slice(alloc, line.as_str().as_bytes())
+}
+
 // The line of two different lengths of heads.
 fn head_lengths_line(alloc: Global, one: u64, other: u64) -> Result<Bytes, OutOfMemory>
     ensures { IfOk result (λ line. line ≡ line_of (status.HeadLengths one other)) }
@@ -263,7 +271,7 @@ fn head_lengths_line(alloc: Global, one: u64, other: u64) -> Result<Bytes, OutOf
     Bytes::from_slice(alloc, line.as_str().as_bytes())
 }
 
-// The line of a number above the length of the list.
+// The line of a number above how many there are.
 fn no_such_number_line(alloc: Global, number: u64, listed: u64) -> Result<Bytes, OutOfMemory>
     ensures { IfOk result (λ line. line ≡ line_of (status.NoSuchNumber number listed)) }
 {
@@ -375,6 +383,7 @@ pub fn status_line(alloc: Global, status: &Status) -> Result<Bytes, OutOfMemory>
         Status::Differs(difference) => differs_line(alloc, difference),
         Status::KeyText(cell) => named_line(alloc, "KeyText ", cell),
         Status::NoSuchFragment(name) => named_line(alloc, "NoSuchFragment ", name),
+        Status::Rejected(number) => rejected_line(alloc, *number),
         Status::HeadLengths(one, other) => head_lengths_line(alloc, *one, *other),
     }
 }

@@ -38,7 +38,8 @@ pub enum Status {
     Unsatisfiable(Clash),
     /// No executable query over the fragments is equivalent to the query, so no set is listed.
     NoRewriting,
-    /// The first number was asked for, counted from 1, and so many sets are listed, which are fewer.
+    /// The first number was asked for, counted from 1, and there are so many sets of the list, or atoms of the plan, which
+    /// are fewer.
     NoSuchNumber(u64, u64),
     /// The dataset of this name has no file, and the command needs one.
     NoData(Text),
@@ -52,6 +53,8 @@ pub enum Status {
     KeyText(Text),
     /// The catalogue has no fragment of this name.
     NoSuchFragment(Text),
+    /// The line of this number, counted from 1, is the first of a certificate that is not so.
+    Rejected(u64),
     /// The heads of two queries, of which one is asked to contain the other, have these different lengths.
     HeadLengths(u64, u64),
 }
@@ -89,6 +92,7 @@ impl Status {
             Status::Differs(_) => 16,
             Status::KeyText(_) => 17,
             Status::NoSuchFragment(_) => 19,
+            Status::Rejected(_) => 20,
             Status::HeadLengths(_, _) => 21,
         }
     }

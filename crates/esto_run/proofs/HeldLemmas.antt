@@ -1,10 +1,9 @@
 -- Rows that are kept as codes of their texts.
-use Rattle.std.proofs.Common.{◌≡◌, inl, inr, ℕ, zero, suc, ◌+◌, ◌<◌, List, [], ◌∷◌, map, length, get_or, set, All, Some, slice_get, Contains, refl, sym, ap, ◌∙◌, subst, arith}
+use Rattle.std.proofs.Common.{◌≡◌, ℕ, zero, suc, ◌<◌, List, [], ◌∷◌, map, length, get_or, set, All, Some, slice_get, Contains, refl, sym, ap, ◌∙◌, subst, arith}
 use Rattle.std.specs.Prelude.{Result, Ok, Err, OnErr}
 use Rattle.std.proofs.lemmas.List.{get_or_append_left, length-append, length-map, map-set}
 use Rattle.std.proofs.lemmas.List.Elements.{All-set, Contains-get_or}
 use Rattle.std.proofs.lemmas.Option.{get_or_from_slice_get, slice_get_within}
-use Rattle.esto_columns.specs.Asked.{Shape}
 use Rattle.esto_columns.specs.CodedRows.{CodedRows}
 use Rattle.esto_columns.specs.Interned.{Grows, AreCodesOf, AreCodedRows}
 use Rattle.esto_columns.specs.declared.stored.StoredRows.{StoredRows}
@@ -13,7 +12,7 @@ use Rattle.esto_plan.specs.Rows.{held_by}
 use Rattle.esto_stores.specs.Rows.{Row}
 use Rattle.esto_term.proofs.ListLemmas.{Contains-nil, Contains-head, Contains-rest, Contains-map, Contains-map_from, map_agree, map_then, thing_at, at_left}
 use Rattle.esto_views.specs.declared.fragments.FragmentDef.{FragmentDef}
-use Rattle.esto_run.specs.Opened.{Held, HaveTexts, held_of, rows_held, shape_of, texts_of, unopened}
+use Rattle.esto_run.specs.Opened.{HaveTexts, held_of, rows_held, shape_of, texts_of, unopened}
 use Rattle.esto_run.specs.Stored.{AreEmpty, stored_none}
 
 -- what holds, holds at an error

@@ -1,5 +1,5 @@
 -- Laws of runs.
-use Rattle.std.proofs.Common.{◌≡◌}
+use Rattle.std.proofs.Common.{◌≡◌, ◌↔◌, Some, map, slice_get, Contains}
 use Rattle.std.specs.Cmp.{IsTotalOrder}
 use Rattle.std.specs.Cmp.Lexicographic.{slice_cmp}
 use Rattle.std.specs.Ordering.{nat_cmp}
@@ -7,10 +7,13 @@ use Rattle.std.proofs.lemmas.Cmp.{lists_total, nat_cmp_total}
 use Rattle.esto_plan.proofs.CodedLemmas.{answers_over_held}
 use Rattle.esto_semantics.specs.Listed.{candidate}
 use Rattle.esto_term.proofs.ChoiceLemmas.{one_list}
-use Rattle.esto_run.specs.Laws.{AnswersAreOverFiles, RewritingsAnswerQueries, RisingRowsAreOne}
+use Rattle.esto_semantics.specs.Queries.{ConjunctiveQuery}
+use Rattle.esto_semantics.specs.Views.{IsFragmentAnswer}
+use Rattle.esto_semantics.specs.declared.fact.Value.TheVariants.{Text}
+use Rattle.esto_stores.specs.Rows.{Row}
+use Rattle.esto_run.specs.Laws.{AnswersAreOverFiles, IsAnswerOver, RewritingsAnswerQueries, RisingRowsAreOne, UnionsAnswerOverFiles}
 use Rattle.esto_catalog.specs.declared.catalogue.Store.{Store}
-use Rattle.esto_run.specs.Stores.{IsRowIn}
-use Rattle.std.proofs.Common.{Some, slice_get}
+use Rattle.esto_run.specs.Stores.{IsFileRow, IsRowIn}
 
 pub answers_over_files : AnswersAreOverFiles
 answers_over_files stores files numbers opened query are uses row = (
@@ -31,3 +34,15 @@ rows_total = lists_total (lists_total nat_cmp_total)
 
 pub rising_once : RisingRowsAreOne
 rising_once rows others rises too same = one_list (slice_cmp (slice_cmp nat_cmp)) rows_total rows others rises too same
+
+pub unions_answer : UnionsAnswerOverFiles
+unions_answer views database queries stores files each values = (
+  (λ (query, inside, answer). let found = (over query inside).0 answer in (found.0, found.1, (query, inside, found.2))),
+  (λ (row, is, (query, inside, answer)). (query, inside, (over query inside).1 (row, is, answer))),
+)
+  where
+    over : (query : ConjunctiveQuery) → Contains queries query → IsFragmentAnswer views query database values
+        ↔ ((row : Row) × (values ≡ map Text row) × IsAnswerOver (IsFileRow stores files) query row)
+    over query inside = answers_over_held views database query
+        (λ fragment row. (store : Store) × (slice_get stores fragment ≡ Some store) × IsRowIn store.shape (files fragment) row)
+        (each query inside).0 (each query inside).1 values

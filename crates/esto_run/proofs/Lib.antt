@@ -3,4 +3,5 @@ pub mod HeldLemmas
 pub mod OpenedLemmas
 pub mod UsedLemmas
 pub mod RunLemmas
+pub mod UnionLemmas
 pub mod LawLemmas

@@ -1,28 +1,32 @@
 -- The run of a set over stored rows.
-use Rattle.std.proofs.Common.{◌≡◌, inl, inr, ℕ, zero, suc, ◌<◌, ◌≤◌, Bool, List, [], ◌∷◌, map, length, get_or, Some, slice_get, Contains, refl, sym, ap, ◌∙◌, subst, arith}
+use Rattle.std.proofs.Common.{◌≡◌, ◌↔◌, ◌⊎◌, ◌++◌, inl, inr, ℕ, suc, ◌<◌, Bool, List, [], ◌∷◌, map, length, get_or, Some, slice_get, Contains, refl, sym, ap, ◌∙◌, subst, arith}
 use Rattle.std.specs.Prelude.{All, Option, None, option_to_list}
-use Rattle.std.proofs.lemmas.List.{length-map}
-use Rattle.std.proofs.lemmas.List.Elements.{Contains-get_or, Contains-append_cases}
-use Rattle.std.proofs.lemmas.Option.{slice_get_within, get_or_from_slice_get, slice_get_cases}
+use Rattle.std.specs.List.{AllZip}
+use Rattle.std.proofs.lemmas.List.{length-append, length-map}
+use Rattle.std.proofs.lemmas.List.Elements.{Contains-get_or, Contains-append_cases, Contains-append_left, Contains-append_right, Contains-push_cases}
+use Rattle.std.proofs.lemmas.Option.{get_or_from_slice_get}
 use Rattle.esto_term.specs.declared.term.Term.{Term}
 use Rattle.esto_columns.specs.Asked.{Shape}
-use Rattle.esto_columns.specs.Interned.{Grows, AreCodesOf, AreCodedRows}
+use Rattle.esto_columns.specs.Interned.{Grows}
 use Rattle.esto_columns.specs.declared.stored.StoredRows.{StoredRows}
 use Rattle.esto_exec.specs.Runnable.{HaveShapes}
-use Rattle.esto_plan.specs.Planned.{Fits, atoms_of, inputs_of}
+use Rattle.esto_plan.specs.Planned.{AreStepsAfter, Fits, IsSource, atoms_of, inputs_of}
 use Rattle.esto_plan.specs.Rows.{IsRowOf, held_by, AreCoded}
+use Rattle.esto_plan.specs.declared.steps.Get.{Get}
+use Rattle.esto_plan.specs.declared.steps.Source.{Source}
 use Rattle.esto_semantics.specs.Access.{Patterns, IsOrder}
 use Rattle.esto_semantics.specs.Listed.{chosen, candidate}
 use Rattle.esto_semantics.specs.ListedLaws.{ChosenAreNamed}
 use Rattle.esto_semantics.specs.Queries.{ConjunctiveQuery}
 use Rattle.esto_semantics.specs.declared.fact.Fact.{Fact}
 use Rattle.esto_stores.specs.Rows.{Row}
-use Rattle.esto_term.proofs.ListLemmas.{Contains-nil, Contains-at, Contains-cases, Contains-map, Contains-map_from, map_at, map_then}
+use Rattle.esto_term.proofs.ListLemmas.{Contains-nil, Contains-at, Contains-cases, Contains-head, Contains-map_from, at_left, map_agree, map_at, map_then, thing_at}
 use Rattle.esto_views.specs.Fragments.{patterns_of}
 use Rattle.esto_views.specs.Plans.{fact_of, plan_query, IsPlanOver}
 use Rattle.esto_views.specs.declared.fragments.FragmentDef.{FragmentDef}
 use Rattle.esto_views.specs.declared.plan.Plan.{Plan}
-use Rattle.esto_run.specs.Laws.{IsAnswerOver}
+use Rattle.esto_run.specs.Coded.{AreCodesOfAll}
+use Rattle.esto_run.specs.Laws.{IsAnswerOfOne, IsAnswerOver}
 use Rattle.esto_run.specs.Opened.{Held, HaveTexts, AreRowsFor, held_of, rows_held, shape_of}
 use Rattle.esto_run.proofs.HeldLemmas.{text_of_codes, codes_long, code_below, coded_held}
 
@@ -40,12 +44,11 @@ pub record AreHeld (texts : List (List ℕ)) (opened : List Held) (stored : List
   pub shapes : map shape_seen stored ≡ map (λ held. held.shape) opened
   pub coded : AreCoded texts (held_by (map codes_of stored)) (held_by (rows_held opened))
 
-pub held_so : (old new : List (List ℕ)) (opened : List Held) (stored items : List StoredRows) → Grows old new → items ≡ stored → HaveTexts old stored
-    → map (held_of old) stored ≡ opened → AreHeld new opened items
-held_so old new opened stored items grown same have are = subst (λ them. AreHeld new them items) are (subst (AreHeld new (map (held_of old) stored)) (sym same) (record {
+pub held_so : (old new : List (List ℕ)) (stored : List StoredRows) → Grows old new → HaveTexts old stored → AreHeld new (map (held_of old) stored) stored
+held_so old new stored grown have = record {
   shapes = sym (map_then (held_of old) (λ held. held.shape) stored);
   coded = coded_held old new grown stored have;
-}))
+}
 
 module _ (texts : List (List ℕ)) (fragments : List FragmentDef) (opened : List Held) (stored : List StoredRows)
     (rows_are : AreRowsFor fragments opened) (are : AreHeld texts opened stored) where
@@ -121,6 +124,79 @@ atoms_among atoms (first ∷ rest) atom inside =
       | inl same ↦ Contains-at atoms first atom (is ∙ ap Some same)
       | inr none ↦ absurd (Contains-nil atom none)
     ]
+
+-- ---- rows of codes
+
+-- the steps have a source for each term of the head
+pub sources_long : (texts : List (List ℕ)) (patterns : Patterns) (head : List Term) (sources : List Source) (bound : List Term) (atoms : List (Fact Term))
+    (gets : List Get) → AreStepsAfter texts patterns head sources bound atoms gets → length head ≡ length sources
+sources_long texts patterns head sources bound [] [] are = zipped head sources are
+  where
+    zipped : (terms : List Term) (them : List Source) → AllZip (IsSource texts bound) terms them → length terms ≡ length them
+    zipped [] [] are = refl
+    zipped [] (source ∷ them) are = absurd are
+    zipped (term ∷ terms) [] are = absurd are
+    zipped (term ∷ terms) (source ∷ them) are = ap suc (zipped terms them are.1)
+sources_long texts patterns head sources bound [] (get ∷ gets) are = absurd are
+sources_long texts patterns head sources bound (atom ∷ atoms) [] are = absurd are
+sources_long texts patterns head sources bound (atom ∷ atoms) (get ∷ gets) are =
+    sources_long texts patterns head sources (bound ++ atom.terms) atoms gets are.1
+
+-- rows of codes are those of the same rows
+pub same_codes : (texts coded : List (List ℕ)) (Has Other : Row → Type 0) → ((row : Row) → Has row ↔ Other row) → AreCodesOfAll texts coded Has
+    → AreCodesOfAll texts coded Other
+same_codes texts coded Has Other same are = record {
+  below = are.below;
+  exact = λ row. ((λ found. (same row).0 ((are.exact row).0 found)), (λ other. (are.exact row).1 ((same row).1 other)));
+}
+
+module _ (old new : List (List ℕ)) (grown : Grows old new) where
+  same_texts : (codes : List ℕ) → ((code : ℕ) → Contains codes code → code < length old) → map (slice_get new) codes ≡ map (slice_get old) codes
+  same_texts codes below = map_agree (slice_get new) (slice_get old) codes (λ code inside.
+      let own = thing_at old code (below code inside) in
+      ap (λ them. slice_get them code) grown.1 ∙ at_left old grown.0 code own.0 own.1 ∙ sym own.1)
+
+  -- rows of codes that come to others are those of either's rows
+  pub joined_codes : (coded more : List (List ℕ)) (Has Other : Row → Type 0) → AreCodesOfAll old coded Has → AreCodesOfAll new more Other
+      → AreCodesOfAll new (coded ++ more) (λ row. Has row ⊎ Other row)
+  joined_codes coded more Has Other are too = record {
+    below = λ codes inside code within. elim (Contains-append_cases coded more codes inside) [
+      | inl here ↦ (let below = are.below codes here code within in let long = ap length grown.1 ∙ length-append old grown.0 in omega (arith, below, long))
+      | inr there ↦ too.below codes there code within
+    ];
+    exact = λ row. (
+      (λ (codes, inside, is). elim (Contains-append_cases coded more codes inside) [
+        | inl here ↦ inl ((are.exact row).0 (codes, here, sym (same_texts codes (are.below codes here)) ∙ is))
+        | inr there ↦ inr ((too.exact row).0 (codes, there, is))
+      ]),
+      (λ has. elim has [
+        | inl own ↦ let found = (are.exact row).1 own in
+            (found.0, Contains-append_left coded more found.0 found.1, same_texts found.0 (are.below found.0 found.1) ∙ found.2)
+        | inr other ↦ let found = (too.exact row).1 other in (found.0, Contains-append_right coded more found.0 found.1, found.2)
+      ]),
+    );
+  }
+
+-- an answer of one of the queries, or of one more, is one of either
+pub one_answers_more : (Holds : Fact (List ℕ) → Type 0) (queries : List ConjunctiveQuery) (query : ConjunctiveQuery) (row : Row)
+    → (IsAnswerOfOne Holds queries row ⊎ IsAnswerOver Holds query row) ↔ IsAnswerOfOne Holds (queries ++ query ∷ []) row
+one_answers_more Holds queries query row = (
+  λ either. elim either [
+    | inl (own, inside, answer) ↦ (own, Contains-append_left queries (query ∷ []) own inside, answer)
+    | inr answer ↦ (query, Contains-append_right queries (query ∷ []) query (Contains-head query []), answer)
+  ],
+  λ (own, inside, answer). elim (Contains-push_cases queries query own inside) [
+    | inl old ↦ inl (own, old, answer)
+    | inr last ↦ inr (subst (λ it. IsAnswerOver Holds it row) (sym last) answer)
+  ],
+)
+
+-- where none is asked, there is none
+pub no_codes : (texts : List (List ℕ)) (Holds : Fact (List ℕ) → Type 0) → AreCodesOfAll texts [] (IsAnswerOfOne Holds [])
+no_codes texts Holds = record {
+  below = λ codes inside. absurd (Contains-nil codes inside);
+  exact = λ row. ((λ (codes, inside, is). absurd (Contains-nil codes inside)), (λ (query, inside, answer). absurd (Contains-nil query inside)));
+}
 
 -- ---- the text
 

@@ -1,12 +1,13 @@
 -- What laws on runs say.
 use Rattle.std.specs.Prelude.{◌≡◌, ◌↔◌, ℕ, Bool, List, map, Contains}
 use Rattle.esto_catalog.specs.declared.catalogue.Store.{Store}
-use Rattle.esto_plan.specs.Rows.{IsRowOf, held_by}
+use Rattle.esto_plan.specs.Rows.{IsRowOf, IsSafeQuery, held_by}
 use Rattle.esto_semantics.specs.Access.{Patterns}
 use Rattle.esto_semantics.specs.Facts.{Database}
 use Rattle.esto_semantics.specs.Listed.{candidate, IsRewriting}
 use Rattle.esto_semantics.specs.Queries.{ConjunctiveQuery, IsAnswer, IsAnswerInto}
 use Rattle.esto_semantics.specs.Rules.{Rule, Meets}
+use Rattle.esto_semantics.specs.Unions.{IsUnionFragmentAnswer}
 use Rattle.esto_semantics.specs.Views.{IsViewRow}
 use Rattle.esto_semantics.specs.declared.fact.Fact.{Fact}
 use Rattle.esto_semantics.specs.declared.fact.Value.{Value}
@@ -16,11 +17,15 @@ use Rattle.esto_stores.specs.Rows.{Row}
 use Rattle.esto_run.specs.Answers.{AreRising}
 use Rattle.esto_run.specs.Opened.{AreOpened}
 use Rattle.esto_run.specs.Stores.{IsFileRow}
-use Rattle.esto_run.specs.Used.{AreUsed}
+use Rattle.esto_run.specs.Used.{AreUsed, AreUsedByAll}
 
 -- The row is an answer of the query over the fragments, where a predicate tells which rows they hold.
 abbrev pub IsAnswerOver : (Fact (List ℕ) → Type 0) → ConjunctiveQuery → Row → Type 0
 IsAnswerOver Holds query row = IsAnswerInto (λ text. text) query Holds row
+
+-- The row is an answer of one of the queries over the fragments.
+abbrev pub IsAnswerOfOne : (Fact (List ℕ) → Type 0) → List ConjunctiveQuery → Row → Type 0
+IsAnswerOfOne Holds queries row = (query : ConjunctiveQuery) × Contains queries query × IsAnswerOver Holds query row
 
 -- Each fragment that the query uses is one of these numbers.
 abbrev pub UsesOnly : List ℕ → ConjunctiveQuery → Type 0
@@ -51,10 +56,25 @@ RewritingsAnswerQueries =
     → IsAnswer query database values
     ↔ ((row : Row) × (values ≡ map Text row) × IsAnswerOver (IsFileRow stores files) (candidate plan set) row)
 
+-- For each database of which the files of the fragments that queries over fragments use hold the view rows, the union's answers are exactly the rows over the
+-- files that are an answer of one of them.
+abbrev pub UnionsAnswerOverFiles : Type 0
+UnionsAnswerOverFiles =
+    (views : List ConjunctiveQuery) (database : Database) (queries : List ConjunctiveQuery) (stores : List Store) (files : ℕ → List ℕ)
+    → ((query : ConjunctiveQuery) → Contains queries query → IsSafeQuery query × FilesHoldViewRows views database query stores files)
+    → (values : List Value)
+    → IsUnionFragmentAnswer views queries database values
+    ↔ ((row : Row) × (values ≡ map Text row) × IsAnswerOfOne (IsFileRow stores files) queries row)
+
 -- A set's fragments are one list.
 abbrev pub UsedAreOne : Type 0
 UsedAreOne = (atoms : List (Fact Term)) (set : List Bool) (fragments others : List ℕ)
     → AreUsed atoms set fragments → AreUsed atoms set others → fragments ≡ others
+
+-- So are those of several queries.
+abbrev pub UsedByAllAreOne : Type 0
+UsedByAllAreOne = (queries : List ConjunctiveQuery) (fragments others : List ℕ)
+    → AreUsedByAll queries fragments → AreUsedByAll queries others → fragments ≡ others
 
 -- Rising rows are one list where they are the same rows.
 abbrev pub RisingRowsAreOne : Type 0

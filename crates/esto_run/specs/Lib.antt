@@ -4,3 +4,5 @@ pub mod Used
 pub mod Stored
 pub mod Answers
 pub mod Laws
+pub mod Picks
+pub mod Coded

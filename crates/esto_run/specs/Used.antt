@@ -1,6 +1,8 @@
 -- The fragments that a set of a plan's atoms uses.
-use Rattle.std.specs.Prelude.{◌≡◌, ◌↔◌, ◌⊎◌, ℕ, ◌<◌, Bool, List, [], ◌∷◌, ◌++◌, Some, slice_get, Contains, AllPairs}
+use Rattle.std.specs.Prelude.{◌≡◌, ◌≢◌, ◌↔◌, ◌⊎◌, ℕ, ◌<◌, Bool, List, [], ◌∷◌, ◌++◌, Some, map, slice_get, Contains, AllPairs}
+use Rattle.std.specs.List.{flat_map}
 use Rattle.esto_term.specs.declared.term.Term.{Term}
+use Rattle.esto_semantics.specs.Queries.{ConjunctiveQuery}
 use Rattle.esto_semantics.specs.Sets.{Has}
 use Rattle.esto_semantics.specs.declared.fact.Fact.{Fact}
 
@@ -24,3 +26,24 @@ abbrev pub AddsUse : List Bool → ℕ → ℕ → List ℕ → List ℕ → Typ
 AddsUse set number fragment old new =
     ((¬ (Has set number) ⊎ (Has set number × Contains old fragment)) × (new ≡ old))
     ⊎ (Has set number × ¬ (Contains old fragment) × (new ≡ old ++ fragment ∷ []))
+
+-- ---- the fragments that several queries use
+
+-- The number stands at the place of the list, and at no lesser one.
+pub record StandsFirst (numbers : List ℕ) (number place : ℕ) : Type 0 where
+  pub here : slice_get numbers place ≡ Some number
+  pub least : (lesser : ℕ) → lesser < place → slice_get numbers lesser ≢ Some number
+
+-- These are exactly the numbers of the list, each once, in the order in which they first stand in it.
+pub record AreFirsts (numbers firsts : List ℕ) : Type 0 where
+  pub exact : (number : ℕ) → Contains firsts number ↔ Contains numbers number
+  pub rising : AllPairs (λ number other. (place later : ℕ)
+      → StandsFirst numbers number place → StandsFirst numbers other later → place < later) firsts
+
+-- The fragments of atoms, in order.
+abbrev pub fragments_of : List (Fact Term) → List ℕ
+fragments_of atoms = map (λ atom. atom.relation) atoms
+
+-- These are exactly the fragments of the queries' atoms, each once, in the order in which they first come, query after query and atom after atom.
+abbrev pub AreUsedByAll : List ConjunctiveQuery → List ℕ → Type 0
+AreUsedByAll queries fragments = AreFirsts (flat_map (λ query. fragments_of query.body) queries) fragments

@@ -1,5 +1,5 @@
 //! Laws of runs.
-ghost use Rattle.esto_run.specs.Laws.{AnswersAreOverFiles, RewritingsAnswerQueries, UsedAreOne, RisingRowsAreOne};
+ghost use Rattle.esto_run.specs.Laws.{AnswersAreOverFiles, RewritingsAnswerQueries, UnionsAnswerOverFiles, UsedAreOne, UsedByAllAreOne, RisingRowsAreOne};
 
 /// A law: where the rows of the fragments that a query over fragments uses are those of their files, its answers over
 /// the rows are those over the files, whatever the other fragments hold.
@@ -13,9 +13,20 @@ pub fn rewritings_answer_queries()
     ensures { RewritingsAnswerQueries }
 {}
 
+/// A law: for each database of which the files of the fragments that safe queries over fragments use hold the view rows,
+/// the answers of their union are exactly the rows over the files that are an answer of one of them.
+pub fn unions_answer_over_files()
+    ensures { UnionsAnswerOverFiles }
+{}
+
 /// A law: the fragments that a set uses are one list.
 pub fn used_fragments_are_one()
     ensures { UsedAreOne }
+{}
+
+/// A law: the fragments that several queries use are one list.
+pub fn used_by_all_are_one()
+    ensures { UsedByAllAreOne }
 {}
 
 /// A law: rows that rise are one list where they are the same rows, so a set of rows has one text.

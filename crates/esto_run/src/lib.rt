@@ -1,22 +1,28 @@
 //! The run of a rewriting: from the bytes of fragments' files to the text of a query's answers. Start from
-//! `fragments_of_set`, `open_fragment` and `run_text`.
+//! `fragments_of_set`, `open_fragment` and `run_text`; for several sets
+//! together, from `fragments_of_picks` and `union_text`.
 #![tactic(auto)]
 
 mod answers;
 mod held;
 mod laws;
 mod opened;
+mod picks;
 mod run;
 mod store;
 mod stored;
+mod unions;
 mod used;
 
 pub use answers::answers_text;
 pub use held::FragmentRows;
 pub use laws::{
-    answers_are_over_files, rewritings_answer_queries, rising_rows_are_one, used_fragments_are_one,
+    answers_are_over_files, rewritings_answer_queries, rising_rows_are_one,
+    unions_answer_over_files, used_by_all_are_one, used_fragments_are_one,
 };
 pub use opened::{no_rows, open_fragment};
+pub use picks::Pick;
 pub use run::{rows_of_set, run_text};
 pub use store::open_store;
-pub use used::fragments_of_set;
+pub use unions::union_text;
+pub use used::{fragments_of_picks, fragments_of_set};

@@ -1,6 +1,6 @@
 //! The run of a set of a plan's atoms over the rows of fragments.
-ghost use Rattle.std.specs.Prelude.{◌≡◌, ◌↔◌, ◌<◌, ℕ, List, Bool, length, Contains, IfOk};
-ghost use Rattle.esto_columns.specs.Interned.{AreCodesOf};
+ghost use Rattle.std.specs.Prelude.{◌≡◌, ◌↔◌, ℕ, List, Bool, length, map, Contains, IfOk};
+ghost use Rattle.esto_columns.specs.Interned.{Grows};
 ghost use Rattle.esto_plan.specs.Planned.{IsSafeOrder};
 ghost use Rattle.esto_plan.specs.Rows.{IsRowOf, held_by};
 ghost use Rattle.esto_semantics.specs.Access.{IsOrder};
@@ -8,13 +8,14 @@ ghost use Rattle.esto_semantics.specs.Listed.{candidate};
 ghost use Rattle.esto_views.specs.Fragments.{patterns_of};
 ghost use Rattle.esto_views.specs.Plans.{plan_query, IsPlanOver};
 ghost use Rattle.esto_run.specs.Answers.{AreRising, IsAnswersText};
+ghost use Rattle.esto_run.specs.Coded.{AreCodesOfAll, IsStoredRow};
 ghost use Rattle.esto_run.specs.Laws.{IsAnswerOver};
-ghost use Rattle.esto_run.specs.Opened.{AreRowsFor, rows_held};
+ghost use Rattle.esto_run.specs.Opened.{AreRowsFor, HaveTexts, held_of, rows_held};
 
 use crate::answers::lent_answers_text;
 use crate::held::FragmentRows;
 use esto_access::Order;
-use esto_columns::{Codes, Rows, coded_rows_stay_coded, sorted_rows, sorted_texts};
+use esto_columns::{Codes, Rows, StoredRows, sorted_rows, sorted_texts};
 use esto_exec::{plans_are_runnable, run_plan};
 use esto_plan::{plan_of, results_are_candidate_answers, results_have_texts};
 use esto_query::Query;
@@ -30,6 +31,37 @@ struct CodedAnswers {
     rows: Rows,
 }
 
+/// The answers of the candidate of a set of the plan's atoms over the stored rows, as rows of codes. Constants get codes.
+pub(crate) fn coded_answers(
+    alloc: Global,
+    order: &Order,
+    plan: &Plan,
+    fragments: &FragmentDefs,
+    stored: &[StoredRows],
+    codes: &mut Codes,
+) -> Result<Rows, OutOfMemory>
+    requires over { IsPlanOver plan.now fragments.now }
+    requires order { IsSafeOrder (patterns_of fragments.now) (plan_query plan.now) order.now }
+    requires texts { HaveTexts codes.old stored.now }
+    requires rows { AreRowsFor fragments.now (map (held_of codes.old) stored.now) }
+    ensures grown { Grows codes.old codes.new }
+    ensures arity { IfOk result (λ it. it.arity ≡ length plan.now.head) }
+    ensures answers { IfOk result (λ it. (set : List Bool)
+        → IsOrder (patterns_of fragments.now) (plan_query plan.now).body set order.now
+        → AreCodesOfAll codes.new it.rows
+        (IsAnswerOver (IsStoredRow codes.old stored.now) (candidate (plan_query plan.now) set))) }
+{
+    plans_are_runnable();
+    results_are_candidate_answers();
+    results_have_texts();
+    chosen_atoms_are_named();
+    let steps = plan_of(alloc, order, plan, fragments, codes)?;
+    // the count is read so that the texts are known to be distinct
+    let _count = codes.len();
+    let rows = run_plan(alloc, &steps, stored)?;
+    Ok(rows)
+}
+
 /// The answers of the candidate of a set of the plan's atoms over the rows of the fragments, as rows of codes.
 fn answers_of_set(
     alloc: Global,
@@ -41,26 +73,14 @@ fn answers_of_set(
     requires over { IsPlanOver plan.now fragments.now }
     requires order { IsSafeOrder (patterns_of fragments.now) (plan_query plan.now) order.now }
     requires rows { AreRowsFor fragments.now opened }
-    ensures texts { IfOk result (λ it. (row : List ℕ) → Contains it.rows.rows row
-        → (code : ℕ) → Contains row code → code < length it.codes) }
-    ensures answers { IfOk result (λ it. (set : List Bool)
+    ensures { IfOk result (λ it. (set : List Bool)
         → IsOrder (patterns_of fragments.now) (plan_query plan.now).body set order.now
-        → (row : List (List ℕ))
-        → ((own : List ℕ) × Contains it.rows.rows own × AreCodesOf it.codes own row)
-        ↔ IsAnswerOver (IsRowOf (held_by (rows_held opened)))
-        (candidate (plan_query plan.now) set) row) }
+        → AreCodesOfAll it.codes it.rows.rows (IsAnswerOver
+        (IsRowOf (held_by (rows_held opened))) (candidate (plan_query plan.now) set))) }
 {
-    plans_are_runnable();
-    results_are_candidate_answers();
-    results_have_texts();
-    coded_rows_stay_coded();
-    chosen_atoms_are_named();
     let (codes, stored) = opened.into_parts();
     let mut codes = codes;
-    let steps = plan_of(alloc, order, plan, fragments, &mut codes)?;
-    // the count is read so that the texts are known to be distinct
-    let _count = codes.len();
-    let rows = run_plan(alloc, &steps, stored.items())?;
+    let rows = coded_answers(alloc, order, plan, fragments, stored.items(), &mut codes)?;
     Ok(CodedAnswers { codes, rows })
 }
 

@@ -18,7 +18,7 @@ load_files-requires g c =
 pub returns-clause-answer : goal.returns-clause-answer
 returns-clause-answer g c =
     loads_by (g.S.Shelf.files c.args.shelf.now) c.args.catalogue.now.datasets IsAny c.in_ok-numbers.numbers c.in_ok-numbers.ensures
-    c.loaded_facts_are_flat.ensures c.in_ok-demand_files.ensures _ c.load_files.result c.load_files.ensures.answer
+    c.loaded_facts_are_flat.ensures c.in_ok-demand_files.ensures _ _ _ c.load_files.result c.load_files.ensures.answer
 
 pub returns-in_err-numbers-clause-asked : goal.returns-in_err-numbers-clause-asked
 returns-in_err-numbers-clause-asked g c =
@@ -34,4 +34,4 @@ returns-in_err-demand_files-clause-asked g c =
 pub returns-clause-asked : goal.returns-clause-asked
 returns-clause-asked g c =
     loads_by_asks (g.S.Shelf.files c.args.shelf.now) c.args.catalogue.now.datasets IsAny c.in_ok-numbers.numbers c.in_ok-numbers.ensures
-    c.loaded_facts_are_flat.ensures c.in_ok-demand_files.ensures c.load_files.result c.load_files.ensures.answer
+    c.loaded_facts_are_flat.ensures c.in_ok-demand_files.ensures _ _ _ c.load_files.result c.load_files.ensures.answer

@@ -1,5 +1,6 @@
 use Rattle.esto_opening.proofs.AlikeLemmas.{catalogues_open, fragment_agree, fragments_agree, queries_open}
 use Rattle.esto_opening.proofs.StoreLemmas.{one_content, one_fault_in, one_file_named}
+use Rattle.esto_opening.proofs.UnionLemmas.{unions_open}
 use Rattle.esto_opening.proofs.laws.openings_are_one.Goals as goal
 
 pub returns-clause-catalogues : goal.returns-clause-catalogues
@@ -13,6 +14,11 @@ returns-clause-queries c = λ files name catalogue other alike.
     queries_open c.catalogues_are_sound.ensures c.catalogues_are_determined.ensures.catalogue c.catalogues_are_determined.ensures.apart
     c.catalogues_are_determined.ensures.error c.readings_are_determined.ensures.reading c.readings_are_determined.ensures.apart
     c.readings_are_determined.ensures.fault files catalogue other alike name
+
+pub returns-clause-unions : goal.returns-clause-unions
+returns-clause-unions c = λ files name catalogue other alike.
+    unions_open c.catalogues_are_sound.ensures c.union_readings_are_determined.ensures.reading c.union_readings_are_determined.ensures.apart
+    c.union_readings_are_determined.ensures.fault files catalogue other alike name
 
 pub returns-clause-fragment : goal.returns-clause-fragment
 returns-clause-fragment c = λ files catalogue other number alike. fragment_agree files catalogue other alike number

@@ -1,0 +1,66 @@
+-- Unions of queries that are opened, and the text of their rows.
+use Rattle.std.specs.Prelude.{◌≡◌, ◌↔◌, ℕ, ◌<◌, List, [], ◌∷◌, length, All, Contains, Option, Some}
+use Rattle.esto_catalog.specs.declared.catalogue.Catalogue.{Catalogue}
+use Rattle.esto_ports.specs.Files.{Files}
+use Rattle.esto_query.specs.Schemas.{arities_of}
+use Rattle.esto_query.specs.declared.query.Query.{Query}
+use Rattle.esto_read.specs.Unions.{IsUnionReading}
+use Rattle.esto_read.specs.declared.read.NamedQuery.{NamedQuery}
+use Rattle.esto_run.specs.Answers.{rows_text}
+use Rattle.esto_stores.specs.Rows.{Row}
+use Rattle.esto_opening.specs.Alike.{AreSameQueries}
+use Rattle.esto_opening.specs.Calm.{Leads}
+use Rattle.esto_opening.specs.Fetch.{HasWithin}
+use Rattle.esto_opening.specs.Opening.{opens_query, opens_union, unnamed}
+use Rattle.esto_opening.specs.declared.opening.TheConstants.{QUERY_LIMIT}
+
+-- The heads of the queries are of one length.
+abbrev pub HaveOneHeadLength : List Query → Type 0
+HaveOneHeadLength queries = (query other : Query) → Contains queries query → Contains queries other → length query.head ≡ length other.head
+
+-- At least one query, and all heads of one length.
+pub record FormUnion (queries : List Query) : Type 0 where
+  pub some : 0 < length queries
+  pub lengths : HaveOneHeadLength queries
+
+-- The text of rows under the names of the first query's head.
+abbrev pub union_rows_text : List Query → List Row → List ℕ
+union_rows_text [] rows = []
+union_rows_text (query ∷ queries) rows = rows_text query rows
+
+-- Each row has as many cells as each query's head has terms.
+abbrev pub FitHeads : List Query → List Row → Type 0
+FitHeads queries rows = (query : Query) → Contains queries query → All (λ row. length row ≡ length query.head) rows
+
+-- The file is no longer than a query may be, and its bytes after one leading mark are the text of these queries.
+pub record FilesSayUnion (files : Files) (name : List ℕ) (catalogue : Catalogue) (queries : List Query) : Type 0 where
+  pub bytes : List ℕ
+  pub has : HasWithin files name QUERY_LIMIT bytes
+  pub named : List NamedQuery
+  pub are_queries : IsUnionReading catalogue.words (arities_of catalogue.schema) bytes named
+  pub queries_are : queries ≡ unnamed named
+
+-- ---- laws
+
+-- Queries that are opened form a union.
+abbrev pub OpenedFormUnions : Type 0
+OpenedFormUnions =
+    (files : Option Files) (name : List ℕ) (catalogue : Catalogue) (queries : List Query) → (opens_union files name catalogue).goes queries → FormUnion queries
+
+-- The queries that files say are opened.
+abbrev pub SaidUnionsOpen : Type 0
+SaidUnionsOpen =
+    (files : Files) (name : List ℕ) (catalogue : Catalogue) (queries : List Query) → FilesSayUnion files name catalogue queries
+    → (opens_union (Some files) name catalogue).goes queries
+
+-- A file is opened as the union of one query exactly where it is opened as that query.
+abbrev pub UnionsOfOneAreQueries : Type 0
+UnionsOfOneAreQueries =
+    (files : Option Files) (name : List ℕ) (catalogue : Catalogue) (query : Query)
+    → (opens_union files name catalogue).goes (query ∷ []) ↔ (opens_query files name catalogue).goes query
+
+-- A file that is opened as a query is opened as no other union than that of the query, and is not refused as a union.
+abbrev pub QueriesOpenAlone : Type 0
+QueriesOpenAlone =
+    (files : Files) (name : List ℕ) (catalogue : Catalogue) (query : Query) → (opens_query (Some files) name catalogue).goes query
+    → Leads (opens_union (Some files) name catalogue) (AreSameQueries (query ∷ [])) (λ _. ⊥)

@@ -1,0 +1,82 @@
+//! The union of queries of a command: its file is fetched, and then read.
+ghost use Rattle.std.specs.Prelude.{◌≡◌, ◌<◌, ◌≤◌, length, IfOk};
+ghost use Rattle.esto_ports.specs.Faults.{Rises};
+ghost use Rattle.esto_opening.specs.Answers.{Answers};
+ghost use Rattle.esto_opening.specs.Asked.{AsksIn};
+ghost use Rattle.esto_opening.specs.Opening.{reads_union, opens_union, unnamed};
+ghost use Rattle.esto_opening.specs.Unions.{FitHeads, FormUnion, union_rows_text};
+
+use crate::fetching::fetch;
+use crate::opening::QUERY_LIMIT;
+use crate::status::Status;
+use esto_catalog::{Catalogue, catalogues_are_sound};
+use esto_ports::Shelf;
+use esto_query::Query;
+use esto_read::{NamedQuery, read_union};
+use esto_run::answers_text;
+use esto_term::{Bytes, List, OutOfMemory, Replicate, Text, TextRows};
+use esto_text::ReadError;
+use std::alloc::Global;
+
+/// Queries, in order.
+pub type Queries = List<Query>;
+
+// The queries without the names of their heads.
+fn unnamed(alloc: Global, named: &[NamedQuery]) -> Result<Queries, OutOfMemory>
+    ensures { IfOk result (λ queries. queries ≡ unnamed named.now) }
+{
+    let mut queries = List::new(alloc);
+    'named: for query in named {
+        queries.push(query.query.copy(alloc)?)?;
+    }
+    Ok(queries)
+}
+
+// The queries of the union over the catalogue's words, or the status of the first fault of its text.
+fn union_of(alloc: Global, bytes: &Bytes, catalogue: &Catalogue) -> Result<Queries, Status>
+    ensures answer { Answers (reads_union catalogue.now bytes.now) ⊥ result }
+    ensures union { IfOk result FormUnion }
+{
+    catalogues_are_sound();
+    match read_union(alloc, bytes.bytes(), &catalogue.words, &catalogue.schema) {
+        Ok(named) => {
+            let queries = unnamed(alloc, named.items())?;
+            Ok(queries)
+        }
+        Err(ReadError::Fault(fault)) => Err(Status::BadQuery(fault)),
+        Err(ReadError::OutOfMemory) => Err(Status::OutOfMemory),
+    }
+}
+
+/// Fetches and reads a union of queries over a catalogue. It has at least one query, and the heads of its queries are of
+/// one length.
+#[tactic(auto, using(crate::proofs::Steps::steps, crate::proofs::AskedSteps::asked_steps))]
+pub fn open_union<S: Shelf>(
+    alloc: Global,
+    shelf: &mut S,
+    name: &Text,
+    catalogue: &Catalogue,
+) -> Result<Queries, Status>
+    ensures answer { Answers (opens_union (S.files shelf.old) name.now catalogue.now)
+        (Rises S.faults shelf.old shelf.new) result }
+    ensures union { IfOk result FormUnion }
+    ensures asked { AsksIn (S.asked shelf.old) (S.asked shelf.new)
+        (opens_union (S.files shelf.old) name.now catalogue.now) result }
+    ensures files { S.files shelf.new ≡ S.files shelf.old }
+    ensures later { S.faults shelf.old ≤ S.faults shelf.new }
+{
+    let bytes = fetch(alloc, shelf, name, QUERY_LIMIT)?;
+    let queries = union_of(alloc, &bytes, catalogue)?;
+    Ok(queries)
+}
+
+/// The text of rows of answers of a union: a CSV record of the names of its first query's head, and a record of each row,
+/// in order.
+pub fn union_text(alloc: Global, queries: &Queries, rows: &TextRows) -> Result<Bytes, OutOfMemory>
+    requires union { FormUnion queries.now }
+    requires fit { FitHeads queries.now rows.now }
+    ensures { IfOk result (λ text. text ≡ union_rows_text queries.now rows.now) }
+{
+    let text = answers_text(alloc, queries.item(0), rows)?;
+    Ok(text)
+}
