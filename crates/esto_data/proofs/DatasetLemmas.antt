@@ -8,7 +8,7 @@ use Rattle.std.proofs.lemmas.List.Quantifiers.{all_pairs_push}
 use Rattle.std.proofs.lemmas.Option.{same_Some, slice_get-get_or, slice_get_within}
 use Rattle.esto_catalog.specs.declared.dataset.Dataset.{Dataset}
 use Rattle.esto_course.specs.Course.{Course, IsQuiet, Stops, judges, demands, gives, and_then, each}
-use Rattle.esto_course.specs.Course.Stops.{is_free, refused}
+use Rattle.esto_course.specs.Course.Stops.{refused}
 use Rattle.esto_course.proofs.Asking.{first_way_asks, quiet_demands, quiet_judges, quiet_then}
 use Rattle.esto_course.proofs.Steps.{Leads, first_stops, then_stops, then_goes, gives_goes, caused_more, each_next, each_stops, each_goes}
 use Rattle.esto_fill.specs.Files.{FindsFault, IsLoadedFrom, dataset_fault}
@@ -25,7 +25,7 @@ use Rattle.esto_term.proofs.ListLemmas.{Contains-cases, Contains-head, Contains-
 use Rattle.esto_term.specs.declared.term.Term.{Term}
 use Rattle.esto_opening.specs.Answers.{IsWant, IsCaused}
 use Rattle.esto_opening.specs.Asked.{AsksIn}
-use Rattle.esto_data.specs.Datasets.{AddsNeeded, AreFactsOfFiles, AreNeeded, IsSourceAt, Loads, LoadsAsking, LoadsFiles, LoadsMore, LoadsNext, ReadsData, Source, demands_file, demands_files, loads, loads_files, loads_next, opens_dataset, opens_source, reads_data}
+use Rattle.esto_data.specs.Datasets.{AddsNeeded, AreFactsOfFiles, AreNeeded, IsSourceAt, Loads, LoadsAsking, LoadsFiles, LoadsMore, LoadsNext, ReadsData, Source, demands_file, demands_files, loads, loads_files, loads_next, opens_dataset, reads_data}
 use Rattle.esto_opening.specs.Fetch.{fetches}
 use Rattle.esto_data.specs.declared.datasets.TheConstants.{DATASET_LIMIT}
 use Rattle.esto_opening.specs.declared.status.Status.{Status}

@@ -102,13 +102,6 @@ module _ (old new : Option ℕ) where
       failed_goes None new counts = tt
       failed_goes (Some old) new counts = counts
 
-  pub puts_wanting : CountsOne old new (Err sink.OutOfMemory) → PutsOnce old new OutOfMemory
-  puts_wanting counts = by_told old new counts
-    where
-      by_told : (old new : Option ℕ) → CountsOne old new (Err sink.OutOfMemory) → PutsOnce old new OutOfMemory
-      by_told None new counts = inl tt
-      by_told (Some old) new counts = elim counts [ inl goes ↦ inl goes | inr stays ↦ inr (refl, stays) ]
-
 -- where memory is wanting before the put there is none
 pub puts_none : (told : Option ℕ) → PutsOnce told told OutOfMemory
 puts_none told = inr (refl, stays told)

@@ -1,5 +1,21 @@
+use Rattle.std.proofs.Common.{Err, Ok, ap}
+use Rattle.esto_course.proofs.Asking.{quiet_gives, quiet_judges}
+use Rattle.esto_course.proofs.Steps.{gives_goes}
+use Rattle.esto_opening.specs.declared.reply.Reply.TheVariants.{Done}
+use Rattle.esto_opening.proofs.AskedSteps.{exit_asks, handed_asks, later_asks, quiet_asks}
 use Rattle.esto_data.proofs.StepLemmas.{rows_wide}
 use Rattle.esto_data.proofs.answering.answer_query.Goals as goal
 
 pub answers_text-requires : goal.answers_text-requires
 answers_text-requires g c = rows_wide c.args.query.now c.in_ok-loaded.loaded.facts c.in_ok-rows.rows c.in_ok-rows.ensures
+
+pub returns-in_err-rows-clause-asked : goal.returns-in_err-rows-clause-asked
+returns-in_err-rows-clause-asked g c =
+    handed_asks _ _ _ c.from_residual-in_err-rows.ensures.1
+    (later_asks _ _ c.in_ok-loaded.ensures.asked (exit_asks _ _ (quiet_asks _ _ (Err _) (quiet_judges _ _) c.in_err-rows.ensures)))
+
+pub returns-clause-asked : goal.returns-clause-asked
+returns-clause-asked g c =
+    later_asks _ _ c.in_ok-loaded.ensures.asked
+    (later_asks _ _ (quiet_asks _ _ (Ok c.in_ok-rows.rows) (quiet_judges _ _) c.in_ok-rows.ensures)
+    (quiet_asks _ _ (Ok (Done c.in_ok-text.text)) (quiet_gives _ _) (gives_goes _ _ _ (ap Done c.in_ok-text.ensures))))

@@ -1,8 +1,16 @@
-use Rattle.std.proofs.Common.{◌<◌, ◌≤◌, ap, arith, get_or, length, ◌∙◌}
+use Rattle.std.proofs.Common.{◌<◌, ◌≤◌, ap, arith, get_or, length, refl, ◌∙◌}
 use Rattle.esto_ports.specs.Faults.{Rises}
 use Rattle.esto_opening.proofs.Steps.{end_stops}
-use Rattle.esto_data.proofs.DatasetLemmas.{loading_ends, loading_exit, loading_goes, loading_stop_asks, loading_stops, number_read}
+use Rattle.esto_data.proofs.DatasetLemmas.{loading_ends, loading_exit, loading_goes, loading_starts, loading_stop_asks, loading_stops, number_read}
 use Rattle.esto_data.proofs.datasets.load_files.Goals as goal
+
+pub numbers-init : goal.numbers-init
+numbers-init g c = (
+  refl,
+  omega arith,
+  loading_starts (g.S.Shelf.files c.args.shelf.now) c.args.catalogue.now.datasets c.args.numbers.now (g.S.Shelf.asked c.args.shelf.now)
+      c.nothing_loaded-loaded.result c.nothing_loaded-loaded.ensures.facts c.nothing_loaded-loaded.ensures.next,
+)
 
 pub returns-in_err-loaded-clause-answer : goal.returns-in_err-loaded-clause-answer
 returns-in_err-loaded-clause-answer g c =

@@ -1,6 +1,6 @@
 use Rattle.std.proofs.Common.{refl}
 use Rattle.esto_top.specs.Outcome.Finishes.{whole, cut}
-use Rattle.esto_top.proofs.AskedLemmas.{puts_failed, puts_none, puts_wanting, puts_whole}
+use Rattle.esto_top.proofs.AskedLemmas.{puts_failed, puts_none, puts_whole}
 use Rattle.esto_top.proofs.ending.finish.Goals as goal
 
 pub returns-in-Ok-clause-put : goal.returns-in-Ok-clause-put
@@ -21,8 +21,3 @@ pub returns-in-Err-Failed-clause-puts : goal.returns-in-Err-Failed-clause-puts
 returns-in-Err-Failed-clause-puts g c =
     let counts = rw c.in-Err-Failed.field-0-is at c.in-Err-Failed.ensures.puts in
     puts_failed _ _ _ counts
-
-pub returns-in-Err-OutOfMemory-clause-puts : goal.returns-in-Err-OutOfMemory-clause-puts
-returns-in-Err-OutOfMemory-clause-puts g c =
-    let counts = rw c.in-Err-OutOfMemory.field-0-is at c.in-Err-OutOfMemory.ensures.puts in
-    puts_wanting _ _ counts

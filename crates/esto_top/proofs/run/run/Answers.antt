@@ -1,6 +1,7 @@
-use Rattle.std.proofs.Common.{arith}
+use Rattle.std.proofs.Common.{◌∙◌, arith}
 use Rattle.esto_course.proofs.Steps.{at_exit}
 use Rattle.esto_top.proofs.RunLemmas.{course_goes, course_stops}
+use Rattle.esto_opening.proofs.AskedSteps.{exit_asks, handed_asks, later_asks}
 use Rattle.esto_opening.proofs.Steps.{end_stops}
 use Rattle.esto_top.proofs.run.run.Goals as goal
 
@@ -19,3 +20,22 @@ returns-clause-answer g c =
     course_goes (g.S.Shelf.files c.args.shelf.now) (g.S.Shelf.files c.open_catalogue.new.shelf) (g.S.Shelf.files c.open_query.new.shelf)
     c.in_ok-catalogue.ensures.files c.in_ok-query.ensures.files c.args.catalogue.now c.args.query.now c.args.number c.in_ok-catalogue.catalogue
     c.in_ok-catalogue.ensures.answer c.in_ok-query.query c.in_ok-query.ensures.answer c.in_ok-reply.reply c.in_ok-reply.ensures.answer
+
+pub returns-in_err-query-clause-asked : goal.returns-in_err-query-clause-asked
+returns-in_err-query-clause-asked g c =
+    let late = rw c.in_ok-catalogue.ensures.files at c.in_err-query.ensures.asked in
+    handed_asks _ _ _ c.from_residual-in_err-query.ensures.1 (later_asks _ _ c.in_ok-catalogue.ensures.asked (exit_asks _ _ late))
+
+pub returns-in_err-reply-clause-asked : goal.returns-in_err-reply-clause-asked
+returns-in_err-reply-clause-asked g c =
+    let same = c.in_ok-query.ensures.files ∙ c.in_ok-catalogue.ensures.files in
+    let later = rw c.in_ok-catalogue.ensures.files at c.in_ok-query.ensures.asked in
+    let last = rw same at c.in_err-reply.ensures.asked in
+    handed_asks _ _ _ c.from_residual-in_err-reply.ensures.1 (later_asks _ _ c.in_ok-catalogue.ensures.asked (later_asks _ _ later last))
+
+pub returns-clause-asked : goal.returns-clause-asked
+returns-clause-asked g c =
+    let same = c.in_ok-query.ensures.files ∙ c.in_ok-catalogue.ensures.files in
+    let later = rw c.in_ok-catalogue.ensures.files at c.in_ok-query.ensures.asked in
+    let last = rw same at c.in_ok-reply.ensures.asked in
+    later_asks _ _ c.in_ok-catalogue.ensures.asked (later_asks _ _ later last)

@@ -1,0 +1,5 @@
+pub mod TextLemmas
+pub mod ZipLemmas
+pub mod OneLemmas
+pub mod TellLemmas
+pub mod ExactLemmas

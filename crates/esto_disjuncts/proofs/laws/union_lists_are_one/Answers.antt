@@ -1,0 +1,5 @@
+use Rattle.esto_disjuncts.proofs.OneLemmas.{lists_one}
+use Rattle.esto_disjuncts.proofs.laws.union_lists_are_one.Goals as goal
+
+pub returns : goal.returns
+returns c = lists_one c.picks_exist.ensures.one c.members_are_one.ensures

@@ -1,0 +1,4 @@
+pub mod Members
+pub mod List
+pub mod Exact
+pub mod Laws
