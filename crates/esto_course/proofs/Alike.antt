@@ -1,9 +1,9 @@
 -- Courses that ask for the same names.
-use Rattle.std.proofs.Common.{◌≡◌, ℕ, List, [], ◌∷◌, ◌++◌, inl, inr, refl, sym, ap, subst, ◌∙◌, append-nil}
+use Rattle.std.proofs.Common.{◌≡◌, ◌⊎◌, ℕ, List, [], ◌∷◌, ◌++◌, inl, inr, refl, sym, ap, subst, ◌∙◌, append-nil}
 use Rattle.std.proofs.lemmas.List.{append_assoc}
 use Rattle.esto_course.specs.Agreement.{AskAlike, Begins, IsEnd}
 use Rattle.esto_course.specs.Course.{Course, Names, Point, AsksLater, and_then, asks_nothing, asks_once, asks_in_turn, asking_nothing, asking_once}
-use Rattle.esto_course.specs.Course.Point.{went, stopped, underway}
+use Rattle.esto_course.specs.Course.Point.{went, stopped, missing, underway}
 
 -- ---- names that begin others
 
@@ -34,21 +34,25 @@ module _ {E A : Type 0} (Goes : A → Type 0) (Stops : E → Type 0) where
   nothing_is : (names : Names) (point : Point E A) → asks_nothing Goes Stops names point → names ≡ []
   nothing_is names (went value) asks = asks.1
   nothing_is names (stopped error) asks = asks.1
+  nothing_is names missing asks = absurd asks
   nothing_is names underway asks = asks
 
-  once_is : (caused : E → Type 0) (name : List ℕ) (names : Names) (point : Point E A) → IsEnd caused point → asks_once name Goes Stops names point
-      → names ≡ name ∷ []
-  once_is caused name names (went value) is_end asks = asks.1
-  once_is caused name names (stopped error) is_end asks = asks.1
-  once_is caused name names underway is_end asks = absurd is_end
+  module _ (Lacks : Type 0) (name : List ℕ) where
+    once_is : (caused : E → Type 0) (names : Names) (point : Point E A) → IsEnd caused point → asks_once name Goes Stops Lacks names point
+        → names ≡ name ∷ []
+    once_is caused names (went value) is_end asks = asks.1
+    once_is caused names (stopped error) is_end asks = asks.1
+    once_is caused names missing is_end asks = asks.1
+    once_is caused names underway is_end asks = absurd is_end
 
-  once_begins : (name : List ℕ) (names all : Names) (point : Point E A) → all ≡ name ∷ [] → asks_once name Goes Stops names point → Begins names all
-  once_begins name names all (went value) whole asks = begins_itself names all (asks.1 ∙ sym whole)
-  once_begins name names all (stopped error) whole asks = begins_itself names all (asks.1 ∙ sym whole)
-  once_begins name names all underway whole asks = elim asks [
-    | inl none ↦ begins_any names all none
-    | inr one ↦ begins_itself names all (one ∙ sym whole)
-  ]
+    once_begins : (names all : Names) (point : Point E A) → all ≡ name ∷ [] → asks_once name Goes Stops Lacks names point → Begins names all
+    once_begins names all (went value) whole asks = begins_itself names all (asks.1 ∙ sym whole)
+    once_begins names all (stopped error) whole asks = begins_itself names all (asks.1 ∙ sym whole)
+    once_begins names all missing whole asks = begins_itself names all (asks.1 ∙ sym whole)
+    once_begins names all underway whole asks = elim asks [
+      | inl none ↦ begins_any names all none
+      | inr one ↦ begins_itself names all (one ∙ sym whole)
+    ]
 
 module _ {E A : Type 0} (caused : E → Type 0) (Goes Others : A → Type 0) (Stops OtherStops : E → Type 0) where
   pub nothing_alike : AskAlike caused (asking_nothing Goes Stops) (asking_nothing Others OtherStops)
@@ -57,17 +61,23 @@ module _ {E A : Type 0} (caused : E → Type 0) (Goes Others : A → Type 0) (St
         nothing_is Goes Stops names end here ∙ sym (nothing_is Others OtherStops others other_end there);
     begins = λ names all point end is_end here there. begins_any names all (nothing_is Goes Stops names point here);
     other_begins = λ names all point end is_end here there. begins_any names all (nothing_is Others OtherStops names point here);
+    lacks = λ names others value here there. here;
+    other_lacks = λ names others value there here. there;
   }
 
-  pub once_alike : (name : List ℕ) → AskAlike caused (asking_once name Goes Stops) (asking_once name Others OtherStops)
-  once_alike name = record {
-    one = λ names others end other_end is_end is_other here there.
-        once_is Goes Stops caused name names end is_end here ∙ sym (once_is Others OtherStops caused name others other_end is_other there);
-    begins = λ names all point end is_end here there.
-        once_begins Goes Stops name names all point (once_is Others OtherStops caused name all end is_end there) here;
-    other_begins = λ names all point end is_end here there.
-        once_begins Others OtherStops name names all point (once_is Goes Stops caused name all end is_end there) here;
-  }
+  module _ (Lacks OtherLacks : Type 0) (name : List ℕ) (apart : (value : A) → Lacks → Others value → ⊥)
+      (other_apart : (value : A) → OtherLacks → Goes value → ⊥) where
+    pub once_alike : AskAlike caused (asking_once name Goes Stops Lacks) (asking_once name Others OtherStops OtherLacks)
+    once_alike = record {
+      one = λ names others end other_end is_end is_other here there.
+          once_is Goes Stops Lacks name caused names end is_end here ∙ sym (once_is Others OtherStops OtherLacks name caused others other_end is_other there);
+      begins = λ names all point end is_end here there.
+          once_begins Goes Stops Lacks name names all point (once_is Others OtherStops OtherLacks name caused all end is_end there) here;
+      other_begins = λ names all point end is_end here there.
+          once_begins Others OtherStops OtherLacks name names all point (once_is Goes Stops Lacks name caused all end is_end there) here;
+      lacks = λ names others value here there. apart value here.0 there.0;
+      other_lacks = λ names others value there here. other_apart value there.0 here.0;
+    }
 
 -- ---- fewer errors that have a cause
 
@@ -75,6 +85,7 @@ fewer_ends : {E A : Type 0} (caused wider : E → Type 0) → ((error : E) → c
     → IsEnd wider point
 fewer_ends caused wider more (went value) is_end = tt
 fewer_ends caused wider more (stopped error) is_end = more error is_end
+fewer_ends caused wider more missing is_end = tt
 fewer_ends caused wider more underway is_end = absurd is_end
 
 -- what courses ask alike up to the ends with more causes, they ask alike up to those with fewer
@@ -86,28 +97,49 @@ fewer_alike caused wider course other more alike = record {
       alike.one names others end other_end (fewer_ends caused wider more end is_end) (fewer_ends caused wider more other_end is_other) here there;
   begins = λ names all point end is_end here there. alike.begins names all point end (fewer_ends caused wider more end is_end) here there;
   other_begins = λ names all point end is_end here there. alike.other_begins names all point end (fewer_ends caused wider more end is_end) here there;
+  lacks = alike.lacks;
+  other_lacks = alike.other_lacks;
 }
 
 -- ---- one step, and then what follows
 
--- where a chain of steps stands at a point: its first step stopped or is under way, or it went on
+-- a first step ends a chain: it lacks what it asked for, or it stopped with an error that has a cause
+EndsChain : {E A : Type 0} (caused : E → Type 0) (at : Point E A) → Type 0
+EndsChain {E = E} caused at = (at ≡ missing) ⊎ ((error : E) × (at ≡ stopped error) × caused error)
+
+-- where a chain of steps stands at a point: its first step came to an end or is under way, or it went on
 data Stands {E A B : Type 0} (caused : E → Type 0) (first : Course E A) (next : A → Course E B) (names : Names) (point : Point E B) : Type 0 where
-  early : (at : Point E A) → first.asks names at → (IsEnd caused point → (error : E) × (at ≡ stopped error) × caused error)
-      → Stands caused first next names point
+  early : (at : Point E A) → first.asks names at → (IsEnd caused point → EndsChain caused at) → Stands caused first next names point
   late : AsksLater first next names point → Stands caused first next names point
 
 stands : {E A B : Type 0} (caused : E → Type 0) (first : Course E A) (next : A → Course E B) (names : Names) (point : Point E B)
     → asks_in_turn first next names point → Stands caused first next names point
+unfolding EndsChain
 stands caused first next names (went value) asks = late asks
 stands caused first next names (stopped error) asks = elim asks [
-  | inl here ↦ early (stopped error) here (λ is_end. (error, refl, is_end))
+  | inl here ↦ early (stopped error) here (λ is_end. inr (error, refl, is_end))
   | inr there ↦ late there
 ]
+stands caused first next names missing asks = elim asks [ inl here ↦ early missing here (λ is_end. inl refl) | inr there ↦ late there ]
 stands caused first next names underway asks = elim asks [ inl here ↦ early underway here (λ is_end. absurd is_end) | inr there ↦ late there ]
 
--- the point at which a step stopped is an end of it
-stop_ends : {E A : Type 0} (caused : E → Type 0) (at : Point E A) → (error : E) × (at ≡ stopped error) × caused error → IsEnd caused at
-stop_ends caused at (error, is, because) = subst (IsEnd caused) (sym is) because
+-- the point at which a first step ends a chain is an end of it
+stop_ends : {E A : Type 0} (caused : E → Type 0) (at : Point E A) → EndsChain caused at → IsEnd caused at
+unfolding EndsChain
+stop_ends caused at ends = elim ends [
+  | inl lacks ↦ subst (IsEnd caused) (sym lacks) tt
+  | inr stop ↦ subst (IsEnd caused) (sym stop.1) stop.2
+]
+
+-- where one course goes on, the other's first step ends no chain
+never_ends : {E A : Type 0} (caused : E → Type 0) (course : Course E A) (names : Names) (at : Point E A) → (course.asks names missing → ⊥)
+    → ((error : E) → caused error → course.stops error → ⊥)
+    → course.asks names at → EndsChain caused at → ⊥
+unfolding EndsChain
+never_ends caused course names at lacks apart asks ends = elim ends [
+  | inl is ↦ lacks (subst (course.asks names) is asks)
+  | inr stop ↦ apart stop.0 stop.2 (course.asks_stops names stop.0 (subst (course.asks names) stop.1 asks))
+]
 
 module _ {E A B : Type 0} (caused : E → Type 0) (Same : A → A → Type 0) (first other : Course E A) (next other_next : A → Course E B)
     (one : (value other_value : A) → first.goes value → other.goes other_value → Same value other_value)
@@ -121,9 +153,8 @@ module _ {E A B : Type 0} (caused : E → Type 0) (Same : A → A → Type 0) (f
   chain_begins names all point end is_end (early at asks ends) (late later) =
       begins_more names later.early all later.late (here.begins names later.early at (went later.value) tt asks later.first_asks) later.all
   chain_begins names all point end is_end (late later) (early at' asks' ends') =
-      let stop = ends' is_end in
-      absurd (apart later.value stop.0 stop.2 (first.asks_goes later.early later.value later.first_asks)
-      (other.asks_stops all stop.0 (subst (other.asks all) stop.1 asks')))
+      absurd (never_ends caused other all at' (λ lacks. here.other_lacks all later.early later.value lacks later.first_asks)
+      (λ error because. apart later.value error because (first.asks_goes later.early later.value later.first_asks)) asks' (ends' is_end))
   chain_begins names all point end is_end (late later) (late later') =
       let goes = first.asks_goes later.early later.value later.first_asks in
       let goes' = other.asks_goes later'.early later'.value later'.first_asks in
@@ -145,13 +176,11 @@ module _ {E A B : Type 0} (caused : E → Type 0) (Same : A → A → Type 0) (f
   chain_one names others end other_end is_end is_other (early at asks ends) (early at' asks' ends') =
       here.one names others at at' (stop_ends caused at (ends is_end)) (stop_ends caused at' (ends' is_other)) asks asks'
   chain_one names others end other_end is_end is_other (early at asks ends) (late later) =
-      let stop = ends is_end in
-      absurd (other_apart later.value stop.0 stop.2 (other.asks_goes later.early later.value later.first_asks)
-      (first.asks_stops names stop.0 (subst (first.asks names) stop.1 asks)))
+      absurd (never_ends caused first names at (λ lacks. here.lacks names later.early later.value lacks later.first_asks)
+      (λ error because. other_apart later.value error because (other.asks_goes later.early later.value later.first_asks)) asks (ends is_end))
   chain_one names others end other_end is_end is_other (late later) (early at' asks' ends') =
-      let stop = ends' is_other in
-      absurd (apart later.value stop.0 stop.2 (first.asks_goes later.early later.value later.first_asks)
-      (other.asks_stops others stop.0 (subst (other.asks others) stop.1 asks')))
+      absurd (never_ends caused other others at' (λ lacks. here.other_lacks others later.early later.value lacks later.first_asks)
+      (λ error because. apart later.value error because (first.asks_goes later.early later.value later.first_asks)) asks' (ends' is_other))
   chain_one names others end other_end is_end is_other (late later) (late later') =
       let goes = first.asks_goes later.early later.value later.first_asks in
       let goes' = other.asks_goes later'.early later'.value later'.first_asks in
@@ -167,6 +196,8 @@ turned caused course other alike = record {
   one = λ names others end other_end is_end is_other here there. sym (alike.one others names other_end end is_other is_end there here);
   begins = alike.other_begins;
   other_begins = alike.begins;
+  lacks = alike.other_lacks;
+  other_lacks = alike.lacks;
 }
 
 module _ {E A B : Type 0} (caused : E → Type 0) (Same : A → A → Type 0) (first other : Course E A) (next other_next : A → Course E B)
@@ -174,6 +205,9 @@ module _ {E A B : Type 0} (caused : E → Type 0) (Same : A → A → Type 0) (f
     (apart : (value : A) (error : E) → caused error → first.goes value → other.stops error → ⊥)
     (other_apart : (value : A) (error : E) → caused error → other.goes value → first.stops error → ⊥) (here : AskAlike caused first other)
     (there : (value other_value : A) → first.goes value → Same value other_value → AskAlike caused (next value) (other_next other_value)) where
+  at_values : (value : A) (other_value : A) → first.goes value → other.goes other_value → AskAlike caused (next value) (other_next other_value)
+  at_values value other_value goes goes' = there value other_value goes (one value other_value goes goes')
+
   pub then_alike : AskAlike caused (and_then first next) (and_then other other_next)
   unfolding and_then
   then_alike = record {
@@ -187,4 +221,16 @@ module _ {E A B : Type 0} (caused : E → Type 0) (Same : A → A → Type 0) (f
         (turned caused first other here)
         (λ other_value value other_goes both. turned caused (next value) (other_next other_value) (there value other_value both.0 both.1)) names all point
         end is_end (stands caused other other_next names point other_asks) (stands caused first next all end asks);
+    lacks = λ names others result asks later'. elim asks [
+      | inl lacks ↦ here.lacks names later'.early later'.value lacks later'.first_asks
+      | inr later ↦
+          (at_values later.value later'.value (first.asks_goes later.early later.value later.first_asks)
+          (other.asks_goes later'.early later'.value later'.first_asks)).lacks later.late later'.late result later.next_asks later'.next_asks
+    ];
+    other_lacks = λ names others result other_asks later. elim other_asks [
+      | inl lacks ↦ here.other_lacks names later.early later.value lacks later.first_asks
+      | inr later' ↦
+          (at_values later.value later'.value (first.asks_goes later.early later.value later.first_asks)
+          (other.asks_goes later'.early later'.value later'.first_asks)).other_lacks later'.late later.late result later'.next_asks later.next_asks
+    ];
   }

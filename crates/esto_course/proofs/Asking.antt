@@ -2,7 +2,7 @@
 use Rattle.std.proofs.Common.{◌≡◌, ◌<◌, ◌≤◌, ◌+◌, ℕ, suc, List, [], ◌∷◌, ◌++◌, length, drop, get_or, drop-cons, add-one, inl, inr, refl, sym, ap, subst, append-nil}
 use Rattle.std.proofs.lemmas.List.{append_assoc, drop_all}
 use Rattle.esto_course.specs.Course.{Course, Names, Point, IsQuiet, asking_nothing, judges, gives, refuses, demands, and_then, each}
-use Rattle.esto_course.specs.Course.Point.{went, stopped, underway}
+use Rattle.esto_course.specs.Course.Point.{went, stopped, missing, underway}
 use Rattle.esto_course.proofs.Steps.{gives_goes}
 
 module _ {E A B : Type 0} (first : Course E A) (next : A → Course E B) where
@@ -23,6 +23,8 @@ module _ {E A B : Type 0} (first : Course E A) (next : A → Course E B) where
   then_asks early late value (went result) asks more =
       record { value = value; early = early; late = late; first_asks = asks; next_asks = more; all = refl }
   then_asks early late value (stopped error) asks more =
+      inr (record { value = value; early = early; late = late; first_asks = asks; next_asks = more; all = refl })
+  then_asks early late value missing asks more =
       inr (record { value = value; early = early; late = late; first_asks = asks; next_asks = more; all = refl })
   then_asks early late value underway asks more =
       inr (record { value = value; early = early; late = late; first_asks = asks; next_asks = more; all = refl })

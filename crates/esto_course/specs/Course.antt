@@ -2,10 +2,11 @@
 use Rattle.std.specs.Prelude.{◌≡◌, ◌⊎◌, ℕ, suc, List, [], ◌∷◌, ◌++◌, Result, Ok, Err}
 use mathlib.Core.Logic.◌⊎◌.{inl, inr}
 
--- How far a step has come: it went on with a value, it stopped with an error, or it is under way.
+-- How far a step has come: it went on with a value, it stopped with an error, the last name that it asked for is of nothing that there is, or it is under way.
 pub data Point (E A : Type 0) : Type 0 where
   went : A → Point E A
   stopped : E → Point E A
+  missing : Point E A
   underway : Point E A
 
 -- Names of what is asked for outside, in order.
@@ -25,13 +26,15 @@ pub record Course (E A : Type 0) : Type 1 where
 abbrev pub asks_nothing : {E A : Type 0} → (A → Type 0) → (E → Type 0) → Names → Point E A → Type 0
 asks_nothing goes stops names (Point.went value) = goes value × (names ≡ [])
 asks_nothing goes stops names (Point.stopped error) = stops error × (names ≡ [])
+asks_nothing goes stops names Point.missing = ⊥
 asks_nothing goes stops names Point.underway = names ≡ []
 
--- A step that asks for one name has asked for it where it goes on and where it stops, and under way for it or for nothing.
-abbrev pub asks_once : {E A : Type 0} → List ℕ → (A → Type 0) → (E → Type 0) → Names → Point E A → Type 0
-asks_once name goes stops names (Point.went value) = goes value × (names ≡ name ∷ [])
-asks_once name goes stops names (Point.stopped error) = stops error × (names ≡ name ∷ [])
-asks_once name goes stops names Point.underway = (names ≡ []) ⊎ (names ≡ name ∷ [])
+-- A step that asks for one name has asked for it where it goes on, where it stops and where it lacks what it asked for, and under way for it or for nothing.
+abbrev pub asks_once : {E A : Type 0} → List ℕ → (A → Type 0) → (E → Type 0) → Type 0 → Names → Point E A → Type 0
+asks_once name goes stops lacks names (Point.went value) = goes value × (names ≡ name ∷ [])
+asks_once name goes stops lacks names (Point.stopped error) = stops error × (names ≡ name ∷ [])
+asks_once name goes stops lacks names Point.missing = lacks × (names ≡ name ∷ [])
+asks_once name goes stops lacks names Point.underway = (names ≡ []) ⊎ (names ≡ name ∷ [])
 
 -- The first step went on with a value and had asked for the names; what follows is at the point, and asked for the others.
 pub record AsksLater {E A B : Type 0} (first : Course E A) (next : A → Course E B) (names : Names) (point : Point E B) : Type 0 where
@@ -46,6 +49,7 @@ pub record AsksLater {E A B : Type 0} (first : Course E A) (next : A → Course 
 abbrev pub asks_in_turn : {E A B : Type 0} → Course E A → (A → Course E B) → Names → Point E B → Type 0
 asks_in_turn first next names (Point.went result) = AsksLater first next names (Point.went result)
 asks_in_turn first next names (Point.stopped error) = first.asks names (Point.stopped error) ⊎ AsksLater first next names (Point.stopped error)
+asks_in_turn first next names Point.missing = first.asks names Point.missing ⊎ AsksLater first next names Point.missing
 asks_in_turn first next names Point.underway = first.asks names Point.underway ⊎ AsksLater first next names Point.underway
 
 -- A step that asks for nothing, and goes on with these values or stops with these errors.
@@ -58,12 +62,12 @@ asking_nothing goes stops = record {
   asks_stops = λ names error asks. asks.0;
 }
 
--- A step that asks for one name, and goes on with these values or stops with these errors.
-abbrev pub asking_once : {E A : Type 0} → List ℕ → (A → Type 0) → (E → Type 0) → Course E A
-asking_once name goes stops = record {
+-- A step that asks for one name, and goes on with these values or stops with these errors; the last is said where there is nothing of that name.
+abbrev pub asking_once : {E A : Type 0} → List ℕ → (A → Type 0) → (E → Type 0) → Type 0 → Course E A
+asking_once name goes stops lacks = record {
   goes = goes;
   stops = stops;
-  asks = asks_once name goes stops;
+  asks = asks_once name goes stops lacks;
   asks_goes = λ names value asks. asks.0;
   asks_stops = λ names error asks. asks.0;
 }

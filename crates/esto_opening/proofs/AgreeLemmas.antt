@@ -1,5 +1,6 @@
 -- The fetch of a file agrees with itself.
 use Rattle.std.proofs.Common.{◌≡◌, ◌<◌, ℕ, List, Some, sym, ap, ◌∙◌, arith, length}
+use Rattle.std.proofs.lemmas.Option.{none-some}
 use Rattle.std.specs.FinMap.{get}
 use Rattle.esto_ports.specs.Files.{Files}
 use Rattle.esto_opening.specs.Answers.{IsCaused}
@@ -27,7 +28,8 @@ module _ (files : Files) (name : List ℕ) (limit : ℕ) where
     one_stop = λ said other_said caused other_caused here there. (longer said caused here).3 ∙ sym (longer other_said other_caused there).3;
     apart = λ bytes said caused here there. never bytes said caused here there;
     other_apart = λ bytes said caused here there. never bytes said caused here there;
-    alike = once_alike (IsCaused ⊥) _ _ _ _ name;
+    alike = once_alike (IsCaused ⊥) _ _ _ _ _ _ name (λ bytes lacks goes. none-some goes.0 (sym lacks ∙ goes.1))
+        (λ bytes lacks goes. none-some goes.0 (sym lacks ∙ goes.1));
   }
     where
       never : (bytes : List ℕ) (said : Status) → IsCaused ⊥ said → (fetches (Some files) name limit).goes bytes

@@ -1,10 +1,8 @@
 -- What a command, or a step of one, asked of the shelf.
-use Rattle.std.specs.Prelude.{◌≡◌, ◌⊎◌, ℕ, List, [], ◌∷◌, ◌++◌, Option, Some, None, Result, Ok, Err}
-use Rattle.std.specs.FinMap.{get}
+use Rattle.std.specs.Prelude.{◌≡◌, ◌⊎◌, ℕ, List, [], ◌∷◌, ◌++◌, Option, Result, Ok, Err}
 use Rattle.esto_course.specs.Course.{Course, Names}
-use Rattle.esto_course.specs.Course.Point.{went, stopped, underway}
+use Rattle.esto_course.specs.Course.Point.{went, stopped, missing, underway}
 use Rattle.esto_ports.specs.Asked.{AsksFor}
-use Rattle.esto_ports.specs.Files.{Files}
 use Rattle.esto_opening.specs.Answers.{IsCaused, IsWant}
 use Rattle.esto_opening.specs.declared.status.Status.{Status}
 use Rattle.esto_opening.specs.declared.status.Status.TheVariants.{OutOfMemory, ReadFault, WriteFault}
@@ -34,35 +32,29 @@ pub record AsksIn {A : Type 0} (old new : Option Names) (course : Course Status 
 
 -- ---- the sequence of fetches
 
--- There is no file of that name, where they are told.
-abbrev pub Lacks : Option Files → List ℕ → Type 0
-Lacks None name = ⊥
-Lacks (Some files) name = get files name ≡ None
-
 -- The names that a course fetches, in order: up to its end, or up to and with the first that has no file.
-pub data Fetches {A : Type 0} (course : Course Status A) (files : Option Files) (names : Names) : Type 0 where
-  to_value : (value : A) → course.asks names (went value) → Fetches course files names
-  to_refusal : (refusal : Status) → IsCaused ⊥ refusal → course.asks names (stopped refusal) → Fetches course files names
-  to_lack : (name : List ℕ) → Lacks files name → course.asks names (stopped (ReadFault name)) → EndsAtFault (ReadFault name) names
-      → Fetches course files names
+pub data Fetches {A : Type 0} (course : Course Status A) (names : Names) : Type 0 where
+  to_value : (value : A) → course.asks names (went value) → Fetches course names
+  to_refusal : (refusal : Status) → IsCaused ⊥ refusal → course.asks names (stopped refusal) → Fetches course names
+  to_lack : course.asks names missing → Fetches course names
 
 -- The names up to and with a file at whose fetch the shelf was at a fault.
 abbrev pub FetchesToFault : {A : Type 0} → Course Status A → Type 0 → Names → List ℕ → Type 0
 FetchesToFault course rose names name = rose × course.asks names (stopped (ReadFault name)) × EndsAtFault (ReadFault name) names
 
 -- All names that the course fetches; or those up to and with a file at whose fetch the shelf was at a fault.
-pub data FetchesToAnswer {A : Type 0} (course : Course Status A) (files : Option Files) (rose : Type 0) (names : Names) : Type 0 where
-  whole : Fetches course files names → FetchesToAnswer course files rose names
-  fault : (name : List ℕ) → FetchesToFault course rose names name → FetchesToAnswer course files rose names
+pub data FetchesToAnswer {A : Type 0} (course : Course Status A) (rose : Type 0) (names : Names) : Type 0 where
+  whole : Fetches course names → FetchesToAnswer course rose names
+  fault : (name : List ℕ) → FetchesToFault course rose names name → FetchesToAnswer course rose names
 
 -- The names that were asked for, by the status. At a read fault they are those up to and with its file; at a write fault those of the answer that was to be put;
 -- where memory was wanting those of an answer, or of some moment under way; and at every other status all names that the course fetches.
-abbrev pub FetchesBy : {A : Type 0} → Course Status A → Option Files → Type 0 → Names → Status → Type 0
-FetchesBy course files rose names OutOfMemory = FetchesToAnswer course files rose names ⊎ course.asks names underway
-FetchesBy course files rose names (ReadFault name) = FetchesToFault course rose names name
-FetchesBy course files rose names WriteFault = FetchesToAnswer course files rose names
-FetchesBy course files rose names _ = Fetches course files names
+abbrev pub FetchesBy : {A : Type 0} → Course Status A → Type 0 → Names → Status → Type 0
+FetchesBy course rose names OutOfMemory = FetchesToAnswer course rose names ⊎ course.asks names underway
+FetchesBy course rose names (ReadFault name) = FetchesToFault course rose names name
+FetchesBy course rose names WriteFault = FetchesToAnswer course rose names
+FetchesBy course rose names _ = Fetches course names
 
 -- To the names that were asked for, where they are told, came those that the status tells of.
-abbrev pub AsksAsTold : {A : Type 0} → Option Names → Option Names → Course Status A → Option Files → Type 0 → Status → Type 0
-AsksAsTold old new course files rose status = (names : Names) × AsksFor old new names × FetchesBy course files rose names status
+abbrev pub AsksAsTold : {A : Type 0} → Option Names → Option Names → Course Status A → Type 0 → Status → Type 0
+AsksAsTold old new course rose status = (names : Names) × AsksFor old new names × FetchesBy course rose names status

@@ -1,5 +1,5 @@
 -- The fetch of a file, as a step.
-use Rattle.std.specs.Prelude.{◌≡◌, ℕ, ◌<◌, ◌≤◌, List, length, Option, Some}
+use Rattle.std.specs.Prelude.{◌≡◌, ℕ, ◌<◌, ◌≤◌, List, length, Option, Some, None}
 use Rattle.std.specs.FinMap.{get}
 use Rattle.esto_ports.specs.Files.{Files, Holds}
 use Rattle.esto_course.specs.Course.{Course, asking_once}
@@ -12,10 +12,16 @@ pub data FetchStops (files : Option Files) (name : List ℕ) (limit : ℕ) (stat
   fails : status ≡ ReadFault name → FetchStops files name limit status
   is_longer : (file : List ℕ) → Holds files name file → limit < length file → status ≡ TooLong name limit → FetchStops files name limit status
 
+-- There is no file of that name, where they are told.
+abbrev pub Lacks : Option Files → List ℕ → Type 0
+Lacks None name = ⊥
+Lacks (Some files) name = get files name ≡ None
+
 -- It asks for the name, and goes on with the file's bytes after one leading byte-order mark. The limit counts the file as it is.
 unfoldable pub fetches : Option Files → List ℕ → ℕ → Course Status (List ℕ)
 fetches files name limit =
     asking_once name (λ bytes. (file : List ℕ) × Holds files name file × (length file ≤ limit) × (bytes ≡ without_mark file)) (FetchStops files name limit)
+    (Lacks files name)
 
 -- The file of that name has at most so many bytes, and these after one leading mark.
 abbrev pub HasWithin : Files → List ℕ → ℕ → List ℕ → Type 0

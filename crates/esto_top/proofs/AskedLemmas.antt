@@ -24,22 +24,22 @@ use Rattle.esto_top.proofs.Mediation.{refused_by}
 
 -- ---- the names
 
-module _ (course : Course Status Reply) (files : Option Files) (rose : Type 0) (names : Names) where
+module _ (course : Course Status Reply) (rose : Type 0) (names : Names) where
   -- the names of a reply
-  replied : (reply : Reply) → course.asks names (went reply) → FetchesBy course files rose names (reply_status reply)
+  replied : (reply : Reply) → course.asks names (went reply) → FetchesBy course rose names (reply_status reply)
   replied (reply.Done text) asks = to_value (reply.Done text) asks
   replied (reply.Unsatisfiable clash text) asks = to_value (reply.Unsatisfiable clash text) asks
 
   -- the names of a refusal
   told_refusal : (refusal : Status) → ¬ (IsWant refusal) → IsCaused rose refusal → course.asks names (stopped refusal) → EndsAtFault refusal names
-      → FetchesBy course files rose names refusal
+      → FetchesBy course rose names refusal
   told_refusal OutOfMemory isnt caused asks ends = absurd (isnt refl)
   told_refusal (ReadFault name) isnt caused asks ends = (caused.cause, asks, ends)
   told_refusal WriteFault isnt caused asks ends = absurd caused.cause
   told_refusal refusal isnt caused asks ends = to_refusal refusal (record { cause = tt }) asks
 
   any_refusal : (refusal : Status) → ¬ (IsWant refusal) → IsCaused rose refusal → course.asks names (stopped refusal) → EndsAtFault refusal names
-      → FetchesToAnswer course files rose names
+      → FetchesToAnswer course rose names
   any_refusal OutOfMemory isnt caused asks ends = absurd (isnt refl)
   any_refusal (ReadFault name) isnt caused asks ends = fetched_to_fault name (caused.cause, asks, ends)
   any_refusal WriteFault isnt caused asks ends = absurd caused.cause
@@ -47,7 +47,7 @@ module _ (course : Course Status Reply) (files : Option Files) (rose : Type 0) (
 
   -- the names of an answer, or of some moment under way
   answered : (answer : Result Reply Status) → Answers course rose answer → AsksAt course names answer
-      → FetchesToAnswer course files rose names ⊎ course.asks names underway
+      → FetchesToAnswer course rose names ⊎ course.asks names underway
   answered (Ok reply) goes asks = inl (all_fetched (to_value reply asks))
   answered (Err refusal) stops (wanting want asks) = inr asks
   answered (Err refusal) (is_free want) (stopping isnt asks ends) = absurd (isnt want)
@@ -55,25 +55,25 @@ module _ (course : Course Status Reply) (files : Option Files) (rose : Type 0) (
 
   module _ (old new : Option (List ℕ)) (sink_rose : Type 0) (result : Status) where
     finished : (answer : Result Reply Status) → Answers course rose answer → AsksAt course names answer → Finishes answer old new sink_rose result
-        → FetchesBy course files rose names result
-    finished (Ok reply) goes asks (whole text is appends) = subst (FetchesBy course files rose names) (sym is.0) (replied reply asks)
+        → FetchesBy course rose names result
+    finished (Ok reply) goes asks (whole text is appends) = subst (FetchesBy course rose names) (sym is.0) (replied reply asks)
     finished (Err refusal) (is_free want) asks (whole text is appends) = absurd (is.2 want)
     finished (Err refusal) (refused caused stops) (wanting want asks) (whole text is appends) = absurd (is.2 want)
     finished (Err refusal) (refused caused stops) (stopping isnt asks ends) (whole text is appends) =
-        subst (FetchesBy course files rose names) (sym is.0) (told_refusal refusal isnt caused asks ends)
+        subst (FetchesBy course rose names) (sym is.0) (told_refusal refusal isnt caused asks ends)
     finished (Ok reply) goes asks (cut said text kept is risen appends e) =
-        subst (FetchesBy course files rose names) (sym e) (all_fetched (to_value reply asks))
+        subst (FetchesBy course rose names) (sym e) (all_fetched (to_value reply asks))
     finished (Err refusal) (is_free want) asks (cut said text kept is risen appends e) = absurd (is.2 want)
     finished (Err refusal) (refused caused stops) (wanting want asks) (cut said text kept is risen appends e) = absurd (is.2 want)
     finished (Err refusal) (refused caused stops) (stopping isnt asks ends) (cut said text kept is risen appends e) =
-        subst (FetchesBy course files rose names) (sym e) (any_refusal refusal isnt caused asks ends)
-    finished answer answers asks (memory keeps e) = subst (FetchesBy course files rose names) (sym e) (answered answer answers asks)
+        subst (FetchesBy course rose names) (sym e) (any_refusal refusal isnt caused asks ends)
+    finished answer answers asks (memory keeps e) = subst (FetchesBy course rose names) (sym e) (answered answer answers asks)
 
-pub asks_as_told : (course : Course Status Reply) (files : Option Files) (rose sink_rose : Type 0) (before after : Option Names) (answer : Result Reply Status)
+pub asks_as_told : (course : Course Status Reply) (rose sink_rose : Type 0) (before after : Option Names) (answer : Result Reply Status)
     (old new : Option (List ℕ)) (result : Status) → Answers course rose answer → AsksIn before after course answer
-    → Finishes answer old new sink_rose result → AsksAsTold before after course files rose result
-asks_as_told course files rose sink_rose before after answer old new result answers asked finishes =
-    (asked.names, asked.told, finished course files rose asked.names old new sink_rose result answer answers asked.asks finishes)
+    → Finishes answer old new sink_rose result → AsksAsTold before after course rose result
+asks_as_told course rose sink_rose before after answer old new result answers asked finishes =
+    (asked.names, asked.told, finished course rose asked.names old new sink_rose result answer answers asked.asks finishes)
 
 -- words outside the grammar ask for nothing
 pub usage_asks : (files : Option Files) (told : Option Names) (request : Option Request) → request ≡ None

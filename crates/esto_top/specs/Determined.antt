@@ -12,6 +12,21 @@ OutcomesAreDetermined =
     (words : List (List ℕ)) (files : Files) (said other_said : Status) (text other_text : List ℕ)
     → Outcome words files said text → Outcome words files other_said other_text → (said ≡ other_said) × (text ≡ other_text)
 
+<<<<<<< HEAD
+=======
+-- A command line over the same files fetches one sequence of names.
+abbrev pub FetchesAreDetermined : Type 0
+FetchesAreDetermined =
+    (words : List (List ℕ)) (files : Files) (names others : Names)
+    → Fetches (course_of words (Some files)) names → Fetches (course_of words (Some files)) others → names ≡ others
+
+-- What it asked for at any point of its course begins that sequence.
+abbrev pub AskedBeginsFetches : Type 0
+AskedBeginsFetches =
+    (words : List (List ℕ)) (files : Files) (names all : Names) (point : Point Status Reply)
+    → Fetches (course_of words (Some files)) all → (course_of words (Some files)).asks names point → Begins names all
+
+>>>>>>> origin/L-P2-laws-wip
 -- Where the shelf tells its files, and neither count rose, any outcome of the words and the files is the one that was answered and put; or memory was
 -- refused, and nothing was put.
 abbrev pub ExactWhereTold : List (List ℕ) → Option Files → Type 0 → Type 0 → Option (List ℕ) → Option (List ℕ) → Status → Type 0

@@ -1,7 +1,7 @@
 //! Laws of outcomes.
 ghost use Rattle.esto_top.specs.CertificateOutcomes.{OutcomesAreVerified};
 ghost use Rattle.esto_top.specs.DataOutcomes.{OutcomesAgree, OutcomesAreAnswers, OutcomesAreAudits, OutcomesAreFills, OutcomesAreUnionAnswers};
-ghost use Rattle.esto_top.specs.Determined.{OutcomesAreDetermined};
+ghost use Rattle.esto_top.specs.Determined.{AskedBeginsFetches, FetchesAreDetermined, OutcomesAreDetermined};
 ghost use Rattle.esto_top.specs.Headline.{OutcomesAreLists, OutcomesAreRefusals};
 ghost use Rattle.esto_top.specs.ReasoningOutcomes.{OutcomesAreContainments, OutcomesAreMinimised};
 ghost use Rattle.esto_top.specs.Runs.{OutcomesAreRuns};
@@ -88,9 +88,12 @@ pub(crate) fn union_runs_hold()
     union_runs_are_exact();
 }
 
-/// A law: the same words over the same files have at most one outcome.
+/// A law: the same words over the same files have at most one outcome, and fetch one sequence of names, which whatever was
+/// asked for on the way begins.
 pub fn outcomes_are_determined()
-    ensures { OutcomesAreDetermined }
+    ensures outcomes { OutcomesAreDetermined }
+    ensures fetches { FetchesAreDetermined }
+    ensures asked { AskedBeginsFetches }
 {
     openings_are_one();
     opened_unions_are_queries();

@@ -167,8 +167,7 @@ pub fn mediate<S: Shelf, O: Sink>(
     // up to and with the first name that has no file. At a read fault it is up to and with the file of the fault, at a write
     // fault perhaps too, if the shelf's count rose; and where memory was wanting, up to any moment of it.
     ensures asked { AsksAsTold (S.asked shelf.old) (S.asked shelf.new)
-        (course_of words.now (S.files shelf.old)) (S.files shelf.old)
-        (Rises S.faults shelf.old shelf.new) result }
+        (course_of words.now (S.files shelf.old)) (Rises S.faults shelf.old shelf.new) result }
 
     // The text is put by one put, which the sink counts where it tells puts; where memory is wanting there may be none.
     ensures puts { PutsOnce (O.puts out.old) (O.puts out.new) result }

@@ -45,7 +45,7 @@ returns-clause-run_union g c =
 
 pub returns-clause-exact : goal.returns-clause-exact
 returns-clause-exact g c =
-    exact c.outcomes_are_determined.ensures c.args.words.now _ _ _ _ _ _
+    exact c.outcomes_are_determined.ensures.outcomes c.args.words.now _ _ _ _ _ _
     (complete c.args.words.now _ _ _ _ _ _ (mediates _ _ _ _ _ _ _ c.answer-answer.ensures.answer c.finish.ensures.put))
 
 pub returns-clause-run : goal.returns-clause-run
@@ -93,4 +93,4 @@ returns-clause-verify g c =
 
 pub returns-clause-asked : goal.returns-clause-asked
 returns-clause-asked g c =
-    asks_as_told _ _ _ _ _ _ _ _ _ _ c.answer-answer.ensures.answer c.answer-answer.ensures.asked c.finish.ensures.put
+    asks_as_told _ _ _ _ _ _ _ _ _ c.answer-answer.ensures.answer c.answer-answer.ensures.asked c.finish.ensures.put
