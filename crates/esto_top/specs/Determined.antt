@@ -1,7 +1,12 @@
 -- That a command line has at most one outcome.
 use Rattle.std.specs.Prelude.{◌≡◌, ◌⊎◌, ℕ, List, Option, Some, None}
 use Rattle.std.specs.Io.KnownBytes.{Appends, Keeps}
+use Rattle.esto_course.specs.Agreement.{Begins}
+use Rattle.esto_course.specs.Course.{Names, Point}
 use Rattle.esto_ports.specs.Files.{Files}
+use Rattle.esto_opening.specs.Asked.{Fetches}
+use Rattle.esto_opening.specs.declared.reply.Reply.{Reply}
+use Rattle.esto_top.specs.Grammar.{course_of}
 use Rattle.esto_top.specs.Outcome.{Outcome}
 use Rattle.esto_opening.specs.declared.status.Status.{Status}
 use Rattle.esto_opening.specs.declared.status.Status.TheVariants as status
@@ -12,8 +17,6 @@ OutcomesAreDetermined =
     (words : List (List ℕ)) (files : Files) (said other_said : Status) (text other_text : List ℕ)
     → Outcome words files said text → Outcome words files other_said other_text → (said ≡ other_said) × (text ≡ other_text)
 
-<<<<<<< HEAD
-=======
 -- A command line over the same files fetches one sequence of names.
 abbrev pub FetchesAreDetermined : Type 0
 FetchesAreDetermined =
@@ -26,7 +29,6 @@ AskedBeginsFetches =
     (words : List (List ℕ)) (files : Files) (names all : Names) (point : Point Status Reply)
     → Fetches (course_of words (Some files)) all → (course_of words (Some files)).asks names point → Begins names all
 
->>>>>>> origin/L-P2-laws-wip
 -- Where the shelf tells its files, and neither count rose, any outcome of the words and the files is the one that was answered and put; or memory was
 -- refused, and nothing was put.
 abbrev pub ExactWhereTold : List (List ℕ) → Option Files → Type 0 → Type 0 → Option (List ℕ) → Option (List ℕ) → Status → Type 0
