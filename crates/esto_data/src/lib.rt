@@ -1,5 +1,5 @@
-//! The commands on data: `fill` writes the file of a fragment, `answer` answers a union of queries, and `audit` compares, each over the
-//! facts of the datasets' files. Start from `fill`, `answer` and `audit`.
+//! The commands on data: `fill` writes the file of a fragment, `answer` answers a union of queries, and `audit` compares,
+//! each over the facts of the datasets' files. Start from `fill`, `answer` and `audit`.
 #![tactic(auto)]
 
 mod answering;

@@ -7,8 +7,9 @@ use esto_read::{
     readings_are_determined, union_readings_are_determined, unions_of_one_are_queries,
 };
 
-/// A law: where no fetch is at a fault, one file says one catalogue, up to what it means, and one query, or one union of queries,
-/// over such catalogues, and the files of their fragments have one content, which has the same rows or the same first fault.
+/// A law: where no fetch is at a fault, one file says one catalogue, up to what it means, and one query, or one union of
+/// queries, over such catalogues, and the files of their fragments have one content, which has the same rows or the same
+/// first fault.
 pub fn openings_are_one()
     ensures catalogues { CataloguesOpenAlike }
     ensures queries { QueriesOpenAlike }

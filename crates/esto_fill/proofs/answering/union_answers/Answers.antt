@@ -9,7 +9,8 @@ queries-preserved c =
 
 pub returns-clause-rows : goal.returns-clause-rows
 returns-clause-rows c row =
-    let all = rows_of_all c.args.facts.now c.args.queries.now c.queries.query-index c.queries.rows.items (omega (arith, c.queries-test.false)) c.queries.invariant in (
+    let all =
+    rows_of_all c.args.facts.now c.args.queries.now c.queries.query-index c.queries.rows.items (omega (arith, c.queries-test.false)) c.queries.invariant in (
       (λ inside. (all row).0 ((c.in_ok-rows.ensures.rows row).0 inside)),
       (λ answer. (c.in_ok-rows.ensures.rows row).1 ((all row).1 answer)),
     )
