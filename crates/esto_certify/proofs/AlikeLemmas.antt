@@ -13,13 +13,12 @@ use Rattle.esto_semantics.specs.SetLaws.{NumbersTellSets}
 use Rattle.esto_views.specs.Plans.{fact_of}
 use Rattle.esto_views.specs.declared.plan.Plan.{Plan}
 use Rattle.esto_opening.specs.Alike.{CataloguesOpenAlike, IsSameQuery, QueriesOpenAlike}
-use Rattle.esto_opening.specs.Calm.{AgreeCalmly}
+use Rattle.esto_opening.specs.Calm.{AgreeCalmly, IsOne}
 use Rattle.esto_opening.specs.declared.reply.Reply.TheVariants.{Done}
 use Rattle.esto_opening.specs.declared.status.Status.{Status}
 use Rattle.esto_opening.specs.declared.status.Status.TheVariants.{NoSuchNumber, Rejected}
 use Rattle.esto_opening.proofs.AgreeLemmas.{fetches-agree}
 use Rattle.esto_planning.specs.Alike.{IsSamePlan, PlanIsOne}
-use Rattle.esto_certify.specs.Laws.{IsOne}
 use Rattle.esto_certify.specs.Verify.{HasVerdict, IsAbove, IsSetOf, judges_certificate, names_set, verifies_query, verifies_set, verify_course}
 use Rattle.esto_certify.specs.declared.verifying.TheConstants.{CERTIFICATE_LIMIT}
 

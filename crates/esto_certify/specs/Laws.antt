@@ -11,9 +11,8 @@ use Rattle.esto_query.specs.declared.query.Query.{Query}
 use Rattle.esto_views.specs.Fragments.{views_of}
 use Rattle.esto_views.specs.Plans.{plan_query}
 use Rattle.esto_views.specs.declared.plan.Plan.{Plan}
-use Rattle.esto_opening.specs.Calm.{AgreeCalmly, Leads}
+use Rattle.esto_opening.specs.Calm.{AgreeCalmly, IsOne, SaysAlways}
 use Rattle.esto_opening.specs.Fetch.{HasWithin}
-use Rattle.esto_opening.specs.Line.{line_of}
 use Rattle.esto_opening.specs.Opening.{opens_catalogue, opens_query}
 use Rattle.esto_opening.specs.declared.reply.Reply.{Reply}
 use Rattle.esto_opening.specs.declared.reply.Reply.TheVariants.{Done}
@@ -25,10 +24,6 @@ use Rattle.esto_certify.specs.Verify.{first_above, HasVerdict, IsSetOf, verify_c
 use Rattle.esto_certify.specs.declared.verifying.TheConstants.{CERTIFICATE_LIMIT}
 
 -- ---- one outcome
-
--- The course over the files agrees with itself where no fetch is at a fault: it has one reply or one refusal.
-abbrev pub IsOne : Course Status Reply → Type 0
-IsOne course = AgreeCalmly ◌≡◌ course course
 
 abbrev pub VerifyIsOne : Type 0
 VerifyIsOne =
@@ -47,16 +42,12 @@ ExplainHasOneStatus = (files : Files) (catalogue_name query_name : List ℕ) (nu
 
 -- ---- which outcome
 
--- The fact holds of each reply, which is Done with a text, and of each refusal with its line, where no fetch is at a fault.
-abbrev pub Says : Course Status Reply → (Status → List ℕ → Type 0) → Type 0
-Says course Fact = Leads course (λ reply. (text : List ℕ) × (reply ≡ Done text) × Fact status.Done text) (λ said. Fact said (line_of said))
-
 -- Let the files say a catalogue and a query over it that has a printed plan: then the fact is said of `verify` for the numbers and the certificate's file.
 abbrev pub IsSaid : Files → Catalogue → Query → Plan → List ℕ → List ℕ → (Status → List ℕ → Type 0) → Type 0
 IsSaid files catalogue query plan numbers file Fact =
     (catalogue_name query_name : List ℕ) → (opens_catalogue (Some files) catalogue_name).goes catalogue
     → (opens_query (Some files) query_name catalogue).goes query → IsPlanned catalogue query plan
-    → Says (verify_course (Some files) catalogue_name query_name numbers file) Fact
+    → SaysAlways (verify_course (Some files) catalogue_name query_name numbers file) Fact
 
 -- The first number above how many atoms the plan has is refused, with how many they are.
 abbrev pub VerifyRefusesNumbers : Type 0
@@ -94,4 +85,4 @@ ExplainedSetsAreVerified =
     → (opens_query (Some files) query_name catalogue).goes query → IsPlanned catalogue query plan → IsListOf catalogue query plan items
     → slice_get items (number - 1) ≡ Some item → IsSetOf (length plan.atoms) numbers item.set → HasWithin files file CERTIFICATE_LIMIT text
     → (explain_course (Some files) catalogue_name query_name number).goes (Done text)
-    → Says (verify_course (Some files) catalogue_name query_name numbers file) (SaysVerdict None)
+    → SaysAlways (verify_course (Some files) catalogue_name query_name numbers file) (SaysVerdict None)

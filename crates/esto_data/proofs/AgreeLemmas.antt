@@ -34,7 +34,7 @@ use Rattle.esto_term.specs.declared.term.Term.{Term}
 use Rattle.esto_views.specs.Fragments.{views_of}
 use Rattle.esto_opening.specs.Alike.{CataloguesOpenAlike, FragmentOpensAlike, FragmentsOpenAlike, AreSameQueries, StoresHaveOneContent, StoresHaveOneFault, StoresHaveOneFile, UnionsOpenAlike}
 use Rattle.esto_opening.specs.Answers.{IsCaused}
-use Rattle.esto_opening.specs.Calm.{AgreeCalmly}
+use Rattle.esto_opening.specs.Calm.{AgreeCalmly, IsOne}
 use Rattle.esto_opening.specs.Fragments.{Stored, IsStoredAt, opens_fragments}
 use Rattle.esto_opening.specs.Unions.{union_rows_text}
 use Rattle.esto_opening.specs.declared.reply.Reply.TheVariants.{Done}
@@ -45,7 +45,6 @@ use Rattle.esto_data.specs.Answer.{IsUnionAnswerOfFacts, answer_course, answers_
 use Rattle.esto_data.specs.Audit.{AuditsFiles, all_fragments, audit_course, audit_text, audits_catalogue, audits_facts, compares, judges_views}
 use Rattle.esto_data.specs.Datasets.{IsAny, Names, OneNames, loads}
 use Rattle.esto_data.specs.Fill.{IsFirstOf, fill_course, fill_status, fills_file, fills_fragment, fills_named, finds_fragment, names_of}
-use Rattle.esto_data.specs.Laws.{IsOne}
 use Rattle.esto_data.proofs.AlikeLemmas.{are_rules, audits_over, first_one, fragments_long, texts_one, same_stored, same_view}
 use Rattle.esto_data.proofs.LoadLemmas.{loads_agree, loads_flat}
 use Rattle.esto_data.proofs.UnionLemmas.{same_queries, same_union_text}

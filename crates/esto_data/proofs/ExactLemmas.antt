@@ -34,7 +34,7 @@ use Rattle.esto_term.specs.declared.term.Term.{Term}
 use Rattle.esto_views.specs.Fragments.{views_of}
 use Rattle.esto_opening.specs.Alike.{AreSameQueries}
 use Rattle.esto_opening.specs.Answers.{IsCaused}
-use Rattle.esto_opening.specs.Calm.{AgreeCalmly, Leads}
+use Rattle.esto_opening.specs.Calm.{AgreeCalmly, Leads, SaysAlways}
 use Rattle.esto_opening.specs.Fetch.{fetches, FetchStops}
 use Rattle.esto_opening.specs.Fetch.FetchStops.{fails, is_longer}
 use Rattle.esto_opening.specs.Fragments.{Stored, IsStoredAt, opens_fragments}
@@ -56,7 +56,6 @@ use Rattle.esto_data.specs.declared.datasets.TheConstants.{DATASET_LIMIT}
 use Rattle.esto_data.specs.Exact.{AreReadableFragments, AuditsExactly, FillsExactly, GivesExactly, HoldFacts, IsExactAnswer, IsExactAudit, IsExactFill, IsExactUnionAnswer}
 use Rattle.esto_data.specs.Exact.FillsExactly.{prints, tells_key, tells_node}
 use Rattle.esto_data.specs.Fill.{IsFilled, IsFirstOf, IsRowOfView, fill_course, fill_status, fills_file, fills_named, names_of}
-use Rattle.esto_data.specs.Laws.{Says}
 use Rattle.esto_data.proofs.AgreeLemmas.{DataLaws}
 use Rattle.esto_data.proofs.AlikeLemmas.{are_rules, audits-moved, first_one}
 use Rattle.esto_data.proofs.FragmentLemmas.{fragments_never, rows_same}
@@ -89,7 +88,7 @@ agreed-leads Same course other value Refusal agree goes = record {
 
 -- what holds of replies and refusals, as it is said, once more is
 says-more : (course : Course Status Reply) (Fact More : Status → List ℕ → Type 0) → ((said : Status) (text : List ℕ) → Fact said text → More said text)
-    → Says course Fact → Says course More
+    → SaysAlways course Fact → SaysAlways course More
 says-more course Fact More more says = record {
   goes = λ reply goes. let found = says.goes reply goes in (found.0, found.1, more status.Done found.0 found.2);
   stops = λ said caused stop. more said (line_of said) (says.stops said caused stop);
@@ -156,7 +155,7 @@ module _ (laws : DataLaws) (files : Files) (catalogue : Catalogue) where
     abbrev needs : Dataset → Type 0
     needs = OneNames (map query_of queries)
 
-    answer_says : Says (answers_union (Some files) catalogue queries) (IsExactUnionAnswer files catalogue queries)
+    answer_says : SaysAlways (answers_union (Some files) catalogue queries) (IsExactUnionAnswer files catalogue queries)
     unfolding and_then judges gives
     answer_says = record {
       goes = λ reply (others, loaded, (rows, texts, done)). (
@@ -318,7 +317,7 @@ module _ (laws : DataLaws) (files : Files) (catalogue : Catalogue) where
         one_stored other stored its
         (subst (λ (it : ℕ). IsStoredAt catalogue it stored) (first_one (names_of catalogue.fragments) name number other first its_first) here) there
 
-    fill_says : Says (fills_named (Some files) name catalogue) (IsExactFill files catalogue name)
+    fill_says : SaysAlways (fills_named (Some files) name catalogue) (IsExactFill files catalogue name)
     unfolding and_then judges gives
     fill_says = record {
       goes = λ reply (number, first, (stored, here, (others, loaded, (text, filled, done)))). (
@@ -510,7 +509,7 @@ module _ (laws : DataLaws) (files : Files) (catalogue : Catalogue) (many : lengt
         ]
       ]
 
-  audit_says : Says (audits_catalogue (Some files) catalogue) (IsExactAudit files catalogue)
+  audit_says : SaysAlways (audits_catalogue (Some files) catalogue) (IsExactAudit files catalogue)
   unfolding and_then judges gives
   audit_says = record {
     goes = λ reply (others, loaded, (value, texts, (their, opened, (given, agree, done)))). (
@@ -537,14 +536,14 @@ module _ (laws : DataLaws) (sound : CataloguesAreSound) (files : Files) (catalog
   opened-leads : (Refusal : Status → Type 0) → Leads (opens_catalogue (Some files) catalogue_name) (AreSame catalogue) Refusal
   opened-leads Refusal = agreed-leads AreSame _ _ catalogue Refusal (laws.catalogues files catalogue_name) (said_opens files catalogue_name catalogue say)
 
-  pub fills_exact : (name : List ℕ) → Says (fill_course (Some files) catalogue_name name) (IsExactFill files catalogue name)
+  pub fills_exact : (name : List ℕ) → SaysAlways (fill_course (Some files) catalogue_name name) (IsExactFill files catalogue name)
   fills_exact name = then-leads _ _ (AreSame catalogue) _ _ (opened-leads _) (λ other alike.
       says-more _ (IsExactFill files other name) (IsExactFill files catalogue name)
       (fill_moved files catalogue other alike laws.fault laws.rows name) (fill_says laws files other name))
 
   -- the union that is opened is answered
   union_exact : (query_name : List ℕ) (queries : List Query) → (opens_union (Some files) query_name catalogue).goes queries
-      → Says (answer_course (Some files) catalogue_name query_name) (IsExactUnionAnswer files catalogue queries)
+      → SaysAlways (answer_course (Some files) catalogue_name query_name) (IsExactUnionAnswer files catalogue queries)
   union_exact query_name queries opens = then-leads _ _ (AreSame catalogue) _ _ (opened-leads _) (λ other alike.
       then-leads _ _ (AreSameQueries queries) _ _
       (agreed-leads AreSameQueries _ _ queries _ (laws.unions files query_name catalogue other alike) opens)
@@ -552,16 +551,16 @@ module _ (laws : DataLaws) (sound : CataloguesAreSound) (files : Files) (catalog
       (answer_moved files catalogue other alike queries others same) (answer_says laws files other others)))
 
   pub unions_exact : SaidUnionsOpen → (query_name : List ℕ) (queries : List Query) → FilesSayUnion files query_name catalogue queries
-      → Says (answer_course (Some files) catalogue_name query_name) (IsExactUnionAnswer files catalogue queries)
+      → SaysAlways (answer_course (Some files) catalogue_name query_name) (IsExactUnionAnswer files catalogue queries)
   unions_exact said query_name queries say_union = union_exact query_name queries (said files query_name catalogue queries say_union)
 
   pub answers_exact : UnionsOfOneAreQueries → (query_name : List ℕ) (query : Query) → FilesSayQuery files query_name catalogue query
-      → Says (answer_course (Some files) catalogue_name query_name) (IsExactAnswer files catalogue query)
+      → SaysAlways (answer_course (Some files) catalogue_name query_name) (IsExactAnswer files catalogue query)
   answers_exact one query_name query say_query = says-more _ (IsExactUnionAnswer files catalogue (query ∷ [])) (IsExactAnswer files catalogue query)
       (one_exact files catalogue query)
       (union_exact query_name (query ∷ []) ((one (Some files) query_name catalogue query).1 (said_query_opens files query_name catalogue query say_query)))
 
-  pub audits_exact : Says (audit_course (Some files) catalogue_name) (IsExactAudit files catalogue)
+  pub audits_exact : SaysAlways (audit_course (Some files) catalogue_name) (IsExactAudit files catalogue)
   audits_exact = then-leads _ _ (AreSame catalogue) _ _ (opened-leads _) (λ other alike.
       says-more _ (IsExactAudit files other) (IsExactAudit files catalogue)
       (audit_moved files catalogue other alike laws.fault laws.rows laws.file) (audit_says laws files other (sound other).stored))

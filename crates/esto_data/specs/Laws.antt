@@ -2,7 +2,6 @@
 use Rattle.std.specs.Prelude.{◌≡◌, ◌≢◌, ℕ, List, Some}
 use Rattle.esto_catalog.specs.declared.catalogue.Catalogue.{Catalogue}
 use Rattle.esto_constraint.specs.Constraints.{rules_of}
-use Rattle.esto_course.specs.Course.{Course}
 use Rattle.esto_fill.specs.Databases.{database_of}
 use Rattle.esto_fill.specs.Differences.{Agree}
 use Rattle.esto_fill.specs.Texts.{HaveTextsOnly}
@@ -13,9 +12,8 @@ use Rattle.esto_semantics.specs.declared.fact.Fact.{Fact}
 use Rattle.esto_term.specs.declared.term.Term.{Term}
 use Rattle.esto_views.specs.Fragments.{views_of}
 use Rattle.esto_opening.specs.Answers.{IsCaused}
-use Rattle.esto_opening.specs.Calm.{AgreeCalmly, Leads}
+use Rattle.esto_opening.specs.Calm.{IsOne, Leads, SaysAlways}
 use Rattle.esto_opening.specs.Fragments.{opens_fragment}
-use Rattle.esto_opening.specs.Line.{line_of}
 use Rattle.esto_opening.specs.Opening.{FilesSayCatalogue, FilesSayQuery, FilesSayUnion, opens_catalogue, opens_query}
 use Rattle.esto_opening.specs.declared.reply.Reply.{Reply}
 use Rattle.esto_opening.specs.declared.reply.Reply.TheVariants.{Done}
@@ -28,10 +26,6 @@ use Rattle.esto_data.specs.Fill.{fill_course}
 
 -- ---- one outcome
 
--- The course over the files agrees with itself where no fetch is at a fault: it has one reply or one refusal.
-abbrev pub IsOne : Course Status Reply → Type 0
-IsOne course = AgreeCalmly ◌≡◌ course course
-
 abbrev pub FillsAreOne : Type 0
 FillsAreOne = (files : Files) (catalogue_name name : List ℕ) → IsOne (fill_course (Some files) catalogue_name name)
 
@@ -43,31 +37,27 @@ AuditsAreOne = (files : Files) (name : List ℕ) → IsOne (audit_course (Some f
 
 -- ---- which outcome
 
--- The fact holds of each reply, which is Done with a text, and of each refusal with its line, where no fetch is at a fault.
-abbrev pub Says : Course Status Reply → (Status → List ℕ → Type 0) → Type 0
-Says course Fact = Leads course (λ reply. (text : List ℕ) × (reply ≡ Done text) × Fact status.Done text) (λ said. Fact said (line_of said))
-
 abbrev pub FillsAreExact : Type 0
 FillsAreExact =
     (files : Files) (catalogue_name name : List ℕ) (catalogue : Catalogue) → FilesSayCatalogue files catalogue_name catalogue
-    → Says (fill_course (Some files) catalogue_name name) (IsExactFill files catalogue name)
+    → SaysAlways (fill_course (Some files) catalogue_name name) (IsExactFill files catalogue name)
 
 abbrev pub AnswersAreExact : Type 0
 AnswersAreExact =
     (files : Files) (catalogue_name query_name : List ℕ) (catalogue : Catalogue) (query : Query) → FilesSayCatalogue files catalogue_name catalogue
     → FilesSayQuery files query_name catalogue query
-    → Says (answer_course (Some files) catalogue_name query_name) (IsExactAnswer files catalogue query)
+    → SaysAlways (answer_course (Some files) catalogue_name query_name) (IsExactAnswer files catalogue query)
 
 abbrev pub UnionAnswersAreExact : Type 0
 UnionAnswersAreExact =
     (files : Files) (catalogue_name query_name : List ℕ) (catalogue : Catalogue) (queries : List Query) → FilesSayCatalogue files catalogue_name catalogue
     → FilesSayUnion files query_name catalogue queries
-    → Says (answer_course (Some files) catalogue_name query_name) (IsExactUnionAnswer files catalogue queries)
+    → SaysAlways (answer_course (Some files) catalogue_name query_name) (IsExactUnionAnswer files catalogue queries)
 
 abbrev pub AuditsAreExact : Type 0
 AuditsAreExact =
     (files : Files) (name : List ℕ) (catalogue : Catalogue) → FilesSayCatalogue files name catalogue
-    → Says (audit_course (Some files) name) (IsExactAudit files catalogue)
+    → SaysAlways (audit_course (Some files) name) (IsExactAudit files catalogue)
 
 -- ---- agreement
 

@@ -9,7 +9,7 @@ ghost use Rattle.esto_opening.specs.Unions.{FormUnion};
 use crate::unions::load_union;
 use esto_catalog::Catalogue;
 use esto_fill::{AnswerError, Loaded, answer_union};
-use esto_opening::{Queries, Reply, Status, open_catalogue, open_union, union_text};
+use esto_opening::{Queries, Reply, Status, open_catalogue, open_union, union_rows_text};
 use esto_ports::Shelf;
 use esto_term::{Text, TextRows};
 use std::alloc::Global;
@@ -43,7 +43,7 @@ fn answer_queries<S: Shelf>(
 {
     let loaded = load_union(alloc, shelf, catalogue, queries)?;
     let rows = rows_of(alloc, queries, &loaded)?;
-    let text = union_text(alloc, queries, &rows)?;
+    let text = union_rows_text(alloc, queries, &rows)?;
     Ok(Reply::Done(text))
 }
 

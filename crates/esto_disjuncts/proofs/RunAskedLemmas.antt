@@ -2,9 +2,9 @@
 use Rattle.std.proofs.Common.{ℕ, List, [], Option, Some, None, Result, Ok, Err, refl}
 use Rattle.esto_catalog.specs.declared.catalogue.Catalogue.{Catalogue}
 use Rattle.esto_chase_laws.specs.declared.clash.Clash.{Clash}
-use Rattle.esto_course.specs.Course.{Course, Names, Stops, judges, gives, and_then}
+use Rattle.esto_course.specs.Course.{Names, Stops, judges, gives}
 use Rattle.esto_course.specs.Course.Stops.{is_free}
-use Rattle.esto_course.proofs.Asking.{first_way_asks, quiet_gives, quiet_judges}
+use Rattle.esto_course.proofs.Asking.{quiet_gives, quiet_judges}
 use Rattle.esto_course.proofs.Steps.{gives_goes}
 use Rattle.esto_opening.specs.Answers.{IsCaused, IsWant}
 use Rattle.esto_opening.specs.Asked.{AsksIn}
@@ -13,7 +13,7 @@ use Rattle.esto_opening.specs.declared.reply.Reply.{Reply}
 use Rattle.esto_opening.specs.declared.reply.Reply.TheVariants.{Done}
 use Rattle.esto_opening.specs.declared.status.Status.{Status}
 use Rattle.esto_opening.specs.declared.status.Status.TheVariants.{OutOfMemory}
-use Rattle.esto_opening.proofs.AskedSteps.{early_want, exit_asks, later_asks, quiet_asks}
+use Rattle.esto_opening.proofs.AskedSteps.{accepted, exit_asks, later_asks, quiet_asks, wanted}
 use Rattle.esto_ports.specs.Files.{Files}
 use Rattle.esto_query.specs.declared.query.Query.{Query}
 use Rattle.esto_run.specs.Used.{AreUsedByAll}
@@ -22,18 +22,6 @@ use Rattle.esto_disjuncts.specs.List.{makes_members}
 use Rattle.esto_disjuncts.specs.Members.{AreMembersOf, ClashAt, HavePlan}
 use Rattle.esto_disjuncts.specs.Run.{AreChosen, IsNoRows, IsUnionRunText, chooses_each, ends_members, runs_chosen, runs_end, runs_members, runs_union}
 use Rattle.esto_disjuncts.specs.declared.members.Member.{Member}
-
--- a judgement accepts a value, and asks for nothing
-accepted : {A : Type 0} (told : Option Names) (accepts : A → Type 0) (refused : Status → Type 0) (value : A) → accepts value
-    → AsksIn told told (judges accepts refused) (Ok value)
-unfolding judges
-accepted told accepts refused value is = quiet_asks (judges accepts refused) told (Ok value) (quiet_judges accepts refused) is
-
--- want of memory in a judgement that is a first step
-wanted : {A B : Type 0} (told : Option Names) (accepts : A → Type 0) (refused : Status → Type 0) (next : A → Course Status B)
-    → AsksIn told told (and_then (judges accepts refused) next) (Err OutOfMemory)
-wanted told accepts refused next =
-    early_want (and_then (judges accepts refused) next) told (first_way_asks (judges accepts refused) next [] (quiet_judges accepts refused).underway)
 
 -- ---- what is chosen
 

@@ -19,7 +19,7 @@ use esto_opening::{Reply, Status, open_fragments};
 use esto_planning::planned_plans_have_their_form;
 use esto_ports::Shelf;
 use esto_query::Query;
-use esto_run::{Pick, answers_are_over_files, answers_text, fragments_of_picks, union_text};
+use esto_run::{Pick, answers_are_over_files, answers_text, fragments_of_picks, text_of_picks};
 use esto_semantics::chosen_atoms_are_named;
 use esto_term::{List, OutOfMemory};
 use std::alloc::Global;
@@ -48,7 +48,7 @@ fn run_picks<S: Shelf>(
     chosen_atoms_are_named();
     let numbers = fragments_of_picks(alloc, picks)?;
     let opened = open_fragments(alloc, shelf, catalogue, &numbers)?;
-    let text = union_text(alloc, &queries[0], picks, &catalogue.fragments, opened)?;
+    let text = text_of_picks(alloc, &queries[0], picks, &catalogue.fragments, opened)?;
     Ok(Reply::Done(text))
 }
 

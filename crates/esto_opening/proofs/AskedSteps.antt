@@ -2,7 +2,7 @@
 use Rattle.std.proofs.Common.{◌≡◌, ◌⊎◌, ℕ, List, [], ◌∷◌, ◌++◌, Option, Some, None, Result, Ok, Err, inl, inr, refl, sym, ap, subst, ◌∙◌, append-nil}
 use Rattle.std.specs.Result.{IsErrAnd}
 use Rattle.std.proofs.lemmas.List.{append_assoc}
-use Rattle.esto_course.specs.Course.{Course, Names, IsQuiet, and_then}
+use Rattle.esto_course.specs.Course.{Course, Names, IsQuiet, judges, and_then}
 use Rattle.esto_course.specs.Course.Point.{went, stopped, underway}
 use Rattle.esto_course.specs.Course.Stops.{is_free, refused}
 use Rattle.esto_course.proofs.Asking.{first_stop_asks, first_way_asks, then_asks, quiet_judges, quiet_gives, quiet_refuses, quiet_demands, quiet_then}
@@ -81,6 +81,18 @@ quiet_asks course told result quiet answer = record { names = []; told = told_no
 -- want of memory in a step, before it asks for anything
 pub early_want : {A : Type 0} (course : Course Status A) (told : Option Names) → course.asks [] underway → AsksIn told told course (Err OutOfMemory)
 early_want course told way = record { names = []; told = told_nothing told; asks = wanting refl way }
+
+-- a judgement accepts a value, and asks for nothing
+pub accepted : {A : Type 0} (told : Option Names) (accepts : A → Type 0) (refused : Status → Type 0) (value : A) → accepts value
+    → AsksIn told told (judges accepts refused) (Ok value)
+unfolding judges
+accepted told accepts refused value is = quiet_asks (judges accepts refused) told (Ok value) (quiet_judges accepts refused) is
+
+-- want of memory in a judgement that is a first step
+pub wanted : {A B : Type 0} (told : Option Names) (accepts : A → Type 0) (refused : Status → Type 0) (next : A → Course Status B)
+    → AsksIn told told (and_then (judges accepts refused) next) (Err OutOfMemory)
+wanted told accepts refused next =
+    early_want (and_then (judges accepts refused) next) told (first_way_asks (judges accepts refused) next [] (quiet_judges accepts refused).underway)
 
 -- an error that `?` hands on
 pub handed_asks : {A : Type 0} {old new : Option Names} (course : Course Status A) (refusal : Status) (result : Result A Status)

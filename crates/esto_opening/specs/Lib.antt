@@ -1,5 +1,6 @@
 pub mod Line
 pub mod Answers
+pub mod Replies
 pub mod Fetch
 pub mod Calm
 pub mod Asked

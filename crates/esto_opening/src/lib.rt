@@ -20,4 +20,4 @@ pub use line::status_line;
 pub use opening::{CATALOGUE_LIMIT, QUERY_LIMIT, open_catalogue, open_query};
 pub use reply::Reply;
 pub use status::Status;
-pub use unions::{Queries, open_union, union_text};
+pub use unions::{Queries, open_union, union_rows_text};

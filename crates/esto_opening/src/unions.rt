@@ -72,7 +72,11 @@ pub fn open_union<S: Shelf>(
 
 /// The text of rows of answers of a union: a CSV record of the names of its first query's head, and a record of each row,
 /// in order.
-pub fn union_text(alloc: Global, queries: &Queries, rows: &TextRows) -> Result<Bytes, OutOfMemory>
+pub fn union_rows_text(
+    alloc: Global,
+    queries: &Queries,
+    rows: &TextRows,
+) -> Result<Bytes, OutOfMemory>
     requires union { FormUnion queries.now }
     requires fit { FitHeads queries.now rows.now }
     ensures { IfOk result (λ text. text ≡ union_rows_text queries.now rows.now) }

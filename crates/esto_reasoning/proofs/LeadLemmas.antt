@@ -6,7 +6,7 @@ use Rattle.esto_constraint.specs.Constraints.{rules_of}
 use Rattle.esto_course.specs.Course.{Course, gives, and_then}
 use Rattle.esto_course.proofs.Determined.{then_agree, gives_agree}
 use Rattle.esto_opening.specs.Alike.{CataloguesOpenAlike, IsSameQuery, QueriesOpenAlike}
-use Rattle.esto_opening.specs.Calm.{AgreeCalmly, Leads}
+use Rattle.esto_opening.specs.Calm.{AgreeCalmly, IsOne, Leads, SaysAlways}
 use Rattle.esto_opening.specs.Line.{line_of}
 use Rattle.esto_opening.specs.Opening.{opens_catalogue, opens_query}
 use Rattle.esto_opening.specs.declared.reply.Reply.TheVariants.{Done}
@@ -21,7 +21,7 @@ use Rattle.esto_query.specs.declared.query.Query.{Query}
 use Rattle.esto_semantics.specs.Queries.{ConjunctiveQuery}
 use Rattle.esto_semantics.specs.Rules.{Rule}
 use Rattle.esto_reasoning.specs.Contains.{compares, contains_course}
-use Rattle.esto_reasoning.specs.Laws.{ComparedAlike, IsOne, MinimisedAlike, Says}
+use Rattle.esto_reasoning.specs.Laws.{ComparedAlike, MinimisedAlike}
 use Rattle.esto_reasoning.specs.Minimise.{minimise_course, minimises}
 use Rattle.esto_reasoning.proofs.AlikeLemmas.{compares_by, minimises_by}
 
@@ -38,7 +38,7 @@ agreed_leads Same course other value Refusal agree goes = record {
 
 -- a text that is the reply
 replies_say : (course : Course Status (List ℕ)) (Fact : Status → List ℕ → Type 0) → Leads course (Fact status.Done) (λ said. Fact said (line_of said))
-    → Says (and_then course (λ text. gives (Done text))) Fact
+    → SaysAlways (and_then course (λ text. gives (Done text))) Fact
 replies_say course Fact leads =
     then-leads _ _ (Fact status.Done) _ _ leads (λ text fact. leads-more _ _ _ _ (λ reply is. (text, is, fact)) (gives-leads (Done text) _))
 
@@ -98,7 +98,7 @@ module _ (catalogues : CataloguesOpenAlike) (queries : QueriesOpenAlike) (files 
     pub contains_says : (Fact : Status → List ℕ → Type 0) (left_name right_name : List ℕ) (left right : Query)
         → (opens_query (Some files) left_name catalogue).goes left → (opens_query (Some files) right_name catalogue).goes right
         → Leads (compares catalogue left right) (Fact status.Done) (λ said. Fact said (line_of said))
-        → Says (contains_course (Some files) catalogue_name left_name right_name) Fact
+        → SaysAlways (contains_course (Some files) catalogue_name left_name right_name) Fact
     contains_says Fact left_name right_name left right left_opens right_opens leads =
         then-leads _ _ (AreSame catalogue) _ _ (opened_leads _) (λ other alike.
         then-leads _ _ (IsSameQuery left) _ _ (read_leads other alike left_name left left_opens _) (λ other_left lefts.
@@ -109,7 +109,7 @@ module _ (catalogues : CataloguesOpenAlike) (queries : QueriesOpenAlike) (files 
     pub minimise_says : (Fact : Status → List ℕ → Type 0) (query_name : List ℕ) (query : Query)
         → (opens_query (Some files) query_name catalogue).goes query
         → Leads (minimises catalogue query) (Fact status.Done) (λ said. Fact said (line_of said))
-        → Says (minimise_course (Some files) catalogue_name query_name) Fact
+        → SaysAlways (minimise_course (Some files) catalogue_name query_name) Fact
     minimise_says Fact query_name query query_opens leads =
         then-leads _ _ (AreSame catalogue) _ _ (opened_leads _) (λ other alike.
         then-leads _ _ (IsSameQuery query) _ _ (read_leads other alike query_name query query_opens _) (λ other_query same.

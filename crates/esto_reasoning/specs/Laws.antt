@@ -2,14 +2,8 @@
 use Rattle.std.specs.Prelude.{◌≡◌, ℕ, List, Some}
 use Rattle.esto_catalog.specs.Determined.{AreSame}
 use Rattle.esto_catalog.specs.declared.catalogue.Catalogue.{Catalogue}
-use Rattle.esto_course.specs.Course.{Course}
-use Rattle.esto_opening.specs.Calm.{AgreeCalmly, Leads}
-use Rattle.esto_opening.specs.Line.{line_of}
+use Rattle.esto_opening.specs.Calm.{AgreeCalmly, IsOne, SaysAlways}
 use Rattle.esto_opening.specs.Opening.{opens_catalogue, opens_query}
-use Rattle.esto_opening.specs.declared.reply.Reply.{Reply}
-use Rattle.esto_opening.specs.declared.reply.Reply.TheVariants.{Done}
-use Rattle.esto_opening.specs.declared.status.Status.{Status}
-use Rattle.esto_opening.specs.declared.status.Status.TheVariants as status
 use Rattle.esto_ports.specs.Files.{Files}
 use Rattle.esto_query.specs.Making.{query_of}
 use Rattle.esto_query.specs.declared.query.Query.{Query}
@@ -35,10 +29,6 @@ MinimisedAlike =
 
 -- ---- one outcome
 
--- The course over the files agrees with itself where no fetch is at a fault: it has one reply or one refusal.
-abbrev pub IsOne : Course Status Reply → Type 0
-IsOne course = AgreeCalmly ◌≡◌ course course
-
 abbrev pub ContainsIsOne : Type 0
 ContainsIsOne = (files : Files) (catalogue_name left_name right_name : List ℕ) → IsOne (contains_course (Some files) catalogue_name left_name right_name)
 
@@ -47,21 +37,17 @@ MinimiseIsOne = (files : Files) (catalogue_name query_name : List ℕ) → IsOne
 
 -- ---- which outcome
 
--- The fact holds of each reply, which is Done with a text, and of each refusal with its line, where no fetch is at a fault.
-abbrev pub Says : Course Status Reply → (Status → List ℕ → Type 0) → Type 0
-Says course Fact = Leads course (λ reply. (text : List ℕ) × (reply ≡ Done text) × Fact status.Done text) (λ said. Fact said (line_of said))
-
 -- What is told of two queries is exact, for each catalogue and for the queries over it that the files say.
 abbrev pub ContainsIsExact : Type 0
 ContainsIsExact =
     (files : Files) (catalogue_name left_name right_name : List ℕ) (catalogue : Catalogue) (left right : Query)
     → (opens_catalogue (Some files) catalogue_name).goes catalogue → (opens_query (Some files) left_name catalogue).goes left
     → (opens_query (Some files) right_name catalogue).goes right
-    → Says (contains_course (Some files) catalogue_name left_name right_name) (IsExactContains catalogue left right)
+    → SaysAlways (contains_course (Some files) catalogue_name left_name right_name) (IsExactContains catalogue left right)
 
 -- So is what a query is minimised to.
 abbrev pub MinimiseIsExact : Type 0
 MinimiseIsExact =
     (files : Files) (catalogue_name query_name : List ℕ) (catalogue : Catalogue) (query : Query)
     → (opens_catalogue (Some files) catalogue_name).goes catalogue → (opens_query (Some files) query_name catalogue).goes query
-    → Says (minimise_course (Some files) catalogue_name query_name) (IsExactMinimise catalogue query)
+    → SaysAlways (minimise_course (Some files) catalogue_name query_name) (IsExactMinimise catalogue query)

@@ -1,6 +1,6 @@
 //! The run of a rewriting: from the bytes of fragments' files to the text of a query's answers. Start from
 //! `fragments_of_set`, `open_fragment` and `run_text`; for several sets
-//! together, from `fragments_of_picks` and `union_text`.
+//! together, from `fragments_of_picks` and `text_of_picks`.
 #![tactic(auto)]
 
 mod answers;
@@ -24,5 +24,5 @@ pub use opened::{no_rows, open_fragment};
 pub use picks::Pick;
 pub use run::{rows_of_set, run_text};
 pub use store::open_store;
-pub use unions::union_text;
+pub use unions::text_of_picks;
 pub use used::{fragments_of_picks, fragments_of_set};

@@ -89,7 +89,7 @@ fn answers_of_picks(
 /// The text of the rows that are an answer of the candidate of one of the picks over the rows of the fragments, each row
 /// once, in rising order, under the names of the query's head, which is as long as that of each pick's plan. It rests on the
 /// rows of those fragments alone that the picks' sets use.
-pub fn union_text(
+pub fn text_of_picks(
     alloc: Global,
     query: &Query,
     picks: &[Pick],

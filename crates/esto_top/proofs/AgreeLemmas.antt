@@ -5,7 +5,8 @@ use Rattle.esto_opening.specs.Calm.{AgreeCalmly}
 use Rattle.esto_opening.specs.Line.{line_of}
 use Rattle.esto_opening.specs.declared.reply.Reply.{Reply}
 use Rattle.esto_opening.specs.declared.status.Status.{Status}
-use Rattle.esto_top.specs.Outcome.{Says, reply_status, reply_text}
+use Rattle.esto_opening.specs.Replies.{reply_status, reply_text}
+use Rattle.esto_top.specs.Outcome.{Says}
 use Rattle.esto_top.specs.Outcome.Says.{replies, refuses as says_refuses}
 
 -- courses that agree say one status and one text

@@ -41,7 +41,8 @@ use Rattle.esto_opening.specs.declared.status.Status.TheVariants as status
 use Rattle.esto_opening.proofs.RefusalLemmas.{Refuses, fragments_refuse, gives_refuses, judges_refuses, then_refuses}
 use Rattle.esto_top.specs.DataOutcomes.{OutcomesAgree}
 use Rattle.esto_top.specs.Headline.{FilesSay}
-use Rattle.esto_top.specs.Outcome.{Says, reply_status, reply_text}
+use Rattle.esto_opening.specs.Replies.{reply_status, reply_text}
+use Rattle.esto_top.specs.Outcome.{Says}
 use Rattle.esto_top.specs.Outcome.Says.{replies, refuses}
 use Rattle.esto_top.specs.Run.{IsRunText, run_course, runs_end, runs_item, runs_queries, runs_query}
 use Rattle.esto_planning.specs.Choice.HasNoPlace.{is_empty, is_above}

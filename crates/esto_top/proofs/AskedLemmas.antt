@@ -10,7 +10,7 @@ use Rattle.esto_ports.specs.declared.ports.SinkError.TheVariants as sink
 use Rattle.esto_opening.specs.Answers.{Answers, IsCaused, IsWant}
 use Rattle.esto_opening.specs.Asked.{AsksAsTold, AsksAt, AsksIn, EndsAtFault, FetchesBy, FetchesToAnswer}
 use Rattle.esto_opening.specs.Asked.AsksToStop.{wanting, stopping}
-use Rattle.esto_opening.specs.Asked.Fetches.{to_value, to_refusal}
+use Rattle.esto_opening.specs.Asked.FetchesToStatus.{by_reply, by_refusal}
 use Rattle.esto_opening.specs.Asked.FetchesToAnswer.{whole as all_fetched, fault as fetched_to_fault}
 use Rattle.esto_opening.specs.declared.reply.Reply.{Reply}
 use Rattle.esto_opening.specs.declared.reply.Reply.TheVariants as reply
@@ -18,7 +18,8 @@ use Rattle.esto_opening.specs.declared.status.Status.{Status}
 use Rattle.esto_opening.specs.declared.status.Status.TheVariants.{OutOfMemory, ReadFault, Usage, WriteFault}
 use Rattle.esto_opening.proofs.AskedSteps.{quiet_asks}
 use Rattle.esto_top.specs.Grammar.{Request, course_of_asked}
-use Rattle.esto_top.specs.Outcome.{Finishes, PutsOnce, reply_status}
+use Rattle.esto_opening.specs.Replies.{reply_status}
+use Rattle.esto_top.specs.Outcome.{Finishes, PutsOnce}
 use Rattle.esto_top.specs.Outcome.Finishes.{whole, cut, memory}
 use Rattle.esto_top.proofs.Mediation.{refused_by}
 
@@ -27,8 +28,8 @@ use Rattle.esto_top.proofs.Mediation.{refused_by}
 module _ (course : Course Status Reply) (rose : Type 0) (names : Names) where
   -- the names of a reply
   replied : (reply : Reply) → course.asks names (went reply) → FetchesBy course rose names (reply_status reply)
-  replied (reply.Done text) asks = to_value (reply.Done text) asks
-  replied (reply.Unsatisfiable clash text) asks = to_value (reply.Unsatisfiable clash text) asks
+  replied (reply.Done text) asks = by_reply (reply.Done text) refl asks
+  replied (reply.Unsatisfiable clash text) asks = by_reply (reply.Unsatisfiable clash text) refl asks
 
   -- the names of a refusal
   told_refusal : (refusal : Status) → ¬ (IsWant refusal) → IsCaused rose refusal → course.asks names (stopped refusal) → EndsAtFault refusal names
@@ -36,19 +37,19 @@ module _ (course : Course Status Reply) (rose : Type 0) (names : Names) where
   told_refusal OutOfMemory isnt caused asks ends = absurd (isnt refl)
   told_refusal (ReadFault name) isnt caused asks ends = (caused.cause, asks, ends)
   told_refusal WriteFault isnt caused asks ends = absurd caused.cause
-  told_refusal refusal isnt caused asks ends = to_refusal refusal (record { cause = tt }) asks
+  told_refusal refusal isnt caused asks ends = by_refusal (record { cause = tt }) asks
 
   any_refusal : (refusal : Status) → ¬ (IsWant refusal) → IsCaused rose refusal → course.asks names (stopped refusal) → EndsAtFault refusal names
       → FetchesToAnswer course rose names
   any_refusal OutOfMemory isnt caused asks ends = absurd (isnt refl)
   any_refusal (ReadFault name) isnt caused asks ends = fetched_to_fault name (caused.cause, asks, ends)
   any_refusal WriteFault isnt caused asks ends = absurd caused.cause
-  any_refusal refusal isnt caused asks ends = all_fetched (to_refusal refusal (record { cause = tt }) asks)
+  any_refusal refusal isnt caused asks ends = all_fetched refusal (by_refusal (record { cause = tt }) asks)
 
   -- the names of an answer, or of some moment under way
   answered : (answer : Result Reply Status) → Answers course rose answer → AsksAt course names answer
       → FetchesToAnswer course rose names ⊎ course.asks names underway
-  answered (Ok reply) goes asks = inl (all_fetched (to_value reply asks))
+  answered (Ok reply) goes asks = inl (all_fetched (reply_status reply) (by_reply reply refl asks))
   answered (Err refusal) stops (wanting want asks) = inr asks
   answered (Err refusal) (is_free want) (stopping isnt asks ends) = absurd (isnt want)
   answered (Err refusal) (refused caused stops) (stopping isnt asks ends) = inl (any_refusal refusal isnt caused asks ends)
@@ -62,7 +63,7 @@ module _ (course : Course Status Reply) (rose : Type 0) (names : Names) where
     finished (Err refusal) (refused caused stops) (stopping isnt asks ends) (whole text is appends) =
         subst (FetchesBy course rose names) (sym is.0) (told_refusal refusal isnt caused asks ends)
     finished (Ok reply) goes asks (cut said text kept is risen appends e) =
-        subst (FetchesBy course rose names) (sym e) (all_fetched (to_value reply asks))
+        subst (FetchesBy course rose names) (sym e) (all_fetched (reply_status reply) (by_reply reply refl asks))
     finished (Err refusal) (is_free want) asks (cut said text kept is risen appends e) = absurd (is.2 want)
     finished (Err refusal) (refused caused stops) (wanting want asks) (cut said text kept is risen appends e) = absurd (is.2 want)
     finished (Err refusal) (refused caused stops) (stopping isnt asks ends) (cut said text kept is risen appends e) =

@@ -13,7 +13,8 @@ use Rattle.esto_term.proofs.ListLemmas.{Contains-nil}
 use Rattle.esto_top.specs.Bench.{bench_course}
 use Rattle.esto_top.specs.Benches.{BenchesAlways, IsExactBench}
 use Rattle.esto_top.specs.Grammar.{course_of, is_made_size, value_of}
-use Rattle.esto_top.specs.Outcome.{Mediates, Says, reply_status, reply_text}
+use Rattle.esto_opening.specs.Replies.{reply_status, reply_text}
+use Rattle.esto_top.specs.Outcome.{Mediates, Says}
 use Rattle.esto_top.specs.Outcome.Mediates.{whole, cut, memory as nothing}
 use Rattle.esto_top.specs.Outcome.Says.{replies, refuses}
 use Rattle.esto_opening.specs.declared.reply.Reply.TheVariants.{Done}

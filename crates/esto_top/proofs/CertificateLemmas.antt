@@ -1,12 +1,12 @@
 -- What `verify` answers where nothing is wrong with the catalogue's and the query's files.
 use Rattle.std.proofs.Common.{◌≡◌, ℕ, List, length, Option, Some, None, sym, subst, ◌∙◌, inl, inr}
 use Rattle.esto_cert.specs.Showing.{IsSafelyContained}
-use Rattle.esto_certify.specs.Laws.{AcceptedSetsAreContained, Says as SaysAlways, SaysVerdict, VerifyIsOne, VerifyRefusesNumbers, VerifySaysVerdicts}
+use Rattle.esto_certify.specs.Laws.{AcceptedSetsAreContained, SaysVerdict, VerifyIsOne, VerifyRefusesNumbers, VerifySaysVerdicts}
 use Rattle.esto_certify.specs.Verify.{verify_course}
 use Rattle.esto_constraint.specs.Constraints.{rules_of}
 use Rattle.esto_course.proofs.Determined.{judges_agree, then_agree}
 use Rattle.esto_course.specs.Course.{and_then, judges}
-use Rattle.esto_opening.specs.Calm.{AgreeCalmly}
+use Rattle.esto_opening.specs.Calm.{AgreeCalmly, SaysAlways}
 use Rattle.esto_opening.specs.Opening.{opens_catalogue, opens_query}
 use Rattle.esto_opening.specs.declared.status.Status.{Status}
 use Rattle.esto_opening.specs.declared.status.Status.TheVariants as status

@@ -5,13 +5,15 @@ use Rattle.esto_data.specs.Answer.{answer_course}
 use Rattle.esto_data.specs.Audit.{audit_course}
 use Rattle.esto_data.specs.Exact.{IsExactAnswer, IsExactAudit, IsExactFill, IsExactUnionAnswer}
 use Rattle.esto_data.specs.Fill.{fill_course}
-use Rattle.esto_data.specs.Laws.{AnswersAreExact, AuditsAreExact, FillsAreExact, UnionAnswersAreExact, Says as SaysAlways}
+use Rattle.esto_opening.specs.Calm.{SaysAlways}
+use Rattle.esto_data.specs.Laws.{AnswersAreExact, AuditsAreExact, FillsAreExact, UnionAnswersAreExact}
 use Rattle.esto_ports.specs.Files.{Files}
 use Rattle.esto_opening.specs.declared.reply.Reply.{Reply}
 use Rattle.esto_opening.specs.declared.status.Status.{Status}
 use Rattle.esto_top.specs.DataOutcomes.{AnswersWhereTold, AuditsWhereTold, FillsWhereTold, OutcomesAreAnswers, OutcomesAreAudits, OutcomesAreFills, OutcomesAreUnionAnswers, UnionAnswersWhereTold}
 use Rattle.esto_top.specs.Grammar.{course_of}
-use Rattle.esto_top.specs.Outcome.{CompleteWhereTold, Says, reply_status, reply_text}
+use Rattle.esto_opening.specs.Replies.{reply_status, reply_text}
+use Rattle.esto_top.specs.Outcome.{CompleteWhereTold, Says}
 use Rattle.esto_top.specs.Outcome.Says.{replies, refuses}
 
 -- what holds of the replies and refusals of a course holds of what it says

@@ -20,7 +20,6 @@ use Rattle.esto_views.specs.Fragments.{views_of, patterns_of, weights_of}
 use Rattle.esto_views.specs.Plans.{plan_query}
 use Rattle.esto_views.specs.declared.plan.Plan.{Plan}
 use Rattle.esto_course.specs.Course.{and_then, gives, judges}
-use Rattle.esto_data.specs.Laws.{Says as SaysAlways}
 use Rattle.esto_top.specs.Headline.{FilesSay, HasAnswers, PrintsExactly, IsExactList, IsExactRefusal, IsEmptyWithoutRewriting, SaidOfLists, OutcomesAreLists, OutcomesAreRefusals, HoldsOfLists}
 use Rattle.esto_opening.specs.Line.{line_of}
 use Rattle.esto_top.specs.List.{list_course, lists_queries, lists_query}
@@ -34,7 +33,7 @@ use Rattle.esto_opening.specs.Alike.{AreSameQueries, IsSameQuery}
 use Rattle.esto_opening.specs.Opening.{opens_catalogue, opens_union}
 use Rattle.esto_top.proofs.DataLemmas.{says_fact}
 use Rattle.esto_top.proofs.LawRecords.{OpeningLaws, PlanningLaws}
-use Rattle.esto_opening.specs.Calm.{Leads}
+use Rattle.esto_opening.specs.Calm.{Leads, SaysAlways}
 use Rattle.esto_opening.proofs.LeadLemmas.{then-leads, leads-more, gives-leads}
 use Rattle.esto_top.proofs.SayLemmas.{alone_opens, catalogue_leads, catalogue_opens, one_alone, union_leads}
 use Rattle.esto_planning.specs.Listing.{IsClash, IsListOf, IsListing, IsPlanned}

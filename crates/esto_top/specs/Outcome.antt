@@ -6,21 +6,11 @@ use Rattle.esto_ports.specs.Files.{Files}
 use Rattle.esto_opening.specs.Line.{line_of}
 use Rattle.esto_course.specs.Course.{Course}
 use Rattle.esto_opening.specs.Answers.{IsCaused}
+use Rattle.esto_opening.specs.Replies.{reply_status, reply_text}
 use Rattle.esto_top.specs.Grammar.{course_of}
 use Rattle.esto_opening.specs.declared.reply.Reply.{Reply}
-use Rattle.esto_opening.specs.declared.reply.Reply.TheVariants as reply
 use Rattle.esto_opening.specs.declared.status.Status.{Status}
 use Rattle.esto_opening.specs.declared.status.Status.TheVariants as status
-
--- The status of a reply.
-abbrev pub reply_status : Reply → Status
-reply_status (reply.Done text) = status.Done
-reply_status (reply.Unsatisfiable clash text) = status.Unsatisfiable clash
-
--- The text of a reply.
-abbrev pub reply_text : Reply → List ℕ
-reply_text (reply.Done text) = text
-reply_text (reply.Unsatisfiable clash text) = text
 
 -- A course says a status and the text that is put with it: a reply's, or a refusal's line.
 pub data Says (course : Course Status Reply) (rose : Type 0) (status : Status) (text : List ℕ) : Type 0 where

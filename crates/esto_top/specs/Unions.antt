@@ -11,7 +11,8 @@ use Rattle.esto_opening.specs.declared.status.Status.{Status}
 use Rattle.esto_ports.specs.Files.{Files}
 use Rattle.esto_query.specs.declared.query.Query.{Query}
 use Rattle.esto_top.specs.Headline.{HoldsOfPut}
-use Rattle.esto_top.specs.Outcome.{Outcome, reply_status, reply_text}
+use Rattle.esto_opening.specs.Replies.{reply_status, reply_text}
+use Rattle.esto_top.specs.Outcome.{Outcome}
 use Rattle.esto_top.specs.Runs.{AsksRun}
 
 -- The files say this catalogue, and a union of these queries over it, which are two or more.

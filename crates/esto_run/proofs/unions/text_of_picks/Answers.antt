@@ -9,7 +9,7 @@ use Rattle.esto_run.specs.Opened.{HaveTexts, Held, held_of, rows_held}
 use Rattle.esto_run.specs.Picks.{candidate_of}
 use Rattle.esto_run.proofs.RunLemmas.{all_long}
 use Rattle.esto_run.proofs.UnionLemmas.{one_long}
-use Rattle.esto_run.proofs.unions.union_text.Goals as goal
+use Rattle.esto_run.proofs.unions.text_of_picks.Goals as goal
 
 pub answers_of_picks-requires-clause-texts : goal.answers_of_picks-requires-clause-texts
 answers_of_picks-requires-clause-texts c =
