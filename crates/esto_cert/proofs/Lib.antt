@@ -1,4 +1,3 @@
-mod MeetLemmas
 mod ReadLemmas
 mod ZipLemmas
 mod LinkLemmas
