@@ -13,5 +13,7 @@ mod reading;
 
 pub use check::{CertError, check_certificate};
 pub use judging::{body_of, made_at};
-pub use laws::{accepted_certificates_derive, accepted_certificates_show, verdicts_are_one};
+pub use laws::{
+    accepted_certificates_derive, accepted_certificates_show, verdicts_are_moved, verdicts_are_one,
+};
 pub use line::{Line, Numbers};
