@@ -7,4 +7,5 @@ mod VerdictLemmas
 mod WorldLemmas
 mod ShowLemmas
 mod OneLemmas
+mod MoveLemmas
 mod DeriveLemmas

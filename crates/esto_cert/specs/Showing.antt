@@ -6,12 +6,8 @@ use Rattle.esto_constraint.specs.Constraints.{rules_of}
 use Rattle.esto_constraint.specs.declared.rule.Constraint.{Constraint}
 use Rattle.esto_query.specs.Making.{query_of}
 use Rattle.esto_query.specs.declared.query.Query.{Query}
-use Rattle.esto_semantics.specs.Containment.{IsContained}
-use Rattle.esto_semantics.specs.Listed.{candidate, HasCandidate, IsSafe}
-use Rattle.esto_semantics.specs.Queries.{ConjunctiveQuery, IsAnswer}
 use Rattle.esto_semantics.specs.Rules.{Rule}
 use Rattle.esto_semantics.specs.Sets.{Has}
-use Rattle.esto_semantics.specs.Views.{IsFragmentAnswer}
 use Rattle.esto_semantics.specs.declared.fact.Fact.{Fact}
 use Rattle.esto_prov.specs.Derivations.{Derives, leaves_of}
 use Rattle.esto_prov.specs.declared.why.Why.{Why}
@@ -21,6 +17,7 @@ use Rattle.esto_views.specs.Plans.{plan_query}
 use Rattle.esto_views.specs.declared.expansion.ExpandedFact.{ExpandedFact}
 use Rattle.esto_views.specs.declared.fragments.FragmentDef.{FragmentDef}
 use Rattle.esto_views.specs.declared.plan.Plan.{Plan}
+use Rattle.esto_world_laws.specs.Contained.{IsSafelyContained}
 use Rattle.esto_world_laws.specs.Matches.{match_map}
 use Rattle.esto_world_laws.specs.Worlds.{Linked}
 use Rattle.esto_world_laws.specs.declared.entry.Claim.{Claim}
@@ -32,12 +29,6 @@ use Rattle.esto_cert.specs.Linking.{IsAmong}
 use Rattle.esto_cert.specs.declared.line.Line.{Line}
 use Rattle.esto_cert.specs.declared.line.Line.TheVariants.{Match}
 use Rattle.esto_cert.specs.declared.linking.Equality.{Equality}
-
--- The set has a candidate, which is safe and contained in the query under the rules.
-pub record IsSafelyContained (rules : List Rule) (views : List ConjunctiveQuery) (query plan : ConjunctiveQuery) (set : List Bool) : Type 0 where
-  pub has_candidate : HasCandidate plan set
-  pub safe : IsSafe plan set
-  pub contained : IsContained rules (IsFragmentAnswer views (candidate plan set)) (IsAnswer query)
 
 -- An accepted certificate shows that its set has a candidate, which is safe and contained in the query under the rules.
 abbrev pub AcceptedCertificatesShow : Type 0

@@ -3,14 +3,8 @@ ghost use Rattle.esto_cert.specs.Showing.{AcceptedCertificatesDerive, AcceptedCe
 
 use esto_constraint::rules_are_sound;
 use esto_query::queries_are_sound;
-use esto_semantics::{
-    an_expansion_means_the_same, an_expansion_of_a_plan_expands_its_candidates,
-    chosen_atoms_are_named,
-};
 use esto_views::plans_are_sound;
-use esto_world_laws::{
-    derived_entries_are_sound, matches_decide_containment, matches_rest_on_atoms,
-};
+use esto_world_laws::{derived_entries_are_sound, matched_sets_are_contained};
 
 /// A law: where a certificate for a set of a plan's atoms is accepted, the set is safe, and its candidate is contained in
 /// the query under the rules.
@@ -21,11 +15,7 @@ pub fn accepted_certificates_show()
     rules_are_sound();
     queries_are_sound();
     derived_entries_are_sound();
-    matches_decide_containment();
-    matches_rest_on_atoms();
-    chosen_atoms_are_named();
-    an_expansion_means_the_same();
-    an_expansion_of_a_plan_expands_its_candidates();
+    matched_sets_are_contained();
 }
 
 /// A law: each line of an accepted certificate before the last makes a claim, and has a derivation of it from the expanded
