@@ -1,18 +1,14 @@
 -- A set answers a query, or a part of a union, exactly where its world has a match of the query, or of one of the union's queries, head to head with the
 -- plan's head.
 use Rattle.std.proofs.Common.{◌≡◌, ◌⊎◌, ◌↔◌, ◌<◌, inl, inr, ℕ, Bool, List, Some, length, map, slice_get, Contains, refl, sym, ap, subst, ◌∙◌, arith}
-use Rattle.std.proofs.lemmas.List.{length-map}
 use Rattle.esto_term.specs.declared.term.Term.{Term}
-use Rattle.esto_term.specs.declared.term.Term.TheVariants.{Plain}
-use Rattle.esto_term.proofs.ChoiceLemmas.{Decided}
-use Rattle.esto_term.proofs.DistinctLemmas.{decided_contains}
-use Rattle.esto_term.proofs.ListLemmas.{Contains-at, Contains-map, Contains-map_from, place-from_Contains, thing_at}
+use Rattle.esto_term.proofs.ListLemmas.{Contains-at, Contains-map, Contains-map_from, place-from_Contains}
 use Rattle.esto_semantics.specs.Containment.{IsContained, IsSatisfiable}
 use Rattle.esto_semantics.specs.ExpansionLaws.{ExpansionAnswers, PartExpandsCandidate}
 use Rattle.esto_semantics.specs.Facts.{image}
-use Rattle.esto_semantics.specs.Listed.{candidate, chosen, AnswersQuery, HasCandidate, IsSafe}
+use Rattle.esto_semantics.specs.Listed.{candidate, AnswersQuery}
 use Rattle.esto_semantics.specs.ListedLaws.{ChosenAreNamed}
-use Rattle.esto_semantics.specs.Maps.{IsConstant, IsFixedBy}
+use Rattle.esto_semantics.specs.Maps.{IsConstant}
 use Rattle.esto_semantics.specs.PlanLaws.{ContainedCandidateIsEquivalent}
 use Rattle.esto_semantics.specs.Plans.{IsUniversalPlan}
 use Rattle.esto_semantics.specs.Queries.{ConjunctiveQuery, IsAnswer, IsQuery}
@@ -22,19 +18,19 @@ use Rattle.esto_semantics.specs.Sets.{Has}
 use Rattle.esto_semantics.specs.Views.{IsFragmentAnswer}
 use Rattle.esto_semantics.specs.declared.fact.Fact.{Fact}
 use Rattle.esto_semantics.proofs.SetLemmas.{beyond}
-use Rattle.esto_semantics.proofs.TermLemmas.{Const-apart-Made, Const-apart-Plain, decided_term, term_cases}
 use Rattle.esto_plan_laws.specs.UnionSets.{AnswersUnion}
 use Rattle.esto_query.specs.Making.{query_of}
 use Rattle.esto_query.specs.declared.query.Query.{Query}
 use Rattle.esto_chase_laws.specs.RunLaws.{StartsHaveTheBody}
 use Rattle.esto_views.specs.Expanded.{Expands}
 use Rattle.esto_views.specs.Fragments.{views_of}
-use Rattle.esto_views.specs.Plans.{fact_of, plan_query}
+use Rattle.esto_views.specs.Plans.{plan_query}
 use Rattle.esto_views.specs.Soundness.{IsSoundPlan}
 use Rattle.esto_views.specs.declared.expansion.ExpandedFact.{ExpandedFact}
 use Rattle.esto_views.specs.declared.fragments.FragmentDef.{FragmentDef}
 use Rattle.esto_views.specs.declared.plan.Plan.{Plan}
-use Rattle.esto_world_laws.specs.Laws.{AreFactsOf, HasGivenHead, HasMatch, RestsOn, ContainmentShowsMatches, MatchesRestOnAtoms, MatchesShowContainment}
+use Rattle.esto_world_laws.specs.Contained.{IsSafelyContained, MatchedSetsAreContained}
+use Rattle.esto_world_laws.specs.Laws.{AreFactsOf, HasGivenHead, HasMatch, ContainmentShowsMatches}
 use Rattle.esto_world_laws.specs.Worlds.{InWorld, IsBroken, IsDenied}
 use Rattle.esto_world_laws.specs.declared.entry.Claim.{Claim}
 use Rattle.esto_world_laws.specs.declared.entry.Claim.TheVariants.{Fact as Stated}
@@ -44,18 +40,11 @@ use Rattle.esto_backchase.specs.Evidence.{AreConditional}
 use Rattle.esto_backchase.proofs.ReadLemmas.{answer_matches}
 use Rattle.esto_backchase.proofs.CandidateLemmas.{chosen_start, chosen-expands, chosen-from, chosen-in_start, from-chosen, named-flat}
 
--- ---- terms
-
-decided_constant : (term : Term) → Decided (IsConstant term)
-decided_constant = term_cases (λ term. Decided (IsConstant term)) (λ text. inl (text, refl))
-    (λ number. inr (λ constant. Const-apart-Plain constant.0 number (sym constant.1)))
-    (λ rule variable frontier. inr (λ constant. Const-apart-Made constant.0 rule variable frontier (sym constant.1)))
-
 module _ (rules : List Rule) (fragments : List FragmentDef) (rank : ℕ → ℕ) (plan : Plan) (expanded : List ExpandedFact)
     (expands : Expands plan fragments expanded) (entries : List Entry) (are : AreConditional rules rank (length plan.atoms) expanded entries)
     (are_rules : AreRules rules) (sound_plan : IsSoundPlan plan.atoms plan.head plan.names) (begin : StartsHaveTheBody)
-    (expand_candidates : PartExpandsCandidate) (means : ExpansionAnswers) (named : ChosenAreNamed) (shown : MatchesShowContainment)
-    (rest : MatchesRestOnAtoms) (set : List Bool) (over : length set ≡ length plan.atoms) where
+    (expand_candidates : PartExpandsCandidate) (means : ExpansionAnswers) (named : ChosenAreNamed)
+    (shows : MatchedSetsAreContained) (set : List Bool) (over : length set ≡ length plan.atoms) where
   abbrev start : ConjunctiveQuery
   start = chosen_start plan fragments expanded expands set over begin
 
@@ -85,62 +74,13 @@ module _ (rules : List Rule) (fragments : List FragmentDef) (rank : ℕ → ℕ)
     abbrev Contained : Type 0
     Contained = IsContained rules (IsFragmentAnswer (views_of fragments) (candidate (plan_query plan) set)) (IsAnswer query)
 
-    contained_start : Contained ↔ IsContained rules (IsAnswer start) (IsAnswer query)
-    contained_start = (
-      λ contained database meets row answer. contained database meets row ((fragment_answers database row).1 answer),
-      λ contained database meets row answer. contained database meets row ((fragment_answers database row).0 answer),
-    )
+    start_contained : Contained → IsContained rules (IsAnswer start) (IsAnswer query)
+    start_contained contained database meets row answer = contained database meets row ((fragment_answers database row).1 answer)
 
-    rests : Matched → RestsOn expanded (Contains plan.head) set
-    rests matched = rest expanded rules entries set query plan.head are_rules are.derived is_query matched
+    -- ---- a match shows what the set is
 
-    -- ---- a match is safe, and has an atom
-
-    -- a head term that stands in an expanded fact of an atom stands in the atom
-    in_atom : (variable : ℕ) → Contains plan.head (Plain variable) → (fact : ExpandedFact) → Contains expanded fact → Has set fact.atom
-        → Contains fact.fact.terms (Plain variable) → IsFixedBy (chosen set (plan_query plan).body) (Plain variable)
-    in_atom variable in_head fact inside has in_fact =
-        let told = (expands.exact fact).0 inside in
-        let small : fact.atom < length (plan_query plan).body = rw length-map told.0 in
-        let atom = thing_at (plan_query plan).body fact.atom small in
-        let part = told.1.0 in
-        let view = expands.of.view fact.atom in
-        let spread = expands.of.spread fact.atom in
-        let from = Contains-map_from spread part.terms (Plain variable)
-        (subst (λ (it : Fact Term). Contains it.terms (Plain variable)) (sym told.1.2) in_fact) in
-        elim (decided_constant from.0) [
-          | inl constant ↦ absurd (Const-apart-Plain constant.0 variable
-              (sym (expands.of.keeps fact.atom constant.0) ∙ ap spread (sym constant.1) ∙ from.2))
-          | inr variable_is ↦ elim (decided_contains decided_term view.head from.0) [
-            | inl in_view ↦ inr (
-              atom.0,
-              (named set (plan_query plan).body atom.0).1 (fact.atom, has, atom.1),
-              subst (λ row. Contains row (Plain variable)) (expands.of.head fact.atom atom.0 atom.1)
-                  (subst (Contains (map spread view.head)) from.2 (Contains-map spread view.head from.0 in_view)),
-            )
-            | inr inner ↦ absurd (expands.of.outside fact.atom from.0 small
-                (record { in_body = (part, Contains-at view.body fact.place part told.1.1, from.1); no_constant = variable_is; not_in_head = inner })
-                (inr (subst (Contains plan.head) (sym from.2) in_head)))
-          ]
-        ]
-
-    match_safe : Matched → IsSafe (plan_query plan) set
-    match_safe matched term inside = elim (named-flat plan term (sound_plan.named_head term inside)) [
-      | inl constant ↦ inl constant
-      | inr (variable, is) ↦ subst (IsFixedBy (chosen set (plan_query plan).body)) (sym is) (by variable is)
-    ]
-      where
-        by : (variable : ℕ) → term ≡ Plain variable → IsFixedBy (chosen set (plan_query plan).body) (Plain variable)
-        by variable is =
-            let in_head : Contains plan.head (Plain variable) = subst (Contains plan.head) is inside in
-            let (fact, there, has, in_fact) = (rests matched).variables variable in_head in
-            in_atom variable in_head fact there has in_fact
-
-    has_candidate : Matched → HasCandidate (plan_query plan) set
-    has_candidate matched = record { over = over ∙ sym (length-map plan.atoms fact_of); some = (rests matched).some }
-
-    contained : Matched → Contained
-    contained matched = contained_start.1 (shown expanded rules entries set start query are_facts given_head (are.sound set) matched)
+    contained : Matched → IsSafelyContained rules (views_of fragments) query (plan_query plan) set
+    contained = shows rules fragments plan expanded entries set query are_rules sound_plan expands are.derived (are.sound set) over is_query
 
     -- ---- both ways
 
@@ -148,12 +88,11 @@ module _ (rules : List Rule) (fragments : List FragmentDef) (rank : ℕ → ℕ)
         (equivalent : ContainedCandidateIsEquivalent) (found : ContainmentShowsMatches) where
       to_answers : Matched → AnswersQuery rules (views_of fragments) query (plan_query plan) set
       to_answers matched =
-          let own = has_candidate matched in
-          let safe = match_safe matched in
+          let told = contained matched in
           record {
-            has_candidate = own;
-            safe = safe;
-            equivalent = (equivalent rules (views_of fragments) query (plan_query plan) set is_plan universal own safe).1 (contained matched);
+            has_candidate = told.has_candidate;
+            safe = told.safe;
+            equivalent = (equivalent rules (views_of fragments) query (plan_query plan) set is_plan universal told.has_candidate told.safe).1 told.contained;
           }
 
       from_answers : IsSatisfiable rules query → AnswersQuery rules (views_of fragments) query (plan_query plan) set → Matched
@@ -162,7 +101,7 @@ module _ (rules : List Rule) (fragments : List FragmentDef) (rank : ℕ → ℕ)
           let received : (IsBroken Holds ⊎ IsDenied rules Holds) → ⊥ =
           (λ which. are.nowhere set which start.body are_facts database meets given.0 given.1 given.2) in
           found expanded rules entries set start query are_rules are_facts given_head are.given (are.sound set) (are.closed set)
-          (λ broken. received (inl broken)) (λ denied. received (inr denied)) (contained_start.0 answers.equivalent.0)
+          (λ broken. received (inl broken)) (λ denied. received (inr denied)) (start_contained answers.equivalent.0)
 
       pub told : IsSatisfiable rules query → Matched ↔ AnswersQuery rules (views_of fragments) query (plan_query plan) set
       told satisfiable = (to_answers, from_answers satisfiable)
@@ -177,15 +116,17 @@ module _ (rules : List Rule) (fragments : List FragmentDef) (rank : ℕ → ℕ)
     OfUnion = AnswersUnion rules (views_of fragments) (map query_of queries) (plan_query plan) set
 
     to_union : OneMatched → OfUnion
-    to_union (query, inside, matched) = record {
-      has_candidate = has_candidate (query_of query) (are_queries query) matched;
-      safe = match_safe (query_of query) (are_queries query) matched;
-      contained = λ database meets row answer. (
-        query_of query,
-        Contains-map query_of queries query inside,
-        contained (query_of query) (are_queries query) matched database meets row answer,
-      );
-    }
+    to_union (query, inside, matched) =
+        let told = contained (query_of query) (are_queries query) matched in
+        record {
+          has_candidate = told.has_candidate;
+          safe = told.safe;
+          contained = λ database meets row answer. (
+            query_of query,
+            Contains-map query_of queries query inside,
+            told.contained database meets row answer,
+          );
+        }
 
     -- a term of an atom of the set is a constant, or it stands in a fact of the world
     in_world : (number : ℕ) (atom : Fact Term) → Has set number → slice_get (plan_query plan).body number ≡ Some atom

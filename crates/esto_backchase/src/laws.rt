@@ -17,7 +17,7 @@ use esto_semantics::{
     listed_sets_are_minimal, rewritings_map_onto_sets,
 };
 use esto_views::plans_are_sound;
-use esto_world_laws::{matches_decide_containment, matches_rest_on_atoms};
+use esto_world_laws::{matched_sets_are_contained, matches_decide_containment};
 
 /// A law: each query over fragments that is an executable rewriting of a satisfiable query maps to a universal plan of
 /// it, head to head, and onto a set of the plan's atoms that has one of the sets within it, where these are exactly the
@@ -56,7 +56,7 @@ pub fn entries_decide_answers()
     queries_are_sound();
     queries_have_starts();
     matches_decide_containment();
-    matches_rest_on_atoms();
+    matched_sets_are_contained();
     chosen_atoms_are_named();
     candidates_contain_the_query();
     an_expansion_means_the_same();

@@ -1,4 +1,3 @@
-mod MeetLemmas
 mod ReadLemmas
 mod ZipLemmas
 mod LinkLemmas
@@ -8,4 +7,5 @@ mod VerdictLemmas
 mod WorldLemmas
 mod ShowLemmas
 mod OneLemmas
+mod MoveLemmas
 mod DeriveLemmas

@@ -8,40 +8,12 @@ use Rattle.esto_term.specs.Order.{replaced, same_term}
 use Rattle.esto_term.specs.declared.term.Term.{Term}
 use Rattle.esto_semantics.proofs.TermLemmas.{same_term-Decides}
 use Rattle.esto_semantics.specs.declared.fact.Fact.{Fact}
-use Rattle.esto_world_laws.specs.Worlds.{Linked, here, along, back}
+use Rattle.esto_world_laws.specs.Worlds.{Linked, here, along}
 use Rattle.esto_world_laws.specs.declared.entry.Claim.{Claim}
-use Rattle.esto_world_laws.specs.declared.entry.Claim.TheVariants.{Same}
+use Rattle.esto_world_laws.specs.declared.entry.Claim.TheVariants.{Fact as Stated, Same}
+use Rattle.esto_world_laws.proofs.LinkLemmas.{Linked-back, Linked-is, Linked-more, Linked-respects, Linked-then}
 use Rattle.esto_cert.specs.Linking.{IsAmong, standing, Tells}
 use Rattle.esto_cert.specs.declared.linking.Equality.{Equality}
-
--- ---- links
-
-module _ {Holds : Claim → Type 0} where
-  pub Linked-then : (s t u : Term) → Linked Holds s t → Linked Holds t u → Linked Holds s u
-  Linked-then s t u here k = k
-  Linked-then s t u (along h l) k = along h (Linked-then _ _ _ l k)
-  Linked-then s t u (back h l) k = back h (Linked-then _ _ _ l k)
-
-  turned : (s t u : Term) → Linked Holds s t → Linked Holds s u → Linked Holds t u
-  turned s t u here k = k
-  turned s t u (along h l) k = turned _ _ _ l (back h k)
-  turned s t u (back h l) k = turned _ _ _ l (along h k)
-
-  pub Linked-back : (s t : Term) → Linked Holds s t → Linked Holds t s
-  Linked-back s t l = turned s t s l here
-
-  pub Linked-is : (s t : Term) → s ≡ t → Linked Holds s t
-  Linked-is s t e = subst (λ (u : Term). Linked Holds s u) e here
-
-  pub Linked-respects : {V : Type 0} (h : Term → V) → ((s t : Term) → Holds (Same s t) → h s ≡ h t) → (s t : Term) → Linked Holds s t → h s ≡ h t
-  Linked-respects h e s t here = refl
-  Linked-respects h e s t (along k l) = e _ _ k ∙ Linked-respects h e _ _ l
-  Linked-respects h e s t (back k l) = sym (e _ _ k) ∙ Linked-respects h e _ _ l
-
-pub Linked-more : {Holds More : Claim → Type 0} → ((s t : Term) → Holds (Same s t) → More (Same s t)) → (s t : Term) → Linked Holds s t → Linked More s t
-Linked-more more s t here = here
-Linked-more more s t (along k l) = along (more _ _ k) (Linked-more more _ _ l)
-Linked-more more s t (back k l) = back (more _ _ k) (Linked-more more _ _ l)
 
 -- ---- one more renaming
 
@@ -78,8 +50,9 @@ module _ (renamings equalities : List Equality) (facts : List (Fact Term)) (last
   abbrev pub then : Term → Term
   then term = replaced (standing renamings last.left) (standing renamings last.right) (standing renamings term)
 
-  kept : (s t : Term) → Before (Same s t) → After (Same s t)
-  kept s t held = Contains-append_left _ _ _ held
+  kept : (claim : Claim) → Before claim → After claim
+  kept (Stated fact) held = held
+  kept (Same s t) held = Contains-append_left _ _ _ held
 
   joined : After (Same last.left last.right)
   joined = Contains-append_right equalities (last ∷ []) last (Contains-head last [])

@@ -1,5 +1,5 @@
 -- The walk over the lines of a certificate.
-use Rattle.std.proofs.Common.{Bool, ◌≡◌, ◌⊎◌, inl, inr, ℕ, ◌+◌, ◌<◌, List, [], ◌∷◌, ◌++◌, drop, map, length, get_or, Option, Some, subst, refl, sym, arith, zero, suc}
+use Rattle.std.proofs.Common.{Bool, ◌≡◌, ◌⊎◌, inl, inr, ℕ, ◌+◌, ◌<◌, List, [], ◌∷◌, ◌++◌, drop, map, length, get_or, Option, Some, None, Result, Ok, Err, IfOk, subst, refl, sym, arith, zero, suc}
 use Rattle.std.proofs.lemmas.List.{drop_more}
 use Rattle.esto_term.specs.declared.term.Term.{Term}
 use Rattle.esto_constraint.specs.Constraints.{rules_of}
@@ -8,8 +8,9 @@ use Rattle.esto_semantics.specs.Queries.{ConjunctiveQuery}
 use Rattle.esto_views.specs.declared.expansion.ExpandedFact.{ExpandedFact}
 use Rattle.esto_world_laws.specs.declared.entry.Claim.{Claim}
 use Rattle.esto_cert.specs.Certificates.{Case}
-use Rattle.esto_cert.specs.Judging.{IsJudgedText, Verdict, after_end}
+use Rattle.esto_cert.specs.Judging.{Answers, IsJudgedText, Verdict, after_end}
 use Rattle.esto_cert.specs.Lines.{line_of}
+use Rattle.esto_cert.specs.declared.check.CertError.{CertError}
 use Rattle.esto_cert.specs.declared.judging.Judged.{Judged}
 use Rattle.esto_cert.specs.declared.judging.Judged.TheVariants.{Claims, Ends, Refused}
 
@@ -102,3 +103,8 @@ pub decided : (case other : Case) (texts parts : List (List ℕ)) (found verdict
 decided case other texts parts found verdict cases text is it =
     subst (λ (its : Case). Verdict its [] 1 parts verdict) cases
     (subst (λ (its : List (List ℕ)). Verdict case [] 1 its verdict) text (subst (λ (its : Option ℕ). Verdict case [] 1 texts its) is it))
+
+pub accepted_only : {A : Type 0} (Verdicts : Option ℕ → Type 0) (Shown : Type 0) (result : Result A CertError) → Answers Verdicts result
+    → (Verdicts None → Shown) → IfOk result (λ _. Shown)
+accepted_only Verdicts Shown (Ok done) answer show = show answer
+accepted_only Verdicts Shown (Err refusal) answer show = tt

@@ -64,12 +64,16 @@ Verdict case claims number (part ∷ next ∷ rest) verdict =
 abbrev pub Decides : Case → List ℕ → Option ℕ → Type 0
 Decides case bytes verdict = Verdict case [] 1 (slice_split (λ byte. byte == 10) bytes) verdict
 
+-- What a certificate for a set of a plan's atoms is for, where these are the plan's expanded facts.
+abbrev pub case_for : Plan → List Bool → List Constraint → Query → List ExpandedFact → Case
+case_for plan set rules query expanded =
+    record { expanded = expanded; set = set; rules = rules_of rules; query = query_of query; targets = plan.head }
+
 -- The same of a certificate for a set of a plan's atoms, by the plan's expansion over the fragments.
 abbrev pub DecidesFor : Plan → List FragmentDef → List Bool → List Constraint → Query → List ℕ → Option ℕ → Type 0
 DecidesFor plan fragments set rules query bytes verdict =
     (expanded : List ExpandedFact) × AreExpanded fragments 0 (length plan.names) plan.atoms expanded × Expands plan fragments expanded
-    × AreFlat (facts_of expanded)
-    × Decides (record { expanded = expanded; set = set; rules = rules_of rules; query = query_of query; targets = plan.head }) bytes verdict
+    × AreFlat (facts_of expanded) × Decides (case_for plan set rules query expanded) bytes verdict
 
 -- The answer is the verdict, or memory is wanting.
 abbrev pub Answers : {A : Type 0} → (Option ℕ → Type 0) → Result A CertError → Type 0

@@ -1,6 +1,5 @@
 pub mod Lines
 pub mod Linking
-pub mod Taking
 pub mod Certificates
 pub mod Matching
 pub mod Judging

@@ -1,10 +1,15 @@
 //! Checking certificates.
 ghost use Rattle.std.specs.Prelude.{◌≡◌, ◌<◌, [], length, map, IfOk};
-ghost use Rattle.esto_views.specs.Plans.{IsPlanOver};
+ghost use Rattle.esto_constraint.specs.Constraints.{rules_of};
+ghost use Rattle.esto_query.specs.Making.{query_of};
+ghost use Rattle.esto_views.specs.Fragments.{views_of};
+ghost use Rattle.esto_views.specs.Plans.{plan_query, IsPlanOver};
+ghost use Rattle.esto_world_laws.specs.Contained.{IsSafelyContained};
 ghost use Rattle.esto_cert.specs.Judging.{after_end, case_of, AreNumbersOf, Verdict, DecidesFor, Answers};
 ghost use Rattle.esto_cert.specs.declared.check.CertError.TheVariants as error;
 
 use crate::judging::{Case, Judged};
+use crate::laws::accepted_certificates_show;
 use crate::reading::lines_and_rest;
 use esto_bits::RowBits;
 use esto_constraint::Rules;
@@ -71,9 +76,8 @@ fn verdict(alloc: Global, case: &Case<'_>, parts: &[&[u8]]) -> Result<Option<u64
     Ok(Some(1))
 }
 
-/// Checks a certificate for a set of a plan's atoms: the first line that does not follow from those before it, or that is
-/// no line, is the one at which it is rejected.
-pub fn check_certificate(
+/// Decides which line of a certificate is the first that is not so.
+fn decide(
     alloc: Global,
     bytes: &[u8],
     set: &RowBits,
@@ -84,9 +88,8 @@ pub fn check_certificate(
 ) -> Result<(), CertError>
     requires over { IsPlanOver plan.now fragments.now }
     requires count { length set.now ≡ length plan.now.atoms }
-    requires same_length { length plan.now.head ≡ length query.now.head }
-    ensures exact { Answers (DecidesFor plan.now fragments.now set.now rules.now
-        query.now bytes.now) result }
+    ensures { Answers (DecidesFor plan.now fragments.now set.now rules.now query.now bytes.now)
+        result }
 {
     let expanded = expand(alloc, plan, fragments)?;
     let parts = lines_and_rest(alloc, bytes)?;
@@ -101,4 +104,28 @@ pub fn check_certificate(
         Some(line) => Err(CertError::Rejected(line)),
         None => Ok(()),
     }
+}
+
+/// Checks a certificate for a set of a plan's atoms: the first line that does not follow from those before it, or that is
+/// no line, is the one at which it is rejected. Where it is accepted the set is safe, and its candidate is contained in
+/// the query under the rules.
+pub fn check_certificate(
+    alloc: Global,
+    bytes: &[u8],
+    set: &RowBits,
+    plan: &Plan,
+    query: &Query,
+    fragments: &FragmentDefs,
+    rules: &Rules,
+) -> Result<(), CertError>
+    requires over { IsPlanOver plan.now fragments.now }
+    requires count { length set.now ≡ length plan.now.atoms }
+    requires same_length { length plan.now.head ≡ length query.now.head }
+    ensures exact { Answers (DecidesFor plan.now fragments.now set.now rules.now
+        query.now bytes.now) result }
+    ensures contained { IfOk result (λ _. IsSafelyContained (rules_of rules.now)
+        (views_of fragments.now) (query_of query.now) (plan_query plan.now) set.now) }
+{
+    accepted_certificates_show();
+    decide(alloc, bytes, set, plan, query, fragments, rules)
 }

@@ -1,16 +1,10 @@
 //! Laws of certificates.
-ghost use Rattle.esto_cert.specs.Showing.{AcceptedCertificatesDerive, AcceptedCertificatesShow, VerdictsAreOne};
+ghost use Rattle.esto_cert.specs.Showing.{AcceptedCertificatesDerive, AcceptedCertificatesShow, VerdictsAreMoved, VerdictsAreOne};
 
 use esto_constraint::rules_are_sound;
 use esto_query::queries_are_sound;
-use esto_semantics::{
-    an_expansion_means_the_same, an_expansion_of_a_plan_expands_its_candidates,
-    chosen_atoms_are_named,
-};
 use esto_views::plans_are_sound;
-use esto_world_laws::{
-    derived_entries_are_sound, matches_decide_containment, matches_rest_on_atoms,
-};
+use esto_world_laws::{derived_entries_are_sound, matched_sets_are_contained};
 
 /// A law: where a certificate for a set of a plan's atoms is accepted, the set is safe, and its candidate is contained in
 /// the query under the rules.
@@ -21,15 +15,12 @@ pub fn accepted_certificates_show()
     rules_are_sound();
     queries_are_sound();
     derived_entries_are_sound();
-    matches_decide_containment();
-    matches_rest_on_atoms();
-    chosen_atoms_are_named();
-    an_expansion_means_the_same();
-    an_expansion_of_a_plan_expands_its_candidates();
+    matched_sets_are_contained();
 }
 
-/// A law: an accepted certificate holds derivations, from the expanded facts of the set's atoms alone, of the facts and the
-/// equalities of a match of the query whose head is the plan's.
+/// A law: each line of an accepted certificate before the last makes a claim, and has a derivation of it from the expanded
+/// facts of the set's atoms alone. The last line names facts and equalities among these claims which match the query, and
+/// make its head one with the plan's.
 pub fn accepted_certificates_derive()
     ensures { AcceptedCertificatesDerive }
 {}
@@ -40,3 +31,8 @@ pub fn verdicts_are_one()
 {
     queries_are_sound();
 }
+
+/// A law: a verdict is also that of the same file for what says the same, whatever the plan's names and the fragments' are.
+pub fn verdicts_are_moved()
+    ensures { VerdictsAreMoved }
+{}

@@ -10,10 +10,10 @@ mod linking;
 mod matching;
 mod naming;
 mod reading;
-mod taking;
 
 pub use check::{CertError, check_certificate};
 pub use judging::{body_of, made_at};
-pub use laws::{accepted_certificates_derive, accepted_certificates_show, verdicts_are_one};
+pub use laws::{
+    accepted_certificates_derive, accepted_certificates_show, verdicts_are_moved, verdicts_are_one,
+};
 pub use line::{Line, Numbers};
-pub use taking::{taken_term, taken_terms, terms_of};

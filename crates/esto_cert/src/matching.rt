@@ -6,7 +6,7 @@ ghost use Rattle.esto_cert.specs.Matching.{IsLike, IsFound, Fits};
 
 use crate::linking::{Equalities, renamings_of, stand_as_one};
 use crate::naming::{equalities_at, facts_at};
-use crate::taking::{taken_terms, terms_of};
+use esto_prov::{taken_terms, terms_of};
 use esto_semantics::{Atom, Atoms};
 use esto_term::{OutOfMemory, Terms};
 use esto_world_laws::Claim;

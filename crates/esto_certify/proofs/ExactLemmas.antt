@@ -2,7 +2,8 @@
 use Rattle.std.proofs.Common.{◌≡◌, ℕ, Bool, List, length, Option, Some, None, refl, sym, ap, subst, ◌∙◌, inl, inr}
 use Rattle.esto_catalog.specs.Determined.{AreSame}
 use Rattle.esto_catalog.specs.declared.catalogue.Catalogue.{Catalogue}
-use Rattle.esto_cert.specs.Showing.{AcceptedCertificatesShow, IsSafelyContained, VerdictsAreOne}
+use Rattle.esto_world_laws.specs.Contained.{IsSafelyContained}
+use Rattle.esto_cert.specs.Showing.{AcceptedCertificatesShow, VerdictsAreOne}
 use Rattle.esto_constraint.specs.Constraints.{rules_of}
 use Rattle.esto_course.specs.Course.{Course, and_then, judges}
 use Rattle.esto_ports.specs.Files.{Files}

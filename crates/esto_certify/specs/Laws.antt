@@ -1,7 +1,7 @@
 -- What laws on the commands on certificates say.
 use Rattle.std.specs.Prelude.{◌≡◌, ℕ, ◌-◌, Bool, List, length, slice_get, Option, Some, None, codes}
 use Rattle.esto_catalog.specs.declared.catalogue.Catalogue.{Catalogue}
-use Rattle.esto_cert.specs.Showing.{IsSafelyContained}
+use Rattle.esto_world_laws.specs.Contained.{IsSafelyContained}
 use Rattle.esto_constraint.specs.Constraints.{rules_of}
 use Rattle.esto_course.specs.Course.{Course}
 use Rattle.esto_list.specs.declared.listing.Listed.{Listed}

@@ -1,18 +1,13 @@
 -- What is covered, and entries that are added where it is not.
-use Rattle.std.proofs.Common.{◌≡◌, ◌⊎◌, ◌↔◌, inl, inr, ℕ, Bool, true, false, List, [], ◌∷◌, ◌++◌, length, Contains, IsTrue, refl, sym, ap, ◌∙◌, subst}
-use Rattle.std.specs.Bool.{Decides}
-use Rattle.std.specs.Set.{is_member}
-use Rattle.std.proofs.lemmas.Map.Made.{is_member-Decides}
+use Rattle.std.proofs.Common.{◌≡◌, ◌⊎◌, inl, inr, ℕ, Bool, List, [], ◌∷◌, ◌++◌, length, Contains, refl, sym, ap, ◌∙◌, subst}
 use Rattle.std.proofs.lemmas.List.{append_assoc}
 use Rattle.std.proofs.lemmas.List.Elements.{Contains-append_cases, Contains-append_left, Contains-append_right, Contains-push, Contains-push_cases}
 use Rattle.esto_term.specs.declared.term.Term.{Term}
 use Rattle.esto_semantics.specs.Rules.{Rule}
 use Rattle.esto_semantics.specs.Sets.{Within}
-use Rattle.esto_semantics.proofs.TermLemmas.{same_term-Decides}
 use Rattle.esto_views.specs.declared.expansion.ExpandedFact.{ExpandedFact}
 use Rattle.esto_world_laws.specs.Worlds.{InWorld}
 use Rattle.esto_world_laws.specs.Claims.{AreSameClaim}
-use Rattle.esto_term.specs.Order.{same_term}
 use Rattle.esto_world_laws.specs.Steps.{IsCovered}
 use Rattle.esto_world_laws.specs.Derived.{Follows, AreDerived}
 use Rattle.esto_world_laws.specs.declared.entry.Claim.{Claim}
@@ -20,19 +15,7 @@ use Rattle.esto_world_laws.specs.declared.entry.Claim.TheVariants.{Fact as State
 use Rattle.esto_world_laws.specs.declared.entry.Reason.{Reason}
 use Rattle.esto_world_laws.specs.declared.entry.Entry.{Entry}
 use Rattle.esto_world_laws.proofs.GrowLemmas.{InWorld-more, InWorld-within, IsCovered-more, AreDerived-push}
-use Rattle.esto_world_laws.specs.Claims.{AreSameClaim}
 use Rattle.esto_condchase.specs.Rounds.{CoversClaim, IsAdded, IsTrivial, IsThere, Grows}
-
--- ---- tests
-
-pub member_is : (terms : List Term) (term : Term) (answer : Bool) → IsTrue answer ↔ Contains terms term → answer ≡ is_member same_term terms term
-member_is terms term answer same_answer = by answer (is_member same_term terms term) (is_member-Decides same_term-Decides terms term) same_answer
-  where
-    by : (one other : Bool) → Decides other (Contains terms term) → IsTrue one ↔ Contains terms term → one ≡ other
-    by true true decides told = refl
-    by true false decides told = let wrong : false ≡ true = decides.1 (told.0 refl) in cc
-    by false true decides told = let wrong : false ≡ true = told.1 (decides.0 refl) in cc
-    by false false decides told = refl
 
 -- ---- covered
 

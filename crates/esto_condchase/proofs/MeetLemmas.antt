@@ -31,13 +31,6 @@ drop-past zero (first ∷ rest) past = absurd (omega (arith, past))
 drop-past (suc place) [] past = refl
 drop-past (suc place) (first ∷ rest) past = drop-past place rest (omega (arith, past))
 
-nothing : (from : List Term) (term : Term) → substituted from [] term ≡ term
-nothing [] term = refl
-nothing (first ∷ from) term = refl
-
-pub nothing_left : (from to : List Term) (place : ℕ) (term : Term) → length to ≤ place → substituted (drop place from) (drop place to) term ≡ term
-nothing_left from to place term past = ap (λ it. substituted (drop place from) it term) (drop-past place to past) ∙ nothing (drop place from) term
-
 module _ (from to more others : List Term) (place : ℕ) (term first own : Term) (answer : Bool) (within : place < length from)
     (at : first ≡ get_or from place first)
     (goes : slice_get to place ≡ Some own) (told : answer ≡ same_term term first) where

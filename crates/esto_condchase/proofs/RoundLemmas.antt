@@ -28,8 +28,9 @@ use Rattle.esto_world_laws.specs.declared.entry.Entry.{Entry}
 use Rattle.esto_world_laws.proofs.LinkLemmas.{Linked-touching, Touching-more, zip_weaker}
 use Rattle.esto_world_laws.proofs.GrowLemmas.{InWorld-more, IsCovered-more, Follows-append}
 use Rattle.esto_world_laws.specs.Worlds.{AreOfCount}
+use Rattle.esto_prov.specs.Taking.{made_of}
 use Rattle.esto_condchase.specs.Ways.{Links, IsFound, AreFound}
-use Rattle.esto_condchase.specs.Rounds.{IsAdded, IsThere, Grows, made_of, IsAnswered, IsRuleAnswered, LinksAt, IsPairJoined}
+use Rattle.esto_condchase.specs.Rounds.{IsAdded, IsThere, Grows, IsAnswered, IsRuleAnswered, LinksAt, IsPairJoined}
 use Rattle.esto_condchase.specs.declared.ways.Way.{Way}
 use Rattle.esto_condchase.proofs.MeetLemmas.{take-item}
 use Rattle.esto_condchase.proofs.WayLemmas.{IsUnion-more}

@@ -1,6 +1,5 @@
 -- What a round adds.
-use Rattle.std.specs.Prelude.{◌≡◌, ◌⊎◌, ℕ, Bool, cond, List, [], ◌∷◌, ◌++◌, Contains, Some, slice_get}
-use Rattle.std.specs.Set.{is_member}
+use Rattle.std.specs.Prelude.{◌≡◌, ◌⊎◌, ℕ, Bool, List, [], ◌∷◌, ◌++◌, Contains, Some, slice_get}
 use Rattle.esto_term.specs.declared.term.Term.{Term}
 use Rattle.esto_semantics.specs.Rules.{Rule, body_of}
 use Rattle.esto_semantics.specs.declared.fact.Fact.{Fact}
@@ -9,9 +8,7 @@ use Rattle.esto_views.specs.declared.expansion.ExpandedFact.{ExpandedFact}
 use Rattle.esto_world_laws.specs.Claims.{AreSameClaim}
 use Rattle.esto_world_laws.specs.Worlds.{InWorld, AreOfCount}
 use Rattle.esto_semantics.specs.Facts.{terms_of}
-use Rattle.esto_term.specs.Order.{same_term}
 use Rattle.esto_world_laws.specs.Matches.{taken, match_map, IsDirectMatch}
-use Rattle.esto_chase_laws.specs.Making.{made_for}
 use Rattle.esto_world_laws.specs.Steps.{IsAsked, IsCovered}
 use Rattle.esto_world_laws.specs.Derived.{AreDerived}
 use Rattle.esto_world_laws.specs.declared.entry.Claim.{Claim}
@@ -45,10 +42,6 @@ IsThere entries claim product = (atoms : List Bool) → Within product atoms →
 abbrev pub IsTrivial : Claim → Type 0
 IsTrivial (Stated fact) = ⊥
 IsTrivial (Same left right) = left ≡ right
-
--- What a term of a head becomes: a term of the body what it meets first, and any other the term that the rule makes.
-abbrev pub made_of : ℕ → List Term → List Term → List Term → Term → Term
-made_of number from to values term = cond (is_member same_term from term) (taken from to term) (made_for number values term)
 
 -- The claims that the rule asks for at the way are there.
 abbrev pub IsAnswered : List Entry → ℕ → Rule → Way → Type 0

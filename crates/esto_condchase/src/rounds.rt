@@ -15,10 +15,10 @@ ghost use Rattle.esto_condchase.specs.Rounds.{IsAdded, Grows, IsAnswered, IsRule
 
 use crate::covering::add;
 use crate::news::{body_of, has_news};
-use crate::taking::{made_fact, taken_term, taken_terms, terms_of};
 use crate::ways::{Way, matches_of};
 use esto_chase::frontier_of;
 use esto_constraint::{Constraint, Egd, Tgd};
+use esto_prov::{made_fact, taken_term, taken_terms, terms_of};
 use esto_term::{List, OutOfMemory, Places, Replicate, Term, Terms, Values};
 use esto_world_laws::{Claim, Entry, Reason};
 use std::alloc::Global;

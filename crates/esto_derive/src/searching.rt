@@ -12,8 +12,7 @@ ghost use Rattle.esto_world_laws.specs.declared.entry.Claim.TheVariants.{Fact as
 ghost use Rattle.esto_derive.specs.Searching.{SaysOne, IsLink, IsFound, IsFoundAfter, IsFoundBy, AreLinks, AddsLink};
 
 use esto_bits::RowBits;
-use esto_cert::taken_terms;
-use esto_prov::{Claim, Entry};
+use esto_prov::{Claim, Entry, taken_terms};
 use esto_semantics::Atom;
 use esto_term::{List, OutOfMemory, Replicate, Term, Terms};
 use std::alloc::Global;

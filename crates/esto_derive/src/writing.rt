@@ -10,9 +10,9 @@ ghost use Rattle.esto_derive.specs.Writing.{lines_at, claimed_terms, terms_at, A
 use crate::placing::place_of;
 use crate::printing::{put_expanded, put_match, put_step};
 use esto_bits::RowBits;
-use esto_cert::{body_of, terms_of};
+use esto_cert::body_of;
 use esto_constraint::{Constraint, rules_are_sound};
-use esto_prov::{Claim, Entry, Reason};
+use esto_prov::{Claim, Entry, Reason, terms_of};
 use esto_term::{Bytes, List, OutOfMemory, Places, Replicate, Terms, Values};
 use std::alloc::Global;
 

@@ -1,2 +1,3 @@
 pub mod Derivations
 pub mod Products
+pub mod Taking

@@ -2,8 +2,10 @@
 #![tactic(auto)]
 
 mod entries;
+mod taking;
 mod why;
 
 pub use entries::{Entries, derivations_derive, entries_are_reasoned};
 pub use esto_world_laws::{Chain, Claim, Entry, Reason};
+pub use taking::{made_fact, taken_term, taken_terms, terms_of};
 pub use why::{Why, Whys};

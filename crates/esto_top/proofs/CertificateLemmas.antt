@@ -1,6 +1,6 @@
 -- What `verify` answers where nothing is wrong with the catalogue's and the query's files.
 use Rattle.std.proofs.Common.{◌≡◌, ℕ, List, length, Option, Some, None, sym, subst, ◌∙◌, inl, inr}
-use Rattle.esto_cert.specs.Showing.{IsSafelyContained}
+use Rattle.esto_world_laws.specs.Contained.{IsSafelyContained}
 use Rattle.esto_certify.specs.Laws.{AcceptedSetsAreContained, SaysVerdict, VerifyIsOne, VerifyRefusesNumbers, VerifySaysVerdicts}
 use Rattle.esto_certify.specs.Verify.{verify_course}
 use Rattle.esto_constraint.specs.Constraints.{rules_of}

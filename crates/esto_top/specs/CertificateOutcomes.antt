@@ -1,7 +1,7 @@
 -- What `verify` answers where nothing is wrong with the catalogue's and the query's files.
 use Rattle.std.specs.Prelude.{◌≡◌, ℕ, Bool, List, [], ◌∷◌, length, Option, Some, None, codes}
 use Rattle.esto_catalog.specs.declared.catalogue.Catalogue.{Catalogue}
-use Rattle.esto_cert.specs.Showing.{IsSafelyContained}
+use Rattle.esto_world_laws.specs.Contained.{IsSafelyContained}
 use Rattle.esto_certify.specs.Laws.{SaysVerdict}
 use Rattle.esto_certify.specs.Verify.{first_above, HasVerdict, IsSetOf}
 use Rattle.esto_certify.specs.declared.verifying.TheConstants.{CERTIFICATE_LIMIT}

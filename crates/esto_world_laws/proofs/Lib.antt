@@ -12,3 +12,4 @@ pub mod MatchLemmas
 pub mod ContainLemmas
 pub mod RestLemmas
 pub mod MatchRestLemmas
+mod ContainedLemmas

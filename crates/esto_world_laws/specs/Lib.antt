@@ -5,3 +5,4 @@ pub mod Steps
 pub mod Derived
 pub mod Bounds
 pub mod Laws
+pub mod Contained

@@ -17,7 +17,7 @@ returns c = record {
       let decided = told (rules_of catalogue.rules) catalogue.fragments _ plan expanded expands entries are
       (rules-are catalogue.rules c.rules_are_sound.ensures.rules) sound_plan
       c.queries_have_starts.ensures.body c.an_expansion_of_a_plan_expands_its_candidates.ensures c.an_expansion_means_the_same.ensures.answers
-      c.chosen_atoms_are_named.ensures c.matches_decide_containment.ensures.shown c.matches_rest_on_atoms.ensures set over
+      c.chosen_atoms_are_named.ensures c.matched_sets_are_contained.ensures set over
       (query_of query) is_query is_plan universal c.candidates_contain_the_query.ensures.equivalent
       c.matches_decide_containment.ensures.found satisfiable in
       (decided.1, decided.0);
@@ -25,7 +25,7 @@ returns c = record {
       union_told (rules_of catalogue.rules) catalogue.fragments _ plan expanded expands entries are
       (rules-are catalogue.rules c.rules_are_sound.ensures.rules) (c.plans_are_sound.ensures plan)
       c.queries_have_starts.ensures.body c.an_expansion_of_a_plan_expands_its_candidates.ensures c.an_expansion_means_the_same.ensures.answers
-      c.chosen_atoms_are_named.ensures c.matches_decide_containment.ensures.shown c.matches_rest_on_atoms.ensures set over
+      c.chosen_atoms_are_named.ensures c.matched_sets_are_contained.ensures set over
       (λ query. (c.queries_are_sound.ensures query).query) queries (agree set).0 (agree set).1;
   consistent = λ catalogue query plan entries satisfiable (expanded, exact, expands, are) receives.
       consistent (rules_of catalogue.rules) catalogue.fragments _ (query_of query) plan expanded expands entries are

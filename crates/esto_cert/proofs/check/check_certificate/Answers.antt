@@ -1,24 +1,13 @@
-use Rattle.std.proofs.Common.{List, ℕ, ◌<◌, Contains, map, subst, sym, ap, ◌∙◌}
-use Rattle.esto_query.specs.Making.{query_of}
-use Rattle.esto_views.specs.declared.expansion.ExpandedFact.{ExpandedFact}
-use Rattle.esto_cert.proofs.VerdictLemmas.{decided, same_case}
+use Rattle.std.proofs.Common.{refl}
+use Rattle.esto_cert.specs.Judging.{DecidesFor}
+use Rattle.esto_cert.proofs.VerdictLemmas.{accepted_only}
 use Rattle.esto_cert.proofs.check.check_certificate.Goals as goal
-
-pub verdict-requires : goal.verdict-requires
-verdict-requires c = λ fact inside.
-    subst (λ (it : ℕ). fact.atom < it) (sym c.requires.count)
-    ((c.in_ok-expanded.ensures.expands.exact fact).0 (subst (λ (it : List ExpandedFact). Contains it fact) c.items.ensures inside)).0
 
 pub returns : goal.returns
 returns c =
     record {
-      exact = (
-        c.in_ok-expanded.expanded,
-        c.in_ok-expanded.ensures.exact,
-        c.in_ok-expanded.ensures.expands,
-        c.in_ok-expanded.ensures.flat,
-        decided _ _ _ _ _ _
-            (same_case c.args.set.now (query_of c.args.query.now) _ _ _ _ _ _ c.items.ensures c.items-2.ensures c.items-3.ensures)
-            (ap (map (λ part. part.now)) c.as_slice.ensures.value ∙ c.in_ok-parts.ensures) c.in-None.is c.in_ok-line.ensures,
-      );
+      exact = c.decide.ensures;
+      contained = accepted_only (DecidesFor c.args.plan.now c.args.fragments.now c.args.set.now c.args.rules.now c.args.query.now c.args.bytes.now) _
+          c.decide.result c.decide.ensures
+          (c.accepted_certificates_show.ensures _ _ _ _ _ _ c.requires.count);
     }

@@ -4,7 +4,7 @@ ghost use Rattle.esto_semantics.specs.Facts.{image, terms_of};
 ghost use Rattle.esto_views.specs.Spreads.{substituted};
 ghost use Rattle.esto_chase_laws.specs.Making.{made_for};
 ghost use Rattle.esto_world_laws.specs.Matches.{taken};
-ghost use Rattle.esto_cert.specs.Taking.{made_of};
+ghost use Rattle.esto_prov.specs.Taking.{made_of};
 
 use esto_semantics::Atom;
 use esto_term::{List, OutOfMemory, Replicate, Term, Terms, has_term};

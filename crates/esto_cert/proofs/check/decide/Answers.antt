@@ -1,0 +1,21 @@
+use Rattle.std.proofs.Common.{List, ℕ, ◌<◌, Contains, map, subst, sym, ap, ◌∙◌}
+use Rattle.esto_query.specs.Making.{query_of}
+use Rattle.esto_views.specs.declared.expansion.ExpandedFact.{ExpandedFact}
+use Rattle.esto_cert.proofs.VerdictLemmas.{decided, same_case}
+use Rattle.esto_cert.proofs.check.decide.Goals as goal
+
+pub verdict-requires : goal.verdict-requires
+verdict-requires c = λ fact inside.
+    subst (λ (it : ℕ). fact.atom < it) (sym c.requires.count)
+    ((c.in_ok-expanded.ensures.expands.exact fact).0 (subst (λ (it : List ExpandedFact). Contains it fact) c.items.ensures inside)).0
+
+pub returns : goal.returns
+returns c = (
+  c.in_ok-expanded.expanded,
+  c.in_ok-expanded.ensures.exact,
+  c.in_ok-expanded.ensures.expands,
+  c.in_ok-expanded.ensures.flat,
+  decided _ _ _ _ _ _
+      (same_case c.args.set.now (query_of c.args.query.now) _ _ _ _ _ _ c.items.ensures c.items-2.ensures c.items-3.ensures)
+      (ap (map (λ part. part.now)) c.as_slice.ensures.value ∙ c.in_ok-parts.ensures) c.in-None.is c.in_ok-line.ensures,
+)

@@ -1,6 +1,0 @@
-use Rattle.std.proofs.Common.{◌≡◌, drop}
-use Rattle.esto_views.specs.Spreads.{substituted}
-use Rattle.esto_cert.proofs.taking.first_met.Given as goal
-
-abbrev pub invariant-places : goal.invariant-places
-invariant-places l = substituted (drop l.place l.from) (drop l.place l.to) l.term ≡ substituted l.from l.to l.term

@@ -1,6 +1,0 @@
-use Rattle.std.proofs.Common.{◌≡◌, map, take}
-use Rattle.esto_condchase.specs.Rounds.{made_of}
-use Rattle.esto_condchase.proofs.taking.made_fact.Given as goal
-
-abbrev pub invariant-terms : goal.invariant-terms
-invariant-terms l = l.terms ≡ map (made_of l.number l.from l.to l.values) (take l.term-index l.term-items)

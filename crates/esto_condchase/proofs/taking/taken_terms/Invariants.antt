@@ -1,6 +1,0 @@
-use Rattle.std.proofs.Common.{◌≡◌, map, take}
-use Rattle.esto_world_laws.specs.Matches.{taken}
-use Rattle.esto_condchase.proofs.taking.taken_terms.Given as goal
-
-abbrev pub invariant-terms : goal.invariant-terms
-invariant-terms l = l.taken ≡ map (taken l.from l.to) (take l.term-index l.terms)
