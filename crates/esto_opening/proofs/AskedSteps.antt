@@ -83,16 +83,16 @@ pub early_want : {A : Type 0} (course : Course Status A) (told : Option Names) �
 early_want course told way = record { names = []; told = told_nothing told; asks = wanting refl way }
 
 -- a judgement accepts a value, and asks for nothing
-pub accepted : {A : Type 0} (told : Option Names) (accepts : A → Type 0) (refused : Status → Type 0) (value : A) → accepts value
-    → AsksIn told told (judges accepts refused) (Ok value)
+pub accepted : {A : Type 0} (told : Option Names) (accepts : A → Type 0) (refusing : Status → Type 0) (value : A) → accepts value
+    → AsksIn told told (judges accepts refusing) (Ok value)
 unfolding judges
-accepted told accepts refused value is = quiet_asks (judges accepts refused) told (Ok value) (quiet_judges accepts refused) is
+accepted told accepts refusing value is = quiet_asks (judges accepts refusing) told (Ok value) (quiet_judges accepts refusing) is
 
 -- want of memory in a judgement that is a first step
-pub wanted : {A B : Type 0} (told : Option Names) (accepts : A → Type 0) (refused : Status → Type 0) (next : A → Course Status B)
-    → AsksIn told told (and_then (judges accepts refused) next) (Err OutOfMemory)
-wanted told accepts refused next =
-    early_want (and_then (judges accepts refused) next) told (first_way_asks (judges accepts refused) next [] (quiet_judges accepts refused).underway)
+pub wanted : {A B : Type 0} (told : Option Names) (accepts : A → Type 0) (refusing : Status → Type 0) (next : A → Course Status B)
+    → AsksIn told told (and_then (judges accepts refusing) next) (Err OutOfMemory)
+wanted told accepts refusing next =
+    early_want (and_then (judges accepts refusing) next) told (first_way_asks (judges accepts refusing) next [] (quiet_judges accepts refusing).underway)
 
 -- an error that `?` hands on
 pub handed_asks : {A : Type 0} {old new : Option Names} (course : Course Status A) (refusal : Status) (result : Result A Status)

@@ -54,8 +54,8 @@ pub data FetchesToAnswer (course : Course Status Reply) (rose : Type 0) (names :
   whole : (status : Status) → FetchesToStatus course names status → FetchesToAnswer course rose names
   fault : (name : List ℕ) → FetchesToFault course rose names name → FetchesToAnswer course rose names
 
--- The names that were asked for, by the status. At a read fault they are those up to and with its file; at a write fault those of the answer that was to be put;
--- where memory was wanting those of an answer, or of some moment under way; and at every other status all names that the course fetches where it ends with it.
+-- The names that were asked for, by the status. At a read fault they are those up to and with its file; at a write fault those of the answer that was to be
+-- put; where memory was wanting those of an answer, or of some moment under way; and at every other status all that the course fetches where it ends with it.
 abbrev pub FetchesBy : Course Status Reply → Type 0 → Names → Status → Type 0
 FetchesBy course rose names OutOfMemory = FetchesToAnswer course rose names ⊎ course.asks names underway
 FetchesBy course rose names (ReadFault name) = FetchesToFault course rose names name

@@ -79,15 +79,16 @@ Reads catalogue number stored bytes old new (Ok _) = (reads_content stored bytes
 Reads catalogue number stored bytes old new (Err refusal) = Stops IsWant (IsCaused ⊥) (reads_content stored bytes) refusal
 
 -- The file of the fragment of the number was opened, and its rows taken; or the course stops. To the names that were asked for came those for which it asked.
-abbrev pub OpensNext : Option Files → Catalogue → ℕ → List (List Row) → List (List Row) → Type 0 → Option Names → Option Names → Result (Unit {0}) Status → Type 0
+abbrev pub OpensNext : Option Files → Catalogue → ℕ → List (List Row) → List (List Row) → Type 0 → Option Names → Option Names
+    → Result (Unit {0}) Status → Type 0
 OpensNext files catalogue number old new rose before after (Ok _) =
     (bytes : List ℕ) × (opens_fragment files catalogue number).goes bytes × Takes catalogue number bytes old new
     × AsksIn before after (opens_fragment files catalogue number) (Ok bytes)
 OpensNext files catalogue number old new rose before after (Err refusal) =
     Stops IsWant (IsCaused rose) (opens_fragment files catalogue number) refusal × AsksIn before after (opens_fragment files catalogue number) (Err refusal)
 
--- The rows are those of the files of the fragments of the numbers, all of which were opened; or the course stops. To the names that were asked for came those for
--- which it asked.
+-- The rows are those of the files of the fragments of the numbers, all of which were opened; or the course stops. To the names that were asked for came those
+-- for which it asked.
 abbrev pub OpensAll : Option Files → Catalogue → List ℕ → Type 0 → Option Names → Option Names → Result (List Held) Status → Type 0
 OpensAll files catalogue numbers rose before after (Ok opened) =
     (contents : ℕ → List ℕ) × (opens_fragments files catalogue numbers).goes contents × AreOpened catalogue.stores contents numbers (rows_held opened)

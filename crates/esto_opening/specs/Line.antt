@@ -111,8 +111,8 @@ abbrev pub clash_text : Clash → List ℕ
 clash_text (Equal one other) = constant_text one ++ (codes " " ++ constant_text other)
 clash_text (Denied rule) = codes "constraint " ++ decimal (rule + 1)
 
--- A difference: the number of a constraint, counted from 1 over all rules, or the name of a fragment and whether a row is missing or extra; and a CSV record, which
--- ends the line.
+-- A difference: the number of a constraint, counted from 1 over all rules, or the name of a fragment and whether a row is missing or extra; and a CSV record,
+-- which ends the line.
 abbrev pub difference_text : Difference → List ℕ
 difference_text (Rule number cells) = codes "constraint " ++ (decimal number ++ codes " ") ++ row_text default_writer cells
 difference_text (Missing name row) = codes "fragment " ++ cell_of name ++ codes " missing " ++ row_text default_writer row
