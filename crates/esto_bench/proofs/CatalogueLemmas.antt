@@ -103,7 +103,8 @@ module _ (size : ℕ) (few : size ≤ MAX_SIZE) where
     distinct = subst (AllPairs ◌≢◌) (sym word_names) schema.distinct;
     relations = All-map (λ (word : Word). HasRelations (arities_of (made_schema size)) word.model word.base)
         (λ (it : Dataset). record { name = it.name; model = it.model; base = it.base }) (made_datasets size)
-        (All-from_get_or (λ (it : Dataset). HasRelations (arities_of (made_schema size)) it.model it.base) (made_datasets size) (made_dataset 0) (λ place within. in_place _ (Contains-get_or (made_datasets size) place (made_dataset 0) within)));
+        (All-from_get_or (λ (it : Dataset). HasRelations (arities_of (made_schema size)) it.model it.base) (made_datasets size) (made_dataset 0)
+        (λ place within. in_place _ (Contains-get_or (made_datasets size) place (made_dataset 0) within)));
   }
     where
       in_place : (dataset : Dataset) → Contains (made_datasets size) dataset
@@ -176,7 +177,8 @@ module _ (size : ℕ) (fragments : List FragmentDef) (are : AreMadeFragments siz
   made_over : (relation : ℕ) → relation < size → IsQueryOver (arities_of (made_schema size)) (made_view relation)
   made_over relation less = record {
     over = λ fact inside.
-        subst (λ (it : Fact Term). slice_get (arities_of (made_schema size)) it.relation ≡ Some (length it.terms)) (only _ fact inside) (arity_at size relation less);
+        subst (λ (it : Fact Term). slice_get (arities_of (made_schema size)) it.relation ≡ Some (length it.terms)) (only _ fact inside)
+        (arity_at size relation less);
     body_texts = λ text mentioned. absurd (no_constant text 0 1
         (subst (λ (it : Fact Term). Contains it.terms (Const text)) (sym (only _ mentioned.0 mentioned.1)) mentioned.2));
     head_texts = λ text inside. absurd (no_constant text 0 1 inside);

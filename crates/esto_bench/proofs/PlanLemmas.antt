@@ -121,5 +121,6 @@ module _ (size : ℕ) (plan : Plan) (items : List Listed) (list : IsListOfCase s
   pub some_listed : 0 < size → NumbersAreStated → NoRewritingExists → IsPlanFor (made_query size) (plan_query plan)
       → IsUniversalPlan [] (made_views size) (made_query size) (plan_query plan) → items ≡ [] → ⊥
   some_listed some stated none form universal empty =
-      (none [] (made_views size) (made_patterns size) (made_query size) (plan_query plan) (sets_of items) form universal (satisfied (made_query size)) list.listed).0
+      (none [] (made_views size) (made_patterns size) (made_query size) (plan_query plan) (sets_of items) form universal (satisfied (made_query size))
+      list.listed).0
       (ap sets_of empty) (chain fragment_a size) (rewrites size some stated)

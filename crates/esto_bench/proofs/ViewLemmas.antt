@@ -166,7 +166,8 @@ module _ (size : ℕ) (database : Database) where
       there_at f relation less = Contains-map f (below size) relation (below_there size relation less)
 
   -- its answers are those of the made query
-  pub answers_same : (values : List Value) → IsFragmentAnswer (made_views size) (chain fragment_a size) database values ↔ IsAnswer (made_query size) database values
+  pub answers_same : (values : List Value) → IsFragmentAnswer (made_views size) (chain fragment_a size) database values
+      ↔ IsAnswer (made_query size) database values
   answers_same values = (
     (λ (m, keeps, sends, is). (m, keeps, (sends_same m).0 sends, is)),
     (λ (m, keeps, sends, is). (m, keeps, (sends_same m).1 sends, is)),
@@ -207,8 +208,10 @@ module _ (size : ℕ) where
   rewrites some stated =
       let all = replicate (length (chain fragment_a size).body) true in record {
         is_query = chain_is fragment_a size some;
-        executable =
-            (numbers all, (stated (made_patterns size) (chain fragment_a size).body atoms_open all (length-replicate (length (chain fragment_a size).body) true)).is_order);
+        executable = (
+          numbers all,
+          (stated (made_patterns size) (chain fragment_a size).body atoms_open all (length-replicate (length (chain fragment_a size).body) true)).is_order,
+        );
         equivalent = (
           (λ database meets row answer. (answers_same size database row).0 answer),
           (λ database meets row answer. (answers_same size database row).1 answer),

@@ -38,7 +38,8 @@ abbrev pub HasOneStatus : Course Status Reply → Type 0
 HasOneStatus course = AgreeCalmly AreDone course course
 
 abbrev pub ExplainHasOneStatus : Type 0
-ExplainHasOneStatus = (files : Files) (catalogue_name query_name : List ℕ) (number : ℕ) → HasOneStatus (explain_course (Some files) catalogue_name query_name number)
+ExplainHasOneStatus =
+    (files : Files) (catalogue_name query_name : List ℕ) (number : ℕ) → HasOneStatus (explain_course (Some files) catalogue_name query_name number)
 
 -- ---- which outcome
 

@@ -191,7 +191,8 @@ module _ (laws : DataLaws) (rest : AnswersRestOnDatasets) (files : Files) (datas
 
 pub replies_audited : DataLaws → UnionsOfOneAreQueries → AnswersRestOnDatasets → RepliesAreAudited
 unfolding and_then judges
-replies_audited laws one rest files catalogue_name catalogue reply (other, opens, (facts, loaded, (value, texts, (contents, opened, (given, agree, done))))) here =
+replies_audited laws one rest files catalogue_name catalogue reply
+    (other, opens, (facts, loaded, (value, texts, (contents, opened, (given, agree, done))))) here =
     let alike : AreSame catalogue other = (laws.catalogues files catalogue_name).one catalogue other here opens in record {
       facts = facts;
       contents = contents;

@@ -94,7 +94,8 @@ module _ (files : Files) (catalogue : Catalogue) where
   run_apart queries number refusal caused (inr (members, made, inr (None, ends, inr (others, chosen, inl never)))) = absurd never
   run_apart queries number refusal caused (inr (members, made, inr (None, ends, inr (others, chosen, inr (numbers, used, inl stops))))) =
       opened_apart numbers refusal caused stops
-  run_apart queries number refusal caused (inr (members, made, inr (None, ends, inr (others, chosen, inr (numbers, used, inr (contents, opened, inl never)))))) =
+  run_apart queries number refusal caused
+      (inr (members, made, inr (None, ends, inr (others, chosen, inr (numbers, used, inr (contents, opened, inl never)))))) =
       absurd never
   run_apart queries number refusal caused (inr (
     members,

@@ -28,4 +28,5 @@ returns c =
     let rows = c.in_ok-rows.rows in
     subst (CountsAnswers c.args.size) (sym c.len.ensures)
     (counted c.answers_are_over_files.ensures c.rewritings_answer_queries.ensures c.chosen_atoms_are_named.ensures c.args.size catalogue made plan over item
-    c.requires.item c.in_ok-opened.opened c.in_ok-opened.ensures rows (c.in_ok-rows.ensures.rows item.set order) (rising_apart rows c.in_ok-rows.ensures.rising))
+    c.requires.item c.in_ok-opened.opened c.in_ok-opened.ensures rows (c.in_ok-rows.ensures.rows item.set order)
+    (rising_apart rows c.in_ok-rows.ensures.rising))

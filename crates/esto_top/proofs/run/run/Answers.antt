@@ -20,7 +20,8 @@ pub returns-clause-answer : goal.returns-clause-answer
 returns-clause-answer g c =
     course_goes (g.S.Shelf.files c.args.shelf.now) (g.S.Shelf.files c.open_catalogue.new.shelf) (g.S.Shelf.files c.open_union.new.shelf)
     c.in_ok-catalogue.ensures.files c.in_ok-queries.ensures.files c.args.catalogue.now c.args.query.now c.args.number c.in_ok-catalogue.catalogue
-    c.in_ok-catalogue.ensures.answer c.in_ok-queries.queries c.items.result.now c.items.ensures c.in_ok-queries.ensures.answer c.in_ok-reply.reply c.in_ok-reply.ensures.answer
+    c.in_ok-catalogue.ensures.answer c.in_ok-queries.queries c.items.result.now c.items.ensures c.in_ok-queries.ensures.answer
+    c.in_ok-reply.reply c.in_ok-reply.ensures.answer
 
 pub returns-in_err-queries-clause-asked : goal.returns-in_err-queries-clause-asked
 returns-in_err-queries-clause-asked g c =

@@ -6,7 +6,8 @@ use Rattle.esto_top.proofs.run.run_queries.Goals.{in_default-via-then-queries-lt
 
 pub returns-in_default-clause-answer : goal.returns-in_default-clause-answer
 returns-in_default-clause-answer g c =
-    more_answers (g.S.Shelf.files c.args.shelf.now) c.args.catalogue.now c.args.number c.run_union.result _ c.args.queries.now (λ one. elim c.in_default.branch [
+    more_answers (g.S.Shelf.files c.args.shelf.now) c.args.catalogue.now c.args.number c.run_union.result _ c.args.queries.now
+    (λ one. elim c.in_default.branch [
       | in_default-via-then-queries-lt1 w ↦ grind (arith, nat_tests, one)
       | in_default-via-else-queries-lt1+else-queries-lt2 w ↦ grind (arith, nat_tests, one)
     ]) c.run_union.ensures.answer
