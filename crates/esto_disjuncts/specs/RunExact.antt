@@ -6,8 +6,7 @@ use Rattle.esto_constraint.specs.Constraints.{rules_of}
 use Rattle.esto_opening.specs.Calm.{Leads}
 use Rattle.esto_opening.specs.Fragments.{IsReadableFragment}
 use Rattle.esto_opening.specs.Line.{line_of}
-use Rattle.esto_opening.specs.declared.reply.Reply.{Reply}
-use Rattle.esto_opening.specs.declared.reply.Reply.TheVariants.{Done, Unsatisfiable}
+use Rattle.esto_opening.specs.Replies.{reply_status, reply_text}
 use Rattle.esto_opening.specs.declared.status.Status.{Status}
 use Rattle.esto_opening.specs.declared.status.Status.TheVariants as status
 use Rattle.esto_planning.specs.Listing.{IsClash}
@@ -86,18 +85,10 @@ pub record RunsUnionExactly (files : Files) (catalogue : Catalogue) (queries : L
   pub no_number : (asked least : ℕ) → (said ≡ status.NoSuchNumber asked least) ↔ IsAboveLists catalogue queries number asked least
   pub line : HaveAnswers catalogue queries → said ≢ status.Done → text ≡ line_of said
 
--- So it is with a reply, and with a refusal and its line.
-abbrev pub RepliesExactly : Files → Catalogue → List Query → Option ℕ → Reply → Type 0
-RepliesExactly files catalogue queries number (Done text) = RunsUnionExactly files catalogue queries number status.Done text
-RepliesExactly files catalogue queries number (Unsatisfiable clash text) =
-    RunsUnionExactly files catalogue queries number (status.Unsatisfiable clash) text
-
-abbrev pub RefusesExactly : Files → Catalogue → List Query → Option ℕ → Status → Type 0
-RefusesExactly files catalogue queries number said = RunsUnionExactly files catalogue queries number said (line_of said)
-
 -- What `run` answers to a union is exact.
 abbrev pub UnionRunsAreExact : Type 0
 UnionRunsAreExact =
     (files : Files) (catalogue : Catalogue) (queries : List Query) (number : Option ℕ)
-    → Leads (runs_union (Some files) catalogue queries number) (RepliesExactly files catalogue queries number)
-    (RefusesExactly files catalogue queries number)
+    → Leads (runs_union (Some files) catalogue queries number)
+    (λ reply. RunsUnionExactly files catalogue queries number (reply_status reply) (reply_text reply))
+    (λ said. RunsUnionExactly files catalogue queries number said (line_of said))
