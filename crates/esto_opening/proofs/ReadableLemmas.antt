@@ -1,22 +1,24 @@
 -- The files of fragments that are readable are those that are opened.
-use Rattle.std.proofs.Common.{◌≡◌, ◌≢◌, ◌⊎◌, ◌==◌, arith, ℕ, suc, true, false, Bool, List, [], ◌∷◌, Contains, Some, None, refl, sym, subst, inl, inr}
+use Rattle.std.proofs.Common.{◌≡◌, ◌≢◌, ◌⊎◌, ◌==◌, arith, ℕ, suc, true, false, Bool, List, [], ◌∷◌, Contains, Some, None, slice_get, refl, sym, ap, subst, ◌∙◌, inl, inr}
 use Rattle.std.proofs.lemmas.Bool.Decides.{nat_tests}
-use Rattle.esto_catalog.specs.Determined.{AreSame}
+use Rattle.esto_catalog.specs.Determined.{AreSame, stored_as}
 use Rattle.esto_catalog.specs.declared.catalogue.Catalogue.{Catalogue}
 use Rattle.esto_course.specs.Course.{and_then, each, gives, judges}
 use Rattle.esto_ports.specs.Files.{Files}
-use Rattle.esto_term.proofs.ListLemmas.{Contains-cases, Contains-head, Contains-nil, Contains-rest}
+use Rattle.esto_term.proofs.ListLemmas.{Contains-cases, Contains-head, Contains-nil, Contains-rest, map_at, map_at-from}
+use Rattle.esto_views.specs.declared.fragments.FragmentDef.{FragmentDef}
 use Rattle.esto_opening.specs.Answers.{IsCaused}
 use Rattle.esto_opening.specs.Calm.{Leads}
-use Rattle.esto_opening.specs.Fetch.{FetchStops, fetches}
+use Rattle.esto_opening.specs.Fetch.{FetchStops, HasWithin, fetches}
 use Rattle.esto_opening.specs.Fetch.FetchStops.{fails, is_longer}
-use Rattle.esto_opening.specs.Fragments.{IsReadableFragment, IsStoredAt, content_fault, no_contents, opens_fragment, opens_fragments, opens_next, with_content}
+use Rattle.esto_opening.specs.Fragments.{IsReadableFragment, IsStoredAt, Stored, content_fault, no_contents, opens_fragment, opens_fragments, opens_next, with_content}
 use Rattle.esto_opening.specs.Readable.{AreReadable, OpenedAreReadable, ReadableAreOpened, TellsOfFile}
 use Rattle.esto_opening.specs.Readable.TellsOfFile as tells
 use Rattle.esto_opening.specs.declared.fragments.TheConstants.{FRAGMENT_LIMIT}
 use Rattle.esto_opening.specs.declared.status.Status.{Status}
 use Rattle.esto_opening.proofs.AlikeLemmas.{fragment_agree}
 use Rattle.esto_opening.proofs.LeadLemmas.{gives-leads, judges-leads, leads-more, then-leads}
+use Rattle.esto_opening.proofs.StoreLemmas.{same_fault, same_file}
 
 -- with a further content: that of its number, and the others as they were
 content_cases : (contents : ℕ → List ℕ) (number : ℕ) (bytes : List ℕ) (other : ℕ)
@@ -112,10 +114,30 @@ module _ (files : Files) (catalogue : Catalogue) where
       (judges-leads _ _ TellsOfFile (λ refusal caused (fault, found, is). tells.has_fault stored.definition.name fault is))
       (λ value good. leads-more _ (λ other. other ≡ bytes) _ TellsOfFile (λ other is. tt) (gives-leads bytes TellsOfFile))))
 
+-- a file that is readable over one of two catalogues that say the same is so over the other
+module _ (files : Files) (catalogue other : Catalogue) (alike : AreSame catalogue other) where
+  stored_here : (number : ℕ) (stored : Stored) → IsStoredAt other number stored → (own : Stored) × IsStoredAt catalogue number own
+  stored_here number stored at =
+      let definition = map_at-from (λ (it : FragmentDef). it.name) catalogue.fragments number stored.definition.name
+      (ap (λ it. slice_get it number) alike.names ∙ map_at (λ (it : FragmentDef). it.name) other.fragments number stored.definition at.definition) in
+      let store = map_at-from stored_as catalogue.stores number (stored_as stored.store)
+      (ap (λ it. slice_get it number) alike.stores ∙ map_at stored_as other.stores number stored.store at.store) in
+      (record { definition = definition.0; store = store.0 }, record { definition = definition.1; store = store.1 })
+
+  readable_here : (number : ℕ) (bytes : List ℕ) → IsReadableFragment files other number bytes → IsReadableFragment files catalogue number bytes
+  readable_here number bytes (stored, at, has, none) =
+      let (own, here) = stored_here number stored at in (
+        own,
+        here,
+        subst (λ (it : List ℕ). HasWithin files it FRAGMENT_LIMIT bytes) (sym (same_file catalogue other alike number own stored here at)) has,
+        same_fault catalogue other alike number own stored here at bytes ∙ none,
+      )
+
 pub opened_are_readable : OpenedAreReadable
-opened_are_readable files catalogue numbers = record {
-  goes = opened_hold files catalogue (IsReadableFragment files catalogue) numbers (λ number inside. opened_readable files catalogue number);
-  stops = all_refused files catalogue TellsOfFile numbers (λ number inside. (fragment_tells files catalogue number).stops);
+opened_are_readable files catalogue other numbers alike = record {
+  goes = opened_hold files other (IsReadableFragment files catalogue) numbers (λ number inside bytes goes.
+      readable_here files catalogue other alike number bytes (opened_readable files other number bytes goes));
+  stops = all_refused files other TellsOfFile numbers (λ number inside. (fragment_tells files other number).stops);
 }
 
 pub readable_are_opened : ReadableAreOpened

@@ -20,13 +20,14 @@ pub data TellsOfFile (said : Status) : Type 0 where
   is_longer : (name : List ℕ) (limit : ℕ) → said ≡ TooLong name limit → TellsOfFile said
   has_fault : (name : List ℕ) (fault : FileFault) → said ≡ BadFragment name fault → TellsOfFile said
 
--- Files of fragments that are opened are readable, with the contents that they are opened with; if they are not, a file is told of.
+-- Files of fragments that are opened over a catalogue are readable over each that says the same, with the contents that they are opened with; if they are not
+-- opened, a file is told of.
 abbrev pub OpenedAreReadable : Type 0
 OpenedAreReadable =
-    (files : Files) (catalogue : Catalogue) (numbers : List ℕ)
-    → Leads (opens_fragments (Some files) catalogue numbers) (AreReadable files catalogue numbers) TellsOfFile
+    (files : Files) (catalogue other : Catalogue) (numbers : List ℕ) → AreSame catalogue other
+    → Leads (opens_fragments (Some files) other numbers) (AreReadable files catalogue numbers) TellsOfFile
 
--- Readable ones are opened, over each catalogue that says the same, with their contents.
+-- Files that are readable over a catalogue are opened over each that says the same, with their contents.
 abbrev pub ReadableAreOpened : Type 0
 ReadableAreOpened =
     (files : Files) (catalogue other : Catalogue) (numbers : List ℕ) (contents : ℕ → List ℕ) → AreSame catalogue other

@@ -41,8 +41,8 @@ pub fn opened_unions_are_queries()
     unions_of_one_are_queries();
 }
 
-/// A law: files of fragments that are opened are readable, and if one isn't, the refusal tells of it; readable ones are opened,
-/// over each catalogue that says the same, with their contents.
+/// A law: over catalogues that say the same, files of fragments that are opened are readable, and readable ones are opened, with
+/// the same contents; if a file is not opened, the refusal tells of it.
 pub fn readable_fragments_are_opened()
     ensures opened { OpenedAreReadable }
     ensures readable { ReadableAreOpened }

@@ -111,9 +111,10 @@ abbrev pub NeedsNumber : Files → Option ℕ → Catalogue → Query → Status
 NeedsNumber files number catalogue query said text =
     (asked count : ℕ) → (said ≡ status.NoSuchNumber asked count) ↔ IsAboveList catalogue query number asked count
 
--- What is said of an outcome of `run`.
+-- What is said of an outcome of `run`. The status is Done only where a listed set is chosen and its fragments' files are readable.
 pub record IsExactRun (files : Files) (number : Option ℕ) (catalogue : Catalogue) (query : Query) (said : Status) (text : List ℕ) : Type 0 where
   pub runs : RunsExactly files number catalogue query said text
+  pub done : said ≡ status.Done → CanRun files catalogue query number
   pub refused : RefusesRun files number catalogue query said text
   pub no_rewriting : NeedsRewriting files number catalogue query said text
   pub no_number : NeedsNumber files number catalogue query said text
