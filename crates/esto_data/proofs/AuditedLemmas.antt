@@ -6,7 +6,7 @@ use Rattle.std.proofs.lemmas.Option.{same_Some}
 use Rattle.esto_catalog.specs.Determined.{AreSame}
 use Rattle.esto_catalog.specs.declared.catalogue.Catalogue.{Catalogue}
 use Rattle.esto_catalog.specs.declared.dataset.Dataset.{Dataset}
-use Rattle.esto_course.specs.Course.{judges, and_then}
+use Rattle.esto_course.specs.Course.{judges, gives, and_then}
 use Rattle.esto_fill.specs.Databases.{database_of}
 use Rattle.esto_fill.specs.Files.{AreApart, HasRelation}
 use Rattle.esto_fill.specs.Laws.{AnswersRestOnDatasets}
@@ -15,31 +15,35 @@ use Rattle.esto_fill.specs.declared.datasets.DatasetBytes.{DatasetBytes}
 use Rattle.esto_ports.specs.Files.{Files}
 use Rattle.esto_query.specs.Making.{query_of}
 use Rattle.esto_query.specs.declared.query.Query.{Query}
-use Rattle.esto_run.specs.Answers.{rows_text}
 use Rattle.esto_semantics.specs.Queries.{ConjunctiveQuery, IsAnswer}
 use Rattle.esto_semantics.specs.declared.fact.Fact.{Fact}
+use Rattle.esto_semantics.specs.Unions.{IsUnionAnswer}
+use Rattle.esto_semantics.specs.declared.fact.Value.{Value}
 use Rattle.esto_semantics.specs.declared.fact.Value.TheVariants.{Text}
 use Rattle.esto_stores.specs.Rows.{Row}
 use Rattle.esto_term.proofs.ListLemmas.{Contains-map, Contains-map_from}
 use Rattle.esto_term.specs.declared.term.Term.{Term}
 use Rattle.esto_opening.specs.Alike.{AreSameQueries}
 use Rattle.esto_opening.specs.Calm.{Leads}
-use Rattle.esto_opening.specs.Unions.{UnionsOfOneAreQueries}
+use Rattle.esto_opening.specs.Fetch.{fetches}
+use Rattle.esto_opening.specs.Fragments.{IsReadableFragment, opens_fragment}
+use Rattle.esto_opening.specs.Opening.{opens_union}
+use Rattle.esto_opening.specs.Unions.{UnionsOfOneAreQueries, union_rows_text}
 use Rattle.esto_opening.specs.declared.reply.Reply.TheVariants.{Done}
 use Rattle.esto_opening.proofs.LeadLemmas.{then-leads, leads-more, gives-leads}
-use Rattle.esto_data.specs.Answer.{IsAnswerOfFacts, IsUnionAnswerOfFacts, answers_union, lists_texts}
+use Rattle.esto_data.specs.Answer.{IsAnswerOfFacts, IsUnionAnswerOfFacts, answer_course, answers_union, lists_texts}
 use Rattle.esto_data.specs.Datasets.{IsAny, Names, OneNames, loads, opens_dataset}
-use Rattle.esto_data.specs.Exact.{PrintsAnswersOfFacts}
+use Rattle.esto_data.specs.Exact.{PrintsRows}
 use Rattle.esto_data.specs.Laws.{RepliesAreAudited}
 use Rattle.esto_data.proofs.AgreeLemmas.{DataLaws}
-use Rattle.esto_data.proofs.AlikeLemmas.{fragments_long, same_query, same_rows_text}
+use Rattle.esto_data.proofs.AlikeLemmas.{fragments_long}
 use Rattle.esto_data.proofs.DatasetLemmas.{sources_there}
 use Rattle.esto_data.proofs.ExactLemmas.{agreed-leads, no_node}
 use Rattle.esto_data.proofs.FragmentLemmas.{each_opened, opened_within}
 use Rattle.esto_data.proofs.LeadLemmas.{AreLoaded, AreOpenedFiles, CanOpen, are_loaded, loads_never}
 use Rattle.esto_data.proofs.LoadLemmas.{dataset_agree}
 use Rattle.esto_data.proofs.MovedLemmas.{over_this}
-use Rattle.esto_data.proofs.UnionLemmas.{column_moved, loads_moved, one_names, one_union, texts_moved}
+use Rattle.esto_data.proofs.UnionLemmas.{one_union, same_queries, same_union, same_union_text, texts_moved}
 
 -- ---- the files of some of the datasets
 
@@ -91,7 +95,8 @@ module _ (files : Files) (datasets : List Dataset) where
               (subst (λ (it : ℕ). (opens_dataset (Some files) datasets it).goes entry.0.bytes) entry.2 (all.opened.opened entry.0 entry.1)) stop;
         }
 
-    module _ (query : ConjunctiveQuery) (some : List (Fact Term)) (own : AreLoaded (Some files) datasets (Names query.body) some) where
+    module _ (query : ConjunctiveQuery) (some : List (Fact Term)) (Needs : Dataset → Type 0)
+        (names : (dataset : Dataset) → Names query.body dataset → Needs dataset) (own : AreLoaded (Some files) datasets Needs some) where
       within : (file : DatasetBytes) → Contains own.entries file → Contains all.entries file
       within file inside =
           let needed = (own.needed.exact file.dataset).0 (number_of own.numbers own.entries own.opened file inside) in
@@ -103,7 +108,7 @@ module _ (files : Files) (datasets : List Dataset) where
           → HasRelation datasets file.dataset atom.relation → Contains own.entries file
       covers atom file inside there (dataset, place, at, less, is) =
           let needs : Names query.body dataset = (atom, inside, (omega (arith, is), omega (arith, is, less))) in
-          let entry = entry_of own.numbers own.entries own.opened file.dataset ((own.needed.exact file.dataset).1 (dataset, at, needs)) in
+          let entry = entry_of own.numbers own.entries own.opened file.dataset ((own.needed.exact file.dataset).1 (dataset, at, names dataset needs)) in
           subst (Contains own.entries)
           (one_entry entry.0 file entry.2 (own.opened.opened entry.0 entry.1) (all.opened.opened file there)) entry.1
 
@@ -118,6 +123,12 @@ module _ (files : Files) (datasets : List Dataset) where
 
 -- ---- the answers
 
+-- a fragment's file that is readable is opened
+readable_goes : (files : Files) (catalogue : Catalogue) (number : ℕ) (bytes : List ℕ) → IsReadableFragment files catalogue number bytes
+    → (opens_fragment (Some files) catalogue number).goes bytes
+unfolding fetches judges and_then gives
+readable_goes files catalogue number bytes (stored, at, has, none) = (stored, at, (bytes, has, (tt, none, refl)))
+
 -- each dataset has a file where all are loaded
 have_files : (files : Option Files) (datasets : List Dataset) (facts : List (Fact Term)) → (loads files datasets IsAny).goes facts
     → (number : ℕ) (dataset : Dataset) → slice_get datasets number ≡ Some dataset → IsSome dataset.file
@@ -126,41 +137,52 @@ have_files files datasets facts (numbers, needed, (given, have, more)) number da
     let source = sources_there datasets 0 numbers have number ((needed.exact number).1 (dataset, at, tt)) in
     subst (λ (it : Dataset). IsSome it.file) (same_Some source.0.dataset dataset (sym source.1.there ∙ at)) (subst IsSome (sym source.1.file_is) refl)
 
--- rows that are the texts of the one are those of the other, where both have the same answers of texts
-texts_over : (query : ConjunctiveQuery) (facts some : List (Fact Term))
-    → ((row : Row) → IsAnswer query (database_of facts) (map Text row) ↔ IsAnswer query (database_of some) (map Text row))
-    → HaveTextsOnly (IsAnswer query (database_of facts)) → (rows : List Row) → AreTextsOf (IsAnswer query (database_of some)) rows
-    → AreTextsOf (IsAnswer query (database_of facts)) rows
-texts_over query facts some same texts rows are = record {
+-- rows that are the texts of the one are those of the other, where both have the same rows of texts
+texts_over : (One Other : List Value → Type 0) → ((row : Row) → One (map Text row) ↔ Other (map Text row)) → HaveTextsOnly One → (rows : List Row)
+    → AreTextsOf Other rows → AreTextsOf One rows
+texts_over One Other same texts rows are = record {
   exact = λ values. (
     (λ answers.
         let (row, is) = texts values answers in
-        let found = (are.exact (map Text row)).0 ((same row).0 (subst (IsAnswer query (database_of facts)) is answers)) in
+        let found = (are.exact (map Text row)).0 ((same row).0 (subst One is answers)) in
         (found.0, found.1, is ∙ found.2)),
     (λ (row, inside, is).
-        subst (IsAnswer query (database_of facts)) (sym is) ((same row).1 ((are.exact (map Text row)).1 (row, inside, refl)))),
+        subst One (sym is) ((same row).1 ((are.exact (map Text row)).1 (row, inside, refl)))),
   );
   rising = are.rising;
 }
 
 module _ (laws : DataLaws) (rest : AnswersRestOnDatasets) (files : Files) (datasets : List Dataset) (facts : List (Fact Term))
     (loaded : (loads (Some files) datasets IsAny).goes facts) where
-  module _ (query : Query) (texts : HaveTextsOnly (IsAnswerOfFacts query facts)) where
+  module _ (queries : List Query) (texts : HaveTextsOnly (IsUnionAnswerOfFacts queries facts)) where
     abbrev needs : Dataset → Type 0
-    needs = OneNames (query_of query ∷ [])
+    needs = OneNames (map query_of queries)
+
+    module _ (some : List (Fact Term)) (goes : (loads (Some files) datasets needs).goes some) where
+      -- each query has the same answers of texts over the facts of the files that the union needs
+      one_same : (query : ConjunctiveQuery) → Contains (map query_of queries) query
+          → ((row : Row) → IsAnswer query (database_of facts) (map Text row) ↔ IsAnswer query (database_of some) (map Text row))
+          × (HaveTextsOnly (IsAnswer query (database_of facts)) → HaveTextsOnly (IsAnswer query (database_of some)))
+      one_same query inside =
+          same_answers files datasets facts (are_loaded (Some files) datasets IsAny facts loaded) query some needs (λ dataset named. (query, inside, named))
+          (are_loaded (Some files) datasets needs some goes) rest
+
+      union_same : (row : Row) → IsUnionAnswerOfFacts queries facts (map Text row) ↔ IsUnionAnswerOfFacts queries some (map Text row)
+      union_same row = (
+        (λ (query, inside, answer). (query, inside, ((one_same query inside).0 row).0 answer)),
+        (λ (query, inside, answer). (query, inside, ((one_same query inside).0 row).1 answer)),
+      )
+
+      union_texts : HaveTextsOnly (IsUnionAnswerOfFacts queries some)
+      union_texts values (query, inside, answer) = (one_same query inside).1 (λ own holds. texts own (query, inside, holds)) values answer
 
     rows_lead : (some : List (Fact Term)) → (loads (Some files) datasets needs).goes some
-        → Leads (lists_texts (IsUnionAnswerOfFacts (query ∷ []) some)) (AreTextsOf (IsAnswerOfFacts query facts)) (λ _. ⊥)
+        → Leads (lists_texts (IsUnionAnswerOfFacts queries some)) (AreTextsOf (IsUnionAnswerOfFacts queries facts)) (λ _. ⊥)
     unfolding judges
-    rows_lead some goes =
-        let own = loads_moved needs (Names (query_of query).body) (one_names (query_of query)) (Some files) datasets some goes in
-        let same = same_answers files datasets facts (are_loaded (Some files) datasets IsAny facts loaded) (query_of query) some
-        (are_loaded (Some files) datasets (Names (query_of query).body) some own) rest in record {
-          goes = λ rows are. texts_over (query_of query) facts some same.0 texts rows
-              (texts_moved (IsUnionAnswerOfFacts (query ∷ []) some) (IsAnswerOfFacts query some) (one_union query some) rows are);
-          stops = λ said caused (column, first, is). no_node (IsAnswerOfFacts query some) column (same.1 texts)
-              (column_moved (IsUnionAnswerOfFacts (query ∷ []) some) (IsAnswerOfFacts query some) (one_union query some) column first);
-        }
+    rows_lead some goes = record {
+      goes = λ rows are. texts_over (IsUnionAnswerOfFacts queries facts) (IsUnionAnswerOfFacts queries some) (union_same some goes) texts rows are;
+      stops = λ said caused (column, first, is). no_node (IsUnionAnswerOfFacts queries some) column (union_texts some goes) first;
+    }
 
     loads_lead : Leads (loads (Some files) datasets needs) (λ some. (loads (Some files) datasets needs).goes some) (λ _. ⊥)
     loads_lead = record {
@@ -169,25 +191,32 @@ module _ (laws : DataLaws) (rest : AnswersRestOnDatasets) (files : Files) (datas
           (each_can files datasets facts (are_loaded (Some files) datasets IsAny facts loaded) (have_files (Some files) datasets facts loaded) needs);
     }
 
-  -- the query is answered, as the union of one
-  pub query_leads : (query : Query) (others : List Query) → AreSameQueries (query ∷ []) others → HaveTextsOnly (IsAnswerOfFacts query facts)
+  -- the union is answered
+  pub union_leads : (queries others : List Query) → AreSameQueries queries others → HaveTextsOnly (IsUnionAnswerOfFacts queries facts)
       → (catalogue : Catalogue) → datasets ≡ catalogue.datasets
-      → Leads (answers_union (Some files) catalogue others) (λ reply. (text : List ℕ) × (reply ≡ Done text) × PrintsAnswersOfFacts query facts text) (λ _. ⊥)
-  query_leads query [] same texts catalogue is = absurd same
-  query_leads query (other ∷ another ∷ rest) (same, none) texts catalogue is = absurd none
-  query_leads query (other ∷ []) (same, none) texts catalogue is =
-      let one : query_of query ≡ query_of other = same_query query other same in
-      let other_texts : HaveTextsOnly (IsAnswerOfFacts other facts) =
-      subst (λ (it : ConjunctiveQuery). HaveTextsOnly (IsAnswer it (database_of facts))) one texts in
-      then-leads _ _ (λ some. (loads (Some files) datasets (OneNames (query_of other ∷ []))).goes some) _ _
-      (subst (λ (it : List Dataset). Leads (loads (Some files) it (OneNames (query_of other ∷ [])))
-      (λ some. (loads (Some files) datasets (OneNames (query_of other ∷ []))).goes some) (λ _. ⊥)) is (loads_lead other other_texts))
-      (λ some goes. then-leads _ _ (AreTextsOf (IsAnswerOfFacts other facts)) _ _ (rows_lead other other_texts some goes)
+      → Leads (answers_union (Some files) catalogue others)
+      (λ reply. (text : List ℕ) × (reply ≡ Done text) × PrintsRows (IsUnionAnswerOfFacts queries facts) (union_rows_text queries) text) (λ _. ⊥)
+  union_leads queries others same texts catalogue is =
+      then-leads _ _ (λ some. (loads (Some files) datasets (OneNames (map query_of others))).goes some) _ _
+      (subst (λ (it : List Dataset). Leads (loads (Some files) it (OneNames (map query_of others)))
+      (λ some. (loads (Some files) datasets (OneNames (map query_of others))).goes some) (λ _. ⊥)) is (loads_lead others other_texts))
+      (λ some goes. then-leads _ _ (AreTextsOf (IsUnionAnswerOfFacts others facts)) _ _ (rows_lead others other_texts some goes)
       (λ rows are. leads-more _ _ _ (λ _. ⊥) (λ reply reply_is. (
-        rows_text other rows,
+        union_rows_text others rows,
         reply_is,
-        (rows, subst (λ (it : ConjunctiveQuery). AreTextsOf (IsAnswer it (database_of facts)) rows) (sym one) are, sym (same_rows_text query other same rows)),
-      )) (gives-leads (Done (rows_text other rows)) (λ _. ⊥))))
+        (rows, texts_moved (IsUnionAnswerOfFacts others facts) (IsUnionAnswerOfFacts queries facts) back rows are,
+          sym (same_union_text queries others same rows)),
+      )) (gives-leads (Done (union_rows_text others rows)) (λ _. ⊥))))
+    where
+      one : map query_of queries ≡ map query_of others
+      one = same_queries queries others same
+
+      back : (values : List Value) → IsUnionAnswerOfFacts others facts values ↔ IsUnionAnswerOfFacts queries facts values
+      back values = same_union (map query_of others) (map query_of queries) (sym one)
+          (λ them own. IsUnionAnswer them (database_of facts) own) values
+
+      other_texts : HaveTextsOnly (IsUnionAnswerOfFacts others facts)
+      other_texts values holds = texts values ((back values).0 holds)
 
 pub replies_audited : DataLaws → UnionsOfOneAreQueries → AnswersRestOnDatasets → RepliesAreAudited
 unfolding and_then judges
@@ -197,16 +226,30 @@ replies_audited laws one rest files catalogue_name catalogue reply
       facts = facts;
       contents = contents;
       agree = over_this files catalogue other alike laws.fault laws.rows laws.file facts contents None agree;
-      opened = λ number bytes goes.
+      readable = λ number bytes is.
+          let goes = readable_goes files catalogue number bytes is in
           let within : number < length other.fragments =
           omega (arith, opened_within (Some files) catalogue number bytes goes, fragments_long catalogue other alike) in
           (laws.fragment files catalogue other number alike).one bytes (contents number) goes
           (each_opened (Some files) other contents opened number within);
+      unions = union_answers alike facts loaded;
       answers = λ query_name query reads query_texts.
-          then-leads _ _ (AreSame catalogue) _ _ (agreed-leads AreSame _ _ catalogue _ (laws.catalogues files catalogue_name) here)
-          (λ third third_alike. then-leads _ _ (AreSameQueries (query ∷ [])) _ _
-          (agreed-leads AreSameQueries _ _ (query ∷ []) _ (laws.unions files query_name catalogue third third_alike)
-          ((one (Some files) query_name catalogue query).1 reads))
-          (λ queries same. query_leads laws rest files other.datasets facts loaded query queries same query_texts third
-          (sym alike.datasets ∙ third_alike.datasets)));
+          leads-more _ _ _ (λ _. ⊥) (λ said (text, is, (rows, are, printed)). (
+            text,
+            is,
+            (rows, texts_moved (IsUnionAnswerOfFacts (query ∷ []) facts) (IsAnswerOfFacts query facts) (one_union query facts) rows are, printed),
+          ))
+          (union_answers alike facts loaded query_name (query ∷ []) ((one (Some files) query_name catalogue query).1 reads)
+          (λ values holds. query_texts values ((one_union query facts values).0 holds)));
     }
+  where
+    union_answers : AreSame catalogue other → (facts : List (Fact Term)) → (loads (Some files) other.datasets IsAny).goes facts → (query_name : List ℕ)
+        (queries : List Query) → (opens_union (Some files) query_name catalogue).goes queries → HaveTextsOnly (IsUnionAnswerOfFacts queries facts)
+        → Leads (answer_course (Some files) catalogue_name query_name)
+        (λ reply. (text : List ℕ) × (reply ≡ Done text) × PrintsRows (IsUnionAnswerOfFacts queries facts) (union_rows_text queries) text) (λ _. ⊥)
+    union_answers alike facts loaded query_name queries reads texts =
+        then-leads _ _ (AreSame catalogue) _ _ (agreed-leads AreSame _ _ catalogue _ (laws.catalogues files catalogue_name) here)
+        (λ third third_alike. then-leads _ _ (AreSameQueries queries) _ _
+        (agreed-leads AreSameQueries _ _ queries _ (laws.unions files query_name catalogue third third_alike) reads)
+        (λ others same. union_leads laws rest files other.datasets facts loaded queries others same texts third
+        (sym alike.datasets ∙ third_alike.datasets)))

@@ -13,15 +13,16 @@ use Rattle.esto_term.specs.declared.term.Term.{Term}
 use Rattle.esto_views.specs.Fragments.{views_of}
 use Rattle.esto_opening.specs.Answers.{IsCaused}
 use Rattle.esto_opening.specs.Calm.{IsOne, Leads, SaysAlways}
-use Rattle.esto_opening.specs.Fragments.{opens_fragment}
-use Rattle.esto_opening.specs.Opening.{FilesSayCatalogue, FilesSayQuery, FilesSayUnion, opens_catalogue, opens_query}
+use Rattle.esto_opening.specs.Fragments.{IsReadableFragment}
+use Rattle.esto_opening.specs.Opening.{FilesSayCatalogue, FilesSayQuery, FilesSayUnion, opens_catalogue, opens_query, opens_union}
+use Rattle.esto_opening.specs.Unions.{union_rows_text}
 use Rattle.esto_opening.specs.declared.reply.Reply.{Reply}
 use Rattle.esto_opening.specs.declared.reply.Reply.TheVariants.{Done}
 use Rattle.esto_opening.specs.declared.status.Status.{Status}
 use Rattle.esto_opening.specs.declared.status.Status.TheVariants as status
-use Rattle.esto_data.specs.Answer.{IsAnswerOfFacts, answer_course}
+use Rattle.esto_data.specs.Answer.{IsAnswerOfFacts, IsUnionAnswerOfFacts, answer_course}
 use Rattle.esto_data.specs.Audit.{audit_course}
-use Rattle.esto_data.specs.Exact.{IsExactAnswer, IsExactAudit, IsExactFill, IsExactUnionAnswer, PrintsAnswersOfFacts}
+use Rattle.esto_data.specs.Exact.{IsExactAnswer, IsExactAudit, IsExactFill, IsExactUnionAnswer, PrintsAnswersOfFacts, PrintsRows}
 use Rattle.esto_data.specs.Fill.{fill_course}
 
 -- ---- one outcome
@@ -61,13 +62,18 @@ AuditsAreExact =
 
 -- ---- agreement
 
--- The facts of all datasets' files meet the rules, and the files of all fragments hold exactly the rows of their views. A query over the catalogue that has no
--- answers over these facts but rows of texts is answered, and the text prints them, though only the files of the datasets that it names are loaded.
+-- The facts of all datasets' files meet the rules, and the files of all fragments hold exactly the rows of their views. A union of queries over the catalogue
+-- that has no answers over these facts but rows of texts is answered, and the text prints them, though only the files of the datasets that it names are loaded.
+-- So is a query.
 pub record AreAudited (files : Files) (catalogue_name : List ℕ) (catalogue : Catalogue) : Type 0 where
   pub facts : List (Fact Term)
   pub contents : ℕ → List ℕ
   pub agree : Agree (rules_of catalogue.rules) (views_of catalogue.fragments) (database_of facts) (IsFileRow catalogue.stores contents)
-  pub opened : (number : ℕ) (bytes : List ℕ) → (opens_fragment (Some files) catalogue number).goes bytes → bytes ≡ contents number
+  pub readable : (number : ℕ) (bytes : List ℕ) → IsReadableFragment files catalogue number bytes → bytes ≡ contents number
+  pub unions : (query_name : List ℕ) (queries : List Query) → (opens_union (Some files) query_name catalogue).goes queries
+      → HaveTextsOnly (IsUnionAnswerOfFacts queries facts)
+      → Leads (answer_course (Some files) catalogue_name query_name)
+      (λ reply. (text : List ℕ) × (reply ≡ Done text) × PrintsRows (IsUnionAnswerOfFacts queries facts) (union_rows_text queries) text) (λ _. ⊥)
   pub answers : (query_name : List ℕ) (query : Query) → (opens_query (Some files) query_name catalogue).goes query
       → HaveTextsOnly (IsAnswerOfFacts query facts)
       → Leads (answer_course (Some files) catalogue_name query_name)

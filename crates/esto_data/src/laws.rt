@@ -35,7 +35,8 @@ pub fn data_outcomes_are_exact()
 }
 
 /// A law: where `audit` has a reply, the facts of all datasets meet the rules and the fragments hold their views' rows, and
-/// `answer` prints the answers over these facts of each query that has answers of texts alone. A refusal is never Done.
+/// `answer` prints the answers over these facts of each query, and of each union, that has answers of texts alone. A refusal
+/// is never Done.
 pub fn audited_datasets_answer()
     ensures replies { RepliesAreAudited }
     ensures refusals { AuditsRefuse }

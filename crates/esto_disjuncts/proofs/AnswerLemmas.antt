@@ -12,11 +12,11 @@ use Rattle.esto_run.specs.Laws.{UnionsAnswerOverFiles}
 use Rattle.esto_semantics.specs.Containment.{IsSatisfiable}
 use Rattle.esto_semantics.specs.Queries.{ConjunctiveQuery}
 use Rattle.esto_term.proofs.ListLemmas.{Contains-at, Contains-filter, Contains-filter_from, Contains-map}
-use Rattle.esto_union.specs.Laws.{ArePicks, IsPickOf, PicksAnswerUnion}
+use Rattle.esto_union.specs.Laws.{ArePicks, IsPickOf, PicksAnswerUnion, PicksAreRewriting}
 use Rattle.esto_views.specs.Fragments.{views_of}
 use Rattle.esto_disjuncts.specs.Members.{AreMembersOf, IsMemberOf, has_plan}
 use Rattle.esto_disjuncts.specs.Run.{AreChosen, IsChosenOf}
-use Rattle.esto_disjuncts.specs.RunLaws.{RunsAnswerUnions}
+use Rattle.esto_disjuncts.specs.RunLaws.{ChosenAreRewriting, RunsAnswerUnions}
 use Rattle.esto_disjuncts.specs.declared.members.Member.{Member}
 use Rattle.esto_disjuncts.specs.declared.members.Member.TheVariants.{Planned, Clashed}
 use Rattle.esto_disjuncts.proofs.ZipLemmas.{zip_left, zip_right}
@@ -76,6 +76,10 @@ module _ (form : PlanHasForm) (receives : PlanReceivesUnions) (satisfiable : Pla
 
     pub safe_others : (other : ConjunctiveQuery) → Contains others other → IsSafeQuery other
     safe_others other inside = let (query, member, in_union, is, from) = of_member other inside in safe_of query member other is from
+
+pub chosen_rewrite : PlanHasForm → PlanReceivesUnions → PlanTellsAnswers → ClashExcludesAnswers → PicksAreRewriting → ChosenAreRewriting
+chosen_rewrite form receives satisfiable unsatisfiable picks catalogue queries number members others are chosen =
+    picks catalogue queries others (are_picks form receives satisfiable unsatisfiable catalogue queries number members are others chosen)
 
 pub runs_answer : PlanHasForm → PlanReceivesUnions → PlanTellsAnswers → ClashExcludesAnswers → PicksAnswerUnion → UnionsAnswerOverFiles → RunsAnswerUnions
 runs_answer form receives satisfiable unsatisfiable picks over catalogue queries number members others contents database are chosen meets hold values =

@@ -1,5 +1,5 @@
 -- What `list` answers to a union is exact.
-use Rattle.std.proofs.Common.{◌≡◌, inl, inr, ℕ, Bool, true, false, ◌||◌, List, [], ◌∷◌, slice_get, Some, refl, sym, subst, ◌∙◌}
+use Rattle.std.proofs.Common.{◌≡◌, inl, inr, ℕ, Bool, true, false, ◌||◌, List, [], ◌∷◌, slice_get, Contains, Some, refl, sym, subst, ◌∙◌}
 use Rattle.std.proofs.lemmas.Option.{same_Some, none-some}
 use Rattle.std.specs.List.{AllZip, list_any}
 use Rattle.esto_catalog.specs.declared.catalogue.Catalogue.{Catalogue}
@@ -18,7 +18,7 @@ use Rattle.esto_semantics.specs.Containment.{IsSatisfiable}
 use Rattle.esto_term.proofs.ListLemmas.{Contains-cases, Contains-head, Contains-nil, Contains-rest}
 use Rattle.esto_views.specs.declared.plan.Plan.{Plan}
 use Rattle.esto_disjuncts.specs.Exact.{HaveAnswers, ListsUnionExactly, TellsSatisfiable}
-use Rattle.esto_disjuncts.specs.Laws.{EmptyListsAreTold, MembersAreUniversal, MembersCoverUnions, MembersTellSatisfiable}
+use Rattle.esto_disjuncts.specs.Laws.{EmptyListsAreTold, MembersAreCores, MembersAreUniversal, MembersCoverUnions, MembersTellSatisfiable}
 use Rattle.esto_disjuncts.specs.List.{IsUnionText, lists_union}
 use Rattle.esto_disjuncts.specs.Members.{AreMembersOf, ClashAt, HavePlan, IsMemberOf, has_plan}
 use Rattle.esto_disjuncts.specs.declared.members.Member.{Member}
@@ -55,6 +55,14 @@ module _ (catalogue : Catalogue) where
           let found = later (subst (λ (it : Bool). (it || list_any has_plan members) ≡ true) is has) in
           (found.0, Contains-rest query queries found.0 found.1, found.2)
 
+  -- a member that has a plan is one of those
+  pub one_plan : (members : List Member) (plan : Plan) (items : List Listed) → Contains members (Planned plan items) → HavePlan members
+  one_plan [] plan items inside = absurd (Contains-nil (Planned plan items) inside)
+  one_plan (member ∷ members) plan items inside = elim (Contains-cases member members (Planned plan items) inside) [
+    | inl is ↦ or_left (has_plan member) (list_any has_plan members) (subst (λ (it : Member). has_plan it ≡ true) (sym is) refl)
+    | inr later ↦ or_right (has_plan member) (list_any has_plan members) (one_plan members plan items later)
+  ]
+
   pub have_plan : (queries : List Query) (members : List Member) → AllZip (TellsSatisfiable catalogue) queries members → HaveAnswers catalogue queries
       → HavePlan members
   have_plan [] members zip (query, inside, satisfiable) = absurd (Contains-nil query inside)
@@ -78,13 +86,14 @@ module _ (catalogue : Catalogue) where
 
 -- ---- the outcome
 
-done_not_clash : (clash : Clash) → status.Done ≡ status.Unsatisfiable clash → ⊥
+pub done_not_clash : (clash : Clash) → status.Done ≡ status.Unsatisfiable clash → ⊥
 done_not_clash clash same = cc
 
 same_clash : (clash other : Clash) → status.Unsatisfiable clash ≡ status.Unsatisfiable other → clash ≡ other
 same_clash clash other same = cc
 
-module _ (tell : MembersTellSatisfiable) (universal : MembersAreUniversal) (cover : MembersCoverUnions) (empty : EmptyListsAreTold) (catalogue : Catalogue) (queries : List Query) where
+module _ (tell : MembersTellSatisfiable) (universal : MembersAreUniversal) (cored : MembersAreCores) (cover : MembersCoverUnions) (empty : EmptyListsAreTold)
+    (catalogue : Catalogue) (queries : List Query) where
   says_text : (members : List Member) → AreMembersOf catalogue queries members → HavePlan members → (text : List ℕ) → IsUnionText catalogue members text
       → ListsUnionExactly catalogue queries status.Done text
   says_text members are some text printed =
@@ -96,6 +105,7 @@ module _ (tell : MembersTellSatisfiable) (universal : MembersAreUniversal) (cove
           printed = printed;
           satisfiable = tell catalogue queries members are;
           universal = universal catalogue queries members are;
+          cored = cored catalogue queries members are;
           complete = cover catalogue queries members are;
           empty = empty catalogue queries members are;
         };

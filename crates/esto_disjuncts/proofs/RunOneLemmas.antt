@@ -92,7 +92,7 @@ module _ (choice : ChoiceIsOne) (number : Option ℕ) where
       sym made ∙ (λ i. candidate (plans.0 i) ((same i).set)) ∙ made_too
 
   -- the same members have one choice
-  all_one : (members others : List Member) → AllZip IsSameMember members others → (queries laters : List ConjunctiveQuery)
+  pub all_one : (members others : List Member) → AllZip IsSameMember members others → (queries laters : List ConjunctiveQuery)
       → AreChosen number members queries → AreChosen number others laters → queries ≡ laters
   all_one [] [] zip [] [] here there = refl
   all_one [] [] zip [] (later ∷ laters) here there = absurd there
@@ -123,7 +123,7 @@ module _ (choice : ChoiceIsOne) (number : Option ℕ) where
         | inr later ↦ in_choice members queries rest plan items later
       ]
 
-  never_refused : (members : List Member) (queries : List ConjunctiveQuery) → AreChosen number members queries → (refusal : Status)
+  pub never_refused : (members : List Member) (queries : List ConjunctiveQuery) → AreChosen number members queries → (refusal : Status)
       → HasNoChoice members number refusal → ⊥
   unfolding judges
   never_refused members queries are refusal (is_empty (plan, inside) is) =
@@ -135,7 +135,7 @@ module _ (choice : ChoiceIsOne) (number : Option ℕ) where
       (number_is_above asked asks (λ empty. some (plan, subst (λ (them : List Listed). Contains members (Planned plan them)) empty inside))
       (omega (arith, less, length_is)) refl)
 
-  refusal_there : (members others : List Member) → AllZip IsSameMember members others → (refusal : Status) → HasNoChoice others number refusal
+  pub refusal_there : (members others : List Member) → AllZip IsSameMember members others → (refusal : Status) → HasNoChoice others number refusal
       → HasNoChoice members number refusal
   refusal_there members others zip refusal (is_empty (plan, inside) is) = is_empty (planned_there others members (all_back members others zip) plan [] inside) is
   refusal_there members others zip refusal (is_above asked least asks some is_least less is) =
@@ -145,7 +145,7 @@ module _ (choice : ChoiceIsOne) (number : Option ℕ) where
         none_shorter = λ plan items inside. let found = planned_there members others zip plan items inside in is_least.none_shorter found.0 items found.1;
       }) less is
 
-  refusal_one : (members : List Member) (refusal other : Status) → HasNoChoice members number refusal → HasNoChoice members number other → refusal ≡ other
+  pub refusal_one : (members : List Member) (refusal other : Status) → HasNoChoice members number refusal → HasNoChoice members number other → refusal ≡ other
   refusal_one members refusal other (is_empty empty is) (is_empty empty_too is_too) = is ∙ sym is_too
   refusal_one members refusal other (is_empty empty is) (is_above asked least asks some is_least less is_too) = absurd (some empty)
   refusal_one members refusal other (is_above asked least asks some is_least less is) (is_empty empty is_too) = absurd (some empty)

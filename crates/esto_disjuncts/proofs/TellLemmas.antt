@@ -6,7 +6,7 @@ use Rattle.esto_constraint.specs.Constraints.{rules_of}
 use Rattle.esto_list.specs.Items.{sets_of}
 use Rattle.esto_plan_laws.specs.UnionLaws.{ChoiceExists, ChoiceIsExecutable, EmptyListExcludes, ListedCoverUnions, ReceivingIsUniversal}
 use Rattle.esto_plan_laws.specs.UnionSets.{HasEmptyList, IsAnswered}
-use Rattle.esto_planning.specs.Laws.{ClashExcludesAnswers, PlanHasForm, PlanReceivesUnions, PlanTellsAnswers}
+use Rattle.esto_planning.specs.Laws.{ClashExcludesAnswers, CoreHasNoRetract, CoreIsOnly, PlanHasForm, PlanReceivesUnions, PlanTellsAnswers}
 use Rattle.esto_query.specs.Making.{query_of}
 use Rattle.esto_query.specs.declared.query.Query.{Query}
 use Rattle.esto_semantics.specs.Access.{Patterns}
@@ -17,8 +17,8 @@ use Rattle.esto_union.specs.Unions.{queries_of}
 use Rattle.esto_views.specs.Fragments.{patterns_of, views_of}
 use Rattle.esto_views.specs.Plans.{plan_query}
 use Rattle.esto_views.specs.declared.plan.Plan.{Plan}
-use Rattle.esto_disjuncts.specs.Exact.{CoversUnions, HasNoRewriting, HasUniversalPlan, TellsSatisfiable}
-use Rattle.esto_disjuncts.specs.Laws.{EmptyListsAreTold, MembersAreUniversal, MembersCoverUnions, MembersTellSatisfiable}
+use Rattle.esto_disjuncts.specs.Exact.{CoversUnions, HasNoRewriting, HasOnlyCore, HasUniversalPlan, TellsSatisfiable}
+use Rattle.esto_disjuncts.specs.Laws.{EmptyListsAreTold, MembersAreCores, MembersAreUniversal, MembersCoverUnions, MembersTellSatisfiable}
 use Rattle.esto_disjuncts.specs.Members.{AreMembersOf, IsMemberOf, OneIsEmpty}
 use Rattle.esto_disjuncts.specs.declared.members.Member.{Member}
 use Rattle.esto_disjuncts.specs.declared.members.Member.TheVariants.{Planned, Clashed}
@@ -31,6 +31,8 @@ pub record TellLaws : Type 0 where
   pub satisfiable : PlanTellsAnswers
   pub unsatisfiable : ClashExcludesAnswers
   pub universal : ReceivingIsUniversal
+  pub core : CoreHasNoRetract
+  pub only_core : CoreIsOnly
   pub cover : ListedCoverUnions
   pub excludes : EmptyListExcludes
   pub exists : ChoiceExists
@@ -58,6 +60,10 @@ module _ (laws : TellLaws) (catalogue : Catalogue) (queries : List Query) where
   universal : (query : Query) (member : Member) → IsMemberOf catalogue queries query member → HasUniversalPlan catalogue query member
   universal query (Planned plan items) is = laws.universal rules views (query_of query) (plan_query plan) (laws.receives catalogue query plan is.0)
   universal query (Clashed clash) is = tt
+
+  cored : (query : Query) (member : Member) → IsMemberOf catalogue queries query member → HasOnlyCore catalogue query member
+  cored query (Planned plan items) is = λ core. (laws.core catalogue query plan is.0 core, laws.only_core catalogue query plan is.0 core)
+  cored query (Clashed clash) is = tt
 
   -- ---- rewritings
 
@@ -130,6 +136,10 @@ module _ (laws : TellLaws) where
   pub members_universal : MembersAreUniversal
   members_universal catalogue queries members are =
       zip_more (IsMemberOf catalogue queries) (HasUniversalPlan catalogue) (universal laws catalogue queries) queries members are
+
+  pub members_cored : MembersAreCores
+  members_cored catalogue queries members are =
+      zip_more (IsMemberOf catalogue queries) (HasOnlyCore catalogue) (cored laws catalogue queries) queries members are
 
   pub members_cover : MembersCoverUnions
   members_cover catalogue queries members are member inside =

@@ -4,10 +4,12 @@ use Rattle.std.specs.List.{AllZip}
 use Rattle.esto_catalog.specs.declared.catalogue.Catalogue.{Catalogue}
 use Rattle.esto_chase_laws.specs.declared.clash.Clash.{Clash}
 use Rattle.esto_constraint.specs.Constraints.{rules_of}
+use Rattle.esto_core.specs.Cored.{IsOnlyCore}
 use Rattle.esto_list.specs.Items.{sets_of}
 use Rattle.esto_opening.specs.Line.{line_of}
 use Rattle.esto_opening.specs.declared.status.Status.{Status}
 use Rattle.esto_opening.specs.declared.status.Status.TheVariants as status
+use Rattle.esto_plan_laws.specs.Cores.{HasNoRetract}
 use Rattle.esto_planning.specs.Listing.{IsClash}
 use Rattle.esto_query.specs.Making.{query_of}
 use Rattle.esto_query.specs.declared.query.Query.{Query}
@@ -40,6 +42,13 @@ HasUniversalPlan catalogue query (Planned plan items) =
     IsUniversalPlan (rules_of catalogue.rules) (views_of catalogue.fragments) (query_of query) (plan_query plan)
 HasUniversalPlan catalogue query (Clashed clash) = ⊤
 
+-- Where the catalogue asks for the core, the member's plan retracts into no proper sublist of itself, and is the only core for the query.
+abbrev pub HasOnlyCore : Catalogue → Query → Member → Type 0
+HasOnlyCore catalogue query (Planned plan items) =
+    IsTrue catalogue.core
+    → HasNoRetract (plan_query plan) × IsOnlyCore (rules_of catalogue.rules) (views_of catalogue.fragments) (query_of query) (plan_query plan)
+HasOnlyCore catalogue query (Clashed clash) = ⊤
+
 -- Every executable rewriting of the union, with whatever variables and of whatever size, has a query that maps, head to head, onto a set of the member's plan
 -- that has a listed set within it.
 abbrev pub CoversUnions : Catalogue → List Query → Member → Type 0
@@ -47,14 +56,16 @@ CoversUnions catalogue queries (Planned plan items) =
     (others : List ConjunctiveQuery) → AreRewritingOf catalogue queries others → OneMapsOntoOne others (plan_query plan) (sets_of items)
 CoversUnions catalogue queries (Clashed clash) = ⊤
 
--- The text is that of the union's members. They have plans exactly for the satisfiable queries. The plans are universal, and their lists cover the union's
--- executable rewritings, of which there are none exactly where some list is empty.
+-- The text is that of the union's members. They have plans exactly for the satisfiable queries. The plans are universal, and where the catalogue asks for the
+-- core each retracts into no proper sublist of itself and is the only core for its query. Their lists cover the union's executable rewritings, of which there
+-- are none exactly where some list is empty.
 pub record PrintsUnion (catalogue : Catalogue) (queries : List Query) (text : List ℕ) : Type 0 where
   pub members : List Member
   pub are : AreMembersOf catalogue queries members
   pub printed : IsUnionText catalogue members text
   pub satisfiable : AllZip (TellsSatisfiable catalogue) queries members
   pub universal : AllZip (HasUniversalPlan catalogue) queries members
+  pub cored : AllZip (HasOnlyCore catalogue) queries members
   pub complete : (member : Member) → Contains members member → CoversUnions catalogue queries member
   pub empty : OneIsEmpty members ↔ HasNoRewriting catalogue queries
 

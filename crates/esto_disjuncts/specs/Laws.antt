@@ -9,7 +9,7 @@ use Rattle.esto_opening.specs.Line.{line_of}
 use Rattle.esto_opening.specs.declared.status.Status.TheVariants.{Done}
 use Rattle.esto_query.specs.declared.query.Query.{Query}
 use Rattle.esto_planning.specs.Alike.{IsSamePlan}
-use Rattle.esto_disjuncts.specs.Exact.{CoversUnions, HasNoRewriting, HasUniversalPlan, ListsUnionExactly, TellsSatisfiable}
+use Rattle.esto_disjuncts.specs.Exact.{CoversUnions, HasNoRewriting, HasOnlyCore, HasUniversalPlan, ListsUnionExactly, TellsSatisfiable}
 use Rattle.esto_disjuncts.specs.List.{lists_union}
 use Rattle.esto_disjuncts.specs.Members.{AreMembersOf, OneIsEmpty}
 use Rattle.esto_disjuncts.specs.declared.members.Member.{Member}
@@ -62,6 +62,12 @@ abbrev pub MembersAreUniversal : Type 0
 MembersAreUniversal =
     (catalogue : Catalogue) (queries : List Query) (members : List Member) → AreMembersOf catalogue queries members
     → AllZip (HasUniversalPlan catalogue) queries members
+
+-- Where the catalogue asks for the core, each retracts into no proper sublist of itself, and is the only core for its query.
+abbrev pub MembersAreCores : Type 0
+MembersAreCores =
+    (catalogue : Catalogue) (queries : List Query) (members : List Member) → AreMembersOf catalogue queries members
+    → AllZip (HasOnlyCore catalogue) queries members
 
 -- Their lists cover the executable rewritings of the union.
 abbrev pub MembersCoverUnions : Type 0

@@ -16,11 +16,17 @@ use Rattle.esto_semantics.specs.Unions.{IsUnionAnswer}
 use Rattle.esto_semantics.specs.declared.fact.Value.{Value}
 use Rattle.esto_semantics.specs.declared.fact.Value.TheVariants.{Text}
 use Rattle.esto_stores.specs.Rows.{Row}
-use Rattle.esto_union.specs.Unions.{queries_of}
+use Rattle.esto_union.specs.Unions.{AreRewritingOf, queries_of}
 use Rattle.esto_views.specs.Fragments.{views_of}
 use Rattle.esto_disjuncts.specs.Members.{AreMembersOf}
 use Rattle.esto_disjuncts.specs.Run.{AreChosen, runs_union}
 use Rattle.esto_disjuncts.specs.declared.members.Member.{Member}
+
+-- The candidates of the chosen sets are together an executable rewriting of the union.
+abbrev pub ChosenAreRewriting : Type 0
+ChosenAreRewriting =
+    (catalogue : Catalogue) (queries : List Query) (number : Option ℕ) (members : List Member) (others : List ConjunctiveQuery)
+    → AreMembersOf catalogue queries members → AreChosen number members others → AreRewritingOf catalogue queries others
 
 -- For each database that meets the catalogue's rules, and whose view rows are the rows of the files for the fragments that the chosen sets use, the rows over the
 -- files are exactly the union's answers.

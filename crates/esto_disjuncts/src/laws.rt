@@ -1,9 +1,9 @@
 //! Laws of members and lists of unions.
-ghost use Rattle.esto_disjuncts.specs.Laws.{EmptyListsAreTold, MembersAreMoved, MembersAreOne, MembersAreUniversal, MembersCoverUnions, MembersTellSatisfiable, UnionListsAreExact, UnionListsAreMoved, UnionListsAreOne};
-ghost use Rattle.esto_disjuncts.specs.RunLaws.{RunsAnswerUnions, UnionRunsAreMoved, UnionRunsAreOne};
+ghost use Rattle.esto_disjuncts.specs.Laws.{EmptyListsAreTold, MembersAreCores, MembersAreMoved, MembersAreOne, MembersAreUniversal, MembersCoverUnions, MembersTellSatisfiable, UnionListsAreExact, UnionListsAreMoved, UnionListsAreOne};
+ghost use Rattle.esto_disjuncts.specs.RunLaws.{ChosenAreRewriting, RunsAnswerUnions, UnionRunsAreMoved, UnionRunsAreOne};
 ghost use Rattle.esto_disjuncts.specs.RunExact.{UnionRunsAreExact};
 
-use esto_opening::openings_are_one;
+use esto_opening::{openings_are_one, readable_fragments_are_opened};
 use esto_plan_laws::{
     choices_are_executable_unions, executable_unions_exist, executable_unions_map_onto_sets,
     plans_receive_unions,
@@ -26,12 +26,13 @@ pub fn members_are_one()
     weights_exist();
 }
 
-/// A law: the members of a union have plans exactly for its satisfiable queries, and these are universal. Each executable
-/// rewriting of the union has, for each of these plans, a query that maps onto a set of the plan's atoms that has a listed
-/// set within it; and there is none exactly where some plan has no listed set.
+/// A law: the members of a union have plans exactly for its satisfiable queries, and these are universal; cored ones are the
+/// only cores. Each executable rewriting of the union has, for each of these plans, a query that maps onto a set of the
+/// plan's atoms that has a listed set within it; and there is none exactly where some plan has no listed set.
 pub fn members_tell_rewritings()
     ensures satisfiable { MembersTellSatisfiable }
     ensures universal { MembersAreUniversal }
+    ensures cored { MembersAreCores }
     ensures complete { MembersCoverUnions }
     ensures empty { EmptyListsAreTold }
 {
@@ -68,10 +69,12 @@ pub fn union_lists_are_exact()
     members_tell_rewritings();
 }
 
-/// A law: for each database that meets the rules, and whose view rows are the rows of the files for the fragments that the
-/// chosen sets of a union's members use, the rows of their candidates over the files are exactly the union's answers.
+/// A law: the candidates of the chosen sets of a union's members are an executable rewriting of the union. For each database
+/// that meets the rules, and whose view rows are the rows of the files for the fragments that they use, their rows over the
+/// files are exactly the union's answers.
 pub fn runs_answer_unions()
-    ensures { RunsAnswerUnions }
+    ensures rewriting { ChosenAreRewriting }
+    ensures answers { RunsAnswerUnions }
 {
     planned_plans_have_their_form();
     planned_plans_are_universal();
@@ -99,12 +102,16 @@ pub fn union_runs_are_one()
     rising_rows_are_one();
 }
 
-/// A law: over files that are told, `run` replies to a union of which no query is satisfiable with the clash of the first
-/// query's run; else it refuses it with `NoRewriting` exactly where it has no executable rewriting, and a text that it
-/// replies has exactly the union's answers, for each database of which the files hold the view rows.
+/// A law: over files that are told, `run` prints the run of the chosen sets of a union exactly where it can be run, and this
+/// is exactly the union's answers, for each database of which the files hold the view rows; it replies with the clash of the
+/// first query's run exactly where no query is satisfiable; and it refuses with `NoRewriting` exactly where the union has no
+/// executable rewriting, and with `NoSuchNumber` exactly where the number is above the least length of the lists.
 pub fn union_runs_are_exact()
     ensures { UnionRunsAreExact }
 {
+    members_are_one();
     members_tell_rewritings();
     runs_answer_unions();
+    plans_and_lists_are_one();
+    readable_fragments_are_opened();
 }

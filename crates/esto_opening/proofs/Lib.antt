@@ -8,5 +8,6 @@ pub mod LeadLemmas
 pub mod AgreeLemmas
 pub mod StoreLemmas
 pub mod AlikeLemmas
+pub mod ReadableLemmas
 pub mod RefusalLemmas
 pub mod UnionLemmas

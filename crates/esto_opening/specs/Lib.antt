@@ -7,4 +7,5 @@ pub mod Asked
 pub mod Opening
 pub mod Fragments
 pub mod Alike
+pub mod Readable
 pub mod Unions

@@ -1,5 +1,6 @@
 //! Laws of what is opened.
 ghost use Rattle.esto_opening.specs.Alike.{CataloguesOpenAlike, FragmentOpensAlike, FragmentsOpenAlike, QueriesOpenAlike, UnionsOpenAlike, StoresHaveOneContent, StoresHaveOneFault, StoresHaveOneFile};
+ghost use Rattle.esto_opening.specs.Readable.{OpenedAreReadable, ReadableAreOpened};
 ghost use Rattle.esto_opening.specs.Unions.{OpenedFormUnions, QueriesOpenAlone, SaidUnionsOpen, UnionsOfOneAreQueries};
 
 use esto_catalog::{catalogues_are_determined, catalogues_are_sound};
@@ -39,3 +40,10 @@ pub fn opened_unions_are_queries()
     union_readings_are_determined();
     unions_of_one_are_queries();
 }
+
+/// A law: over catalogues that say the same, files of fragments that are opened are readable, and readable ones are opened, with
+/// the same contents; if a file is not opened, the refusal tells of it.
+pub fn readable_fragments_are_opened()
+    ensures opened { OpenedAreReadable }
+    ensures readable { ReadableAreOpened }
+{}

@@ -15,7 +15,7 @@ mod unions;
 pub use cell::cell_text;
 pub use fetching::fetch;
 pub use fragments::{FRAGMENT_LIMIT, open_fragments};
-pub use laws::{opened_unions_are_queries, openings_are_one};
+pub use laws::{opened_unions_are_queries, openings_are_one, readable_fragments_are_opened};
 pub use line::status_line;
 pub use opening::{CATALOGUE_LIMIT, QUERY_LIMIT, open_catalogue, open_query};
 pub use reply::Reply;

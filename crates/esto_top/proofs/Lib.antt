@@ -13,7 +13,6 @@ pub mod AlikeRunLemmas
 pub mod RunAgreeLemmas
 pub mod SayLemmas
 pub mod DataLemmas
-pub mod OpenedLemmas
 pub mod HeadlineLemmas
 pub mod UnionLemmas
 pub mod RunsLemmas

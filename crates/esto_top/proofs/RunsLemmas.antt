@@ -1,5 +1,5 @@
 -- What `run` answers where the files say a catalogue and a query over it.
-use Rattle.std.proofs.Common.{◌≡◌, ◌≢◌, ◌↔◌, ℕ, true, false, Bool, List, [], ◌∷◌, map, length, slice_get, Contains, Option, Some, None, refl, sym, ap, subst, ◌∙◌, inl, inr}
+use Rattle.std.proofs.Common.{◌≡◌, ◌≢◌, ◌↔◌, ℕ, true, false, Bool, List, [], ◌∷◌, map, length, slice_get, Contains, Option, Some, None, refl, sym, ap, subst, ◌∙◌, inl, inr, arith}
 use Rattle.std.specs.Prelude.{codes}
 use Rattle.std.proofs.lemmas.Option.{same_Some, none-some}
 use Rattle.either.specs.declared.Either.TheVariants.{Left, Right}
@@ -31,19 +31,18 @@ use Rattle.esto_views.specs.Fragments.{views_of, patterns_of}
 use Rattle.esto_views.specs.Plans.{plan_query}
 use Rattle.esto_views.specs.declared.plan.Plan.{Plan}
 use Rattle.esto_opening.specs.Answers.{IsCaused}
-use Rattle.esto_opening.specs.Fetch.{FetchStops, fetches}
-use Rattle.esto_opening.specs.Fetch.FetchStops.{fails, is_longer}
-use Rattle.esto_opening.specs.Fragments.{IsReadableFragment, IsStoredAt, content_fault, opens_fragment, opens_fragments}
+use Rattle.esto_opening.specs.Fragments.{IsReadableFragment, opens_fragments}
+use Rattle.esto_opening.specs.Readable.{AreReadable, OpenedAreReadable, ReadableAreOpened, TellsOfFile}
+use Rattle.esto_opening.specs.Readable.TellsOfFile.{fails, is_longer, has_fault}
 use Rattle.esto_top.specs.Grammar.{course_of, is_list_number}
 use Rattle.esto_top.specs.Headline.{FilesSay, HasAnswers, Rewrites}
 use Rattle.esto_opening.specs.Replies.{reply_status, reply_text}
 use Rattle.esto_top.specs.Outcome.{Says, CompleteWhereTold}
 use Rattle.esto_top.specs.Run.{IsRunText, run_course, runs_queries, runs_query}
 use Rattle.esto_planning.specs.Choice.HasNoPlace.{is_empty, is_above}
-use Rattle.esto_top.specs.Runs.{AsksRun, CanRun, PrintsAnswers, PrintsRun, IsExactRun, OutcomesAreRuns, RunsWhereTold}
+use Rattle.esto_top.specs.Runs.{AsksRun, CanRun, IsAboveList, PrintsAnswers, PrintsRun, IsExactRun, OutcomesAreRuns, RunsWhereTold}
 use Rattle.esto_opening.specs.declared.reply.Reply.{Reply}
 use Rattle.esto_opening.specs.declared.reply.Reply.TheVariants.{Done, Unsatisfiable}
-use Rattle.esto_opening.specs.declared.fragments.TheConstants.{FRAGMENT_LIMIT}
 use Rattle.esto_opening.specs.declared.status.Status.{Status}
 use Rattle.esto_opening.specs.declared.status.Status.TheVariants as status
 use Rattle.esto_top.proofs.AlikeRunLemmas.{same_rows_text, run_text_moved}
@@ -52,10 +51,9 @@ use Rattle.esto_top.proofs.HeadlineLemmas.{ListingLaws, empty-without}
 use Rattle.esto_opening.specs.Calm.{Leads}
 use Rattle.esto_opening.proofs.LeadLemmas.{then-leads, leads-more, gives-leads, judges-leads}
 use Rattle.esto_top.proofs.LeadLemmas.{says-leads}
-use Rattle.esto_top.proofs.OpenedLemmas.{all_refused, opened_is}
 use Rattle.esto_top.proofs.RunLemmas.{same_rows, uses_only}
 use Rattle.esto_top.proofs.SayLemmas.{alone_opens, catalogue_leads, catalogue_opens, one_alone, union_leads}
-use Rattle.esto_opening.specs.Alike.{FragmentOpensAlike, IsSameQuery}
+use Rattle.esto_opening.specs.Alike.{IsSameQuery}
 use Rattle.esto_planning.specs.Alike.{IsSamePlan}
 use Rattle.esto_planning.specs.Choice.{HasNoPlace, IsPlace}
 use Rattle.esto_planning.specs.Listing.{IsClash, IsListOf, IsPlanned}
@@ -145,50 +143,23 @@ module _ (files : Files) (catalogue : Catalogue) (query : Query) (number : Optio
 
 -- ---- the files
 
--- files that are not opened are no cause for NoRewriting
-module _ (files : Files) (catalogue : Catalogue) where
-  abbrev IsOther : Status → Type 0
-  IsOther refusal = refusal ≢ status.NoRewriting
+-- a status that tells of a file is not Done, NoRewriting or NoSuchNumber
+file_not_done : (said : Status) → TellsOfFile said → said ≢ status.Done
+file_not_done said (fails name is) other = let h : status.ReadFault name ≡ status.Done = sym is ∙ other in cc
+file_not_done said (is_longer name limit is) other = let h : status.TooLong name limit ≡ status.Done = sym is ∙ other in cc
+file_not_done said (has_fault name fault is) other = let h : status.BadFragment name fault ≡ status.Done = sym is ∙ other in cc
 
-  fetch_other : (name : List ℕ) (limit : ℕ) → Leads (fetches (Some files) name limit) (λ _. Unit {0}) IsOther
-  unfolding fetches
-  fetch_other name limit = record { goes = λ bytes goes. tt; stops = λ refusal caused stops. other refusal stops }
-    where
-      other : (refusal : Status) → FetchStops (Some files) name limit refusal → IsOther refusal
-      other refusal (fails is) = λ none. let h : status.ReadFault name ≡ status.NoRewriting = sym is ∙ none in cc
-      other refusal (is_longer file holds longer is) = λ none. let h : status.TooLong name limit ≡ status.NoRewriting = sym is ∙ none in cc
+file_not_none : (said : Status) → TellsOfFile said → said ≢ status.NoRewriting
+file_not_none said (fails name is) other = let h : status.ReadFault name ≡ status.NoRewriting = sym is ∙ other in cc
+file_not_none said (is_longer name limit is) other = let h : status.TooLong name limit ≡ status.NoRewriting = sym is ∙ other in cc
+file_not_none said (has_fault name fault is) other = let h : status.BadFragment name fault ≡ status.NoRewriting = sym is ∙ other in cc
 
-  content_other : (number : ℕ) → Leads (opens_fragment (Some files) catalogue number) (λ _. Unit {0}) IsOther
-  content_other number =
-      then-leads _ _ (IsStoredAt catalogue number) _ IsOther (judges-leads _ _ IsOther (λ refusal caused never. absurd never)) (λ stored at.
-      then-leads _ _ (λ _. Unit {0}) _ IsOther (fetch_other stored.store.file FRAGMENT_LIMIT) (λ bytes fetched.
-      then-leads _ _ (λ _. content_fault stored bytes ≡ None) _ IsOther
-      (judges-leads _ _ IsOther (λ refusal caused (fault, found, is). λ none.
-      let h : status.BadFragment stored.definition.name fault ≡ status.NoRewriting = sym is ∙ none in cc))
-      (λ value good. leads-more _ (λ other. other ≡ bytes) _ IsOther (λ other is. tt) (gives-leads bytes IsOther))))
-
-  pub opened_other : (numbers : List ℕ) (refusal : Status) → IsCaused ⊥ refusal → (opens_fragments (Some files) catalogue numbers).stops refusal
-      → refusal ≢ status.NoRewriting
-  opened_other numbers = all_refused files catalogue IsOther numbers (λ number inside. (content_other number).stops)
-
--- readable files are opened, over each catalogue that says the same
-module _ (alike_opens : FragmentOpensAlike) (files : Files) (catalogue other : Catalogue) (alike : AreSame catalogue other) where
-  readable_opens : (number : ℕ) (bytes : List ℕ) → IsReadableFragment files catalogue number bytes
-      → (opens_fragment (Some files) catalogue number).goes bytes
-  unfolding fetches judges and_then gives
-  readable_opens number bytes (stored, at, has, none) = (stored, at, (bytes, has, (tt, none, refl)))
-
-  module _ (want : ℕ → List ℕ) (numbers : List ℕ)
-      (readable : (number : ℕ) → Contains numbers number → IsReadableFragment files catalogue number (want number)) where
-    pub opened_wanted : (contents : ℕ → List ℕ) → (opens_fragments (Some files) other numbers).goes contents → (number : ℕ) → Contains numbers number
-        → contents number ≡ want number
-    opened_wanted contents goes number inside = opened_is files other want numbers (λ it within bytes opens.
-        sym ((alike_opens files catalogue other it alike).one (want it) bytes (readable_opens it (want it) (readable it within)) opens))
-        contents goes number inside
-
-    pub opened_always : (refusal : Status) → IsCaused ⊥ refusal → (opens_fragments (Some files) other numbers).stops refusal → ⊥
-    opened_always = all_refused files other (λ _. ⊥) numbers (λ it within refusal caused stops.
-        (alike_opens files catalogue other it alike).apart (want it) refusal caused (readable_opens it (want it) (readable it within)) stops)
+file_not_above : (asked count : ℕ) (said : Status) → TellsOfFile said → said ≢ status.NoSuchNumber asked count
+file_not_above asked count said (fails name is) other = let h : status.ReadFault name ≡ status.NoSuchNumber asked count = sym is ∙ other in cc
+file_not_above asked count said (is_longer name limit is) other =
+    let h : status.TooLong name limit ≡ status.NoSuchNumber asked count = sym is ∙ other in cc
+file_not_above asked count said (has_fault name fault is) other =
+    let h : status.BadFragment name fault ≡ status.NoSuchNumber asked count = sym is ∙ other in cc
 
 -- ---- the rows
 
@@ -223,6 +194,8 @@ over_same stores contents others query same row (m, keeps, sends, is) = (
 pub record RunLaws : Type 0 where
   pub answers : RewritingsAnswerQueries
   pub named : ChosenAreNamed
+  pub opened : OpenedAreReadable
+  pub readable : ReadableAreOpened
 
 module _ (laws : RunLaws) (catalogue : Catalogue) (query : Query) (plan : Plan) (set : List Bool)
     (listed : IsListed (rules_of catalogue.rules) (views_of catalogue.fragments) (patterns_of catalogue.fragments) (query_of query) (plan_query plan) set)
@@ -246,6 +219,14 @@ module _ (laws : RunLaws) (catalogue : Catalogue) (query : Query) (plan : Plan) 
 
   pub run_printed : PrintsRun catalogue query plan set contents text
   run_printed = record { rows = is_text; answers = answers-printed }
+
+-- ---- the numbers
+
+same_asked : (asked count other more : ℕ) → status.NoSuchNumber asked count ≡ status.NoSuchNumber other more → asked ≡ other
+same_asked asked count other more same = cc
+
+same_count : (asked count other more : ℕ) → status.NoSuchNumber asked count ≡ status.NoSuchNumber other more → count ≡ more
+same_count asked count other more same = cc
 
 -- ---- the whole course
 
@@ -300,6 +281,18 @@ module _ (opening : OpeningLaws) (files : Files) (catalogue_name query_name : Li
             → (items ≡ []) ↔ ((rewriting : ConjunctiveQuery) → ¬ (Rewrites catalogue query rewriting))
         empty_here items list = empty-without laws catalogue query plan planned_here items (list_here items list)
 
+        -- a number above the length of the query's list is above that of this one
+        above_here : (items : List Listed) → IsListOf other read plan items → (asked count : ℕ) → IsAboveList catalogue query number asked count
+            → HasNoPlace items number (status.NoSuchNumber asked count)
+        unfolding judges
+        above_here items list asked count above =
+            let plans : IsSamePlan above.plan plan =
+            (laws.planning.plan catalogue other query read alike same).one above.plan plan above.planned planned in
+            let lists : above.items ≡ items =
+            (laws.planning.list catalogue other query read above.plan plan alike same plans).one above.items items above.list list in
+            is_above asked above.asks (λ empty. above.some (lists ∙ empty)) (omega (arith, above.above, above.counts, ap length lists))
+            (ap (status.NoSuchNumber asked) (sym above.counts ∙ ap length lists))
+
         module _ (items : List Listed) (list : IsListOf other read plan items) (can : CanRun files catalogue query number) where
           plans : IsSamePlan can.plan plan
           unfolding judges
@@ -329,15 +322,19 @@ module _ (opening : OpeningLaws) (files : Files) (catalogue_name query_name : Li
                 (subst (λ (it : Listed). AreUsed (plan_query plan).body it.set numbers) (sym same_item) used)
 
             -- the files of the used fragments are readable
-            readable : (fragment : ℕ) → Contains numbers fragment → IsReadableFragment files catalogue fragment (can.contents fragment)
+            readable : AreReadable files catalogue numbers can.contents
             readable fragment inside =
                 let at = (used_here.exact fragment).0 inside in
                 let atom : Fact Term = at.1.1.0 in
                 subst (λ (it : ℕ). IsReadableFragment files catalogue it (can.contents it)) at.1.1.2
                 (can.readable atom ((run_laws.named can.item.set (plan_query can.plan).body atom).1 (at.0, at.1.0, at.1.1.1)))
 
+            opens : Leads (opens_fragments (Some files) other numbers)
+                (λ opened. (fragment : ℕ) → Contains numbers fragment → opened fragment ≡ can.contents fragment) (λ _. ⊥)
+            opens = run_laws.readable files catalogue other numbers can.contents alike readable
+
             opened_anyway : (refusal : Status) → IsCaused ⊥ refusal → (opens_fragments (Some files) other numbers).stops refusal → ⊥
-            opened_anyway = opened_always opening.fragment files catalogue other alike can.contents numbers readable
+            opened_anyway = opens.stops
 
             module _ (contents : ℕ → List ℕ) (opened : (opens_fragments (Some files) other numbers).goes contents) (text : List ℕ)
                 (printed : IsRunText other read plan item.set contents text) where
@@ -347,7 +344,7 @@ module _ (opening : OpeningLaws) (files : Files) (catalogue_name query_name : Li
 
               same_contents : (atom : Fact Term) → Contains (candidate (plan_query can.plan) can.item.set).body atom
                   → contents atom.relation ≡ can.contents atom.relation
-              same_contents atom inside = opened_wanted opening.fragment files catalogue other alike can.contents numbers readable contents opened atom.relation
+              same_contents atom inside = opens.goes contents opened atom.relation
                   (uses_only run_laws.named can.plan can.item.set numbers used_here atom inside)
 
               text_over : IsRunText catalogue query can.plan can.item.set can.contents text
@@ -374,6 +371,32 @@ module _ (opening : OpeningLaws) (files : Files) (catalogue_name query_name : Li
       runs_reply reply (has_clash clash clashes is) can =
           absurd (laws.unsatisfiable catalogue query clash (laws.planning.clash_moved catalogue other query read clash alike same clashes)
           (laws.satisfiable catalogue query can.plan can.planned))
+
+      -- and what was run can be
+      run_can : (reply : Reply) → RunGoes files other read number reply → reply_status reply ≡ status.Done → CanRun files catalogue query number
+      run_can reply (is_run plan planned items list place chosen item there numbers used contents opened text printed is) done = record {
+        plan = plan;
+        planned = planned_here plan planned;
+        items = items;
+        list = list_here plan planned items list;
+        place = place;
+        chosen = chosen;
+        item = item;
+        there = there;
+        contents = contents;
+        readable = λ atom inside. (run_laws.opened files catalogue other numbers alike).goes contents opened atom.relation
+            (uses_only run_laws.named plan item.set numbers used atom inside);
+      }
+      run_can reply (has_clash clash clashes is) done =
+          absurd (let h : status.Unsatisfiable clash ≡ status.Done = sym (ap reply_status is) ∙ done in cc)
+
+      stop_not_done : (refusal : Status) → RunStops files other read number refusal → refusal ≢ status.Done
+      stop_not_done refusal (none_chosen plan planned items list caused (is_empty none is)) done =
+          let h : status.NoRewriting ≡ status.Done = sym is ∙ done in cc
+      stop_not_done refusal (none_chosen plan planned items list caused (is_above asked is_asked some less is)) done =
+          let h : status.NoSuchNumber asked (length items) ≡ status.Done = sym is ∙ done in cc
+      stop_not_done refusal (not_opened plan planned items list place chosen item there numbers used caused stops) done =
+          file_not_done refusal ((run_laws.opened files catalogue other numbers alike).stops refusal caused stops) done
 
       never_stops : (refusal : Status) → RunStops files other read number refusal → CanRun files catalogue query number → ⊥
       never_stops refusal (none_chosen plan planned items list caused none) can = chosen_anyway plan planned items list can refusal caused none
@@ -416,8 +439,50 @@ module _ (opening : OpeningLaws) (files : Files) (catalogue_name query_name : Li
         λ absent. absurd (some ((empty_here plan planned items list).1 absent)),
       )
       stop_tells refusal (not_opened plan planned items list place chosen item there numbers used caused stops) = (
-        λ said. absurd (opened_other files other numbers refusal caused stops said),
+        λ said. absurd (file_not_none refusal ((run_laws.opened files catalogue other numbers alike).stops refusal caused stops) said),
         λ absent. absurd (none-some item (sym (ap (λ (it : List Listed). slice_get it place) ((empty_here plan planned items list).1 absent)) ∙ there)),
+      )
+
+      -- a reply is not NoSuchNumber, and comes only where the number is not above the list
+      reply_apart : (asked count : ℕ) (reply : Reply) → reply_status reply ≢ status.NoSuchNumber asked count
+      reply_apart asked count (Done text) is = let h : status.Done ≡ status.NoSuchNumber asked count = is in cc
+      reply_apart asked count (Unsatisfiable clash text) is = let h : status.Unsatisfiable clash ≡ status.NoSuchNumber asked count = is in cc
+
+      reply_within : (asked count : ℕ) (reply : Reply) → RunGoes files other read number reply → ¬ (IsAboveList catalogue query number asked count)
+      unfolding judges
+      reply_within asked count reply (is_run plan planned items list place chosen item there numbers used contents opened text printed is) above =
+          (laws.planning.choice items number).apart place (status.NoSuchNumber asked count) (record { cause = tt }) chosen
+          (above_here plan planned items list asked count above)
+      reply_within asked count reply (has_clash clash clashes is) above =
+          laws.unsatisfiable catalogue query clash (laws.planning.clash_moved catalogue other query read clash alike same clashes)
+          (laws.satisfiable catalogue query above.plan above.planned)
+
+      number_tells : (refusal : Status) → RunStops files other read number refusal → (asked count : ℕ)
+          → (refusal ≡ status.NoSuchNumber asked count) ↔ IsAboveList catalogue query number asked count
+      unfolding judges
+      number_tells refusal (none_chosen plan planned items list caused none) asked count = (
+        above_from none,
+        λ above. (laws.planning.choice items number).one_stop refusal (status.NoSuchNumber asked count) caused (record { cause = tt }) none
+            (above_here plan planned items list asked count above),
+      )
+        where
+          above_from : HasNoPlace items number refusal → refusal ≡ status.NoSuchNumber asked count → IsAboveList catalogue query number asked count
+          above_from (is_empty empty is) said = let h : status.NoRewriting ≡ status.NoSuchNumber asked count = sym is ∙ said in absurd (cc)
+          above_from (is_above own is_own some less is) said =
+              let h : status.NoSuchNumber own (length items) ≡ status.NoSuchNumber asked count = sym is ∙ said in record {
+                asks = is_own ∙ ap Some (same_asked own (length items) asked count h);
+                plan = plan;
+                planned = planned_here plan planned;
+                items = items;
+                list = list_here plan planned items list;
+                some = some;
+                counts = same_count own (length items) asked count h;
+                above = omega (arith, less, same_asked own (length items) asked count h, same_count own (length items) asked count h);
+              }
+      number_tells refusal (not_opened plan planned items list place chosen item there numbers used caused stops) asked count = (
+        λ said. absurd (file_not_above asked count refusal ((run_laws.opened files catalogue other numbers alike).stops refusal caused stops) said),
+        λ above. absurd ((laws.planning.choice items number).apart place (status.NoSuchNumber asked count) (record { cause = tt }) chosen
+            (above_here plan planned items list asked count above)),
       )
 
     module _ (said : Status) (text : List ℕ) (says : Says (run_course (Some files) catalogue_name query_name number) ⊥ said text) where
@@ -428,6 +493,7 @@ module _ (opening : OpeningLaws) (files : Files) (catalogue_name query_name : Li
             said_is ∙ exact.0,
             subst (PrintsRun catalogue query can.plan can.item.set can.contents) (sym text_is) exact.1,
           );
+          done = λ is. run_can run.other run.alike run.read run.same reply run.goes (sym said_is ∙ is);
           refused = (
             λ none. let (clash, clashes, is, header) = refuses_reply run.other run.alike run.read run.same reply run.goes none in
                 (clash, clashes, said_is ∙ is, text_is ∙ header),
@@ -437,14 +503,20 @@ module _ (opening : OpeningLaws) (files : Files) (catalogue_name query_name : Li
             λ none. absurd (replies_apart run.other run.alike run.read run.same reply (sym said_is ∙ none)),
             λ absent. absurd (reply_needs run.other run.alike run.read run.same reply run.goes answers absent),
           );
+          no_number = λ asked count. (
+            λ is. absurd (reply_apart run.other run.alike run.read run.same asked count reply (sym said_is ∙ is)),
+            λ above. absurd (reply_within run.other run.alike run.read run.same asked count reply run.goes above),
+          );
         }
         | inr (stopped, text_is) ↦ record {
           runs = λ can. absurd (never_stops stopped.other stopped.alike stopped.read stopped.same said stopped.stops can);
+          done = λ is. absurd (stop_not_done stopped.other stopped.alike stopped.read stopped.same said stopped.stops is);
           refused = (
             λ none. absurd (none (answers_stops stopped.other stopped.alike stopped.read stopped.same said stopped.stops)),
             λ (clash, clashes, is, header). laws.unsatisfiable catalogue query clash clashes,
           );
           no_rewriting = λ answers. stop_tells stopped.other stopped.alike stopped.read stopped.same said stopped.stops;
+          no_number = number_tells stopped.other stopped.alike stopped.read stopped.same said stopped.stops;
         }
       ]
 

@@ -1,5 +1,5 @@
 -- What `run` answers where nothing is wrong with the files.
-use Rattle.std.specs.Prelude.{◌≡◌, ◌↔◌, ℕ, Bool, IsTrue, List, [], ◌∷◌, map, slice_get, Contains, Option, Some, None, codes}
+use Rattle.std.specs.Prelude.{◌≡◌, ◌≢◌, ◌↔◌, ℕ, ◌<◌, Bool, IsTrue, List, [], ◌∷◌, length, map, slice_get, Contains, Option, Some, None, codes}
 use Rattle.esto_catalog.specs.declared.catalogue.Catalogue.{Catalogue}
 use Rattle.esto_chase_laws.specs.declared.clash.Clash.{Clash}
 use Rattle.esto_constraint.specs.Constraints.{rules_of}
@@ -95,11 +95,29 @@ abbrev pub NeedsRewriting : Files → Option ℕ → Catalogue → Query → Sta
 NeedsRewriting files number catalogue query said text =
     HasAnswers catalogue query → (said ≡ status.NoRewriting) ↔ ((other : ConjunctiveQuery) → ¬ (Rewrites catalogue query other))
 
--- What is said of an outcome of `run`.
+-- The number is asked for, the query has a plan whose list is not empty, and the number is above the length of this list.
+pub record IsAboveList (catalogue : Catalogue) (query : Query) (number : Option ℕ) (asked count : ℕ) : Type 0 where
+  pub asks : number ≡ Some asked
+  pub plan : Plan
+  pub planned : IsPlanned catalogue query plan
+  pub items : List Listed
+  pub list : IsListOf catalogue query plan items
+  pub some : items ≢ []
+  pub counts : length items ≡ count
+  pub above : count < asked
+
+-- The status is NoSuchNumber exactly where the number is above the length of the query's list, with both.
+abbrev pub NeedsNumber : Files → Option ℕ → Catalogue → Query → Status → List ℕ → Type 0
+NeedsNumber files number catalogue query said text =
+    (asked count : ℕ) → (said ≡ status.NoSuchNumber asked count) ↔ IsAboveList catalogue query number asked count
+
+-- What is said of an outcome of `run`. The status is Done only where a listed set is chosen and its fragments' files are readable.
 pub record IsExactRun (files : Files) (number : Option ℕ) (catalogue : Catalogue) (query : Query) (said : Status) (text : List ℕ) : Type 0 where
   pub runs : RunsExactly files number catalogue query said text
+  pub done : said ≡ status.Done → CanRun files catalogue query number
   pub refused : RefusesRun files number catalogue query said text
   pub no_rewriting : NeedsRewriting files number catalogue query said text
+  pub no_number : NeedsNumber files number catalogue query said text
 
 abbrev pub OutcomesAreRuns : Type 0
 OutcomesAreRuns = SaidOfRuns IsExactRun

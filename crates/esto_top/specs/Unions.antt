@@ -1,17 +1,15 @@
 -- What `list` and `run` answer to a union of two or more queries where nothing is wrong with the files.
-use Rattle.std.specs.Prelude.{◌≡◌, ◌≢◌, ℕ, ◌<◌, List, [], ◌∷◌, length, Option, Some, None, codes}
+use Rattle.std.specs.Prelude.{◌≡◌, ℕ, ◌<◌, List, [], ◌∷◌, length, Option, Some, None, codes}
 use Rattle.esto_catalog.specs.declared.catalogue.Catalogue.{Catalogue}
 use Rattle.esto_disjuncts.specs.Exact.{ListsUnionExactly}
-use Rattle.esto_disjuncts.specs.RunExact.{RefusesExactly, RepliesExactly}
-use Rattle.esto_opening.specs.Line.{line_of}
+use Rattle.esto_disjuncts.specs.RunExact.{RunsUnionExactly}
 use Rattle.esto_opening.specs.Opening.{FilesSayCatalogue}
 use Rattle.esto_opening.specs.Unions.{FilesSayUnion}
-use Rattle.esto_opening.specs.declared.reply.Reply.{Reply}
 use Rattle.esto_opening.specs.declared.status.Status.{Status}
+use Rattle.esto_opening.specs.declared.status.Status.TheVariants as status
 use Rattle.esto_ports.specs.Files.{Files}
 use Rattle.esto_query.specs.declared.query.Query.{Query}
 use Rattle.esto_top.specs.Headline.{HoldsOfPut}
-use Rattle.esto_opening.specs.Replies.{reply_status, reply_text}
 use Rattle.esto_top.specs.Outcome.{Outcome}
 use Rattle.esto_top.specs.Runs.{AsksRun}
 
@@ -20,18 +18,6 @@ pub record FilesSayQueries (files : Files) (catalogue_name query_name : List ℕ
   pub says_catalogue : FilesSayCatalogue files catalogue_name catalogue
   pub says_union : FilesSayUnion files query_name catalogue queries
   pub more : 1 < length queries
-
--- ---- runs
-
--- No reply has the status: it is a refusal's.
-abbrev pub IsOfNoReply : Status → Type 0
-IsOfNoReply said = (reply : Reply) → said ≢ reply_status reply
-
--- The status and the text are those of an exact reply to the union; or an exact refusal of it, and its line.
-pub data IsExactUnionRun (files : Files) (number : Option ℕ) (catalogue : Catalogue) (queries : List Query) (said : Status) (text : List ℕ) : Type 0 where
-  replies : (reply : Reply) → RepliesExactly files catalogue queries number reply → said ≡ reply_status reply → text ≡ reply_text reply
-      → IsExactUnionRun files number catalogue queries said text
-  refuses : IsOfNoReply said → RefusesExactly catalogue queries said → text ≡ line_of said → IsExactUnionRun files number catalogue queries said text
 
 -- ---- outcomes
 
@@ -47,7 +33,7 @@ abbrev pub OutcomesAreUnionRuns : Type 0
 OutcomesAreUnionRuns =
     (words : List (List ℕ)) (files : Files) (catalogue_name query_name : List ℕ) (number : Option ℕ) (catalogue : Catalogue) (queries : List Query)
     (said : Status) (text : List ℕ) → AsksRun words catalogue_name query_name number → FilesSayQueries files catalogue_name query_name catalogue queries
-    → Outcome words files said text → IsExactUnionRun files number catalogue queries said text
+    → Outcome words files said text → RunsUnionExactly files catalogue queries number said text
 
 -- ---- what the top call says
 
@@ -64,4 +50,17 @@ UnionRunsWhereTold words None rose sink_rose old new result = Unit {0}
 UnionRunsWhereTold words (Some files) rose sink_rose old new result =
     ¬ rose → ¬ sink_rose → (catalogue_name query_name : List ℕ) (number : Option ℕ) (catalogue : Catalogue) (queries : List Query)
     → AsksRun words catalogue_name query_name number → FilesSayQueries files catalogue_name query_name catalogue queries
-    → HoldsOfPut (IsExactUnionRun files number catalogue queries) old new result
+    → HoldsOfPut (RunsUnionExactly files catalogue queries number) old new result
+
+-- ---- agreement
+
+-- Where the files say a catalogue and a union of two or more queries over it, and over them `audit` and `run` are Done, each outcome of `answer` is Done with the
+-- text of `run`.
+abbrev pub UnionOutcomesAgree : Type 0
+UnionOutcomesAgree =
+    (words : List (List ℕ)) (files : Files) (catalogue_name query_name : List ℕ) (number : Option ℕ) (catalogue : Catalogue) (queries : List Query)
+    (audited ran answered : List ℕ) (said : Status) → FilesSayQueries files catalogue_name query_name catalogue queries
+    → Outcome (codes "audit" ∷ catalogue_name ∷ []) files status.Done audited
+    → AsksRun words catalogue_name query_name number → Outcome words files status.Done ran
+    → Outcome (codes "answer" ∷ catalogue_name ∷ query_name ∷ []) files said answered
+    → (said ≡ status.Done) × (answered ≡ ran)

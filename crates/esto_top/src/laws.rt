@@ -5,7 +5,7 @@ ghost use Rattle.esto_top.specs.Determined.{AskedBeginsFetches, FetchesAreDeterm
 ghost use Rattle.esto_top.specs.Headline.{OutcomesAreLists, OutcomesAreRefusals};
 ghost use Rattle.esto_top.specs.ReasoningOutcomes.{OutcomesAreContainments, OutcomesAreMinimised};
 ghost use Rattle.esto_top.specs.Runs.{OutcomesAreRuns};
-ghost use Rattle.esto_top.specs.Unions.{OutcomesAreUnionLists, OutcomesAreUnionRuns};
+ghost use Rattle.esto_top.specs.Unions.{OutcomesAreUnionLists, OutcomesAreUnionRuns, UnionOutcomesAgree};
 
 use esto_backchase::listed_sets_cover_rewritings;
 use esto_bench::summaries_are_one;
@@ -15,8 +15,7 @@ use esto_disjuncts::{
     union_lists_are_exact, union_lists_are_moved, union_lists_are_one, union_runs_are_exact,
     union_runs_are_moved, union_runs_are_one,
 };
-use esto_fill::agreeing_answers_are_one;
-use esto_opening::{opened_unions_are_queries, openings_are_one};
+use esto_opening::{opened_unions_are_queries, openings_are_one, readable_fragments_are_opened};
 use esto_planning::{
     chosen_items_are_listed, planned_plans_are_universal, planned_plans_have_their_form,
     plans_and_lists_are_moved, plans_and_lists_are_one,
@@ -45,13 +44,15 @@ pub(crate) fn lists_are_exact()
 }
 
 /// A law: where the files say a catalogue and a query over it, each outcome of `run` prints exactly the answers of the
-/// chosen listed set over the rows of the files, which are the query's over each database that they are the view rows of;
-/// or it tells that the query is unsatisfiable, or that it has no executable rewriting, exactly where it is so.
+/// chosen listed set over the rows of the files, which are the query's over each database that they are the view rows of,
+/// exactly where such a set can be run; or it tells that the query is unsatisfiable, that it has no executable rewriting, or
+/// that the number is above its list, exactly where it is so.
 pub(crate) fn runs_are_exact()
     ensures { OutcomesAreRuns }
 {
     openings_are_one();
     opened_unions_are_queries();
+    readable_fragments_are_opened();
     planned_plans_are_universal();
     planned_plans_have_their_form();
     chosen_items_are_listed();
@@ -76,9 +77,10 @@ pub(crate) fn union_lists_hold()
     union_lists_are_exact();
 }
 
-/// A law: there each outcome of `run` is an exact reply to the union, whose text has exactly the rows of the sets that are
-/// chosen over the files, which are the union's over each database that they are the view rows of, or the clash of its
-/// first query's run; or an exact refusal of it.
+/// A law: there each outcome of `run` prints exactly the rows of the sets that are chosen over the files, which are the
+/// union's over each database that they are the view rows of, exactly where the union can be run; or it tells the clash of
+/// its first query's run, that it has no executable rewriting, or that the number is above the least length of its lists,
+/// exactly where it is so.
 pub(crate) fn union_runs_hold()
     ensures { OutcomesAreUnionRuns }
 {
@@ -141,15 +143,14 @@ pub(crate) fn verify_outcomes_hold()
     verify_outcomes_are_exact();
 }
 
-/// A law: where the files say one query, and `audit` and `run` are Done over them, each outcome of `answer` is Done with the text of `run`.
+/// A law: where the files say one query, or a union of two or more, and `audit` and `run` are Done over them, each outcome of
+/// `answer` is Done with the text of `run`.
 pub fn answers_agree_with_runs()
-    ensures { OutcomesAgree }
+    ensures one { OutcomesAgree }
+    ensures union { UnionOutcomesAgree }
 {
-    openings_are_one();
-    opened_unions_are_queries();
-    chosen_items_are_listed();
+    runs_are_exact();
+    union_runs_hold();
     audited_datasets_answer();
-    agreeing_answers_are_one();
     rising_rows_are_one();
-    chosen_atoms_are_named();
 }

@@ -81,29 +81,35 @@ pub fn mediate<S: Shelf, O: Sink>(
     // Where the files say a catalogue and a union of two or more queries over it, `list` refuses the union, with the clash of
     // its first query's run, exactly where no database that meets the rules gives one of its queries an answer. Else it
     // prints its queries in order, each with its printed plan and exactly the sets that are listed in the union, or with the
-    // clash of its run: a query has a plan exactly where it is satisfiable, each executable rewriting of the union, of any
-    // size, has for each plan a query that maps onto a set of its atoms that has a listed set within it, and some list is
-    // empty exactly where there is no such rewriting.
+    // clash of its run: a query has a plan exactly where it is satisfiable, a cored plan retracts into no proper sublist of
+    // itself and is the only core for its query, each executable rewriting of the union, of any size, has for each plan a
+    // query that maps onto a set of its atoms that has a listed set within it, and some list is empty exactly where there is
+    // no such rewriting.
     ensures list_union { UnionListsWhereTold words.now (S.files shelf.old)
         (Rises S.faults shelf.old shelf.new) (Rises O.faults out.old out.new) (O.written out.old)
         (O.written out.new) result }
 
-    // The headline of `run`, where the files say a catalogue and a query over it. Where a listed set is the pick, or has the
-    // number that is asked for, and the files of the fragments that it uses are readable, the status is Done and the text
-    // is that of exactly the answers of the set's candidate over the rows of the files, each once, in order. For each
-    // database that meets the rules, and whose view rows are the rows of these files, they are exactly the query's answers.
-    // The status is Unsatisfiable, and the text the names of the query's head, exactly where no database that meets the
-    // rules gives the query an answer; else it is NoRewriting exactly where the query has no executable rewriting.
+    // The headline of `run`, where the files say a catalogue and a query over it. Exactly where a listed set is the pick,
+    // or has the number that is asked for, and the files of the fragments that it uses are readable, the status is Done;
+    // then the text is that of exactly the answers of the set's candidate over the rows of the files, each once, in
+    // order. For each database that meets the rules, and whose view rows are the rows of these files, they are exactly
+    // the query's answers. The status is Unsatisfiable, and the text the names of the query's head, exactly where no
+    // database that meets the rules gives the query an answer; else it is NoRewriting exactly where the query has no
+    // executable rewriting, and NoSuchNumber, with the number and the length of the query's list, exactly where the
+    // number is above that.
     ensures run { RunsWhereTold words.now (S.files shelf.old)
         (Rises S.faults shelf.old shelf.new) (Rises O.faults out.old out.new) (O.written out.old)
         (O.written out.new) result }
 
-    // There, over a union of two or more queries, `run` is exact too. Where no database that meets the rules gives one of
-    // its queries an answer, the status is Unsatisfiable, with the clash of the first query's run, and the text the names of
-    // its head. Else the text, where the status is Done, is that of exactly the rows over the files of one listed set of each
-    // satisfiable query, the pick or that of the number, which for each database that meets the rules, and whose view rows
-    // are the rows of these files, are exactly the union's answers; and the status is NoRewriting exactly where no union of
-    // executable queries over the fragments is equivalent to the union.
+    // There, over a union of two or more queries, `run` is exact too. Exactly where some query is satisfiable, a listed
+    // set of each satisfiable one is the pick, or has the number, and the files of the fragments that these use are
+    // readable, the status is Done. The candidates of these sets are an executable rewriting of the union, and the text
+    // is that of exactly their rows over the files together, each once, in order, which for each database that meets the
+    // rules, and whose view rows are the rows of these files, are exactly the union's answers. The status is
+    // Unsatisfiable, with the clash of the first query's run and the names of its head, exactly where no query is
+    // satisfiable; NoRewriting exactly where no union of executable queries over the fragments is equivalent to the
+    // union; and NoSuchNumber, with the number and the least length of the satisfiable queries' lists, exactly where none
+    // is empty and the number is above it.
     ensures run_union { UnionRunsWhereTold words.now (S.files shelf.old)
         (Rises S.faults shelf.old shelf.new) (Rises O.faults out.old out.new) (O.written out.old)
         (O.written out.new) result }

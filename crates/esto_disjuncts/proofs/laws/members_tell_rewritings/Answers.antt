@@ -1,4 +1,4 @@
-use Rattle.esto_disjuncts.proofs.TellLemmas.{TellLaws, empty_told, members_cover, members_tell, members_universal}
+use Rattle.esto_disjuncts.proofs.TellLemmas.{TellLaws, empty_told, members_cored, members_cover, members_tell, members_universal}
 use Rattle.esto_disjuncts.proofs.laws.members_tell_rewritings.Goals as goal
 
 pub returns : goal.returns
@@ -9,8 +9,16 @@ returns c =
       satisfiable = c.planned_plans_are_universal.ensures.satisfiable;
       unsatisfiable = c.planned_plans_are_universal.ensures.unsatisfiable;
       universal = c.plans_receive_unions.ensures.universal;
+      core = c.planned_plans_are_universal.ensures.core;
+      only_core = c.planned_plans_are_universal.ensures.only_core;
       cover = c.executable_unions_map_onto_sets.ensures.cover;
       excludes = c.executable_unions_exist.ensures.none;
       exists = c.choices_are_executable_unions.ensures.exist;
       executable = c.choices_are_executable_unions.ensures.executable;
-    } in record { satisfiable = members_tell laws; universal = members_universal laws; complete = members_cover laws; empty = empty_told laws }
+    } in record {
+      satisfiable = members_tell laws;
+      universal = members_universal laws;
+      cored = members_cored laws;
+      complete = members_cover laws;
+      empty = empty_told laws;
+    }

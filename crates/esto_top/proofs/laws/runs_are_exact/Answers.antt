@@ -35,4 +35,9 @@ returns c =
       none = c.listed_sets_are_minimal.ensures.no_rewriting;
       lightest = c.picks_exist.ensures.least_of_all;
     })
-    (record { answers = c.rewritings_answer_queries.ensures; named = c.chosen_atoms_are_named.ensures })
+    (record {
+      answers = c.rewritings_answer_queries.ensures;
+      named = c.chosen_atoms_are_named.ensures;
+      opened = c.readable_fragments_are_opened.ensures.opened;
+      readable = c.readable_fragments_are_opened.ensures.readable;
+    })
