@@ -21,7 +21,7 @@ use Rattle.esto_opening.specs.Answers.{IsCaused}
 use Rattle.esto_opening.specs.Asked.{Fetches}
 use Rattle.esto_opening.specs.Asked.Fetches.{to_value, to_refusal, to_lack}
 use Rattle.esto_opening.specs.declared.reply.Reply.{Reply}
-use Rattle.esto_top.specs.Determined.{AskedBeginsFetches, FetchesAreDetermined, OutcomesAreDetermined, ExactWhereTold}
+use Rattle.esto_top.specs.Determined.{AskedBeginsFetches, CoursesAreOne, ExactWhereTold, FetchesAreDetermined, OutcomesAreDetermined}
 use Rattle.esto_top.specs.Grammar.{Request, request_of, course_of_request, course_of_asked}
 use Rattle.esto_top.specs.Grammar.Request.{CheckOf, ListFor, RunFor, FillFor, AnswerFor, AuditOf, ContainsFor, MinimiseFor, VerifyFor, BenchOf}
 use Rattle.esto_top.specs.List.{list_course, lists_queries, lists_query, prints_list}
@@ -140,15 +140,14 @@ module _ (laws : CourseLaws) (unions : UnionLaws) (summaries : SummariesAreOne) 
   request_agrees (MinimiseFor catalogue_name query_name) = on_each.minimise files catalogue_name query_name
   request_agrees (VerifyFor catalogue_name query_name atoms file) = verify_agrees on_each.verify files catalogue_name query_name atoms file
 
-  pub asked_agrees : (asked : Option Request) → AgreeCalmly ◌≡◌ (course_of_asked (Some files) asked) (course_of_asked (Some files) asked)
+  asked_agrees : (asked : Option Request) → AgreeCalmly ◌≡◌ (course_of_asked (Some files) asked) (course_of_asked (Some files) asked)
   asked_agrees None = refuses_agree _ _ status.Usage
   asked_agrees (Some request) = request_agrees request
 
-pub outcomes_determined : CourseLaws → UnionLaws → SummariesAreOne → OneLaws → OutcomesAreDetermined
-outcomes_determined laws unions summaries on_each words files said other_said text other_text outcome other_outcome =
-    says-agree _ _ said other_said text other_text (asked_agrees laws unions summaries on_each files (request_of words)) outcome other_outcome
+pub courses_one : CourseLaws → UnionLaws → SummariesAreOne → OneLaws → CoursesAreOne
+courses_one laws unions summaries on_each words files = asked_agrees laws unions summaries on_each files (request_of words)
 
--- ---- the names that are fetched
+-- ---- the outcome, and the names that are fetched
 
 -- a sequence of fetches is what its course asks for up to an end
 end_of : (course : Course Status Reply) (names : Names) → Fetches course names → (end : Point Status Reply) × IsEnd (IsCaused ⊥) end × course.asks names end
@@ -156,16 +155,21 @@ end_of course names (to_value reply asks) = (went reply, tt, asks)
 end_of course names (to_refusal refusal caused asks) = (stopped refusal, caused, asks)
 end_of course names (to_lack asks) = (missing, tt, asks)
 
-pub fetches_determined : CourseLaws → SummariesAreOne → OneLaws → FetchesAreDetermined
-fetches_determined laws summaries on_each words files names others fetched other_fetched =
-    let (end, is_end, asks) = end_of _ names fetched in
-    let (other_end, is_other, other_asks) = end_of _ others other_fetched in
-    (asked_agrees laws summaries on_each files (request_of words)).alike.one names others end other_end is_end is_other asks other_asks
+module _ (one : CoursesAreOne) where
+  pub outcomes_determined : OutcomesAreDetermined
+  outcomes_determined words files said other_said text other_text outcome other_outcome =
+      says-agree _ _ said other_said text other_text (one words files) outcome other_outcome
 
-pub asked_begins : CourseLaws → SummariesAreOne → OneLaws → AskedBeginsFetches
-asked_begins laws summaries on_each words files names all point fetched asks =
-    let (end, is_end, all_asks) = end_of _ all fetched in
-    (asked_agrees laws summaries on_each files (request_of words)).alike.begins names all point end is_end asks all_asks
+  pub fetches_determined : FetchesAreDetermined
+  fetches_determined words files names others fetched other_fetched =
+      let (end, is_end, asks) = end_of _ names fetched in
+      let (other_end, is_other, other_asks) = end_of _ others other_fetched in
+      (one words files).alike.one names others end other_end is_end is_other asks other_asks
+
+  pub asked_begins : AskedBeginsFetches
+  asked_begins words files names all point fetched asks =
+      let (end, is_end, all_asks) = end_of _ all fetched in
+      (one words files).alike.begins names all point end is_end asks all_asks
 
 -- ---- what was put
 

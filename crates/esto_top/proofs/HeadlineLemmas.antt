@@ -4,7 +4,6 @@ use Rattle.std.specs.List.{AllZip}
 use Rattle.std.proofs.lemmas.List.Elements.{All-head, All-tail}
 use Rattle.esto_catalog.specs.Determined.{AreSame}
 use Rattle.esto_catalog.specs.declared.catalogue.Catalogue.{Catalogue}
-use Rattle.esto_backchase.specs.Listing.{ListedCoverRewritings}
 use Rattle.esto_chase_laws.specs.declared.clash.Clash.{Clash}
 use Rattle.esto_constraint.specs.Constraints.{rules_of}
 use Rattle.esto_list.specs.Items.{sets_of, totals_of}
@@ -13,7 +12,7 @@ use Rattle.esto_ports.specs.Files.{Files}
 use Rattle.esto_query.specs.Making.{query_of}
 use Rattle.esto_query.specs.declared.query.Query.{Query}
 use Rattle.esto_semantics.specs.Listed.{chosen, IsWeight}
-use Rattle.esto_semantics.specs.ListedLaws.{AreWeights, NoRewritingExists, PickWeighsLeastOfAll}
+use Rattle.esto_semantics.specs.ListedLaws.{AreWeights}
 use Rattle.esto_semantics.specs.Plans.{IsUniversalPlan}
 use Rattle.esto_semantics.specs.Rewritings.{IsPlanFor}
 use Rattle.esto_views.specs.Fragments.{views_of, patterns_of, weights_of}
@@ -32,12 +31,11 @@ use Rattle.esto_opening.specs.declared.status.Status.TheVariants as status
 use Rattle.esto_opening.specs.Alike.{AreSameQueries, IsSameQuery}
 use Rattle.esto_opening.specs.Opening.{opens_catalogue, opens_union}
 use Rattle.esto_top.proofs.DataLemmas.{says_fact}
-use Rattle.esto_top.proofs.LawRecords.{OpeningLaws, PlanningLaws}
+use Rattle.esto_top.specs.Laws.{ListingLaws, OpeningLaws}
 use Rattle.esto_opening.specs.Calm.{Leads, SaysAlways}
 use Rattle.esto_opening.proofs.LeadLemmas.{then-leads, leads-more, gives-leads}
 use Rattle.esto_top.proofs.SayLemmas.{alone_opens, catalogue_leads, catalogue_opens, one_alone, union_leads}
 use Rattle.esto_planning.specs.Listing.{IsClash, IsListOf, IsListing, IsPlanned}
-use Rattle.esto_planning.specs.Laws.{ClashExcludesAnswers, CoreHasNoRetract, CoreIsOnly, PlanHasForm, PlanIsUniversal, PlanTellsAnswers}
 
 -- ---- the items
 
@@ -53,19 +51,6 @@ no_item [] none = refl
 no_item (item ∷ items) none = absurd (cc)
 
 -- ---- the text
-
--- the laws of plans and of listed sets
-pub record ListingLaws : Type 0 where
-  pub planning : PlanningLaws
-  pub form : PlanHasForm
-  pub universal : PlanIsUniversal
-  pub core : CoreHasNoRetract
-  pub only_core : CoreIsOnly
-  pub satisfiable : PlanTellsAnswers
-  pub unsatisfiable : ClashExcludesAnswers
-  pub covers : ListedCoverRewritings
-  pub none : NoRewritingExists
-  pub lightest : PickWeighsLeastOfAll
 
 module _ (laws : ListingLaws) (catalogue : Catalogue) (query : Query) where
   module _ (plan : Plan) (planned : IsPlanned catalogue query plan) where

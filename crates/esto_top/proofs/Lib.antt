@@ -1,5 +1,4 @@
 pub mod Steps
-pub mod LawRecords
 pub mod ValueLemmas
 pub mod SizeLemmas
 pub mod RunLemmas

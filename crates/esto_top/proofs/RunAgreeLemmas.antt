@@ -24,7 +24,7 @@ use Rattle.esto_top.specs.Run.{IsRunText, runs_item, runs_plan, runs_end, runs_q
 use Rattle.esto_opening.specs.declared.reply.Reply.TheVariants.{Done, Unsatisfiable}
 use Rattle.esto_opening.specs.Calm.{AgreeCalmly}
 use Rattle.esto_top.proofs.AlikeRunLemmas.{same_rows_text, one_text, run_text_moved}
-use Rattle.esto_top.proofs.LawRecords.{OpeningLaws, PlanningLaws}
+use Rattle.esto_top.specs.Laws.{OpeningLaws, PlanningLaws}
 use Rattle.esto_opening.specs.Alike.{IsSameQuery}
 use Rattle.esto_planning.specs.Alike.{IsSameEnd, IsSamePlan}
 use Rattle.esto_planning.specs.Planning.{chooses}

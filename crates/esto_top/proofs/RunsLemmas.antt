@@ -46,8 +46,8 @@ use Rattle.esto_opening.specs.declared.reply.Reply.TheVariants.{Done, Unsatisfia
 use Rattle.esto_opening.specs.declared.status.Status.{Status}
 use Rattle.esto_opening.specs.declared.status.Status.TheVariants as status
 use Rattle.esto_top.proofs.AlikeRunLemmas.{same_rows_text, run_text_moved}
-use Rattle.esto_top.proofs.LawRecords.{OpeningLaws}
-use Rattle.esto_top.proofs.HeadlineLemmas.{ListingLaws, empty-without}
+use Rattle.esto_top.specs.Laws.{ListingLaws, OpeningLaws}
+use Rattle.esto_top.proofs.HeadlineLemmas.{empty-without}
 use Rattle.esto_opening.specs.Calm.{Leads}
 use Rattle.esto_opening.proofs.LeadLemmas.{then-leads, leads-more, gives-leads, judges-leads}
 use Rattle.esto_top.proofs.LeadLemmas.{says-leads}

@@ -13,7 +13,7 @@ use Rattle.esto_opening.specs.declared.opening.TheConstants.{CATALOGUE_LIMIT, QU
 use Rattle.esto_opening.specs.declared.status.Status.{Status}
 use Rattle.esto_ports.specs.Files.{Files}
 use Rattle.esto_query.specs.declared.query.Query.{Query}
-use Rattle.esto_top.proofs.LawRecords.{OpeningLaws}
+use Rattle.esto_top.specs.Laws.{OpeningLaws}
 
 -- ---- what is said is opened
 

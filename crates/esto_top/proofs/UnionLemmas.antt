@@ -17,7 +17,7 @@ use Rattle.esto_top.specs.Outcome.{CompleteWhereTold, Says}
 use Rattle.esto_top.specs.Unions.{OutcomesAreUnionLists, UnionListsWhereTold}
 use Rattle.esto_top.proofs.DataLemmas.{says_fact}
 use Rattle.esto_top.proofs.HeadlineLemmas.{list_says}
-use Rattle.esto_top.proofs.LawRecords.{OpeningLaws}
+use Rattle.esto_top.specs.Laws.{OpeningLaws}
 use Rattle.esto_top.proofs.SayLemmas.{catalogue_opens, union_opens}
 
 -- two or more queries are listed as a union, over each catalogue that says the same

@@ -16,7 +16,7 @@ use Rattle.esto_query.specs.declared.query.Query.{Query}
 use Rattle.esto_top.specs.Outcome.{CompleteWhereTold, Says}
 use Rattle.esto_top.specs.Run.{run_course, runs_queries}
 use Rattle.esto_top.specs.Unions.{FilesSayQueries, OutcomesAreUnionRuns, UnionRunsWhereTold}
-use Rattle.esto_top.proofs.LawRecords.{OpeningLaws}
+use Rattle.esto_top.specs.Laws.{OpeningLaws}
 use Rattle.esto_top.proofs.LeadLemmas.{says-leads}
 use Rattle.esto_top.proofs.RunsLemmas.{run_words}
 use Rattle.esto_top.proofs.SayLemmas.{catalogue_leads, catalogue_opens, union_leads, union_opens}

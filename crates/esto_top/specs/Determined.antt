@@ -5,11 +5,16 @@ use Rattle.esto_course.specs.Agreement.{Begins}
 use Rattle.esto_course.specs.Course.{Names, Point}
 use Rattle.esto_ports.specs.Files.{Files}
 use Rattle.esto_opening.specs.Asked.{Fetches}
+use Rattle.esto_opening.specs.Calm.{IsOne}
 use Rattle.esto_opening.specs.declared.reply.Reply.{Reply}
 use Rattle.esto_top.specs.Grammar.{course_of}
 use Rattle.esto_top.specs.Outcome.{Outcome}
 use Rattle.esto_opening.specs.declared.status.Status.{Status}
 use Rattle.esto_opening.specs.declared.status.Status.TheVariants as status
+
+-- The course of a command line over the same files is one.
+abbrev pub CoursesAreOne : Type 0
+CoursesAreOne = (words : List (List ℕ)) (files : Files) → IsOne (course_of words (Some files))
 
 -- The same words over the same files have at most one status and one text.
 abbrev pub OutcomesAreDetermined : Type 0

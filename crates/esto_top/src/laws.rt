@@ -1,11 +1,16 @@
 //! Laws of outcomes.
 ghost use Rattle.esto_top.specs.CertificateOutcomes.{OutcomesAreVerified};
-ghost use Rattle.esto_top.specs.DataOutcomes.{OutcomesAgree, OutcomesAreAnswers, OutcomesAreAudits, OutcomesAreFills, OutcomesAreUnionAnswers};
-ghost use Rattle.esto_top.specs.Determined.{AskedBeginsFetches, FetchesAreDetermined, OutcomesAreDetermined};
+ghost use Rattle.esto_top.specs.DataOutcomes.{OutcomesAgree, OutcomesAreAnswers};
+ghost use Rattle.esto_top.specs.DataOutcomes.{OutcomesAreAudits, OutcomesAreFills};
+ghost use Rattle.esto_top.specs.DataOutcomes.{OutcomesAreUnionAnswers};
+ghost use Rattle.esto_top.specs.Determined.{AskedBeginsFetches, CoursesAreOne};
+ghost use Rattle.esto_top.specs.Determined.{FetchesAreDetermined, OutcomesAreDetermined};
 ghost use Rattle.esto_top.specs.Headline.{OutcomesAreLists, OutcomesAreRefusals};
+ghost use Rattle.esto_top.specs.Laws.{ListingLaws, OpeningLaws, PlanningLaws};
 ghost use Rattle.esto_top.specs.ReasoningOutcomes.{OutcomesAreContainments, OutcomesAreMinimised};
 ghost use Rattle.esto_top.specs.Runs.{OutcomesAreRuns};
-ghost use Rattle.esto_top.specs.Unions.{OutcomesAreUnionLists, OutcomesAreUnionRuns, UnionOutcomesAgree};
+ghost use Rattle.esto_top.specs.Unions.{OutcomesAreUnionLists, OutcomesAreUnionRuns};
+ghost use Rattle.esto_top.specs.Unions.{UnionOutcomesAgree};
 
 use esto_backchase::listed_sets_cover_rewritings;
 use esto_bench::summaries_are_one;
@@ -24,6 +29,35 @@ use esto_reasoning::{reasoning_outcomes_are_exact, reasoning_outcomes_are_one};
 use esto_run::{rewritings_answer_queries, rising_rows_are_one, used_fragments_are_one};
 use esto_semantics::{chosen_atoms_are_named, listed_sets_are_minimal, picks_exist};
 
+// The laws of what is opened, together.
+fn openings_hold()
+    ensures { OpeningLaws }
+{
+    openings_are_one();
+    opened_unions_are_queries();
+}
+
+// The laws of plans and lists over catalogues that say the same, together.
+fn plannings_hold()
+    ensures { PlanningLaws }
+{
+    chosen_items_are_listed();
+    plans_and_lists_are_moved();
+    plans_and_lists_are_one();
+}
+
+// And those of printed plans and listed sets.
+fn listings_hold()
+    ensures { ListingLaws }
+{
+    plannings_hold();
+    planned_plans_are_universal();
+    planned_plans_have_their_form();
+    listed_sets_cover_rewritings();
+    listed_sets_are_minimal();
+    picks_exist();
+}
+
 /// A law: where the files say a catalogue and a query over it, each outcome of `list` prints a universal plan of the query
 /// and exactly its listed sets, which every executable rewriting maps onto a superset of, or refuses the query. It prints
 /// where the query is satisfiable, and refuses exactly where it is not.
@@ -31,16 +65,8 @@ pub(crate) fn lists_are_exact()
     ensures lists { OutcomesAreLists }
     ensures refusals { OutcomesAreRefusals }
 {
-    openings_are_one();
-    opened_unions_are_queries();
-    planned_plans_are_universal();
-    planned_plans_have_their_form();
-    chosen_items_are_listed();
-    plans_and_lists_are_moved();
-    plans_and_lists_are_one();
-    listed_sets_cover_rewritings();
-    listed_sets_are_minimal();
-    picks_exist();
+    openings_hold();
+    listings_hold();
 }
 
 /// A law: where the files say a catalogue and a query over it, each outcome of `run` prints exactly the answers of the
@@ -50,17 +76,9 @@ pub(crate) fn lists_are_exact()
 pub(crate) fn runs_are_exact()
     ensures { OutcomesAreRuns }
 {
-    openings_are_one();
-    opened_unions_are_queries();
+    openings_hold();
+    listings_hold();
     readable_fragments_are_opened();
-    planned_plans_are_universal();
-    planned_plans_have_their_form();
-    chosen_items_are_listed();
-    plans_and_lists_are_moved();
-    plans_and_lists_are_one();
-    listed_sets_cover_rewritings();
-    listed_sets_are_minimal();
-    picks_exist();
     rewritings_answer_queries();
     chosen_atoms_are_named();
 }
@@ -71,8 +89,7 @@ pub(crate) fn runs_are_exact()
 pub(crate) fn union_lists_hold()
     ensures { OutcomesAreUnionLists }
 {
-    openings_are_one();
-    opened_unions_are_queries();
+    openings_hold();
     union_lists_are_moved();
     union_lists_are_exact();
 }
@@ -84,10 +101,25 @@ pub(crate) fn union_lists_hold()
 pub(crate) fn union_runs_hold()
     ensures { OutcomesAreUnionRuns }
 {
-    openings_are_one();
-    opened_unions_are_queries();
+    openings_hold();
     union_runs_are_moved();
     union_runs_are_exact();
+}
+
+/// A law: the course of each command line over the same files is one.
+fn courses_are_one()
+    ensures { CoursesAreOne }
+{
+    openings_hold();
+    plannings_hold();
+    used_fragments_are_one();
+    rising_rows_are_one();
+    union_lists_are_one();
+    union_runs_are_one();
+    summaries_are_one();
+    data_outcomes_are_one();
+    reasoning_outcomes_are_one();
+    verify_outcomes_are_one();
 }
 
 /// A law: the same words over the same files have at most one outcome, and fetch one sequence of names, which whatever was
@@ -97,19 +129,7 @@ pub fn outcomes_are_determined()
     ensures fetches { FetchesAreDetermined }
     ensures asked { AskedBeginsFetches }
 {
-    openings_are_one();
-    opened_unions_are_queries();
-    chosen_items_are_listed();
-    plans_and_lists_are_moved();
-    plans_and_lists_are_one();
-    used_fragments_are_one();
-    rising_rows_are_one();
-    union_lists_are_one();
-    union_runs_are_one();
-    summaries_are_one();
-    data_outcomes_are_one();
-    reasoning_outcomes_are_one();
-    verify_outcomes_are_one();
+    courses_are_one();
 }
 
 /// A law: where the files say what a command on data needs, each outcome of `fill` is the file of the fragment's view rows,

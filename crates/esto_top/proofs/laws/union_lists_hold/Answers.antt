@@ -2,14 +2,4 @@ use Rattle.esto_top.proofs.UnionLemmas.{outcomes_are_union_lists}
 use Rattle.esto_top.proofs.laws.union_lists_hold.Goals as goal
 
 pub returns : goal.returns
-returns c =
-    outcomes_are_union_lists
-    (record {
-      catalogues = c.openings_are_one.ensures.catalogues;
-      unions = c.openings_are_one.ensures.unions;
-      alone = c.opened_unions_are_queries.ensures.one;
-      fragment = c.openings_are_one.ensures.fragment;
-      fragments = c.openings_are_one.ensures.fragments;
-      rows = c.openings_are_one.ensures.rows;
-    })
-    c.union_lists_are_exact.ensures c.union_lists_are_moved.ensures.lists
+returns c = outcomes_are_union_lists c.openings_hold.ensures c.union_lists_are_exact.ensures c.union_lists_are_moved.ensures.lists

@@ -1,10 +1,12 @@
 -- The laws of what is opened, and of plans and lists, on which outcomes rest.
+use Rattle.esto_backchase.specs.Listing.{ListedCoverRewritings}
+use Rattle.esto_semantics.specs.ListedLaws.{NoRewritingExists, PickWeighsLeastOfAll}
 use Rattle.esto_opening.specs.Alike.{CataloguesOpenAlike, FragmentOpensAlike, FragmentsOpenAlike, StoresHaveOneContent, UnionsOpenAlike}
 use Rattle.esto_opening.specs.Unions.{UnionsOfOneAreQueries}
 use Rattle.esto_planning.specs.Alike.{ChoiceIsOne, ClashIsMoved, EndIsOne, ListIsMoved, ListIsOne, ListingIsMoved, ListingIsOne, PlanIsMoved, PlanIsOne}
-use Rattle.esto_planning.specs.Laws.{ItemIsListed}
+use Rattle.esto_planning.specs.Laws.{ClashExcludesAnswers, CoreHasNoRetract, CoreIsOnly, ItemIsListed, PlanHasForm, PlanIsUniversal, PlanTellsAnswers}
 
--- what is opened is one
+-- What is opened is one.
 pub record OpeningLaws : Type 0 where
   pub catalogues : CataloguesOpenAlike
   pub unions : UnionsOpenAlike
@@ -13,7 +15,7 @@ pub record OpeningLaws : Type 0 where
   pub fragments : FragmentsOpenAlike
   pub rows : StoresHaveOneContent
 
--- over catalogues that say the same, plans, clashes and lists are the same, and are one
+-- Over catalogues that say the same, plans, clashes and lists are the same, and are one.
 pub record PlanningLaws : Type 0 where
   pub item : ItemIsListed
   pub plan_moved : PlanIsMoved
@@ -25,3 +27,16 @@ pub record PlanningLaws : Type 0 where
   pub list : ListIsOne
   pub text : ListingIsOne
   pub choice : ChoiceIsOne
+
+-- And printed plans and listed sets are what the headline says of them.
+pub record ListingLaws : Type 0 where
+  pub planning : PlanningLaws
+  pub form : PlanHasForm
+  pub universal : PlanIsUniversal
+  pub core : CoreHasNoRetract
+  pub only_core : CoreIsOnly
+  pub satisfiable : PlanTellsAnswers
+  pub unsatisfiable : ClashExcludesAnswers
+  pub covers : ListedCoverRewritings
+  pub none : NoRewritingExists
+  pub lightest : PickWeighsLeastOfAll
