@@ -9,25 +9,21 @@ use Rattle.esto_chase_laws.specs.declared.clash.Clash.{Clash}
 use Rattle.esto_constraint.specs.Constraints.{rules_of}
 use Rattle.esto_course.specs.Course.{judges}
 use Rattle.esto_course.proofs.Determined.{judges_agree, then_agree}
-use Rattle.esto_list.specs.Items.{IsPickOf, sets_of}
-use Rattle.esto_list.specs.Text.{IsListText, each_from, list_text}
+use Rattle.esto_list.specs.Items.{sets_of}
+use Rattle.esto_list.specs.Text.{IsListText, each_from}
 use Rattle.esto_list.specs.declared.listing.Listed.{Listed}
 use Rattle.esto_opening.specs.Alike.{AreSameQueries, IsSameQuery}
 use Rattle.esto_opening.specs.Line.{line_of}
 use Rattle.esto_opening.specs.declared.status.Status.TheVariants as status
 use Rattle.esto_plan_laws.specs.UnionLaws.{UnionListIsOne}
 use Rattle.esto_plan_laws.specs.UnionSets.{AreUnionListed}
-use Rattle.esto_planning.specs.Alike.{EndIsOne, IsSamePlan}
-use Rattle.esto_planning.proofs.OneListLemmas.{HasOrder, HasWeight, same_atoms, same_items, same_pick, same_text}
+use Rattle.esto_planning.specs.Alike.{EndIsOne, IsSamePlan, ItemsAreOne, ListTextIsOne}
 use Rattle.esto_query.specs.Making.{query_of}
 use Rattle.esto_query.specs.declared.query.Query.{Query}
 use Rattle.esto_semantics.specs.Access.{IsStatedOrder, Patterns}
-use Rattle.esto_semantics.specs.AccessLaws.{StatedOrderIsOne}
 use Rattle.esto_semantics.specs.Listed.{IsWeight, chosen}
-use Rattle.esto_semantics.specs.ListedLaws.{PickIsOne, WeightIsOne}
-use Rattle.esto_semantics.specs.Queries.{ConjunctiveQuery}
 use Rattle.esto_union.specs.Unions.{queries_of}
-use Rattle.esto_views.specs.Fragments.{patterns_of, views_of, weights_of}
+use Rattle.esto_views.specs.Fragments.{patterns_of, views_of}
 use Rattle.esto_views.specs.Plans.{plan_query}
 use Rattle.esto_views.specs.declared.plan.Plan.{Plan}
 use Rattle.esto_disjuncts.specs.Laws.{IsSameMember, MembersAreOne, UnionListsAreOne}
@@ -66,25 +62,20 @@ list_here catalogue other alike queries others same plan items list = record {
       (sym alike.weights) list.weights;
 }
 
-module _ (sets_one : UnionListIsOne) (orders_one : StatedOrderIsOne) (weights_one : WeightIsOne) (catalogue : Catalogue) (queries : List Query) where
+module _ (sets_one : UnionListIsOne) (items_are_one : ItemsAreOne) (catalogue : Catalogue) (queries : List Query) where
   items_one : (plan other_plan : Plan) → plan_query plan ≡ plan_query other_plan → (items others : List Listed) → IsListIn catalogue queries plan items
       → IsListIn catalogue queries other_plan others → items ≡ others
   items_one plan other_plan plans items others list other_list =
-      same_items orders_one weights_one (patterns_of catalogue.fragments) (weights_of catalogue.fragments) (plan_query plan).body items others
+      items_are_one catalogue.fragments plan other_plan items others plans
       (sets_one (rules_of catalogue.rules) (views_of catalogue.fragments) (patterns_of catalogue.fragments) (queries_of queries) (plan_query plan)
       (sets_of items) (sets_of others) list.sets
       (subst (λ it. AreUnionListed (rules_of catalogue.rules) (views_of catalogue.fragments) (patterns_of catalogue.fragments) (queries_of queries) it
       (sets_of others)) (sym plans) other_list.sets))
-      list.orders
-      (subst (λ (it : ConjunctiveQuery). All (HasOrder orders_one weights_one (patterns_of catalogue.fragments) (weights_of catalogue.fragments) it.body)
-      others) (sym plans) other_list.orders)
-      list.weights
-      (subst (λ (it : ConjunctiveQuery). All (HasWeight orders_one weights_one (patterns_of catalogue.fragments) (weights_of catalogue.fragments) it.body)
-      others) (sym plans) other_list.weights)
+      list.orders other_list.orders list.weights other_list.weights
 
 -- ---- the members
 
-module _ (ends_one : EndIsOne) (sets_one : UnionListIsOne) (orders_one : StatedOrderIsOne) (weights_one : WeightIsOne) (catalogue other : Catalogue)
+module _ (ends_one : EndIsOne) (sets_one : UnionListIsOne) (items_are_one : ItemsAreOne) (catalogue other : Catalogue)
     (alike : AreSame catalogue other) (queries others : List Query) (are : queries_of queries ≡ queries_of others) where
   member_one : (query other_query : Query) → IsSameQuery query other_query → (member other_member : Member)
       → IsMemberOf catalogue queries query member → IsMemberOf other others other_query other_member → IsSameMember member other_member
@@ -93,7 +84,7 @@ module _ (ends_one : EndIsOne) (sets_one : UnionListIsOne) (orders_one : StatedO
       let plans : IsSamePlan plan other_plan =
       (ends_one catalogue other query other_query alike same).one (Left plan) (Left other_plan) here.0 there.0 in (
         plans,
-        items_one sets_one orders_one weights_one catalogue queries plan other_plan plans.0 items other_items here.1
+        items_one sets_one items_are_one catalogue queries plan other_plan plans.0 items other_items here.1
             (list_here catalogue other alike queries others are other_plan other_items there.1),
       )
   member_one query other_query same (Planned plan items) (Clashed clash) here there =
@@ -118,25 +109,19 @@ module _ (ends_one : EndIsOne) (sets_one : UnionListIsOne) (orders_one : StatedO
     each_one some same rest members other_members later other_later,
   )
 
-pub members_one : EndIsOne → UnionListIsOne → StatedOrderIsOne → WeightIsOne → MembersAreOne
-members_one ends_one sets_one orders_one weights_one catalogue other queries same members others alike are_same here there =
-    each_one ends_one sets_one orders_one weights_one catalogue other alike queries same (same_queries queries same are_same) queries same are_same
+pub members_one : EndIsOne → UnionListIsOne → ItemsAreOne → MembersAreOne
+members_one ends_one sets_one items_are_one catalogue other queries same members others alike are_same here there =
+    each_one ends_one sets_one items_are_one catalogue other alike queries same (same_queries queries same are_same) queries same are_same
     members others here there
 
 -- ---- what is printed
 
-module _ (picks_one : PickIsOne) (catalogue other : Catalogue) (alike : AreSame catalogue other) where
+module _ (texts_are_one : ListTextIsOne) (catalogue other : Catalogue) (alike : AreSame catalogue other) where
   list_text_one : (plan other_plan : Plan) → IsSamePlan plan other_plan → (items others : List Listed) → items ≡ others → (text other_text : List ℕ)
       → IsListText catalogue.fragments plan items text → IsListText other.fragments other_plan others other_text → text ≡ other_text
-  list_text_one plan other_plan plans items others same text other_text (pick, is_pick, is) (other_pick, is_other_pick, is_other) =
-      let picks = same_pick picks_one others pick other_pick (subst (λ it. IsPickOf it pick) same is_pick) is_other_pick in
-      let texts : list_text catalogue.fragments plan items pick ≡ list_text catalogue.fragments plan others other_pick =
-      λ i. list_text catalogue.fragments plan (same i) (picks i) in
-      is ∙ texts
-      ∙ same_text catalogue.fragments other.fragments alike.names plan other_plan others other_pick
-      (same_atoms plan.atoms other_plan.atoms (ap (λ (it : ConjunctiveQuery). it.body) plans.0))
-      (ap (λ (it : ConjunctiveQuery). it.head) plans.0) plans.1
-      ∙ sym is_other
+  list_text_one plan other_plan plans items others same text other_text printed other_printed =
+      texts_are_one catalogue.fragments other.fragments plan other_plan others text other_text alike.names plans
+      (subst (λ it. IsListText catalogue.fragments plan it text) same printed) other_printed
 
   member_text_one : (member other_member : Member) → IsSameMember member other_member → (text other_text : List ℕ) → IsMemberText catalogue member text
       → IsMemberText other other_member other_text → text ≡ other_text
@@ -187,14 +172,14 @@ clash_one (member ∷ members) (other ∷ others) (same, rest) clash other_clash
     subst (λ it. IsSameMember it (Clashed other_clash)) (same_Some member (Clashed clash) is)
     (subst (λ it. IsSameMember member it) (same_Some other (Clashed other_clash) is_other) same)
 
-pub lists_one : PickIsOne → MembersAreOne → UnionListsAreOne
-lists_one picks_one members_are catalogue other queries same alike are_same =
+pub lists_one : ListTextIsOne → MembersAreOne → UnionListsAreOne
+lists_one texts_are_one members_are catalogue other queries same alike are_same =
     then_agree _ (AllZip IsSameMember) ◌≡◌ _ _ _ _
     (judges_agree _ _ _ _ _ _
     (λ members others here there. members_are catalogue other queries same members others alike are_same here there)
     (λ said other_said caused other_caused here there. absurd here) (λ value said caused here there. there) (λ value said caused here there. there))
     (λ members others goes are. judges_agree _ _ _ _ _ _
-    (λ text other_text here there. union_text_one picks_one catalogue other alike members others are text other_text here.1 there.1)
+    (λ text other_text here there. union_text_one texts_are_one catalogue other alike members others are text other_text here.1 there.1)
     (λ said other_said caused other_caused here there.
     here.2 ∙ ap status.Unsatisfiable (clash_one members others are here.0 there.0 here.1.1 there.1.1) ∙ sym there.2)
     (λ text said caused here there. there.1.0 (sym (same_have members others are) ∙ here.0))

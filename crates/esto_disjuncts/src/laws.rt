@@ -1,6 +1,10 @@
 //! Laws of members and lists of unions.
-ghost use Rattle.esto_disjuncts.specs.Laws.{EmptyListsAreTold, MembersAreCores, MembersAreMoved, MembersAreOne, MembersAreUniversal, MembersCoverUnions, MembersTellSatisfiable, UnionListsAreExact, UnionListsAreMoved, UnionListsAreOne};
-ghost use Rattle.esto_disjuncts.specs.RunLaws.{ChosenAreRewriting, RunsAnswerUnions, UnionRunsAreMoved, UnionRunsAreOne};
+ghost use Rattle.esto_disjuncts.specs.Laws.{EmptyListsAreTold, MembersAreCores, MembersAreMoved};
+ghost use Rattle.esto_disjuncts.specs.Laws.{MembersAreOne, MembersAreUniversal, MembersCoverUnions};
+ghost use Rattle.esto_disjuncts.specs.Laws.{MembersTellSatisfiable, UnionListsAreExact};
+ghost use Rattle.esto_disjuncts.specs.Laws.{UnionListsAreMoved, UnionListsAreOne};
+ghost use Rattle.esto_disjuncts.specs.RunLaws.{ChosenAreRewriting, RunsAnswerUnions};
+ghost use Rattle.esto_disjuncts.specs.RunLaws.{UnionRunsAreMoved, UnionRunsAreOne};
 ghost use Rattle.esto_disjuncts.specs.RunExact.{UnionRunsAreExact};
 
 use esto_opening::{openings_are_one, readable_fragments_are_opened};
@@ -9,11 +13,10 @@ use esto_plan_laws::{
     plans_receive_unions,
 };
 use esto_planning::{
-    planned_plans_are_universal, planned_plans_have_their_form, plans_and_lists_are_moved,
-    plans_and_lists_are_one,
+    items_and_texts_are_one, planned_plans_are_universal, planned_plans_have_their_form,
+    plans_and_lists_are_moved, plans_and_lists_are_one,
 };
 use esto_run::{rising_rows_are_one, unions_answer_over_files, used_by_all_are_one};
-use esto_semantics::{picks_exist, stated_orders_exist, weights_exist};
 use esto_union::picks_answer_unions;
 
 /// A law: over catalogues that say the same, unions of the same queries have the same members.
@@ -21,9 +24,8 @@ pub fn members_are_one()
     ensures { MembersAreOne }
 {
     plans_and_lists_are_one();
+    items_and_texts_are_one();
     executable_unions_map_onto_sets();
-    stated_orders_exist();
-    weights_exist();
 }
 
 /// A law: the members of a union have plans exactly for its satisfiable queries, and these are universal; cored ones are the
@@ -49,7 +51,7 @@ pub fn union_lists_are_one()
     ensures { UnionListsAreOne }
 {
     members_are_one();
-    picks_exist();
+    items_and_texts_are_one();
 }
 
 /// A law: members of a union, and what `list` prints of them or with what it refuses the union, over one of two catalogues
@@ -59,6 +61,7 @@ pub fn union_lists_are_moved()
     ensures lists { UnionListsAreMoved }
 {
     plans_and_lists_are_moved();
+    items_and_texts_are_one();
 }
 
 /// A law: `list` prints the members of a union exactly where one of its queries is satisfiable, and else refuses it, with

@@ -1,5 +1,5 @@
 -- Over catalogues that say the same, plans, clashes and lists are one.
-use Rattle.std.proofs.Common.{◌≡◌, ℕ, List, All, refl, sym, ap, subst, ◌∙◌}
+use Rattle.std.proofs.Common.{◌≡◌, ℕ, List, refl, sym, ap, subst, ◌∙◌}
 use Rattle.either.specs.declared.Either.{Either}
 use Rattle.either.specs.declared.Either.TheVariants.{Left, Right}
 use Rattle.esto_catalog.specs.Determined.{AreSame}
@@ -10,18 +10,17 @@ use Rattle.esto_constraint.specs.declared.rule.Constraint.{Constraint}
 use Rattle.esto_core.specs.PrintedLaws.{PrintedPlanIsOne, PrintedPlanExcludesClash}
 use Rattle.esto_course.specs.Course.{judges}
 use Rattle.esto_course.proofs.Determined.{judges_agree}
-use Rattle.esto_list.specs.Items.{sets_of, IsPickOf}
-use Rattle.esto_list.specs.Text.{list_text}
+use Rattle.esto_list.specs.Items.{sets_of}
+use Rattle.esto_list.specs.Text.{IsListText}
 use Rattle.esto_list.specs.declared.listing.Listed.{Listed}
 use Rattle.esto_query.specs.Making.{query_of}
 use Rattle.esto_query.specs.declared.query.Query.{Query}
 use Rattle.esto_semantics.specs.AccessLaws.{StatedOrderIsOne}
 use Rattle.esto_semantics.specs.Listed.{AreListed}
 use Rattle.esto_semantics.specs.ListedLaws.{ListedIsOne, PickIsOne, WeightIsOne}
-use Rattle.esto_semantics.specs.Queries.{ConjunctiveQuery}
 use Rattle.esto_semantics.specs.Rules.{AreRules, IsRule}
 use Rattle.esto_universal.specs.PlannedLaws.{ClashOfRunIsOne}
-use Rattle.esto_views.specs.Fragments.{views_of, patterns_of, weights_of}
+use Rattle.esto_views.specs.Fragments.{views_of, patterns_of}
 use Rattle.esto_views.specs.Plans.{plan_query}
 use Rattle.esto_views.specs.declared.plan.Plan.{Plan}
 use Rattle.esto_opening.specs.Alike.{IsSameQuery}
@@ -31,7 +30,7 @@ use Rattle.esto_planning.specs.Alike.{EndIsOne, IsSameEnd, IsSamePlan, ListIsOne
 use Rattle.esto_planning.specs.Listing.{IsClash, IsListing, IsListOf, IsPlanned}
 use Rattle.esto_planning.specs.Planning.{ends_query, lists_plan, plans_query}
 use Rattle.esto_planning.proofs.MovedLemmas.{clash_moved, list_moved, listing_moved, planned_moved}
-use Rattle.esto_planning.proofs.OneListLemmas.{HasOrder, HasWeight, same_items, same_pick, same_atoms, same_text}
+use Rattle.esto_planning.proofs.OneListLemmas.{items_same, text_same}
 use Rattle.esto_planning.proofs.RuleLemmas.{are_rules}
 
 -- the laws by which plans and lists are determined
@@ -51,33 +50,20 @@ module _ (laws : OneLaws) (catalogue : Catalogue) (query : Query) where
   items_one : (plan other_plan : Plan) → plan_query plan ≡ plan_query other_plan → (items others : List Listed) → IsListOf catalogue query plan items
       → IsListOf catalogue query other_plan others → items ≡ others
   items_one plan other_plan plans items others list other_list =
-      same_items laws.orders laws.weights (patterns_of catalogue.fragments) (weights_of catalogue.fragments) (plan_query plan).body items others
+      items_same laws.orders laws.weights catalogue.fragments plan other_plan items others plans
       (laws.sets (rules_of catalogue.rules) (views_of catalogue.fragments) (patterns_of catalogue.fragments) (query_of query) (plan_query plan)
       (sets_of items) (sets_of others) list.sets
       (subst (λ it. AreListed (rules_of catalogue.rules) (views_of catalogue.fragments) (patterns_of catalogue.fragments) (query_of query) it
       (sets_of others)) (sym plans) other_list.sets))
-      list.orders
-      (subst (λ it. All (HasOrder laws.orders laws.weights (patterns_of catalogue.fragments) (weights_of catalogue.fragments) it.body) others)
-      (sym plans) other_list.orders)
-      list.weights
-      (subst (λ it. All (HasWeight laws.orders laws.weights (patterns_of catalogue.fragments) (weights_of catalogue.fragments) it.body) others)
-      (sym plans) other_list.weights)
+      list.orders other_list.orders list.weights other_list.weights
 
   texts_one : (plan other_plan : Plan) → IsSamePlan plan other_plan → (text other_text : List ℕ) → IsListing catalogue query plan text
       → IsListing catalogue query other_plan other_text → text ≡ other_text
   texts_one plan other_plan plans text other_text listing other_listing =
-      let items : listing.items ≡ other_listing.items = items_one plan other_plan plans.0 listing.items other_listing.items listing.list
-      other_listing.list in
-      let pick = same_pick laws.picks other_listing.items listing.printed.0 other_listing.printed.0
-      (subst (λ it. IsPickOf it listing.printed.0) items listing.printed.1) other_listing.printed.1 in
-      let texts : list_text catalogue.fragments plan listing.items listing.printed.0
-      ≡ list_text catalogue.fragments plan other_listing.items other_listing.printed.0 =
-      λ i. list_text catalogue.fragments plan (items i) (pick i) in
-      listing.printed.2 ∙ texts
-      ∙ same_text catalogue.fragments catalogue.fragments refl plan other_plan other_listing.items other_listing.printed.0
-      (same_atoms plan.atoms other_plan.atoms (ap (λ (it : ConjunctiveQuery). it.body) plans.0))
-      (ap (λ (it : ConjunctiveQuery). it.head) plans.0) plans.1
-      ∙ sym other_listing.printed.2
+      text_same laws.picks catalogue.fragments catalogue.fragments plan other_plan other_listing.items text other_text refl plans
+      (subst (λ it. IsListText catalogue.fragments plan it text)
+      (items_one plan other_plan plans.0 listing.items other_listing.items listing.list other_listing.list) listing.printed)
+      other_listing.printed
 
   rules_are : AreRules (rules_of catalogue.rules)
   rules_are = are_rules laws.rules catalogue.rules

@@ -1,5 +1,5 @@
 -- Plans, clashes and lists over one of two catalogues that say the same are ones over the other.
-use Rattle.std.proofs.Common.{◌≡◌, ℕ, List, All, refl, sym, subst, ◌∙◌}
+use Rattle.std.proofs.Common.{◌≡◌, ℕ, List, All, sym, subst}
 use Rattle.esto_catalog.specs.Determined.{AreSame}
 use Rattle.esto_catalog.specs.declared.catalogue.Catalogue.{Catalogue}
 use Rattle.esto_chase.specs.Chased.{RunClashes}
@@ -18,7 +18,7 @@ use Rattle.esto_views.specs.Plans.{plan_query}
 use Rattle.esto_views.specs.declared.plan.Plan.{Plan}
 use Rattle.esto_opening.specs.Alike.{IsSameQuery}
 use Rattle.esto_planning.specs.Listing.{IsClash, IsListing, IsListOf, IsPlanned, HasListedSets}
-use Rattle.esto_planning.proofs.OneListLemmas.{same_text}
+use Rattle.esto_planning.proofs.OneListLemmas.{text_moved}
 
 same_query : (query other : Query) → IsSameQuery query other → query_of query ≡ query_of other
 same_query query other same = λ i. record { head = same.head i; body = same.body i }
@@ -64,9 +64,5 @@ module _ (catalogue other : Catalogue) (alike : AreSame catalogue other) (query 
   listing_moved plan text listing = record {
     items = listing.items;
     list = list_moved plan listing.items listing.list;
-    printed = (
-      listing.printed.0,
-      listing.printed.1,
-      listing.printed.2 ∙ same_text other.fragments catalogue.fragments (sym alike.names) plan plan listing.items listing.printed.0 refl refl refl,
-    );
+    printed = text_moved catalogue.fragments other.fragments plan listing.items text alike.names listing.printed;
   }

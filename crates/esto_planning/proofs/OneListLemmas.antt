@@ -13,11 +13,14 @@ use Rattle.esto_semantics.specs.Access.{Patterns, IsStatedOrder}
 use Rattle.esto_semantics.specs.AccessLaws.{StatedOrderIsOne}
 use Rattle.esto_semantics.specs.Listed.{IsWeight, chosen}
 use Rattle.esto_semantics.specs.ListedLaws.{PickIsOne, WeightIsOne}
+use Rattle.esto_semantics.specs.Queries.{ConjunctiveQuery}
 use Rattle.esto_semantics.specs.declared.fact.Fact.{Fact}
-use Rattle.esto_views.specs.Plans.{fact_of}
+use Rattle.esto_views.specs.Fragments.{patterns_of, weights_of}
+use Rattle.esto_views.specs.Plans.{fact_of, plan_query}
 use Rattle.esto_views.specs.declared.fragments.FragmentDef.{FragmentDef}
 use Rattle.esto_views.specs.declared.plan.PlanAtom.{PlanAtom}
 use Rattle.esto_views.specs.declared.plan.Plan.{Plan}
+use Rattle.esto_planning.specs.Alike.{ItemsAreOne, ListTextIsMoved, ListTextIsOne}
 
 -- ---- the items
 
@@ -130,3 +133,24 @@ module _ (fragments others : List FragmentDef) (same : map (λ fragment. fragmen
       let moved : text_by fragments plan.atoms plan.head plan.names items pick ≡ text_by fragments other.atoms other.head other.names items pick =
       λ i. text_by fragments (atoms i) (head i) (names i) items pick in
       moved ∙ text_by-same other.atoms other.head other.names items pick
+
+-- ---- the laws
+
+pub items_same : StatedOrderIsOne → WeightIsOne → ItemsAreOne
+items_same orders weights fragments plan other_plan items others plans sets has_orders other_orders has_weights other_weights =
+    same_items orders weights (patterns_of fragments) (weights_of fragments) (plan_query plan).body items others sets
+    has_orders (subst (λ (it : ConjunctiveQuery). All (HasOrder orders weights (patterns_of fragments) (weights_of fragments) it.body) others)
+    (sym plans) other_orders)
+    has_weights (subst (λ (it : ConjunctiveQuery). All (HasWeight orders weights (patterns_of fragments) (weights_of fragments) it.body) others)
+    (sym plans) other_weights)
+
+pub text_same : PickIsOne → ListTextIsOne
+text_same picks fragments others plan other_plan items text other_text names plans (pick, is_pick, is) (other_pick, is_other_pick, is_other) =
+    is ∙ ap (λ it. list_text fragments plan items it) (same_pick picks items pick other_pick is_pick is_other_pick)
+    ∙ same_text fragments others names plan other_plan items other_pick
+    (same_atoms plan.atoms other_plan.atoms (ap (λ (it : ConjunctiveQuery). it.body) plans.0)) (ap (λ (it : ConjunctiveQuery). it.head) plans.0) plans.1
+    ∙ sym is_other
+
+pub text_moved : ListTextIsMoved
+text_moved fragments others plan items text names (pick, is_pick, is) =
+    (pick, is_pick, is ∙ same_text others fragments (sym names) plan plan items pick refl refl refl)

@@ -1,13 +1,16 @@
 -- Over catalogues that say the same, plans, clashes and lists are the same, and are one.
-use Rattle.std.specs.Prelude.{◌≡◌, ℕ, List, Option}
+use Rattle.std.specs.Prelude.{◌≡◌, ℕ, List, map, Option}
 use Rattle.either.specs.declared.Either.{Either}
 use Rattle.either.specs.declared.Either.TheVariants.{Left, Right}
 use Rattle.esto_catalog.specs.Determined.{AreSame}
 use Rattle.esto_catalog.specs.declared.catalogue.Catalogue.{Catalogue}
 use Rattle.esto_chase_laws.specs.declared.clash.Clash.{Clash}
+use Rattle.esto_list.specs.Items.{HaveOrders, HaveWeights, sets_of}
+use Rattle.esto_list.specs.Text.{IsListText}
 use Rattle.esto_list.specs.declared.listing.Listed.{Listed}
 use Rattle.esto_query.specs.declared.query.Query.{Query}
 use Rattle.esto_views.specs.Plans.{plan_query}
+use Rattle.esto_views.specs.declared.fragments.FragmentDef.{FragmentDef}
 use Rattle.esto_views.specs.declared.plan.Plan.{Plan}
 use Rattle.esto_opening.specs.Alike.{IsSameQuery}
 use Rattle.esto_opening.specs.Calm.{AgreeCalmly}
@@ -77,6 +80,27 @@ ListingIsOne =
     (catalogue other : Catalogue) (query other_query : Query) (plan other_plan : Plan) (text other_text : List ℕ) → AreSame catalogue other
     → IsSameQuery query other_query → IsSamePlan plan other_plan → IsListing catalogue query plan text → IsListing other other_query other_plan other_text
     → text ≡ other_text
+
+-- Items of one plan with the same sets, each with its stated order and its weight, are the same.
+abbrev pub ItemsAreOne : Type 0
+ItemsAreOne =
+    (fragments : List FragmentDef) (plan other_plan : Plan) (items others : List Listed) → plan_query plan ≡ plan_query other_plan
+    → sets_of items ≡ sets_of others → HaveOrders plan fragments items → HaveOrders other_plan fragments others
+    → HaveWeights plan fragments items → HaveWeights other_plan fragments others → items ≡ others
+
+-- The same items of the same plan have one text over fragments of the same names.
+abbrev pub ListTextIsOne : Type 0
+ListTextIsOne =
+    (fragments others : List FragmentDef) (plan other_plan : Plan) (items : List Listed) (text other_text : List ℕ)
+    → map (λ fragment. fragment.name) fragments ≡ map (λ fragment. fragment.name) others → IsSamePlan plan other_plan
+    → IsListText fragments plan items text → IsListText others other_plan items other_text → text ≡ other_text
+
+-- A text of theirs over the one fragments is one over the others.
+abbrev pub ListTextIsMoved : Type 0
+ListTextIsMoved =
+    (fragments others : List FragmentDef) (plan : Plan) (items : List Listed) (text : List ℕ)
+    → map (λ fragment. fragment.name) fragments ≡ map (λ fragment. fragment.name) others → IsListText others plan items text
+    → IsListText fragments plan items text
 
 -- One item of a list is chosen, or none is in one way.
 abbrev pub ChoiceIsOne : Type 0

@@ -1,6 +1,10 @@
 //! Laws of plans and lists.
-ghost use Rattle.esto_planning.specs.Alike.{ChoiceIsOne, ClashIsMoved, EndIsOne, ListIsMoved, ListIsOne, ListingIsMoved, ListingIsOne, PlanIsMoved, PlanIsOne};
-ghost use Rattle.esto_planning.specs.Laws.{ClashExcludesAnswers, CoreHasNoRetract, CoreIsOnly, ItemIsListed, PlaceIsWithin, PlanHasForm, PlanIsOver, PlanIsUniversal, PlanReceivesUnions, PlanTellsAnswers};
+ghost use Rattle.esto_planning.specs.Alike.{ChoiceIsOne, ClashIsMoved, EndIsOne, ItemsAreOne};
+ghost use Rattle.esto_planning.specs.Alike.{ListIsMoved, ListIsOne, ListTextIsMoved, ListTextIsOne};
+ghost use Rattle.esto_planning.specs.Alike.{ListingIsMoved, ListingIsOne, PlanIsMoved, PlanIsOne};
+ghost use Rattle.esto_planning.specs.Laws.{ClashExcludesAnswers, CoreHasNoRetract, CoreIsOnly};
+ghost use Rattle.esto_planning.specs.Laws.{ItemIsListed, PlaceIsWithin, PlanHasForm, PlanIsOver};
+ghost use Rattle.esto_planning.specs.Laws.{PlanIsUniversal, PlanReceivesUnions, PlanTellsAnswers};
 
 use esto_catalog::catalogues_are_sound;
 use esto_constraint::rules_are_sound;
@@ -73,6 +77,18 @@ pub fn plans_and_lists_are_one()
     runs_have_one_outcome();
     printed_plans_are_one();
     listed_sets_are_minimal();
+    stated_orders_exist();
+    weights_exist();
+    picks_exist();
+}
+
+/// A law: items of one plan with the same sets are the same, and over fragments of the same names they have one text, which
+/// is theirs over either.
+pub fn items_and_texts_are_one()
+    ensures items { ItemsAreOne }
+    ensures text { ListTextIsOne }
+    ensures moved { ListTextIsMoved }
+{
     stated_orders_exist();
     weights_exist();
     picks_exist();

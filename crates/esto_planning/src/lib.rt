@@ -8,7 +8,7 @@ mod planning;
 
 pub use choice::choose;
 pub use laws::{
-    chosen_items_are_listed, planned_plans_are_universal, planned_plans_have_their_form,
-    plans_and_lists_are_moved, plans_and_lists_are_one,
+    chosen_items_are_listed, items_and_texts_are_one, planned_plans_are_universal,
+    planned_plans_have_their_form, plans_and_lists_are_moved, plans_and_lists_are_one,
 };
 pub use planning::{listing_of, plan_of};

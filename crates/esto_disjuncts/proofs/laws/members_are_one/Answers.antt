@@ -3,5 +3,4 @@ use Rattle.esto_disjuncts.proofs.laws.members_are_one.Goals as goal
 
 pub returns : goal.returns
 returns c =
-    members_one c.plans_and_lists_are_one.ensures.end c.executable_unions_map_onto_sets.ensures.one c.stated_orders_exist.ensures.one
-    c.weights_exist.ensures.one
+    members_one c.plans_and_lists_are_one.ensures.end c.executable_unions_map_onto_sets.ensures.one c.items_and_texts_are_one.ensures.items

@@ -5,4 +5,5 @@ pub returns-clause-members : goal.returns-clause-members
 returns-clause-members c = members_moved c.plans_and_lists_are_moved.ensures.plan c.plans_and_lists_are_moved.ensures.clash
 
 pub returns-clause-lists : goal.returns-clause-lists
-returns-clause-lists c = lists_moved c.plans_and_lists_are_moved.ensures.plan c.plans_and_lists_are_moved.ensures.clash
+returns-clause-lists c =
+    lists_moved c.plans_and_lists_are_moved.ensures.plan c.plans_and_lists_are_moved.ensures.clash c.items_and_texts_are_one.ensures.moved
