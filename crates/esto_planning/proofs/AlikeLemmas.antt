@@ -5,9 +5,7 @@ use Rattle.either.specs.declared.Either.TheVariants.{Left, Right}
 use Rattle.esto_catalog.specs.Determined.{AreSame}
 use Rattle.esto_catalog.specs.declared.catalogue.Catalogue.{Catalogue}
 use Rattle.esto_chase_laws.specs.declared.clash.Clash.{Clash}
-use Rattle.esto_constraint.specs.Constraints.{rule_of, rules_of}
-use Rattle.esto_constraint.specs.declared.rule.Constraint.{Constraint}
-use Rattle.esto_core.specs.PrintedLaws.{PrintedPlanIsOne, PrintedPlanExcludesClash}
+use Rattle.esto_constraint.specs.Constraints.{rules_of}
 use Rattle.esto_course.specs.Course.{judges}
 use Rattle.esto_course.proofs.Determined.{judges_agree}
 use Rattle.esto_list.specs.Items.{sets_of}
@@ -15,11 +13,8 @@ use Rattle.esto_list.specs.Text.{IsListText}
 use Rattle.esto_list.specs.declared.listing.Listed.{Listed}
 use Rattle.esto_query.specs.Making.{query_of}
 use Rattle.esto_query.specs.declared.query.Query.{Query}
-use Rattle.esto_semantics.specs.AccessLaws.{StatedOrderIsOne}
 use Rattle.esto_semantics.specs.Listed.{AreListed}
-use Rattle.esto_semantics.specs.ListedLaws.{ListedIsOne, PickIsOne, WeightIsOne}
-use Rattle.esto_semantics.specs.Rules.{AreRules, IsRule}
-use Rattle.esto_universal.specs.PlannedLaws.{ClashOfRunIsOne}
+use Rattle.esto_semantics.specs.Rules.{AreRules}
 use Rattle.esto_views.specs.Fragments.{views_of, patterns_of}
 use Rattle.esto_views.specs.Plans.{plan_query}
 use Rattle.esto_views.specs.declared.plan.Plan.{Plan}
@@ -27,26 +22,16 @@ use Rattle.esto_opening.specs.Alike.{IsSameQuery}
 use Rattle.esto_opening.specs.Calm.{AgreeCalmly}
 use Rattle.esto_opening.specs.declared.status.Status.TheVariants as status
 use Rattle.esto_planning.specs.Alike.{EndIsOne, IsSameEnd, IsSamePlan, ListIsOne, ListingIsOne, PlanIsOne}
+use Rattle.esto_planning.specs.Laws.{PlanLaws}
 use Rattle.esto_planning.specs.Listing.{IsClash, IsListing, IsListOf, IsPlanned}
 use Rattle.esto_planning.specs.Planning.{ends_query, lists_plan, plans_query}
 use Rattle.esto_planning.proofs.MovedLemmas.{clash_moved, list_moved, listing_moved, planned_moved}
 use Rattle.esto_planning.proofs.OneListLemmas.{items_same, text_same}
 use Rattle.esto_planning.proofs.RuleLemmas.{are_rules}
 
--- the laws by which plans and lists are determined
-pub record OneLaws : Type 0 where
-  pub rules : (constraint : Constraint) → IsRule (rule_of constraint)
-  pub plan : PrintedPlanIsOne
-  pub clash : ClashOfRunIsOne
-  pub apart : PrintedPlanExcludesClash
-  pub sets : ListedIsOne
-  pub orders : StatedOrderIsOne
-  pub weights : WeightIsOne
-  pub picks : PickIsOne
-
 -- ---- over one catalogue
 
-module _ (laws : OneLaws) (catalogue : Catalogue) (query : Query) where
+module _ (laws : PlanLaws) (catalogue : Catalogue) (query : Query) where
   items_one : (plan other_plan : Plan) → plan_query plan ≡ plan_query other_plan → (items others : List Listed) → IsListOf catalogue query plan items
       → IsListOf catalogue query other_plan others → items ≡ others
   items_one plan other_plan plans items others list other_list =
@@ -81,7 +66,7 @@ module _ (laws : OneLaws) (catalogue : Catalogue) (query : Query) where
 
 -- ---- over catalogues that say the same
 
-module _ (laws : OneLaws) (catalogue other : Catalogue) (query other_query : Query) (alike : AreSame catalogue other)
+module _ (laws : PlanLaws) (catalogue other : Catalogue) (query other_query : Query) (alike : AreSame catalogue other)
     (same : IsSameQuery query other_query) where
   plan_here : (plan : Plan) → IsPlanned other other_query plan → IsPlanned catalogue query plan
   plan_here = planned_moved catalogue other alike query other_query same
@@ -117,7 +102,7 @@ module _ (laws : OneLaws) (catalogue other : Catalogue) (query other_query : Que
       (list_moved catalogue other alike query other_query same other_plan others there))
       (λ said other_said caused other_caused here there. absurd here) (λ value said caused here there. there) (λ value said caused here there. there)
 
-module _ (laws : OneLaws) where
+module _ (laws : PlanLaws) where
   pub end_one : EndIsOne
   end_one catalogue other query other_query alike same = end_agrees laws catalogue other query other_query alike same
 

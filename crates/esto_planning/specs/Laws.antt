@@ -2,16 +2,22 @@
 use Rattle.std.specs.Prelude.{◌≡◌, ℕ, ◌<◌, IsTrue, List, length, slice_get, Option, Some}
 use Rattle.esto_catalog.specs.declared.catalogue.Catalogue.{Catalogue}
 use Rattle.esto_chase_laws.specs.declared.clash.Clash.{Clash}
-use Rattle.esto_constraint.specs.Constraints.{rules_of}
+use Rattle.esto_constraint.specs.Constraints.{rule_of, rules_of}
+use Rattle.esto_constraint.specs.declared.rule.Constraint.{Constraint}
 use Rattle.esto_core.specs.Cored.{IsOnlyCore}
+use Rattle.esto_core.specs.PrintedLaws.{PrintedPlanExcludesClash, PrintedPlanIsOne}
 use Rattle.esto_list.specs.declared.listing.Listed.{Listed}
 use Rattle.esto_plan_laws.specs.Cores.{HasNoRetract}
 use Rattle.esto_query.specs.Making.{query_of}
 use Rattle.esto_query.specs.declared.query.Query.{Query}
+use Rattle.esto_semantics.specs.AccessLaws.{StatedOrderIsOne}
 use Rattle.esto_semantics.specs.Containment.{IsSatisfiable}
+use Rattle.esto_semantics.specs.ListedLaws.{ListedIsOne, PickIsOne, WeightIsOne}
 use Rattle.esto_semantics.specs.Plans.{IsUniversalPlan}
 use Rattle.esto_semantics.specs.Rewritings.{IsPlanFor}
+use Rattle.esto_semantics.specs.Rules.{IsRule}
 use Rattle.esto_semantics.specs.Unions.{ReceivesUnions}
+use Rattle.esto_universal.specs.PlannedLaws.{ClashOfRunIsOne}
 use Rattle.esto_views.specs.Fragments.{views_of}
 use Rattle.esto_views.specs.Plans.{plan_query, IsPlanOver}
 use Rattle.esto_views.specs.declared.plan.Plan.{Plan}
@@ -71,3 +77,16 @@ ItemIsListed =
 -- The place that is chosen is within the list.
 abbrev pub PlaceIsWithin : Type 0
 PlaceIsWithin = (items : List Listed) (number : Option ℕ) (place : ℕ) → IsPlace items number place → place < length items
+
+-- ---- what they rest on
+
+-- The laws by which plans, clashes and lists are one.
+pub record PlanLaws : Type 0 where
+  pub rules : (constraint : Constraint) → IsRule (rule_of constraint)
+  pub plan : PrintedPlanIsOne
+  pub clash : ClashOfRunIsOne
+  pub apart : PrintedPlanExcludesClash
+  pub sets : ListedIsOne
+  pub orders : StatedOrderIsOne
+  pub weights : WeightIsOne
+  pub picks : PickIsOne

@@ -4,7 +4,8 @@ ghost use Rattle.esto_planning.specs.Alike.{ListIsMoved, ListIsOne, ListTextIsMo
 ghost use Rattle.esto_planning.specs.Alike.{ListingIsMoved, ListingIsOne, PlanIsMoved, PlanIsOne};
 ghost use Rattle.esto_planning.specs.Laws.{ClashExcludesAnswers, CoreHasNoRetract, CoreIsOnly};
 ghost use Rattle.esto_planning.specs.Laws.{ItemIsListed, PlaceIsWithin, PlanHasForm, PlanIsOver};
-ghost use Rattle.esto_planning.specs.Laws.{PlanIsUniversal, PlanReceivesUnions, PlanTellsAnswers};
+ghost use Rattle.esto_planning.specs.Laws.{PlanIsUniversal, PlanLaws, PlanReceivesUnions};
+ghost use Rattle.esto_planning.specs.Laws.{PlanTellsAnswers};
 
 use esto_catalog::catalogues_are_sound;
 use esto_constraint::rules_are_sound;
@@ -64,6 +65,19 @@ pub fn plans_and_lists_are_moved()
     ensures text { ListingIsMoved }
 {}
 
+// The laws by which plans, clashes and lists are one, together.
+fn plan_laws_hold()
+    ensures { PlanLaws }
+{
+    rules_are_sound();
+    runs_have_one_outcome();
+    printed_plans_are_one();
+    listed_sets_are_minimal();
+    stated_orders_exist();
+    weights_exist();
+    picks_exist();
+}
+
 /// A law: over catalogues that say the same, a query has one printed plan or one clash, a plan one list, the list one text,
 /// and one item of it is chosen, or none in one way.
 pub fn plans_and_lists_are_one()
@@ -73,12 +87,7 @@ pub fn plans_and_lists_are_one()
     ensures text { ListingIsOne }
     ensures choice { ChoiceIsOne }
 {
-    rules_are_sound();
-    runs_have_one_outcome();
-    printed_plans_are_one();
-    listed_sets_are_minimal();
-    stated_orders_exist();
-    weights_exist();
+    plan_laws_hold();
     picks_exist();
 }
 

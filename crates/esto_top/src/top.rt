@@ -169,9 +169,9 @@ pub fn mediate<S: Shelf, O: Sink>(
         (Rises S.faults shelf.old shelf.new) (Rises O.faults out.old out.new) (O.written out.old)
         (O.written out.new) result }
 
-    // Where the shelf tells what is asked of it, that grew by the names that the order of refusals fetches, up to its end or
-    // up to and with the first name that has no file. At a read fault it is up to and with the file of the fault, at a write
-    // fault perhaps too, if the shelf's count rose; and where memory was wanting, up to any moment of it.
+    // Where the shelf tells what is asked of it, that grew by the names that the order of refusals fetches where it ends with
+    // the status: up to a reply of it, or up to a stop with it. At a read fault it is up to and with the file of the fault, at
+    // a write fault the names of the answer that was to be put; and where memory was wanting, those up to any moment of it.
     ensures asked { AsksAsTold (S.asked shelf.old) (S.asked shelf.new)
         (course_of words.now (S.files shelf.old)) (Rises S.faults shelf.old shelf.new) result }
 
