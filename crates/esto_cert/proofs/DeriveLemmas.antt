@@ -317,6 +317,6 @@ module _ (case : Case) where
       among_from : (claims : List Claim) → AllFrom claims → (facts links : List ℕ) (found : List (Fact Term)) (equal : List Equality)
           → facts_at claims facts ≡ Some found → equalities_at claims links ≡ Some equal → (claim : Claim) → IsAmong found equal claim
           → IsFrom case.expanded case.rules case.set claim
-      among_from claims all facts links found equal stated named (Stated fact) inside = all (Stated fact) (stated_in claims facts found stated fact inside)
-      among_from claims all facts links found equal stated named (Same left right) inside =
-          all (Same left right) (equal_in claims links equal named (record { left = left; right = right }) inside)
+      among_from claims all facts links found equal stated are_named (Stated fact) inside = all (Stated fact) (stated_in claims facts found stated fact inside)
+      among_from claims all facts links found equal stated are_named (Same left right) inside =
+          all (Same left right) (equal_in claims links equal are_named (record { left = left; right = right }) inside)

@@ -1,9 +1,8 @@
 -- A verdict is also that of what says the same.
-use Rattle.std.proofs.Common.{◌≡◌, ◌↔◌, ℕ, ◌+◌, ◌<◌, List, [], ◌∷◌, ◌++◌, length, map, Option, Some, None, slice_get, Contains, refl, sym, ap, ◌∙◌, subst}
+use Rattle.std.proofs.Common.{◌≡◌, ◌↔◌, ℕ, ◌+◌, ◌<◌, List, [], ◌∷◌, ◌++◌, length, map, Some, slice_get, Contains, sym, ap, ◌∙◌, subst}
 use Rattle.std.proofs.lemmas.List.{length-map}
 use Rattle.esto_term.specs.declared.term.Term.{Term}
 use Rattle.esto_term.proofs.ListLemmas.{map_at, map_at-from}
-use Rattle.esto_constraint.specs.Constraints.{rules_of}
 use Rattle.esto_query.specs.Making.{query_of}
 use Rattle.esto_semantics.specs.Expansions.{IsExpansion}
 use Rattle.esto_semantics.specs.Facts.{image}
@@ -20,7 +19,6 @@ use Rattle.esto_views.specs.declared.plan.PlanAtom.{PlanAtom}
 use Rattle.esto_cert.specs.Certificates.{Case}
 use Rattle.esto_cert.specs.Judging.{case_for, Decides}
 use Rattle.esto_cert.specs.Showing.{VerdictsAreMoved}
-use Rattle.esto_cert.proofs.MatchLemmas.{some_one}
 
 -- ---- the expanded facts of one plan are those of the other
 

@@ -21,7 +21,7 @@ use Rattle.esto_world_laws.specs.Contained.{IsSafelyContained}
 use Rattle.esto_world_laws.specs.Matches.{match_map}
 use Rattle.esto_world_laws.specs.Worlds.{Linked}
 use Rattle.esto_world_laws.specs.declared.entry.Claim.{Claim}
-use Rattle.esto_world_laws.specs.declared.entry.Claim.TheVariants.{Fact as Stated, Same}
+use Rattle.esto_world_laws.specs.declared.entry.Claim.TheVariants.{Same}
 use Rattle.esto_cert.specs.Certificates.{Case, Matches, MayClaim}
 use Rattle.esto_cert.specs.Judging.{case_for, DecidesFor}
 use Rattle.esto_cert.specs.Lines.{line_of}

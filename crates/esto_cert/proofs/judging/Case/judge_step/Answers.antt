@@ -1,4 +1,4 @@
-use Rattle.std.proofs.Common.{◌-◌, List, Contains, option_map, ap, sym, ◌∙◌}
+use Rattle.std.proofs.Common.{◌-◌, List, option_map, ap, sym, ◌∙◌}
 use Rattle.esto_term.specs.declared.term.Term.{Term}
 use Rattle.esto_constraint.specs.Constraints.{rule_of, rules_of}
 use Rattle.esto_world_laws.specs.Matches.{taken}
