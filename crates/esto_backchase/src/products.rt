@@ -127,8 +127,8 @@ fn answering_products(
 /// The listed sets of the plan under the catalogue's rules: the minimal sets of its atoms that are executable, and whose
 /// candidate is safe and equivalent to the query. Each query over fragments that is an executable rewriting maps onto a
 /// superset of one of them. The entries are those of the conditional chase of the plan's expansion: they say of each set
-/// of the plan's atoms what the catalogue's rules make of its part of the expansion. Source: the backchase with provenance
-/// (Ileana, Cautis, Deutsch and Katsis 2014).
+/// of the plan's atoms what the catalogue's rules make of its part of the expansion. Their links are joined. Source: the
+/// backchase with provenance (Ileana, Cautis, Deutsch and Katsis 2014).
 pub fn minimal_sets(
     alloc: Global,
     plan: &Plan,
@@ -141,6 +141,7 @@ pub fn minimal_sets(
         (views_of catalogue.now.fragments) (query_of query.now) (plan_query plan.now) }
     requires satisfiable { IsSatisfiable (rules_of catalogue.now.rules) (query_of query.now) }
     ensures entries { IfOk result (λ it. AreEntriesOf catalogue.now plan.now it.entries) }
+    ensures joined { IfOk result (λ it. AreJoined it.entries it.entries) }
     ensures count { IfOk result (λ it. it.sets.count ≡ length plan.now.atoms) }
     ensures listed { IfOk result (λ it. (set : List Bool) → Contains it.sets.sets set
         ↔ IsListed (rules_of catalogue.now.rules) (views_of catalogue.now.fragments)
