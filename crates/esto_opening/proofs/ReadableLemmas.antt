@@ -12,8 +12,8 @@ use Rattle.esto_opening.specs.Calm.{Leads}
 use Rattle.esto_opening.specs.Fetch.{FetchStops, HasWithin, fetches}
 use Rattle.esto_opening.specs.Fetch.FetchStops.{fails, is_longer}
 use Rattle.esto_opening.specs.Fragments.{IsReadableFragment, IsStoredAt, Stored, content_fault, no_contents, opens_fragment, opens_fragments, opens_next, with_content}
-use Rattle.esto_opening.specs.Readable.{AreReadable, OpenedAreReadable, ReadableAreOpened, TellsOfFile}
-use Rattle.esto_opening.specs.Readable.TellsOfFile as tells
+use Rattle.esto_opening.specs.Readable.{OpenedAreReadable, ReadableAreOpened, TellsOfFile}
+use Rattle.esto_opening.specs.Readable.TellsOfFile.{fails as file_fails, is_longer as file_longer, has_fault}
 use Rattle.esto_opening.specs.declared.fragments.TheConstants.{FRAGMENT_LIMIT}
 use Rattle.esto_opening.specs.declared.status.Status.{Status}
 use Rattle.esto_opening.proofs.AlikeLemmas.{fragment_agree}
@@ -48,7 +48,7 @@ module _ (files : Files) (catalogue : Catalogue) where
     ]
     each_holds (first ∷ rest) so counter before got (next, (bytes, opens, next_is), more) number cases =
         each_holds rest (λ it inside. so it (Contains-rest first rest it inside)) (suc counter) next got more number (elim cases [
-          | inl inside ↦ elim (Contains-cases first rest number inside) [ | inl same ↦ inr (here (inl same)) | inr after ↦ inl after ]
+          | inl inside ↦ elim (Contains-cases first rest number inside) [ inl same ↦ inr (here (inl same)) | inr after ↦ inl after ]
           | inr held ↦ inr (here (inr held))
         ])
       where
@@ -103,15 +103,15 @@ module _ (files : Files) (catalogue : Catalogue) where
   fetch_tells name limit = record { goes = λ bytes goes. tt; stops = λ refusal caused stops. told refusal stops }
     where
       told : (refusal : Status) → FetchStops (Some files) name limit refusal → TellsOfFile refusal
-      told refusal (fails is) = tells.fails name is
-      told refusal (is_longer file holds longer is) = tells.is_longer name limit is
+      told refusal (fails is) = file_fails name is
+      told refusal (is_longer file holds longer is) = file_longer name limit is
 
   fragment_tells : (number : ℕ) → Leads (opens_fragment (Some files) catalogue number) (λ _. Unit {0}) TellsOfFile
   fragment_tells number =
       then-leads _ _ (IsStoredAt catalogue number) _ TellsOfFile (judges-leads _ _ TellsOfFile (λ refusal caused never. absurd never)) (λ stored at.
       then-leads _ _ (λ _. Unit {0}) _ TellsOfFile (fetch_tells stored.store.file FRAGMENT_LIMIT) (λ bytes fetched.
       then-leads _ _ (λ _. content_fault stored bytes ≡ None) _ TellsOfFile
-      (judges-leads _ _ TellsOfFile (λ refusal caused (fault, found, is). tells.has_fault stored.definition.name fault is))
+      (judges-leads _ _ TellsOfFile (λ refusal caused (fault, found, is). has_fault stored.definition.name fault is))
       (λ value good. leads-more _ (λ other. other ≡ bytes) _ TellsOfFile (λ other is. tt) (gives-leads bytes TellsOfFile))))
 
 -- a file that is readable over one of two catalogues that say the same is so over the other
