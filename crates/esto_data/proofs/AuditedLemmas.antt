@@ -204,8 +204,11 @@ module _ (laws : DataLaws) (rest : AnswersRestOnDatasets) (files : Files) (datas
       (λ rows are. leads-more _ _ _ (λ _. ⊥) (λ reply reply_is. (
         union_rows_text others rows,
         reply_is,
-        (rows, texts_moved (IsUnionAnswerOfFacts others facts) (IsUnionAnswerOfFacts queries facts) back rows are,
-          sym (same_union_text queries others same rows)),
+        (
+          rows,
+          texts_moved (IsUnionAnswerOfFacts others facts) (IsUnionAnswerOfFacts queries facts) back rows are,
+          sym (same_union_text queries others same rows),
+        ),
       )) (gives-leads (Done (union_rows_text others rows)) (λ _. ⊥))))
     where
       one : map query_of queries ≡ map query_of others

@@ -457,8 +457,8 @@ module _ (laws : RunExactLaws) (files : Files) (catalogue : Catalogue) (queries 
     end_leads (Some clash) (none, at) =
         leads-more _ (IsNoRows queries clash) _ Refuses
         (λ reply (first, is_first, is). let (own, is_own, clashes) = first_clash catalogue queries queries members are clash at in
-            subst Replies (sym is) (tells_clash none first clash is_first
-            (subst (λ (it : Query). IsClash catalogue it clash) (sym (one_first queries first own is_first is_own)) clashes)))
+        subst Replies (sym is) (tells_clash none first clash is_first
+        (subst (λ (it : Query). IsClash catalogue it clash) (sym (one_first queries first own is_first is_own)) clashes)))
         (judges-leads _ _ _ (λ said caused never. absurd never))
 
 pub union_runs_exactly : RunExactLaws → UnionRunsAreExact
