@@ -1,11 +1,10 @@
 -- What `run` answers to a union is exact.
-use Rattle.std.proofs.Common.{◌≡◌, ◌≢◌, ◌↔◌, ◌⊎◌, ℕ, List, [], ◌∷◌, map, slice_get, filter, Contains, Option, Some, None, inl, inr, refl, sym, ap, subst, ◌∙◌}
+use Rattle.std.proofs.Common.{◌≡◌, ◌↔◌, ℕ, List, [], ◌∷◌, map, slice_get, filter, Contains, Option, Some, None, refl, sym, ap, subst, ◌∙◌}
 use Rattle.std.specs.List.{AllZip}
 use Rattle.std.specs.Prelude.{MatchOption}
 use Rattle.std.proofs.lemmas.Option.{none-some, same_Some}
 use Rattle.esto_catalog.specs.Determined.{AreSame}
 use Rattle.esto_catalog.specs.declared.catalogue.Catalogue.{Catalogue}
-use Rattle.esto_catalog.specs.declared.catalogue.Store.{Store}
 use Rattle.esto_chase_laws.specs.declared.clash.Clash.{Clash}
 use Rattle.esto_constraint.specs.Constraints.{rules_of}
 use Rattle.esto_opening.specs.Alike.{AreSameQueries}
@@ -17,17 +16,16 @@ use Rattle.esto_opening.specs.Readable.{AreReadable, OpenedAreReadable, Readable
 use Rattle.esto_opening.specs.Readable.TellsOfFile.{fails, is_longer, has_fault}
 use Rattle.esto_opening.specs.Replies.{reply_status, reply_text}
 use Rattle.esto_opening.specs.declared.reply.Reply.{Reply}
-use Rattle.esto_opening.specs.declared.reply.Reply.TheVariants.{Done, Unsatisfiable}
+use Rattle.esto_opening.specs.declared.reply.Reply.TheVariants.{Done}
 use Rattle.esto_opening.specs.declared.status.Status.{Status}
 use Rattle.esto_opening.specs.declared.status.Status.TheVariants as status
 use Rattle.esto_opening.proofs.LeadLemmas.{gives-leads, judges-leads, leads-more, then-leads}
 use Rattle.esto_planning.specs.Alike.{ChoiceIsOne}
 use Rattle.esto_planning.specs.Listing.{IsClash}
 use Rattle.esto_ports.specs.Files.{Files}
-use Rattle.esto_ports.specs.declared.file_fault.FileFault.{FileFault}
 use Rattle.esto_query.specs.declared.query.Query.{Query}
 use Rattle.esto_run.specs.Answers.{rows_text}
-use Rattle.esto_run.specs.Laws.{FilesHoldViewRows, IsAnswerOfOne, IsAnswerOver}
+use Rattle.esto_run.specs.Laws.{FilesHoldViewRows, IsAnswerOfOne}
 use Rattle.esto_run.specs.Stores.{IsFileRow, IsRowIn}
 use Rattle.esto_run.specs.Used.{AreUsedByAll, fragments_of}
 use Rattle.esto_semantics.specs.Facts.{Database}
@@ -47,7 +45,7 @@ use Rattle.esto_disjuncts.specs.Laws.{EmptyListsAreTold, IsSameMember, MembersAr
 use Rattle.esto_disjuncts.specs.Members.{AreMembersOf, ClashAt, HavePlan, OneIsEmpty, has_plan}
 use Rattle.esto_disjuncts.specs.Run.{AreChosen, HasNoChoice, IsChosenOf, IsNoRows, IsUnionRunText, runs_chosen, runs_end}
 use Rattle.esto_disjuncts.specs.Run.HasNoChoice.{is_empty, is_above}
-use Rattle.esto_disjuncts.specs.RunExact.{CanRunUnion, IsAboveLists, PrintsUnionAnswers, PrintsUnionRun, RunsUnionExactly, TellsFirstClash, UnionRunsAreExact}
+use Rattle.esto_disjuncts.specs.RunExact.{CanRunUnion, IsAboveLists, PrintsUnionAnswers, PrintsUnionRun, RunsUnionExactly, UnionRunsAreExact}
 use Rattle.esto_disjuncts.specs.RunLaws.{ChosenAreRewriting, RunsAnswerUnions}
 use Rattle.esto_disjuncts.specs.declared.members.Member.{Member}
 use Rattle.esto_disjuncts.specs.declared.members.Member.TheVariants.{Planned}

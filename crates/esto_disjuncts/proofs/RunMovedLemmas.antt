@@ -7,7 +7,6 @@ use Rattle.esto_chase_laws.specs.declared.clash.Clash.{Clash}
 use Rattle.esto_course.specs.Course.{Course, and_then, each, gives, judges}
 use Rattle.esto_opening.proofs.StoreLemmas.{same_fault, same_file, same_named}
 use Rattle.esto_opening.specs.Alike.{AreSameQueries, IsSameQuery, StoresHaveOneContent}
-use Rattle.esto_opening.specs.Answers.{IsCaused}
 use Rattle.esto_opening.specs.Calm.{Leads}
 use Rattle.esto_opening.specs.Fetch.{fetches}
 use Rattle.esto_opening.specs.Fragments.{IsStoredAt, Stored, no_contents, opens_fragment, opens_fragments, opens_next, opens_stored, with_content}
@@ -30,9 +29,7 @@ use Rattle.esto_term.proofs.ListLemmas.{map_at, map_at-from}
 use Rattle.esto_term.specs.declared.term.Term.{out-Term}
 use Rattle.esto_views.specs.declared.fragments.FragmentDef.{FragmentDef}
 use Rattle.esto_disjuncts.specs.RunLaws.{UnionRunsAreMoved}
-use Rattle.esto_disjuncts.specs.List.{makes_members}
-use Rattle.esto_disjuncts.specs.Members.{AreMembersOf}
-use Rattle.esto_disjuncts.specs.Run.{IsNoRows, IsUnionRunText, chooses_each, ends_members, runs_chosen, runs_end, runs_members, runs_union}
+use Rattle.esto_disjuncts.specs.Run.{IsNoRows, IsUnionRunText, chooses_each, ends_members, runs_chosen, runs_end, runs_members}
 use Rattle.esto_disjuncts.specs.declared.members.Member.{Member}
 use Rattle.esto_disjuncts.proofs.MovedLemmas.{all_moved}
 

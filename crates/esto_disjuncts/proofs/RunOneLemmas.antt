@@ -1,12 +1,12 @@
 -- Over catalogues that say the same, `run` answers to a union with one reply, or one refusal.
-use Rattle.std.proofs.Common.{◌≡◌, ◌<◌, ◌≤◌, ℕ, List, [], ◌∷◌, length, filter, slice_get, Contains, Option, Some, None, refl, sym, ap, subst, ◌∙◌, inl, inr, arith}
+use Rattle.std.proofs.Common.{◌≡◌, ℕ, List, [], ◌∷◌, length, slice_get, Contains, Option, Some, None, refl, sym, ap, subst, ◌∙◌, inl, inr, arith}
 use Rattle.std.proofs.lemmas.Option.{none-some, same_Some}
 use Rattle.std.specs.List.{AllZip}
 use Rattle.std.specs.Prelude.{MatchOption}
 use Rattle.esto_catalog.specs.Determined.{AreSame}
 use Rattle.esto_catalog.specs.declared.catalogue.Catalogue.{Catalogue}
 use Rattle.esto_chase_laws.specs.declared.clash.Clash.{Clash}
-use Rattle.esto_course.specs.Course.{gives, judges}
+use Rattle.esto_course.specs.Course.{judges}
 use Rattle.esto_course.proofs.Determined.{gives_agree, judges_agree, then_agree}
 use Rattle.esto_list.specs.declared.listing.Listed.{Listed}
 use Rattle.esto_opening.specs.Alike.{AreSameQueries, FragmentsOpenAlike, StoresHaveOneContent}
@@ -26,12 +26,11 @@ use Rattle.esto_run.specs.Stores.{IsFileRow}
 use Rattle.esto_run.specs.Used.{AreUsedByAll}
 use Rattle.esto_semantics.specs.Listed.{candidate}
 use Rattle.esto_semantics.specs.Queries.{ConjunctiveQuery}
-use Rattle.esto_stores.specs.Rows.{Row}
 use Rattle.esto_term.proofs.ListLemmas.{Contains-cases, Contains-head, Contains-nil, Contains-rest}
 use Rattle.esto_views.specs.declared.plan.Plan.{Plan}
 use Rattle.esto_disjuncts.specs.Laws.{IsSameMember, MembersAreOne}
-use Rattle.esto_disjuncts.specs.Members.{ClashAt, HavePlan, OneIsEmpty, has_plan}
-use Rattle.esto_disjuncts.specs.Run.{AreChosen, HasNoChoice, IsChosen, IsChosenOf, IsLeastLength, IsNoRows, IsUnionRunText, chooses_each, ends_members, runs_chosen, runs_end, runs_members}
+use Rattle.esto_disjuncts.specs.Members.{ClashAt, HavePlan}
+use Rattle.esto_disjuncts.specs.Run.{AreChosen, HasNoChoice, IsChosen, IsChosenOf, IsNoRows, IsUnionRunText, chooses_each, ends_members, runs_chosen, runs_end, runs_members}
 use Rattle.esto_disjuncts.specs.Run.HasNoChoice.{is_empty, is_above}
 use Rattle.esto_disjuncts.specs.RunLaws.{UnionRunsAreOne}
 use Rattle.esto_disjuncts.specs.declared.members.Member.{Member}
@@ -137,7 +136,8 @@ module _ (choice : ChoiceIsOne) (number : Option ℕ) where
 
   pub refusal_there : (members others : List Member) → AllZip IsSameMember members others → (refusal : Status) → HasNoChoice others number refusal
       → HasNoChoice members number refusal
-  refusal_there members others zip refusal (is_empty (plan, inside) is) = is_empty (planned_there others members (all_back members others zip) plan [] inside) is
+  refusal_there members others zip refusal (is_empty (plan, inside) is) =
+      is_empty (planned_there others members (all_back members others zip) plan [] inside) is
   refusal_there members others zip refusal (is_above asked least asks some is_least less is) =
       is_above asked least asks (λ (plan, inside). some (planned_there members others zip plan [] inside)) (record {
         one = let (plan, items, inside, length_is) = is_least.one in

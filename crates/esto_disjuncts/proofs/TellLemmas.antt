@@ -55,7 +55,10 @@ module _ (laws : TellLaws) (catalogue : Catalogue) (queries : List Query) where
     λ has. laws.satisfiable catalogue query plan is.0,
     λ satisfiable. refl,
   )
-  tells query (Clashed clash) is = (λ has. absurd (let never : false ≡ true = has in cc), λ satisfiable. absurd (laws.unsatisfiable catalogue query clash is satisfiable))
+  tells query (Clashed clash) is = (
+    λ has. absurd (let never : false ≡ true = has in cc),
+    λ satisfiable. absurd (laws.unsatisfiable catalogue query clash is satisfiable),
+  )
 
   universal : (query : Query) (member : Member) → IsMemberOf catalogue queries query member → HasUniversalPlan catalogue query member
   universal query (Planned plan items) is = laws.universal rules views (query_of query) (plan_query plan) (laws.receives catalogue query plan is.0)

@@ -68,8 +68,8 @@ IsNoRows queries clash reply = (first : Query) × (slice_get queries 0 ≡ Some 
 abbrev pub chooses_each : List Member → Option ℕ → Course Status (List ConjunctiveQuery)
 chooses_each members number = judges (AreChosen number members) (HasNoChoice members number)
 
--- The fragments that the queries over fragments use are found and their files opened, each once, in the order in which they first come; and the text of the rows
--- is the reply.
+-- The fragments that the queries over fragments use are found and their files opened, each once, in the order in which they first come; and the text of the
+-- rows is the reply.
 abbrev pub runs_chosen : Option Files → Catalogue → List Query → List ConjunctiveQuery → Course Status Reply
 runs_chosen files catalogue queries others =
     and_then (judges (AreUsedByAll others) (λ _. ⊥)) (λ numbers.

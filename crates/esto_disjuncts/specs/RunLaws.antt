@@ -28,8 +28,8 @@ ChosenAreRewriting =
     (catalogue : Catalogue) (queries : List Query) (number : Option ℕ) (members : List Member) (others : List ConjunctiveQuery)
     → AreMembersOf catalogue queries members → AreChosen number members others → AreRewritingOf catalogue queries others
 
--- For each database that meets the catalogue's rules, and whose view rows are the rows of the files for the fragments that the chosen sets use, the rows over the
--- files are exactly the union's answers.
+-- For each database that meets the catalogue's rules, and whose view rows are the rows of the files for the fragments that the chosen sets use, the rows over
+-- the files are exactly the union's answers.
 abbrev pub RunsAnswerUnions : Type 0
 RunsAnswerUnions =
     (catalogue : Catalogue) (queries : List Query) (number : Option ℕ) (members : List Member) (others : List ConjunctiveQuery) (contents : ℕ → List ℕ)
