@@ -2,4 +2,5 @@ pub mod Printing
 pub mod Searching
 pub mod Marking
 pub mod Placing
+pub mod Reasons
 pub mod Writing

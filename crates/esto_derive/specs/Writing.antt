@@ -1,6 +1,6 @@
--- Certificates that are written: their lines follow one from another, and each claims what some entry claims in the world of the set.
-use Rattle.std.specs.Prelude.{◌≡◌, ◌≢◌, ◌⊎◌, ◌↔◌, ℕ, ◌==◌, Bool, List, [], ◌∷◌, ◌++◌, Some, length, map, slice_get, Option, None, Contains, All, false, codes}
-use Rattle.std.specs.List.{slice_split, flat_map}
+-- Certificates that are written: a line for each entry that a match uses.
+use Rattle.std.specs.Prelude.{◌≡◌, ◌≢◌, ◌⊎◌, ◌↔◌, ◌<◌, ℕ, Bool, List, [], ◌∷◌, ◌++◌, Some, length, map, slice_get, Option, None, Contains, codes}
+use Rattle.std.specs.List.{AllZip, flat_map}
 use Rattle.esto_constraint.specs.Constraints.{rules_of}
 use Rattle.esto_constraint.specs.declared.rule.Constraint.{Constraint}
 use Rattle.esto_term.specs.declared.term.Term.{Term}
@@ -9,49 +9,44 @@ use Rattle.esto_semantics.specs.Sets.{Has}
 use Rattle.esto_semantics.specs.declared.fact.Fact.{Fact}
 use Rattle.esto_world_laws.specs.Derived.{AreDerived, Claims, IsEquality, IsNamed}
 use Rattle.esto_world_laws.specs.Matches.{Fits, match_map}
-use Rattle.esto_world_laws.specs.Worlds.{InWorld, Linked}
+use Rattle.esto_world_laws.specs.Worlds.{Linked}
 use Rattle.esto_world_laws.specs.declared.entry.Claim.{Claim}
 use Rattle.esto_world_laws.specs.declared.entry.Claim.TheVariants.{Fact as Stated, Same}
 use Rattle.esto_world_laws.specs.declared.entry.Entry.{Entry}
-use Rattle.std.specs.List.{AllZip}
 use Rattle.esto_catalog.specs.declared.catalogue.Catalogue.{Catalogue}
-use Rattle.esto_query.specs.Making.{query_of}
 use Rattle.esto_query.specs.declared.query.Query.{Query}
 use Rattle.esto_views.specs.Expanded.{AreExpanded, Expands}
 use Rattle.esto_views.specs.declared.expansion.ExpandedFact.{ExpandedFact}
 use Rattle.esto_views.specs.declared.plan.Plan.{Plan}
-use Rattle.esto_cert.specs.Certificates.{Case}
-use Rattle.esto_cert.specs.Judging.{IsJudgedText}
-use Rattle.esto_cert.specs.Lines.{line_of}
+use Rattle.esto_cert.specs.Certificates.{Case, MayEnd}
+use Rattle.esto_cert.specs.Judging.{case_for}
 use Rattle.esto_cert.specs.Matching.{IsLike}
-use Rattle.esto_cert.specs.declared.judging.Judged.TheVariants.{Claims as Makes, Ends}
-use Rattle.esto_derive.specs.Marking.{AreClosed, AreUsedWithin}
+use Rattle.esto_cert.specs.Showing.{AreLinesOf}
+use Rattle.esto_cert.specs.declared.line.Line.{Line}
+use Rattle.esto_cert.specs.declared.line.Line.TheVariants.{Match}
+use Rattle.esto_derive.specs.Marking.{AreClosed, AreUsed, AreUsedWithin}
+use Rattle.esto_derive.specs.Printing.{line_text, IsReadable}
+use Rattle.esto_derive.specs.Reasons.{AreOfEntries, HasLine, IsBehind, IsNamedLater}
 use Rattle.esto_derive.specs.declared.writing.Written.{Written}
 
--- After lines with these claims, each of the texts but the last says a line that makes its claim after the claims before it, and the last one a line that may
--- be the last; `made` are then the claims of all lines before the last.
-abbrev pub AreAccepted : Case → List Claim → List (List ℕ) → List Claim → Type 0
-AreAccepted case claims [] made = ⊥
-AreAccepted case claims (text ∷ []) made = IsJudgedText case claims (line_of text) Ends × (made ≡ claims)
-AreAccepted case claims (text ∷ next ∷ texts) made =
-    (claim : Claim) × IsJudgedText case claims (line_of text) (Makes claim) × AreAccepted case (claims ++ claim ∷ []) (next ∷ texts) made
-
--- The bytes are these texts, each of which ends with a line feed.
-abbrev pub AreLines : List ℕ → List (List ℕ) → Type 0
-AreLines bytes texts = slice_split (λ byte. byte == 10) bytes ≡ texts ++ [] ∷ []
-
--- The bytes are a certificate that is accepted, each of whose lines before the last claims what some entry claims whose product is within the set.
-abbrev pub IsWritten : Case → List Entry → List ℕ → Type 0
-IsWritten case entries bytes =
-    (texts : List (List ℕ)) × (made : List Claim) × AreLines bytes texts × AreAccepted case [] texts made
-    × ((claim : Claim) → Contains made claim → InWorld entries case.set claim)
+-- The bytes are a certificate of the match that its last line states: one line for each entry that this match uses, directly or through others, by that entry's
+-- reason. Each line before the last is named by a later one, and each of their entries is in the world of the set.
+pub record IsWritten (case : Case) (entries : List Entry) (bytes : List ℕ) : Type 0 where
+  pub places : List ℕ
+  pub lines : List Line
+  pub claims : List Claim
+  pub facts : List ℕ
+  pub links : List ℕ
+  pub are_lines : AreLinesOf bytes (lines ++ Match facts links ∷ [])
+  pub are_of : AreOfEntries case entries places lines claims
+  pub ends : MayEnd case claims (Match facts links)
+  pub named : (place : ℕ) → place < length lines → IsNamedLater (lines ++ Match facts links ∷ []) place
 
 -- The same of a certificate for a set of a plan's atoms, by the plan's expansion over the catalogue's fragments.
 abbrev pub IsWrittenFor : Catalogue → Query → Plan → List Bool → List Entry → List ℕ → Type 0
 IsWrittenFor catalogue query plan set entries bytes =
     (expanded : List ExpandedFact) × AreExpanded catalogue.fragments 0 (length plan.names) plan.atoms expanded
-    × Expands plan catalogue.fragments expanded
-    × IsWritten (record { expanded = expanded; set = set; rules = rules_of catalogue.rules; query = query_of query; targets = plan.head }) entries bytes
+    × Expands plan catalogue.fragments expanded × IsWritten (case_for plan set catalogue.rules query expanded) entries bytes
 
 -- ---- while it is written
 
@@ -84,33 +79,43 @@ pub record IsBasis (case : Case) (entries : List Entry) (used : List Bool) : Typ
   pub closed : AreClosed entries used
   pub within : AreUsedWithin entries case.set used
 
--- What is written is lines that follow one from another, with these claims, and the lines that are given for an entry stand for its claim.
-pub record IsState (case : Case) (entries : List Entry) (used : List Bool) (lines : List (List ℕ)) (written : Written) (claims : List Claim) : Type 0 where
-  pub texts : List (List ℕ)
-  pub text_is : written.text ≡ flat_map (λ text. text ++ codes "\n") texts
-  pub one_line : (text : List ℕ) → Contains texts text → All (λ byte. (byte == 10) ≡ false) text
-  pub follow : (rest : List (List ℕ)) (made : List Claim) → AreAccepted case claims rest made → AreAccepted case [] (texts ++ rest) made
+-- The lines are those of all that stands for the entry at the place, and no others, where the lines are those of the entries at `written`.
+pub record AreOwn (entries : List Entry) (written : List ℕ) (place : ℕ) (lines : List ℕ) : Type 0 where
+  pub all : (other : ℕ) → IsBehind entries place other → (line : ℕ) × Contains lines line × (slice_get written line ≡ Some other)
+  pub only : (line : ℕ) → Contains lines line → (other : ℕ) × IsBehind entries place other × (slice_get written line ≡ Some other)
+
+-- The places are those of the used entries among the first that have a line of their own.
+pub record AreWritten (entries : List Entry) (used : List Bool) (count : ℕ) (written : List ℕ) : Type 0 where
+  pub all : (place : ℕ) (entry : Entry) → place < count → slice_get entries place ≡ Some entry → Has used place → HasLine entry.reason → Contains written place
+  pub only : (place : ℕ) → Contains written place → (place < count) × Has used place
+
+-- What is written is the lines of the used entries for which lines are given, and these lines stand for their claims.
+pub record IsState (case : Case) (entries : List Entry) (used : List Bool) (own_lines : List (List ℕ)) (written : Written) : Type 0 where
+  pub places : List ℕ
+  pub lines : List Line
+  pub claims : List Claim
+  pub text_is : written.text ≡ flat_map (λ line. line_text line ++ codes "\n") lines
+  pub readable : (line : Line) → Contains lines line → IsReadable line
   pub counted : length claims ≡ written.count
-  pub in_world : (claim : Claim) → Contains claims claim → InWorld entries case.set claim
-  pub stand : (place : ℕ) (entry : Entry) (own : List ℕ) → slice_get entries place ≡ Some entry → Has used place → slice_get lines place ≡ Some own
-      → StandFor claims own entry.claim
+  pub are_of : AreOfEntries case entries places lines claims
+  pub are_written : AreWritten entries used (length own_lines) places
+  pub stand : (place : ℕ) (entry : Entry) (own : List ℕ) → slice_get entries place ≡ Some entry → Has used place → slice_get own_lines place ≡ Some own
+      → StandFor claims own entry.claim × AreOwn entries places place own
 
--- What is written goes on so that the lines `own` stand for the claim.
-abbrev pub Writes : List Constraint → List Entry → List Bool → List (List ℕ) → Claim → Written → Written → List ℕ → Type 0
-Writes rules entries used lines claim old new own =
-    (case : Case) (claims : List Claim) → case.rules ≡ rules_of rules → IsBasis case entries used → Has used (length lines)
-    → IsState case entries used lines old claims → (later : List Claim) × IsState case entries used lines new later × StandFor later own claim
+-- What is written goes on by the line of the next entry, which is used, so that the lines `own` stand for it.
+abbrev pub Writes : List Constraint → List Entry → List Bool → List (List ℕ) → Written → Written → List ℕ → Type 0
+Writes rules entries used lines old new own =
+    (case : Case) → case.rules ≡ rules_of rules → IsBasis case entries used → Has used (length lines) → IsState case entries used lines old
+    → IsState case entries used (lines ++ own ∷ []) new
 
--- The same where the entry is used; for any other entry all stays, and no line stands.
-abbrev pub WritesIfUsed : List Constraint → List Entry → List Bool → List (List ℕ) → Claim → Written → Written → List ℕ → Type 0
-WritesIfUsed rules entries used lines claim old new own =
-    (Has used (length lines) × Writes rules entries used lines claim old new own) ⊎ (¬ (Has used (length lines)) × (new ≡ old))
+-- The same where the next entry is used; for any other entry all stays, and no line stands.
+abbrev pub WritesIfUsed : List Constraint → List Entry → List Bool → List (List ℕ) → Written → Written → List ℕ → Type 0
+WritesIfUsed rules entries used lines old new own =
+    (Has used (length lines) × Writes rules entries used lines old new own) ⊎ (¬ (Has used (length lines)) × (new ≡ old))
 
 -- The lines of all used entries are written, and these are the lines that stand for each.
 abbrev pub WritesAll : List Constraint → List Entry → List Bool → Written → List (List ℕ) → Type 0
-WritesAll rules entries used written lines =
-    (case : Case) → case.rules ≡ rules_of rules → IsBasis case entries used
-    → (claims : List Claim) × IsState case entries used lines written claims
+WritesAll rules entries used written lines = (case : Case) → case.rules ≡ rules_of rules → IsBasis case entries used → IsState case entries used lines written
 
 -- The entries at the places `facts` state facts that match the body, where terms that the entries at the places `links` link count as one, and make the head,
 -- place by place, one with the targets.
@@ -122,11 +127,10 @@ pub record IsMatchAt (entries : List Entry) (head targets : List Term) (body : L
   pub fits : Fits (Linked (IsNamed entries links)) (terms_of body) (terms_of chosen)
   pub heads : AllZip (Linked (IsNamed entries links)) targets (map (match_map body chosen) head)
 
--- The bytes are a certificate of each match of a case at these places, where the entries there are used.
+-- The bytes are a certificate of each match of a case at these places, where the used entries are those that it uses.
 abbrev pub WritesMatch : List Constraint → List Entry → List Bool → List ℕ → List ℕ → List ℕ → Type 0
 WritesMatch rules entries used facts links bytes =
-    (case : Case) → case.rules ≡ rules_of rules → IsBasis case entries used → case.query.body ≢ []
-    → ((place : ℕ) → Contains facts place → Has used place) → ((place : ℕ) → Contains links place → Has used place)
+    (case : Case) → case.rules ≡ rules_of rules → IsBasis case entries used → case.query.body ≢ [] → AreUsed entries facts links used
     → IsMatchAt entries case.query.head case.targets case.query.body facts links → IsWritten case entries bytes
 
 -- The numbers are the old ones and then those of the others that were not among them.

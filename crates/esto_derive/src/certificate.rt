@@ -95,7 +95,9 @@ fn write_match(
 }
 
 /// Writes a certificate that the set's candidate is contained in the query, from the entries of the conditional chase of the
-/// plan's expansion. Each line before the last claims what some entry claims whose product is a subset of the set.
+/// plan's expansion. It has one line for each entry that the match of its last line uses, directly or through others, by that
+/// entry's reason: an entry that equalities make one has no line, and what stands for these is named in its place. Each line
+/// before the last claims what some entry claims whose product is a subset of the set.
 pub fn write_certificate(
     alloc: Global,
     set: &RowBits,

@@ -149,7 +149,7 @@ impl Writer<'_> {
         requires count { written.old.count < length self.now.entries.now }
         ensures count { OnOk result (written.new.count ≡ written.old.count + 1) }
         ensures writes { IfOk result (Writes self.now.rules.now self.now.entries.now
-            self.now.used.now lines.now entry.now.claim written.old written.new) }
+            self.now.used.now lines.now written.old written.new) }
     {
         let number = counted(atom)?;
         let at = counted(place)?;
@@ -174,7 +174,7 @@ impl Writer<'_> {
         requires count { written.old.count < length self.now.entries.now }
         ensures count { OnOk result (written.new.count ≡ written.old.count + 1) }
         ensures writes { IfOk result (Writes self.now.rules.now self.now.entries.now
-            self.now.used.now lines.now entry.now.claim written.old written.new) }
+            self.now.used.now lines.now written.old written.new) }
     {
         rules_are_sound();
         let rule = &self.rules[number];
@@ -211,7 +211,7 @@ impl Writer<'_> {
         requires count { written.old.count < length self.now.entries.now }
         ensures count { OnOk result (written.new.count ≤ written.old.count + 1) }
         ensures writes { IfOk result (Writes self.now.rules.now self.now.entries.now
-            self.now.used.now lines.now entry.now.claim written.old written.new) }
+            self.now.used.now lines.now written.old written.new) }
     {
         match &entry.reason {
             Reason::Expanded(atom, place) => {
@@ -239,7 +239,7 @@ impl Writer<'_> {
         requires count { written.old.count < length self.now.entries.now }
         ensures count { OnOk result (written.new.count ≤ written.old.count + 1) }
         ensures writes { IfOk result (WritesIfUsed self.now.rules.now self.now.entries.now
-            self.now.used.now lines.now entry.now.claim written.old written.new) }
+            self.now.used.now lines.now written.old written.new) }
     {
         if self.used.has(lines.len()) {
             return self.write_entry(alloc, lines, entry, written);
