@@ -102,4 +102,4 @@ module _ (entries : List Entry) (set : List Bool) (head targets : List Term) (bo
             targets = targets;
           }) entries bytes
       finished rules used is bytes writes from to from_is to_is fits lengths some safe expanded derived =
-          writes _ refl (basis _ refl derived used is) some is.has_facts is.has_links (match_found from to from_is to_is fits lengths safe)
+          writes _ refl (basis _ refl derived used is) some is (match_found from to from_is to_is fits lengths safe)

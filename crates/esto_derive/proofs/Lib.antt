@@ -3,8 +3,10 @@ mod LoopLemmas
 mod FoundLemmas
 mod MarkLemmas
 mod PlaceLemmas
-mod StateLemmas
 mod StepLemmas
+mod ReasonLemmas
+mod NamingLemmas
+mod StateLemmas
 mod WriteLemmas
 mod UseLemmas
 mod MatchLemmas

@@ -10,7 +10,7 @@ use Rattle.esto_world_laws.specs.declared.entry.Entry.{Entry}
 use Rattle.esto_world_laws.specs.declared.entry.Reason.{Reason}
 use Rattle.esto_world_laws.specs.declared.entry.Reason.TheVariants.{Expanded, Step, Equal}
 use Rattle.esto_derive.proofs.TextLemmas.{some_one}
-use Rattle.esto_derive.specs.Marking.{named_by, AddsNamed, AreUsedWithin}
+use Rattle.esto_derive.specs.Marking.{named_by, AddsNamed, AreUsedWithin, IsNamedByUsed}
 
 pub all_below : (count : ℕ) (places : List ℕ) → ((place : ℕ) → Contains places place → place < count) → All (λ place. place < count) places
 all_below count places below = All-weaker (Contains places) (λ place. place < count) below places (All-contains_itself places)
@@ -72,6 +72,17 @@ module _ (entries : List Entry) (reasoned : AreReasoned entries) (place : ℕ) (
       where
         is_later : (number : ℕ) → place ≤ number → (number ≡ place) ⊎ (place + 1 ≤ number)
         is_later number from = same_or_later place number from
+
+    -- what is used beside the first ones is named by a used entry
+    pub only_on : (first : List Bool) → ((number : ℕ) → Has old number → Has first number ⊎ IsNamedByUsed entries old number)
+        → (number : ℕ) → Has new number → Has first number ⊎ IsNamedByUsed entries new number
+    only_on first only number has = elim ((adds number).0 has) [
+      | inl had ↦ elim (only number had) [
+        | inl is ↦ inl is
+        | inr (by, its, its_at, by_has, inside) ↦ inr (by, its, its_at, keeps by by_has, inside)
+      ]
+      | inr (had, inside) ↦ inr (place, entry, at, keeps place had, inside)
+    ]
 
     pub within_on : (set : List Bool) → AreUsedWithin entries set old → AreUsedWithin entries set new
     within_on set within at_place its its_at has number holds = elim ((adds at_place).0 has) [

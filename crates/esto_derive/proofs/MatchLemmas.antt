@@ -2,7 +2,7 @@
 use Rattle.std.proofs.Common.{◌≡◌, ◌≢◌, inl, inr, ℕ, ◌+◌, ◌<◌, ◌≤◌, Bool, List, [], ◌++◌, length, map, slice_get, Some, Contains, codes, subst, sym, ap, ◌∙◌, arith}
 use Rattle.std.specs.List.{AllZip}
 use Rattle.std.proofs.lemmas.List.{length-append, length-map, map-append}
-use Rattle.std.proofs.lemmas.List.Elements.{Contains-append_left, Contains-append_right}
+use Rattle.std.proofs.lemmas.List.Elements.{Contains-append_cases, Contains-append_left, Contains-append_right}
 use Rattle.esto_term.proofs.ListLemmas.{map_agree}
 use Rattle.esto_term.specs.Nesting.{greatest_u64}
 use Rattle.esto_term.specs.declared.term.Term.{Term}
@@ -23,15 +23,17 @@ use Rattle.esto_world_laws.specs.declared.entry.Claim.{Claim}
 use Rattle.esto_world_laws.specs.declared.entry.Claim.TheVariants.{Fact as Stated}
 use Rattle.esto_world_laws.specs.declared.entry.Entry.{Entry}
 use Rattle.esto_cert.specs.Certificates.{Case, MayEnd}
-use Rattle.esto_cert.specs.declared.line.Line.{Line}
 use Rattle.esto_cert.specs.declared.line.Line.TheVariants as line
+use Rattle.esto_derive.specs.Marking.{AreUsed}
 use Rattle.esto_derive.specs.Printing.{line_text, IsReadable}
+use Rattle.esto_derive.specs.Reasons.{AreNamedBy}
 use Rattle.esto_derive.specs.Searching.{ClaimsIn, GoesOn, AreLinks}
-use Rattle.esto_derive.specs.Writing.{IsBasis, IsState, IsMatchAt, IsWritten, StandFor, AddsNew, lines_at}
+use Rattle.esto_derive.specs.Writing.{AreOwn, IsBasis, IsState, IsMatchAt, IsWritten, StandFor, AddsNew, lines_at}
 use Rattle.esto_derive.specs.declared.writing.Written.{Written}
+use Rattle.esto_derive.proofs.NamingLemmas.{all_named, are_named}
 use Rattle.esto_derive.proofs.StateLemmas.{ended}
 use Rattle.esto_derive.proofs.StepLemmas.{matches, eqs, one, facts_fit, links_fit, facts_some}
-use Rattle.esto_derive.proofs.WriteLemmas.{stand_at, like_chosen}
+use Rattle.esto_derive.proofs.WriteLemmas.{both_at, fact_lines, stand_at, like_chosen}
 
 -- ---- a match to be found
 
@@ -117,36 +119,51 @@ match_at entries set head body chosen targets facts links stated (are, fits) hea
 -- ---- the last line
 
 module _ (case : Case) (entries : List Entry) (used : List Bool) (basis : IsBasis case entries used) (lines : List (List ℕ)) (written : Written)
-    (claims : List Claim) (state : IsState case entries used lines written claims) (facts links : List ℕ)
-    (within : (place : ℕ) → Contains (facts ++ links) place → place < length lines) (has : (place : ℕ) → Contains (facts ++ links) place → Has used place)
+    (state : IsState case entries used lines written) (whole : length lines ≡ length entries) (facts links : List ℕ)
+    (within : (place : ℕ) → Contains (facts ++ links) place → place < length lines) (are_used : AreUsed entries facts links used)
     (match : IsMatchAt entries case.query.head case.targets case.query.body facts links) (some : case.query.body ≢ []) where
-  stands : (place : ℕ) → Contains (facts ++ links) place → (claim : Claim) → Claims entries place claim
-      → (own : List ℕ) × (slice_get lines place ≡ Some own) × StandFor claims own claim
-  stands place inside = stand_at case entries used basis lines written claims state place (within place inside) (has place inside)
+  has : (place : ℕ) → Contains (facts ++ links) place → Has used place
+  has place inside = elim (Contains-append_cases facts links place inside) [
+    | inl fact ↦ are_used.has_facts place fact
+    | inr link ↦ are_used.has_links place link
+  ]
 
-  pub match_ends : (linked : List ℕ) → AddsNew [] (lines_at lines links) linked → length claims ≤ greatest_u64 → (bytes : List ℕ)
+  both : (place : ℕ) → Contains (facts ++ links) place → (claim : Claim) → Claims entries place claim
+      → (own : List ℕ) × (slice_get lines place ≡ Some own) × StandFor state.claims own claim × AreOwn entries state.places place own
+  both place inside = both_at case entries used basis lines written state place (within place inside) (has place inside)
+
+  stands : (place : ℕ) → Contains (facts ++ links) place → (claim : Claim) → Claims entries place claim
+      → (own : List ℕ) × (slice_get lines place ≡ Some own) × StandFor state.claims own claim
+  stands place inside = stand_at case entries used basis lines written state place (within place inside) (has place inside)
+
+  pub match_ends : (linked : List ℕ) → AddsNew [] (lines_at lines links) linked → length state.claims ≤ greatest_u64 → (bytes : List ℕ)
       → bytes ≡ written.text ++ (line_text (line.Match (map (λ line. line + 1) (lines_at lines facts)) (map (λ line. line + 1) linked)) ++ codes "\n")
       → IsWritten case entries bytes
   match_ends linked adds few bytes text =
-      let its : Line = line.Match (map (λ line. line + 1) (lines_at lines facts)) (map (λ line. line + 1) linked) in
+      let numbers : List ℕ = map (λ line. line + 1) (lines_at lines facts) in
+      let others : List ℕ = map (λ line. line + 1) linked in
       let left : (place : ℕ) → Contains facts place → Contains (facts ++ links) place = λ place inside. Contains-append_left facts links place inside in
       let right : (place : ℕ) → Contains links place → Contains (facts ++ links) place = λ place inside. Contains-append_right facts links place inside in
-      let may : MayEnd case claims its = (
+      let may : MayEnd case state.claims (line.Match numbers others) = (
         match.chosen,
-        (eqs claims lines entries (facts ++ links) stands facts links match.chosen case.query.body left right match.stated match.equalities linked adds
+        (eqs state.claims lines entries (facts ++ links) stands facts links match.chosen case.query.body left right match.stated match.equalities linked adds
             match.alike match.fits).equalities,
-        matches claims lines entries (facts ++ links) stands facts links match.chosen case.query.body left right match.stated match.equalities linked adds
-            match.alike match.fits,
+        matches state.claims lines entries (facts ++ links) stands facts links match.chosen case.query.body left right match.stated match.equalities linked
+            adds match.alike match.fits,
         zip_weaker (Linked (IsNamed entries links)) _ _ _
-            (λ s t inside by. one claims lines entries (facts ++ links) stands facts links match.chosen case.query.body left right match.stated match.equalities
-            linked adds match.alike match.fits s t by) match.heads,
+            (λ s t inside by. one state.claims lines entries (facts ++ links) stands facts links match.chosen case.query.body left right match.stated
+            match.equalities linked adds match.alike match.fits s t by) match.heads,
       ) in
-      let readable : IsReadable its = (
-        facts_some claims lines entries (facts ++ links) stands facts links match.chosen case.query.body left right match.stated match.equalities linked adds
-            match.alike match.fits some,
-        facts_fit claims lines entries (facts ++ links) stands facts links match.chosen case.query.body left right match.stated match.equalities linked adds
-            match.alike match.fits few,
-        links_fit claims lines entries (facts ++ links) stands facts links match.chosen case.query.body left right match.stated match.equalities linked adds
-            match.alike match.fits few,
+      let readable : IsReadable (line.Match numbers others) = (
+        facts_some state.claims lines entries (facts ++ links) stands facts links match.chosen case.query.body left right match.stated match.equalities linked
+            adds match.alike match.fits some,
+        facts_fit state.claims lines entries (facts ++ links) stands facts links match.chosen case.query.body left right match.stated match.equalities linked
+            adds match.alike match.fits few,
+        links_fit state.claims lines entries (facts ++ links) stands facts links match.chosen case.query.body left right match.stated match.equalities linked
+            adds match.alike match.fits few,
       ) in
-      ended case entries used lines written claims state its readable may bytes text
+      let named : AreNamedBy entries state.places (facts ++ links) numbers others =
+      are_named state.claims state.places lines entries (facts ++ links) (fact_lines case entries used basis lines written state) both facts links left right
+      match.chosen match.stated match.equalities linked adds in
+      ended case entries used lines written state numbers others readable may bytes text
+      (all_named case entries used basis lines written state whole facts links are_used numbers others named)

@@ -3,7 +3,7 @@ use Rattle.std.proofs.Common.{◌≡◌, ◌≢◌, inl, inr, ℕ, ◌+◌, ◌-
 use Rattle.std.specs.List.{AllZip}
 use Rattle.std.proofs.lemmas.List.{length-take, length-append}
 use Rattle.std.proofs.lemmas.List.Elements.{Contains-append_left, Contains-append_right, Contains-append_cases}
-use Rattle.esto_term.proofs.ListLemmas.{Contains-at, Contains-cases, Contains-head, Contains-rest, Contains-nil, thing_at}
+use Rattle.esto_term.proofs.ListLemmas.{Contains-cases, Contains-flat, Contains-flat_from, Contains-head, Contains-rest, Contains-nil, thing_at}
 use Rattle.esto_term.specs.Nesting.{greatest_u64}
 use Rattle.esto_term.specs.declared.term.Term.{Term}
 use Rattle.esto_semantics.specs.Facts.{terms_of}
@@ -15,7 +15,7 @@ use Rattle.esto_world_laws.proofs.InductionLemmas.{taken_at}
 use Rattle.esto_world_laws.proofs.LinkLemmas.{zip_weaker, zip_left, zip_length, Linked-then, Linked-back}
 use Rattle.esto_world_laws.specs.Derived.{Claims, IsNamed, IsUnion, IsEquality, IsChain, FollowsBy, Follows, AreDerived}
 use Rattle.esto_world_laws.specs.Matches.{Fits, AreChosen, match_map}
-use Rattle.esto_world_laws.specs.Worlds.{InWorld, Linked, here}
+use Rattle.esto_world_laws.specs.Worlds.{Linked, here}
 use Rattle.esto_world_laws.specs.declared.entry.Claim.{Claim}
 use Rattle.esto_world_laws.specs.declared.entry.Claim.TheVariants.{Fact as Stated, Same}
 use Rattle.esto_world_laws.specs.declared.entry.Entry.{Entry}
@@ -27,9 +27,12 @@ use Rattle.esto_cert.specs.declared.line.Line.{Line}
 use Rattle.esto_cert.specs.declared.line.Line.TheVariants as line
 use Rattle.esto_derive.specs.Marking.{named_by}
 use Rattle.esto_derive.specs.Printing.{line_text, IsReadable}
-use Rattle.esto_derive.specs.Writing.{AtLines, StandFor, IsBasis, IsState, AddsNew, lines_at}
+use Rattle.esto_derive.specs.Reasons.{HasLine, IsBehind, through, AreNamedBy, SaysReason}
+use Rattle.esto_derive.specs.Writing.{AtLines, StandFor, AreOwn, IsBasis, IsState, AddsNew, lines_at, own_lines}
 use Rattle.esto_derive.specs.declared.writing.Written.{Written}
-use Rattle.esto_derive.proofs.StateLemmas.{line_more, own_line}
+use Rattle.esto_derive.proofs.NamingLemmas.{are_named}
+use Rattle.esto_derive.proofs.ReasonLemmas.{behind_equal, fact_has_line}
+use Rattle.esto_derive.proofs.StateLemmas.{line_more, state_push}
 use Rattle.esto_derive.proofs.TextLemmas.{some_one}
 use Rattle.esto_derive.proofs.StepLemmas.{numbered_next, Linked-said, are_equalities, lines_link, matches, eqs, facts_fit, links_fit, facts_some}
 
@@ -129,17 +132,25 @@ less_one : (number : ℕ) → number + 1 - 1 ≡ number
 less_one number = omega arith
 
 module _ (case : Case) (entries : List Entry) (used : List Bool) (basis : IsBasis case entries used) (lines : List (List ℕ)) (written : Written)
-    (claims : List Claim) (state : IsState case entries used lines written claims) where
-  -- the lines of a used entry stand for what it claims
+    (state : IsState case entries used lines written) where
+  -- the lines of a used entry stand for it and for what it claims
+  pub both_at : (place : ℕ) → place < length lines → Has used place → (claim : Claim) → Claims entries place claim
+      → (own : List ℕ) × (slice_get lines place ≡ Some own) × StandFor state.claims own claim × AreOwn entries state.places place own
+  both_at place within has claim (entry, at, is) =
+      let (own, own_at) = thing_at lines place within in
+      let (stands, owned) = state.stand place entry own at has own_at in
+      (own, own_at, subst (StandFor state.claims own) is stands, owned)
+
   pub stand_at : (place : ℕ) → place < length lines → Has used place → (claim : Claim) → Claims entries place claim
-      → (own : List ℕ) × (slice_get lines place ≡ Some own) × StandFor claims own claim
-  stand_at place within has claim (entry, at, is) =
-      let own = thing_at lines place within in (own.0, own.1, subst (StandFor claims own.0) is (state.stand place entry own.0 at has own.1))
+      → (own : List ℕ) × (slice_get lines place ≡ Some own) × StandFor state.claims own claim
+  stand_at place within has claim claims_it =
+      let (own, own_at, stands, owned) = both_at place within has claim claims_it in (own, own_at, stands)
+
+  pub fact_lines : (place : ℕ) (entry : Entry) → slice_get entries place ≡ Some entry → (fact : Fact Term) → entry.claim ≡ Stated fact
+      → HasLine entry.reason
+  fact_lines = fact_has_line case.expanded case.rules entries basis.derived
 
   module _ (entry : Entry) (at : slice_get entries (length lines) ≡ Some entry) (has : Has used (length lines)) where
-    holds : InWorld entries case.set entry.claim
-    holds = (entry, Contains-at entries (length lines) entry at, basis.within (length lines) entry at has, refl)
-
     named_used : (place : ℕ) → Contains (named_by entry.reason) place → Has used place
     named_used = basis.closed (length lines) entry at has
 
@@ -149,14 +160,15 @@ module _ (case : Case) (entries : List Entry) (used : List Bool) (basis : IsBasi
         (basis.derived (length lines) entry at).follows
 
     abbrev pub Goes : Written → List ℕ → Type 0
-    Goes new own = (later : List Claim) × IsState case entries used lines new later × StandFor later own entry.claim
+    Goes new own = IsState case entries used (lines ++ own ∷ []) new
 
     pub expanded_goes : (atom place : ℕ) → entry.reason ≡ Expanded atom place → atom + 1 ≤ greatest_u64 → place + 1 ≤ greatest_u64 → (new : Written)
         → new.text ≡ written.text ++ (line_text (line.Expanded (atom + 1) (place + 1)) ++ codes "\n") → new.count ≡ written.count + 1
         → (own : List ℕ) → own ≡ written.count ∷ [] → Goes new own
     expanded_goes atom place is fits fits_too new text count own own_is =
         let (fact, inside, atom_is, place_is, claim_is, has_atom) = follows (Expanded atom place) is in
-        let may : MayClaim case claims (line.Expanded (atom + 1) (place + 1)) entry.claim = (
+        let its : Line = line.Expanded (atom + 1) (place + 1) in
+        let may : MayClaim case state.claims its entry.claim = (
           fact,
           inside,
           (
@@ -165,23 +177,24 @@ module _ (case : Case) (entries : List Entry) (used : List Bool) (basis : IsBasi
             subst (Has case.set) (sym atom_is) (basis.within (length lines) entry at has atom ((has_atom atom).1 refl)),
           ),
           claim_is,
-        ) in (
-          claims ++ entry.claim ∷ [],
-          line_more case entries used lines written claims state (line.Expanded (atom + 1) (place + 1)) (fits, fits_too) entry.claim may holds new text count,
-          subst (λ (it : List ℕ). StandFor (claims ++ entry.claim ∷ []) it entry.claim) (sym own_is)
-              (own_line case entries used lines written claims state (line.Expanded (atom + 1) (place + 1))
-              (fits, fits_too) entry.claim may holds new text count),
-        )
+        ) in
+        line_more case entries used lines written state entry at own has (subst HasLine (sym is) tt) (basis.within (length lines) entry at has) its
+        (fits, fits_too) may (subst (λ (it : Reason). SaysReason entries state.places it its) (sym is) refl) new text count own_is
 
     module _ (number : ℕ) (places : List ℕ) (is : entry.reason ≡ Step number places) where
       step : IsStep entries case.rules (length lines) number places entry.claim entry.product
       step = follows (Step number places) is
 
-      stands : (place : ℕ) → Contains places place → (claim : Claim) → Claims entries place claim
-          → (own : List ℕ) × (slice_get lines place ≡ Some own) × StandFor claims own claim
-      stands place inside =
-          stand_at place (named_before entries case.rules (length lines) number places entry.claim entry.product step place inside)
+      both : (place : ℕ) → Contains places place → (claim : Claim) → Claims entries place claim
+          → (own : List ℕ) × (slice_get lines place ≡ Some own) × StandFor state.claims own claim × AreOwn entries state.places place own
+      both place inside =
+          both_at place (named_before entries case.rules (length lines) number places entry.claim entry.product step place inside)
           (named_used place (subst (λ (it : Reason). Contains (named_by it) place) (sym is) inside))
+
+      stands : (place : ℕ) → Contains places place → (claim : Claim) → Claims entries place claim
+          → (own : List ℕ) × (slice_get lines place ≡ Some own) × StandFor state.claims own claim
+      stands place inside claim claims_it =
+          let (own, own_at, stand, owned) = both place inside claim claims_it in (own, own_at, stand)
 
       abbrev pub StepGoes : Rule → Type 0
       StepGoes rule =
@@ -189,7 +202,7 @@ module _ (case : Case) (entries : List Entry) (used : List Bool) (basis : IsBasi
           → (linked : List ℕ) → AddsNew [] (lines_at lines links) linked → (at_place : ℕ)
           → ((chosen : List (Fact Term)) → AllZip (λ (place : ℕ) (fact : Fact Term). Claims entries place (Stated fact)) facts chosen
           → made_at at_place number rule (match_map (body_of rule) chosen) ≡ Some entry.claim)
-          → number + 1 ≤ greatest_u64 → at_place ≤ greatest_u64 → length claims ≤ greatest_u64 → (new : Written)
+          → number + 1 ≤ greatest_u64 → at_place ≤ greatest_u64 → length state.claims ≤ greatest_u64 → (new : Written)
           → new.text ≡ written.text ++ (line_text (line.Step (number + 1) at_place (map (λ line. line + 1) (lines_at lines facts)) (map
           (λ line. line + 1) linked))
           ++ codes "\n") → new.count ≡ written.count + 1 → (own : List ℕ) → own ≡ written.count ∷ [] → Goes new own
@@ -214,12 +227,14 @@ module _ (case : Case) (entries : List Entry) (used : List Bool) (basis : IsBasi
           let fit : Fits (Linked (IsNamed entries links)) (terms_of (body_of step.0)) (terms_of step.2.chosen) =
           subst (λ (it : List ℕ). Fits (Linked (IsNamed entries it)) (terms_of (body_of step.0)) (terms_of step.2.chosen)) (sym links_same)
           (fits_by_links entries case.rules (length lines) number places entry.claim entry.product step) in
-          step_line some facts links facts_among links_among linked adds at_place fits fits_too few stated equalities like fit (made step.2.chosen stated)
-          new text count own own_is
+          let in_order : facts ++ links ≡ places = ap (λ (it : List ℕ). it ++ links) facts_same
+          ∙ ap (λ (it : List ℕ). step.2.facts ++ it) links_same ∙ sym step.2.in_order in
+          step_line some facts links in_order facts_among links_among linked adds at_place fits fits_too few stated equalities like fit
+          (made step.2.chosen stated) new text count own own_is
         where
-          step_line : body_of step.0 ≢ [] → (facts links : List ℕ) → ((place : ℕ) → Contains facts place → Contains places place)
+          step_line : body_of step.0 ≢ [] → (facts links : List ℕ) → facts ++ links ≡ places → ((place : ℕ) → Contains facts place → Contains places place)
               → ((place : ℕ) → Contains links place → Contains places place) → (linked : List ℕ) → AddsNew [] (lines_at lines links) linked → (at_place : ℕ)
-              → number + 1 ≤ greatest_u64 → at_place ≤ greatest_u64 → length claims ≤ greatest_u64
+              → number + 1 ≤ greatest_u64 → at_place ≤ greatest_u64 → length state.claims ≤ greatest_u64
               → AllZip (λ (place : ℕ) (fact : Fact Term). Claims entries place (Stated fact)) facts step.2.chosen
               → ((place : ℕ) → Contains links place → IsEquality entries place) → AllZip IsLike (body_of step.0) step.2.chosen
               → Fits (Linked (IsNamed entries links)) (terms_of (body_of step.0)) (terms_of step.2.chosen)
@@ -227,48 +242,54 @@ module _ (case : Case) (entries : List Entry) (used : List Bool) (basis : IsBasi
               → new.text ≡ written.text
               ++ (line_text (line.Step (number + 1) at_place (map (λ line. line + 1) (lines_at lines facts)) (map (λ line. line + 1) linked)) ++ codes "\n")
               → new.count ≡ written.count + 1 → (own : List ℕ) → own ≡ written.count ∷ [] → Goes new own
-          step_line some facts links facts_among links_among linked adds at_place fits fits_too few stated equalities like fit made new text count own own_is =
+          step_line some facts links in_order facts_among links_among linked adds at_place fits fits_too few stated equalities like fit made new text count own own_is =
               let its : Line = line.Step (number + 1) at_place (map (λ line. line + 1) (lines_at lines facts)) (map (λ line. line + 1) linked) in
-              let found = eqs claims lines entries places stands facts links step.2.chosen
+              let found = eqs state.claims lines entries places stands facts links step.2.chosen
               (body_of step.0) facts_among links_among stated equalities linked adds
               like fit in
-              let may : MayClaim case claims its entry.claim = (
+              let may : MayClaim case state.claims its entry.claim = (
                 step.0,
                 numbered_next case.rules number ∙ step.1,
                 (
                   step.2.chosen,
                   found.equalities,
-                  matches claims lines entries places stands facts links step.2.chosen (body_of step.0) facts_among links_among stated equalities linked adds
-                      like fit,
+                  matches state.claims lines entries places stands facts links step.2.chosen (body_of step.0) facts_among links_among stated equalities linked
+                      adds like fit,
                   ap (λ (it : ℕ). made_at at_place it step.0 (match_map (body_of step.0) step.2.chosen)) (less_one number) ∙ made,
                 ),
               ) in
               let readable : IsReadable its = (
                 fits,
                 fits_too,
-                facts_some claims lines entries places stands facts links step.2.chosen (body_of step.0) facts_among links_among stated equalities linked adds
-                    like fit some,
-                facts_fit claims lines entries places stands facts links step.2.chosen (body_of step.0) facts_among links_among stated equalities linked adds
-                    like fit few,
-                links_fit claims lines entries places stands facts links step.2.chosen (body_of step.0) facts_among links_among stated equalities linked adds
-                    like fit few,
-              ) in (
-                claims ++ entry.claim ∷ [],
-                line_more case entries used lines written claims state its readable entry.claim may holds new text count,
-                subst (λ (it : List ℕ). StandFor (claims ++ entry.claim ∷ []) it entry.claim) (sym own_is)
-                    (own_line case entries used lines written claims state its readable entry.claim may holds new text count),
-              )
+                facts_some state.claims lines entries places stands facts links step.2.chosen (body_of step.0) facts_among links_among stated equalities linked
+                    adds like fit some,
+                facts_fit state.claims lines entries places stands facts links step.2.chosen (body_of step.0) facts_among links_among stated equalities linked
+                    adds like fit few,
+                links_fit state.claims lines entries places stands facts links step.2.chosen (body_of step.0) facts_among links_among stated equalities linked
+                    adds like fit few,
+              ) in
+              let named : AreNamedBy entries state.places places (map (λ line. line + 1) (lines_at lines facts)) (map (λ line. line + 1) linked) =
+              subst (λ (it : List ℕ). AreNamedBy entries state.places it (map (λ line. line + 1) (lines_at lines facts)) (map (λ line. line + 1) linked))
+              in_order (are_named state.claims state.places lines entries places fact_lines both facts links facts_among links_among step.2.chosen stated
+              equalities linked adds) in
+              line_more case entries used lines written state entry at own has (subst HasLine (sym is) tt) (basis.within (length lines) entry at has) its
+              readable may (subst (λ (it : Reason). SaysReason entries state.places it its) (sym is) (at_place, _, _, refl, named)) new text count own_is
 
       pub step_goes : (rule : Rule) → slice_get case.rules number ≡ Some rule → StepGoes rule
       step_goes rule rule_at = subst StepGoes (some_one (sym step.1 ∙ rule_at)) step_goes_on
 
     module _ (places : List ℕ) (is : entry.reason ≡ Equal places) where
-      chain_stands : (place : ℕ) → Contains places place → (claim : Claim) → Claims entries place claim
-          → (own : List ℕ) × (slice_get lines place ≡ Some own) × StandFor claims own claim
-      chain_stands place inside =
-          stand_at place
+      chain_both : (place : ℕ) → Contains places place → (claim : Claim) → Claims entries place claim
+          → (own : List ℕ) × (slice_get lines place ≡ Some own) × StandFor state.claims own claim × AreOwn entries state.places place own
+      chain_both place inside =
+          both_at place
           (omega (arith, ((follows (Equal places) is).5.there place inside), length-take (length lines) entries))
           (named_used place (subst (λ (it : Reason). Contains (named_by it) place) (sym is) inside))
+
+      chain_stands : (place : ℕ) → Contains places place → (claim : Claim) → Claims entries place claim
+          → (own : List ℕ) × (slice_get lines place ≡ Some own) × StandFor state.claims own claim
+      chain_stands place inside claim claims_it =
+          let (own, own_at, stand, owned) = chain_both place inside claim claims_it in (own, own_at, stand)
 
       -- each place of a chain is one of an equality
       of_chain : (some : List ℕ) (term other : Term) → IsChain (take (length lines) entries) some term other → (place : ℕ) → Contains some place
@@ -285,28 +306,57 @@ module _ (case : Case) (entries : List Entry) (used : List Bool) (basis : IsBasi
       module _ (linked : List ℕ) (adds : AddsNew [] (lines_at lines places) linked)
           (equalities : (place : ℕ) → Contains places place → IsEquality entries place) where
         by_line : (place : ℕ) → Contains places place → (s t : Term) → Claims (take (length lines) entries) place (Same s t)
-            → Linked (AtLines claims linked) s t
+            → Linked (AtLines state.claims linked) s t
         by_line place inside s t on =
-            lines_link claims lines entries places chain_stands places (λ its there. there) equalities linked adds place inside s t
+            lines_link state.claims lines entries places chain_stands places (λ its there. there) equalities linked adds place inside s t
             (claims_in_all entries (length lines) place (Same s t) on)
 
         by_chain : (some : List ℕ) (term other : Term) → ((place : ℕ) → Contains some place → Contains places place)
-            → IsChain (take (length lines) entries) some term other → Linked (AtLines claims linked) term other
-        by_chain [] term other among chain = subst (Linked (AtLines claims linked) term) chain here
+            → IsChain (take (length lines) entries) some term other → Linked (AtLines state.claims linked) term other
+        by_chain [] term other among chain = subst (Linked (AtLines state.claims linked) term) chain here
         by_chain (first ∷ some) term other among (next, says, rest) =
             Linked-then term next other (elim says [
               | inl on ↦ by_line first (among first (Contains-head first some)) term next on
               | inr on ↦ Linked-back next term (by_line first (among first (Contains-head first some)) next term on)
             ]) (by_chain some next other (λ place inside. among place (Contains-rest first some place inside)) rest)
 
+      -- what stands for the equalities of a chain stands for the entry
+      chain_owns : (linked : List ℕ) → AddsNew [] (lines_at lines places) linked → ((place : ℕ) → Contains places place → IsEquality entries place)
+          → AreOwn entries state.places (length lines) linked
+      chain_owns linked adds equalities = record {
+        all = λ other behind.
+            let (named, inside, its_behind) = behind_equal entries (length lines) other entry places at is behind in
+            let (own, own_at, owned) = owns named inside in
+            let (line, own_inside, line_at) = owned.all other its_behind in (
+              line,
+              (adds line).1 (inr (Contains-flat (λ place. own_lines (slice_get lines place)) places named line inside
+                  (subst (λ (it : List ℕ). Contains it line) (sym (ap own_lines own_at)) own_inside))),
+              line_at,
+            );
+        only = λ line inside.
+            let (named, named_inside, own_inside) = Contains-flat_from (λ place. own_lines (slice_get lines place)) places line (from_places line inside) in
+            let (own, own_at, owned) = owns named named_inside in
+            let (other, behind, line_at) = owned.only line (subst (λ (it : List ℕ). Contains it line) (ap own_lines own_at) own_inside) in
+            (other, through at is named_inside behind, line_at);
+      }
+        where
+          owns : (place : ℕ) → Contains places place → (own : List ℕ) × (slice_get lines place ≡ Some own) × AreOwn entries state.places place own
+          owns place inside =
+              let (left, right, claims_it) = equalities place inside in
+              let (own, own_at, stand, owned) = chain_both place inside (Same left right) claims_it in (own, own_at, owned)
+
+          from_places : (line : ℕ) → Contains linked line → Contains (lines_at lines places) line
+          from_places line inside = elim ((adds line).0 inside) [ inl none ↦ absurd (Contains-nil line none) | inr it ↦ it ]
+
       pub chain_goes : (linked : List ℕ) → AddsNew [] (lines_at lines places) linked → Goes written linked
       chain_goes linked adds =
           let (some, term, other, claim_is, chain, union) = follows (Equal places) is in
-          let equalities : (place : ℕ) → Contains places place → IsEquality entries place = of_chain places term other chain in (
-            claims,
-            state,
-            subst (StandFor claims linked) (sym claim_is) (
-              are_equalities claims lines entries places chain_stands places (λ its there. there) equalities linked adds,
+          let equalities : (place : ℕ) → Contains places place → IsEquality entries place = of_chain places term other chain in
+          state_push case entries used lines written state entry at linked (λ again has_line. subst HasLine is has_line)
+          (λ again. (
+            subst (StandFor state.claims linked) (sym claim_is) (
+              are_equalities state.claims lines entries places chain_stands places (λ its there. there) equalities linked adds,
               by_chain linked adds equalities places term other (λ its there. there) chain,
             ),
-          )
+            chain_owns linked adds equalities,
+          ))

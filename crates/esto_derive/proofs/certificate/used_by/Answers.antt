@@ -14,6 +14,13 @@ returns-clause-used c = record {
       c.in_ok-close.ensures.closes.keeps place ((c.union.ensures.has place).1 (inl ((c.in_ok-used.ensures.has place).1 inside)));
   has_links = λ place inside.
       c.in_ok-close.ensures.closes.keeps place ((c.union.ensures.has place).1 (inr ((c.in_ok-of.ensures.has place).1 inside)));
+  only = λ place has. elim (c.in_ok-close.ensures.closes.only place has) [
+    | inl first ↦ elim ((c.union.ensures.has place).0 first) [
+      | inl is ↦ inl (inl ((c.in_ok-used.ensures.has place).0 is))
+      | inr is ↦ inl (inr ((c.in_ok-of.ensures.has place).0 is))
+    ]
+    | inr named ↦ inr named
+  ];
   closed = c.in_ok-close.ensures.closes.closed;
   within = λ set each. c.in_ok-close.ensures.closes.within set (λ place entry at has.
       each place entry (elim ((c.union.ensures.has place).0 has) [

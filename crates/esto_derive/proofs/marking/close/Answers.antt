@@ -1,6 +1,6 @@
 use Rattle.std.proofs.Common.{◌-◌, ◌∙◌, length, inl, refl, arith}
 use Rattle.std.proofs.lemmas.Option.{slice_get_read}
-use Rattle.esto_derive.proofs.MarkLemmas.{closed_on, within_on, named_before}
+use Rattle.esto_derive.proofs.MarkLemmas.{closed_on, only_on, within_on, named_before}
 use Rattle.esto_derive.proofs.marking.close.Goals as goal
 
 pub put_behind-requires-clause-named : goal.put_behind-requires-clause-named
@@ -23,6 +23,8 @@ entries-preserved c =
     record {
       count = c.put_behind.ensures.count ∙ c.entries.invariant.count;
       keeps = λ place has. (c.in_ok-put_behind.ensures.adds place).1 (inl (c.entries.invariant.keeps place has));
+      only = only_on c.args.entries.now c.requires.reasoned (c.entries.place - 1) c.index-entries-place.result at c.entries.used c.put_behind.new.used
+          c.in_ok-put_behind.ensures.adds c.args.used.now c.entries.invariant.only;
       closed = closed_on c.args.entries.now c.requires.reasoned (c.entries.place - 1) c.index-entries-place.result at c.entries.used c.put_behind.new.used
           c.in_ok-put_behind.ensures.adds
           (λ place entry from. c.entries.invariant.closed place entry (omega (arith, from, c.entries-test.true)));

@@ -15,17 +15,16 @@ links_at-requires c = λ place inside.
     subst (λ (it : ℕ). place < it) (sym (ap length c.items-2.ensures ∙ c.in_ok-lines.ensures.length)) (c.requires.links place inside)
 
 pub returns : goal.returns
-returns c = λ case rules_is basis some has_facts has_links found.
-    let its = c.in_ok-lines.ensures.writes case rules_is basis in
-    match_ends case c.args.self.now.entries.now c.args.self.now.used.now basis c.in_ok-lines.lines c.write_used.new.written its.0 its.1 c.args.facts.now
-    c.args.links.now
+returns c = λ case rules_is basis some are_used found.
+    let state = c.in_ok-lines.ensures.writes case rules_is basis in
+    match_ends case c.args.self.now.entries.now c.args.self.now.used.now basis c.in_ok-lines.lines c.write_used.new.written state c.in_ok-lines.ensures.length
+    c.args.facts.now c.args.links.now
     (λ place inside. subst (λ (it : ℕ). place < it) (sym c.in_ok-lines.ensures.length)
     (elim (Contains-append_cases c.args.facts.now c.args.links.now place inside) [ inl it ↦ c.requires.facts place it | inr it ↦ c.requires.links place it ]))
-    (λ place inside. elim (Contains-append_cases c.args.facts.now c.args.links.now place inside) [ inl it ↦ has_facts place it | inr it ↦ has_links place it ])
-    found some c.items-4.result.now
+    are_used found some c.items-4.result.now
     (subst (AddsNew [] (lines_at c.in_ok-lines.lines c.args.links.now)) (sym c.items-4.ensures)
     (subst (λ (it : List (List ℕ)). AddsNew [] (lines_at it c.args.links.now) c.in_ok-linked.linked) c.items-2.ensures c.in_ok-linked.ensures))
-    (omega (arith, its.1.counted, c.in_ok-lines.ensures.count)) c.put_match.new.text
+    (omega (arith, state.counted, c.in_ok-lines.ensures.count)) c.put_match.new.text
     (c.in_ok-put_match.ensures
     ∙ ap (λ (it : List ℕ). c.write_used.new.written.text ++ (line_text (Match (map (λ line. line + 1) it) (map (λ line. line + 1)
     c.items-4.result.now)) ++ codes "\n"))

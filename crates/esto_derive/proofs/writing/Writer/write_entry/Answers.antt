@@ -13,8 +13,8 @@ links_at-requires c = λ place inside.
 pub returns-in-Equal-clause-writes : goal.returns-in-Equal-clause-writes
 returns-in-Equal-clause-writes c =
     IfOk-weaker c.links_at.result _ _
-    (λ own adds case claims rules_is basis has state.
-    chain_goes case c.args.self.now.entries.now c.args.self.now.used.now basis c.args.lines.now c.args.written.now claims state c.args.entry.now
+    (λ own adds case rules_is basis has state.
+    chain_goes case c.args.self.now.entries.now c.args.self.now.used.now basis c.args.lines.now c.args.written.now state c.args.entry.now
     c.requires.at has
     c.in-Equal.places c.in-Equal.is own (subst (λ (it : List ℕ). AddsNew [] (lines_at c.args.lines.now it) own) c.items-in-Equal.ensures adds))
     c.links_at.ensures

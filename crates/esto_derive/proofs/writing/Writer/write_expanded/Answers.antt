@@ -9,8 +9,8 @@ use Rattle.esto_derive.proofs.writing.Writer.write_expanded.Goals as goal
 pub returns-clause-writes : goal.returns-clause-writes
 returns-clause-writes c =
     if_ok_with c.end_line.result c.end_line.ensures.own c.end_line.ensures.text c.end_line.ensures.count
-    (λ own own_is text count case claims rules_is basis has state.
-    expanded_goes case c.args.self.now.entries.now c.args.self.now.used.now basis c.args.lines.now c.args.written.now claims state c.args.entry.now
+    (λ own own_is text count case rules_is basis has state.
+    expanded_goes case c.args.self.now.entries.now c.args.self.now.used.now basis c.args.lines.now c.args.written.now state c.args.entry.now
     c.requires.at has c.args.atom c.args.place c.requires.reason
     (subst (λ (it : ℕ). it ≤ greatest_u64) c.in_ok-number.ensures c.put_expanded.ensures.atom)
     (subst (λ (it : ℕ). it ≤ greatest_u64) c.in_ok-at.ensures c.put_expanded.ensures.place) c.end_line.new.self

@@ -74,8 +74,8 @@ returns-clause-writes c =
     let from_is = c.items.ensures ∙ c.in_ok-from.ensures in
     let to_is = c.items-2.ensures ∙ c.in_ok-to.ensures in
     if_ok_with c.end_line.result c.end_line.ensures.own c.end_line.ensures.text c.end_line.ensures.count
-    (λ own own_is text count case claims rules_is basis has state.
-    step_goes case c.args.self.now.entries.now c.args.self.now.used.now basis c.args.lines.now c.args.written.now claims state c.args.entry.now
+    (λ own own_is text count case rules_is basis has state.
+    step_goes case c.args.self.now.entries.now c.args.self.now.used.now basis c.args.lines.now c.args.written.now state c.args.entry.now
     c.requires.at has c.args.number c.args.places.now c.requires.reason rule
     (subst (λ (it : List Rule). slice_get it c.args.number ≡ Some rule) (sym rules_is) (rule_there c.args.self.now.entries.now c.args.self.now.rules.now
     c.args.lines.now c.args.entry.now c.requires.at c.requires.derived c.args.number c.args.places.now c.requires.reason

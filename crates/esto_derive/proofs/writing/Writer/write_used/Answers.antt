@@ -8,11 +8,9 @@ pub entries-init : goal.entries-init
 entries-init c = record {
   placed = ap length c.new-lines.ensures;
   few = omega (arith, c.requires.count);
-  writes = λ case rules_is basis. (
-    [],
-    state_start case c.args.self.now.entries.now c.args.self.now.used.now c.new-lines.result c.args.written.now c.new-lines.ensures c.requires.text
-        c.requires.count,
-  );
+  writes = λ case rules_is basis.
+      state_start case c.args.self.now.entries.now c.args.self.now.used.now c.new-lines.result c.args.written.now c.new-lines.ensures c.requires.text
+      c.requires.count;
 }
 
 pub entries-preserved : goal.entries-preserved

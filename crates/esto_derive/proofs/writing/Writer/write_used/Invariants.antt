@@ -1,6 +1,5 @@
-use Rattle.std.proofs.Common.{◌≡◌, ◌≤◌, List, length}
+use Rattle.std.proofs.Common.{◌≡◌, ◌≤◌, length}
 use Rattle.esto_constraint.specs.Constraints.{rules_of}
-use Rattle.esto_world_laws.specs.declared.entry.Claim.{Claim}
 use Rattle.esto_cert.specs.Certificates.{Case}
 use Rattle.esto_derive.specs.Writing.{IsBasis, IsState}
 use Rattle.esto_derive.proofs.writing.Writer.write_used.Given as goal
@@ -10,5 +9,5 @@ invariant-entries l = record {
   placed : length l.lines ≡ l.entry-index;
   few : l.written.count ≤ l.entry-index;
   writes : (case : Case) → case.rules ≡ rules_of l.self.rules.now → IsBasis case l.self.entries.now l.self.used.now
-      → (claims : List Claim) × IsState case l.self.entries.now l.self.used.now l.lines l.written claims;
+      → IsState case l.self.entries.now l.self.used.now l.lines l.written;
 }
