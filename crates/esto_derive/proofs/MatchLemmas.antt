@@ -128,9 +128,9 @@ module _ (case : Case) (entries : List Entry) (used : List Bool) (basis : IsBasi
     | inr link ↦ are_used.has_links place link
   ]
 
-  both : (place : ℕ) → Contains (facts ++ links) place → (claim : Claim) → Claims entries place claim
+  stand_both : (place : ℕ) → Contains (facts ++ links) place → (claim : Claim) → Claims entries place claim
       → (own : List ℕ) × (slice_get lines place ≡ Some own) × StandFor state.claims own claim × AreOwn entries state.places place own
-  both place inside = both_at case entries used basis lines written state place (within place inside) (has place inside)
+  stand_both place inside = both_at case entries used basis lines written state place (within place inside) (has place inside)
 
   stands : (place : ℕ) → Contains (facts ++ links) place → (claim : Claim) → Claims entries place claim
       → (own : List ℕ) × (slice_get lines place ≡ Some own) × StandFor state.claims own claim
@@ -163,7 +163,7 @@ module _ (case : Case) (entries : List Entry) (used : List Bool) (basis : IsBasi
             adds match.alike match.fits few,
       ) in
       let named : AreNamedBy entries state.places (facts ++ links) numbers others =
-      are_named state.claims state.places lines entries (facts ++ links) (fact_lines case entries used basis lines written state) both facts links left right
+      are_named state.claims state.places lines entries (facts ++ links) (fact_lines case entries used basis lines written state) stand_both facts links left right
       match.chosen match.stated match.equalities linked adds in
       ended case entries used lines written state numbers others readable may bytes text
       (all_named case entries used basis lines written state whole facts links are_used numbers others named)

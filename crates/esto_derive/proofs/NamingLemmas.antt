@@ -102,6 +102,11 @@ line_said entries written (reason.Expanded atom place) line says = tt
 line_said entries written (reason.Step number places) line says = tt
 line_said entries written (reason.Equal places) line says = absurd says
 
+-- what a step's line says
+step_said : (entries : List Entry) (written : List ℕ) (its : Reason) (line : Line) (number : ℕ) (places : List ℕ) → its ≡ reason.Step number places
+    → SaysReason entries written its line → SaysReason entries written (reason.Step number places) line
+step_said entries written its line number places is says = subst (λ (it : Reason). SaysReason entries written it line) is says
+
 module _ (case : Case) (entries : List Entry) (used : List Bool) (basis : IsBasis case entries used) (lines : List (List ℕ)) (old : Written)
     (state : IsState case entries used lines old) (whole : length lines ≡ length entries) where
   -- the line of an entry that is written
@@ -131,6 +136,12 @@ module _ (case : Case) (entries : List Entry) (used : List Bool) (basis : IsBasi
           (number, Contains-append_left facts links number there, is ∙ ap Some (sym (names_fact place other number is behind)))
       by (inr link) = let (number, there, is) = are.links_all place other link behind in (number, Contains-append_right facts links number there, is)
 
+  -- so does a step's line
+  step_names : (number : ℕ) (places : List ℕ) (line : Line) → SaysReason entries state.places (reason.Step number places) line → (place other : ℕ)
+      → Contains places place → IsBehind entries place other → (at : ℕ) → slice_get state.places at ≡ Some other → Contains (named_in line) (at + 1)
+  step_names number places line (head, facts, links, is, are) place other inside behind at other_at =
+      subst (λ (it : Line). Contains (named_in it) (at + 1)) (sym is) (names_all places facts links are place other inside behind at other_at)
+
   module _ (facts links : List ℕ) (are_used : AreUsed entries facts links used) (numbers others : List ℕ)
       (named : AreNamedBy entries state.places (facts ++ links) numbers others) where
     abbrev IsNamed : ℕ → Type 0
@@ -155,8 +166,7 @@ module _ (case : Case) (entries : List Entry) (used : List Bool) (basis : IsBasi
         (subst HasLine (sym is) tt) in
         let (later, up_at) = place-from_Contains state.places up written in
         let (line, its_line, (its, its_at, within, says)) = line_at later up up_at in
-        let its_is : its.reason ≡ reason.Step number places = ap (λ (it : Entry). it.reason) (some_one (sym its_at ∙ entry_at)) ∙ is in
-        let (head, step_facts, step_links, line_is, are) = subst (λ (it : Reason). SaysReason entries state.places it line) its_is says in (
+        let said = step_said entries state.places its.reason line number places (ap (λ (it : Entry). it.reason) (some_one (sym its_at ∙ entry_at)) ∙ is) says in (
           later,
           line,
           stands_before state.places state.are_of.rising at later other up other_at up_at
@@ -164,33 +174,34 @@ module _ (case : Case) (entries : List Entry) (used : List Bool) (basis : IsBasi
               named_below case.expanded case.rules entries basis.derived up entry entry_at place
               (subst (λ (it : Reason). Contains (named_by it) place) (sym is) inside))),
           at_left state.lines (Match numbers others ∷ []) later line its_line,
-          subst (λ (it : Line). Contains (named_in it) (at + 1)) (sym line_is)
-              (names_all places step_facts step_links are place other inside behind at other_at),
+          step_names number places line said place other inside behind at other_at,
         )
+
+    -- what stands for a used entry, where what stands for those that equalities of it make one is named
+    by_used : (place other : ℕ) → IsBehind entries place other → (at : ℕ) → slice_get state.places at ≡ Some other
+        → (Contains facts place ⊎ Contains links place) ⊎ IsNamedByUsed entries used place
+        → ((up : ℕ) (entry : Entry) (places : List ℕ) → slice_get entries up ≡ Some entry → Has used up → entry.reason ≡ reason.Equal places
+        → Contains places place → place < up → IsNamed at) → IsNamed at
+    by_used place other behind at other_at (inl (inl fact)) chain = by_last place other (Contains-append_left facts links place fact) behind at other_at
+    by_used place other behind at other_at (inl (inr link)) chain = by_last place other (Contains-append_right facts links place link) behind at other_at
+    by_used place other behind at other_at (inr (up, entry, entry_at, has, inside)) chain = by entry.reason refl inside
+      where
+        by : (its : Reason) → entry.reason ≡ its → Contains (named_by its) place → IsNamed at
+        by (reason.Expanded atom at_place) is named_inside = absurd (Contains-nil place named_inside)
+        by (reason.Step number places) is named_inside = by_step up place other entry entry_at has number places is named_inside behind at other_at
+        by (reason.Equal places) is named_inside =
+            chain up entry places entry_at has is named_inside (named_below case.expanded case.rules entries basis.derived up entry entry_at place inside)
 
     -- what stands for a used entry, by how many entries follow it at most
     later_names : (gap place other : ℕ) → length entries ≤ place + gap → Has used place → IsBehind entries place other → (at : ℕ)
         → slice_get state.places at ≡ Some other → IsNamed at
-    later_names gap place other few has behind at other_at = by gap few (are_used.only place has)
-      where
-        up_by : (entry : Entry) (up : ℕ) → slice_get entries up ≡ Some entry → Has used up → (its : Reason) → entry.reason ≡ its → Contains (named_by its) place
-            → ((places : List ℕ) → entry.reason ≡ reason.Equal places → Contains places place → IsNamed at) → IsNamed at
-        up_by entry up entry_at up_has (reason.Expanded atom at_place) is inside chain = absurd (Contains-nil place inside)
-        up_by entry up entry_at up_has (reason.Step number places) is inside chain =
-            by_step up place other entry entry_at up_has number places is inside behind at other_at
-        up_by entry up entry_at up_has (reason.Equal places) is inside chain = chain places is inside
-
-        by : (gap : ℕ) → length entries ≤ place + gap → (Contains facts place ⊎ Contains links place) ⊎ IsNamedByUsed entries used place → IsNamed at
-        by gap few (inl (inl fact)) = by_last place other (Contains-append_left facts links place fact) behind at other_at
-        by gap few (inl (inr link)) = by_last place other (Contains-append_right facts links place link) behind at other_at
-        by zero few (inr (up, entry, entry_at, up_has, inside)) =
-            absurd (omega (arith, few, slice_get_within entries up entry entry_at,
-            named_below case.expanded case.rules entries basis.derived up entry entry_at place inside))
-        by (suc gap) few (inr (up, entry, entry_at, up_has, inside)) =
-            up_by entry up entry_at up_has entry.reason refl inside (λ places is named_inside.
-            later_names gap up other
-            (omega (arith, few, named_below case.expanded case.rules entries basis.derived up entry entry_at place inside)) up_has
-            (through entry_at is named_inside behind) at other_at)
+    later_names zero place other few has behind at other_at =
+        by_used place other behind at other_at (are_used.only place has)
+        (λ up entry places entry_at up_has is inside below. absurd (omega (arith, few, below, slice_get_within entries up entry entry_at)))
+    later_names (suc gap) place other few has behind at other_at =
+        by_used place other behind at other_at (are_used.only place has)
+        (λ up entry places entry_at up_has is inside below. later_names gap up other (omega (arith, few, below)) up_has (through entry_at is inside behind)
+        at other_at)
 
     pub all_named : (at : ℕ) → at < length state.lines → IsNamed at
     all_named at within =

@@ -1,6 +1,5 @@
 -- Lines of entries by their reasons: what stands for an entry, and one line more.
-use Rattle.std.proofs.Common.{◌≡◌, ◌⊎◌, inl, inr, ℕ, ◌+◌, ◌<◌, ◌≤◌, zero, suc, Bool, List, [], ◌∷◌, ◌++◌, length, map, take, get_or, slice_get, Some, None, AllPairs, Contains, subst, refl, sym, ap, ◌∙◌, arith}
-use Rattle.std.specs.List.{AllZip}
+use Rattle.std.proofs.Common.{◌≡◌, ◌⊎◌, inl, inr, ℕ, ◌+◌, ◌<◌, ◌≤◌, zero, suc, Bool, List, [], ◌∷◌, ◌++◌, length, take, get_or, slice_get, Some, None, AllPairs, Contains, subst, refl, sym, ap, ◌∙◌, arith}
 use Rattle.std.proofs.lemmas.Bool.{cases_order}
 use Rattle.std.proofs.lemmas.List.{length-append, length-take, take_all}
 use Rattle.std.proofs.lemmas.List.Elements.{Contains-get_or}
@@ -71,7 +70,7 @@ module _ (expanded : List ExpandedFact) (rules : List Rule) (entries : List Entr
       by : (its : Reason) → Follows expanded rules (take place entries) entry.claim entry.product its → HasLine its
       by (reason.Expanded atom at_place) follows = tt
       by (reason.Step number places) follows = tt
-      by (reason.Equal places) (some, left, right, claim_is, chain) = let wrong : Stated fact ≡ Same left right = sym is ∙ claim_is in cc
+      by (reason.Equal places) (some, left, right, claim_is, chain, union) = let wrong : Stated fact ≡ Same left right = sym is ∙ claim_is in cc
 
   -- an entry names earlier ones
   pub named_below : (named : ℕ) → Contains (named_by entry.reason) named → named < place

@@ -1,5 +1,5 @@
 -- Certificates while they are written.
-use Rattle.std.proofs.Common.{◌≡◌, inl, inr, ◌==◌, ℕ, ◌+◌, ◌<◌, ◌≤◌, Bool, false, List, [], ◌∷◌, ◌++◌, length, map, slice_get, Option, Some, None, All, AllPairs, Contains, codes, subst, refl, sym, ap, ◌∙◌, arith}
+use Rattle.std.proofs.Common.{◌≡◌, inl, inr, ◌==◌, ℕ, ◌+◌, ◌<◌, ◌≤◌, Bool, List, [], ◌∷◌, ◌++◌, length, map, slice_get, Some, None, Contains, codes, subst, refl, sym, ap, ◌∙◌, arith}
 use Rattle.std.specs.List.{slice_split, flat_map}
 use Rattle.std.proofs.lemmas.List.{append_assoc, append-nil, length-append}
 use Rattle.std.proofs.lemmas.List.Concat.{flat_map-append}
@@ -19,8 +19,8 @@ use Rattle.esto_cert.specs.Showing.{AreLinesOf}
 use Rattle.esto_cert.specs.declared.line.Line.{Line}
 use Rattle.esto_cert.specs.declared.line.Line.TheVariants.{Match}
 use Rattle.esto_derive.specs.Printing.{line_text, IsReadable}
-use Rattle.esto_derive.specs.Reasons.{HasLine, IsBehind, itself, IsNamedLater, SaysReason}
-use Rattle.esto_derive.specs.Writing.{AreOwn, AreWritten, AtLines, StandFor, IsBasis, IsState, IsWritten, WritesIfUsed}
+use Rattle.esto_derive.specs.Reasons.{HasLine, itself, IsNamedLater, SaysReason}
+use Rattle.esto_derive.specs.Writing.{AreOwn, AtLines, StandFor, IsBasis, IsState, IsWritten, WritesIfUsed}
 use Rattle.esto_derive.specs.declared.writing.Written.{Written}
 use Rattle.esto_derive.proofs.MarkLemmas.{same_or_later}
 use Rattle.esto_derive.proofs.ReasonLemmas.{as_many_claims, behind_own, of_entries_more}

@@ -27,7 +27,7 @@ use Rattle.esto_cert.specs.declared.line.Line.{Line}
 use Rattle.esto_cert.specs.declared.line.Line.TheVariants as line
 use Rattle.esto_derive.specs.Marking.{named_by}
 use Rattle.esto_derive.specs.Printing.{line_text, IsReadable}
-use Rattle.esto_derive.specs.Reasons.{HasLine, IsBehind, through, AreNamedBy, SaysReason}
+use Rattle.esto_derive.specs.Reasons.{HasLine, through, AreNamedBy, SaysReason}
 use Rattle.esto_derive.specs.Writing.{AtLines, StandFor, AreOwn, IsBasis, IsState, AddsNew, lines_at, own_lines}
 use Rattle.esto_derive.specs.declared.writing.Written.{Written}
 use Rattle.esto_derive.proofs.NamingLemmas.{are_named}

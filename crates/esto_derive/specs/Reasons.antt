@@ -1,5 +1,5 @@
 -- Lines of entries, each by its entry's reason.
-use Rattle.std.specs.Prelude.{◌≡◌, ◌↔◌, ⊤, ℕ, ◌+◌, Bool, List, [], ◌++◌, Some, slice_get, Contains, AllPairs, ◌<◌}
+use Rattle.std.specs.Prelude.{◌≡◌, ⊤, ℕ, ◌+◌, Bool, List, [], ◌++◌, Some, slice_get, Contains, AllPairs, ◌<◌}
 use Rattle.std.specs.List.{AllZip}
 use Rattle.esto_semantics.specs.Sets.{Within}
 use Rattle.esto_world_laws.specs.Derived.{Claims}
