@@ -33,8 +33,11 @@ module _ (case : Case) where
   no_verdict last [] (part ∷ []) claims (claim ∷ more) number read as_many each ends = absurd (omega (arith, as_many))
   no_verdict last [] (part ∷ []) claims [] number read as_many each ends =
       let is : line_of part ≡ Some last = cc in
-      inl (inr (subst (λ (it : Option Line). IsJudgedText case claims it Ends) (sym is)
-      (subst (λ (it : List Claim). MayEnd case it last) (append-nil claims) ends), refl))
+      inl (inr (
+        subst (λ (it : Option Line). IsJudgedText case claims it Ends) (sym is)
+            (subst (λ (it : List Claim). MayEnd case it last) (append-nil claims) ends),
+        refl,
+      ))
   no_verdict last (line ∷ lines) [] claims more number read as_many each ends = absurd (cc)
   no_verdict last (line ∷ lines) (part ∷ parts) claims [] number read as_many each ends = absurd (omega (arith, as_many))
   no_verdict last (line ∷ lines) (part ∷ parts) claims (claim ∷ more) number read as_many each ends =

@@ -151,8 +151,11 @@ module _ (case : Case) (entries : List Entry) (used : List Bool) (basis : IsBasi
     by_last place other inside behind at other_at = (
       length state.lines,
       Match numbers others,
-      omega (arith, slice_get_within state.places at other other_at,
-          as_many_lines case entries state.places state.lines state.claims state.are_of),
+      omega (
+        arith,
+        slice_get_within state.places at other other_at,
+        as_many_lines case entries state.places state.lines state.claims state.are_of,
+      ),
       at_end state.lines (Match numbers others),
       names_all (facts ++ links) numbers others named place other inside behind at other_at,
     )
@@ -170,9 +173,12 @@ module _ (case : Case) (entries : List Entry) (used : List Bool) (basis : IsBasi
           later,
           line,
           stands_before state.places state.are_of.rising at later other up other_at up_at
-              (omega (arith, behind_below case.expanded case.rules entries basis.derived place other behind,
-              named_below case.expanded case.rules entries basis.derived up entry entry_at place
-              (subst (λ (it : Reason). Contains (named_by it) place) (sym is) inside))),
+              (omega (
+                arith,
+                behind_below case.expanded case.rules entries basis.derived place other behind,
+                named_below case.expanded case.rules entries basis.derived up entry entry_at place
+                    (subst (λ (it : Reason). Contains (named_by it) place) (sym is) inside),
+              )),
           at_left state.lines (Match numbers others ∷ []) later line its_line,
           step_names number places line said place other inside behind at other_at,
         )

@@ -54,9 +54,12 @@ pub behind_equal : (entries : List Entry) (place other : ℕ) (entry : Entry) (p
     → entry.reason ≡ reason.Equal places → IsBehind entries place other → (named : ℕ) × Contains places named × IsBehind entries named other
 behind_equal entries place other entry places at is (itself its_at its_has) =
     absurd (subst HasLine is (subst (λ (it : Entry). HasLine it.reason) (some_one (sym its_at ∙ at)) its_has))
-behind_equal entries place other entry places at is (through {named = named} {entry = its} {places = its_places} its_at its_is inside behind) =
-    (named, subst (λ (it : List ℕ). Contains it named) (same its_places places (sym its_is
-    ∙ ap (λ (it : Entry). it.reason) (some_one (sym its_at ∙ at)) ∙ is)) inside, behind)
+behind_equal entries place other entry places at is (through {named = named} {entry = its} {places = its_places} its_at its_is inside behind) = (
+  named,
+  subst (λ (it : List ℕ). Contains it named) (same its_places places (sym its_is
+      ∙ ap (λ (it : Entry). it.reason) (some_one (sym its_at ∙ at)) ∙ is)) inside,
+  behind,
+)
   where
     same : (some others : List ℕ) → reason.Equal some ≡ reason.Equal others → some ≡ others
     same some others equal = cc

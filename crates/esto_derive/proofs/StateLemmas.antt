@@ -158,7 +158,7 @@ module _ (case : Case) (entries : List Entry) (used : List Bool) (lines : List (
     are_written = record {
       all = λ place its below its_at has has_line. elim (same_or_later place (length lines) (next_place place below)) [
         | inl same ↦ absurd (none (subst (Has used) (sym same) has)
-          (subst (λ (it : Entry). HasLine it.reason) (some_one (sym its_at ∙ ap (slice_get entries) (sym same) ∙ at)) has_line))
+            (subst (λ (it : Entry). HasLine it.reason) (some_one (sym its_at ∙ ap (slice_get entries) (sym same) ∙ at)) has_line))
         | inr later ↦ state.are_written.all place its (omega (arith, later)) its_at has has_line
       ];
       only = λ place inside.
@@ -207,9 +207,9 @@ module _ (case : Case) (entries : List Entry) (used : List Bool) (lines : List (
       are_written = record {
         all = λ place its below its_at its_has its_line. elim (same_or_later place (length lines) (next_place place below)) [
           | inl same ↦ subst (Contains (state.places ++ length lines ∷ [])) same
-            (Contains-append_right state.places (length lines ∷ []) (length lines) (Contains-head (length lines) []))
+              (Contains-append_right state.places (length lines ∷ []) (length lines) (Contains-head (length lines) []))
           | inr later ↦ Contains-append_left state.places (length lines ∷ []) place
-            (state.are_written.all place its (omega (arith, later)) its_at its_has its_line)
+              (state.are_written.all place its (omega (arith, later)) its_at its_has its_line)
         ];
         only = λ place inside. elim (Contains-append_cases state.places (length lines ∷ []) place inside) [
           | inl earlier ↦ (let its = state.are_written.only place earlier in (omega (arith, its.0, length-append lines (own ∷ [])), its.1))
@@ -248,7 +248,7 @@ used_goes rules entries used lines shown more entry old new own shown_is at writ
     (elim (subst (λ (it : List (List ℕ)). WritesIfUsed rules entries used it old new own) shown_is writes) [
       | inl (has, goes) ↦ goes case rules_is basis has state
       | inr (unused, same) ↦ subst (λ (it : Written). IsState case entries used (lines ++ own ∷ []) it) (sym same)
-        (state_push case entries used lines old state entry at own (λ has has_line. unused has) (λ has. absurd (unused has)))
+          (state_push case entries used lines old state entry at own (λ has has_line. unused has) (λ has. absurd (unused has)))
     ])
 
 -- ---- the last line

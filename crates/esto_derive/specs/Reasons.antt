@@ -12,14 +12,14 @@ use Rattle.esto_cert.specs.Showing.{AreClaimsOf}
 use Rattle.esto_cert.specs.declared.line.Line.{Line}
 use Rattle.esto_cert.specs.declared.line.Line.TheVariants.{Expanded, Step, Match}
 
--- An entry with the reason has a line of its own, unless equalities make it one.
+-- An entry with the reason has a line of its own: it is no chain of equalities.
 abbrev pub HasLine : Reason → Type 0
 HasLine (reason.Expanded atom place) = ⊤
 HasLine (reason.Step number places) = ⊤
 HasLine (reason.Equal places) = ⊥
 
--- The entry at the other place stands in a certificate for that at the first: it is the same and has a line, or it stands for one of the equalities that make
--- the first one.
+-- In a certificate the entry at the second place stands for that at the first: it is the same and has a line, or the first is a chain of equalities, and it
+-- stands for one of these.
 pub data IsBehind (entries : List Entry) : ℕ → ℕ → Type 0 where
   itself : {place : ℕ} {entry : Entry} → slice_get entries place ≡ Some entry → HasLine entry.reason → IsBehind entries place place
   through : {place named other : ℕ} {entry : Entry} {places : List ℕ} → slice_get entries place ≡ Some entry → entry.reason ≡ reason.Equal places
@@ -37,8 +37,8 @@ pub record AreNamedBy (entries : List Entry) (written places facts links : List 
   pub links_only : (number : ℕ) → Contains links number
       → (place : ℕ) × (other : ℕ) × Contains equal place × IsBehind entries place other × (numbered written number ≡ Some other)
 
--- The line says the reason, where the lines are those of the entries at `written`: the expanded fact, or the step by the rule from what the reason names. What
--- equalities make one has no line.
+-- The line says the reason, where the lines are those of the entries at `written`: the expanded fact, or the step by the rule from what the reason names. A
+-- chain of equalities has no line.
 abbrev pub SaysReason : List Entry → List ℕ → Reason → Line → Type 0
 SaysReason entries written (reason.Expanded atom place) line = line ≡ Expanded (atom + 1) (place + 1)
 SaysReason entries written (reason.Step number places) line =
