@@ -3,7 +3,7 @@ use Rattle.std.proofs.Common.{◌≡◌, ℕ, Bool, List, length, Option, Some, 
 use Rattle.std.proofs.lemmas.List.{length-map}
 use Rattle.esto_catalog.specs.Determined.{AreSame}
 use Rattle.esto_catalog.specs.declared.catalogue.Catalogue.{Catalogue}
-use Rattle.esto_cert.specs.Showing.{VerdictsAreOne}
+use Rattle.esto_cert.specs.Showing.{VerdictsAreMoved, VerdictsAreOne}
 use Rattle.esto_course.proofs.Determined.{gives_agree, judges_agree, then_agree}
 use Rattle.esto_ports.specs.Files.{Files}
 use Rattle.esto_query.specs.Making.{query_of}
@@ -79,6 +79,14 @@ module _ (verdicts : VerdictsAreOne) (catalogue other : Catalogue) (query other_
       here.2 ∙ ap Rejected (some_one here.0 there.0 (verdict_one (Some here.0) (Some there.0) here.1 there.1)) ∙ sym there.2)
       (λ text said caused here there. none_some there.0 (verdict_one None (Some there.0) here.0 there.1))
       (λ text said caused here there. none_some there.0 (sym (verdict_one (Some there.0) None there.1 here.0)))
+
+-- a verdict over the other catalogue is one over this
+pub verdict_moved : VerdictsAreMoved → (catalogue other : Catalogue) (query other_query : Query) (plan other_plan : Plan) → AreSame catalogue other
+    → IsSameQuery query other_query → IsSamePlan plan other_plan → (set : List Bool) (bytes : List ℕ) (verdict : Option ℕ)
+    → HasVerdict other other_query other_plan set bytes verdict → HasVerdict catalogue query plan set bytes verdict
+verdict_moved moved catalogue other query other_query plan other_plan alike same plans set bytes verdict =
+    moved other_plan plan other.fragments catalogue.fragments set other.rules catalogue.rules other_query query bytes verdict (sym plans.0)
+    (ap (λ it. length it) (sym plans.1)) (sym alike.views) (sym alike.rules) (sym (same_query query other_query same))
 
 -- ---- the command
 

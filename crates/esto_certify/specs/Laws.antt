@@ -1,7 +1,8 @@
 -- What laws on the commands on certificates say.
-use Rattle.std.specs.Prelude.{◌≡◌, ℕ, ◌-◌, Bool, List, length, slice_get, Option, Some, None, codes}
+use Rattle.std.specs.Prelude.{◌≡◌, ℕ, Bool, List, length, slice_get, Option, Some, None, codes}
 use Rattle.esto_catalog.specs.declared.catalogue.Catalogue.{Catalogue}
-use Rattle.esto_world_laws.specs.Contained.{IsSafelyContained}
+use Rattle.esto_cert.specs.Showing.{HoldsDerivationsFor}
+use Rattle.esto_chase_laws.specs.declared.clash.Clash.{Clash}
 use Rattle.esto_constraint.specs.Constraints.{rules_of}
 use Rattle.esto_course.specs.Course.{Course}
 use Rattle.esto_list.specs.declared.listing.Listed.{Listed}
@@ -11,14 +12,18 @@ use Rattle.esto_query.specs.declared.query.Query.{Query}
 use Rattle.esto_views.specs.Fragments.{views_of}
 use Rattle.esto_views.specs.Plans.{plan_query}
 use Rattle.esto_views.specs.declared.plan.Plan.{Plan}
+use Rattle.esto_world_laws.specs.Contained.{IsSafelyContained}
 use Rattle.esto_opening.specs.Calm.{AgreeCalmly, IsOne, SaysAlways}
-use Rattle.esto_opening.specs.Fetch.{HasWithin}
+use Rattle.esto_opening.specs.Answers.{IsCaused}
+use Rattle.esto_opening.specs.Fetch.{FetchStops, HasWithin}
+use Rattle.esto_opening.specs.Line.{line_of}
 use Rattle.esto_opening.specs.Opening.{opens_catalogue, opens_query}
 use Rattle.esto_opening.specs.declared.reply.Reply.{Reply}
 use Rattle.esto_opening.specs.declared.reply.Reply.TheVariants.{Done}
 use Rattle.esto_opening.specs.declared.status.Status.{Status}
 use Rattle.esto_opening.specs.declared.status.Status.TheVariants as status
-use Rattle.esto_planning.specs.Listing.{IsListOf, IsPlanned}
+use Rattle.esto_planning.specs.Choice.{HasNoPlace, IsPlace}
+use Rattle.esto_planning.specs.Listing.{IsClash, IsListOf, IsPlanned}
 use Rattle.esto_certify.specs.Explain.{explain_course}
 use Rattle.esto_certify.specs.Verify.{first_above, HasVerdict, IsSetOf, verify_course}
 use Rattle.esto_certify.specs.declared.verifying.TheConstants.{CERTIFICATE_LIMIT}
@@ -41,7 +46,16 @@ abbrev pub ExplainHasOneStatus : Type 0
 ExplainHasOneStatus =
     (files : Files) (catalogue_name query_name : List ℕ) (number : ℕ) → HasOneStatus (explain_course (Some files) catalogue_name query_name number)
 
--- ---- which outcome
+-- ---- certificates that are accepted
+
+-- The bytes are a certificate that is accepted for the set of the plan's atoms. The set has a candidate, which is safe and contained in the query under the
+-- catalogue's rules; and the bytes hold the derivations of a match of the query, from the set's atoms alone.
+pub record Certifies (catalogue : Catalogue) (query : Query) (plan : Plan) (set : List Bool) (bytes : List ℕ) : Type 0 where
+  pub accepted : HasVerdict catalogue query plan set bytes None
+  pub contained : IsSafelyContained (rules_of catalogue.rules) (views_of catalogue.fragments) (query_of query) (plan_query plan) set
+  pub derived : HoldsDerivationsFor plan catalogue.fragments set catalogue.rules query bytes
+
+-- ---- what `verify` says
 
 -- Let the files say a catalogue and a query over it that has a printed plan: then the fact is said of `verify` for the numbers and the certificate's file.
 abbrev pub IsSaid : Files → Catalogue → Query → Plan → List ℕ → List ℕ → (Status → List ℕ → Type 0) → Type 0
@@ -49,13 +63,6 @@ IsSaid files catalogue query plan numbers file Fact =
     (catalogue_name query_name : List ℕ) → (opens_catalogue (Some files) catalogue_name).goes catalogue
     → (opens_query (Some files) query_name catalogue).goes query → IsPlanned catalogue query plan
     → SaysAlways (verify_course (Some files) catalogue_name query_name numbers file) Fact
-
--- The first number above how many atoms the plan has is refused, with how many they are.
-abbrev pub VerifyRefusesNumbers : Type 0
-VerifyRefusesNumbers =
-    (files : Files) (catalogue : Catalogue) (query : Query) (plan : Plan) (numbers file : List ℕ) (number : ℕ)
-    → first_above (length plan.atoms) numbers ≡ Some number
-    → IsSaid files catalogue query plan numbers file (λ said text. said ≡ status.NoSuchNumber number (length plan.atoms))
 
 -- The status and the text of a verdict: Done and that the certificate is accepted, or Rejected with the line.
 abbrev pub SaysVerdict : Option ℕ → Status → List ℕ → Type 0
@@ -69,21 +76,55 @@ VerifySaysVerdicts =
     → IsSetOf (length plan.atoms) numbers set → HasWithin files file CERTIFICATE_LIMIT bytes → HasVerdict catalogue query plan set bytes verdict
     → IsSaid files catalogue query plan numbers file (SaysVerdict verdict)
 
--- Where the numbers name a set, Done is said only where the set has a candidate, which is safe and contained in the query under the catalogue's rules.
-abbrev pub AcceptedSetsAreContained : Type 0
-AcceptedSetsAreContained =
-    (files : Files) (catalogue : Catalogue) (query : Query) (plan : Plan) (numbers file : List ℕ) (set : List Bool)
-    → IsSetOf (length plan.atoms) numbers set
-    → IsSaid files catalogue query plan numbers file (λ said text. said ≡ status.Done
-    → IsSafelyContained (rules_of catalogue.rules) (views_of catalogue.fragments) (query_of query) (plan_query plan) set)
+-- What `verify` says over a printed plan: that the first number above how many atoms the plan has is refused, with how many they are; or, where the numbers name
+-- a set, why the certificate is not fetched; or that it is accepted, and certifies the set; or the line at which it is rejected. A refusal says its line.
+pub data IsChecked (files : Files) (catalogue : Catalogue) (query : Query) (plan : Plan) (numbers file : List ℕ) (said : Status) (text : List ℕ)
+    : Type 0 where
+  is_above : (number : ℕ) → first_above (length plan.atoms) numbers ≡ Some number → said ≡ status.NoSuchNumber number (length plan.atoms)
+      → text ≡ line_of said → IsChecked files catalogue query plan numbers file said text
+  not_fetched : (set : List Bool) → IsSetOf (length plan.atoms) numbers set → IsCaused ⊥ said → FetchStops (Some files) file CERTIFICATE_LIMIT said
+      → text ≡ line_of said → IsChecked files catalogue query plan numbers file said text
+  accepts : (set : List Bool) (bytes : List ℕ) → IsSetOf (length plan.atoms) numbers set → HasWithin files file CERTIFICATE_LIMIT bytes
+      → Certifies catalogue query plan set bytes → said ≡ status.Done → IsChecked files catalogue query plan numbers file said text
+  rejects : (set : List Bool) (bytes : List ℕ) (line : ℕ) → IsSetOf (length plan.atoms) numbers set → HasWithin files file CERTIFICATE_LIMIT bytes
+      → HasVerdict catalogue query plan set bytes (Some line) → said ≡ status.Rejected line → text ≡ line_of said
+      → IsChecked files catalogue query plan numbers file said text
 
--- Let the files say a catalogue and a query over it, whose printed plan has a list with an item of a number. A text that `explain` may write for the number,
--- within the limit of a certificate's file, is accepted by `verify` for the numbers of the atoms of the item's set.
-abbrev pub ExplainedSetsAreVerified : Type 0
-ExplainedSetsAreVerified =
-    (files : Files) (catalogue : Catalogue) (query : Query) (plan : Plan) (items : List Listed) (number : ℕ) (item : Listed) (numbers file text : List ℕ)
-    (catalogue_name query_name : List ℕ) → (opens_catalogue (Some files) catalogue_name).goes catalogue
-    → (opens_query (Some files) query_name catalogue).goes query → IsPlanned catalogue query plan → IsListOf catalogue query plan items
-    → slice_get items (number - 1) ≡ Some item → IsSetOf (length plan.atoms) numbers item.set → HasWithin files file CERTIFICATE_LIMIT text
-    → (explain_course (Some files) catalogue_name query_name number).goes (Done text)
-    → SaysAlways (verify_course (Some files) catalogue_name query_name numbers file) (SaysVerdict None)
+-- What `verify` says: the clash at which the query's run ends; or, where the query has a printed plan, what is said over each such plan.
+pub data IsVerified (files : Files) (catalogue : Catalogue) (query : Query) (numbers file : List ℕ) (said : Status) (text : List ℕ) : Type 0 where
+  clashes : (clash : Clash) → IsClash catalogue query clash → said ≡ status.Unsatisfiable clash → text ≡ line_of said
+      → IsVerified files catalogue query numbers file said text
+  has_plan : (plan : Plan) → IsPlanned catalogue query plan
+      → ((any : Plan) → IsPlanned catalogue query any → IsChecked files catalogue query any numbers file said text)
+      → IsVerified files catalogue query numbers file said text
+
+-- So it is where the files say a catalogue and a query over it.
+abbrev pub VerifyChecksCertificates : Type 0
+VerifyChecksCertificates =
+    (files : Files) (catalogue : Catalogue) (query : Query) (numbers file : List ℕ) (catalogue_name query_name : List ℕ)
+    → (opens_catalogue (Some files) catalogue_name).goes catalogue → (opens_query (Some files) query_name catalogue).goes query
+    → SaysAlways (verify_course (Some files) catalogue_name query_name numbers file) (IsVerified files catalogue query numbers file)
+
+-- ---- what `explain` says
+
+-- The bytes are a certificate that is accepted for the set, over whichever printed plan of the query.
+abbrev pub CertifiesOverPlans : Catalogue → Query → List Bool → List ℕ → Type 0
+CertifiesOverPlans catalogue query set bytes = (plan : Plan) → IsPlanned catalogue query plan → Certifies catalogue query plan set bytes
+
+-- What `explain` says for a number of the list: the clash at which the query's run ends; or why the list of the query's plan has no set of the number; or Done,
+-- with a certificate that is accepted for the set of the number. A refusal says its line.
+pub data IsExplained (catalogue : Catalogue) (query : Query) (number : ℕ) (said : Status) (text : List ℕ) : Type 0 where
+  clashes : (clash : Clash) → IsClash catalogue query clash → said ≡ status.Unsatisfiable clash → text ≡ line_of said
+      → IsExplained catalogue query number said text
+  has_no_set : (plan : Plan) (items : List Listed) → IsPlanned catalogue query plan → IsListOf catalogue query plan items
+      → HasNoPlace items (Some number) said → text ≡ line_of said → IsExplained catalogue query number said text
+  explains : (plan : Plan) (items : List Listed) (place : ℕ) (item : Listed) → IsPlanned catalogue query plan → IsListOf catalogue query plan items
+      → IsPlace items (Some number) place → slice_get items place ≡ Some item → said ≡ status.Done → CertifiesOverPlans catalogue query item.set text
+      → IsExplained catalogue query number said text
+
+-- So it is where the files say a catalogue and a query over it.
+abbrev pub ExplainSaysCertificates : Type 0
+ExplainSaysCertificates =
+    (files : Files) (catalogue : Catalogue) (query : Query) (number : ℕ) (catalogue_name query_name : List ℕ)
+    → (opens_catalogue (Some files) catalogue_name).goes catalogue → (opens_query (Some files) query_name catalogue).goes query
+    → SaysAlways (explain_course (Some files) catalogue_name query_name number) (IsExplained catalogue query number)

@@ -1,5 +1,5 @@
 -- The same words over the same files have one status and one text.
-use Rattle.std.proofs.Common.{◌≡◌, ℕ, List, [], ◌∷◌, ◌++◌, length, Option, Some, None, sym, ap, subst, ◌∙◌, inl, inr}
+use Rattle.std.proofs.Common.{◌≡◌, ℕ, true, false, Bool, List, [], ◌∷◌, ◌++◌, length, Option, Some, None, refl, sym, ap, subst, ◌∙◌, inl, inr}
 use Rattle.std.specs.Io.KnownBytes.{Appends}
 use Rattle.std.proofs.lemmas.List.{length-map}
 use Rattle.esto_catalog.specs.Determined.{AreSame}
@@ -11,7 +11,7 @@ use Rattle.esto_views.specs.declared.plan.Plan.{Plan}
 use Rattle.esto_top.specs.Check.{check_text, check_course, count_lines, rank_lines}
 use Rattle.esto_course.proofs.Determined.{then_agree, gives_agree, refuses_agree, judges_agree}
 use Rattle.esto_data.specs.Laws.{AnswersAreOne, AuditsAreOne, FillsAreOne}
-use Rattle.esto_certify.specs.Laws.{VerifyIsOne}
+use Rattle.esto_certify.specs.Laws.{ExplainHasOneStatus, VerifyIsOne}
 use Rattle.esto_bench.specs.Summary.{SummariesAreOne}
 use Rattle.esto_reasoning.specs.Laws.{ContainsIsOne, MinimiseIsOne}
 use Rattle.esto_course.specs.Agreement.{IsEnd}
@@ -21,19 +21,20 @@ use Rattle.esto_opening.specs.Answers.{IsCaused}
 use Rattle.esto_opening.specs.Asked.{Fetches}
 use Rattle.esto_opening.specs.Asked.Fetches.{to_value, to_refusal, to_lack}
 use Rattle.esto_opening.specs.declared.reply.Reply.{Reply}
-use Rattle.esto_top.specs.Determined.{AskedBeginsFetches, CoursesAreOne, ExactWhereTold, FetchesAreDetermined, OutcomesAreDetermined}
+use Rattle.esto_top.specs.Determined.{AskedBeginsFetches, CoursesAreOne, ExactWhereTold, FetchesAreDetermined, OutcomesAreDetermined, AsksCertificate, CountsAs, FixesText, writes_certificate}
 use Rattle.esto_top.specs.Grammar.{Request, request_of, course_of_request, course_of_asked}
-use Rattle.esto_top.specs.Grammar.Request.{CheckOf, ListFor, RunFor, FillFor, AnswerFor, AuditOf, ContainsFor, MinimiseFor, VerifyFor, BenchOf}
+use Rattle.esto_top.specs.Grammar.Request.{CheckOf, ListFor, RunFor, FillFor, AnswerFor, AuditOf, ContainsFor, MinimiseFor, ExplainFor, VerifyFor, BenchOf}
 use Rattle.esto_top.specs.List.{list_course, lists_queries, lists_query, prints_list}
 use Rattle.esto_top.specs.Run.{run_course, runs_queries}
-use Rattle.esto_top.specs.Outcome.{CompleteWhereTold}
+use Rattle.esto_top.specs.Outcome.{CompleteWhereTold, Says}
 use Rattle.esto_opening.specs.Opening.{opens_catalogue, opens_union}
 use Rattle.esto_opening.specs.declared.reply.Reply.TheVariants.{Done}
 use Rattle.esto_opening.specs.declared.status.Status.{Status}
 use Rattle.esto_opening.specs.declared.status.Status.TheVariants as status
 use Rattle.esto_opening.specs.Calm.{AgreeCalmly}
-use Rattle.esto_top.proofs.AgreeLemmas.{says-agree}
+use Rattle.esto_top.proofs.AgreeLemmas.{says-agree, says-status}
 use Rattle.esto_top.proofs.CertificateLemmas.{verify_agrees}
+use Rattle.esto_top.proofs.ExplainWords.{asks_certificate}
 use Rattle.esto_top.proofs.BenchLemmas.{benches-agree}
 use Rattle.esto_top.proofs.RunAgreeLemmas.{CourseLaws, query_agree}
 use Rattle.esto_opening.specs.Alike.{AreSameQueries, IsSameQuery}
@@ -64,6 +65,7 @@ pub record OneLaws : Type 0 where
   pub contains : ContainsIsOne
   pub minimise : MinimiseIsOne
   pub verify : VerifyIsOne
+  pub explain : ExplainHasOneStatus
 
 module _ (laws : CourseLaws) (unions : UnionLaws) (summaries : SummariesAreOne) (on_each : OneLaws) (files : Files) where
   opened_agree : (name : List ℕ) → AgreeCalmly AreSame (opens_catalogue (Some files) name) (opens_catalogue (Some files) name)
@@ -128,7 +130,8 @@ module _ (laws : CourseLaws) (unions : UnionLaws) (summaries : SummariesAreOne) 
       then_agree _ AreSame ◌≡◌ _ _ _ _ (opened_agree name) (λ catalogue other goes alike. gives_agree _ (Done (check_text catalogue))
       (Done (check_text other)) (ap Done (check_one catalogue other alike)))
 
-  request_agrees : (request : Request) → AgreeCalmly ◌≡◌ (course_of_request (Some files) request) (course_of_request (Some files) request)
+  request_agrees : (request : Request) → AgreeCalmly (CountsAs (writes_certificate (Some request))) (course_of_request (Some files) request)
+      (course_of_request (Some files) request)
   request_agrees (CheckOf name) = check_agrees name
   request_agrees (ListFor catalogue_name query_name) = list_agrees catalogue_name query_name
   request_agrees (RunFor catalogue_name query_name number) = run_agrees catalogue_name query_name number
@@ -138,9 +141,11 @@ module _ (laws : CourseLaws) (unions : UnionLaws) (summaries : SummariesAreOne) 
   request_agrees (AuditOf name) = on_each.audits files name
   request_agrees (ContainsFor catalogue_name left_name right_name) = on_each.contains files catalogue_name left_name right_name
   request_agrees (MinimiseFor catalogue_name query_name) = on_each.minimise files catalogue_name query_name
+  request_agrees (ExplainFor catalogue_name query_name number) = on_each.explain files catalogue_name query_name number
   request_agrees (VerifyFor catalogue_name query_name atoms file) = verify_agrees on_each.verify files catalogue_name query_name atoms file
 
-  asked_agrees : (asked : Option Request) → AgreeCalmly ◌≡◌ (course_of_asked (Some files) asked) (course_of_asked (Some files) asked)
+  asked_agrees : (asked : Option Request) → AgreeCalmly (CountsAs (writes_certificate asked)) (course_of_asked (Some files) asked)
+      (course_of_asked (Some files) asked)
   asked_agrees None = refuses_agree _ _ status.Usage
   asked_agrees (Some request) = request_agrees request
 
@@ -155,10 +160,21 @@ end_of course names (to_value reply asks) = (went reply, tt, asks)
 end_of course names (to_refusal refusal caused asks) = (stopped refusal, caused, asks)
 end_of course names (to_lack asks) = (missing, tt, asks)
 
+-- what is said twice is one status, and one text where the words and the status fix it
+says_one : (words : List (List ℕ)) (free : Bool) → (free ≡ true → AsksCertificate words) → (course : Course Status Reply)
+    → AgreeCalmly (CountsAs free) course course → (said other_said : Status) (text other_text : List ℕ) → Says course ⊥ said text
+    → Says course ⊥ other_said other_text → (said ≡ other_said) × (FixesText words said → text ≡ other_text)
+says_one words true asks course agree said other_said text other_text here there =
+    let one = says-status course course said other_said text other_text agree here there in
+    (one.0, λ fixes. one.1 (λ done. fixes (asks refl, done)))
+says_one words false asks course agree said other_said text other_text here there =
+    let one = says-agree course course said other_said text other_text agree here there in
+    (one.0, λ fixes. one.1)
+
 module _ (one : CoursesAreOne) where
   pub outcomes_determined : OutcomesAreDetermined
   outcomes_determined words files said other_said text other_text outcome other_outcome =
-      says-agree _ _ said other_said text other_text (one words files) outcome other_outcome
+      says_one words (writes_certificate (request_of words)) (asks_certificate words) _ (one words files) said other_said text other_text outcome other_outcome
 
   pub fetches_determined : FetchesAreDetermined
   fetches_determined words files names others fetched other_fetched =
@@ -179,6 +195,6 @@ exact determined words None rose sink_rose old new result complete = tt
 exact determined words (Some files) rose sink_rose old new result complete = λ calm sink_calm said text outcome.
     elim (complete calm sink_calm) [
       | inl whole ↦ (let same = determined words files result said whole.0 text whole.1 outcome in
-          inl (same.0, subst (λ (it : List ℕ). Appends old new it) same.1 whole.2))
+          inl (same.0, λ fixes. subst (λ (it : List ℕ). Appends old new it) (same.1 (subst (FixesText words) (sym same.0) fixes)) whole.2))
       | inr wanting ↦ inr wanting
     ]

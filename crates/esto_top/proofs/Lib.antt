@@ -18,8 +18,11 @@ pub mod RunsLemmas
 pub mod UnionRunLemmas
 pub mod AgreeLemmas
 pub mod BenchLemmas
+pub mod ExplainWords
 pub mod DeterminedLemmas
 pub mod ReasoningLemmas
 pub mod CertificateLemmas
+pub mod MarkLemmas
+pub mod ExplainLemmas
 pub mod AtomLemmas
 pub mod AgreedLemmas

@@ -1,26 +1,49 @@
--- That a command line has at most one outcome.
-use Rattle.std.specs.Prelude.{◌≡◌, ◌⊎◌, ℕ, List, Option, Some, None}
+-- That a command line has at most one status, and at most one text but where a certificate is written.
+use Rattle.std.specs.Prelude.{◌≡◌, ◌⊎◌, ℕ, Bool, true, false, List, Option, Some, None}
 use Rattle.std.specs.Io.KnownBytes.{Appends, Keeps}
+use Rattle.esto_certify.specs.Laws.{AreDone}
 use Rattle.esto_course.specs.Agreement.{Begins}
 use Rattle.esto_course.specs.Course.{Names, Point}
 use Rattle.esto_ports.specs.Files.{Files}
 use Rattle.esto_opening.specs.Asked.{Fetches}
-use Rattle.esto_opening.specs.Calm.{IsOne}
+use Rattle.esto_opening.specs.Calm.{AgreeCalmly}
 use Rattle.esto_opening.specs.declared.reply.Reply.{Reply}
-use Rattle.esto_top.specs.Grammar.{course_of}
+use Rattle.esto_top.specs.CertificateOutcomes.{AsksExplain}
+use Rattle.esto_top.specs.Grammar.{Request, course_of, request_of}
+use Rattle.esto_top.specs.Grammar.Request.{ExplainFor}
 use Rattle.esto_top.specs.Outcome.{Outcome}
 use Rattle.esto_opening.specs.declared.status.Status.{Status}
 use Rattle.esto_opening.specs.declared.status.Status.TheVariants as status
 
--- The course of a command line over the same files is one.
-abbrev pub CoursesAreOne : Type 0
-CoursesAreOne = (words : List (List ℕ)) (files : Files) → IsOne (course_of words (Some files))
+-- The words ask for a certificate, by `explain C Q N`.
+abbrev pub AsksCertificate : List (List ℕ) → Type 0
+AsksCertificate words = (catalogue_name : List ℕ) × (query_name : List ℕ) × (number : ℕ) × AsksExplain words catalogue_name query_name number
 
--- The same words over the same files have at most one status and one text.
+-- The words and the status fix the text: so they do but where the words ask for a certificate and the status is Done.
+abbrev pub FixesText : List (List ℕ) → Status → Type 0
+FixesText words said = ¬ (AsksCertificate words × (said ≡ status.Done))
+
+-- What is asked for is a certificate.
+abbrev pub writes_certificate : Option Request → Bool
+writes_certificate (Some (ExplainFor catalogue_name query_name number)) = true
+writes_certificate _ = false
+
+-- Which replies count as the same: where a certificate is written, all that are Done.
+abbrev pub CountsAs : Bool → Reply → Reply → Type 0
+CountsAs true = AreDone
+CountsAs false = ◌≡◌
+
+-- The course of a command line over the same files is one, whichever certificate is written.
+abbrev pub CoursesAreOne : Type 0
+CoursesAreOne =
+    (words : List (List ℕ)) (files : Files)
+    → AgreeCalmly (CountsAs (writes_certificate (request_of words))) (course_of words (Some files)) (course_of words (Some files))
+
+-- The same words over the same files have at most one status, and at most one text where these fix it.
 abbrev pub OutcomesAreDetermined : Type 0
 OutcomesAreDetermined =
     (words : List (List ℕ)) (files : Files) (said other_said : Status) (text other_text : List ℕ)
-    → Outcome words files said text → Outcome words files other_said other_text → (said ≡ other_said) × (text ≡ other_text)
+    → Outcome words files said text → Outcome words files other_said other_text → (said ≡ other_said) × (FixesText words said → text ≡ other_text)
 
 -- A command line over the same files fetches one sequence of names.
 abbrev pub FetchesAreDetermined : Type 0
@@ -34,10 +57,10 @@ AskedBeginsFetches =
     (words : List (List ℕ)) (files : Files) (names all : Names) (point : Point Status Reply)
     → Fetches (course_of words (Some files)) all → (course_of words (Some files)).asks names point → Begins names all
 
--- Where the shelf tells its files, and neither count rose, any outcome of the words and the files is the one that was answered and put; or memory was
--- refused, and nothing was put.
+-- Where the shelf tells its files, and neither count rose, any outcome of the words and the files has the status that was answered, and its text was put where
+-- the words and the status fix it; or memory was refused, and nothing was put.
 abbrev pub ExactWhereTold : List (List ℕ) → Option Files → Type 0 → Type 0 → Option (List ℕ) → Option (List ℕ) → Status → Type 0
 ExactWhereTold words None rose sink_rose old new result = Unit {0}
 ExactWhereTold words (Some files) rose sink_rose old new result =
     ¬ rose → ¬ sink_rose → (said : Status) (text : List ℕ) → Outcome words files said text
-    → ((result ≡ said) × Appends old new text) ⊎ ((result ≡ status.OutOfMemory) × Keeps old new)
+    → ((result ≡ said) × (FixesText words said → Appends old new text)) ⊎ ((result ≡ status.OutOfMemory) × Keeps old new)

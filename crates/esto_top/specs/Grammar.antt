@@ -4,6 +4,7 @@ use Rattle.std.specs.Cmp.Lexicographic.{pointwise}
 use Rattle.std.specs.List.{list_all, slice_split}
 use Rattle.esto_ports.specs.Files.{Files}
 use Rattle.esto_bench.specs.declared.case.TheConstants.{MAX_SIZE}
+use Rattle.esto_certify.specs.Explain.{explain_course}
 use Rattle.esto_certify.specs.Verify.{verify_course}
 use Rattle.esto_data.specs.Answer.{answer_course}
 use Rattle.esto_data.specs.Audit.{audit_course}
@@ -25,8 +26,8 @@ use Rattle.esto_opening.specs.declared.status.Status.{Status}
 -- What words of the grammar ask for: the check of a catalogue's file; the list for a catalogue's and a query's file; the run for them of the pick, or of the
 -- set of a number of the list; the fill of the fragment of a name, for a catalogue's file; the answers for a catalogue's and a query's file; the audit of a
 -- catalogue's file; whether one query is contained in another, for a catalogue's and two queries' files; the minimal equivalent parts for a catalogue's and a
--- query's file; whether the certificate of a file is accepted for the plan's atoms that a word names, for a catalogue's and a query's file; or the summary of
--- the made case of a size.
+-- query's file; a certificate for the set of a number of the list, for a catalogue's and a query's file; whether the certificate of a file is accepted for the
+-- plan's atoms that a word names, for a catalogue's and a query's file; or the summary of the made case of a size.
 pub data Request : Type 0 where
   CheckOf : List ℕ → Request
   ListFor : List ℕ → List ℕ → Request
@@ -37,6 +38,7 @@ pub data Request : Type 0 where
   AuditOf : List ℕ → Request
   ContainsFor : List ℕ → List ℕ → List ℕ → Request
   MinimiseFor : List ℕ → List ℕ → Request
+  ExplainFor : List ℕ → List ℕ → ℕ → Request
   VerifyFor : List ℕ → List ℕ → List ℕ → List ℕ → Request
 
 -- The word has these bytes.
@@ -119,11 +121,12 @@ request_of_two verb first second =
     else if is_word verb (codes "minimise") then Some (Request.MinimiseFor first second)
     else None
 
--- The commands of three words: contains C L R, run C Q N.
+-- The commands of three words: contains C L R, run C Q N, explain C Q N.
 abbrev pub request_of_three : List ℕ → List ℕ → List ℕ → List ℕ → Option Request
 request_of_three verb first second third =
     if is_word verb (codes "contains") then Some (Request.ContainsFor first second third)
     else if is_word verb (codes "run") && is_list_number third then Some (Request.RunFor first second (Some (value_of third)))
+    else if is_word verb (codes "explain") && is_list_number third then Some (Request.ExplainFor first second (value_of third))
     else None
 
 -- The command of four words: verify C Q A FILE.
@@ -150,6 +153,7 @@ asked (command.Answer catalogue query) = Request.AnswerFor catalogue.now query.n
 asked (command.Audit catalogue) = Request.AuditOf catalogue.now
 asked (command.Contains catalogue left right) = Request.ContainsFor catalogue.now left.now right.now
 asked (command.Minimise catalogue query) = Request.MinimiseFor catalogue.now query.now
+asked (command.Explain catalogue query number) = Request.ExplainFor catalogue.now query.now number
 asked (command.Verify catalogue query atoms file) = Request.VerifyFor catalogue.now query.now atoms.now file.now
 
 -- The size of `bench` is one of the made case.
@@ -163,6 +167,7 @@ IsSized (command.Answer catalogue query) = Unit {0}
 IsSized (command.Audit catalogue) = Unit {0}
 IsSized (command.Contains catalogue left right) = Unit {0}
 IsSized (command.Minimise catalogue query) = Unit {0}
+IsSized (command.Explain catalogue query number) = Unit {0}
 IsSized (command.Verify catalogue query atoms file) = Unit {0}
 
 -- The course of what is asked for.
@@ -176,6 +181,7 @@ course_of_request files (Request.AnswerFor catalogue query) = answer_course file
 course_of_request files (Request.AuditOf catalogue) = audit_course files catalogue
 course_of_request files (Request.ContainsFor catalogue left right) = contains_course files catalogue left right
 course_of_request files (Request.MinimiseFor catalogue query) = minimise_course files catalogue query
+course_of_request files (Request.ExplainFor catalogue query number) = explain_course files catalogue query number
 course_of_request files (Request.VerifyFor catalogue query atoms file) = verifies_named files catalogue query atoms file
 
 -- The course of the words that ask for something, and the refusal of words outside the grammar.

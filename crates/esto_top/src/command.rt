@@ -11,7 +11,7 @@ use crate::check::check;
 use crate::list::list;
 use crate::run::run;
 use esto_bench::MAX_SIZE;
-use esto_certify::verify;
+use esto_certify::{explain, verify};
 use esto_data::{answer, audit, fill};
 use esto_opening::{Reply, Status};
 use esto_ports::Shelf;
@@ -45,6 +45,9 @@ pub enum Command<'a> {
     Contains(&'a Text, &'a Text, &'a Text),
     /// `minimise C Q`: the minimal equivalent parts of a query's chase, for a catalogue's file and a query's file.
     Minimise(&'a Text, &'a Text),
+    /// `explain C Q N`: a certificate that the candidate of the set of that number of the list, counted from 1, is contained
+    /// in the query, for a catalogue's file and a query's file.
+    Explain(&'a Text, &'a Text, u64),
     /// `verify C Q A FILE`: whether a certificate's file is accepted for the atoms of the plan that a word names, for a
     /// catalogue's file and a query's file.
     Verify(&'a Text, &'a Text, &'a Text, &'a Text),
@@ -243,6 +246,9 @@ fn command_of_three<'a>(
     } else if is_word(verb, b"run") && is_list_number(third.bytes()) {
         let number = value_of(third.bytes());
         Some(Command::Run(first, second, Some(number)))
+    } else if is_word(verb, b"explain") && is_list_number(third.bytes()) {
+        let number = value_of(third.bytes());
+        Some(Command::Explain(first, second, number))
     } else {
         None
     }
@@ -306,6 +312,9 @@ pub fn obey<S: Shelf>(alloc: Global, shelf: &mut S, command: Command<'_>) -> Res
         Command::Audit(catalogue) => audit(alloc, shelf, catalogue),
         Command::Contains(catalogue, left, right) => contains(alloc, shelf, catalogue, left, right),
         Command::Minimise(catalogue, query) => minimise(alloc, shelf, catalogue, query),
+        Command::Explain(catalogue, query, number) => {
+            explain(alloc, shelf, catalogue, query, number)
+        }
         Command::Verify(catalogue, query, atoms, file) => {
             verify_named(alloc, shelf, catalogue, query, atoms, file)
         }

@@ -1,5 +1,6 @@
 //! Laws of outcomes.
-ghost use Rattle.esto_top.specs.CertificateOutcomes.{OutcomesAreVerified};
+ghost use Rattle.esto_top.specs.CertificateOutcomes.{OutcomesAreExplained, OutcomesAreVerified};
+ghost use Rattle.esto_top.specs.CertificateOutcomes.{OutcomesOfExplainAreAccepted};
 ghost use Rattle.esto_top.specs.DataOutcomes.{OutcomesAgree, OutcomesAreAnswers};
 ghost use Rattle.esto_top.specs.DataOutcomes.{OutcomesAreAudits, OutcomesAreFills};
 ghost use Rattle.esto_top.specs.DataOutcomes.{OutcomesAreUnionAnswers};
@@ -14,7 +15,10 @@ ghost use Rattle.esto_top.specs.Unions.{UnionOutcomesAgree};
 
 use esto_backchase::listed_sets_cover_rewritings;
 use esto_bench::summaries_are_one;
-use esto_certify::{verify_outcomes_are_exact, verify_outcomes_are_one};
+use esto_certify::{
+    explain_has_one_status, explain_says_certificates, verify_checks_certificates,
+    verify_outcomes_are_one, verify_says_verdicts,
+};
 use esto_data::{audited_datasets_answer, data_outcomes_are_exact, data_outcomes_are_one};
 use esto_disjuncts::{
     union_lists_are_exact, union_lists_are_moved, union_lists_are_one, union_runs_are_exact,
@@ -106,7 +110,7 @@ pub(crate) fn union_runs_hold()
     union_runs_are_exact();
 }
 
-/// A law: the course of each command line over the same files is one.
+/// A law: the course of each command line over the same files is one, whichever certificate is written.
 fn courses_are_one()
     ensures { CoursesAreOne }
 {
@@ -120,10 +124,11 @@ fn courses_are_one()
     data_outcomes_are_one();
     reasoning_outcomes_are_one();
     verify_outcomes_are_one();
+    explain_has_one_status();
 }
 
-/// A law: the same words over the same files have at most one outcome, and fetch one sequence of names, which whatever was
-/// asked for on the way begins.
+/// A law: the same words over the same files have at most one status, and at most one text but where the words ask for a
+/// certificate and the status is Done. They fetch one sequence of names, which whatever was asked for on the way begins.
 pub fn outcomes_are_determined()
     ensures outcomes { OutcomesAreDetermined }
     ensures fetches { FetchesAreDetermined }
@@ -154,13 +159,27 @@ pub(crate) fn reasoning_outcomes_hold()
     reasoning_outcomes_are_exact();
 }
 
-/// A law: where the files say a catalogue and a query over it that has a printed plan, each outcome of `verify` refuses the
-/// first number above how many atoms the plan has; or it tells the verdict on the certificate for the set that the numbers
-/// name, which is accepted only where the set is safe and its candidate is contained in the query.
-pub(crate) fn verify_outcomes_hold()
-    ensures { OutcomesAreVerified }
+/// A law: where the files say a catalogue and a query over it, each outcome of `explain` is a certificate that is accepted for
+/// the listed set of the number, which is safe and whose candidate is contained in the query; or it refuses the query, or the
+/// number, exactly where it has to. Each outcome of `verify` refuses the query exactly where it has to; else it refuses the
+/// first number above how many atoms the plan has, or tells the verdict on the certificate for the set that the numbers
+/// name, which is accepted only where it derives a match of the query from the set's atoms alone.
+pub(crate) fn certificate_outcomes_hold()
+    ensures explain { OutcomesAreExplained }
+    ensures verify { OutcomesAreVerified }
 {
-    verify_outcomes_are_exact();
+    listings_hold();
+    explain_says_certificates();
+    verify_checks_certificates();
+    verify_says_verdicts();
+}
+
+/// A law: what `explain` puts for a set of the list is accepted by `verify` for the numbers of the set's atoms, wherever it is
+/// a certificate's file within the limit, over files that say the same catalogue and query.
+pub fn explained_sets_are_accepted()
+    ensures { OutcomesOfExplainAreAccepted }
+{
+    certificate_outcomes_hold();
 }
 
 /// A law: where the files say one query, or a union of two or more, and `audit` and `run` are Done over them, each outcome of

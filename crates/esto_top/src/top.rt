@@ -4,7 +4,7 @@ ghost use Rattle.esto_ports.specs.Faults.{Rises};
 ghost use Rattle.esto_opening.specs.Answers.{Answers};
 ghost use Rattle.esto_opening.specs.Asked.{AsksIn, AsksAsTold};
 ghost use Rattle.esto_top.specs.Benches.{BenchesAlways};
-ghost use Rattle.esto_top.specs.CertificateOutcomes.{VerifiesWhereTold};
+ghost use Rattle.esto_top.specs.CertificateOutcomes.{ExplainsWhereTold, VerifiesWhereTold};
 ghost use Rattle.esto_top.specs.DataOutcomes.{AnswersWhereTold, AuditsWhereTold, FillsWhereTold, UnionAnswersWhereTold};
 ghost use Rattle.esto_top.specs.Determined.{ExactWhereTold};
 ghost use Rattle.esto_top.specs.Grammar.{course_of};
@@ -17,8 +17,8 @@ ghost use Rattle.esto_top.specs.Outcome.{Mediates, CompleteWhereTold, CausedRead
 use crate::command::{command_of, obey};
 use crate::ending::finish;
 use crate::laws::{
-    data_outcomes_hold, lists_are_exact, outcomes_are_determined, reasoning_outcomes_hold,
-    runs_are_exact, union_lists_hold, union_runs_hold, verify_outcomes_hold,
+    certificate_outcomes_hold, data_outcomes_hold, lists_are_exact, outcomes_are_determined,
+    reasoning_outcomes_hold, runs_are_exact, union_lists_hold, union_runs_hold,
 };
 use esto_opening::{Reply, Status};
 use esto_ports::{Shelf, Sink};
@@ -57,7 +57,8 @@ pub fn mediate<S: Shelf, O: Sink>(
         (Rises S.faults shelf.old shelf.new) (Rises O.faults out.old out.new) (O.written out.old)
         (O.written out.new) result }
 
-    // Then any outcome of the words and the files is this one, or memory was refused.
+    // Then any outcome of the words and the files is this one, or memory was refused; but where the words are `explain C Q N`
+    // and the status is Done, the text may be another.
     ensures exact { ExactWhereTold words.now (S.files shelf.old)
         (Rises S.faults shelf.old shelf.new) (Rises O.faults out.old out.new) (O.written out.old)
         (O.written out.new) result }
@@ -153,11 +154,21 @@ pub fn mediate<S: Shelf, O: Sink>(
         (Rises S.faults shelf.old shelf.new) (Rises O.faults out.old out.new) (O.written out.old)
         (O.written out.new) result }
 
-    // Where they say a catalogue and a query over it that has a printed plan, the status of `verify` is NoSuchNumber, with
-    // the first number above how many atoms the plan has and how many they are, where there is one. Else, where the
-    // certificate is within its limit, it is Done with the text `accepted` where the checker accepts the certificate for the
-    // set that the numbers name, and Rejected with the line where it rejects it there. Done is said only where the set is
-    // safe and its candidate is contained in the query over every database that meets the catalogue's rules.
+    // Where they say a catalogue and a query over it, the status of `explain` is Unsatisfiable, with the clash of the query's
+    // run, exactly where no database that meets the rules gives the query an answer; else it is NoRewriting exactly where the
+    // query has no executable rewriting, and NoSuchNumber, with the number and how many sets are listed, exactly where some
+    // are listed and the number is above that. Exactly where a set of the list has the number it is Done, and the text is a
+    // certificate that the checker accepts for this set, which is safe and whose candidate is contained in the query.
+    ensures explain { ExplainsWhereTold words.now (S.files shelf.old)
+        (Rises S.faults shelf.old shelf.new) (Rises O.faults out.old out.new) (O.written out.old)
+        (O.written out.new) result }
+
+    // There the status of `verify` is Unsatisfiable, with that clash, exactly where no database that meets the rules gives the
+    // query an answer. Else it is NoSuchNumber, with the first number above how many atoms the printed plan has and how many
+    // they are, exactly where there is one. Else, where the certificate is within its limit, it is Done with the text
+    // `accepted` where the checker accepts the certificate for the set that the numbers name, and Rejected with the line where
+    // it rejects it there. It is Done only where the file derives a match of the query from the set's atoms alone, line by
+    // line; so the set is safe, and its candidate is contained in the query over every database that meets the rules.
     ensures verify { VerifiesWhereTold words.now (S.files shelf.old)
         (Rises S.faults shelf.old shelf.new) (Rises O.faults out.old out.new) (O.written out.old)
         (O.written out.new) result }
@@ -190,7 +201,7 @@ pub fn mediate<S: Shelf, O: Sink>(
     outcomes_are_determined();
     data_outcomes_hold();
     reasoning_outcomes_hold();
-    verify_outcomes_hold();
+    certificate_outcomes_hold();
     let answer = answer(alloc, words, shelf);
     finish(alloc, answer, out)
 }

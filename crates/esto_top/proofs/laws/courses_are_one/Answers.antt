@@ -18,4 +18,5 @@ returns c =
       contains = c.reasoning_outcomes_are_one.ensures.contains;
       minimise = c.reasoning_outcomes_are_one.ensures.minimise;
       verify = c.verify_outcomes_are_one.ensures;
+      explain = c.explain_has_one_status.ensures;
     })

@@ -3,6 +3,7 @@ use Rattle.esto_top.proofs.BenchLemmas.{benches_always}
 use Rattle.esto_top.proofs.CertificateLemmas.{verifies_where_told}
 use Rattle.esto_top.proofs.DataLemmas.{answers_where_told, audits_where_told, fills_where_told, union_answers_where_told}
 use Rattle.esto_top.proofs.DeterminedLemmas.{exact}
+use Rattle.esto_top.proofs.ExplainLemmas.{explains_where_told}
 use Rattle.esto_top.proofs.HeadlineLemmas.{holds_of_lists}
 use Rattle.esto_top.proofs.ReasoningLemmas.{contains_where_told, minimises_where_told}
 use Rattle.esto_top.proofs.RunsLemmas.{runs_where_told}
@@ -86,9 +87,14 @@ returns-clause-minimise g c =
     minimises_where_told c.args.words.now _ _ _ _ _ c.reasoning_outcomes_hold.ensures.minimise _
     (complete c.args.words.now _ _ _ _ _ _ (mediates _ _ _ _ _ _ _ c.answer-answer.ensures.answer c.finish.ensures.put))
 
+pub returns-clause-explain : goal.returns-clause-explain
+returns-clause-explain g c =
+    explains_where_told c.args.words.now _ _ _ _ _ c.certificate_outcomes_hold.ensures.explain _
+    (complete c.args.words.now _ _ _ _ _ _ (mediates _ _ _ _ _ _ _ c.answer-answer.ensures.answer c.finish.ensures.put))
+
 pub returns-clause-verify : goal.returns-clause-verify
 returns-clause-verify g c =
-    verifies_where_told c.args.words.now _ _ _ _ _ c.verify_outcomes_hold.ensures _
+    verifies_where_told c.args.words.now _ _ _ _ _ c.certificate_outcomes_hold.ensures.verify _
     (complete c.args.words.now _ _ _ _ _ _ (mediates _ _ _ _ _ _ _ c.answer-answer.ensures.answer c.finish.ensures.put))
 
 pub returns-clause-asked : goal.returns-clause-asked
