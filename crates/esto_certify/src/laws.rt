@@ -5,9 +5,7 @@ use esto_cert::{
     accepted_certificates_derive, accepted_certificates_show, verdicts_are_moved, verdicts_are_one,
 };
 use esto_opening::openings_are_one;
-use esto_planning::{
-    chosen_items_are_listed, plans_and_lists_are_moved, plans_and_lists_are_one,
-};
+use esto_planning::{chosen_items_are_listed, plans_and_lists_are_moved, plans_and_lists_are_one};
 use esto_semantics::sets_are_ordered;
 
 /// A law: over the same files `verify` has one reply or one refusal, where no fetch is at a fault.

@@ -71,21 +71,24 @@ module _ (files : Files) (catalogue_name query_name atoms numbers file : List �
 -- ---- statuses apart
 
 done_apart : (said : Status) (number count line : ℕ) → said ≡ status.Done → (said ≡ status.NoSuchNumber number count → ⊥) × (said ≡ status.Rejected line → ⊥)
-done_apart said number count line is =
-    ((λ tells. let h : status.Done ≡ status.NoSuchNumber number count = sym is ∙ tells in cc),
-    (λ tells. let h : status.Done ≡ status.Rejected line = sym is ∙ tells in cc))
+done_apart said number count line is = (
+  (λ tells. let h : status.Done ≡ status.NoSuchNumber number count = sym is ∙ tells in cc),
+  (λ tells. let h : status.Done ≡ status.Rejected line = sym is ∙ tells in cc),
+)
 
 above_apart : (said : Status) (number count line : ℕ) → said ≡ status.NoSuchNumber number count
     → (said ≡ status.Done → ⊥) × (said ≡ status.Rejected line → ⊥)
-above_apart said number count line is =
-    ((λ tells. let h : status.NoSuchNumber number count ≡ status.Done = sym is ∙ tells in cc),
-    (λ tells. let h : status.NoSuchNumber number count ≡ status.Rejected line = sym is ∙ tells in cc))
+above_apart said number count line is = (
+  (λ tells. let h : status.NoSuchNumber number count ≡ status.Done = sym is ∙ tells in cc),
+  (λ tells. let h : status.NoSuchNumber number count ≡ status.Rejected line = sym is ∙ tells in cc),
+)
 
 rejected_apart : (said : Status) (number count line : ℕ) → said ≡ status.Rejected line
     → (said ≡ status.NoSuchNumber number count → ⊥) × (said ≡ status.Done → ⊥)
-rejected_apart said number count line is =
-    ((λ tells. let h : status.Rejected line ≡ status.NoSuchNumber number count = sym is ∙ tells in cc),
-    (λ tells. let h : status.Rejected line ≡ status.Done = sym is ∙ tells in cc))
+rejected_apart said number count line is = (
+  (λ tells. let h : status.Rejected line ≡ status.NoSuchNumber number count = sym is ∙ tells in cc),
+  (λ tells. let h : status.Rejected line ≡ status.Done = sym is ∙ tells in cc),
+)
 
 above_one : (number count other least : ℕ) → status.NoSuchNumber number count ≡ status.NoSuchNumber other least → (number ≡ other) × (count ≡ least)
 above_one number count other least same = (cc, cc)

@@ -172,8 +172,7 @@ module _ (laws : ListingLaws) (catalogue : Catalogue) (query : Query) (number : 
           );
           no_number = λ asked count. (
             (λ tells.
-                let one = above_one number (length items) asked count (sym is ∙ tells) in
-                (
+                let one = above_one number (length items) asked count (sym is ∙ tells) in (
                   sym one.0,
                   record {
                     plan = plan;

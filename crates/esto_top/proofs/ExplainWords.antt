@@ -74,13 +74,17 @@ asks_certificate (verb ∷ first ∷ second ∷ []) is =
 asks_certificate (verb ∷ first ∷ second ∷ third ∷ []) is =
     let tells = both (is_word verb (codes "explain")) (is_list_number third)
     (three_tells (is_word verb (codes "contains")) (is_word verb (codes "run") && is_list_number third)
-    (is_word verb (codes "explain") && is_list_number third) first second third (value_of third) is) in
-    (first, second, value_of third, (
-      third,
-      tells.1,
-      refl,
-      ap (λ (it : List ℕ). it ∷ first ∷ second ∷ third ∷ []) (same_text verb (codes "explain") (sym tells.0)),
-    ))
+    (is_word verb (codes "explain") && is_list_number third) first second third (value_of third) is) in (
+      first,
+      second,
+      value_of third,
+      (
+        third,
+        tells.1,
+        refl,
+        ap (λ (it : List ℕ). it ∷ first ∷ second ∷ third ∷ []) (same_text verb (codes "explain") (sym tells.0)),
+      ),
+    )
 asks_certificate (verb ∷ first ∷ second ∷ third ∷ fourth ∷ []) is =
     absurd (four_apart (is_word verb (codes "verify")) first second third fourth is)
 asks_certificate (verb ∷ first ∷ second ∷ third ∷ fourth ∷ fifth ∷ rest) is = absurd (false_true is)

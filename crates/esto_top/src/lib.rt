@@ -10,7 +10,5 @@ mod list;
 mod run;
 mod top;
 
-pub use laws::{
-    answers_agree_with_runs, explained_sets_are_accepted, outcomes_are_determined,
-};
+pub use laws::{answers_agree_with_runs, explained_sets_are_accepted, outcomes_are_determined};
 pub use top::mediate;
