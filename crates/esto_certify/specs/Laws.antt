@@ -76,8 +76,8 @@ VerifySaysVerdicts =
     → IsSetOf (length plan.atoms) numbers set → HasWithin files file CERTIFICATE_LIMIT bytes → HasVerdict catalogue query plan set bytes verdict
     → IsSaid files catalogue query plan numbers file (SaysVerdict verdict)
 
--- What `verify` says over a printed plan: that the first number above how many atoms the plan has is refused, with how many they are; or, where the numbers name
--- a set, why the certificate is not fetched; or that it is accepted, and certifies the set; or the line at which it is rejected. A refusal says its line.
+-- What `verify` says over a printed plan: that the first number above how many atoms the plan has is refused, with how many they are; or, where the numbers
+-- name a set, why the certificate is not fetched; or that it is accepted, and certifies the set; or the line at which it is rejected. A refusal says its line.
 pub data IsChecked (files : Files) (catalogue : Catalogue) (query : Query) (plan : Plan) (numbers file : List ℕ) (said : Status) (text : List ℕ)
     : Type 0 where
   is_above : (number : ℕ) → first_above (length plan.atoms) numbers ≡ Some number → said ≡ status.NoSuchNumber number (length plan.atoms)

@@ -163,7 +163,8 @@ module _ (files : Files) (catalogue : Catalogue) (query : Query) (plan : Plan) (
 
 -- ---- the outcomes
 
-module _ (laws : ListingLaws) (checks : VerifyChecksCertificates) (verdicts : VerifySaysVerdicts) (words : List (List ℕ)) (files : Files) (catalogue_name query_name numbers file : List ℕ) (catalogue : Catalogue) (query : Query)
+module _ (laws : ListingLaws) (checks : VerifyChecksCertificates) (verdicts : VerifySaysVerdicts) (words : List (List ℕ)) (files : Files)
+    (catalogue_name query_name numbers file : List ℕ) (catalogue : Catalogue) (query : Query)
     (said : Status) (text : List ℕ) (asks : AsksVerify words catalogue_name query_name numbers file)
     (say : FilesSay files catalogue_name query_name catalogue query) (outcome : Outcome words files said text) where
   opened : (opens_catalogue (Some files) catalogue_name).goes catalogue

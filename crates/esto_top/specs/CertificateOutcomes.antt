@@ -51,9 +51,9 @@ pub record IsExactExplain (catalogue : Catalogue) (query : Query) (number : ℕ)
 
 -- ---- what `verify` says
 
--- What is said over a printed plan, for numbers of its atoms and a certificate's file. The first number above how many atoms there are is refused, with how many
--- they are. Where the numbers name a set, and the file is within its limit, the file's verdict for the set is said: Done and that it is accepted, or Rejected
--- with the line. Done is said only where it is accepted, so that it certifies the set, and Rejected only where that is the verdict.
+-- What is said over a printed plan, for numbers of its atoms and a certificate's file. The first number above how many atoms there are is refused, with how
+-- many they are. Where the numbers name a set, and the file is within its limit, the file's verdict for the set is said: Done and that it is accepted, or
+-- Rejected with the line. Done is said only where it is accepted, so that it certifies the set, and Rejected only where that is the verdict.
 pub record VerifiesExactly (files : Files) (catalogue : Catalogue) (query : Query) (plan : Plan) (numbers file : List ℕ) (said : Status)
     (text : List ℕ) : Type 0 where
   pub number : (number count : ℕ)
