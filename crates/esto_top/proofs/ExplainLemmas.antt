@@ -23,10 +23,11 @@ use Rattle.esto_ports.specs.Files.{Files}
 use Rattle.esto_query.specs.declared.query.Query.{Query}
 use Rattle.esto_semantics.specs.Queries.{ConjunctiveQuery}
 use Rattle.esto_views.specs.declared.plan.Plan.{Plan}
-use Rattle.esto_top.specs.CertificateOutcomes.{ExplainsWhereTold, IsAboveList, IsExactExplain, IsNumbered, OutcomesAreExplained, OutcomesAreVerified, OutcomesOfExplainAreAccepted}
+use Rattle.esto_top.specs.CertificateOutcomes.{ExplainsWhereTold, IsExactExplain, IsNumbered, OutcomesAreExplained, OutcomesAreVerified, OutcomesOfExplainAreAccepted}
 use Rattle.esto_top.specs.Headline.{HasAnswers, IsExactRefusal, Rewrites}
 use Rattle.esto_top.specs.Laws.{ListingLaws}
 use Rattle.esto_top.specs.Outcome.{CompleteWhereTold, Says}
+use Rattle.esto_top.specs.Runs.{IsAboveList}
 use Rattle.esto_top.proofs.DataLemmas.{says_fact}
 use Rattle.esto_top.proofs.ExplainWords.{explain_words}
 use Rattle.esto_top.proofs.HeadlineLemmas.{empty-without}
@@ -111,7 +112,7 @@ module _ (laws : ListingLaws) (catalogue : Catalogue) (query : Query) (number : 
       refused = (λ never. (clash, ends, is, line ∙ ap line_of is), refusal_tells said text);
       no_rewriting = λ answers. absurd (never_clashes clash ends answers);
       no_number = λ asked count.
-          ((λ tells. absurd (clash_above clash asked count (sym is ∙ tells))), (λ (same, above). absurd (never_planned above.plan above.planned)));
+          ((λ tells. absurd (clash_above clash asked count (sym is ∙ tells))), (λ above. absurd (never_planned above.plan above.planned)));
       done = ((λ tells. absurd (clash_done clash (sym is ∙ tells))), (λ (plan, item, at). absurd (never_planned plan at.planned)));
       certifies = λ plan item at. absurd (never_planned plan at.planned);
       line = λ undone. line;
@@ -123,8 +124,8 @@ module _ (laws : ListingLaws) (catalogue : Catalogue) (query : Query) (number : 
     answers_here : HasAnswers catalogue query
     answers_here = laws.satisfiable catalogue query plan planned
 
-    above_items : (count : ℕ) (above : IsAboveList catalogue query number count) → items ≡ above.items
-    above_items count above = one_list plan above.plan items above.items planned above.planned list above.list
+    above_items : (asked count : ℕ) (above : IsAboveList catalogue query (Some number) asked count) → items ≡ above.items
+    above_items asked count above = one_list plan above.plan items above.items planned above.planned list above.list
 
     numbered_items : (other : Plan) (item : Listed) → IsNumbered catalogue query number other item → slice_get items (number - 1) ≡ Some item
     numbered_items other item at =
@@ -149,7 +150,7 @@ module _ (laws : ListingLaws) (catalogue : Catalogue) (query : Query) (number : 
           no_rewriting = λ answers. ((λ tells. empty_here.0 empty), (λ absent. is));
           no_number = λ asked count. (
             (λ tells. absurd (none_above asked count (sym is ∙ tells))),
-            (λ (same, above). absurd (above.some (sym (above_items count above) ∙ empty))),
+            (λ above. absurd (above.some (sym (above_items asked count above) ∙ empty))),
           );
           done = ((λ tells. absurd (none_done (sym is ∙ tells))), (λ (other, item, at). absurd (none_numbered other item at)));
           certifies = λ other item at. absurd (none_numbered other item at);
@@ -172,19 +173,19 @@ module _ (laws : ListingLaws) (catalogue : Catalogue) (query : Query) (number : 
           );
           no_number = λ asked count. (
             (λ tells.
-                let one = above_one number (length items) asked count (sym is ∙ tells) in (
-                  sym one.0,
-                  record {
-                    plan = plan;
-                    planned = planned;
-                    items = items;
-                    list = list;
-                    some = some;
-                    counted = sym one.1;
-                    above = subst (λ (it : ℕ). it < number) one.1 less;
-                  },
-                )),
-            (λ (same, above). is ∙ (λ i. status.NoSuchNumber (sym same i) ((ap length (above_items count above) ∙ sym above.counted) i))),
+                let one = above_one number (length items) asked count (sym is ∙ tells) in
+                record {
+                  asks = ap Some one.0;
+                  plan = plan;
+                  planned = planned;
+                  items = items;
+                  list = list;
+                  some = some;
+                  counts = one.1;
+                  above = omega (arith, less, one.0, one.1);
+                }),
+            (λ above. is
+                ∙ (λ i. status.NoSuchNumber (same_Some number asked above.asks i) ((ap length (above_items asked count above) ∙ above.counts) i))),
           );
           done = ((λ tells. absurd (above_done number (length items) (sym is ∙ tells))), (λ (other, item, at). absurd (past_numbered other item at)));
           certifies = λ other item at. absurd (past_numbered other item at);
@@ -197,10 +198,10 @@ module _ (laws : ListingLaws) (catalogue : Catalogue) (query : Query) (number : 
       numbered_here : IsNumbered catalogue query number plan item
       numbered_here = record { planned = planned; items = items; list = list; there = there }
 
-      not_above : (count : ℕ) → IsAboveList catalogue query number count → ⊥
-      not_above count above =
+      not_above : (asked count : ℕ) → IsAboveList catalogue query (Some number) asked count → ⊥
+      not_above asked count above =
           let within : number - 1 < length items = slice_get_within items (number - 1) item there in
-          omega (arith, within, above.above, above.counted, ap length (above_items count above))
+          omega (arith, within, above.above, above.counts, ap length (above_items asked count above), same_Some number asked above.asks)
 
       done_exact : IsExactExplain catalogue query number said text
       done_exact = record {
@@ -211,7 +212,7 @@ module _ (laws : ListingLaws) (catalogue : Catalogue) (query : Query) (number : 
         );
         no_number = λ asked count. (
           (λ tells. absurd (done_above asked count (sym is ∙ tells))),
-          (λ (same, above). absurd (not_above count above)),
+          (λ above. absurd (not_above asked count above)),
         );
         done = ((λ tells. (plan, item, numbered_here)), (λ found. is));
         certifies = λ other its at. subst (λ (it : Listed). Certifies catalogue query other it.set text)

@@ -1,5 +1,5 @@
 -- What `explain` and `verify` answer where nothing is wrong with the catalogue's and the query's files.
-use Rattle.std.specs.Prelude.{◌≡◌, ◌≢◌, ◌↔◌, ℕ, ◌-◌, ◌<◌, ◌≤◌, Bool, IsTrue, List, [], ◌∷◌, length, slice_get, Option, Some, None, codes}
+use Rattle.std.specs.Prelude.{◌≡◌, ◌≢◌, ◌↔◌, ℕ, ◌-◌, ◌≤◌, Bool, IsTrue, List, [], ◌∷◌, length, slice_get, Option, Some, None, codes}
 use Rattle.esto_catalog.specs.declared.catalogue.Catalogue.{Catalogue}
 use Rattle.esto_certify.specs.Laws.{Certifies, SaysVerdict}
 use Rattle.esto_certify.specs.Verify.{first_above, HasVerdict, IsSetOf}
@@ -17,18 +17,9 @@ use Rattle.esto_views.specs.declared.plan.Plan.{Plan}
 use Rattle.esto_top.specs.Grammar.{atom_numbers, is_list_number, value_of}
 use Rattle.esto_top.specs.Headline.{FilesSay, HasAnswers, HoldsOfPut, IsExactRefusal, Rewrites}
 use Rattle.esto_top.specs.Outcome.{Outcome}
+use Rattle.esto_top.specs.Runs.{IsAboveList}
 
 -- ---- what `explain` says
-
--- The query has a printed plan with a list of so many sets, one or more, and the number is above how many they are.
-pub record IsAboveList (catalogue : Catalogue) (query : Query) (number count : ℕ) : Type 0 where
-  pub plan : Plan
-  pub planned : IsPlanned catalogue query plan
-  pub items : List Listed
-  pub list : IsListOf catalogue query plan items
-  pub some : items ≢ []
-  pub counted : count ≡ length items
-  pub above : count < number
 
 -- The item stands at the number, counted from 1, in the list of the query's printed plan.
 pub record IsNumbered (catalogue : Catalogue) (query : Query) (number : ℕ) (plan : Plan) (item : Listed) : Type 0 where
@@ -44,7 +35,7 @@ pub record IsNumbered (catalogue : Catalogue) (query : Query) (number : ℕ) (pl
 pub record IsExactExplain (catalogue : Catalogue) (query : Query) (number : ℕ) (said : Status) (text : List ℕ) : Type 0 where
   pub refused : ¬ (HasAnswers catalogue query) ↔ IsExactRefusal catalogue query said text
   pub no_rewriting : HasAnswers catalogue query → (said ≡ status.NoRewriting) ↔ ((other : ConjunctiveQuery) → ¬ (Rewrites catalogue query other))
-  pub no_number : (asked count : ℕ) → (said ≡ status.NoSuchNumber asked count) ↔ ((asked ≡ number) × IsAboveList catalogue query number count)
+  pub no_number : (asked count : ℕ) → (said ≡ status.NoSuchNumber asked count) ↔ IsAboveList catalogue query (Some number) asked count
   pub done : (said ≡ status.Done) ↔ ((plan : Plan) × (item : Listed) × IsNumbered catalogue query number plan item)
   pub certifies : (plan : Plan) (item : Listed) → IsNumbered catalogue query number plan item → Certifies catalogue query plan item.set text
   pub line : said ≢ status.Done → text ≡ line_of said
