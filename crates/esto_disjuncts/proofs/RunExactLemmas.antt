@@ -191,6 +191,9 @@ clash_not_above clash asked least same = cc
 none_not_above : (asked least : ℕ) → status.NoRewriting ≡ status.NoSuchNumber asked least → ⊥
 none_not_above asked least same = cc
 
+same_clash : (clash other : Clash) → status.Unsatisfiable clash ≡ status.Unsatisfiable other → clash ≡ other
+same_clash clash other same = cc
+
 same_asked : (asked least other count : ℕ) → status.NoSuchNumber asked least ≡ status.NoSuchNumber other count → asked ≡ other
 same_asked asked least other count same = cc
 
@@ -313,9 +316,10 @@ module _ (laws : RunExactLaws) (files : Files) (catalogue : Catalogue) (queries 
         runs = λ can. absurd (never_runs can);
         done = λ is. absurd (choice_not_done members number said none is);
         unsatisfiable = (
+          (λ (clash, is). absurd (choice_not_clash clash members number said none is)),
           (λ absent. absurd (absent (some_answers some))),
-          (λ (first, clash, at, clashes, is, header). absurd (choice_not_clash clash members number said none is)),
         );
+        clash = λ clash is. absurd (choice_not_clash clash members number said none is);
         no_rewriting = empty_told;
         no_number = above_told;
         line = λ answers other. refl;
@@ -381,9 +385,10 @@ module _ (laws : RunExactLaws) (files : Files) (catalogue : Catalogue) (queries 
         runs = λ can. (refl, prints can contents opened text rows);
         done = λ is. can_run contents opened;
         unsatisfiable = (
+          (λ (clash, is). absurd (done_not_clash clash is)),
           (λ absent. absurd (absent (some_answers some))),
-          (λ (first, clash, at, clashes, is, header). absurd (done_not_clash clash is)),
         );
+        clash = λ clash is. absurd (done_not_clash clash is);
         no_rewriting = ((λ is. absurd (done_not_none is)), (λ absent. absurd (has_rewriting absent)));
         no_number = λ asked least. (
           (λ is. absurd (done_not_above asked least is)),
@@ -398,9 +403,10 @@ module _ (laws : RunExactLaws) (files : Files) (catalogue : Catalogue) (queries 
             runs = λ can. absurd ((opens can).stops said caused stops);
             done = λ is. absurd (not_done said told is);
             unsatisfiable = (
+              (λ (clash, is). absurd (not_clash clash said told is)),
               (λ absent. absurd (absent (some_answers some))),
-              (λ (first, clash, at, clashes, is, header). absurd (not_clash clash said told is)),
             );
+            clash = λ clash is. absurd (not_clash clash said told is);
             no_rewriting = ((λ is. absurd (not_none said told is)), (λ absent. absurd (has_rewriting absent)));
             no_number = λ asked least. (
               (λ is. absurd (not_above asked least said told is)),
@@ -415,7 +421,8 @@ module _ (laws : RunExactLaws) (files : Files) (catalogue : Catalogue) (queries 
     tells_clash none first clash at clashes = record {
       runs = λ can. absurd (no_answers none can.answers);
       done = λ is. absurd (done_not_clash clash (sym is));
-      unsatisfiable = ((λ absent. (first, clash, at, clashes, refl, refl)), (λ told. no_answers none));
+      unsatisfiable = ((λ told. no_answers none), (λ absent. (clash, refl)));
+      clash = λ other is. (first, at, subst (IsClash catalogue first) (same_clash clash other is) clashes, refl);
       no_rewriting = (
         (λ is. absurd (clash_not_none clash is)),
         (λ absent. let (plan, inside) = (laws.empty catalogue queries members are).1 absent in absurd (none (one_plan catalogue members plan [] inside))),

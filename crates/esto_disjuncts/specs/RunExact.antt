@@ -59,11 +59,10 @@ pub record PrintsUnionRun (catalogue : Catalogue) (queries : List Query) (others
       → ((other : ConjunctiveQuery) → Contains others other → FilesHoldViewRows (views_of catalogue.fragments) database other catalogue.stores contents)
       → PrintsUnionAnswers queries database text
 
--- The status tells the clash of the first query's run, and the text has the names of its head alone.
-abbrev pub TellsFirstClash : Catalogue → List Query → Status → List ℕ → Type 0
-TellsFirstClash catalogue queries said text =
-    (first : Query) × (clash : Clash) × (slice_get queries 0 ≡ Some first) × IsClash catalogue first clash × (said ≡ status.Unsatisfiable clash)
-    × (text ≡ rows_text first [])
+-- The clash is that of the first query's run, and the text has the names of its head alone.
+abbrev pub TellsFirstClash : Catalogue → List Query → Clash → List ℕ → Type 0
+TellsFirstClash catalogue queries clash text =
+    (first : Query) × (slice_get queries 0 ≡ Some first) × IsClash catalogue first clash × (text ≡ rows_text first [])
 
 -- The number is asked for, no list of the satisfiable queries is empty, and the number is above the least length of these lists.
 pub record IsAboveLists (catalogue : Catalogue) (queries : List Query) (number : Option ℕ) (asked least : ℕ) : Type 0 where
@@ -74,13 +73,14 @@ pub record IsAboveLists (catalogue : Catalogue) (queries : List Query) (number :
   pub shortest : IsLeastLength members least
   pub above : least < asked
 
--- The status is Done exactly where the union can be run, and then the text prints the run of the chosen sets. It is Unsatisfiable, with the first query's
--- clash, exactly where no query is satisfiable; NoRewriting exactly where the union has no executable rewriting; and NoSuchNumber exactly where the number is
--- above the least length of the lists, with both. Where some query is satisfiable, the text of every status but Done is its line.
+-- The status is Done exactly where the union can be run, and then the text prints the run of the chosen sets. It is Unsatisfiable exactly where no query is
+-- satisfiable, with the first query's clash and the names of its head; NoRewriting exactly where the union has no executable rewriting; and NoSuchNumber
+-- exactly where the number is above the least length of the lists, with both. Where some query is satisfiable, the text of every status but Done is its line.
 pub record RunsUnionExactly (files : Files) (catalogue : Catalogue) (queries : List Query) (number : Option ℕ) (said : Status) (text : List ℕ) : Type 0 where
   pub runs : (can : CanRunUnion files catalogue queries number) → (said ≡ status.Done) × PrintsUnionRun catalogue queries can.others can.contents text
   pub done : said ≡ status.Done → CanRunUnion files catalogue queries number
-  pub unsatisfiable : ¬ (HaveAnswers catalogue queries) ↔ TellsFirstClash catalogue queries said text
+  pub unsatisfiable : ((clash : Clash) × (said ≡ status.Unsatisfiable clash)) ↔ ¬ (HaveAnswers catalogue queries)
+  pub clash : (clash : Clash) → said ≡ status.Unsatisfiable clash → TellsFirstClash catalogue queries clash text
   pub no_rewriting : (said ≡ status.NoRewriting) ↔ HasNoRewriting catalogue queries
   pub no_number : (asked least : ℕ) → (said ≡ status.NoSuchNumber asked least) ↔ IsAboveLists catalogue queries number asked least
   pub line : HaveAnswers catalogue queries → said ≢ status.Done → text ≡ line_of said

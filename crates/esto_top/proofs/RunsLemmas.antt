@@ -40,7 +40,7 @@ use Rattle.esto_opening.specs.Replies.{reply_status, reply_text}
 use Rattle.esto_top.specs.Outcome.{Says, CompleteWhereTold}
 use Rattle.esto_top.specs.Run.{IsRunText, run_course, runs_queries, runs_query}
 use Rattle.esto_planning.specs.Choice.HasNoPlace.{is_empty, is_above}
-use Rattle.esto_top.specs.Runs.{AsksRun, CanRun, IsAboveList, PrintsAnswers, PrintsRun, IsExactRun, OutcomesAreRuns, RunsWhereTold}
+use Rattle.esto_top.specs.Runs.{AsksRun, CanRun, IsAboveList, PrintsAnswers, PrintsRun, TellsClash, IsExactRun, OutcomesAreRuns, RunsWhereTold}
 use Rattle.esto_opening.specs.declared.reply.Reply.{Reply}
 use Rattle.esto_opening.specs.declared.reply.Reply.TheVariants.{Done, Unsatisfiable}
 use Rattle.esto_opening.specs.declared.status.Status.{Status}
@@ -143,11 +143,16 @@ module _ (files : Files) (catalogue : Catalogue) (query : Query) (number : Optio
 
 -- ---- the files
 
--- a status that tells of a file is not Done, NoRewriting or NoSuchNumber
+-- a status that tells of a file is not Done, Unsatisfiable, NoRewriting or NoSuchNumber
 file_not_done : (said : Status) → TellsOfFile said → said ≢ status.Done
 file_not_done said (fails name is) other = let h : status.ReadFault name ≡ status.Done = sym is ∙ other in cc
 file_not_done said (is_longer name limit is) other = let h : status.TooLong name limit ≡ status.Done = sym is ∙ other in cc
 file_not_done said (has_fault name fault is) other = let h : status.BadFragment name fault ≡ status.Done = sym is ∙ other in cc
+
+file_not_clash : (clash : Clash) (said : Status) → TellsOfFile said → said ≢ status.Unsatisfiable clash
+file_not_clash clash said (fails name is) other = let h : status.ReadFault name ≡ status.Unsatisfiable clash = sym is ∙ other in cc
+file_not_clash clash said (is_longer name limit is) other = let h : status.TooLong name limit ≡ status.Unsatisfiable clash = sym is ∙ other in cc
+file_not_clash clash said (has_fault name fault is) other = let h : status.BadFragment name fault ≡ status.Unsatisfiable clash = sym is ∙ other in cc
 
 file_not_none : (said : Status) → TellsOfFile said → said ≢ status.NoRewriting
 file_not_none said (fails name is) other = let h : status.ReadFault name ≡ status.NoRewriting = sym is ∙ other in cc
@@ -221,6 +226,9 @@ module _ (laws : RunLaws) (catalogue : Catalogue) (query : Query) (plan : Plan) 
   run_printed = record { rows = is_text; answers = answers-printed }
 
 -- ---- the numbers
+
+same_clash : (clash other : Clash) → status.Unsatisfiable clash ≡ status.Unsatisfiable other → clash ≡ other
+same_clash clash other same = cc
 
 same_asked : (asked count other more : ℕ) → status.NoSuchNumber asked count ≡ status.NoSuchNumber other more → asked ≡ other
 same_asked asked count other more same = cc
@@ -415,6 +423,31 @@ module _ (opening : OpeningLaws) (files : Files) (catalogue_name query_name : Li
         ap reply_text is ∙ sym (same_rows_text query read same []),
       )
 
+      -- a reply that tells a clash tells that of the query's run
+      reply_clash : (reply : Reply) → RunGoes files other read number reply → (clash : Clash) → reply_status reply ≡ status.Unsatisfiable clash
+          → TellsClash catalogue query clash (reply_text reply)
+      reply_clash reply (is_run plan planned items list place chosen item there numbers used contents opened text printed is) clash told =
+          absurd (let h : status.Done ≡ status.Unsatisfiable clash = sym (ap reply_status is) ∙ told in cc)
+      reply_clash reply (has_clash own clashes is) clash told = (
+        subst (IsClash catalogue query) (same_clash own clash (sym (ap reply_status is) ∙ told))
+            (laws.planning.clash_moved catalogue other query read own alike same clashes),
+        ap reply_text is ∙ sym (same_rows_text query read same []),
+      )
+
+      -- for a satisfiable query a reply is Done
+      reply_done : (reply : Reply) → RunGoes files other read number reply → HasAnswers catalogue query → reply_status reply ≡ status.Done
+      reply_done reply (is_run plan planned items list place chosen item there numbers used contents opened text printed is) answers = ap reply_status is
+      reply_done reply (has_clash clash clashes is) answers =
+          absurd (laws.unsatisfiable catalogue query clash (laws.planning.clash_moved catalogue other query read clash alike same clashes) answers)
+
+      stop_not_clash : (refusal : Status) → RunStops files other read number refusal → (clash : Clash) → refusal ≢ status.Unsatisfiable clash
+      stop_not_clash refusal (none_chosen plan planned items list caused (is_empty none is)) clash told =
+          let h : status.NoRewriting ≡ status.Unsatisfiable clash = sym is ∙ told in cc
+      stop_not_clash refusal (none_chosen plan planned items list caused (is_above asked is_asked some less is)) clash told =
+          let h : status.NoSuchNumber asked (length items) ≡ status.Unsatisfiable clash = sym is ∙ told in cc
+      stop_not_clash refusal (not_opened plan planned items list place chosen item there numbers used caused stops) clash told =
+          file_not_clash clash refusal ((run_laws.opened files catalogue other numbers alike).stops refusal caused stops) told
+
       answers_stops : (refusal : Status) → RunStops files other read number refusal → HasAnswers catalogue query
       answers_stops refusal (none_chosen plan planned items list caused none) = answers_here plan planned
       answers_stops refusal (not_opened plan planned items list place chosen item there numbers used caused stops) = answers_here plan planned
@@ -494,11 +527,13 @@ module _ (opening : OpeningLaws) (files : Files) (catalogue_name query_name : Li
             subst (PrintsRun catalogue query can.plan can.item.set can.contents) (sym text_is) exact.1,
           );
           done = λ is. run_can run.other run.alike run.read run.same reply run.goes (sym said_is ∙ is);
-          refused = (
-            λ none. let (clash, clashes, is, header) = refuses_reply run.other run.alike run.read run.same reply run.goes none in
-                (clash, clashes, said_is ∙ is, text_is ∙ header),
-            λ (clash, clashes, is, header). laws.unsatisfiable catalogue query clash clashes,
+          unsatisfiable = (
+            λ (clash, is). laws.unsatisfiable catalogue query clash
+                (reply_clash run.other run.alike run.read run.same reply run.goes clash (sym said_is ∙ is)).0,
+            λ none. let (clash, clashes, is, header) = refuses_reply run.other run.alike run.read run.same reply run.goes none in (clash, said_is ∙ is),
           );
+          clash = λ clash is. subst (TellsClash catalogue query clash) (sym text_is)
+              (reply_clash run.other run.alike run.read run.same reply run.goes clash (sym said_is ∙ is));
           no_rewriting = λ answers. (
             λ none. absurd (replies_apart run.other run.alike run.read run.same reply (sym said_is ∙ none)),
             λ absent. absurd (reply_needs run.other run.alike run.read run.same reply run.goes answers absent),
@@ -507,16 +542,19 @@ module _ (opening : OpeningLaws) (files : Files) (catalogue_name query_name : Li
             λ is. absurd (reply_apart run.other run.alike run.read run.same asked count reply (sym said_is ∙ is)),
             λ above. absurd (reply_within run.other run.alike run.read run.same asked count reply run.goes above),
           );
+          line = λ answers other. absurd (other (said_is ∙ reply_done run.other run.alike run.read run.same reply run.goes answers));
         }
         | inr (stopped, text_is) ↦ record {
           runs = λ can. absurd (never_stops stopped.other stopped.alike stopped.read stopped.same said stopped.stops can);
           done = λ is. absurd (stop_not_done stopped.other stopped.alike stopped.read stopped.same said stopped.stops is);
-          refused = (
+          unsatisfiable = (
+            λ (clash, is). absurd (stop_not_clash stopped.other stopped.alike stopped.read stopped.same said stopped.stops clash is),
             λ none. absurd (none (answers_stops stopped.other stopped.alike stopped.read stopped.same said stopped.stops)),
-            λ (clash, clashes, is, header). laws.unsatisfiable catalogue query clash clashes,
           );
+          clash = λ clash is. absurd (stop_not_clash stopped.other stopped.alike stopped.read stopped.same said stopped.stops clash is);
           no_rewriting = λ answers. stop_tells stopped.other stopped.alike stopped.read stopped.same said stopped.stops;
           no_number = number_tells stopped.other stopped.alike stopped.read stopped.same said stopped.stops;
+          line = λ answers other. text_is;
         }
       ]
 

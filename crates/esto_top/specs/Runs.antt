@@ -21,6 +21,7 @@ use Rattle.esto_term.specs.declared.term.Term.{Term}
 use Rattle.esto_views.specs.Fragments.{views_of}
 use Rattle.esto_views.specs.Plans.{plan_query}
 use Rattle.esto_views.specs.declared.plan.Plan.{Plan}
+use Rattle.esto_opening.specs.Line.{line_of}
 use Rattle.esto_opening.specs.Fragments.{IsReadableFragment}
 use Rattle.esto_top.specs.Grammar.{is_list_number, value_of}
 use Rattle.esto_top.specs.Headline.{FilesSay, HasAnswers, HoldsOfPut, Rewrites}
@@ -83,12 +84,13 @@ abbrev pub RunsExactly : Files → Option ℕ → Catalogue → Query → Status
 RunsExactly files number catalogue query said text =
     (can : CanRun files catalogue query number) → (said ≡ status.Done) × PrintsRun catalogue query can.plan can.item.set can.contents text
 
--- The query is unsatisfiable exactly where the status tells it, with the clash at which the query's run ends; then the text has the names of the query's head
--- alone.
-abbrev pub RefusesRun : Files → Option ℕ → Catalogue → Query → Status → List ℕ → Type 0
-RefusesRun files number catalogue query said text =
-    ¬ (HasAnswers catalogue query)
-    ↔ ((clash : Clash) × IsClash catalogue query clash × (said ≡ status.Unsatisfiable clash) × (text ≡ rows_text query []))
+-- The status is Unsatisfiable exactly where the query is.
+abbrev pub RefusesRun : Catalogue → Query → Status → Type 0
+RefusesRun catalogue query said = ((clash : Clash) × (said ≡ status.Unsatisfiable clash)) ↔ ¬ (HasAnswers catalogue query)
+
+-- The clash is the one at which the query's run ends, and the text has the names of the query's head alone.
+abbrev pub TellsClash : Catalogue → Query → Clash → List ℕ → Type 0
+TellsClash catalogue query clash text = IsClash catalogue query clash × (text ≡ rows_text query [])
 
 -- For a satisfiable query the status is NoRewriting exactly where the query has no executable rewriting.
 abbrev pub NeedsRewriting : Files → Option ℕ → Catalogue → Query → Status → List ℕ → Type 0
@@ -111,13 +113,16 @@ abbrev pub NeedsNumber : Files → Option ℕ → Catalogue → Query → Status
 NeedsNumber files number catalogue query said text =
     (asked count : ℕ) → (said ≡ status.NoSuchNumber asked count) ↔ IsAboveList catalogue query number asked count
 
--- What is said of an outcome of `run`. The status is Done only where a listed set is chosen and its fragments' files are readable.
+-- What is said of an outcome of `run`. The status is Done only where a listed set is chosen and its fragments' files are readable. Where it is Unsatisfiable,
+-- with a clash, the text tells this; and the text of every status but Done is its line where the query is satisfiable.
 pub record IsExactRun (files : Files) (number : Option ℕ) (catalogue : Catalogue) (query : Query) (said : Status) (text : List ℕ) : Type 0 where
   pub runs : RunsExactly files number catalogue query said text
   pub done : said ≡ status.Done → CanRun files catalogue query number
-  pub refused : RefusesRun files number catalogue query said text
+  pub unsatisfiable : RefusesRun catalogue query said
+  pub clash : (clash : Clash) → said ≡ status.Unsatisfiable clash → TellsClash catalogue query clash text
   pub no_rewriting : NeedsRewriting files number catalogue query said text
   pub no_number : NeedsNumber files number catalogue query said text
+  pub line : HasAnswers catalogue query → said ≢ status.Done → text ≡ line_of said
 
 abbrev pub OutcomesAreRuns : Type 0
 OutcomesAreRuns = SaidOfRuns IsExactRun
