@@ -24,6 +24,7 @@ use Rattle.esto_run.specs.Answers.{IsAnswersText, rows_text}
 use Rattle.esto_run.specs.Laws.{FilesHoldViewRows, RisingRowsAreOne}
 use Rattle.esto_run.specs.Stores.{IsRowIn}
 use Rattle.esto_semantics.specs.Facts.{Database}
+use Rattle.esto_semantics.specs.Listed.{candidate}
 use Rattle.esto_semantics.specs.Queries.{ConjunctiveQuery}
 use Rattle.esto_semantics.specs.declared.fact.Fact.{Fact}
 use Rattle.esto_semantics.specs.declared.fact.Value.{Value}
@@ -31,6 +32,7 @@ use Rattle.esto_semantics.specs.declared.fact.Value.TheVariants.{Text}
 use Rattle.esto_stores.specs.Rows.{Row}
 use Rattle.esto_term.specs.declared.term.Term.{Term}
 use Rattle.esto_views.specs.Fragments.{views_of}
+use Rattle.esto_views.specs.Plans.{plan_query}
 use Rattle.esto_top.specs.DataOutcomes.{OutcomesAgree}
 use Rattle.esto_top.specs.Outcome.{Says}
 use Rattle.esto_top.specs.Outcome.Says.{replies, refuses}
@@ -113,7 +115,7 @@ outcomes_agree laws are words files catalogue_name query_name number catalogue q
     let can = exact.done refl in
     let printed : PrintsAnswers query (database_of audited.facts) ran =
     (exact.runs can).1.answers (database_of audited.facts) audited.agree.meets
-    (hold_rows files catalogue_name query_name catalogue audited _ can.contents can.readable) in
+    (hold_rows files catalogue_name query_name catalogue audited (candidate (plan_query can.plan) can.item.set) can.contents can.readable) in
     answer_says files catalogue_name query_name catalogue audited (PrintsAnswersOfFacts query audited.facts) ran
     (λ text (rows, texts, is). is ∙ one_text laws.rising query (IsAnswerOfFacts query audited.facts) rows texts ran printed.exact)
     (audited.answers query_name query (query_opens files query_name catalogue query say.says_query) printed.texts) said answered answers

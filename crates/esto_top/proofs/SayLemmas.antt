@@ -7,8 +7,8 @@ use Rattle.esto_course.proofs.Steps.{then_goes}
 use Rattle.esto_opening.specs.Alike.{AreSameQueries, IsSameQuery}
 use Rattle.esto_opening.specs.Calm.{AgreeCalmly, Leads}
 use Rattle.esto_opening.specs.Fetch.{fetches}
-use Rattle.esto_opening.specs.Opening.{FilesSayCatalogue, FilesSayQuery, opens_catalogue, opens_query, opens_union, reads_catalogue, reads_query, reads_union}
-use Rattle.esto_opening.specs.Unions.{FilesSayUnion, UnionsOfOneAreQueries}
+use Rattle.esto_opening.specs.Opening.{FilesSayCatalogue, FilesSayQuery, FilesSayUnion, opens_catalogue, opens_query, opens_union, reads_catalogue, reads_query, reads_union}
+use Rattle.esto_opening.specs.Unions.{UnionsOfOneAreQueries}
 use Rattle.esto_opening.specs.declared.opening.TheConstants.{CATALOGUE_LIMIT, QUERY_LIMIT}
 use Rattle.esto_opening.specs.declared.status.Status.{Status}
 use Rattle.esto_ports.specs.Files.{Files}
@@ -30,7 +30,7 @@ module _ (files : Files) (name : List ℕ) (catalogue : Catalogue) where
   pub union_opens : (queries : List Query) → FilesSayUnion files name catalogue queries → (opens_union (Some files) name catalogue).goes queries
   unfolding fetches judges
   union_opens queries say =
-      then_goes (fetches (Some files) name QUERY_LIMIT) (reads_union catalogue) say.bytes queries say.has (say.named, say.are_queries, say.queries_are)
+      then_goes (fetches (Some files) name QUERY_LIMIT) (reads_union catalogue) say.bytes queries say.has (say.named, say.is_union, say.queries_are)
 
   -- a query is opened as a union of its own
   pub alone_opens : UnionsOfOneAreQueries → (query : Query) → FilesSayQuery files name catalogue query

@@ -2,8 +2,7 @@
 use Rattle.std.specs.Prelude.{◌≡◌, ℕ, List, [], ◌∷◌, Option, Some, None, codes}
 use Rattle.esto_catalog.specs.declared.catalogue.Catalogue.{Catalogue}
 use Rattle.esto_data.specs.Exact.{IsExactAnswer, IsExactAudit, IsExactFill, IsExactUnionAnswer}
-use Rattle.esto_opening.specs.Opening.{FilesSayCatalogue}
-use Rattle.esto_opening.specs.Unions.{FilesSayUnion}
+use Rattle.esto_opening.specs.Opening.{FilesSayCatalogue, FilesSayUnion}
 use Rattle.esto_ports.specs.Files.{Files}
 use Rattle.esto_query.specs.declared.query.Query.{Query}
 use Rattle.esto_opening.specs.declared.status.Status.{Status}

@@ -3,8 +3,7 @@ use Rattle.std.specs.Prelude.{◌≡◌, ℕ, ◌<◌, List, [], ◌∷◌, leng
 use Rattle.esto_catalog.specs.declared.catalogue.Catalogue.{Catalogue}
 use Rattle.esto_disjuncts.specs.Exact.{ListsUnionExactly}
 use Rattle.esto_disjuncts.specs.RunExact.{RunsUnionExactly}
-use Rattle.esto_opening.specs.Opening.{FilesSayCatalogue}
-use Rattle.esto_opening.specs.Unions.{FilesSayUnion}
+use Rattle.esto_opening.specs.Opening.{FilesSayCatalogue, FilesSayUnion}
 use Rattle.esto_opening.specs.declared.status.Status.{Status}
 use Rattle.esto_opening.specs.declared.status.Status.TheVariants as status
 use Rattle.esto_ports.specs.Files.{Files}
