@@ -134,7 +134,7 @@ abbrev pub request_of_four : List ℕ → List ℕ → List ℕ → List ℕ →
 request_of_four verb first second third fourth =
     if is_word verb (codes "verify") then Some (Request.VerifyFor first second third fourth) else None
 
--- What the words ask for; nothing where they are outside the grammar.
+-- What the words ask for; nothing where they are outside the grammar, but for the numbers of `verify`, which its course reads.
 abbrev pub request_of : List (List ℕ) → Option Request
 request_of (verb ∷ word ∷ []) = request_of_one verb word
 request_of (verb ∷ first ∷ second ∷ []) = request_of_two verb first second
