@@ -1,5 +1,5 @@
 -- Where `audit` and `run` are Done over the same files, `answer` is Done with the text of `run`.
-use Rattle.std.proofs.Common.{◌≡◌, ◌↔◌, ℕ, List, [], ◌∷◌, map, slice_get, Contains, Option, Some, refl, sym, ap, subst, ◌∙◌}
+use Rattle.std.proofs.Common.{◌≡◌, ℕ, List, [], ◌∷◌, map, slice_get, Contains, Some, refl, sym, ap, subst, ◌∙◌}
 use Rattle.std.proofs.lemmas.Option.{none-some, same_Some}
 use Rattle.esto_catalog.specs.declared.catalogue.Catalogue.{Catalogue}
 use Rattle.esto_data.specs.Answer.{IsAnswerOfFacts, IsUnionAnswerOfFacts, answer_course}
@@ -14,7 +14,6 @@ use Rattle.esto_opening.specs.Fragments.{IsReadableFragment}
 use Rattle.esto_opening.specs.Opening.{FilesSayCatalogue}
 use Rattle.esto_opening.specs.Replies.{reply_status, reply_text}
 use Rattle.esto_opening.specs.Unions.{union_rows_text}
-use Rattle.esto_opening.specs.declared.reply.Reply.{Reply}
 use Rattle.esto_opening.specs.declared.reply.Reply.TheVariants.{Done}
 use Rattle.esto_opening.specs.declared.status.Status.{Status}
 use Rattle.esto_opening.specs.declared.status.Status.TheVariants as status

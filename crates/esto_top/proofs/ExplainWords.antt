@@ -6,7 +6,7 @@ use Rattle.esto_certify.specs.Explain.{explain_course}
 use Rattle.esto_ports.specs.Files.{Files}
 use Rattle.esto_top.specs.CertificateOutcomes.{AsksExplain}
 use Rattle.esto_top.specs.Determined.{AsksCertificate, writes_certificate}
-use Rattle.esto_top.specs.Grammar.{Request, course_of, is_list_number, is_made_size, is_word, request_of, value_of}
+use Rattle.esto_top.specs.Grammar.{course_of, is_list_number, is_made_size, is_word, request_of, value_of}
 use Rattle.esto_top.specs.Grammar.Request.{AnswerFor, AuditOf, BenchOf, CheckOf, ContainsFor, ExplainFor, FillFor, ListFor, MinimiseFor, RunFor, VerifyFor}
 
 -- words that ask for a certificate have its course

@@ -1,5 +1,5 @@
 -- What `run` answers to a union of two or more queries where nothing is wrong with the files.
-use Rattle.std.proofs.Common.{◌≡◌, ◌<◌, ℕ, List, [], ◌∷◌, length, Option, Some, None, sym, subst, inl, inr, arith}
+use Rattle.std.proofs.Common.{◌<◌, ℕ, List, [], ◌∷◌, length, Option, Some, None, sym, subst, inl, inr, arith}
 use Rattle.esto_catalog.specs.Determined.{AreSame}
 use Rattle.esto_catalog.specs.declared.catalogue.Catalogue.{Catalogue}
 use Rattle.esto_disjuncts.specs.RunExact.{RunsUnionExactly, UnionRunsAreExact}
@@ -10,7 +10,7 @@ use Rattle.esto_opening.specs.Line.{line_of}
 use Rattle.esto_opening.specs.Replies.{reply_status, reply_text}
 use Rattle.esto_opening.specs.declared.reply.Reply.{Reply}
 use Rattle.esto_opening.specs.declared.status.Status.{Status}
-use Rattle.esto_opening.proofs.LeadLemmas.{gives-leads, judges-leads, leads-more, then-leads}
+use Rattle.esto_opening.proofs.LeadLemmas.{then-leads}
 use Rattle.esto_ports.specs.Files.{Files}
 use Rattle.esto_query.specs.declared.query.Query.{Query}
 use Rattle.esto_top.specs.Outcome.{CompleteWhereTold, Says}
