@@ -38,13 +38,17 @@ text_turn old new items codes more count code text bytes grown below is same are
     ∙ sym (map_push Some (take count items) (get_or items count text))
     ∙ ap (map Some) (sym (take_more items count text below))
 
-pub row_turn : (old new : List (List ℕ)) (items : List (List (List ℕ))) (coded : List (List ℕ)) (count : ℕ) (codes given : List ℕ) (row : List (List ℕ))
-    → Grows old new → count < length items → row ≡ get_or items count row → given ≡ codes
-    → AreCodedRows old coded (take count items) → AreCodesOf new codes row → AreCodedRows new (coded ++ given ∷ []) (take (count + 1) items)
-row_turn old new items coded count codes given row grown below is same are own =
-    map_push (λ it. map (slice_get new) it) coded given
-    ∙ (λ i. rows_grow old new coded (take count items) grown are i ++ (ap (map (slice_get new)) same ∙ own ∙ ap (map Some) is) i ∷ [])
-    ∙ sym (map_push (λ it. map Some it) (take count items) (get_or items count row)) ∙ ap (map (λ it. map Some it)) (sym (take_more items count row below))
+-- one more row and its codes
+pub row_added : (old new : List (List ℕ)) (coded : List (List ℕ)) (codes : List ℕ) (rows : List (List (List ℕ))) (row : List (List ℕ))
+    → Grows old new → AreCodesOf new codes row → AreCodedRows old coded rows → AreCodedRows new (coded ++ codes ∷ []) (rows ++ row ∷ [])
+row_added old new coded codes rows row grown own are =
+    map_push (λ it. map (slice_get new) it) coded codes ∙ (λ i. rows_grow old new coded rows grown are i ++ own i ∷ [])
+    ∙ sym (map_push (λ it. map Some it) rows row)
+
+-- the first rows, and one more
+pub row_taken : (items : List (List (List ℕ))) (count : ℕ) (row : List (List ℕ)) → count < length items → row ≡ get_or items count row
+    → take count items ++ row ∷ [] ≡ take (count + 1) items
+row_taken items count row below is = ap (λ it. take count items ++ it ∷ []) is ∙ sym (take_more items count row below)
 
 pub codes_long : (texts : List (List ℕ)) (codes : List ℕ) (row : List (List ℕ)) → AreCodesOf texts codes row → length codes ≡ length row
 codes_long texts codes row are = sym (length-map codes (slice_get texts)) ∙ ap length are ∙ length-map row Some

@@ -1,5 +1,5 @@
 //! Rows of texts as rows of codes.
-ghost use Rattle.std.specs.Prelude.{◌≡◌, ℕ, List, length, Contains, IfOk, OnOk};
+ghost use Rattle.std.specs.Prelude.{◌≡◌, ℕ, List, [], ◌∷◌, ◌++◌, length, Contains, IfOk, OnOk};
 ghost use Rattle.esto_columns.specs.Interned.{Grows, AreCodesOf, AreCodedRows};
 
 use crate::codes::Codes;
@@ -22,6 +22,23 @@ fn code_row(alloc: Global, row: &TextRow, codes: &mut Codes) -> Result<Values<u6
     Ok(coded)
 }
 
+/// Puts the codes of a row of texts after the rows of codes. New texts get codes.
+fn add_coded(
+    alloc: Global,
+    row: &TextRow,
+    codes: &mut Codes,
+    coded: &mut Rows,
+) -> Result<(), OutOfMemory>
+    requires { length row.now ≡ coded.old.arity }
+    ensures arity { OnOk result (coded.new.arity ≡ coded.old.arity) }
+    ensures coded { OnOk result ((rows : List (List (List ℕ))) → AreCodedRows codes.old coded.old.rows rows
+        → AreCodedRows codes.new coded.new.rows (rows ++ row.now ∷ [])) }
+    ensures grown { Grows codes.old codes.new }
+{
+    let code = code_row(alloc, row, codes)?;
+    coded.add(code.items())
+}
+
 /// The rows of texts as rows of codes, in order. New texts get codes.
 pub fn code_rows(
     alloc: Global,
@@ -36,8 +53,7 @@ pub fn code_rows(
 {
     let mut coded = Rows::new(alloc, arity)?;
     'rows: for row in rows.items() {
-        let code = code_row(alloc, row, codes)?;
-        coded.add(code.items())?;
+        add_coded(alloc, row, codes, &mut coded)?;
     }
     Ok(coded)
 }
@@ -56,8 +72,7 @@ fn code_each(
 {
     let mut coded = Rows::new(alloc, arity)?;
     'rows: for at in 0..rows.len() {
-        let code = code_row(alloc, rows.item(at), codes)?;
-        coded.add(code.items())?;
+        add_coded(alloc, rows.item(at), codes, &mut coded)?;
         rows.set(at, List::new(alloc));
     }
     Ok(coded)

@@ -1,5 +1,5 @@
 //! Rows of codes, with indexes.
-ghost use Rattle.std.specs.Prelude.{◌≡◌, ℕ, List, [], ◌∷◌, ◌++◌, ◌<◌, length, map, slice_get, slice_index_or, Some, Contains, IfOk, OnOk, OnErr, MatchOption, IsTrue};
+ghost use Rattle.std.specs.Prelude.{◌≡◌, ◌+◌, ℕ, List, [], ◌∷◌, ◌++◌, ◌<◌, length, map, take, slice_get, slice_index_or, Some, Contains, IfOk, OnOk, OnErr, MatchOption, IsTrue};
 ghost use Rattle.esto_columns.specs.CodedRows.{CodedRows};
 ghost use Rattle.esto_columns.specs.Columns.{HaveLength};
 ghost use Rattle.esto_columns.specs.Indexed.{IsIndexOf, AreAmongPlaces, key_at};
@@ -50,15 +50,31 @@ fn key_of(alloc: Global, columns: &[usize], row: &[u64]) -> Result<Values<u64>, 
     Ok(key)
 }
 
+/// Puts the key of the row at the place into the index of the rows before it.
+fn index_row(
+    alloc: Global,
+    table: &Table,
+    columns: &[usize],
+    at: usize,
+    index: &mut Index,
+) -> Result<(), OutOfMemory>
+    requires there { at < length table.now.rows }
+    requires own { IsIndexOf index.old (map (key_at columns.now) (take at table.now.rows)) }
+    ensures { OnOk result
+        (IsIndexOf index.new (map (key_at columns.now) (take (at + 1) table.now.rows))) }
+{
+    let row = table.row(alloc, at)?;
+    let key = key_of(alloc, columns, row.items())?;
+    index.add(key.items())
+}
+
 /// The index of the table's rows by the columns.
 fn indexed(alloc: Global, table: &Table, columns: &[usize]) -> Result<Index, OutOfMemory>
     ensures { IfOk result (λ it. IsIndexOf it (map (key_at columns.now) table.now.rows)) }
 {
     let mut index = Index::new(alloc, table.len())?;
     'rows: for at in 0..table.len() {
-        let row = table.row(alloc, at)?;
-        let key = key_of(alloc, columns, row.items())?;
-        index.add(key.items())?;
+        index_row(alloc, table, columns, at, &mut index)?;
     }
     Ok(index)
 }
