@@ -22,6 +22,11 @@ taken_more things count thing it below is =
       ]),
     )
 
+-- nothing is gained over no things
+pub gains_none : {X : Type 0} (things : List X) (Has : X → List ℕ → Type 0)
+    → GainsOnly [] [] (λ it. (x : X) × Contains (take 0 things) x × Has x it)
+gains_none things Has it = (λ has. inl has, λ has. elim has [ inl none ↦ none | inr (x, among, _) ↦ absurd (Contains-nil x among) ])
+
 -- what a list gains over some things, one by one
 module _ {X : Type 0} (Has : X → List ℕ → Type 0) (things : List X) where
   abbrev pub Some_has : List X → List ℕ → Type 0

@@ -1,5 +1,5 @@
 //! The rows of a fragment that rows so far ask for.
-ghost use Rattle.std.specs.Prelude.{◌≡◌, ◌++◌, ◌⊎◌, List, ℕ, length, map, Contains, IfOk, OnOk};
+ghost use Rattle.std.specs.Prelude.{◌≡◌, ◌++◌, ◌⊎◌, [], List, ℕ, length, map, Contains, IfOk, OnOk};
 ghost use Rattle.esto_columns.specs.Asked.{IsAllowed};
 ghost use Rattle.esto_plan.specs.Meaning.{Follows};
 ghost use Rattle.esto_exec.specs.Inputs.{inputs_with, AreAnswered};
@@ -84,6 +84,33 @@ fn ask<F: Fragment>(
     push_rows(alloc, &rows, asked)
 }
 
+/// Asks the fragment for the rows that have the inputs of some row so far. Each list of inputs is asked once.
+fn ask_each<F: Fragment>(
+    alloc: Global,
+    get: &Get,
+    fragment: &F,
+    so_far: &Rows,
+    sources: &Sources,
+    seen: &mut Seen,
+    asked: &mut Rows,
+) -> Result<(), OutOfMemory>
+    requires allowed { IsAllowed (F.shape fragment.now) (map (λ link. link.column) get.now.inputs) }
+    requires sources { sources.now ≡ map (λ link. link.source) get.now.inputs }
+    requires none { asked.old ≡ record { arity = (F.shape fragment.now).arity; rows = [] } }
+    requires unseen { seen.old ≡ record { arity = length get.now.inputs; rows = [] } }
+    ensures sound { OnOk result ((row : List ℕ)
+        → Contains asked.new.rows row → Contains (F.rows fragment.now) row) }
+    ensures complete { OnOk result ((cells row : List ℕ)
+        → Contains so_far.now.rows cells → Contains (F.rows fragment.now) row
+        → Follows get.now cells row → Contains asked.new.rows row) }
+{
+    'rows: for at in 0..so_far.len() {
+        let cells = so_far.row(alloc, at)?;
+        ask(alloc, get, fragment, cells.items(), sources, seen, asked)?;
+    }
+    Ok(())
+}
+
 /// The rows of the fragment that have the inputs of some row so far. Each list of inputs is asked once.
 pub(crate) fn asked_rows<F: Fragment>(
     alloc: Global,
@@ -101,17 +128,8 @@ pub(crate) fn asked_rows<F: Fragment>(
     let sources = sources_of(alloc, &get.inputs)?;
     let mut seen = Seen::new(alloc, get.inputs.len(), so_far.len())?;
     let mut asked = Rows::new(alloc, fragment.arity())?;
-    'rows: for at in 0..so_far.len() {
-        let cells = so_far.row(alloc, at)?;
-        ask(
-            alloc,
-            get,
-            fragment,
-            cells.items(),
-            &sources,
-            &mut seen,
-            &mut asked,
-        )?;
-    }
+    ask_each(
+        alloc, get, fragment, so_far, &sources, &mut seen, &mut asked,
+    )?;
     Ok(asked)
 }

@@ -1,7 +1,9 @@
 //! Rows so far joined with rows of a fragment.
-ghost use Rattle.std.specs.Prelude.{◌≡◌, ◌↔◌, ◌++◌, ◌+◌, List, ℕ, Some, slice_get, length, Contains, IfOk, OnOk, IsTrue};
+ghost use Rattle.std.specs.Prelude.{◌≡◌, ◌↔◌, ◌++◌, ◌+◌, [], List, ℕ, Some, slice_get, length, map, Contains, IfOk, OnOk, IsTrue};
 ghost use Rattle.esto_plan.specs.Meaning.{Follows};
+ghost use Rattle.esto_plan.specs.declared.steps.Link.{Link};
 ghost use Rattle.esto_plan.specs.declared.steps.Source.{Source};
+ghost use Rattle.esto_plan.specs.declared.steps.Source.TheVariants.{Cell};
 ghost use Rattle.esto_columns.specs.Indexed.{AreChains, bucket_of};
 ghost use Rattle.esto_exec.specs.Indexed.{FindsRows};
 ghost use Rattle.esto_exec.specs.Joined.{IsJoin, IsFollower, IsFollowerAt, GainsOnly};
@@ -11,7 +13,7 @@ use crate::codes::{codes_at, each_met};
 use crate::index::index_of;
 use crate::links::{columns_of, early_links, sources_of};
 use esto_columns::{Index, Rows};
-use esto_plan::{Get, Sources};
+use esto_plan::{Get, Links, Sources};
 use esto_term::{OutOfMemory, Values};
 use std::alloc::Global;
 
@@ -110,6 +112,42 @@ fn push_joined(
     push_followers(alloc, get, cells, rows, index, key.items(), into)
 }
 
+/// Puts each of the rows so far, with every one of the rows that follows it after it.
+fn push_each_joined(
+    alloc: Global,
+    get: &Get,
+    so_far: &Rows,
+    rows: &Rows,
+    sources: &Sources,
+    index: &Index,
+    into: &mut Rows,
+) -> Result<(), OutOfMemory>
+    requires none { into.old.rows ≡ [] }
+    requires arity { into.old.arity ≡ so_far.now.arity + rows.now.arity }
+    requires found { (columns : List Source) × FindsRows rows.now.rows columns index.now
+        × ((cells row : List ℕ) → length cells ≡ so_far.now.arity → Follows get.now cells row
+        → (codes : List ℕ) × NamesCodes cells sources.now codes × NamesCodes row columns codes) }
+    ensures { OnOk result ((both : List ℕ)
+        → Contains into.new.rows both ↔ IsJoin get.now so_far.now.rows rows.now.rows both) }
+{
+    let _width = so_far.arity();
+    'rows: for at in 0..so_far.len() {
+        let cells = so_far.row(alloc, at)?;
+        push_joined(alloc, get, cells.items(), rows, sources, index, into)?;
+    }
+    Ok(())
+}
+
+/// An index of the rows by the columns of the links.
+fn index_by(alloc: Global, rows: &Rows, links: &Links) -> Result<Index, OutOfMemory>
+    ensures { IfOk result
+        (FindsRows rows.now.rows (map (λ link. Cell link.column) links.now)) }
+{
+    let columns = columns_of(alloc, links)?;
+    let index = index_of(alloc, rows, &columns)?;
+    Ok(index)
+}
+
 /// The rows so far, each with every one of the rows that follows it after it.
 pub(crate) fn joined(
     alloc: Global,
@@ -126,20 +164,8 @@ pub(crate) fn joined(
     };
     let links = early_links(alloc, get, width)?;
     let sources = sources_of(alloc, &links)?;
-    let columns = columns_of(alloc, &links)?;
-    let index = index_of(alloc, rows, &columns)?;
+    let index = index_by(alloc, rows, &links)?;
     let mut joined = Rows::new(alloc, arity)?;
-    'rows: for at in 0..so_far.len() {
-        let cells = so_far.row(alloc, at)?;
-        push_joined(
-            alloc,
-            get,
-            cells.items(),
-            rows,
-            &sources,
-            &index,
-            &mut joined,
-        )?;
-    }
+    push_each_joined(alloc, get, so_far, rows, &sources, &index, &mut joined)?;
     Ok(joined)
 }

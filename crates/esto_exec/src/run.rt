@@ -50,6 +50,25 @@ fn push_projected(
     into.add(row.items())
 }
 
+/// Puts the codes of the head in each of the rows at the end, where each is there.
+fn push_each_projected(
+    alloc: Global,
+    head: &Sources,
+    rows: &Rows,
+    into: &mut Rows,
+) -> Result<(), OutOfMemory>
+    requires { into.old ≡ record { arity = length head.now; rows = [] } }
+    ensures arity { OnOk result (into.new.arity ≡ length head.now) }
+    ensures rows { OnOk result ((row : List ℕ) → Contains into.new.rows row
+        ↔ ((end : List ℕ) × Contains rows.now.rows end × NamesCodes end head.now row)) }
+{
+    'rows: for at in 0..rows.len() {
+        let cells = rows.row(alloc, at)?;
+        push_projected(alloc, head, cells.items(), into)?;
+    }
+    Ok(())
+}
+
 /// The codes of the head in each of the rows.
 fn projected(alloc: Global, head: &Sources, rows: &Rows) -> Result<Rows, OutOfMemory>
     ensures arity { IfOk result (λ it. it.arity ≡ length head.now) }
@@ -57,10 +76,7 @@ fn projected(alloc: Global, head: &Sources, rows: &Rows) -> Result<Rows, OutOfMe
         ↔ ((end : List ℕ) × Contains rows.now.rows end × NamesCodes end head.now row)) }
 {
     let mut projected = Rows::new(alloc, head.len())?;
-    'rows: for at in 0..rows.len() {
-        let cells = rows.row(alloc, at)?;
-        push_projected(alloc, head, cells.items(), &mut projected)?;
-    }
+    push_each_projected(alloc, head, rows, &mut projected)?;
     Ok(projected)
 }
 
