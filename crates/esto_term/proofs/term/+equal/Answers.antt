@@ -1,0 +1,56 @@
+use Rattle.std.proofs.Common.{refl, sym, ◌∙◌, arith}
+use Rattle.std.proofs.lemmas.Bool.{false≢true}
+use Rattle.std.proofs.lemmas.Bool.Decides.{Decides-eqb}
+use Rattle.std.proofs.lemmas.List.{take_all}
+use Rattle.esto_term.proofs.EqualLemmas.{apart_Const_Plain, apart_Const_Made, apart_Plain_Made, apart_turned, tested, same_Const, same_Plain, same_Made, apart_variables, apart_rules}
+use Rattle.esto_term.proofs.term.+equal.Goals.{Term::equal-then-rule-rule_b, Term::equal-else-rule-rule_b}
+use Rattle.esto_term.proofs.term.+equal.Goals as goal
+
+pub Term::equal-returns-in-Const-other : goal.Term::equal-returns-in-Const-other
+Term::equal-returns-in-Const-other t c = same_Const _ _ _ _ _ c.in-Const.is c.in-Const-other.is
+    (tested _ _ _ _ _ c.eq.ensures c.bytes.ensures.value c.bytes-in-Const-other.ensures.value)
+
+pub Term::equal-returns-in-Plain-other : goal.Term::equal-returns-in-Plain-other
+Term::equal-returns-in-Plain-other t c = apart_Const_Plain _ _ c.in-Const.text _ c.in-Const.is c.in-Plain-other.is
+
+pub Term::equal-returns-in-Made-other : goal.Term::equal-returns-in-Made-other
+Term::equal-returns-in-Made-other t c = apart_Const_Made _ _ c.in-Const.text _ _ _ c.in-Const.is c.in-Made-other.is
+
+pub Term::equal-returns-in-Const-other-2 : goal.Term::equal-returns-in-Const-other-2
+Term::equal-returns-in-Const-other-2 t c = apart_turned _ _ (apart_Const_Plain _ _ _ _ c.in-Const-other-2.is c.in-Plain.is)
+
+pub Term::equal-returns-in-Plain-other-2 : goal.Term::equal-returns-in-Plain-other-2
+Term::equal-returns-in-Plain-other-2 t c = same_Plain _ _ _ _ c.in-Plain.is c.in-Plain-other-2.is
+
+pub Term::equal-returns-in-Made-other-2 : goal.Term::equal-returns-in-Made-other-2
+Term::equal-returns-in-Made-other-2 t c = apart_Plain_Made _ _ _ _ _ _ c.in-Plain.is c.in-Made-other-2.is
+
+pub Term::equal-returns-in-Const-other-3 : goal.Term::equal-returns-in-Const-other-3
+Term::equal-returns-in-Const-other-3 t c = apart_turned _ _ (apart_Const_Made _ _ _ _ _ _ c.in-Const-other-3.is c.in-Made.is)
+
+pub Term::equal-returns-in-Plain-other-3 : goal.Term::equal-returns-in-Plain-other-3
+Term::equal-returns-in-Plain-other-3 t c = apart_turned _ _ (apart_Plain_Made _ _ _ _ _ _ c.in-Plain-other-3.is c.in-Made.is)
+
+pub Term::equal-returns-then-variable-variable_b : goal.Term::equal-returns-then-variable-variable_b
+Term::equal-returns-then-variable-variable_b t c = elim c.if-rule-rule_b.branch [
+  | Term::equal-then-rule-rule_b w ↦ same_Made _ _ _ _ _ _ _ _ c.in-Made.is c.in-Made-other-3.is c.equal_terms.result c.items.result.now
+      c.items-then-variable-variable_b.result.now w.if-rule-rule_b.true
+      ((Decides-eqb _ _).0 (sym w.value-is ∙ c.if-variable-variable_b.true)) c.items.ensures c.items-then-variable-variable_b.ensures c.equal_terms.ensures
+  | Term::equal-else-rule-rule_b w ↦ absurd (w.if-rule-rule_b.false ((Decides-eqb _ _).0 (sym w.value-is ∙ c.if-variable-variable_b.true)))
+]
+
+pub Term::equal-returns-else-variable-variable_b : goal.Term::equal-returns-else-variable-variable_b
+Term::equal-returns-else-variable-variable_b t c = (
+  λ holds. absurd (false≢true (sym c.if-variable-variable_b.false ∙ holds)),
+  λ same. absurd (elim c.if-rule-rule_b.branch [
+    | Term::equal-then-rule-rule_b w ↦ apart_variables _ _ _ _ _ _ _ _ c.in-Made.is c.in-Made-other-3.is
+        (λ variables. false≢true (sym c.if-variable-variable_b.false ∙ w.value-is ∙ (Decides-eqb _ _).1 variables)) same
+    | Term::equal-else-rule-rule_b w ↦ apart_rules _ _ _ _ _ _ _ _ c.in-Made.is c.in-Made-other-3.is w.if-rule-rule_b.false same
+  ]),
+)
+
+pub equal_terms-returns : goal.equal_terms-returns
+equal_terms-returns t c = (
+  λ _. sym (take_all c.terms.place c.args.terms.now c.terms-test.false) ∙ c.terms.invariant ∙ take_all c.terms.place c.args.others.now (omega arith),
+  λ _. refl,
+)
