@@ -115,20 +115,13 @@ module _ (atoms : List (Fact Term)) (supplies : List Kept) (number : ℕ) (atom 
     )
 
     module _ (count : ℕ) (term : Term) (at : slice_get atom.terms count ≡ Some term) (found : List (List Bool)) (so_far : AreMetBelow count found) where
-      pub met_grows : IsInput pattern count → (bound after : List (List Bool))
-          → ((set : List Bool) → Covers bound set ↔ IsBound atoms (IsSupplied supplies set) term)
-          → ((set : List Bool) → Covers after set ↔ (Covers found set × Covers bound set)) → AreMetBelow (count + 1) after
-      met_grows input bound after binds both set =
+      pub met_turns : (after : List (List Bool))
+          → ((set : List Bool) → Covers after set ↔ (Covers found set × (IsInput pattern count → IsBound atoms (IsSupplied supplies set) term)))
+          → AreMetBelow (count + 1) after
+      met_turns after covers set =
           let step = each_step (Needs set) atom.terms count term at in (
-            λ h. let covered = (both set).0 h in let before = (so_far set).0 covered.0 in (before.0, step.1 (before.1, λ _. (binds set).0 covered.1)),
-            λ (has, each). let now = step.0 each in (both set).1 ((so_far set).1 (has, now.0), (binds set).1 (now.1 input)),
-          )
-
-      pub met_stays : (IsInput pattern count → ⊥) → AreMetBelow (count + 1) found
-      met_stays free set =
-          let step = each_step (Needs set) atom.terms count term at in (
-            λ h. let before = (so_far set).0 h in (before.0, step.1 (before.1, λ input. absurd (free input))),
-            λ (has, each). (so_far set).1 (has, (step.0 each).0),
+            λ h. let now = (covers set).0 h in let before = (so_far set).0 now.0 in (before.0, step.1 (before.1, now.1)),
+            λ (has, each). let now = step.0 each in (covers set).1 ((so_far set).1 (has, now.0), now.1),
           )
 
     pub met_end : (count : ℕ) (found : List (List Bool)) → length atom.terms ≤ count → AreMetBelow count found

@@ -1,7 +1,7 @@
 //! What an atom needs, and the sets that give it.
-ghost use Rattle.std.specs.Prelude.{◌≡◌, ◌<◌, List, Bool, length, IfOk};
-ghost use Rattle.esto_semantics.specs.Access.{IsBound, MeetsPattern};
-ghost use Rattle.esto_semantics.specs.Sets.{Has};
+ghost use Rattle.std.specs.Prelude.{◌≡◌, ◌<◌, List, Bool, length, IfOk, OnOk};
+ghost use Rattle.esto_semantics.specs.Access.{IsBound, IsInput, MeetsPattern};
+ghost use Rattle.esto_semantics.specs.Sets.{Covers, Has};
 ghost use Rattle.esto_views.specs.Fragments.{patterns_of};
 ghost use Rattle.esto_views.specs.Plans.{fact_of, plan_query};
 ghost use Rattle.esto_bits.specs.Kept.{AreOver, IsAntichain};
@@ -59,6 +59,32 @@ fn binders(
     Ok(found)
 }
 
+/// Keeps of the covered sets those in which the term is bound, if its column is an input of the pattern.
+fn bind_input(
+    alloc: Global,
+    plan: &Plan,
+    supplies: &Supplies,
+    pattern: &Access,
+    column: usize,
+    term: &Term,
+    found: &mut Products,
+) -> Result<(), OutOfMemory>
+    requires supplies { AreSupplies (plan_query plan.now).body supplies.now }
+    requires count { found.old.count ≡ length plan.now.atoms }
+    ensures count { OnOk result (found.new.count ≡ length plan.now.atoms) }
+    ensures covers { OnOk result (CoversWhere
+        (λ set. Covers found.old.sets set × (IsInput pattern.now column
+        → IsBound (plan_query plan.now).body (IsSupplied supplies.now set) term.now))
+        found.new.sets) }
+{
+    if !is_input(pattern, column) {
+        return Ok(());
+    }
+    let bound = binders(alloc, plan, supplies, term)?;
+    *found = found.joined(alloc, &bound)?;
+    Ok(())
+}
+
 /// The sets that have the number and in which its atom meets the pattern.
 fn meeting(
     alloc: Global,
@@ -80,10 +106,7 @@ fn meeting(
     row.insert(number);
     let mut found = Products::only(alloc, &row)?;
     'columns: for (column, term) in atom.terms.items().iter().enumerate() {
-        if is_input(pattern, column) {
-            let bound = binders(alloc, plan, supplies, term)?;
-            found = found.joined(alloc, &bound)?;
-        }
+        bind_input(alloc, plan, supplies, pattern, column, term, &mut found)?;
     }
     Ok(found)
 }

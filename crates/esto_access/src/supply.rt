@@ -1,5 +1,5 @@
 //! Access products.
-ghost use Rattle.std.specs.Prelude.{ℕ, ◌≡◌, ◌↔◌, List, Bool, [], length, replicate, slice_get, Some, IfOk, IsTrue};
+ghost use Rattle.std.specs.Prelude.{ℕ, ◌≡◌, ◌↔◌, List, Bool, [], length, replicate, slice_get, Some, IfOk, OnOk, IsTrue};
 ghost use Rattle.esto_semantics.specs.Sets.{Covers, TellHolds};
 ghost use Rattle.esto_views.specs.Fragments.{patterns_of};
 ghost use Rattle.esto_views.specs.Plans.{plan_query};
@@ -62,6 +62,25 @@ fn adds_nothing(before: &Supplies, after: &Supplies) -> bool
     true
 }
 
+/// Goes on to the supplies of one round more, and answers whether that round added nothing.
+fn advance(
+    alloc: Global,
+    plan: &Plan,
+    fragments: &FragmentDefs,
+    supplies: &mut Supplies,
+) -> Result<bool, OutOfMemory>
+    requires { AreSupplies (plan_query plan.now).body supplies.old }
+    ensures supplies { OnOk result (AreSupplies (plan_query plan.now).body supplies.new) }
+    ensures round { OnOk result (AreOneRound (patterns_of fragments.now) (plan_query plan.now).body
+        supplies.old supplies.new) }
+    ensures last { IfOk result (λ last. IsTrue last ↔ AddNothing supplies.old supplies.new) }
+{
+    let next = next_supplies(alloc, plan, fragments, supplies)?;
+    let last = adds_nothing(supplies, &next);
+    *supplies = next;
+    Ok(last)
+}
+
 /// Rounds until one adds nothing, or there were as many as there are atoms.
 fn last_supplies(
     alloc: Global,
@@ -75,11 +94,10 @@ fn last_supplies(
     rounds_are_enough();
     let mut supplies = no_supplies(alloc, plan.atoms.len())?;
     'rounds: for _round in 0..plan.atoms.len() {
-        let next = next_supplies(alloc, plan, fragments, &supplies)?;
-        if adds_nothing(&supplies, &next) {
-            return Ok(next);
+        let last = advance(alloc, plan, fragments, &mut supplies)?;
+        if last {
+            return Ok(supplies);
         }
-        supplies = next;
     }
     Ok(supplies)
 }

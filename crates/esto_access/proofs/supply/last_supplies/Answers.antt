@@ -12,14 +12,14 @@ rounds-init c =
 
 pub rounds-preserved : goal.rounds-preserved
 rounds-preserved c =
-    after_more (patterns_of c.args.fragments.now) (plan_query c.args.plan.now).body c.rounds._round c.rounds.supplies c.in_ok-next.next c.rounds.invariant
-    c.in_ok-next.ensures.supplies c.in_ok-next.ensures.round
+    after_more (patterns_of c.args.fragments.now) (plan_query c.args.plan.now).body c.rounds._round c.rounds.supplies c.advance.new.supplies
+    c.rounds.invariant c.in_ok-last.ensures.supplies c.in_ok-last.ensures.round
 
-pub returns-then-adds_nothing-clause-tell : goal.returns-then-adds_nothing-clause-tell
-returns-then-adds_nothing-clause-tell c =
+pub returns-then-last-clause-tell : goal.returns-then-last-clause-tell
+returns-then-last-clause-tell c =
     last_tells (patterns_of c.args.fragments.now) (plan_query c.args.plan.now).body c.rounds_are_enough.ensures.last c.rounds._round c.rounds.supplies
-    c.in_ok-next.next c.rounds.invariant.1 c.in_ok-next.ensures.round
-    (c.adds_nothing.ensures.0 c.if-adds_nothing.true)
+    c.advance.new.supplies c.rounds.invariant.1 c.in_ok-last.ensures.round
+    (c.in_ok-last.ensures.last.0 c.if-last.true)
 
 pub returns-clause-tell : goal.returns-clause-tell
 returns-clause-tell c =
