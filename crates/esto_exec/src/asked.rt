@@ -1,6 +1,7 @@
 //! The rows of a fragment that rows so far ask for.
 ghost use Rattle.std.specs.Prelude.{◌≡◌, ◌++◌, ◌⊎◌, [], List, ℕ, length, map, Contains, IfOk, OnOk};
-ghost use Rattle.esto_columns.specs.Asked.{IsAllowed};
+ghost use Rattle.std.specs.List.{filter};
+ghost use Rattle.esto_columns.specs.Asked.{IsAllowed, holds_all};
 ghost use Rattle.esto_plan.specs.Meaning.{Follows};
 ghost use Rattle.esto_exec.specs.Inputs.{inputs_with, AreAnswered};
 
@@ -43,6 +44,28 @@ fn push_rows(alloc: Global, rows: &Rows, into: &mut Rows) -> Result<(), OutOfMem
     Ok(())
 }
 
+/// Puts the rows of the fragment that have the key's codes as inputs at the end.
+fn push_asked<F: Fragment>(
+    alloc: Global,
+    get: &Get,
+    fragment: &F,
+    key: &[u64],
+    asked: &mut Rows,
+) -> Result<(), OutOfMemory>
+    requires allowed { IsAllowed (F.shape fragment.now) (map (λ link. link.column) get.now.inputs) }
+    requires key { length key.now ≡ length get.now.inputs }
+    requires arity { asked.old.arity ≡ (F.shape fragment.now).arity }
+    ensures { OnOk result (asked.new ≡ record {
+      arity = asked.old.arity;
+      rows = asked.old.rows
+          ++ filter (holds_all (inputs_with get.now.inputs key.now)) (F.rows fragment.now);
+    }) }
+{
+    let inputs = inputs_of(alloc, &get.inputs, key)?;
+    let rows = fragment.get(alloc, &inputs)?;
+    push_rows(alloc, &rows, asked)
+}
+
 /// Asks the fragment for the rows that have the inputs of the row so far, if they are not asked for yet.
 fn ask<F: Fragment>(
     alloc: Global,
@@ -79,9 +102,7 @@ fn ask<F: Fragment>(
         return Ok(());
     }
     seen.put(key.items())?;
-    let inputs = inputs_of(alloc, &get.inputs, key.items())?;
-    let rows = fragment.get(alloc, &inputs)?;
-    push_rows(alloc, &rows, asked)
+    push_asked(alloc, get, fragment, key.items(), asked)
 }
 
 /// Asks the fragment for the rows that have the inputs of some row so far. Each list of inputs is asked once.
@@ -111,6 +132,27 @@ fn ask_each<F: Fragment>(
     Ok(())
 }
 
+/// Asks the fragment for the rows that have the inputs of some row so far, where nothing was asked before.
+fn ask_all<F: Fragment>(
+    alloc: Global,
+    get: &Get,
+    fragment: &F,
+    so_far: &Rows,
+    asked: &mut Rows,
+) -> Result<(), OutOfMemory>
+    requires allowed { IsAllowed (F.shape fragment.now) (map (λ link. link.column) get.now.inputs) }
+    requires none { asked.old ≡ record { arity = (F.shape fragment.now).arity; rows = [] } }
+    ensures sound { OnOk result ((row : List ℕ)
+        → Contains asked.new.rows row → Contains (F.rows fragment.now) row) }
+    ensures complete { OnOk result ((cells row : List ℕ)
+        → Contains so_far.now.rows cells → Contains (F.rows fragment.now) row
+        → Follows get.now cells row → Contains asked.new.rows row) }
+{
+    let sources = sources_of(alloc, &get.inputs)?;
+    let mut seen = Seen::new(alloc, get.inputs.len(), so_far.len())?;
+    ask_each(alloc, get, fragment, so_far, &sources, &mut seen, asked)
+}
+
 /// The rows of the fragment that have the inputs of some row so far. Each list of inputs is asked once.
 pub(crate) fn asked_rows<F: Fragment>(
     alloc: Global,
@@ -125,11 +167,7 @@ pub(crate) fn asked_rows<F: Fragment>(
         → Contains so_far.now.rows cells → Contains (F.rows fragment.now) row
         → Follows get.now cells row → Contains it.rows row) }
 {
-    let sources = sources_of(alloc, &get.inputs)?;
-    let mut seen = Seen::new(alloc, get.inputs.len(), so_far.len())?;
     let mut asked = Rows::new(alloc, fragment.arity())?;
-    ask_each(
-        alloc, get, fragment, so_far, &sources, &mut seen, &mut asked,
-    )?;
+    ask_all(alloc, get, fragment, so_far, &mut asked)?;
     Ok(asked)
 }

@@ -148,6 +148,26 @@ fn index_by(alloc: Global, rows: &Rows, links: &Links) -> Result<Index, OutOfMem
     Ok(index)
 }
 
+/// Puts each of the rows so far, with every one of the rows that follows it after it, by an index of these.
+fn push_all_joined(
+    alloc: Global,
+    get: &Get,
+    so_far: &Rows,
+    rows: &Rows,
+    into: &mut Rows,
+) -> Result<(), OutOfMemory>
+    requires none { into.old.rows ≡ [] }
+    requires arity { into.old.arity ≡ so_far.now.arity + rows.now.arity }
+    ensures { OnOk result ((both : List ℕ)
+        → Contains into.new.rows both ↔ IsJoin get.now so_far.now.rows rows.now.rows both) }
+{
+    let width = so_far.arity();
+    let links = early_links(alloc, get, width)?;
+    let sources = sources_of(alloc, &links)?;
+    let index = index_by(alloc, rows, &links)?;
+    push_each_joined(alloc, get, so_far, rows, &sources, &index, into)
+}
+
 /// The rows so far, each with every one of the rows that follows it after it.
 pub(crate) fn joined(
     alloc: Global,
@@ -162,10 +182,7 @@ pub(crate) fn joined(
     let Some(arity) = width.checked_add(rows.arity()) else {
         return Err(OutOfMemory);
     };
-    let links = early_links(alloc, get, width)?;
-    let sources = sources_of(alloc, &links)?;
-    let index = index_by(alloc, rows, &links)?;
     let mut joined = Rows::new(alloc, arity)?;
-    push_each_joined(alloc, get, so_far, rows, &sources, &index, &mut joined)?;
+    push_all_joined(alloc, get, so_far, rows, &mut joined)?;
     Ok(joined)
 }

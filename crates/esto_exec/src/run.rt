@@ -16,20 +16,20 @@ use esto_plan::{Get, Sources, Steps};
 use esto_term::OutOfMemory;
 use std::alloc::Global;
 
-/// The rows so far, each with every row of the fragment that follows it after it.
-fn followed<F: Fragment>(
+/// Goes from the rows so far to these, each with every row of the fragment that follows it after it.
+fn follow<F: Fragment>(
     alloc: Global,
     get: &Get,
     fragment: &F,
-    so_far: &Rows,
-) -> Result<Rows, OutOfMemory>
+    so_far: &mut Rows,
+) -> Result<(), OutOfMemory>
     requires { IsAllowed (F.shape fragment.now) (map (λ link. link.column) get.now.inputs) }
-    ensures { IfOk result (λ it. (both : List ℕ) → Contains it.rows both
-        ↔ IsJoin get.now so_far.now.rows (F.rows fragment.now) both) }
+    ensures { OnOk result ((both : List ℕ) → Contains so_far.new.rows both
+        ↔ IsJoin get.now so_far.old.rows (F.rows fragment.now) both) }
 {
     let asked = asked_rows(alloc, get, fragment, so_far)?;
-    let rows = joined(alloc, get, so_far, &asked)?;
-    Ok(rows)
+    *so_far = joined(alloc, get, so_far, &asked)?;
+    Ok(())
 }
 
 /// Puts the codes of the head in the cells at the end, where each is there.
@@ -96,7 +96,7 @@ pub fn run_plan<F: Fragment>(
     let mut so_far = Rows::new(alloc, 0)?;
     so_far.add(&[])?;
     'gets: for get in steps.gets.items() {
-        so_far = followed(alloc, get, &fragments[get.fragment], &so_far)?;
+        follow(alloc, get, &fragments[get.fragment], &mut so_far)?;
     }
     projected(alloc, &steps.head, &so_far)
 }

@@ -1,10 +1,12 @@
-use Rattle.std.proofs.Common.{inr, ℕ, List, [], ◌∷◌, ◌++◌, map, sym, subst, ap, ◌∙◌}
+use Rattle.std.proofs.Common.{inr, ℕ, List, [], ◌∷◌, ◌++◌, refl, sym, subst, ap, ◌∙◌}
 use Rattle.std.proofs.lemmas.Option.{MatchOption-at_none, MatchOption-at_some}
 use Rattle.std.proofs.lemmas.Result.{on_ok_weaker}
-use Rattle.esto_columns.specs.Asked.{IsAllowed}
+use Rattle.std.specs.List.{filter}
+use Rattle.esto_columns.specs.Asked.{holds_all}
 use Rattle.esto_columns.specs.CodedRows.{CodedRows}
+use Rattle.esto_exec.specs.Inputs.{inputs_with}
 use Rattle.esto_exec.specs.Named.{NamesCodes}
-use Rattle.esto_exec.proofs.AskedLemmas.{named_by, seen_complete, columns_with, named_length, ask_kept, ask_sound, ask_answered, ask_complete}
+use Rattle.esto_exec.proofs.AskedLemmas.{named_by, seen_complete, named_length, ask_kept, ask_sound, ask_answered, ask_complete}
 use Rattle.esto_exec.proofs.asked.ask.Goals as goal
 
 pub returns-in_default-clause-complete : goal.returns-in_default-clause-complete
@@ -21,55 +23,48 @@ returns-then-known-clause-complete g c =
     (NamesCodes c.args.cells.now c.args.sources.now) c.in-Some.key c.in-Some.is c.in_ok-key.ensures))
     c.args.seen.now.rows c.args.asked.now.rows (c.in_ok-known.ensures c.if-known.true)
 
-pub get-requires : goal.get-requires
-get-requires g c =
-    subst (IsAllowed (g.F.Fragment.shape c.args.fragment.now))
-    (sym (ap (map (λ input. input.column)) c.in_ok-inputs.ensures
-    ∙ columns_with c.args.get.now.inputs c.items-3.result.now
-    (named_length c.args.get.now.inputs c.args.cells.now c.args.sources.now c.requires.sources c.items-3.result.now
+pub push_asked-requires-clause-key : goal.push_asked-requires-clause-key
+push_asked-requires-clause-key g c =
+    named_length c.args.get.now.inputs c.args.cells.now c.args.sources.now c.requires.sources c.items-3.result.now
     (subst (NamesCodes c.args.cells.now c.args.sources.now) (sym c.items-3.ensures)
     (MatchOption-at_some (¬ ((codes : List ℕ) × NamesCodes c.args.cells.now c.args.sources.now codes))
-    (NamesCodes c.args.cells.now c.args.sources.now) c.in-Some.key c.in-Some.is c.in_ok-key.ensures)))))
-    c.requires.allowed
-
-pub push_rows-requires : goal.push_rows-requires
-push_rows-requires g c = c.requires.arity ∙ sym (ap (λ (it : CodedRows). it.arity) c.in_ok-rows.ensures)
+    (NamesCodes c.args.cells.now c.args.sources.now) c.in-Some.key c.in-Some.is c.in_ok-key.ensures))
 
 pub returns-clause-arity : goal.returns-clause-arity
-returns-clause-arity g c = on_ok_weaker c.push_rows.result (λ grown. ap (λ (it : CodedRows). it.arity) grown) c.push_rows.ensures
+returns-clause-arity g c = on_ok_weaker c.push_asked.result (λ grown. ap (λ (it : CodedRows). it.arity) grown) c.push_asked.ensures
 
 pub returns-clause-kept : goal.returns-clause-kept
 returns-clause-kept g c =
-    on_ok_weaker c.push_rows.result
-    (λ grown. ask_kept c.args.asked.now.rows c.push_rows.new.into.rows c.in_ok-rows.rows.rows (ap (λ (it : CodedRows). it.rows) grown))
-    c.push_rows.ensures
+    on_ok_weaker c.push_asked.result
+    (λ grown. ask_kept c.args.asked.now.rows c.push_asked.new.asked.rows (filter (holds_all (inputs_with c.args.get.now.inputs c.items-3.result.now)) (g.F.Fragment.rows c.args.fragment.now)) (ap (λ (it : CodedRows). it.rows) grown))
+    c.push_asked.ensures
 
 pub returns-clause-sound : goal.returns-clause-sound
 returns-clause-sound g c =
-    on_ok_weaker c.push_rows.result
-    (λ grown. ask_sound c.args.asked.now.rows c.push_rows.new.into.rows c.in_ok-rows.rows.rows
-    (ap (λ (it : CodedRows). it.rows) grown) (g.F.Fragment.rows c.args.fragment.now) c.in_ok-inputs.inputs
-    (ap (λ (it : CodedRows). it.rows) c.in_ok-rows.ensures))
-    c.push_rows.ensures
+    on_ok_weaker c.push_asked.result
+    (λ grown. ask_sound c.args.asked.now.rows c.push_asked.new.asked.rows (filter (holds_all (inputs_with c.args.get.now.inputs c.items-3.result.now)) (g.F.Fragment.rows c.args.fragment.now))
+    (ap (λ (it : CodedRows). it.rows) grown) (g.F.Fragment.rows c.args.fragment.now) (inputs_with c.args.get.now.inputs c.items-3.result.now)
+    refl)
+    c.push_asked.ensures
 
 pub returns-clause-answered : goal.returns-clause-answered
 returns-clause-answered g c =
-    on_ok_weaker c.push_rows.result
-    (λ grown. ask_answered c.args.asked.now.rows c.push_rows.new.into.rows c.in_ok-rows.rows.rows
-    (ap (λ (it : CodedRows). it.rows) grown) (g.F.Fragment.rows c.args.fragment.now) c.in_ok-inputs.inputs
-    (ap (λ (it : CodedRows). it.rows) c.in_ok-rows.ensures)
-    c.args.get.now c.items-3.result.now c.in_ok-inputs.ensures c.args.seen.now.rows c.put.new.self.rows
+    on_ok_weaker c.push_asked.result
+    (λ grown. ask_answered c.args.asked.now.rows c.push_asked.new.asked.rows (filter (holds_all (inputs_with c.args.get.now.inputs c.items-3.result.now)) (g.F.Fragment.rows c.args.fragment.now))
+    (ap (λ (it : CodedRows). it.rows) grown) (g.F.Fragment.rows c.args.fragment.now) (inputs_with c.args.get.now.inputs c.items-3.result.now)
+    refl
+    c.args.get.now c.items-3.result.now refl c.args.seen.now.rows c.put.new.self.rows
     (inr (ap (λ (it : CodedRows). it.rows) c.in_ok-put.ensures ∙ ap (λ it. c.args.seen.now.rows ++ it ∷ []) (c.items-2.ensures ∙ sym c.items-3.ensures))))
-    c.push_rows.ensures
+    c.push_asked.ensures
 
 pub returns-clause-complete : goal.returns-clause-complete
 returns-clause-complete g c =
-    on_ok_weaker c.push_rows.result
-    (λ grown. ask_complete c.args.asked.now.rows c.push_rows.new.into.rows c.in_ok-rows.rows.rows
-    (ap (λ (it : CodedRows). it.rows) grown) (g.F.Fragment.rows c.args.fragment.now) c.in_ok-inputs.inputs
-    (ap (λ (it : CodedRows). it.rows) c.in_ok-rows.ensures)
-    c.args.get.now c.items-3.result.now c.in_ok-inputs.ensures c.args.seen.now.rows c.args.cells.now c.args.sources.now c.requires.sources
+    on_ok_weaker c.push_asked.result
+    (λ grown. ask_complete c.args.asked.now.rows c.push_asked.new.asked.rows (filter (holds_all (inputs_with c.args.get.now.inputs c.items-3.result.now)) (g.F.Fragment.rows c.args.fragment.now))
+    (ap (λ (it : CodedRows). it.rows) grown) (g.F.Fragment.rows c.args.fragment.now) (inputs_with c.args.get.now.inputs c.items-3.result.now)
+    refl
+    c.args.get.now c.items-3.result.now refl c.args.seen.now.rows c.args.cells.now c.args.sources.now c.requires.sources
     (subst (NamesCodes c.args.cells.now c.args.sources.now) (sym c.items-3.ensures)
     (MatchOption-at_some (¬ ((codes : List ℕ) × NamesCodes c.args.cells.now c.args.sources.now codes))
     (NamesCodes c.args.cells.now c.args.sources.now) c.in-Some.key c.in-Some.is c.in_ok-key.ensures)))
-    c.push_rows.ensures
+    c.push_asked.ensures

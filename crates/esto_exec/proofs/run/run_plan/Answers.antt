@@ -17,8 +17,8 @@ offset_bounds-fragments-get g c =
     c.get-item.result c.items-get-items.ensures c.gets-test.true c.get-item.is c.requires in
     omega (arith, below)
 
-pub followed-requires : goal.followed-requires
-followed-requires g c =
+pub follow-requires : goal.follow-requires
+follow-requires g c =
     fragment_allows g.F.Fragment.shape g.F.Fragment.rows c.args.fragments.now c.args.steps.now.gets c.items-get-items.result.now c.gets.get-index
     c.get-item.result c.index-fragments-get.result c.items-get-items.ensures c.gets-test.true
     c.get-item.is c.requires c.index-fragments-get.is
@@ -31,13 +31,13 @@ gets-init g c =
 pub gets-preserved : goal.gets-preserved
 gets-preserved g c =
     leads_more (IsRowOf (λ number. get_or (map g.F.Fragment.rows c.args.fragments.now) number [])) c.items-get-items.result.now c.gets.get-index
-    c.get-item.result c.gets.so_far.rows c.in_ok-so_far-2.so_far.rows
+    c.get-item.result c.gets.so_far.rows c.follow.new.so_far.rows
     (g.F.Fragment.rows c.index-fragments-get.result) c.gets-test.true c.get-item.is
     (fragment_rows g.F.Fragment.shape g.F.Fragment.rows c.args.fragments.now c.get-item.result.fragment c.index-fragments-get.result
     (fragment_there g.F.Fragment.shape g.F.Fragment.rows c.args.fragments.now c.args.steps.now.gets c.items-get-items.result.now c.gets.get-index
     c.get-item.result c.items-get-items.ensures c.gets-test.true c.get-item.is c.requires)
     c.index-fragments-get.is)
-    c.gets.invariant c.in_ok-so_far-2.ensures
+    c.gets.invariant c.in_ok-follow.ensures
 
 pub returns-clause-rows : goal.returns-clause-rows
 returns-clause-rows g c =
