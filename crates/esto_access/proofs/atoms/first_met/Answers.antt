@@ -1,9 +1,21 @@
-use Rattle.std.proofs.Common.{Contains, sym, ◌∙◌}
+use Rattle.std.proofs.Common.{Contains, sym, ◌∙◌, arith}
 use Rattle.std.proofs.lemmas.Bool.{false≢true}
 use Rattle.esto_semantics.specs.Access.{MeetsPattern}
 use Rattle.esto_views.specs.Plans.{fact_of, plan_query}
+use Rattle.esto_access.proofs.NeedLemmas.{read_at}
 use Rattle.esto_access.proofs.atoms.first_met.Goals as goal
 use Rattle.esto_term.proofs.ListLemmas.{holds_all_in, holds_more_in, place-from_Contains}
+
+pub patterns-init : goal.patterns-init
+patterns-init c = λ place pattern below. absurd (omega (arith, below))
+
+pub returns-then-meets_pattern : goal.returns-then-meets_pattern
+returns-then-meets_pattern c = record {
+  pattern = c.pattern-item.result;
+  at = read_at c.args.patterns.now _ c.items-pattern-items.ensures c.patterns.place c.pattern-item.result c.patterns-test.true c.pattern-item.is;
+  meets = c.meets_pattern.ensures.0 c.if-meets_pattern.true;
+  first = c.patterns.invariant;
+}
 
 pub patterns-preserved : goal.patterns-preserved
 patterns-preserved c =

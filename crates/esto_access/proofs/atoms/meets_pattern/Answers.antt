@@ -1,10 +1,22 @@
-use Rattle.std.proofs.Common.{Contains, refl, sym, ◌∙◌}
+use Rattle.std.proofs.Common.{Contains, refl, sym, ◌∙◌, arith}
 use Rattle.std.proofs.lemmas.Bool.{false≢true}
 use Rattle.esto_semantics.specs.Access.{IsInput, IsBound}
 use Rattle.esto_views.specs.Plans.{plan_query}
+use Rattle.esto_access.proofs.NeedLemmas.{read_at}
 use Rattle.esto_access.proofs.atoms.meets_pattern.Goals.{else-is_input-via-then-is_input+else-not-is_bound, else-is_input-via-else-is_input}
 use Rattle.esto_access.proofs.atoms.meets_pattern.Goals as goal
 use Rattle.esto_term.proofs.ListLemmas.{holds_all_in, holds_more_in}
+
+pub columns-init : goal.columns-init
+columns-init c = λ place term below. absurd (omega (arith, below))
+
+pub returns-then-not-is_bound : goal.returns-then-not-is_bound
+returns-then-not-is_bound c = (
+  λ holds. absurd (false≢true holds),
+  λ meets. absurd (false≢true (sym c.if-not-is_bound.true
+      ∙ c.is_bound.ensures.1 (meets c.columns.column c.term-item.result (c.is_input.ensures.0 c.if-is_input.true)
+      (read_at c.args.atom.now.terms _ c.items-term-items.ensures c.columns.column c.term-item.result c.columns-test.true c.term-item.is)))),
+)
 
 pub columns-preserved : goal.columns-preserved
 columns-preserved c =
