@@ -1,8 +1,9 @@
 -- The numbers of a set with one number more, and the test for subsets.
-use Rattle.std.proofs.Common.{◌≡◌, ◌≢◌, ◌↔◌, ◌⊎◌, ℕ, zero, suc, ◌<◌, Bool, true, false, not, ◌&&◌, ◌||◌, List, [], ◌∷◌, length, set, slice_index_or, replicate, IsTrue, refl, sym, ap, ◌∙◌, subst, inl, inr, arith}
+use Rattle.std.proofs.Common.{◌≡◌, ◌≢◌, ◌↔◌, ◌⊎◌, ℕ, zero, suc, ◌+◌, ◌<◌, Bool, true, false, not, ◌&&◌, ◌||◌, List, [], ◌∷◌, ◌++◌, length, get_or, set, take, Contains, slice_index_or, replicate, IsTrue, refl, sym, ap, ◌∙◌, subst, inl, inr, arith}
 use Rattle.std.proofs.lemmas.Bool.{cases_lt}
 use mathlib.Core.Bool.{beq}
-use Rattle.std.proofs.lemmas.List.{get_or-set_same, get_or-set_other, get_or-replicate, length-replicate}
+use Rattle.std.proofs.lemmas.List.{get_or-set_same, get_or-set_other, get_or-replicate, length-replicate, take_more}
+use Rattle.std.proofs.lemmas.List.Elements.{Contains-append_left, Contains-push, Contains-push_cases}
 use Rattle.esto_semantics.specs.Sets.{Has, Within}
 use Rattle.esto_semantics.proofs.SetLemmas.{beyond}
 use Rattle.esto_bits.specs.Kept.{is_within}
@@ -101,3 +102,29 @@ test_from_Within (false ∷ rest) (in_other ∷ others) within = test_from_Withi
 pub test_is : (one other : List Bool) (answer : Bool) → IsTrue answer ↔ Within one other → answer ≡ is_within one other
 test_is one other answer says =
     same_truth answer (is_within one other) (λ yes. test_from_Within one other (says.0 yes)) (λ passes. says.1 (Within-from_test one other passes))
+
+-- ---- numbers that are put into a set, one by one
+
+pub inserted_more : (start before after : List Bool) (numbers : List ℕ) (count : ℕ) → count < length numbers
+    → ((number : ℕ) → Has after number ↔ ((number ≡ get_or numbers count 0) ⊎ Has before number))
+    → ((number : ℕ) → Has before number ↔ (Contains (take count numbers) number ⊎ Has start number)) → (number : ℕ)
+    → Has after number ↔ (Contains (take (count + 1) numbers) number ⊎ Has start number)
+inserted_more start before after numbers count below now so_far number =
+    let here = get_or numbers count 0 in
+    let more : take (count + 1) numbers ≡ take count numbers ++ here ∷ [] = take_more numbers count 0 below in (
+      λ has. elim ((now number).0 has) [
+        | inl same ↦ inl (subst (λ them. Contains them number) (sym more)
+            (subst (Contains (take count numbers ++ here ∷ [])) (sym same) (Contains-push (take count numbers) here)))
+        | inr old ↦ elim ((so_far number).0 old) [
+          | inl earlier ↦ inl (subst (λ them. Contains them number) (sym more) (Contains-append_left (take count numbers) (here ∷ []) number earlier))
+          | inr first ↦ inr first
+        ]
+      ],
+      λ has. (now number).1 (elim has [
+        | inl among ↦ elim (Contains-push_cases (take count numbers) here number (subst (λ them. Contains them number) more among)) [
+          | inl earlier ↦ inr ((so_far number).1 (inl earlier))
+          | inr same ↦ inl (sym same)
+        ]
+        | inr first ↦ inr ((so_far number).1 (inr first))
+      ]),
+    )
