@@ -1,10 +1,34 @@
-use Rattle.std.proofs.Common.{◌++◌, Some, length, ap, sym, ◌∙◌, arith}
+use Rattle.std.proofs.Common.{◌++◌, inl, inr, Some, length, ap, sym, subst, ◌∙◌, arith}
+use Rattle.std.proofs.lemmas.Bool.{false≢true}
 use Rattle.std.proofs.lemmas.List.{length-append}
+use Rattle.std.proofs.lemmas.Option.{same_Some, slice_get_within}
 use Rattle.std.proofs.lemmas.Result.{on_ok_weaker}
+use Rattle.esto_plan.specs.Meaning.{Follows}
 use Rattle.esto_columns.specs.CodedRows.{CodedRows}
 use Rattle.esto_exec.proofs.AskedLemmas.{row_long}
 use Rattle.esto_exec.proofs.JoinLemmas.{follower_pushed}
 use Rattle.esto_exec.proofs.join.push_follower.Goals as goal
+
+pub returns-then-place-len-clause-rows : goal.returns-then-place-len-clause-rows
+returns-then-place-len-clause-rows c = λ it. (
+  λ before. inl before,
+  λ has. elim has [
+    | inl before ↦ before
+    | inr (row, at, follows, is) ↦
+        let within = slice_get_within c.args.rows.now.rows c.args.place row at in
+        let past = c.if-place-len.true in let count = c.len.ensures in absurd (omega (arith, within, past, count))
+  ],
+)
+
+pub returns-then-not-follows-clause-rows : goal.returns-then-not-follows-clause-rows
+returns-then-not-follows-clause-rows c = λ it. (
+  λ before. inl before,
+  λ has. elim has [
+    | inl before ↦ before
+    | inr (row, at, follows, is) ↦ absurd (false≢true (sym c.if-not-follows.true ∙ c.follows.ensures.1
+        (subst (Follows c.args.get.now c.args.cells.now) (same_Some row c.in_ok-row.row (sym at ∙ c.in_ok-row.ensures) ∙ sym c.items-3.ensures) follows)))
+  ],
+)
 
 pub follows-requires : goal.follows-requires
 follows-requires c =
