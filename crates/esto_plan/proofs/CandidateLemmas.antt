@@ -1,5 +1,5 @@
 -- The results of the steps of an order are the answers of the candidate.
-use Rattle.std.proofs.Common.{◌≡◌, ◌≢◌, ◌↔◌, ℕ, List, map, length, Contains}
+use Rattle.std.proofs.Common.{◌≡◌, ◌≢◌, ◌↔◌, ℕ, List, map}
 use Rattle.std.specs.Prelude.{AllPairs}
 use Rattle.esto_semantics.specs.Access.{Patterns}
 use Rattle.esto_semantics.specs.Facts.{Database}

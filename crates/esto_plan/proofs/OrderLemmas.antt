@@ -1,24 +1,22 @@
 -- Orders of sets of atoms can be planned, and the candidate with its atoms in an order has the same answers.
-use Rattle.std.proofs.Common.{◌≡◌, ◌≢◌, ◌⊎◌, ◌↔◌, inl, inr, ℕ, zero, suc, ◌+◌, ◌<◌, Bool, true, false, cond, List, [], ◌∷◌, ◌++◌, length, map, Some, None, Option, slice_get, Contains, option_to_list, refl, sym, ap, ◌∙◌, subst, arith, get_or}
-use Rattle.std.specs.Prelude.{AllPairs}
+use Rattle.std.proofs.Common.{◌≡◌, ◌↔◌, inl, inr, ℕ, zero, suc, ◌+◌, ◌<◌, Bool, true, false, List, [], ◌∷◌, ◌++◌, length, Some, None, Option, slice_get, Contains, option_to_list, refl, sym, ap, ◌∙◌, subst, arith}
 use Rattle.std.proofs.lemmas.Bool.{cases_lt}
 use Rattle.std.proofs.lemmas.List.{append_assoc, get_or_past}
 use Rattle.std.proofs.lemmas.List.Elements.{Contains-append_left, Contains-append_right, Contains-append_cases, Contains-push_cases}
-use Rattle.std.proofs.lemmas.Option.{same_Some, slice_get_within, none-some, get_or_from_slice_get}
-use Rattle.esto_term.proofs.ListLemmas.{Contains-nil, Contains-head, Contains-rest, Contains-cases, Contains-at, Contains-map, Contains-map_from, at_right, map_at}
+use Rattle.std.proofs.lemmas.Option.{same_Some, none-some, get_or_from_slice_get}
+use Rattle.esto_term.proofs.ListLemmas.{Contains-nil, Contains-head, Contains-rest, Contains-cases, Contains-at, Contains-map_from, at_right, map_at}
 use Rattle.esto_term.specs.declared.term.Term.{Term}
-use Rattle.esto_semantics.specs.Access.{Patterns, HasPattern, IsBound, MeetsPattern, IsAccessible, IsEarlier, IsOrder}
-use Rattle.esto_semantics.specs.Facts.{Mentions, image}
-use Rattle.esto_semantics.specs.Listed.{chosen, candidate, IsSafe}
+use Rattle.esto_semantics.specs.Access.{Patterns, HasPattern, MeetsPattern, IsAccessible, IsEarlier, IsOrder}
+use Rattle.esto_semantics.specs.Listed.{chosen, candidate}
 use Rattle.esto_semantics.specs.Maps.{IsFixedBy}
 use Rattle.esto_semantics.specs.Queries.{ConjunctiveQuery, IsAnswerInto}
 use Rattle.esto_semantics.specs.Sets.{Has}
 use Rattle.esto_semantics.specs.declared.fact.Fact.{Fact}
-use Rattle.esto_views.specs.Fragments.{patterns_of, IsFragment}
+use Rattle.esto_views.specs.Fragments.{patterns_of}
 use Rattle.esto_views.specs.Plans.{fact_of, plan_query, IsPlanOver}
 use Rattle.esto_views.specs.declared.fragments.FragmentDef.{FragmentDef}
 use Rattle.esto_views.specs.declared.plan.Plan.{Plan}
-use Rattle.esto_plan.specs.Planned.{IsKnown, CanMeet, CanPlan, atoms_of, ordered}
+use Rattle.esto_plan.specs.Planned.{CanMeet, CanPlan, atoms_of, ordered}
 
 -- ---- the atoms of numbers
 

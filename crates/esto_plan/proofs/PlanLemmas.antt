@@ -42,6 +42,15 @@ source_grows old new bound term source grown told = elim told [
 pub link_grows : (old new : List (List ℕ)) (bound terms : List Term) (link : Link) → Grows old new → IsLink old bound terms link → IsLink new bound terms link
 link_grows old new bound terms link grown told = (told.0, told.1, source_grows old new bound told.0 link.source grown told.2)
 
+pub below_start : (texts : List (List ℕ)) (pattern : List Bool) (bound terms : List Term) (get : Get) → get.inputs ≡ [] → get.filters ≡ []
+    → IsGetBelow texts pattern bound terms 0 get
+below_start texts pattern bound terms get inputs filters = record {
+  columns = ap (map (λ (link : Link). link.column)) inputs;
+  inputs = λ link inside. absurd (Contains-nil link (subst (λ them. Contains them link) inputs inside));
+  filters = λ link inside. absurd (Contains-nil link (subst (λ them. Contains them link) filters inside));
+  complete = λ column term below. absurd (omega (arith, below));
+}
+
 pub below_grows : (old new : List (List ℕ)) (pattern : List Bool) (bound terms : List Term) (count : ℕ) (get : Get) → Grows old new
     → IsGetBelow old pattern bound terms count get → IsGetBelow new pattern bound terms count get
 below_grows old new pattern bound terms count get grown below = record {

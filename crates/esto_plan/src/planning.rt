@@ -1,15 +1,16 @@
 //! The steps of an order of a plan's atoms.
-ghost use Rattle.std.specs.Prelude.{◌≡◌, ◌<◌, ◌≤◌, ◌+◌, ◌++◌, [], ℕ, List, Bool, length, take, slice_get, slice_index_or, Some, Contains, IfOk, OnOk, MatchOption, IsTrue, ◌↔◌};
+ghost use Rattle.std.specs.Prelude.{◌≡◌, ◌<◌, ◌≤◌, ◌+◌, ◌++◌, ◌∷◌, [], ℕ, List, Bool, length, take, slice_get, slice_index_or, Some, Contains, IfOk, OnOk, MatchOption, IsTrue, ◌↔◌};
 ghost use Rattle.std.specs.List.{AllZip};
 ghost use Rattle.esto_term.specs.declared.term.Term.{Term};
 ghost use Rattle.esto_semantics.specs.Maps.{IsFixedBy};
 ghost use Rattle.esto_views.specs.Fragments.{patterns_of};
 ghost use Rattle.esto_views.specs.Plans.{fact_of, plan_query, IsPlanOver};
+ghost use Rattle.esto_plan.specs.declared.steps.Get.{Get};
 ghost use Rattle.esto_plan.specs.Planned.{IsSource, IsNew, IsKnown, CanMeet, IsFirstMet, IsGetOf, AreStepsOf, CanPlan, atoms_of, ordered, IsSafeOrder};
 ghost use Rattle.esto_plan.specs.Planning.{IsGetBelow, IsLinkMade};
 ghost use Rattle.esto_columns.specs.Interned.{Grows};
 
-use crate::steps::{Get, Link, Links, Source, Sources, Steps};
+use crate::steps::{Get, Gets, Link, Links, Source, Sources, Steps};
 use esto_access::Order;
 use esto_columns::Codes;
 use esto_term::{List, OutOfMemory, Replicate, Term, Terms};
@@ -195,6 +196,30 @@ fn head_of(
     Ok(sources)
 }
 
+/// Puts the get of the atom after the bound terms at the end, and the atom's terms after the bound ones.
+fn push_get(
+    alloc: Global,
+    atom: &PlanAtom,
+    patterns: &AccessList,
+    gets: &mut Gets,
+    bound: &mut Terms,
+    codes: &mut Codes,
+) -> Result<(), OutOfMemory>
+    requires met { (pattern : List Bool)
+        × Contains patterns.now pattern × CanMeet bound.old atom.now.terms pattern }
+    requires columns { (pattern : List Bool)
+        → Contains patterns.now pattern → length pattern ≡ length atom.now.terms }
+    ensures get { OnOk result ((get : Get)
+        × IsGetOf codes.new patterns.now bound.old (fact_of atom.now) get
+        × (gets.new ≡ gets.old ++ get ∷ [])) }
+    ensures bound { OnOk result (bound.new ≡ bound.old ++ atom.now.terms) }
+    ensures grown { Grows codes.old codes.new }
+{
+    let get = get_of(alloc, atom, patterns, bound.items(), codes)?;
+    gets.push(get)?;
+    bound.append(atom.terms.copy(alloc)?)
+}
+
 /// The steps of the atoms of these numbers, in order.
 fn steps_of(
     alloc: Global,
@@ -217,9 +242,7 @@ fn steps_of(
     'atoms: for number in order.items() {
         let atom = plan.atoms.item(*number);
         let patterns = &fragments.item(atom.fragment).access;
-        let get = get_of(alloc, atom, patterns, bound.items(), codes)?;
-        gets.push(get)?;
-        bound.append(atom.terms.copy(alloc)?)?;
+        push_get(alloc, atom, patterns, &mut gets, &mut bound, codes)?;
     }
     let head = head_of(alloc, &plan.head, bound.items(), codes)?;
     Ok(Steps { gets, head })

@@ -1,10 +1,28 @@
-use Rattle.std.proofs.Common.{◌≤◌, sym, subst, ◌∙◌}
-use Rattle.std.proofs.lemmas.Option.{same_Some}
+use Rattle.std.proofs.Common.{◌≤◌, refl, sym, subst, ◌∙◌}
+use Rattle.std.proofs.lemmas.Option.{same_Some, slice_get_within}
 use Rattle.esto_term.proofs.ListLemmas.{Contains-at}
 use Rattle.esto_views.specs.Plans.{fact_of}
-use Rattle.esto_plan.specs.Planned.{IsFirstMet}
-use Rattle.esto_plan.proofs.PlanLemmas.{whole_get}
+use Rattle.esto_plan.specs.Planned.{CanMeet, IsFirstMet}
+use Rattle.esto_plan.proofs.PlanLemmas.{below_start, grows_refl, grows_then, whole_get}
 use Rattle.esto_plan.proofs.planning.get_of.Goals as goal
+
+pub unreachable-requires : goal.unreachable-requires
+unreachable-requires c = c.in-None.ensures c.requires.met.0 c.requires.met.1
+    (subst (λ them. CanMeet c.args.bound.now them c.requires.met.0) (sym c.items.ensures) c.requires.met.2)
+
+pub item-access-requires : goal.item-access-requires
+item-access-requires c = slice_get_within c.args.patterns.now c.in-Some.number c.in-Some.ensures.0 c.in-Some.ensures.1
+
+pub columns-init : goal.columns-init
+columns-init c = record {
+  below = below_start c.args.codes.now c.item-access.result.now c.args.bound.now c.args.atom.now.terms _ c.new.ensures c.new-2.ensures;
+  fragment = refl;
+  grown = grows_refl c.args.codes.now;
+}
+
+pub returns-in_err-add_column-clause-grown : goal.returns-in_err-add_column-clause-grown
+returns-in_err-add_column-clause-grown c =
+    grows_then c.args.codes.now c.columns.codes c.add_column.new.codes c.columns.invariant.grown c.add_column.ensures.grown
 
 pub returns-clause-get : goal.returns-clause-get
 returns-clause-get c = let first = c.in-Some.ensures in

@@ -1,4 +1,4 @@
-use Rattle.std.proofs.Common.{◌≡◌, ◌<◌, ◌++◌, [], map, get_or, Contains, refl, sym, ap, ◌∙◌, subst}
+use Rattle.std.proofs.Common.{◌<◌, [], map, get_or, Contains, refl, sym, subst}
 use Rattle.std.specs.List.{AllZip}
 use Rattle.std.proofs.lemmas.List.Elements.{Contains-get_or}
 use Rattle.std.proofs.lemmas.List.{length-map}
@@ -8,8 +8,8 @@ use Rattle.esto_semantics.specs.Maps.{IsFixedBy}
 use Rattle.esto_term.proofs.ListLemmas.{map_at}
 use Rattle.esto_views.specs.Fragments.{patterns_of}
 use Rattle.esto_views.specs.Plans.{fact_of}
-use Rattle.esto_plan.specs.Planned.{CanMeet, IsGetOf, IsKnown, IsSource, AreStepsAfter, atoms_of}
-use Rattle.esto_plan.proofs.PlanLemmas.{planned_more, can_here, fragment_there, head_known, planned_all}
+use Rattle.esto_plan.specs.Planned.{IsGetOf, IsKnown, IsSource, AreStepsAfter, atoms_of}
+use Rattle.esto_plan.proofs.PlanLemmas.{planned_more, can_here, fragment_there, head_known, planned_all, grows_then}
 use Rattle.esto_plan.proofs.planning.steps_of.Goals as goal
 
 pub item-atom-requires : goal.item-atom-requires
@@ -27,8 +27,8 @@ item-requires c =
     (get_or c.items-number-items.result.now c.atoms.number-index 0) (fact_of c.item-atom.result.now) c.atoms-test.true refl
     (map_at fact_of c.args.plan.now.atoms (get_or c.items-number-items.result.now c.atoms.number-index 0) c.item-atom.result.now c.item-atom.ensures))
 
-pub get_of-requires-clause-met : goal.get_of-requires-clause-met
-get_of-requires-clause-met c =
+pub push_get-requires-clause-met : goal.push_get-requires-clause-met
+push_get-requires-clause-met c =
     let here = can_here (patterns_of c.args.fragments.now)
     (map fact_of c.args.plan.now.atoms) c.items-number-items.result.now c.atoms.number-index c.args.codes.now c.atoms.codes c.atoms.bound c.atoms.gets
     c.atoms.invariant
@@ -37,11 +37,11 @@ get_of-requires-clause-met c =
     let same = patterns_at c.args.fragments.now c.item-atom.result.now.fragment c.item.result.now c.item.ensures in (
       here.0.0,
       subst (λ them. Contains them here.0.0) same here.0.1,
-      subst (λ them. CanMeet them c.item-atom.result.now.terms here.0.0) (sym c.items.ensures) here.0.2,
+      here.0.2,
     )
 
-pub get_of-requires-clause-columns : goal.get_of-requires-clause-columns
-get_of-requires-clause-columns c = λ pattern among.
+pub push_get-requires-clause-columns : goal.push_get-requires-clause-columns
+push_get-requires-clause-columns c = λ pattern among.
     let here = can_here (patterns_of c.args.fragments.now)
     (map fact_of c.args.plan.now.atoms) c.items-number-items.result.now c.atoms.number-index c.args.codes.now c.atoms.codes c.atoms.bound c.atoms.gets
     c.atoms.invariant
@@ -52,21 +52,24 @@ get_of-requires-clause-columns c = λ pattern among.
 
 pub atoms-preserved : goal.atoms-preserved
 atoms-preserved c =
+    let got = c.in_ok-push_get.ensures.get in
     let same = patterns_at c.args.fragments.now c.item-atom.result.now.fragment c.item.result.now c.item.ensures in
     planned_more (patterns_of c.args.fragments.now)
     (map fact_of c.args.plan.now.atoms) c.items-number-items.result.now c.atoms.number-index c.args.codes.now c.atoms.codes c.atoms.bound c.atoms.gets
     c.atoms.invariant
     (get_or c.items-number-items.result.now c.atoms.number-index 0) (fact_of c.item-atom.result.now) c.atoms-test.true refl
     (map_at fact_of c.args.plan.now.atoms (get_or c.items-number-items.result.now c.atoms.number-index 0) c.item-atom.result.now c.item-atom.ensures)
-    c.get_of.new.codes c.in_ok-get.get c.append.new.self c.push.new.self c.get_of.ensures.grown
-    (subst (λ them. IsGetOf c.get_of.new.codes them c.atoms.bound (fact_of c.item-atom.result.now) c.in_ok-get.get) (sym same)
-    (subst (λ them. IsGetOf c.get_of.new.codes c.item.result.now.access them (fact_of c.item-atom.result.now) c.in_ok-get.get) c.items.ensures
-    c.in_ok-get.ensures.get))
-    (c.in_ok-append.ensures.ok ∙ ap (λ them. c.atoms.bound ++ them) c.in_ok-copy.ensures) c.in_ok-push.ensures.ok
+    c.push_get.new.codes got.0 c.push_get.new.bound c.push_get.new.gets c.push_get.ensures.grown
+    (subst (λ them. IsGetOf c.push_get.new.codes them c.atoms.bound (fact_of c.item-atom.result.now) got.0) (sym same) got.1)
+    c.in_ok-push_get.ensures.bound got.2
+
+pub returns-in_err-push_get-clause-grown : goal.returns-in_err-push_get-clause-grown
+returns-in_err-push_get-clause-grown c =
+    grows_then c.args.codes.now c.atoms.codes c.push_get.new.codes c.atoms.invariant.grown c.push_get.ensures.grown
 
 pub head_of-requires : goal.head_of-requires
 head_of-requires c = λ term inside.
-    subst (λ them. IsKnown them term) (sym c.items-2.ensures)
+    subst (λ them. IsKnown them term) (sym c.items.ensures)
     (head_known (patterns_of c.args.fragments.now)
     (map fact_of c.args.plan.now.atoms) c.items-number-items.result.now c.atoms.number-index c.args.codes.now c.atoms.codes c.atoms.bound c.atoms.gets
     c.atoms.invariant c.atoms-test.false term
@@ -80,4 +83,4 @@ returns-clause-steps c =
     (map fact_of c.args.plan.now.atoms) c.items-number-items.result.now c.atoms.number-index c.args.codes.now c.atoms.codes c.atoms.bound c.atoms.gets
     c.atoms.invariant c.atoms-test.false
     c.head_of.new.codes c.args.plan.now.head c.in_ok-head.head c.head_of.ensures.grown
-    (subst (λ them. AllZip (IsSource c.head_of.new.codes them) c.args.plan.now.head c.in_ok-head.head) c.items-2.ensures c.in_ok-head.ensures.head))
+    (subst (λ them. AllZip (IsSource c.head_of.new.codes them) c.args.plan.now.head c.in_ok-head.head) c.items.ensures c.in_ok-head.ensures.head))
