@@ -1,5 +1,5 @@
 //! The list of the kept sets.
-ghost use Rattle.std.specs.Prelude.{◌≡◌, ◌≢◌, ◌↔◌, ◌<◌, List, Bool, [], ◌∷◌, ◌++◌, Some, length, slice_get, AllPairs, IsTrue, IfOk, OnOk, Contains};
+ghost use Rattle.std.specs.Prelude.{◌≡◌, ◌≢◌, ◌↔◌, ◌<◌, List, Bool, Some, length, slice_get, AllPairs, IsTrue, IfOk, Contains};
 ghost use Rattle.esto_semantics.specs.Access.{IsExecutable, IsStatedOrder};
 ghost use Rattle.esto_semantics.specs.Listed.{chosen, IsWeight};
 ghost use Rattle.esto_semantics.specs.Sets.{AreInOrder};
@@ -87,20 +87,11 @@ impl Listing {
             → IfOk result (HaveWeights plan.now fragments.now) }
     {
         let sorted = sets.sorted(alloc)?;
-        let mut listing = Listing {
-            items: List::new(alloc),
-        };
+        let mut items = List::new(alloc);
         'sets: for set in sorted.items() {
-            listing.push(item_of(alloc, set, plan, fragments)?)?;
+            items.push(item_of(alloc, set, plan, fragments)?)?;
         }
-        Ok(listing)
-    }
-
-    /// Puts an item at the end.
-    fn push(&mut self, item: Listed) -> Result<(), OutOfMemory>
-        ensures { OnOk result (self.new ≡ self.old ++ item ∷ []) }
-    {
-        self.items.push(item)
+        Ok(Listing { items })
     }
 
     /// How many sets are listed.

@@ -16,22 +16,22 @@ item_of-requires c =
 
 pub sets-preserved : goal.sets-preserved
 sets-preserved c = record {
-  sets = sets_more c.sets.listing c.push.new.self c.in_ok-item_of.field-0 c.items-set-items.result.now c.sets.set-index c.set-item.result c.sets-test.true
-      c.set-item.is c.in_ok-item_of.ensures.set c.in_ok-push.ensures
+  sets = sets_more c.sets.items c.push.new.self c.in_ok-item_of.field-0 c.items-set-items.result.now c.sets.set-index c.set-item.result c.sets-test.true
+      c.set-item.is c.in_ok-item_of.ensures.set c.in_ok-push.ensures.ok
       c.sets.invariant.sets;
-  orders = subst (HaveOrders c.args.plan.now c.args.fragments.now) (sym c.in_ok-push.ensures)
+  orders = subst (HaveOrders c.args.plan.now c.args.fragments.now) (sym c.in_ok-push.ensures.ok)
       (All-push (λ (item : Listed). IsStatedOrder (patterns_of c.args.fragments.now)
-      (plan_query c.args.plan.now).body item.set item.order) c.sets.listing c.in_ok-item_of.field-0 c.sets.invariant.orders c.in_ok-item_of.ensures.order);
-  sums = subst (HaveSums c.args.plan.now c.args.fragments.now) (sym c.in_ok-push.ensures)
+      (plan_query c.args.plan.now).body item.set item.order) c.sets.items c.in_ok-item_of.field-0 c.sets.invariant.orders c.in_ok-item_of.ensures.order);
+  sums = subst (HaveSums c.args.plan.now c.args.fragments.now) (sym c.in_ok-push.ensures.ok)
       (All-push (λ (item : Listed). item.weight ≡ set_weight (weights_of c.args.fragments.now)
-      (plan_query c.args.plan.now).body item.set) c.sets.listing c.in_ok-item_of.field-0 c.sets.invariant.sums c.in_ok-item_of.ensures.sum);
-  weights = λ distinct. subst (HaveWeights c.args.plan.now c.args.fragments.now) (sym c.in_ok-push.ensures)
+      (plan_query c.args.plan.now).body item.set) c.sets.items c.in_ok-item_of.field-0 c.sets.invariant.sums c.in_ok-item_of.ensures.sum);
+  weights = λ distinct. subst (HaveWeights c.args.plan.now c.args.fragments.now) (sym c.in_ok-push.ensures.ok)
       (All-push (λ (item : Listed). IsWeight (weights_of c.args.fragments.now)
-      (chosen item.set (plan_query c.args.plan.now).body) item.weight) c.sets.listing c.in_ok-item_of.field-0 (c.sets.invariant.weights distinct)
+      (chosen item.set (plan_query c.args.plan.now).body) item.weight) c.sets.items c.in_ok-item_of.field-0 (c.sets.invariant.weights distinct)
       (c.in_ok-item_of.ensures.weight distinct));
 }
 
 pub returns-clause-members : goal.returns-clause-members
 returns-clause-members c = λ set. subst (λ it. Contains it set ↔ Contains c.args.sets.now.sets set)
-    (sym (sets_all c.sets.listing _ c.items-set-items.result.now c.sets.set-index c.items-set-items.ensures c.sets-test.false c.sets.invariant.sets))
+    (sym (sets_all c.sets.items _ c.items-set-items.result.now c.sets.set-index c.items-set-items.ensures c.sets-test.false c.sets.invariant.sets))
     (c.in_ok-sorted.ensures.members set)

@@ -6,8 +6,8 @@ use Rattle.esto_list.proofs.listing.Listing.of.Given as goal
 
 abbrev pub invariant-sets : goal.invariant-sets
 invariant-sets l = record {
-  sets : sets_of l.listing ≡ take l.set-index l.set-items;
-  orders : HaveOrders l.plan l.fragments l.listing;
-  sums : HaveSums l.plan l.fragments l.listing;
-  weights : AllPairs ◌≢◌ (plan_query l.plan).body → HaveWeights l.plan l.fragments l.listing;
+  sets : sets_of l.items ≡ take l.set-index l.set-items;
+  orders : HaveOrders l.plan l.fragments l.items;
+  sums : HaveSums l.plan l.fragments l.items;
+  weights : AllPairs ◌≢◌ (plan_query l.plan).body → HaveWeights l.plan l.fragments l.items;
 }
