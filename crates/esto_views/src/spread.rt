@@ -1,5 +1,6 @@
 //! What the terms of a view stand for in an atom over its fragment.
-ghost use Rattle.std.specs.Prelude.{◌≡◌, length, map, IfOk};
+ghost use Rattle.std.specs.Prelude.{◌≡◌, ◌+◌, ◌++◌, ◌∷◌, [], length, map, IfOk, OnOk};
+ghost use Rattle.esto_term.specs.declared.term.Term.TheVariants.{Plain};
 ghost use Rattle.esto_semantics.specs.Facts.{image};
 ghost use Rattle.esto_query.specs.Making.{query_of};
 ghost use Rattle.esto_views.specs.Fragments.{IsFragment};
@@ -18,6 +19,26 @@ pub struct Spread {
     pub to: Terms,
     /// The first number after those of the new variables.
     pub next: u64,
+}
+
+/// Puts a variable at the end of the terms, and a new variable at the end of what they stand for. The number after that
+/// of the new variable.
+fn push_variable(
+    from: &mut Terms,
+    to: &mut Terms,
+    variable: u64,
+    new: u64,
+) -> Result<u64, OutOfMemory>
+    ensures from { OnOk result (from.new ≡ from.old ++ Plain variable ∷ []) }
+    ensures to { OnOk result (to.new ≡ to.old ++ Plain new ∷ []) }
+    ensures next { IfOk result (λ next. next ≡ new + 1) }
+{
+    from.push(Term::Plain(variable))?;
+    to.push(Term::Plain(new))?;
+    match new.checked_add(1) {
+        Some(next) => Ok(next),
+        None => Err(OutOfMemory),
+    }
 }
 
 /// What the terms of the fragment's view stand for in an atom of these terms: those of its head for the atom's
@@ -40,12 +61,7 @@ pub fn spread_of(
     let mut to = terms.copy(alloc)?;
     let mut next = first;
     'inner: for number in inner.items() {
-        from.push(Term::Plain(*number))?;
-        to.push(Term::Plain(next))?;
-        next = match next.checked_add(1) {
-            Some(number) => number,
-            None => return Err(OutOfMemory),
-        };
+        next = push_variable(&mut from, &mut to, *number, next)?;
     }
     Ok(Spread { from, to, next })
 }

@@ -9,7 +9,7 @@ inner-init c = rw (c.in_ok-from.ensures, c.in_ok-to.ensures) (spread_none c.args
 
 pub inner-preserved : goal.inner-preserved
 inner-preserved c =
-    spread_more _ _ _ _ c.inner.number-index _ _ _ _ _ _ _ c.inner-test.true refl c.in_ok-push.ensures.ok c.in_ok-push-2.ensures.ok c.in-Some.ensures.1
+    spread_more _ _ _ _ c.inner.number-index _ _ _ _ _ _ _ c.inner-test.true refl c.in_ok-next.ensures.from c.in_ok-next.ensures.to c.in_ok-next.ensures.next
     c.inner.invariant
 
 pub returns-clause-spread : goal.returns-clause-spread
