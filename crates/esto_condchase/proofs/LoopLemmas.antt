@@ -28,7 +28,7 @@ use Rattle.esto_world_laws.specs.declared.entry.Reason.TheVariants.{Expanded}
 use Rattle.esto_world_laws.specs.declared.entry.Entry.{Entry}
 use Rattle.esto_world_laws.proofs.GrowLemmas.{InWorld-more, AreDerived-push}
 use Rattle.esto_world_laws.specs.Worlds.{AreOfCount}
-use Rattle.esto_condchase.specs.Rounds.{IsAdded, Grows}
+use Rattle.esto_condchase.specs.Rounds.{IsAdded, IsEntryOf, Grows}
 use Rattle.esto_condchase.proofs.MeetLemmas.{take-item}
 use Rattle.esto_condchase.proofs.CoverLemmas.{added-IsThere}
 
@@ -102,6 +102,15 @@ given_turn facts count place fact entries later it product within is it_is count
       | inl same ↦ subst (λ its. Contains its entry) (sym same.1) inside
       | inr new ↦ subst (λ its. Contains its entry) (sym new.1) (Contains-append_left entries (entry_of ∷ []) entry inside)
     ]
+
+-- the same, of the entry itself
+pub given_entry : (facts : List ExpandedFact) (count place : ℕ) (fact : ExpandedFact) (entries later : List Entry) (entry : Entry)
+    → place < length facts → fact ≡ get_or facts place fact → length entry.product ≡ count → IsEntryOf fact entry
+    → IsAdded [] entries entry.claim entry.product entry.reason later → GivenSoFar facts count place entries → GivenSoFar facts count (place + 1) later
+given_entry facts count place fact entries later entry within is counted it added so_far =
+    given_turn facts count place fact entries later fact.fact entry.product within is refl counted it.only
+    (subst (λ claim. IsAdded [] entries claim entry.product (Expanded fact.atom fact.place) later) it.states
+    (subst (λ reason. IsAdded [] entries entry.claim entry.product reason later) it.expanded added)) so_far
 
 pub given_all : (facts : List ExpandedFact) (place : ℕ) (entries : List Entry) → length facts ≤ place → AreGiven (take place facts) entries
     → AreGiven facts entries

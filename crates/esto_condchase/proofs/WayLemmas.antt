@@ -16,11 +16,11 @@ use Rattle.esto_semantics.specs.Facts.{terms_of}
 use Rattle.esto_world_laws.specs.Matches.{taken, Touching, Fits, AreChosen, IsDirectMatch}
 use Rattle.esto_world_laws.specs.Derived.{Claims, IsNamed, IsUnion, IsEquality}
 use Rattle.esto_world_laws.specs.declared.entry.Claim.{Claim}
-use Rattle.esto_world_laws.specs.declared.entry.Claim.TheVariants.{Fact as Stated}
+use Rattle.esto_world_laws.specs.declared.entry.Claim.TheVariants.{Fact as Stated, Same}
 use Rattle.esto_world_laws.specs.declared.entry.Entry.{Entry}
 use Rattle.esto_world_laws.proofs.LinkLemmas.{Touching-more, zip_weaker, zip_append, zip_split}
 use Rattle.esto_world_laws.proofs.TakenLemmas.{Fits-push, Fits-pop, Fits-split, Fits-join}
-use Rattle.esto_condchase.specs.Ways.{AreCounted, Links, met, met_by, begun, IsWay, AreLonger, AreRows, AreMatched, IsFound, AreFound}
+use Rattle.esto_condchase.specs.Ways.{AreCounted, Links, met, met_by, begun, IsWay, AreLonger, AreRows, IsAlike, AreThrough, AreMatched, IsFound, AreFound}
 use Rattle.esto_condchase.specs.declared.ways.Way.{Way}
 use Rattle.esto_condchase.proofs.MeetLemmas.{take-item}
 
@@ -426,6 +426,26 @@ module _ (entries : List Entry) (from : List Term) (atom : Fact Term) where
           | inr last ↦ counted it last ∙ ap (λ (its : Way). length its.product) is ∙ length-united before.product entry.product count
         ];
       }
+
+      -- with what goes through the entry
+      pub matched_turn : length from ≡ length before.to → length before.product ≡ length entry.product → (more later : List Way)
+          → AreThrough entries from atom before place entry.product entry.claim more → AreCounted (length before.product) more → later ≡ ways ++ more
+          → MatchedSoFar (place + 1) later
+      matched_turn lengths count more later through counted grown = by entry.claim refl through
+        where
+          unchanged : more ≡ [] → later ≡ ways
+          unchanged none = grown ∙ ap (λ it. ways ++ it) none ∙ append-nil ways
+
+          by : (claim : Claim) → entry.claim ≡ claim → AreThrough entries from atom before place entry.product claim more → MatchedSoFar (place + 1) later
+          by (Same left right) is none = subst (MatchedSoFar (place + 1)) (sym (unchanged none))
+              (matched_skip (λ fact states fitting. let same : Same left right ≡ Stated fact = sym is ∙ states in cc))
+          by (Stated fact) is (inl (fitting, rows)) =
+              matched_more fact is fitting lengths count (begun before place entry.product) refl more later rows
+              (λ way inside. counted way inside ∙ sym (length-united before.product entry.product count)) grown
+          by (Stated fact) is (inr (unfit, none)) = subst (MatchedSoFar (place + 1)) (sym (unchanged none)) (matched_skip (λ its states fitting.
+              let claims : Stated fact ≡ Stated its = sym is ∙ states in
+              let same : fact ≡ its = cc in
+              unfit (subst (λ (it : Fact Term). IsAlike atom it) (sym same) fitting)))
 
     pub matched_all : (place : ℕ) (ways : List Way) → length entries ≤ place → MatchedSoFar place ways → AreMatched entries from atom (before ∷ []) ways
     matched_all place ways past so_far = record {

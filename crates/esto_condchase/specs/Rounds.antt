@@ -1,9 +1,9 @@
 -- What a round adds.
-use Rattle.std.specs.Prelude.{◌≡◌, ◌⊎◌, ℕ, Bool, List, [], ◌∷◌, ◌++◌, Contains, Some, slice_get}
+use Rattle.std.specs.Prelude.{◌≡◌, ◌⊎◌, ◌↔◌, ℕ, Bool, List, [], ◌∷◌, ◌++◌, Contains, Some, slice_get}
 use Rattle.esto_term.specs.declared.term.Term.{Term}
 use Rattle.esto_semantics.specs.Rules.{Rule, body_of}
 use Rattle.esto_semantics.specs.declared.fact.Fact.{Fact}
-use Rattle.esto_semantics.specs.Sets.{Within, united}
+use Rattle.esto_semantics.specs.Sets.{Has, Within, united}
 use Rattle.esto_views.specs.declared.expansion.ExpandedFact.{ExpandedFact}
 use Rattle.esto_world_laws.specs.Claims.{AreSameClaim}
 use Rattle.esto_world_laws.specs.Worlds.{InWorld, AreOfCount}
@@ -14,6 +14,7 @@ use Rattle.esto_world_laws.specs.Derived.{AreDerived}
 use Rattle.esto_world_laws.specs.declared.entry.Claim.{Claim}
 use Rattle.esto_world_laws.specs.declared.entry.Claim.TheVariants.{Fact as Stated, Same}
 use Rattle.esto_world_laws.specs.declared.entry.Reason.{Reason}
+use Rattle.esto_world_laws.specs.declared.entry.Reason.TheVariants.{Expanded}
 use Rattle.esto_world_laws.specs.declared.entry.Entry.{Entry}
 use Rattle.esto_condchase.specs.Ways.{Links}
 use Rattle.esto_condchase.specs.declared.ways.Way.{Way}
@@ -37,6 +38,12 @@ pub record Grows (rules : List Rule) (count : ℕ) (entries more later : List En
 -- In each world that has the product, the claim is covered.
 abbrev pub IsThere : List Entry → Claim → List Bool → Type 0
 IsThere entries claim product = (atoms : List Bool) → Within product atoms → IsCovered (InWorld entries atoms) claim
+
+-- The entry is that of the expanded fact: it states it, with the one atom and by its place.
+pub record IsEntryOf (fact : ExpandedFact) (entry : Entry) : Type 0 where
+  pub states : entry.claim ≡ Stated fact.fact
+  pub only : (number : ℕ) → Has entry.product number ↔ (number ≡ fact.atom)
+  pub expanded : entry.reason ≡ Expanded fact.atom fact.place
 
 -- The claim is an equality of a term with itself.
 abbrev pub IsTrivial : Claim → Type 0

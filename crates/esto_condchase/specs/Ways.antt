@@ -1,5 +1,5 @@
 -- Ways to match the first atoms of a body, with the entries that they use.
-use Rattle.std.specs.Prelude.{◌≡◌, ◌⊎◌, ℕ, Bool, List, [], ◌∷◌, ◌++◌, length, map, Contains}
+use Rattle.std.specs.Prelude.{◌≡◌, ◌⊎◌, ℕ, Bool, List, [], ◌∷◌, ◌++◌, length, map, replicate, false, Contains}
 use Rattle.std.specs.List.{AllZip}
 use Rattle.esto_term.specs.declared.term.Term.{Term}
 use Rattle.esto_semantics.specs.Sets.{Within, united}
@@ -20,6 +20,10 @@ AreCounted count ways = (way : Way) → Contains ways way → length way.product
 -- The claim says that the two terms are one, in either order.
 abbrev pub Links : Claim → Term → Term → Type 0
 Links claim term other = (claim ≡ Same term other) ⊎ (claim ≡ Same other term)
+
+-- The way that has matched nothing.
+abbrev pub unbegun : ℕ → Way
+unbegun count = record { to = []; facts = []; links = []; product = replicate count false }
 
 -- The way with one more term met.
 abbrev pub met : Way → Term → Way
@@ -59,6 +63,16 @@ pub record AreRows (entries : List Entry) (from terms owns : List Term) (start :
   pub go_on : (atoms : List Bool) → length from ≡ length start.to → Within start.product atoms
       → AllZip (Touching (InWorld entries atoms)) owns (map (taken (from ++ terms) (start.to ++ owns)) terms)
       → (way : Way) × Contains ways way × (way.to ≡ start.to ++ owns) × Within way.product atoms
+
+-- The fact has the atom's relation and as many terms.
+abbrev pub IsAlike : Fact Term → Fact Term → Type 0
+IsAlike atom fact = (fact.relation ≡ atom.relation) × (length fact.terms ≡ length atom.terms)
+
+-- The ways go on from one through the claim of an entry at a place, with that product, where it is a fact that is alike to the atom; else there is none.
+abbrev pub AreThrough : List Entry → List Term → Fact Term → Way → ℕ → List Bool → Claim → List Way → Type 0
+AreThrough entries from atom before place product (Stated fact) ways =
+    (IsAlike atom fact × AreRows entries from atom.terms fact.terms (begun before place product) ways) ⊎ ((IsAlike atom fact → ⊥) × (ways ≡ []))
+AreThrough entries from atom before place product (Same left right) ways = ways ≡ []
 
 -- The ways are the given ones with a fact for one atom more.
 pub record AreMatched (entries : List Entry) (from : List Term) (atom : Fact Term) (given ways : List Way) : Type 0 where

@@ -1,7 +1,8 @@
 //! The loop, and what it promises.
-ghost use Rattle.std.specs.Prelude.{◌≡◌, ◌<◌, ◌⊎◌, ℕ, Bool, List, length, slice_index, Contains, IfOk};
+ghost use Rattle.std.specs.Prelude.{◌≡◌, ◌<◌, ◌⊎◌, ◌↔◌, ℕ, Bool, List, length, slice_index, Contains, IfOk};
 ghost use Rattle.esto_semantics.specs.Maps.{AreFlat};
 ghost use Rattle.esto_semantics.specs.Rules.{Rule};
+ghost use Rattle.esto_semantics.specs.Sets.{Has};
 ghost use Rattle.esto_constraint.specs.Constraints.{rules_of};
 ghost use Rattle.esto_acyclic.specs.Graphs.{IsWithin, AreRanks};
 ghost use Rattle.esto_acyclic.specs.Relations.{IsEdge};
@@ -11,6 +12,7 @@ ghost use Rattle.esto_world_laws.specs.Derived.{AreDerived};
 ghost use Rattle.esto_world_laws.specs.Laws.{AreGiven, IsSound, IsReceivedNowhere, IsDatabase, AreNestedWithin};
 ghost use Rattle.esto_world_laws.specs.Steps.{AreAnswered, AreJoined};
 ghost use Rattle.esto_world_laws.specs.Worlds.{InWorld, AreOfCount, IsClosed, IsBroken, IsDenied};
+ghost use Rattle.esto_condchase.specs.Rounds.{IsEntryOf};
 
 use crate::covering::add;
 use crate::rounds::round;
@@ -26,6 +28,31 @@ use esto_world_laws::{
 };
 use std::alloc::Global;
 
+/// The set of one atom.
+fn only(alloc: Global, atom: usize, atoms: usize) -> Result<RowBits, OutOfMemory>
+    requires { atom < atoms }
+    ensures counted { IfOk result (λ it. length it ≡ atoms) }
+    ensures only { IfOk result (λ it. (number : ℕ) → Has it number ↔ (number ≡ atom)) }
+{
+    let mut product = RowBits::new(alloc, atoms)?;
+    product.insert(atom);
+    Ok(product)
+}
+
+/// The entry of an expanded fact.
+fn entry_of(alloc: Global, fact: &ExpandedFact, atoms: usize) -> Result<Entry, OutOfMemory>
+    requires { fact.now.atom < atoms }
+    ensures entry { IfOk result (IsEntryOf fact.now) }
+    ensures counted { IfOk result (λ it. length it.product ≡ atoms) }
+{
+    let product = only(alloc, fact.atom, atoms)?;
+    Ok(Entry {
+        claim: Claim::Fact(fact.fact.copy(alloc)?),
+        product,
+        reason: Reason::Expanded(fact.atom, fact.place),
+    })
+}
+
 /// The entries of the expanded facts.
 fn given(alloc: Global, facts: &[ExpandedFact], atoms: usize) -> Result<List<Entry>, OutOfMemory>
     requires { (fact : ExpandedFact) → Contains facts.now fact → fact.atom < atoms }
@@ -36,11 +63,7 @@ fn given(alloc: Global, facts: &[ExpandedFact], atoms: usize) -> Result<List<Ent
 {
     let mut entries = List::new(alloc);
     'facts: for fact in facts {
-        let mut product = RowBits::new(alloc, atoms)?;
-        product.insert(fact.atom);
-        let claim = Claim::Fact(fact.fact.copy(alloc)?);
-        let reason = Reason::Expanded(fact.atom, fact.place);
-        add(alloc, &[], &mut entries, claim, &product, reason)?;
+        add(&[], &mut entries, entry_of(alloc, fact, atoms)?)?;
     }
     Ok(entries)
 }

@@ -1,10 +1,10 @@
 //! A search for the matches of a body, which keeps the products of those that it found.
-ghost use Rattle.std.specs.Prelude.{◌≡◌, ◌<◌, ◌∷◌, [], Some, drop, length, slice_get, Contains, OnOk};
+ghost use Rattle.std.specs.Prelude.{◌≡◌, ◌<◌, ◌∷◌, ◌++◌, [], Some, drop, length, slice_get, Contains, IfOk, OnOk};
 ghost use Rattle.esto_world_laws.specs.declared.entry.Claim.TheVariants.{Fact as Stated};
 ghost use Rattle.esto_condchase.specs.Products.{WayGoesOn, SomeWayGoesOn, EntryGoesOn, SomeEntryGoesOn, IsVisit, Visited};
 ghost use Rattle.esto_condchase.specs.declared.ways.Way.{Way};
 
-use crate::ways::{Way, begun, through_row};
+use crate::ways::{Way, through_fact};
 use esto_bits::Products;
 use esto_semantics::Atom;
 use esto_term::{OutOfMemory, Replicate, Term, Terms};
@@ -20,6 +20,15 @@ pub struct Matching<'a> {
     pub body: &'a [Atom],
     pub targets: &'a [Term],
     pub count: usize,
+}
+
+/// The terms, and then the others.
+fn followed(alloc: Global, terms: &Terms, others: &Terms) -> Result<Terms, OutOfMemory>
+    ensures { IfOk result (λ it. it ≡ terms.now ++ others.now) }
+{
+    let mut all = terms.copy(alloc)?;
+    all.append(others.copy(alloc)?)?;
+    Ok(all)
 }
 
 impl Matching<'_> {
@@ -179,18 +188,18 @@ impl Matching<'_> {
         if fact.relation != atom.relation || fact.terms.len() != atom.terms.len() {
             return Ok(());
         }
-        let start = begun(alloc, way, place, &entry.product)?;
-        let ways = through_row(
+        let longer = followed(alloc, from, &atom.terms)?;
+        let ways = through_fact(
             alloc,
             self.entries,
             from,
-            atom.terms.items(),
-            fact.terms.items(),
-            &start,
+            atom,
+            way,
+            place,
+            &entry.product,
+            fact,
             self.count,
         )?;
-        let mut longer = from.copy(alloc)?;
-        longer.append(atom.terms.copy(alloc)?)?;
         self.visit_all(alloc, depth + 1, &longer, ways.items(), found)?;
         Ok(())
     }

@@ -16,6 +16,7 @@ ghost use Rattle.esto_condchase.specs.Rounds.{IsAdded, Grows, IsAnswered, IsRule
 use crate::covering::add;
 use crate::news::{body_of, has_news};
 use crate::ways::{Way, matches_of};
+use esto_bits::RowBits;
 use esto_chase::frontier_of;
 use esto_constraint::{Constraint, Egd, Tgd};
 use esto_prov::{made_fact, taken_term, taken_terms, terms_of};
@@ -34,6 +35,16 @@ fn places_of(alloc: Global, way: &Way) -> Result<Places, OutOfMemory>
     Ok(places)
 }
 
+/// The way's product, and the entries that it uses.
+fn support(alloc: Global, way: &Way) -> Result<(RowBits, Places), OutOfMemory>
+    ensures { IfOk result (λ it.
+        (it.0 ≡ way.now.product) × (it.1 ≡ way.now.facts ++ way.now.links)) }
+{
+    let product = way.product.copy(alloc)?;
+    let places = places_of(alloc, way)?;
+    Ok((product, places))
+}
+
 /// Adds a claim that a rule asks for at a way.
 fn ask(
     alloc: Global,
@@ -49,15 +60,13 @@ fn ask(
         (IsAdded entries.now more.old claim way.now.product
         (Step number (way.now.facts ++ way.now.links)) more.new) }
 {
-    let places = places_of(alloc, way)?;
-    add(
-        alloc,
-        entries,
-        more,
+    let (product, places) = support(alloc, way)?;
+    let entry = Entry {
         claim,
-        &way.product,
-        Reason::Step(number, places),
-    )
+        product,
+        reason: Reason::Step(number, places),
+    };
+    add(entries, more, entry)
 }
 
 /// Adds what a tuple rule asks for at a way.
@@ -91,6 +100,15 @@ fn answer_tuple(
     Ok(())
 }
 
+/// The claim that the two terms are one.
+fn same(alloc: Global, left: &Term, right: &Term) -> Result<Claim, OutOfMemory>
+    ensures { IfOk result (λ it. it ≡ Same left.now right.now) }
+{
+    let left = left.copy(alloc)?;
+    let right = right.copy(alloc)?;
+    Ok(Claim::Same(left, right))
+}
+
 /// Adds what an equality rule asks for at a way.
 fn answer_equality(
     alloc: Global,
@@ -114,9 +132,10 @@ fn answer_equality(
         (IsAnswered (entries.now ++ more.new) number
         (equality rule.now.body rule.now.left rule.now.right) way.now) }
 {
-    let left = taken_term(from.items(), way.to.items(), &rule.left).copy(alloc)?;
-    let right = taken_term(from.items(), way.to.items(), &rule.right).copy(alloc)?;
-    ask(alloc, entries, number, way, Claim::Same(left, right), more)?;
+    let left = taken_term(from.items(), way.to.items(), &rule.left);
+    let right = taken_term(from.items(), way.to.items(), &rule.right);
+    let claim = same(alloc, left, right)?;
+    ask(alloc, entries, number, way, claim, more)?;
     Ok(())
 }
 
@@ -287,13 +306,15 @@ fn join_ends(
     if !first.to.equal(second.from) {
         return Ok(());
     }
+    let places = Values::from_slice(alloc, &[first.place, second.place])?;
     let mut product = first.entry.product.copy(alloc)?;
     product.union(&second.entry.product);
-    let mut places = Values::new(alloc);
-    places.push(first.place)?;
-    places.push(second.place)?;
-    let claim = Claim::Same(first.from.copy(alloc)?, second.to.copy(alloc)?);
-    add(alloc, entries, more, claim, &product, Reason::Equal(places))?;
+    let entry = Entry {
+        claim: same(alloc, first.from, second.to)?,
+        product,
+        reason: Reason::Equal(places),
+    };
+    add(entries, more, entry)?;
     Ok(())
 }
 

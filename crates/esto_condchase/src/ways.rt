@@ -1,9 +1,9 @@
 //! Ways to match a body among entries, modulo equalities.
-ghost use Rattle.std.specs.Prelude.{◌≡◌, ◌↔◌, ◌<◌, ◌∷◌, ◌++◌, [], List, length, slice_get, Contains, IsTrue, IfOk, Some};
+ghost use Rattle.std.specs.Prelude.{◌≡◌, ◌↔◌, ◌<◌, ◌∷◌, ◌++◌, [], List, length, slice_get, Contains, IsTrue, IfOk, OnOk, Some};
 ghost use Rattle.esto_world_laws.specs.Derived.{Claims};
 ghost use Rattle.esto_world_laws.specs.declared.entry.Claim.TheVariants.{Fact as Stated};
 ghost use Rattle.esto_world_laws.specs.Worlds.{AreOfCount};
-ghost use Rattle.esto_condchase.specs.Ways.{AreCounted, Links, met, met_by, begun, AreLonger, AreRows, AreMatched, AreFound};
+ghost use Rattle.esto_condchase.specs.Ways.{AreCounted, Links, unbegun, met, met_by, begun, AreLonger, AreRows, AreThrough, AreMatched, AreFound};
 ghost use Rattle.esto_condchase.specs.declared.ways.Way.{Way};
 
 use crate::taking::to_meet;
@@ -23,18 +23,26 @@ pub struct Way {
     pub product: RowBits,
 }
 
+/// The way that has matched nothing.
+pub fn unbegun(alloc: Global, count: usize) -> Result<Way, OutOfMemory>
+    ensures { IfOk result (λ it. it ≡ unbegun count) }
+{
+    let product = RowBits::new(alloc, count)?;
+    Ok(Way {
+        to: List::new(alloc),
+        facts: Values::new(alloc),
+        links: Values::new(alloc),
+        product,
+    })
+}
+
 /// The way with one more term met.
 fn met(alloc: Global, way: &Way, own: &Term) -> Result<Way, OutOfMemory>
     ensures { IfOk result (λ it. it ≡ met way.now own.now) }
 {
-    let mut to = way.to.copy(alloc)?;
-    to.push(own.copy(alloc)?)?;
-    Ok(Way {
-        to,
-        facts: way.facts.copy(alloc)?,
-        links: way.links.copy(alloc)?,
-        product: way.product.copy(alloc)?,
-    })
+    let mut longer = way.copy(alloc)?;
+    longer.to.push(own.copy(alloc)?)?;
+    Ok(longer)
 }
 
 /// The same, by the equality of an entry.
@@ -59,18 +67,10 @@ pub fn begun(alloc: Global, way: &Way, place: usize, product: &RowBits) -> Resul
     requires { length way.now.product ≡ length product.now }
     ensures { IfOk result (λ it. it ≡ begun way.now place product.now) }
 {
-    let to = way.to.copy(alloc)?;
-    let mut facts = way.facts.copy(alloc)?;
-    facts.push(place)?;
-    let links = way.links.copy(alloc)?;
-    let mut united = way.product.copy(alloc)?;
-    united.union(product);
-    Ok(Way {
-        to,
-        facts,
-        links,
-        product: united,
-    })
+    let mut further = way.copy(alloc)?;
+    further.facts.push(place)?;
+    further.product.union(product);
+    Ok(further)
 }
 
 /// Whether the claim says that the two terms are one.
@@ -152,6 +152,30 @@ impl Replicate for Way {
     }
 }
 
+/// Goes on by one term, and what it meets, from the terms before it and the ways that go through them.
+fn go_on(
+    alloc: Global,
+    entries: &[Entry],
+    term: &Term,
+    own: &Term,
+    count: usize,
+    from: &mut Terms,
+    ways: &mut List<Way>,
+) -> Result<(), OutOfMemory>
+    requires lengths { (way : Way) → Contains ways.old way → length from.old ≡ length way.to }
+    requires counted { AreCounted count ways.old }
+    requires counts { AreOfCount count entries.now }
+    ensures longer { OnOk result
+        (AreLonger entries.now from.old term.now own.now ways.old ways.new) }
+    ensures counted { OnOk result (AreCounted count ways.new) }
+    ensures from { OnOk result (from.new ≡ from.old ++ term.now ∷ []) }
+{
+    let longer = all_longer(alloc, entries, from.items(), term, own, ways.items(), count)?;
+    *ways = longer;
+    from.push(term.copy(alloc)?)?;
+    Ok(())
+}
+
 /// The ways that begin with the start and go through a row of terms and what they meet.
 pub fn through_row(
     alloc: Global,
@@ -174,18 +198,91 @@ pub fn through_row(
     ways.push(start.copy(alloc)?)?;
     let mut earlier = from.copy(alloc)?;
     'row: for (place, term) in terms.iter().enumerate() {
-        ways = all_longer(
+        go_on(
             alloc,
             entries,
-            earlier.items(),
             term,
             &owns[place],
-            ways.items(),
             count,
+            &mut earlier,
+            &mut ways,
         )?;
-        earlier.push(term.copy(alloc)?)?;
     }
     Ok(ways)
+}
+
+/// The ways that go on from one through the row of a fact, of an entry at a place with that product.
+pub fn through_fact(
+    alloc: Global,
+    entries: &[Entry],
+    from: &Terms,
+    atom: &Atom,
+    before: &Way,
+    place: usize,
+    product: &RowBits,
+    fact: &Atom,
+    count: usize,
+) -> Result<List<Way>, OutOfMemory>
+    requires lengths { length from.now ≡ length before.now.to }
+    requires rows { length fact.now.terms ≡ length atom.now.terms }
+    requires counted { length before.now.product ≡ count }
+    requires counts { AreOfCount count entries.now }
+    requires product { length product.now ≡ count }
+    ensures rows { IfOk result (λ ways. AreRows entries.now from.now atom.now.terms fact.now.terms
+        (begun before.now place product.now) ways) }
+    ensures counted { IfOk result (λ ways. AreCounted count ways) }
+{
+    let start = begun(alloc, before, place, product)?;
+    let ways = through_row(
+        alloc,
+        entries,
+        from,
+        atom.terms.items(),
+        fact.terms.items(),
+        &start,
+        count,
+    )?;
+    Ok(ways)
+}
+
+/// The ways through the fact of an entry, where it has one that is alike to the atom.
+fn ways_through(
+    alloc: Global,
+    entries: &[Entry],
+    from: &Terms,
+    atom: &Atom,
+    before: &Way,
+    place: usize,
+    entry: &Entry,
+    count: usize,
+) -> Result<List<Way>, OutOfMemory>
+    requires lengths { length from.now ≡ length before.now.to }
+    requires counted { length before.now.product ≡ count }
+    requires counts { AreOfCount count entries.now }
+    requires product { length entry.now.product ≡ count }
+    ensures through { IfOk result (λ ways. AreThrough entries.now from.now atom.now before.now
+        place entry.now.product entry.now.claim ways) }
+    ensures counted { IfOk result (λ ways. AreCounted count ways) }
+{
+    match &entry.claim {
+        Claim::Same(_, _) => Ok(List::new(alloc)),
+        Claim::Fact(fact) => {
+            if fact.relation != atom.relation || fact.terms.len() != atom.terms.len() {
+                return Ok(List::new(alloc));
+            }
+            through_fact(
+                alloc,
+                entries,
+                from,
+                atom,
+                before,
+                place,
+                &entry.product,
+                fact,
+                count,
+            )
+        }
+    }
 }
 
 /// One way, with a fact for one atom more.
@@ -206,23 +303,7 @@ fn matched(
 {
     let mut ways = List::new(alloc);
     'entries: for (place, entry) in entries.iter().enumerate() {
-        match &entry.claim {
-            Claim::Same(_, _) => {}
-            Claim::Fact(fact) => {
-                if fact.relation == atom.relation && fact.terms.len() == atom.terms.len() {
-                    let start = begun(alloc, before, place, &entry.product)?;
-                    ways.append(through_row(
-                        alloc,
-                        entries,
-                        from,
-                        atom.terms.items(),
-                        fact.terms.items(),
-                        &start,
-                        count,
-                    )?)?;
-                }
-            }
-        }
+        ways.append(ways_through(alloc, entries, from, atom, before, place, entry, count)?)?;
     }
     Ok(ways)
 }
@@ -250,6 +331,28 @@ fn all_matched(
     Ok(ways)
 }
 
+/// Goes on by one atom, from the terms of those before it and the ways that match them.
+fn match_next(
+    alloc: Global,
+    entries: &[Entry],
+    atom: &Atom,
+    count: usize,
+    from: &mut Terms,
+    ways: &mut List<Way>,
+) -> Result<(), OutOfMemory>
+    requires lengths { (way : Way) → Contains ways.old way → length from.old ≡ length way.to }
+    requires counted { AreCounted count ways.old }
+    requires counts { AreOfCount count entries.now }
+    ensures matched { OnOk result (AreMatched entries.now from.old atom.now ways.old ways.new) }
+    ensures counted { OnOk result (AreCounted count ways.new) }
+    ensures from { OnOk result (from.new ≡ from.old ++ atom.now.terms) }
+{
+    let matched = all_matched(alloc, entries, from, atom, ways.items(), count)?;
+    *ways = matched;
+    from.append(atom.terms.copy(alloc)?)?;
+    Ok(())
+}
+
 /// The direct matches of a body among the entries, each with what it uses: in each world, each direct match is one of
 /// them, with a product within the world's set.
 pub fn matches_of(
@@ -263,16 +366,10 @@ pub fn matches_of(
     ensures counted { IfOk result (λ ways. AreCounted count ways) }
 {
     let mut ways = List::new(alloc);
-    ways.push(Way {
-        to: List::new(alloc),
-        facts: Values::new(alloc),
-        links: Values::new(alloc),
-        product: RowBits::new(alloc, count)?,
-    })?;
+    ways.push(unbegun(alloc, count)?)?;
     let mut from = List::new(alloc);
     'atoms: for atom in body {
-        ways = all_matched(alloc, entries, &from, atom, ways.items(), count)?;
-        from.append(atom.terms.copy(alloc)?)?;
+        match_next(alloc, entries, atom, count, &mut from, &mut ways)?;
     }
     Ok(ways)
 }

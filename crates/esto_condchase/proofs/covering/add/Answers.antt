@@ -1,30 +1,22 @@
-use Rattle.std.proofs.Common.{◌++◌, ◌∷◌, [], inl, inr, sym, ap, subst, ◌∙◌}
+use Rattle.std.proofs.Common.{◌++◌, inl, inr, sym, refl, subst, ◌∙◌}
 use Rattle.std.proofs.lemmas.Bool.{false≢true}
-use Rattle.esto_condchase.specs.Rounds.{CoversClaim}
-use Rattle.std.proofs.Common.{List, Bool, refl}
-use Rattle.esto_condchase.proofs.CoverLemmas.{covered_cases, covered_left, covered_right}
+use Rattle.esto_world_laws.specs.Steps.{IsCovered}
+use Rattle.esto_world_laws.specs.Worlds.{InWorld, AreOfCount}
 use Rattle.esto_condchase.proofs.covering.add.Goals as goal
 
-pub returns-then-covers : goal.returns-then-covers
-returns-then-covers c = inl (covered_left c.args.entries.now c.args.more.now c.args.product.now c.args.claim (c.covers.ensures.0 c.if-covers.true), refl)
+pub is_covered-requires-clause-more_counts : goal.is_covered-requires-clause-more_counts
+is_covered-requires-clause-more_counts c = subst (AreOfCount _) (sym c.items.ensures) c.requires.more_counts
 
-pub returns-then-covers-2 : goal.returns-then-covers-2
-returns-then-covers-2 c = inl (
-  covered_right c.args.entries.now c.args.more.now c.args.product.now c.args.claim
-      (subst (λ it. CoversClaim it c.args.claim c.args.product.now) c.items.ensures (c.covers-2.ensures.0 c.if-covers-2.true)),
+pub returns-then-is_covered : goal.returns-then-is_covered
+returns-then-is_covered c = inl (
+  subst (λ it. IsCovered (InWorld (c.args.entries.now ++ it) c.args.entry.product) c.args.entry.claim) c.items.ensures
+      (c.is_covered.ensures.0 c.if-is_covered.true),
   refl,
 )
 
 pub returns : goal.returns
 returns c = inr (
-  (λ covered. elim (covered_cases c.args.entries.now c.args.more.now c.args.product.now c.args.claim covered) [
-    | inl trivial ↦ false≢true (sym c.if-is_trivial.false ∙ c.is_trivial.ensures.1 trivial)
-    | inr covers ↦ elim covers [
-      | inl here ↦ false≢true (sym c.if-covers.false ∙ c.covers.ensures.1 here)
-      | inr there ↦ false≢true (sym c.if-covers-2.false ∙ c.covers-2.ensures.1
-          (subst (λ it. CoversClaim it c.args.claim c.args.product.now) (sym c.items.ensures) there))
-    ]
-  ]),
-  c.in_ok-push.ensures.ok ∙ ap (λ (it : List Bool). c.args.more.now ++ (record { claim = c.args.claim; product = it; reason = c.args.reason }) ∷ [])
-      c.in_ok-copied.ensures,
+  (λ covered. false≢true (sym c.if-is_covered.false ∙ c.is_covered.ensures.1
+      (subst (λ it. IsCovered (InWorld (c.args.entries.now ++ it) c.args.entry.product) c.args.entry.claim) (sym c.items.ensures) covered))),
+  c.in_ok-push.ensures.ok,
 )

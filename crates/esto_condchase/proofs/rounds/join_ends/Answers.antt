@@ -1,6 +1,7 @@
-use Rattle.std.proofs.Common.{◌≡◌, ◌++◌, ◌∷◌, [], length, ap, sym, subst, ◌∙◌}
+use Rattle.std.proofs.Common.{◌≡◌, length, refl, ap, sym, subst, ◌∙◌}
 use Rattle.esto_semantics.specs.Sets.{united}
-use Rattle.esto_condchase.specs.Rounds.{LinksAt}
+use Rattle.esto_world_laws.specs.declared.entry.Reason.TheVariants.{Equal}
+use Rattle.esto_condchase.specs.Rounds.{IsAdded, LinksAt}
 use Rattle.esto_condchase.proofs.RoundLemmas.{joined_Grows, joined_IsThere, joined_count}
 use Rattle.esto_condchase.proofs.rounds.join_ends.Goals as goal
 
@@ -41,10 +42,10 @@ returns-clause-grows c =
     c.add.new.more c.args.count
     (joined_count c.args.entries.now c.args.count first.place second.place first.entry.now second.entry.now c.requires.counts c.requires.first.0
     c.requires.second.0).1
-    _ _ _ _ c.in_ok-copy.ensures c.in_ok-copy-2.ensures (c.union.ensures.value ∙ ap (λ it. united it second.entry.now.product) c.in_ok-product.ensures)
-    (c.in_ok-push-2.ensures.ok ∙ ap (λ it. it ++ second.place ∷ [])
-    (c.in_ok-push.ensures.ok ∙ ap (λ it. it ++ first.place ∷ []) c.new-places.ensures))
-    c.in_ok-add.ensures
+    _ _ _ _ refl refl (c.union.ensures.value ∙ ap (λ it. united it second.entry.now.product) c.in_ok-product.ensures)
+    c.in_ok-places.ensures
+    (subst (λ it. IsAdded c.args.entries.now c.args.more.now it c.union.new.self (Equal c.in_ok-places.places) c.add.new.more) c.in_ok-same.ensures
+    c.in_ok-add.ensures)
 
 pub returns-clause-joined : goal.returns-clause-joined
 returns-clause-joined c meet =
@@ -56,7 +57,7 @@ returns-clause-joined c meet =
     c.add.new.more c.args.count
     (joined_count c.args.entries.now c.args.count first.place second.place first.entry.now second.entry.now c.requires.counts c.requires.first.0
     c.requires.second.0).1
-    _ _ _ _ c.in_ok-copy.ensures c.in_ok-copy-2.ensures (c.union.ensures.value ∙ ap (λ it. united it second.entry.now.product) c.in_ok-product.ensures)
-    (c.in_ok-push-2.ensures.ok ∙ ap (λ it. it ++ second.place ∷ [])
-    (c.in_ok-push.ensures.ok ∙ ap (λ it. it ++ first.place ∷ []) c.new-places.ensures))
-    c.in_ok-add.ensures
+    _ _ _ _ refl refl (c.union.ensures.value ∙ ap (λ it. united it second.entry.now.product) c.in_ok-product.ensures)
+    c.in_ok-places.ensures
+    (subst (λ it. IsAdded c.args.entries.now c.args.more.now it c.union.new.self (Equal c.in_ok-places.places) c.add.new.more) c.in_ok-same.ensures
+    c.in_ok-add.ensures)

@@ -1,4 +1,4 @@
-use Rattle.std.proofs.Common.{◌++◌, ◌∷◌, [], take, length, ap, sym, ◌∙◌, append_assoc}
+use Rattle.std.proofs.Common.{◌++◌, ◌∷◌, [], take, length, ap, sym, ◌∙◌, refl, append_assoc}
 use Rattle.std.proofs.lemmas.List.{append-nil}
 use Rattle.esto_condchase.specs.declared.ways.Way.{Way}
 use Rattle.esto_condchase.proofs.MeetLemmas.{take-item}
@@ -15,20 +15,18 @@ row-init c =
           ∙ c.requires.counted);
     }
 
-pub all_longer-requires-clause-lengths : goal.all_longer-requires-clause-lengths
-all_longer-requires-clause-lengths c =
+pub go_on-requires-clause-lengths : goal.go_on-requires-clause-lengths
+go_on-requires-clause-lengths c =
     row_lengths c.args.entries.now c.args.from.now c.args.start.now c.args.terms.now c.args.owns.now c.requires.rows c.row.place c.row.earlier
-    c.items.result.now c.row.ways c.items-in-row.result.now
-    c.items.ensures c.row.invariant.earlier c.items-in-row.ensures c.row.invariant.rows c.requires.lengths
+    c.row.earlier c.row.ways c.row.ways refl c.row.invariant.earlier refl c.row.invariant.rows c.requires.lengths
 
 pub row-preserved : goal.row-preserved
 row-preserved c = record {
   rows = row_turn c.args.entries.now c.args.from.now c.args.start.now c.args.terms.now c.args.owns.now c.requires.rows c.row.place c.row.earlier
-      c.items.result.now c.row.ways c.items-in-row.result.now
-      c.items.ensures c.row.invariant.earlier c.items-in-row.ensures c.row.invariant.rows c.index-terms-place.result c.index-owns-place.result c.in_ok-ways.ways
-      c.row-test.true c.index-terms-place.is c.index-owns-place.is c.in_ok-ways.ensures.longer;
-  earlier = c.in_ok-push-2.ensures.ok ∙ (λ i. c.row.invariant.earlier i ++ c.in_ok-copy-2.ensures i ∷ [])
+      c.row.earlier c.row.ways c.row.ways refl c.row.invariant.earlier refl c.row.invariant.rows c.index-terms-place.result c.index-owns-place.result
+      c.go_on.new.ways c.row-test.true c.index-terms-place.is c.index-owns-place.is c.in_ok-go_on.ensures.longer;
+  earlier = c.in_ok-go_on.ensures.from ∙ (λ i. c.row.invariant.earlier i ++ c.index-terms-place.result ∷ [])
       ∙ append_assoc c.args.from.now (take c.row.place c.args.terms.now) (c.index-terms-place.result ∷ [])
       ∙ ap (λ it. c.args.from.now ++ it) (sym (take-item c.args.terms.now c.row.place c.index-terms-place.result c.row-test.true c.index-terms-place.is));
-  counted = c.in_ok-ways.ensures.counted;
+  counted = c.in_ok-go_on.ensures.counted;
 }

@@ -1,10 +1,10 @@
-use Rattle.std.proofs.Common.{true, false, ◌++◌, length, get_or, drop, sym, ap, ◌∙◌, arith}
+use Rattle.std.proofs.Common.{true, false, length, get_or, drop, refl, sym, ap, ◌∙◌, arith}
 use Rattle.esto_term.proofs.ListLemmas.{Contains-at}
 use Rattle.esto_condchase.specs.Products.{WayGoesOn, SomeEntryGoesOn}
+use Rattle.esto_condchase.specs.Ways.{begun}
 use Rattle.esto_condchase.proofs.MatchingLemmas.{ended, next_visits, next_goes}
 use Rattle.esto_condchase.proofs.MeetLemmas.{item_at}
 use Rattle.esto_condchase.proofs.VisitLemmas.{visited_both, way_more, entry_more, turns, drop_some}
-use Rattle.esto_condchase.proofs.WayLemmas.{begun_count, rows_of_items}
 use Rattle.esto_condchase.proofs.matching.Matching.+visit.Goals as goal
 
 pub visit-returns-then-depth-self-clause-visited : goal.visit-returns-then-depth-self-clause-visited
@@ -78,30 +78,27 @@ pub visit_entry-visit_fact-requires : goal.visit_entry-visit_fact-requires
 visit_entry-visit_fact-requires t c =
     (omega (arith, c.decreases), (c.requires.visit, (c.requires.inside, (c.requires.at, (c.in-Fact.is, c.requires.same_count)))))
 
-pub visit_fact-through_row-requires-clause-counted : goal.visit_fact-through_row-requires-clause-counted
-visit_fact-through_row-requires-clause-counted t c =
-    let entry = c.args.entry.now in
-    begun_count c.args.way.now c.in_ok-start.start c.args.place c.args.self.now.count entry.product c.in_ok-start.ensures c.requires.visit.counted
-    (c.requires.visit.counts entry (Contains-at c.args.self.now.entries.now c.args.place entry c.requires.at))
+pub visit_fact-through_fact-requires : goal.visit_fact-through_fact-requires
+visit_fact-through_fact-requires t c = record {
+  lengths = ap length c.requires.visit.from_is ∙ c.requires.visit.begun.is_way.lengths ∙ ap length (sym c.requires.visit.begun.is_way.to_is);
+  rows = sym c.len.ensures ∙ c.if-len.false ∙ c.len-else-fact-atom.ensures;
+  counted = c.requires.visit.counted;
+  counts = c.requires.visit.counts;
+  product = c.requires.visit.counts c.args.entry.now (Contains-at c.args.self.now.entries.now c.args.place c.args.entry.now c.requires.at);
+}
 
 pub visit_fact-visit_all-requires : goal.visit_fact-visit_all-requires
 visit_fact-visit_all-requires t c =
     let it = c.args.self.now in
-    let from = c.args.from.now in
-    let fact = c.args.fact.now in
-    let atom = get_or it.body.now c.args.depth c.index-self-depth.result in
-    let start = c.in_ok-start.start in
-    let ways = c.in_ok-ways.ways in
-    let longer = c.append.new.self in (
+    let atom = get_or it.body.now c.args.depth c.index-self-depth.result in (
       omega (arith, c.decreases, c.requires.inside),
       (
-        next_visits it.entries.now it.head.now it.body.now it.targets.now c.requires.visit.heads it.count c.args.depth from c.args.way.now
-            c.requires.visit c.args.place c.args.entry.now c.requires.at fact c.requires.states atom c.requires.inside
+        next_visits it.entries.now it.head.now it.body.now it.targets.now c.requires.visit.heads it.count c.args.depth c.args.from.now c.args.way.now
+            c.requires.visit c.args.place c.args.entry.now c.requires.at c.args.fact.now c.requires.states atom c.requires.inside
             (ap (get_or it.body.now c.args.depth) c.index-self-depth.is) c.if-fact-atom.false
-            (sym c.len.ensures ∙ c.if-len.false ∙ c.len-else-fact-atom.ensures) start c.in_ok-start.ensures
-            ways c.items-3.result.now (rows_of_items it.entries.now from atom.terms c.items.result.now fact.terms c.items-2.result.now start ways
-            c.items.ensures c.items-2.ensures c.in_ok-ways.ensures.rows) c.items-3.ensures c.in_ok-ways.ensures.counted longer
-            (c.in_ok-append.ensures.ok ∙ (λ i. c.in_ok-longer.ensures i ++ c.in_ok-copy.ensures i)),
+            (sym c.len.ensures ∙ c.if-len.false ∙ c.len-else-fact-atom.ensures) (begun c.args.way.now c.args.place c.args.entry.now.product) refl
+            c.in_ok-ways.ways c.items.result.now c.in_ok-ways.ensures.rows c.items.ensures c.in_ok-ways.ensures.counted c.in_ok-longer.longer
+            c.in_ok-longer.ensures,
         c.requires.same_count,
       ),
     )
@@ -109,17 +106,10 @@ visit_fact-visit_all-requires t c =
 pub visit_fact-returns-clause-visited : goal.visit_fact-returns-clause-visited
 visit_fact-returns-clause-visited t c =
     let it = c.args.self.now in
-    let from = c.args.from.now in
-    let fact = c.args.fact.now in
     let atom = get_or it.body.now c.args.depth c.index-self-depth.result in
-    let start = c.in_ok-start.start in
-    let ways = c.in_ok-ways.ways in
-    let longer = c.append.new.self in
-    next_goes it.entries.now it.head.now it.body.now it.targets.now c.requires.visit.heads it.count c.args.depth from c.args.way.now
-    c.requires.visit c.args.place c.args.entry.now c.requires.at fact c.requires.states atom c.requires.inside
+    next_goes it.entries.now it.head.now it.body.now it.targets.now c.requires.visit.heads it.count c.args.depth c.args.from.now c.args.way.now
+    c.requires.visit c.args.place c.args.entry.now c.requires.at c.args.fact.now c.requires.states atom c.requires.inside
     (ap (get_or it.body.now c.args.depth) c.index-self-depth.is) c.if-fact-atom.false
-    (sym c.len.ensures ∙ c.if-len.false ∙ c.len-else-fact-atom.ensures) start c.in_ok-start.ensures
-    ways c.items-3.result.now (rows_of_items it.entries.now from atom.terms c.items.result.now fact.terms c.items-2.result.now start ways
-    c.items.ensures c.items-2.ensures c.in_ok-ways.ensures.rows) c.items-3.ensures c.in_ok-ways.ensures.counted longer
-    (c.in_ok-append.ensures.ok ∙ (λ i. c.in_ok-longer.ensures i ++ c.in_ok-copy.ensures i)) c.args.found.now.sets c.visit_all.new.found.sets
-    c.in_ok-visit_all.ensures.visited
+    (sym c.len.ensures ∙ c.if-len.false ∙ c.len-else-fact-atom.ensures) (begun c.args.way.now c.args.place c.args.entry.now.product) refl
+    c.in_ok-ways.ways c.items.result.now c.in_ok-ways.ensures.rows c.items.ensures c.in_ok-ways.ensures.counted c.in_ok-longer.longer
+    c.in_ok-longer.ensures c.args.found.now.sets c.visit_all.new.found.sets c.in_ok-visit_all.ensures.visited
