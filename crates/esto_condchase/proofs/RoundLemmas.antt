@@ -30,7 +30,7 @@ use Rattle.esto_world_laws.proofs.GrowLemmas.{InWorld-more, IsCovered-more, Foll
 use Rattle.esto_world_laws.specs.Worlds.{AreOfCount}
 use Rattle.esto_prov.specs.Taking.{made_of}
 use Rattle.esto_condchase.specs.Ways.{Links, IsFound, AreFound}
-use Rattle.esto_condchase.specs.Rounds.{IsAdded, IsThere, Grows, IsAnswered, IsRuleAnswered, LinksAt, IsPairJoined}
+use Rattle.esto_condchase.specs.Rounds.{IsAdded, IsThere, Grows, IsAnswered, IsRuleAnswered, LinksAt, IsJoinedWith, IsPairJoined}
 use Rattle.esto_condchase.specs.declared.ways.Way.{Way}
 use Rattle.esto_condchase.proofs.MeetLemmas.{take-item}
 use Rattle.esto_condchase.proofs.WayLemmas.{IsUnion-more}
@@ -288,41 +288,40 @@ joined_count entries count first second x y counts at at_other =
     let two = counts y (Contains-at entries second y at_other) in
     (one ∙ sym two, length-united x.product y.product (one ∙ sym two) ∙ one)
 
--- two entries: each of the four ways to meet
-pub pair_joined : (entries one two three four : List Entry) (x y : Entry) (left right other_left other_right : Term) → x.claim ≡ Same left right → y.claim
-    ≡ Same other_left other_right
-    → ((entry : Entry) → Contains one entry → Contains two entry) → ((entry : Entry) → Contains two entry → Contains three entry)
-    → ((entry : Entry) → Contains three entry → Contains four entry)
-    → (right ≡ other_left → IsThere (entries ++ one) (Same left other_right) (united x.product y.product))
-    → (right ≡ other_right → IsThere (entries ++ two) (Same left other_left) (united x.product y.product))
-    → (left ≡ other_left → IsThere (entries ++ three) (Same right other_right) (united x.product y.product))
-    → (left ≡ other_right → IsThere (entries ++ four) (Same right other_left) (united x.product y.product))
-    → IsPairJoined (entries ++ four) x y
-pair_joined entries one two three four x y left right other_left other_right x_is y_is kept kept_two kept_three joined_one joined_two joined_three joined_four s
-    t u (inl a) (inl b) =
-    let p : Same left right ≡ Same s t = sym x_is ∙ a in let q : Same other_left other_right ≡ Same t u = sym y_is ∙ b in
-    let meet : right ≡ other_left = cc in let s_is : left ≡ s = cc in let u_is : other_right ≡ u = cc in
-    subst (λ it. IsThere (entries ++ four) it (united x.product y.product)) (λ i. Same (s_is i) (u_is i))
-    (IsThere-grows entries one four (λ entry inside. kept_three entry (kept_two entry (kept entry inside))) (Same left other_right) (united x.product y.product)
-    (joined_one meet))
-pair_joined entries one two three four x y left right other_left other_right x_is y_is kept kept_two kept_three joined_one joined_two joined_three joined_four s
-    t u (inl a) (inr b) =
-    let p : Same left right ≡ Same s t = sym x_is ∙ a in let q : Same other_left other_right ≡ Same u t = sym y_is ∙ b in
-    let meet : right ≡ other_right = cc in let s_is : left ≡ s = cc in let u_is : other_left ≡ u = cc in
-    subst (λ it. IsThere (entries ++ four) it (united x.product y.product)) (λ i. Same (s_is i) (u_is i))
-    (IsThere-grows entries two four (λ entry inside. kept_three entry (kept_two entry inside)) (Same left other_left) (united x.product y.product)
-    (joined_two meet))
-pair_joined entries one two three four x y left right other_left other_right x_is y_is kept kept_two kept_three joined_one joined_two joined_three joined_four s
-    t u (inr a) (inl b) =
-    let p : Same left right ≡ Same t s = sym x_is ∙ a in let q : Same other_left other_right ≡ Same t u = sym y_is ∙ b in
-    let meet : left ≡ other_left = cc in let s_is : right ≡ s = cc in let u_is : other_right ≡ u = cc in
-    subst (λ it. IsThere (entries ++ four) it (united x.product y.product)) (λ i. Same (s_is i) (u_is i))
-    (IsThere-grows entries three four kept_three (Same right other_right) (united x.product y.product) (joined_three meet))
-pair_joined entries one two three four x y left right other_left other_right x_is y_is kept kept_two kept_three joined_one joined_two joined_three joined_four s
-    t u (inr a) (inr b) =
-    let p : Same left right ≡ Same t s = sym x_is ∙ a in let q : Same other_left other_right ≡ Same u t = sym y_is ∙ b in
-    let meet : left ≡ other_right = cc in let s_is : right ≡ s = cc in let u_is : other_left ≡ u = cc in
-    subst (λ it. IsThere (entries ++ four) it (united x.product y.product)) (λ i. Same (s_is i) (u_is i)) (joined_four meet)
+-- a link and an entry: the two ways to meet
+pub ends_joined : (entries one two : List Entry) (from to : Term) (product : List Bool) (y : Entry) (left right : Term) → y.claim ≡ Same left right
+    → ((entry : Entry) → Contains one entry → Contains two entry)
+    → (to ≡ left → IsThere (entries ++ one) (Same from right) (united product y.product))
+    → (to ≡ right → IsThere (entries ++ two) (Same from left) (united product y.product))
+    → IsJoinedWith (entries ++ two) from to product y
+ends_joined entries one two from to product y left right is kept joined_one joined_two other (inl b) =
+    let both : Same left right ≡ Same to other = sym is ∙ b in
+    let meet : to ≡ left = cc in
+    let end : right ≡ other = cc in
+    subst (λ it. IsThere (entries ++ two) (Same from it) (united product y.product)) end
+    (IsThere-grows entries one two kept (Same from right) (united product y.product) (joined_one meet))
+ends_joined entries one two from to product y left right is kept joined_one joined_two other (inr b) =
+    let both : Same left right ≡ Same other to = sym is ∙ b in
+    let meet : to ≡ right = cc in
+    let end : left ≡ other = cc in
+    subst (λ it. IsThere (entries ++ two) (Same from it) (united product y.product)) end (joined_two meet)
+
+-- two entries: the first from either of its sides
+pub pair_joined : (entries one two : List Entry) (x y : Entry) (left right : Term) → x.claim ≡ Same left right
+    → ((entry : Entry) → Contains one entry → Contains two entry)
+    → IsJoinedWith (entries ++ one) left right x.product y → IsJoinedWith (entries ++ two) right left x.product y
+    → IsPairJoined (entries ++ two) x y
+pair_joined entries one two x y left right is kept joined_one joined_two s t u (inl a) b =
+    let both : Same left right ≡ Same s t = sym is ∙ a in
+    let begin : left ≡ s = cc in
+    let meet : right ≡ t = cc in
+    subst (λ it. IsThere (entries ++ two) (Same it u) (united x.product y.product)) begin
+    (IsThere-grows entries one two kept (Same left u) (united x.product y.product) (joined_one u (subst (λ it. Links y.claim it u) (sym meet) b)))
+pair_joined entries one two x y left right is kept joined_one joined_two s t u (inr a) b =
+    let both : Same left right ≡ Same t s = sym is ∙ a in
+    let begin : right ≡ s = cc in
+    let meet : left ≡ t = cc in
+    subst (λ it. IsThere (entries ++ two) (Same it u) (united x.product y.product)) begin (joined_two u (subst (λ it. Links y.claim it u) (sym meet) b))
 
 pub IsPairJoined-grows : (entries more later : List Entry) (x y : Entry) → ((entry : Entry) → Contains more entry → Contains later entry)
     → IsPairJoined (entries ++ more) x y → IsPairJoined (entries ++ later) x y

@@ -65,6 +65,11 @@ IsRuleAnswered old new number rule =
 abbrev pub LinksAt : List Entry → ℕ → Entry → Term → Term → Type 0
 LinksAt entries place entry term other = (slice_get entries place ≡ Some entry) × Links entry.claim term other
 
+-- What an entry links to where a link leads is there, from where the link begins.
+abbrev pub IsJoinedWith : List Entry → Term → Term → List Bool → Entry → Type 0
+IsJoinedWith entries from to product second =
+    (other : Term) → Links second.claim to other → IsThere entries (Same from other) (united product second.product)
+
 -- What two entries link one after the other is there.
 abbrev pub IsPairJoined : List Entry → Entry → Entry → Type 0
 IsPairJoined entries first second =

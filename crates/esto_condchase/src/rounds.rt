@@ -11,7 +11,7 @@ ghost use Rattle.esto_world_laws.specs.declared.entry.Claim.TheVariants.{Same};
 ghost use Rattle.esto_world_laws.specs.declared.entry.Entry.{Entry};
 ghost use Rattle.esto_world_laws.specs.declared.entry.Reason.TheVariants.{Step};
 ghost use Rattle.esto_condchase.specs.Ways.{IsFound};
-ghost use Rattle.esto_condchase.specs.Rounds.{IsAdded, Grows, IsAnswered, IsRuleAnswered, IsThere, LinksAt, IsPairJoined};
+ghost use Rattle.esto_condchase.specs.Rounds.{IsAdded, Grows, IsAnswered, IsRuleAnswered, IsThere, LinksAt, IsJoinedWith, IsPairJoined};
 
 use crate::covering::add;
 use crate::news::{body_of, has_news};
@@ -318,6 +318,49 @@ fn join_ends(
     Ok(())
 }
 
+/// Adds the links of one and an entry that meet in one term.
+fn join_with(
+    alloc: Global,
+    entries: &[Entry],
+    first: &Link,
+    second: usize,
+    second_entry: &Entry,
+    count: usize,
+    more: &mut List<Entry>,
+) -> Result<(), OutOfMemory>
+    requires first { LinksAt entries.now first.now.place first.now.entry.now
+        first.now.from.now first.now.to.now }
+    requires second { slice_get entries.now second ≡ Some second_entry.now }
+    requires counts { AreOfCount count entries.now }
+    requires more_counts { AreOfCount count more.old }
+    ensures grows { OnOk result
+        ((rules : List Rule) → Grows rules count entries.now more.old more.new) }
+    ensures joined { OnOk result
+        (IsJoinedWith (entries.now ++ more.new) first.now.from.now first.now.to.now
+        first.now.entry.now.product second_entry.now) }
+{
+    match &second_entry.claim {
+        Claim::Fact(_) => Ok(()),
+        Claim::Same(left, right) => {
+            let along = Link {
+                place: second,
+                entry: second_entry,
+                from: left,
+                to: right,
+            };
+            let back = Link {
+                place: second,
+                entry: second_entry,
+                from: right,
+                to: left,
+            };
+            join_ends(alloc, entries, first, &along, count, more)?;
+            join_ends(alloc, entries, first, &back, count, more)?;
+            Ok(())
+        }
+    }
+}
+
 /// Adds the links of two entries that meet in one term.
 fn join_pair(
     alloc: Global,
@@ -340,40 +383,23 @@ fn join_pair(
 {
     match &first_entry.claim {
         Claim::Fact(_) => Ok(()),
-        Claim::Same(left, right) => match &second_entry.claim {
-            Claim::Fact(_) => Ok(()),
-            Claim::Same(other_left, other_right) => {
-                let along = Link {
-                    place: first,
-                    entry: first_entry,
-                    from: left,
-                    to: right,
-                };
-                let back = Link {
-                    place: first,
-                    entry: first_entry,
-                    from: right,
-                    to: left,
-                };
-                let other_along = Link {
-                    place: second,
-                    entry: second_entry,
-                    from: other_left,
-                    to: other_right,
-                };
-                let other_back = Link {
-                    place: second,
-                    entry: second_entry,
-                    from: other_right,
-                    to: other_left,
-                };
-                join_ends(alloc, entries, &along, &other_along, count, more)?;
-                join_ends(alloc, entries, &along, &other_back, count, more)?;
-                join_ends(alloc, entries, &back, &other_along, count, more)?;
-                join_ends(alloc, entries, &back, &other_back, count, more)?;
-                Ok(())
-            }
-        },
+        Claim::Same(left, right) => {
+            let along = Link {
+                place: first,
+                entry: first_entry,
+                from: left,
+                to: right,
+            };
+            let back = Link {
+                place: first,
+                entry: first_entry,
+                from: right,
+                to: left,
+            };
+            join_with(alloc, entries, &along, second, second_entry, count, more)?;
+            join_with(alloc, entries, &back, second, second_entry, count, more)?;
+            Ok(())
+        }
     }
 }
 

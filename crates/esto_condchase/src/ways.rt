@@ -1,7 +1,8 @@
 //! Ways to match a body among entries, modulo equalities.
-ghost use Rattle.std.specs.Prelude.{◌≡◌, ◌↔◌, ◌<◌, ◌∷◌, ◌++◌, [], List, length, slice_get, Contains, IsTrue, IfOk, OnOk, Some};
+ghost use Rattle.std.specs.Prelude.{◌≡◌, ◌≢◌, ◌↔◌, ◌<◌, ◌∷◌, ◌++◌, [], List, length, slice_get, Contains, IsTrue, IfOk, OnOk, Some};
 ghost use Rattle.esto_world_laws.specs.Derived.{Claims};
 ghost use Rattle.esto_world_laws.specs.declared.entry.Claim.TheVariants.{Fact as Stated};
+ghost use Rattle.esto_world_laws.specs.Matches.{taken};
 ghost use Rattle.esto_world_laws.specs.Worlds.{AreOfCount};
 ghost use Rattle.esto_condchase.specs.Ways.{AreCounted, Links, unbegun, met, met_by, begun, AreLonger, AreRows, AreThrough, AreMatched, AreFound};
 ghost use Rattle.esto_condchase.specs.declared.ways.Way.{Way};
@@ -88,6 +89,33 @@ fn links(claim: &Claim, term: &Term, other: &Term) -> bool
     }
 }
 
+/// One way, with one term more, which is made what it has to meet by an equality.
+fn longer_by_links(
+    alloc: Global,
+    entries: &[Entry],
+    from: &[Term],
+    term: &Term,
+    own: &Term,
+    goal: &Term,
+    before: &Way,
+) -> Result<List<Way>, OutOfMemory>
+    requires goal { goal.now
+        ≡ taken (from.now ++ term.now ∷ []) (before.now.to ++ own.now ∷ []) term.now }
+    requires apart { own.now ≢ goal.now }
+    requires counts { AreOfCount (length before.now.product) entries.now }
+    ensures longer { IfOk result
+        (λ ways. AreLonger entries.now from.now term.now own.now (before.now ∷ []) ways) }
+    ensures counted { IfOk result (λ ways. AreCounted (length before.now.product) ways) }
+{
+    let mut ways = List::new(alloc);
+    'entries: for (place, entry) in entries.iter().enumerate() {
+        if links(&entry.claim, own, goal) {
+            ways.push(met_by(alloc, before, own, place, &entry.product)?)?;
+        }
+    }
+    Ok(ways)
+}
+
 /// One way, with one term more.
 fn longer(
     alloc: Global,
@@ -103,17 +131,13 @@ fn longer(
         (λ ways. AreLonger entries.now from.now term.now own.now (before.now ∷ []) ways) }
     ensures counted { IfOk result (λ ways. AreCounted (length before.now.product) ways) }
 {
-    let mut ways = List::new(alloc);
     let goal = to_meet(from, before.to.items(), term, own);
     if own.equal(goal) {
+        let mut ways = List::new(alloc);
         ways.push(met(alloc, before, own)?)?;
         return Ok(ways);
     }
-    'entries: for (place, entry) in entries.iter().enumerate() {
-        if links(&entry.claim, own, goal) {
-            ways.push(met_by(alloc, before, own, place, &entry.product)?)?;
-        }
-    }
+    let ways = longer_by_links(alloc, entries, from, term, own, goal, before)?;
     Ok(ways)
 }
 

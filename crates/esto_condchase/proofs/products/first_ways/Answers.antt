@@ -1,4 +1,4 @@
-use Rattle.std.proofs.Common.{◌≡◌, false, refl, sym, ap, ◌∙◌, subst, length}
+use Rattle.std.proofs.Common.{false, refl, sym, ap, ◌∙◌, subst, length}
 use Rattle.std.proofs.lemmas.List.{length-replicate}
 use Rattle.esto_condchase.specs.Ways.{AreRows, unbegun}
 use Rattle.esto_condchase.specs.declared.ways.Way.{Way}

@@ -1,4 +1,4 @@
-use Rattle.std.proofs.Common.{◌≡◌, ◌++◌, sym, refl, subst, ◌∙◌}
+use Rattle.std.proofs.Common.{◌≡◌, ◌++◌, sym, subst, ◌∙◌}
 use Rattle.esto_semantics.specs.Rules.{equality}
 use Rattle.esto_semantics.specs.Facts.{terms_of}
 use Rattle.esto_constraint.specs.Constraints.{rules_of}

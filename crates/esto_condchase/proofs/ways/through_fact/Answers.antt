@@ -1,4 +1,4 @@
-use Rattle.std.proofs.Common.{◌≡◌, sym, ap, ◌∙◌, subst, length}
+use Rattle.std.proofs.Common.{sym, ap, ◌∙◌, subst, length}
 use Rattle.esto_condchase.specs.Ways.{AreRows}
 use Rattle.esto_condchase.specs.declared.ways.Way.{Way}
 use Rattle.esto_condchase.proofs.WayLemmas.{begun_count, rows_of_items}

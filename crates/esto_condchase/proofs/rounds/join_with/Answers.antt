@@ -1,0 +1,18 @@
+use Rattle.std.proofs.Common.{[]}
+use Rattle.esto_condchase.proofs.CoverLemmas.{Grows-then}
+use Rattle.esto_condchase.proofs.RoundLemmas.{ends_joined}
+use Rattle.esto_condchase.proofs.rounds.join_with.Goals as goal
+
+pub join_ends-requires-in-Same-clause-more_counts : goal.join_ends-requires-in-Same-clause-more_counts
+join_ends-requires-in-Same-clause-more_counts c = (c.in_ok-join_ends-in-Same.ensures.grows []).counted c.requires.more_counts
+
+pub returns-in_ok-join_ends-in-Same-2-clause-grows : goal.returns-in_ok-join_ends-in-Same-2-clause-grows
+returns-in_ok-join_ends-in-Same-2-clause-grows c rules =
+    Grows-then rules c.args.count c.args.entries.now c.args.more.now _ _ (c.in_ok-join_ends-in-Same.ensures.grows rules)
+    (c.in_ok-join_ends-in-Same-2.ensures.grows rules)
+
+pub returns-in_ok-join_ends-in-Same-2-clause-joined : goal.returns-in_ok-join_ends-in-Same-2-clause-joined
+returns-in_ok-join_ends-in-Same-2-clause-joined c =
+    ends_joined c.args.entries.now _ _ c.args.first.now.from.now c.args.first.now.to.now c.args.first.now.entry.now.product c.args.second_entry.now
+    c.in-Same.left c.in-Same.right c.in-Same.is (c.in_ok-join_ends-in-Same-2.ensures.grows []).kept
+    c.in_ok-join_ends-in-Same.ensures.joined c.in_ok-join_ends-in-Same-2.ensures.joined

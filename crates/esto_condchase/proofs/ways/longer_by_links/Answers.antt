@@ -1,0 +1,32 @@
+use Rattle.std.proofs.Common.{◌+◌, sym, ◌∙◌, subst}
+use Rattle.std.proofs.lemmas.Bool.{false≢true}
+use Rattle.esto_term.proofs.ListLemmas.{Contains-at}
+use Rattle.esto_condchase.specs.Ways.{Links}
+use Rattle.esto_condchase.proofs.MeetLemmas.{item_at}
+use Rattle.esto_condchase.proofs.WayLemmas.{LongerSoFar, longer_skip, longer_more, longer_all}
+use Rattle.esto_condchase.proofs.ways.longer_by_links.Goals.{then-links+in_ok-met_by+in_ok-push, else-links}
+use Rattle.esto_condchase.proofs.ways.longer_by_links.Goals as goal
+
+pub entries-preserved : goal.entries-preserved
+entries-preserved c =
+    let target = c.requires.goal in
+    let entry = c.index-entries-place.result in
+    let at = item_at c.args.entries.now c.entries.place entry c.entries-test.true c.index-entries-place.is in
+    elim c.if-links.branch [
+      | then-links+in_ok-met_by+in_ok-push w ↦
+          longer_more c.args.entries.now c.args.from.now c.args.term.now c.args.own.now c.args.before.now c.entries.place c.entries.ways entry at
+          c.entries.invariant
+          (subst (Links entry.claim c.args.own.now) target (c.links.ensures.0 w.if-links.true))
+          (sym (c.requires.counts entry (Contains-at c.args.entries.now c.entries.place entry at)))
+          _ _ w.in_ok-met_by.ensures (w.ways-is ∙ w.in_ok-push.ensures.ok)
+      | else-links w ↦
+          subst (LongerSoFar c.args.entries.now c.args.from.now c.args.term.now c.args.own.now c.args.before.now (c.entries.place + 1)) (sym w.ways-is)
+          (longer_skip c.args.entries.now c.args.from.now c.args.term.now c.args.own.now c.args.before.now c.entries.place c.entries.ways entry at
+          c.entries.invariant
+          (λ links. false≢true (sym w.if-links.false ∙ c.links.ensures.1 (subst (Links entry.claim c.args.own.now) (sym target) links))))
+    ]
+
+pub returns-clause-longer : goal.returns-clause-longer
+returns-clause-longer c =
+    longer_all c.args.entries.now c.args.from.now c.args.term.now c.args.own.now c.args.before.now c.entries.place c.entries.ways c.entries-test.false
+    (λ is. c.requires.apart (is ∙ sym c.requires.goal)) c.entries.invariant
