@@ -11,7 +11,7 @@ use crate::fresh::{fresh_facts, once};
 use crate::receiving::maps_into;
 use crate::replacing::{replace_in_facts, replace_in_terms};
 use esto_query::{Found, Query};
-use esto_semantics::Facts;
+use esto_semantics::{Atom, Facts};
 use esto_term::{List, OutOfMemory, Replicate, Term, Terms};
 use std::alloc::Global;
 
@@ -33,6 +33,20 @@ pub struct Instance {
     facts: Facts,
     head: Terms,
     trace: Trace,
+}
+
+/// The facts with `to` in place of `from`, each once, where it stands first.
+fn replaced_facts(
+    alloc: Global,
+    facts: &[Atom],
+    from: &Term,
+    to: &Term,
+) -> Result<Facts, OutOfMemory>
+    ensures { IfOk result (λ it. it ≡ replaced_facts from.now to.now facts.now) }
+{
+    let images = replace_in_facts(alloc, facts, from, to)?;
+    let facts = once(alloc, images.items())?;
+    Ok(facts)
 }
 
 impl Instance {
@@ -138,8 +152,7 @@ impl Instance {
             (trace_of self.new ≡ trace_of self.old ++ ChaseStep.Merged rule found from to ∷ []) }
         ensures err { OnErr result (self.new ≡ self.old) }
     {
-        let images = replace_in_facts(alloc, self.facts.items(), &from, &to)?;
-        let facts = once(alloc, images.items())?;
+        let facts = replaced_facts(alloc, self.facts.items(), &from, &to)?;
         let head = replace_in_terms(alloc, self.head.items(), &from, &to)?;
         self.trace.push(ChaseStep::Merged(rule, found, from, to))?;
         self.facts = facts;
