@@ -1,16 +1,19 @@
 //! Writing a certificate.
-ghost use Rattle.std.specs.Prelude.{◌≡◌, ◌<◌, ℕ, List, Contains, None, length, IfOk};
+ghost use Rattle.std.specs.Prelude.{◌≡◌, ◌<◌, ◌++◌, ℕ, List, Contains, None, length, IfOk};
 ghost use Rattle.esto_constraint.specs.Constraints.{rules_of};
 ghost use Rattle.esto_query.specs.Making.{query_of};
 ghost use Rattle.esto_views.specs.declared.expansion.ExpandedFact.{ExpandedFact};
-ghost use Rattle.esto_world_laws.specs.Derived.{AreDerived};
+ghost use Rattle.esto_semantics.specs.Facts.{terms_of};
+ghost use Rattle.esto_world_laws.specs.Derived.{AreDerived, IsNamed};
 ghost use Rattle.esto_world_laws.specs.Laws.{AreReasoned, HasMatch};
+ghost use Rattle.esto_world_laws.specs.Matches.{Fits};
 ghost use Rattle.esto_world_laws.specs.Steps.{AreJoined};
-ghost use Rattle.esto_world_laws.specs.Worlds.{AreOfCount, InWorld};
+ghost use Rattle.esto_world_laws.specs.Worlds.{AreOfCount, InWorld, Linked};
 ghost use Rattle.esto_derive.specs.Marking.{AreUsed};
 ghost use Rattle.esto_backchase.specs.Evidence.{AreEntriesOf};
 ghost use Rattle.esto_cert.specs.Judging.{DecidesFor};
-ghost use Rattle.esto_derive.specs.Writing.{IsWritten, IsWrittenFor};
+ghost use Rattle.esto_derive.specs.Searching.{AreLinks};
+ghost use Rattle.esto_derive.specs.Writing.{terms_at, IsWritten, IsWrittenFor};
 ghost use Rattle.esto_semantics.specs.Containment.{IsSatisfiable};
 ghost use Rattle.esto_semantics.specs.Listed.{IsListed};
 ghost use Rattle.esto_semantics.specs.Plans.{IsUniversalPlan};
@@ -26,7 +29,8 @@ use esto_catalog::Catalogue;
 use esto_constraint::Constraint;
 use esto_prov::{Entries, Entry, terms_of};
 use esto_query::{Query, queries_are_sound};
-use esto_term::{Bytes, OutOfMemory, Terms};
+use esto_semantics::Atom;
+use esto_term::{Bytes, List, OutOfMemory, Terms};
 use esto_views::{Plan, plans_are_sound};
 use esto_world_laws::derived_entries_are_reasoned;
 use std::alloc::Global;
@@ -48,6 +52,34 @@ fn used_by(
     used.union(&RowBits::of(alloc, entries.len(), links)?);
     close(alloc, entries, &mut used)?;
     Ok(used)
+}
+
+/// Entries of equalities in the world by which the targets are one with the head, and the terms of the facts at the places
+/// with those of the body.
+fn links_for(
+    alloc: Global,
+    world: &World,
+    head: &Terms,
+    targets: &Terms,
+    body: &[Atom],
+    facts: &[usize],
+) -> Result<List<usize>, OutOfMemory>
+    requires counts { AreOfCount (length world.now.set.now) world.now.entries.now }
+    requires joined { AreJoined world.now.entries.now world.now.entries.now }
+    requires there { (place : ℕ) → Contains facts.now place
+        → place < length world.now.entries.now }
+    requires fits { Fits (Linked (InWorld world.now.entries.now world.now.set.now))
+        (head.now ++ terms_of body.now)
+        (targets.now ++ terms_at world.now.entries.now facts.now) }
+    ensures are { IfOk result (AreLinks world.now.entries.now world.now.set.now) }
+    ensures fits { IfOk result (λ links. Fits (Linked (IsNamed world.now.entries.now links))
+        (head.now ++ terms_of body.now)
+        (targets.now ++ terms_at world.now.entries.now facts.now)) }
+{
+    let from = joined(alloc, head, &terms_of(alloc, body)?)?;
+    let to = joined(alloc, targets, &terms_at(alloc, world.entries, facts)?)?;
+    let links = world.links_of(alloc, from.items(), to.items())?;
+    Ok(links)
 }
 
 /// Writes a certificate of a match of the query in the set's world.
@@ -82,9 +114,7 @@ fn write_match(
     let Some(facts) = world.find(alloc, &query.head, targets, body)? else {
         unreachable!()
     };
-    let from = joined(alloc, &query.head, &terms_of(alloc, body)?)?;
-    let to = joined(alloc, targets, &terms_at(alloc, entries, facts.items())?)?;
-    let links = world.links_of(alloc, from.items(), to.items())?;
+    let links = links_for(alloc, &world, &query.head, targets, body, facts.items())?;
     let used = used_by(alloc, entries, facts.items(), links.items())?;
     let writer = Writer {
         entries,

@@ -1,10 +1,15 @@
 //! The lines of a certificate, one for each entry that is used and is no chain of equalities.
 ghost use Rattle.std.specs.Prelude.{◌≡◌, ◌↔◌, ◌+◌, ◌++◌, ◌<◌, ◌≤◌, [], ◌∷◌, List, ℕ, All, Contains, Some, length, slice_get, IfOk, OnOk};
-ghost use Rattle.esto_constraint.specs.Constraints.{rules_of};
+ghost use Rattle.esto_constraint.specs.Constraints.{rule_of, rules_of};
+ghost use Rattle.esto_semantics.specs.Facts.{terms_of};
+ghost use Rattle.esto_semantics.specs.Rules.{body_of};
 ghost use Rattle.esto_semantics.specs.Sets.{Has};
 ghost use Rattle.esto_views.specs.declared.expansion.ExpandedFact.{ExpandedFact};
 ghost use Rattle.esto_world_laws.specs.Derived.{AreDerived};
+ghost use Rattle.esto_world_laws.specs.Matches.{taken};
+ghost use Rattle.esto_world_laws.specs.Steps.{IsAsked};
 ghost use Rattle.esto_world_laws.specs.declared.entry.Reason.TheVariants.{Expanded, Step, Equal};
+ghost use Rattle.esto_cert.specs.Certificates.{made_at};
 ghost use Rattle.esto_derive.specs.Writing.{lines_at, claimed_terms, terms_at, AddsNew, Writes, WritesIfUsed, WritesAll, WritesMatch};
 
 use crate::placing::place_of;
@@ -117,6 +122,29 @@ fn put_terms(alloc: Global, claim: &Claim, terms: &mut Terms) -> Result<(), OutO
     }
 }
 
+/// The place of a rule's head, counted from 1, at which the rule makes the claim where its body meets the facts of the
+/// entries at the places, or 0 for the equality of its sides.
+fn place_at(
+    alloc: Global,
+    entries: &[Entry],
+    number: usize,
+    rule: &Constraint,
+    facts: &[usize],
+    claim: &Claim,
+) -> Result<usize, OutOfMemory>
+    requires there { (place : ℕ) → Contains facts.now place → place < length entries.now }
+    requires asked { IsAsked number (rule_of rule.now)
+        (taken (terms_of (body_of (rule_of rule.now))) (terms_at entries.now facts.now)) claim.now }
+    ensures { IfOk result (λ place. made_at place number (rule_of rule.now)
+        (taken (terms_of (body_of (rule_of rule.now))) (terms_at entries.now facts.now))
+        ≡ Some claim.now) }
+{
+    let from = terms_of(alloc, body_of(rule))?;
+    let to = terms_at(alloc, entries, facts)?;
+    let place = place_of(alloc, number, rule, from.items(), to.items(), claim)?;
+    Ok(place)
+}
+
 impl Written {
     /// Counts the line that was put last, and answers its number alone.
     fn end_line(&mut self, alloc: Global) -> Result<Places, OutOfMemory>
@@ -180,9 +208,7 @@ impl Writer<'_> {
         let rule = &self.rules[number];
         let body = body_of(rule);
         let (facts, links) = places.split_at(body.len());
-        let from = terms_of(alloc, body)?;
-        let to = terms_at(alloc, self.entries, facts)?;
-        let place = place_of(alloc, number, rule, from.items(), to.items(), &entry.claim)?;
+        let place = place_at(alloc, self.entries, number, rule, facts, &entry.claim)?;
         let named = lines_at(alloc, lines, facts)?;
         let linked = links_at(alloc, lines, links)?;
         let numbered = counted(number)?;

@@ -1,4 +1,4 @@
-use Rattle.std.proofs.Common.{List, ℕ, Some, ◌++◌, Contains, subst, ap, ◌∙◌}
+use Rattle.std.proofs.Common.{List, ℕ, Some, ◌++◌, Contains, subst, ap}
 use Rattle.std.proofs.lemmas.Result.{IfOk-weaker}
 use Rattle.esto_term.specs.declared.term.Term.{Term}
 use Rattle.esto_semantics.specs.Facts.{terms_of}
@@ -22,24 +22,23 @@ unreachable-requires c =
     c.items-body.ensures c.in_ok-facts.ensures)
     c.in_default.is
 
-pub terms_at-requires : goal.terms_at-requires
-terms_at-requires c = λ place inside.
+pub links_for-requires-clause-there : goal.links_for-requires-clause-there
+links_for-requires-clause-there c = λ place inside.
     facts_there c.args.entries.now c.args.set.now c.args.query.now.head c.args.targets.now c.args.query.now.body c.in-Some.facts
     (subst (λ (it : List (Fact Term)). IsFound c.args.entries.now c.args.set.now c.args.query.now.head c.args.targets.now it (Some c.in-Some.facts))
     c.items-body.ensures
     (subst (IsFound c.args.entries.now c.args.set.now c.args.query.now.head c.args.targets.now c.items-body.result.now) c.in-Some.is c.in_ok-facts.ensures))
     place (subst (λ (it : List ℕ). Contains it place) c.items.ensures inside)
 
-pub links_of-requires-clause-fits : goal.links_of-requires-clause-fits
-links_of-requires-clause-fits c =
+pub links_for-requires-clause-fits : goal.links_for-requires-clause-fits
+links_for-requires-clause-fits c =
     fits_found c.args.entries.now c.args.set.now c.args.query.now.head c.args.targets.now c.args.query.now.body c.in-Some.facts
     (subst (λ (it : List (Fact Term)). IsFound c.args.entries.now c.args.set.now c.args.query.now.head c.args.targets.now it (Some c.in-Some.facts))
     c.items-body.ensures
     (subst (IsFound c.args.entries.now c.args.set.now c.args.query.now.head c.args.targets.now c.items-body.result.now) c.in-Some.is c.in_ok-facts.ensures))
-    c.items-2.result.now c.items-3.result.now (c.items-2.ensures ∙ c.in_ok-from.ensures
-    ∙ ap (λ (it : List Term). c.args.query.now.head ++ it) (c.in_ok-terms_of.ensures ∙ ap terms_of c.items-body.ensures))
-    (c.items-3.ensures ∙ c.in_ok-to.ensures ∙ ap (λ (it : List Term). c.args.targets.now ++ it) (c.in_ok-terms_at.ensures
-    ∙ ap (terms_at c.args.entries.now) c.items.ensures))
+    (c.args.query.now.head ++ terms_of c.items-body.result.now) (c.args.targets.now ++ terms_at c.args.entries.now c.items.result.now)
+    (ap (λ (it : List (Fact Term)). c.args.query.now.head ++ terms_of it) c.items-body.ensures)
+    (ap (λ (it : List ℕ). c.args.targets.now ++ terms_at c.args.entries.now it) c.items.ensures)
 
 pub used_by-requires-clause-facts : goal.used_by-requires-clause-facts
 used_by-requires-clause-facts c = λ place inside.
@@ -47,7 +46,7 @@ used_by-requires-clause-facts c = λ place inside.
     (subst (λ (it : List (Fact Term)). IsFound c.args.entries.now c.args.set.now c.args.query.now.head c.args.targets.now it (Some c.in-Some.facts))
     c.items-body.ensures
     (subst (IsFound c.args.entries.now c.args.set.now c.args.query.now.head c.args.targets.now c.items-body.result.now) c.in-Some.is c.in_ok-facts.ensures))
-    place (subst (λ (it : List ℕ). Contains it place) c.items-4.ensures inside)
+    place (subst (λ (it : List ℕ). Contains it place) c.items-2.ensures inside)
 
 pub used_by-requires-clause-links : goal.used_by-requires-clause-links
 used_by-requires-clause-links c = λ place inside.
@@ -55,7 +54,7 @@ used_by-requires-clause-links c = λ place inside.
     (subst (λ (it : List (Fact Term)). IsFound c.args.entries.now c.args.set.now c.args.query.now.head c.args.targets.now it (Some c.in-Some.facts))
     c.items-body.ensures
     (subst (IsFound c.args.entries.now c.args.set.now c.args.query.now.head c.args.targets.now c.items-body.result.now) c.in-Some.is c.in_ok-facts.ensures))
-    c.in_ok-links.links c.in_ok-links.ensures.are place (subst (λ (it : List ℕ). Contains it place) c.items-5.ensures inside)
+    c.in_ok-links.links c.in_ok-links.ensures.are place (subst (λ (it : List ℕ). Contains it place) c.items-3.ensures inside)
 
 pub write-requires-clause-facts : goal.write-requires-clause-facts
 write-requires-clause-facts c = λ place inside.
@@ -63,7 +62,7 @@ write-requires-clause-facts c = λ place inside.
     (subst (λ (it : List (Fact Term)). IsFound c.args.entries.now c.args.set.now c.args.query.now.head c.args.targets.now it (Some c.in-Some.facts))
     c.items-body.ensures
     (subst (IsFound c.args.entries.now c.args.set.now c.args.query.now.head c.args.targets.now c.items-body.result.now) c.in-Some.is c.in_ok-facts.ensures))
-    place (subst (λ (it : List ℕ). Contains it place) c.items-6.ensures inside)
+    place (subst (λ (it : List ℕ). Contains it place) c.items-4.ensures inside)
 
 pub write-requires-clause-links : goal.write-requires-clause-links
 write-requires-clause-links c = λ place inside.
@@ -71,13 +70,13 @@ write-requires-clause-links c = λ place inside.
     (subst (λ (it : List (Fact Term)). IsFound c.args.entries.now c.args.set.now c.args.query.now.head c.args.targets.now it (Some c.in-Some.facts))
     c.items-body.ensures
     (subst (IsFound c.args.entries.now c.args.set.now c.args.query.now.head c.args.targets.now c.items-body.result.now) c.in-Some.is c.in_ok-facts.ensures))
-    c.in_ok-links.links c.in_ok-links.ensures.are place (subst (λ (it : List ℕ). Contains it place) c.items-7.ensures inside)
+    c.in_ok-links.links c.in_ok-links.ensures.are place (subst (λ (it : List ℕ). Contains it place) c.items-5.ensures inside)
 
 pub returns : goal.returns
 returns c =
     let sound = (c.queries_are_sound.ensures c.args.query.now).query in
-    let used = subst (λ (it : List ℕ). AreUsed c.args.entries.now it c.in_ok-links.links c.in_ok-used.used) c.items-4.ensures
-    (subst (λ (it : List ℕ). AreUsed c.args.entries.now c.items-4.result.now it c.in_ok-used.used) c.items-5.ensures c.in_ok-used.ensures.used) in
+    let used = subst (λ (it : List ℕ). AreUsed c.args.entries.now it c.in_ok-links.links c.in_ok-used.used) c.items-2.ensures
+    (subst (λ (it : List ℕ). AreUsed c.args.entries.now c.items-2.result.now it c.in_ok-used.used) c.items-3.ensures c.in_ok-used.ensures.used) in
     IfOk-weaker c.write.result _ _
     (λ bytes writes expanded derived.
     finished c.args.entries.now c.args.set.now c.args.query.now.head c.args.targets.now c.args.query.now.body c.in-Some.facts
@@ -85,12 +84,11 @@ returns c =
     c.items-body.ensures
     (subst (IsFound c.args.entries.now c.args.set.now c.args.query.now.head c.args.targets.now c.items-body.result.now) c.in-Some.is c.in_ok-facts.ensures))
     c.in_ok-links.links c.in_ok-links.ensures.are c.args.rules.now c.in_ok-used.used used bytes
-    (subst (λ (it : List ℕ). WritesMatch c.args.rules.now c.args.entries.now c.in_ok-used.used it c.in_ok-links.links bytes) c.items-6.ensures
-    (subst (λ (it : List ℕ). WritesMatch c.args.rules.now c.args.entries.now c.in_ok-used.used c.items-6.result.now it bytes) c.items-7.ensures writes))
-    c.items-2.result.now c.items-3.result.now (c.items-2.ensures ∙ c.in_ok-from.ensures
-    ∙ ap (λ (it : List Term). c.args.query.now.head ++ it) (c.in_ok-terms_of.ensures ∙ ap terms_of c.items-body.ensures))
-    (c.items-3.ensures ∙ c.in_ok-to.ensures ∙ ap (λ (it : List Term). c.args.targets.now ++ it) (c.in_ok-terms_at.ensures
-    ∙ ap (terms_at c.args.entries.now) c.items.ensures)) c.in_ok-links.ensures.fits
+    (subst (λ (it : List ℕ). WritesMatch c.args.rules.now c.args.entries.now c.in_ok-used.used it c.in_ok-links.links bytes) c.items-4.ensures
+    (subst (λ (it : List ℕ). WritesMatch c.args.rules.now c.args.entries.now c.in_ok-used.used c.items-4.result.now it bytes) c.items-5.ensures writes))
+    (c.args.query.now.head ++ terms_of c.items-body.result.now) (c.args.targets.now ++ terms_at c.args.entries.now c.items.result.now)
+    (ap (λ (it : List (Fact Term)). c.args.query.now.head ++ terms_of it) c.items-body.ensures)
+    (ap (λ (it : List ℕ). c.args.targets.now ++ terms_at c.args.entries.now it) c.items.ensures) c.in_ok-links.ensures.fits
     (head_lengths c.args.entries.now c.args.set.now c.args.query.now.head c.args.targets.now c.args.query.now.body
     c.requires.found) sound.has_body sound.safe expanded derived)
     c.write.ensures

@@ -1,7 +1,8 @@
-use Rattle.std.proofs.Common.{◌≡◌, ℕ, List, [], ◌+◌, ◌++◌, ◌≤◌, length, map, take, drop, slice_get, slice_index_or, Some, codes, subst, sym, ap, ◌∙◌, arith}
+use Rattle.std.proofs.Common.{◌≡◌, ℕ, List, [], ◌+◌, ◌++◌, ◌≤◌, length, map, take, drop, slice_get, slice_index_or, Some, codes, refl, subst, sym, ap, ◌∙◌, arith}
 use Rattle.std.proofs.lemmas.Option.{slice_get-get_or}
 use Rattle.esto_term.specs.Nesting.{greatest_u64}
 use Rattle.esto_constraint.specs.Constraints.{rule_of}
+use Rattle.esto_semantics.specs.Facts.{terms_of}
 use Rattle.esto_semantics.specs.Rules.{Rule}
 use Rattle.esto_semantics.specs.declared.fact.Fact.{Fact}
 use Rattle.esto_term.specs.declared.term.Term.{Term}
@@ -26,8 +27,8 @@ split_at-requires c = splits c.args.self.now.entries.now c.args.self.now.rules.n
     c.args.places.now c.requires.reason))
     c.body_of-body.result.now c.body_of-body.ensures
 
-pub terms_at-requires : goal.terms_at-requires
-terms_at-requires c = facts_there c.args.self.now.entries.now c.args.self.now.rules.now c.args.lines.now c.args.entry.now c.requires.at
+pub place_at-requires-clause-there : goal.place_at-requires-clause-there
+place_at-requires-clause-there c = facts_there c.args.self.now.entries.now c.args.self.now.rules.now c.args.lines.now c.args.entry.now c.requires.at
     c.requires.derived c.args.number c.args.places.now c.requires.reason
     (slice_index_or c.args.self.now.rules.now c.args.number c.index-self-number.result)
     (slice_get-get_or c.args.self.now.rules.now c.args.number c.index-self-number.result
@@ -36,16 +37,15 @@ terms_at-requires c = facts_there c.args.self.now.entries.now c.args.self.now.ru
     c.body_of-body.result.now c.body_of-body.ensures
     c.split_at.result.0.now c.split_at.ensures.front
 
-pub place_of-requires-clause-asked : goal.place_of-requires-clause-asked
-place_of-requires-clause-asked c = asked c.args.self.now.entries.now c.args.self.now.rules.now c.args.lines.now c.args.entry.now c.requires.at
+pub place_at-requires-clause-asked : goal.place_at-requires-clause-asked
+place_at-requires-clause-asked c = asked c.args.self.now.entries.now c.args.self.now.rules.now c.args.lines.now c.args.entry.now c.requires.at
     c.requires.derived c.args.number c.args.places.now c.requires.reason
     (slice_index_or c.args.self.now.rules.now c.args.number c.index-self-number.result)
     (slice_get-get_or c.args.self.now.rules.now c.args.number c.index-self-number.result
     (number_within c.args.self.now.entries.now c.args.self.now.rules.now c.args.lines.now c.args.entry.now c.requires.at c.requires.derived c.args.number
     c.args.places.now c.requires.reason))
     c.body_of-body.result.now c.body_of-body.ensures
-    c.split_at.result.0.now c.split_at.ensures.front c.items.result.now c.items-2.result.now (c.items.ensures ∙ c.in_ok-from.ensures) (c.items-2.ensures
-    ∙ c.in_ok-to.ensures)
+    c.split_at.result.0.now c.split_at.ensures.front _ _ (ap terms_of (sym c.body_of-body.ensures)) refl
 
 pub lines_at-requires : goal.lines_at-requires
 lines_at-requires c = facts_below c.args.self.now.entries.now c.args.self.now.rules.now c.args.lines.now c.args.entry.now c.requires.at
@@ -71,8 +71,6 @@ pub returns-clause-writes : goal.returns-clause-writes
 returns-clause-writes c =
     let rule = rule_of (slice_index_or c.args.self.now.rules.now c.args.number c.index-self-number.result) in
     let body_is = c.body_of-body.ensures in
-    let from_is = c.items.ensures ∙ c.in_ok-from.ensures in
-    let to_is = c.items-2.ensures ∙ c.in_ok-to.ensures in
     if_ok_with c.end_line.result c.end_line.ensures.own c.end_line.ensures.text c.end_line.ensures.count
     (λ own own_is text count case rules_is basis has state.
     step_goes case c.args.self.now.entries.now c.args.self.now.used.now basis c.args.lines.now c.args.written.now state c.args.entry.now
@@ -88,8 +86,8 @@ returns-clause-writes c =
     c.split_at.result.0.now c.split_at.result.1.now
     (c.split_at.ensures.front ∙ ap (λ (it : List (Fact Term)). take (length it) c.args.places.now) body_is)
     (c.split_at.ensures.back ∙ ap (λ (it : List (Fact Term)). drop (length it) c.args.places.now) body_is)
-    c.items-4.result.now
-    (subst (AddsNew [] (lines_at c.args.lines.now c.split_at.result.1.now)) (sym c.items-4.ensures) c.in_ok-linked.ensures)
+    c.items-2.result.now
+    (subst (AddsNew [] (lines_at c.args.lines.now c.split_at.result.1.now)) (sym c.items-2.ensures) c.in_ok-linked.ensures)
     c.in_ok-place.place
     (made_by c.args.self.now.entries.now c.args.self.now.rules.now c.args.lines.now c.args.entry.now c.requires.at c.requires.derived c.args.number
     c.args.places.now c.requires.reason
@@ -98,14 +96,14 @@ returns-clause-writes c =
     (number_within c.args.self.now.entries.now c.args.self.now.rules.now c.args.lines.now c.args.entry.now c.requires.at c.requires.derived c.args.number
     c.args.places.now c.requires.reason))
     c.body_of-body.result.now c.body_of-body.ensures
-    c.split_at.result.0.now c.split_at.ensures.front c.items.result.now c.items-2.result.now from_is to_is c.in_ok-place.place c.in_ok-place.ensures)
+    c.split_at.result.0.now c.split_at.ensures.front _ _ (ap terms_of (sym body_is)) refl c.in_ok-place.place c.in_ok-place.ensures)
     (subst (λ (it : ℕ). it ≤ greatest_u64) c.in_ok-numbered.ensures c.put_step.ensures.number)
     c.put_step.ensures.place (omega (arith, state.counted, c.end_line.ensures.fits)) c.end_line.new.self
     (text ∙ c.in_ok-put_step.ensures.text
     ∙ ap (λ (it : ℕ). c.args.written.now.text
-    ++ (line_text (Step it c.in_ok-place.place (map (λ line. line + 1) c.items-3.result.now) (map (λ line. line + 1) c.items-4.result.now)) ++ codes "\n"))
+    ++ (line_text (Step it c.in_ok-place.place (map (λ line. line + 1) c.items.result.now) (map (λ line. line + 1) c.items-2.result.now)) ++ codes "\n"))
     c.in_ok-numbered.ensures
     ∙ ap (λ (it : List ℕ). c.args.written.now.text
-    ++ (line_text (Step (c.args.number + 1) c.in_ok-place.place (map (λ line. line + 1) it) (map (λ line. line + 1) c.items-4.result.now)) ++ codes "\n"))
-    (c.items-3.ensures ∙ c.in_ok-named.ensures))
+    ++ (line_text (Step (c.args.number + 1) c.in_ok-place.place (map (λ line. line + 1) it) (map (λ line. line + 1) c.items-2.result.now)) ++ codes "\n"))
+    (c.items.ensures ∙ c.in_ok-named.ensures))
     count own own_is)

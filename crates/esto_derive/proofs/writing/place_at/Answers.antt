@@ -1,0 +1,25 @@
+use Rattle.std.proofs.Common.{◌≡◌, List, Some, sym, subst, ap, ◌∙◌}
+use Rattle.esto_term.specs.declared.term.Term.{Term}
+use Rattle.esto_constraint.specs.Constraints.{rule_of}
+use Rattle.esto_semantics.specs.Facts.{terms_of}
+use Rattle.esto_semantics.specs.Rules.{body_of}
+use Rattle.esto_world_laws.specs.Matches.{taken}
+use Rattle.esto_world_laws.specs.Steps.{IsAsked}
+use Rattle.esto_cert.specs.Certificates.{made_at}
+use Rattle.esto_derive.proofs.writing.place_at.Goals as goal
+
+pub place_of-requires-clause-asked : goal.place_of-requires-clause-asked
+place_of-requires-clause-asked c =
+    let rule = rule_of c.args.rule.now in
+    subst (λ (it : List Term). IsAsked c.args.number rule (taken it c.items-2.result.now) c.args.claim.now)
+    (sym (c.items.ensures ∙ c.in_ok-from.ensures ∙ ap terms_of c.body_of.ensures))
+    (subst (λ (it : List Term). IsAsked c.args.number rule (taken (terms_of (body_of rule)) it) c.args.claim.now)
+    (sym (c.items-2.ensures ∙ c.in_ok-to.ensures)) c.requires.asked)
+
+pub returns : goal.returns
+returns c =
+    let rule = rule_of c.args.rule.now in
+    subst (λ (it : List Term). made_at c.in_ok-place.place c.args.number rule (taken (terms_of (body_of rule)) it) ≡ Some c.args.claim.now)
+    (c.items-2.ensures ∙ c.in_ok-to.ensures)
+    (subst (λ (it : List Term). made_at c.in_ok-place.place c.args.number rule (taken it c.items-2.result.now) ≡ Some c.args.claim.now)
+    (c.items.ensures ∙ c.in_ok-from.ensures ∙ ap terms_of c.body_of.ensures) c.in_ok-place.ensures)
