@@ -1,6 +1,6 @@
 //! The rules of the encodings: those that the facts of documents and of keys are to meet. Variables are numbered by first
 //! occurrence, the body first, and named as the rules are written.
-ghost use Rattle.std.specs.Prelude.{◌≡◌, ◌<◌, ◌≤◌, ◌+◌, [], ◌∷◌, ◌++◌, length, map, slice_index_or, IfOk, OnOk};
+ghost use Rattle.std.specs.Prelude.{◌≡◌, ◌<◌, ◌≤◌, ◌+◌, [], ◌∷◌, ◌++◌, length, map, take, slice_index_or, IfOk, OnOk};
 ghost use Rattle.std.specs.List.{AllByRecursion};
 ghost use Rattle.esto_term.specs.declared.term.Term.TheVariants.{Plain};
 ghost use Rattle.esto_query.specs.declared.query.Name.TheVariants.{Given};
@@ -39,21 +39,28 @@ fn atom(alloc: Global, relation: usize, variables: &[u64]) -> Result<Atom, OutOf
     Ok(Fact { relation, terms })
 }
 
-/// A body or head of these atoms.
-fn of_one(alloc: Global, first: Atom) -> Result<Atoms, OutOfMemory>
-    ensures { IfOk result (λ it. it ≡ first ∷ []) }
+/// The body or head of one atom of a relation over these variables.
+fn one_atom(alloc: Global, relation: usize, variables: &[u64]) -> Result<Atoms, OutOfMemory>
+    ensures { IfOk result (λ it. it ≡ atom relation variables.now ∷ []) }
 {
     let mut atoms = List::new(alloc);
-    atoms.push(first)?;
+    atoms.push(atom(alloc, relation, variables)?)?;
     Ok(atoms)
 }
 
-fn of_two(alloc: Global, first: Atom, second: Atom) -> Result<Atoms, OutOfMemory>
-    ensures { IfOk result (λ it. it ≡ first ∷ second ∷ []) }
+/// The body of two atoms.
+fn two_atoms(
+    alloc: Global,
+    relation: usize,
+    first: &[u64],
+    other: usize,
+    second: &[u64],
+) -> Result<Atoms, OutOfMemory>
+    ensures { IfOk result (λ it.
+        it ≡ atom relation first.now ∷ atom other second.now ∷ []) }
 {
-    let mut atoms = List::new(alloc);
-    atoms.push(first)?;
-    atoms.push(second)?;
+    let mut atoms = one_atom(alloc, relation, first)?;
+    atoms.push(atom(alloc, other, second)?)?;
     Ok(atoms)
 }
 
@@ -75,12 +82,8 @@ fn agree_at(
         (Plain (slice_index_or first.now place 0)) (Plain (slice_index_or second.now place 0))) }
     ensures names { IfOk result (λ it. written it ≡ map (λ text. Given text.now) names.now) }
 {
+    let body = two_atoms(alloc, relation, first, relation, second)?;
     let names = names_of(alloc, names)?;
-    let body = of_two(
-        alloc,
-        atom(alloc, relation, first)?,
-        atom(alloc, relation, second)?,
-    )?;
     Ok(Constraint::Equal(Egd {
         body,
         left: Term::Plain(first[place]),
@@ -104,9 +107,9 @@ fn leads_to(
         (atom other to.now ∷ [])) }
     ensures names { IfOk result (λ it. written it ≡ map (λ text. Given text.now) names.now) }
 {
+    let body = one_atom(alloc, relation, from)?;
+    let head = one_atom(alloc, other, to)?;
     let names = names_of(alloc, names)?;
-    let body = of_one(alloc, atom(alloc, relation, from)?)?;
-    let head = of_one(alloc, atom(alloc, other, to)?)?;
     Ok(Constraint::Tuple(Tgd { body, head, names }))
 }
 
@@ -125,36 +128,61 @@ fn never(
         (atom relation first.now ∷ atom other second.now ∷ [])) }
     ensures names { IfOk result (λ it. written it ≡ map (λ text. Given text.now) names.now) }
 {
+    let body = two_atoms(alloc, relation, first, other, second)?;
     let names = names_of(alloc, names)?;
-    let body = of_two(
-        alloc,
-        atom(alloc, relation, first)?,
-        atom(alloc, other, second)?,
-    )?;
     Ok(Constraint::Never(Denial { body, names }))
 }
 
-/// The first seven rules of documents, whose five relations stand from the base on.
+/// The first rule of documents, whose five relations stand from the base on: a node has one field of a name.
+fn rule_of_names(alloc: Global, base: usize) -> Result<Rules, OutOfMemory>
+    requires { base + 4 ≤ 18446744073709551615 }
+    ensures rules { IfOk result (λ it. rules_of it ≡ take 1 (document_rules base)) }
+    ensures names { IfOk result (λ it. map written it ≡ take 1 document_names) }
+{
+    let mut rules = List::new(alloc);
+    let names = ["n", "k", "m", "p"];
+    rules.push(agree_at(alloc, base + 1, &[0, 1, 2], &[0, 1, 3], 2, &names)?)?;
+    Ok(rules)
+}
+
+/// The first three rules of documents: that, and then that a field has one node and one name.
+fn rules_of_fields(alloc: Global, base: usize) -> Result<Rules, OutOfMemory>
+    requires { base + 4 ≤ 18446744073709551615 }
+    ensures rules { IfOk result (λ it. rules_of it ≡ take 3 (document_rules base)) }
+    ensures names { IfOk result (λ it. map written it ≡ take 3 document_names) }
+{
+    let mut rules = rule_of_names(alloc, base)?;
+    let names = ["n", "k", "m", "p", "l"];
+    rules.push(agree_at(alloc, base + 1, &[0, 1, 2], &[3, 4, 2], 0, &names)?)?;
+    rules.push(agree_at(alloc, base + 1, &[0, 1, 2], &[3, 4, 2], 1, &names)?)?;
+    Ok(rules)
+}
+
+/// The first five rules of documents: those of fields, and then those of items and of values.
+fn rules_of_values(alloc: Global, base: usize) -> Result<Rules, OutOfMemory>
+    requires { base + 4 ≤ 18446744073709551615 }
+    ensures rules { IfOk result (λ it. rules_of it ≡ take 5 (document_rules base)) }
+    ensures names { IfOk result (λ it. map written it ≡ take 5 document_names) }
+{
+    let mut rules = rules_of_fields(alloc, base)?;
+    let names = ["n", "m", "p"];
+    rules.push(agree_at(alloc, base + 2, &[0, 1], &[2, 1], 0, &names)?)?;
+    let names = ["n", "v", "w"];
+    rules.push(agree_at(alloc, base + 3, &[0, 1], &[0, 2], 1, &names)?)?;
+    Ok(rules)
+}
+
+/// The first seven rules of documents: those, and then that fields and items stand below.
 fn rules_of_documents(alloc: Global, base: usize) -> Result<Rules, OutOfMemory>
     requires { base + 4 ≤ 18446744073709551615 }
     ensures rules { IfOk result (λ it. rules_of it ≡ document_rules base) }
     ensures names { IfOk result (λ it. map written it ≡ document_names) }
 {
-    let (field, item, value, below) = (base + 1, base + 2, base + 3, base + 4);
-    let mut rules = List::new(alloc);
-    let names = ["n", "k", "m", "p"];
-    rules.push(agree_at(alloc, field, &[0, 1, 2], &[0, 1, 3], 2, &names)?)?;
-    let names = ["n", "k", "m", "p", "l"];
-    rules.push(agree_at(alloc, field, &[0, 1, 2], &[3, 4, 2], 0, &names)?)?;
-    rules.push(agree_at(alloc, field, &[0, 1, 2], &[3, 4, 2], 1, &names)?)?;
-    let names = ["n", "m", "p"];
-    rules.push(agree_at(alloc, item, &[0, 1], &[2, 1], 0, &names)?)?;
-    let names = ["n", "v", "w"];
-    rules.push(agree_at(alloc, value, &[0, 1], &[0, 2], 1, &names)?)?;
+    let mut rules = rules_of_values(alloc, base)?;
     let names = ["n", "k", "m"];
-    rules.push(leads_to(alloc, field, &[0, 1, 2], below, &[0, 2], &names)?)?;
+    rules.push(leads_to(alloc, base + 1, &[0, 1, 2], base + 4, &[0, 2], &names)?)?;
     let names = ["n", "m"];
-    rules.push(leads_to(alloc, item, &[0, 1], below, &[0, 1], &names)?)?;
+    rules.push(leads_to(alloc, base + 2, &[0, 1], base + 4, &[0, 1], &names)?)?;
     Ok(rules)
 }
 

@@ -1,10 +1,9 @@
-use Rattle.std.proofs.Common.{◌∷◌, [], ◌∙◌}
 use Rattle.esto_constraint.proofs.EncodingLemmas.{sound_denial}
 use Rattle.esto_constraint.proofs.encodings.never.Goals as goal
 
 pub invariant_of-result : goal.invariant_of-result
 invariant_of-result c = record {
   sound = ∣ sound_denial _ _ _ c.in_ok-names.ensures c.args.relation c.args.other c.args.first.now c.args.second.now _
-      (c.in_ok-body.ensures ∙ (λ i. c.in_ok-atom.ensures i ∷ c.in_ok-atom-2.ensures i ∷ []))
+      c.in_ok-body.ensures
       c.requires.first_named c.requires.second_named ∣₁;
 }
