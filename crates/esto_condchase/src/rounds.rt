@@ -157,9 +157,9 @@ fn answer_tuples(
         (IsRuleAnswered entries.now (entries.now ++ more.new) number
         (tuple rule.now.body rule.now.head)) }
 {
-    let found = matches_of(alloc, entries, rule.body.items(), count)?;
     let from = terms_of(alloc, rule.body.items())?;
     let shared = frontier_of(alloc, rule.body.items(), rule.head.items())?;
+    let found = matches_of(alloc, entries, rule.body.items(), count)?;
     'found: for way in found.items() {
         answer_tuple(
             alloc, entries, rules, number, rule, &from, &shared, way, more,
@@ -187,8 +187,8 @@ fn answer_equalities(
         (IsRuleAnswered entries.now (entries.now ++ more.new) number
         (equality rule.now.body rule.now.left rule.now.right)) }
 {
-    let found = matches_of(alloc, entries, rule.body.items(), count)?;
     let from = terms_of(alloc, rule.body.items())?;
+    let found = matches_of(alloc, entries, rule.body.items(), count)?;
     'found: for way in found.items() {
         answer_equality(alloc, entries, rules, number, rule, &from, way, more)?;
     }

@@ -37,6 +37,15 @@ pub fn unbegun(alloc: Global, count: usize) -> Result<Way, OutOfMemory>
     })
 }
 
+/// The list of one way.
+fn only(alloc: Global, way: Way) -> Result<List<Way>, OutOfMemory>
+    ensures { IfOk result (λ it. it ≡ way ∷ []) }
+{
+    let mut ways = List::new(alloc);
+    ways.push(way)?;
+    Ok(ways)
+}
+
 /// The way with one more term met.
 fn met(alloc: Global, way: &Way, own: &Term) -> Result<Way, OutOfMemory>
     ensures { IfOk result (λ it. it ≡ met way.now own.now) }
@@ -133,8 +142,7 @@ fn longer(
 {
     let goal = to_meet(from, before.to.items(), term, own);
     if own.equal(goal) {
-        let mut ways = List::new(alloc);
-        ways.push(met(alloc, before, own)?)?;
+        let ways = only(alloc, met(alloc, before, own)?)?;
         return Ok(ways);
     }
     let ways = longer_by_links(alloc, entries, from, term, own, goal, before)?;
@@ -218,8 +226,7 @@ pub fn through_row(
         (λ ways. AreRows entries.now from.now terms.now owns.now start.now ways) }
     ensures counted { IfOk result (λ ways. AreCounted count ways) }
 {
-    let mut ways = List::new(alloc);
-    ways.push(start.copy(alloc)?)?;
+    let mut ways = only(alloc, start.copy(alloc)?)?;
     let mut earlier = from.copy(alloc)?;
     'row: for (place, term) in terms.iter().enumerate() {
         go_on(
@@ -389,8 +396,7 @@ pub fn matches_of(
     ensures found { IfOk result (λ ways. AreFound entries.now body.now ways) }
     ensures counted { IfOk result (λ ways. AreCounted count ways) }
 {
-    let mut ways = List::new(alloc);
-    ways.push(unbegun(alloc, count)?)?;
+    let mut ways = only(alloc, unbegun(alloc, count)?)?;
     let mut from = List::new(alloc);
     'atoms: for atom in body {
         match_next(alloc, entries, atom, count, &mut from, &mut ways)?;

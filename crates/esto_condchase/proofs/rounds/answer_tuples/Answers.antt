@@ -21,5 +21,5 @@ pub returns-clause-answered : goal.returns-clause-answered
 returns-clause-answered c =
     ways_all (rules_of c.args.rules.now) c.args.count c.args.entries.now c.args.number (tuple c.args.rule.now.body c.args.rule.now.head) c.in_ok-found.found
     c.items-way-items.result.now c.items-way-items.ensures
-    c.found.way-index _ c.found-test.false (subst (λ it. AreFound c.args.entries.now it c.in_ok-found.found) c.items.ensures c.in_ok-found.ensures.found)
+    c.found.way-index _ c.found-test.false (subst (λ it. AreFound c.args.entries.now it c.in_ok-found.found) c.items-4.ensures c.in_ok-found.ensures.found)
     c.found.invariant.answered

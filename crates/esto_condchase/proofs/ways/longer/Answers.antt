@@ -1,4 +1,4 @@
-use Rattle.std.proofs.Common.{◌++◌, ◌∷◌, [], ap, sym, ◌∙◌}
+use Rattle.std.proofs.Common.{sym, ◌∙◌}
 use Rattle.std.proofs.lemmas.Bool.{false≢true}
 use Rattle.esto_condchase.proofs.WayLemmas.{goal_is, longer_by_none}
 use Rattle.esto_condchase.proofs.ways.longer.Goals as goal
@@ -15,5 +15,5 @@ pub returns-then-equal-clause-longer : goal.returns-then-equal-clause-longer
 returns-then-equal-clause-longer c =
     let target = goal_is c.args.from.now c.args.before.now.to c.items.result.now c.args.term.now c.args.own.now c.to_meet-goal.result.now c.to_meet-goal.ensures
     c.items.ensures in
-    longer_by_none c.args.entries.now c.args.from.now c.args.term.now c.args.own.now c.args.before.now c.push.new.self _ c.in_ok-met.ensures
-    (c.equal.ensures.0 c.if-equal.true ∙ target) (c.in_ok-push.ensures.ok ∙ ap (λ it. it ++ c.in_ok-met.field-0 ∷ []) c.new-ways.ensures)
+    longer_by_none c.args.entries.now c.args.from.now c.args.term.now c.args.own.now c.args.before.now c.in_ok-ways.ways _ c.in_ok-met.ensures
+    (c.equal.ensures.0 c.if-equal.true ∙ target) c.in_ok-ways.ensures

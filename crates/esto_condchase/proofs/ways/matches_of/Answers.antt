@@ -1,4 +1,4 @@
-use Rattle.std.proofs.Common.{◌++◌, ◌∷◌, [], false, refl, ap, ◌∙◌, subst, length}
+use Rattle.std.proofs.Common.{false, refl, ap, ◌∙◌, subst, length}
 use Rattle.std.proofs.lemmas.List.{length-replicate}
 use Rattle.esto_semantics.specs.Sets.{Has}
 use Rattle.esto_bits.proofs.SetLemmas.{Has-replicate}
@@ -10,13 +10,13 @@ pub atoms-init : goal.atoms-init
 atoms-init c =
     let way : Way = c.in_ok-unbegun.field-0 in
     let is = c.in_ok-unbegun.ensures in
-    let are = c.in_ok-push.ensures.ok ∙ ap (λ it. it ++ way ∷ []) c.new-ways.ensures in
+    let are = c.in_ok-ways.ensures in
     record {
-      found = found_none c.args.entries.now c.push.new.self way are (ap (λ (it : Way). it.to) is) (ap (λ (it : Way). it.facts) is)
+      found = found_none c.args.entries.now c.in_ok-ways.ways way are (ap (λ (it : Way). it.to) is) (ap (λ (it : Way). it.facts) is)
           (ap (λ (it : Way). it.links) is)
           (λ number has. Has-replicate c.args.count number (subst (λ (it : Way). Has it.product number) is has));
       from_is = c.new-from.ensures;
-      counted = counted_one c.args.count c.push.new.self way are (ap (λ (it : Way). length it.product) is ∙ length-replicate c.args.count false);
+      counted = counted_one c.args.count c.in_ok-ways.ways way are (ap (λ (it : Way). length it.product) is ∙ length-replicate c.args.count false);
     }
 
 pub match_next-requires-clause-lengths : goal.match_next-requires-clause-lengths

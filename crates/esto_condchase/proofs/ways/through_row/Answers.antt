@@ -7,11 +7,11 @@ use Rattle.esto_condchase.proofs.ways.through_row.Goals as goal
 
 pub row-init : goal.row-init
 row-init c =
-    let are = c.in_ok-push.ensures.ok ∙ ap (λ it. it ++ c.in_ok-copy.field-0 ∷ []) c.new-ways.ensures in
+    let are = c.in_ok-ways.ensures in
     record {
-      rows = rows_none c.args.entries.now c.args.from.now c.args.start.now c.push.new.self c.in_ok-copy.field-0 c.in_ok-copy.ensures are;
+      rows = rows_none c.args.entries.now c.args.from.now c.args.start.now c.in_ok-ways.ways c.in_ok-copy.field-0 c.in_ok-copy.ensures are;
       earlier = c.in_ok-earlier.ensures ∙ sym (append-nil c.args.from.now);
-      counted = counted_one c.args.count c.push.new.self c.in_ok-copy.field-0 are (ap (λ (it : Way). length it.product) c.in_ok-copy.ensures
+      counted = counted_one c.args.count c.in_ok-ways.ways c.in_ok-copy.field-0 are (ap (λ (it : Way). length it.product) c.in_ok-copy.ensures
           ∙ c.requires.counted);
     }
 
