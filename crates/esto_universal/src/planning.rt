@@ -1,5 +1,5 @@
 //! The universal plan.
-ghost use Rattle.std.specs.Prelude.{◌≢◌, [], IfOk, ⊤};
+ghost use Rattle.std.specs.Prelude.{◌≡◌, ◌≢◌, [], map, IfOk, ⊤};
 ghost use Rattle.either.specs.Either.{MatchEither};
 ghost use Rattle.esto_semantics.specs.Containment.{IsSatisfiable};
 ghost use Rattle.esto_semantics.specs.Plans.{IsUniversalPlan};
@@ -11,6 +11,7 @@ ghost use Rattle.esto_views.specs.Plans.{plan_query, IsPlanOver};
 ghost use Rattle.esto_chase_laws.specs.Runs.{start_of};
 ghost use Rattle.esto_chase.specs.Chased.{RunClashes};
 ghost use Rattle.esto_universal.specs.Planned.{IsPlanOfRun};
+ghost use Rattle.esto_universal.specs.Renamings.{numbered, renamed_atom};
 ghost use Rattle.esto_universal.specs.Stated.{IsStatedPlan, IsRenamedPlan};
 
 use crate::indexed::IndexedTerms;
@@ -28,8 +29,25 @@ use esto_constraint::rules_are_sound;
 use esto_instance::Instance;
 use esto_query::{Facts, Names, Query, queries_are_sound};
 use esto_term::{OutOfMemory, Terms};
-use esto_views::{FragmentDefs, Plan};
+use esto_views::{FragmentDefs, Plan, PlanAtoms};
 use std::alloc::Global;
+
+/// The atoms that the rows become, and the head, where the terms seen are renamed.
+fn renamed(
+    alloc: Global,
+    seen: &Terms,
+    rows: &Facts,
+    head: &Terms,
+) -> Result<(PlanAtoms, Terms), OutOfMemory>
+    ensures { IfOk result (λ it.
+        (it.0 ≡ map (renamed_atom (numbered 0 seen.now)) rows.now)
+        × (it.1 ≡ map (numbered 0 seen.now) head.now)) }
+{
+    let indexed = IndexedTerms::of(alloc, seen)?;
+    let atoms = rename_rows(alloc, &indexed, rows)?;
+    let new_head = rename_row(alloc, &indexed, head.items())?;
+    Ok((atoms, new_head))
+}
 
 /// The plan whose atoms are the rows over fragments, and whose head is the given one, renamed: each term that is no
 /// constant becomes a variable, whose number is the place of its first occurrence among those of the others, reading the
@@ -44,10 +62,8 @@ pub fn renamed_plan(
     ensures { IfOk result (λ plan. IsRenamedPlan names.now rows.now head.now plan) }
 {
     let seen = first_occurrences(alloc, rows, head)?;
-    let indexed = IndexedTerms::of(alloc, &seen)?;
-    let atoms = rename_rows(alloc, &indexed, rows)?;
-    let new_head = rename_row(alloc, &indexed, head.items())?;
     let new_names = names_of(alloc, names, &seen)?;
+    let (atoms, new_head) = renamed(alloc, &seen, rows, head)?;
     Ok(Plan {
         atoms,
         head: new_head,
