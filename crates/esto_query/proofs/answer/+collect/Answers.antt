@@ -6,7 +6,7 @@ use Rattle.esto_query.specs.Trails.{with_trail}
 use Rattle.esto_query.proofs.IndexLemmas.{entry_at, entry_read}
 use Rattle.esto_query.proofs.TrailLemmas.{undone}
 use Rattle.esto_query.proofs.LeastLemmas.{flat_first, flat_rest}
-use Rattle.esto_query.proofs.RowLemmas.{leaf_adds, known_adds, end_adds, AreKnown-next, turn_out, turn_skip, turn_next}
+use Rattle.esto_query.proofs.RowLemmas.{leaf_adds, end_adds, AreKnown-next, turn_out, turn_skip, turn_next}
 use Rattle.esto_query.proofs.answer.+collect.Goals as goal
 use Rattle.esto_query.proofs.answer.+collect.Goals.{then-branch+in_ok-collect, else-branch}
 
@@ -16,12 +16,11 @@ returns-in_default-clause-adds t c =
     let adds = rw c.deref.ensures.value at c.in_ok-push_image.ensures in
     rw empty (leaf_adds c.args.head.now c.args.facts.now (with_trail c.args.start.now c.args.trail.now.items) _ _ _ (rw empty at c.requires.known) refl adds)
 
-pub returns-in_ok-push_image-2-clause-adds : goal.returns-in_ok-push_image-2-clause-adds
-returns-in_ok-push_image-2-clause-adds t c =
-    let all = rw c.deref-2.ensures.value at (c.are_known.ensures c.if-are_known.true) in
-    let found = rw c.if-is_found.true at c.in_ok-is_found.ensures.matches in
-    let adds = rw (c.deref-then-is_found.ensures.value, c.in_ok-is_found.ensures.trail) at c.in_ok-push_image-2.ensures in
-    known_adds c.args.head.now c.args.body.now c.args.facts.now (with_trail c.args.start.now c.args.trail.now.items) _ _ all found adds
+pub push_if_matched-requires-clause-known : goal.push_if_matched-requires-clause-known
+push_if_matched-requires-clause-known t c = rw c.deref-2.ensures.value at (c.are_known.ensures c.if-are_known.true)
+
+pub returns-then-are_known-clause-adds : goal.returns-then-are_known-clause-adds
+returns-then-are_known-clause-adds t c = c.push_if_matched.ensures.adds
 
 pub loop-entry-preserved-then-place-items : goal.loop-entry-preserved-then-place-items
 loop-entry-preserved-then-place-items t c =

@@ -1,0 +1,4 @@
+use Rattle.esto_query.proofs.query.QueryReplicate.copy.Goals as goal
+
+pub invariant_of-result : goal.invariant_of-result
+invariant_of-result c = record { sound = rw (c.in_ok-copy.ensures, c.in_ok-copy-2.ensures, c.in_ok-copy-3.ensures) c.args.self.now.sound }
