@@ -11,7 +11,7 @@ use crate::fresh::{fresh_facts, once};
 use crate::receiving::maps_into;
 use crate::replacing::{replace_in_facts, replace_in_terms};
 use esto_query::{Found, Query};
-use esto_semantics::{Atom, Facts};
+use esto_semantics::Facts;
 use esto_term::{List, OutOfMemory, Replicate, Term, Terms};
 use std::alloc::Global;
 
@@ -35,18 +35,21 @@ pub struct Instance {
     trace: Trace,
 }
 
-/// The facts with `to` in place of `from`, each once, where it stands first.
-fn replaced_facts(
+/// The facts with `to` in place of `from`, each once, where it stands first, and the head with `to` in place of `from`.
+fn replaced(
     alloc: Global,
-    facts: &[Atom],
+    facts: &Facts,
+    head: &Terms,
     from: &Term,
     to: &Term,
-) -> Result<Facts, OutOfMemory>
-    ensures { IfOk result (λ it. it ≡ replaced_facts from.now to.now facts.now) }
+) -> Result<(Facts, Terms), OutOfMemory>
+    ensures { IfOk result (λ it. (it.0 ≡ replaced_facts from.now to.now facts.now)
+        × (it.1 ≡ map (replaced from.now to.now) head.now)) }
 {
-    let images = replace_in_facts(alloc, facts, from, to)?;
+    let images = replace_in_facts(alloc, facts.items(), from, to)?;
     let facts = once(alloc, images.items())?;
-    Ok(facts)
+    let head = replace_in_terms(alloc, head.items(), from, to)?;
+    Ok((facts, head))
 }
 
 impl Instance {
@@ -152,8 +155,7 @@ impl Instance {
             (trace_of self.new ≡ trace_of self.old ++ ChaseStep.Merged rule found from to ∷ []) }
         ensures err { OnErr result (self.new ≡ self.old) }
     {
-        let facts = replaced_facts(alloc, self.facts.items(), &from, &to)?;
-        let head = replace_in_terms(alloc, self.head.items(), &from, &to)?;
+        let (facts, head) = replaced(alloc, &self.facts, &self.head, &from, &to)?;
         self.trace.push(ChaseStep::Merged(rule, found, from, to))?;
         self.facts = facts;
         self.head = head;
