@@ -1,6 +1,7 @@
 -- Matches that are found are those that there are.
-use Rattle.std.proofs.Common.{◌≡◌, ℕ, List, [], ◌∷◌, map, Some, Contains, subst, sym, ap, ◌∙◌}
+use Rattle.std.proofs.Common.{◌≡◌, ℕ, List, [], ◌∷◌, map, Some, None, Ok, Err, Option, Result, IfOk, Contains, refl, subst, sym, ap, ◌∙◌}
 use Rattle.std.specs.List.{AllZip}
+use Rattle.std.specs.Option.{MatchOption}
 use Rattle.esto_term.proofs.ListLemmas.{Contains-head, Contains-rest}
 use Rattle.esto_term.specs.declared.term.Term.{Term}
 use Rattle.esto_semantics.specs.Facts.{terms_of}
@@ -11,8 +12,9 @@ use Rattle.esto_world_laws.specs.declared.entry.Claim.{Claim}
 use Rattle.esto_world_laws.specs.declared.entry.Claim.TheVariants.{Fact as Stated}
 use Rattle.esto_cert.specs.Certificates.{facts_at, equalities_at, Matches}
 use Rattle.esto_cert.specs.Linking.{IsAmong, Tells, StandsAsOne}
-use Rattle.esto_cert.specs.Matching.{IsLike, Fits}
+use Rattle.esto_cert.specs.Matching.{IsLike, Fits, IsFound}
 use Rattle.esto_cert.specs.declared.linking.Equality.{Equality}
+use Rattle.esto_cert.specs.declared.matching.Found.{Found}
 
 pub zip_weaker : {A B : Type 0} {P Q : A → B → Type 0} → ((x : A) (y : B) → P x y → Q x y) → (xs : List A) (ys : List B) → AllZip P xs ys → AllZip Q xs ys
 zip_weaker weaker [] [] all = all
@@ -102,3 +104,20 @@ module _ (claims : List Claim) (body : List (Fact Term)) (facts links : List ℕ
   pub none_there : ¬ (Fits (StandsAsOne renamings) body chosen from to) → (other : List (Fact Term)) (others : List Equality)
       → ¬ (Matches claims body facts links other others)
   none_there = no_match claims body facts links chosen equalities renamings from to stated named all_told from_is to_chosen
+
+-- what is told of the match as it is found
+pub judged_there : {E : Type 0} (claims : List Claim) (body : List (Fact Term)) (facts links : List ℕ) (chosen : List (Fact Term)) (equalities them : List Equality)
+    → facts_at claims facts ≡ Some chosen → equalities_at claims links ≡ Some equalities → them ≡ equalities
+    → (it : Found) → it.chosen ≡ chosen → ((others : List (Fact Term)) → Tells it.renamings (IsAmong others them)) → it.from ≡ terms_of body
+    → it.to ≡ terms_of chosen → (result : Result (Option Found) E)
+    → IfOk result (λ found. MatchOption found (¬ (Fits (StandsAsOne it.renamings) body it.chosen it.from it.to))
+    (λ same. (same ≡ it) × Fits (StandsAsOne it.renamings) body it.chosen it.from it.to))
+    → IfOk result (IsFound claims body facts links)
+judged_there claims body facts links chosen equalities them stated named them_is it chosen_is tells from_is to_is (Ok None) wrong =
+    none_there claims body facts links it.chosen it.chosen equalities them it.renamings it.from it.to (stated ∙ ap Some (sym chosen_is)) named refl them_is
+    tells from_is (to_is ∙ ap terms_of (sym chosen_is)) wrong
+judged_there claims body facts links chosen equalities them stated named them_is it chosen_is tells from_is to_is (Ok (Some found)) (same, fits) =
+    subst (λ (its : Found). IsFound claims body facts links (Some its)) (sym same)
+    (found_there claims body facts links it.chosen it.chosen equalities them it.renamings it.from it.to (stated ∙ ap Some (sym chosen_is)) named refl
+    them_is tells from_is (to_is ∙ ap terms_of (sym chosen_is)) fits)
+judged_there claims body facts links chosen equalities them stated named them_is it chosen_is tells from_is to_is (Err error) judged = tt

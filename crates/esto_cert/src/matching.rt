@@ -1,10 +1,13 @@
 //! Matches of a body in what lines claim.
-ghost use Rattle.std.specs.Prelude.{◌≡◌, ◌↔◌, map, IsTrue, IfOk};
+ghost use Rattle.std.specs.Prelude.{◌≡◌, ◌↔◌, List, IsTrue, IfOk, MatchOption};
 ghost use Rattle.std.specs.List.{AllZip};
+ghost use Rattle.esto_term.specs.declared.term.Term.{Term};
+ghost use Rattle.esto_semantics.specs.Facts.{terms_of};
+ghost use Rattle.esto_semantics.specs.declared.fact.Fact.{Fact};
 ghost use Rattle.esto_cert.specs.Linking.{StandsAsOne, Tells, IsAmong};
 ghost use Rattle.esto_cert.specs.Matching.{IsLike, IsFound, Fits};
 
-use crate::linking::{Equalities, renamings_of, stand_as_one};
+use crate::linking::{Equalities, Equality, renamings_of, stand_as_one};
 use crate::naming::{equalities_at, facts_at};
 use esto_prov::{taken_terms, terms_of};
 use esto_semantics::{Atom, Atoms};
@@ -55,6 +58,43 @@ fn fits(alloc: Global, body: &[Atom], it: &Found) -> Result<bool, OutOfMemory>
     Ok(stand_as_one(it.renamings.items(), it.to.items(), met.items()))
 }
 
+/// What is known of the facts as a match of the body, with renamings by the equalities.
+fn found_by(
+    alloc: Global,
+    body: &[Atom],
+    chosen: Atoms,
+    equalities: &[Equality],
+) -> Result<Found, OutOfMemory>
+    ensures chosen { IfOk result (λ it. it.chosen ≡ chosen) }
+    ensures from { IfOk result (λ it. it.from ≡ terms_of body.now) }
+    ensures to { IfOk result (λ it. it.to ≡ terms_of chosen) }
+    ensures renamings { IfOk result (λ it. (facts : List (Fact Term))
+        → Tells it.renamings (IsAmong facts equalities.now)) }
+{
+    let from = terms_of(alloc, body)?;
+    let to = terms_of(alloc, chosen.items())?;
+    let renamings = renamings_of(alloc, equalities)?;
+    Ok(Found {
+        chosen,
+        from,
+        to,
+        renamings,
+    })
+}
+
+/// The facts as they are, where they match the body.
+fn if_fits(alloc: Global, body: &[Atom], it: Found) -> Result<Option<Found>, OutOfMemory>
+    ensures { IfOk result (λ found. MatchOption found
+        (¬ (Fits (StandsAsOne it.renamings) body.now it.chosen it.from it.to))
+        (λ same. (same ≡ it)
+        × Fits (StandsAsOne it.renamings) body.now it.chosen it.from it.to)) }
+{
+    if fits(alloc, body, &it)? {
+        return Ok(Some(it));
+    }
+    Ok(None)
+}
+
 /// The match of the body by the facts and the equalities that the claims of these numbers state, if it is one.
 pub fn find_match(
     alloc: Global,
@@ -71,14 +111,6 @@ pub fn find_match(
     let Some(equalities) = equalities_at(alloc, claims, links)? else {
         return Ok(None);
     };
-    let it = Found {
-        from: terms_of(alloc, body)?,
-        to: terms_of(alloc, chosen.items())?,
-        renamings: renamings_of(alloc, equalities.items())?,
-        chosen,
-    };
-    if fits(alloc, body, &it)? {
-        return Ok(Some(it));
-    }
-    Ok(None)
+    let it = found_by(alloc, body, chosen, equalities.items())?;
+    if_fits(alloc, body, it)
 }
