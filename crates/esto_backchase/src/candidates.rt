@@ -1,5 +1,5 @@
 //! Whether the candidate of a set of a plan's atoms is equivalent to the query.
-ghost use Rattle.std.specs.Prelude.{◌≡◌, ◌↔◌, ◌<◌, Contains, IsTrue, IfOk, length};
+ghost use Rattle.std.specs.Prelude.{◌≡◌, ◌↔◌, ◌<◌, [], Contains, IsTrue, IfOk, length};
 ghost use Rattle.esto_semantics.specs.Containment.{IsContained};
 ghost use Rattle.esto_semantics.specs.Listed.{candidate};
 ghost use Rattle.esto_semantics.specs.Queries.{IsAnswer};
@@ -9,6 +9,8 @@ ghost use Rattle.esto_query.specs.Making.{query_of};
 ghost use Rattle.esto_views.specs.Fragments.{views_of};
 ghost use Rattle.esto_views.specs.Plans.{plan_query};
 ghost use Rattle.esto_views.specs.declared.expansion.ExpandedFact.{ExpandedFact};
+ghost use Rattle.esto_chase_laws.specs.Runs.{start_of};
+ghost use Rattle.esto_instance.specs.Instances.{state_of, trace_of};
 ghost use Rattle.esto_backchase.specs.Candidates.{facts_chosen, IsSearch, Answers};
 
 use crate::safety::is_safe;
@@ -56,6 +58,21 @@ fn facts_chosen(
 }
 
 impl Search<'_> {
+    /// The start of the chase of what the expansion has for the set, with the plan's head.
+    fn start_for(&self, alloc: Global, set: &RowBits) -> Result<Instance, OutOfMemory>
+        requires { (fact : ExpandedFact) → Contains self.now.expanded.now fact
+            → fact.atom < length set.now }
+        ensures state { IfOk result (λ it. state_of it ≡ start_of (record {
+          head = self.now.plan.now.head;
+          body = facts_chosen set.now self.now.expanded.now;
+        })) }
+        ensures trace { IfOk result (λ it. trace_of it ≡ []) }
+    {
+        let facts = facts_chosen(alloc, self.expanded.items(), set)?;
+        let start = Instance::of_facts(alloc, &facts, &self.plan.head)?;
+        Ok(start)
+    }
+
     /// Whether the set's candidate is contained in the query: the query maps, head to head, to the end of the chase of
     /// what the expansion has for the set. Where that chase clashes, the candidate has no answer.
     fn is_contained(&self, alloc: Global, set: &RowBits) -> Result<bool, OutOfMemory>
@@ -74,8 +91,7 @@ impl Search<'_> {
         queries_have_starts();
         an_expansion_means_the_same();
         an_expansion_of_a_plan_expands_its_candidates();
-        let facts = facts_chosen(alloc, self.expanded.items(), set)?;
-        let start = Instance::of_facts(alloc, &facts, &self.plan.head)?;
+        let start = self.start_for(alloc, set)?;
         let outcome = chase(alloc, start, &self.catalogue.rules, &self.catalogue.ranks)?;
         match outcome {
             Left(chased) => {

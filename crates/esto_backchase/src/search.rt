@@ -80,6 +80,29 @@ fn absent_in_both(alloc: Global, set: &RowBits, other: &RowBits) -> Result<Place
 }
 
 impl Search<'_> {
+    /// The set with all numbers of a range, where it does not answer the query.
+    fn whole(
+        &self,
+        alloc: Global,
+        set: &RowBits,
+        from: usize,
+        to: usize,
+    ) -> Result<Option<RowBits>, OutOfMemory>
+        requires search { IsSearch self.now.catalogue.now self.now.query.now self.now.plan.now
+            self.now.expanded.now }
+        requires count { length set.now ≡ length self.now.plan.now.atoms }
+        requires in_range { to ≤ length set.now }
+        ensures { IfOk result (λ outcome. IfSome outcome (FailsWith
+            (length self.now.plan.now.atoms)
+            (Answers self.now.catalogue.now self.now.query.now self.now.plan.now) set.now)) }
+    {
+        let more = with_range(alloc, set, from, to)?;
+        if self.answers(alloc, &more)? {
+            return Ok(None);
+        }
+        Ok(Some(more))
+    }
+
     /// The set grown by numbers from a range, as far as it does not answer the query: by the whole range, or else by its
     /// first half and then by its second.
     fn grown(
@@ -98,8 +121,8 @@ impl Search<'_> {
         ensures { IfOk result (FailsWith (length self.now.plan.now.atoms)
             (Answers self.now.catalogue.now self.now.query.now self.now.plan.now) set.now) }
     {
-        let more = with_range(alloc, set, from, to)?;
-        if !self.answers(alloc, &more)? {
+        let whole = self.whole(alloc, set, from, to)?;
+        if let Some(more) = whole {
             return Ok(more);
         }
         if to <= from || to - from == 1 {
@@ -223,7 +246,7 @@ impl Search<'_> {
         'numbers: for number in numbers {
             let more = with_number(alloc, set, *number)?;
             self.visit(alloc, &more, &earlier, found, failing)?;
-            earlier = with_number(alloc, &earlier, *number)?;
+            earlier.insert(*number);
         }
         Ok(())
     }

@@ -1,4 +1,5 @@
-use Rattle.std.proofs.Common.{◌+◌, ◌<◌, ℕ, inl, inr, length, get_or, Contains, refl, sym, subst, ◌∙◌, arith}
+use Rattle.std.proofs.Common.{◌+◌, ◌<◌, ℕ, true, inl, inr, ap, length, get_or, Contains, refl, sym, subst, ◌∙◌, arith}
+use Rattle.std.proofs.lemmas.List.{length-set}
 use Rattle.std.proofs.lemmas.List.Elements.{Contains-get_or}
 use Rattle.esto_semantics.specs.Sets.{Has}
 use Rattle.esto_backchase.specs.Candidates.{Answers}
@@ -69,8 +70,8 @@ visit_by-visit-requires t c =
       ),
     )
 
-pub visit_by-with_number-requires-in-numbers : goal.visit_by-with_number-requires-in-numbers
-visit_by-with_number-requires-in-numbers t c =
+pub visit_by-insert-requires : goal.visit_by-insert-requires
+visit_by-insert-requires t c =
     let inside = Contains-get_or c.args.numbers.now c.numbers.number-index 0 c.numbers-test.true in
     omega (arith, (c.requires.numbers (get_or c.args.numbers.now c.numbers.number-index 0) inside).0, c.numbers.invariant.earlier_count)
 
@@ -83,9 +84,9 @@ visit_by-numbers-preserved t c =
     let numbers = c.args.numbers.now in
     let index = c.numbers.number-index in
     record {
-      earlier_count = c.in_ok-earlier-2.ensures.count ∙ c.numbers.invariant.earlier_count;
-      earlier = earlier-more set left_out numbers index number c.numbers-test.true refl c.numbers.earlier c.in_ok-earlier-2.earlier
-          c.numbers.invariant.earlier c.in_ok-earlier-2.ensures.has;
+      earlier_count = ap length c.insert.ensures.value ∙ length-set c.numbers.earlier number true ∙ c.numbers.invariant.earlier_count;
+      earlier = earlier-more set left_out numbers index number c.numbers-test.true refl c.numbers.earlier c.insert.new.self
+          c.numbers.invariant.earlier c.insert.ensures.has;
       same_count = c.in_ok-visit.ensures.count ∙ c.numbers.invariant.same_count;
       failing = c.in_ok-visit.ensures.failing;
       visited = visited-both Pass (HasOneBelow set left_out numbers (index + 1)) (HasOneBelow set left_out numbers index)

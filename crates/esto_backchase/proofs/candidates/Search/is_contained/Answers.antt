@@ -1,4 +1,4 @@
-use Rattle.std.proofs.Common.{◌<◌, Contains, refl, sym, ap, subst, ◌∙◌}
+use Rattle.std.proofs.Common.{◌<◌, refl, sym, subst}
 use Rattle.std.specs.Bool.{⊤}
 use Rattle.esto_acyclic.specs.Graphs.{AreRanks, IsWithin}
 use Rattle.esto_acyclic.specs.Relations.{IsEdge}
@@ -6,24 +6,21 @@ use Rattle.esto_chase.specs.Chased.{IsFinishedRun, RunClashes}
 use Rattle.esto_chase.specs.declared.chasing.Chased.{Chased}
 use Rattle.esto_semantics.specs.Containment.{IsSatisfiable}
 use Rattle.esto_semantics.specs.Instances.{IsUniversalFor}
-use Rattle.esto_chase_laws.specs.Runs.{IsStart, start_of}
+use Rattle.esto_chase_laws.specs.Runs.{IsStart}
 use Rattle.esto_constraint.specs.Constraints.{rules_of}
 use Rattle.esto_query.specs.Making.{query_of}
 use Rattle.esto_instance.specs.Instances.{state_of}
-use Rattle.esto_backchase.specs.Candidates.{facts_chosen}
 use Rattle.esto_backchase.proofs.CandidateLemmas.{chosen-starts, contained-clashed, contained-mapped, left-says, right-says, rules-are}
 use Rattle.esto_backchase.proofs.candidates.Search.is_contained.Goals as goal
 
-pub facts_chosen-requires : goal.facts_chosen-requires
-facts_chosen-requires c = λ fact inside.
-    subst (λ count. fact.atom < count) (sym c.requires.count)
-    ((c.requires.search.expands.exact fact).0 (subst (λ facts. Contains facts fact) c.items.ensures inside)).0
+pub start_for-requires : goal.start_for-requires
+start_for-requires c = λ fact inside.
+    subst (λ count. fact.atom < count) (sym c.requires.count) ((c.requires.search.expands.exact fact).0 inside).0
 
 pub chase-requires-clause-start : goal.chase-requires-clause-start
 chase-requires-clause-start c =
     let it = c.args.self.now in
-    subst IsStart (sym (c.in_ok-start.ensures.state
-    ∙ ap (λ facts. start_of (record { head = it.plan.now.head; body = facts })) (c.in_ok-facts.ensures ∙ ap (facts_chosen c.args.set.now) c.items.ensures)))
+    subst IsStart (sym c.in_ok-start.ensures.state)
     (chosen-starts it.plan.now it.catalogue.now.fragments it.expanded.now c.requires.search.expands c.args.set.now c.requires.count
     c.queries_have_starts.ensures.body c.requires.search.flat (c.plans_are_sound.ensures it.plan.now))
 
@@ -42,8 +39,7 @@ pub returns-in-Left : goal.returns-in-Left
 returns-in-Left c =
     let it = c.args.self.now in
     let rules = rules_of it.catalogue.now.rules in
-    let start_is = c.in_ok-start.ensures.state
-    ∙ ap (λ facts. start_of (record { head = it.plan.now.head; body = facts })) (c.in_ok-facts.ensures ∙ ap (facts_chosen c.args.set.now) c.items.ensures) in
+    let start_is = c.in_ok-start.ensures.state in
     let end = state_of c.in-Left.chased.instance in
     let run = left-says c.in_ok-outcome.outcome (λ (chased : Chased). IsFinishedRun rules (state_of c.in_ok-start.start) chased.instance)
     (RunClashes rules (state_of c.in_ok-start.start)) c.in-Left.chased c.in_ok-outcome.ensures.run c.in-Left.is in
@@ -60,8 +56,7 @@ pub returns : goal.returns
 returns c =
     let it = c.args.self.now in
     let rules = rules_of it.catalogue.now.rules in
-    let start_is = c.in_ok-start.ensures.state
-    ∙ ap (λ facts. start_of (record { head = it.plan.now.head; body = facts })) (c.in_ok-facts.ensures ∙ ap (facts_chosen c.args.set.now) c.items.ensures) in
+    let start_is = c.in_ok-start.ensures.state in
     let none = right-says c.in_ok-outcome.outcome (λ _. IsSatisfiable rules (state_of c.in_ok-start.start))
     (λ _. ¬ (IsSatisfiable rules (state_of c.in_ok-start.start)))
     c.in-Right.field-0 c.in_ok-outcome.ensures.satisfiable c.in-Right.is in
