@@ -1,4 +1,5 @@
-use Rattle.std.proofs.Common.{arith}
+use Rattle.std.proofs.Common.{length, refl, arith}
+use Rattle.std.proofs.lemmas.Option.{slice_get_read}
 use Rattle.esto_term.proofs.ListLemmas.{each_more, each_seen}
 use Rattle.esto_semantics.specs.Sets.{Within}
 use Rattle.esto_world_laws.specs.declared.entry.Entry.{Entry}
@@ -21,3 +22,10 @@ returns c =
     unsaid c.args.self.now.entries.now c.args.self.now.set.now c.args.term.now c.args.other.now
     (each_seen (λ (entry : Entry). Within entry.product c.args.self.now.set.now → ¬ (SaysOne entry.claim c.args.term.now c.args.other.now))
     c.args.self.now.entries.now c.entries.place (omega (arith, c.entries-test.false)) c.entries.invariant)
+
+pub returns-then-says_one : goal.returns-then-says_one
+returns-then-says_one c =
+    let entry = c.entry-item.result in
+    let entries = c.args.self.now.entries.now in
+    let at = slice_get_read entries (length entries) c.entries.place entry refl c.entries-test.true c.entry-item.is in
+    (entry.claim, (entry, at, c.within.ensures.0 c.if-within.true, refl), c.says_one.ensures.0 c.if-says_one.true)

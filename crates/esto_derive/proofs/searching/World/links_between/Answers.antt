@@ -1,10 +1,17 @@
-use Rattle.std.proofs.Common.{length, refl, arith}
+use Rattle.std.proofs.Common.{length, Contains, refl, subst, arith}
 use Rattle.std.proofs.lemmas.Option.{slice_get_read}
+use Rattle.esto_term.proofs.ListLemmas.{Contains-nil}
 use Rattle.esto_world_laws.proofs.LinkLemmas.{zip_length}
 use Rattle.esto_world_laws.specs.Derived.{IsNamed}
 use Rattle.esto_world_laws.specs.Worlds.{InWorld, Linked}
 use Rattle.esto_derive.proofs.FoundLemmas.{related_more, related_all, named_more}
 use Rattle.esto_derive.proofs.searching.World.links_between.Goals as goal
+
+pub places-init : goal.places-init
+places-init c = record {
+  are = λ place inside. absurd (Contains-nil place (subst (λ it. Contains it place) c.new-links.ensures inside));
+  related = λ place x y below at at_y. absurd (omega (arith, below));
+}
 
 pub places-preserved : goal.places-preserved
 places-preserved c =
