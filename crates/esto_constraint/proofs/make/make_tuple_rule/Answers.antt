@@ -1,8 +1,19 @@
-use Rattle.std.proofs.Common.{◌≡◌, ◌+◌, ◌++◌, length, refl, inl, inr, subst, arith}
+use Rattle.std.proofs.Common.{◌≡◌, ◌+◌, ◌<◌, ◌++◌, List, length, refl, sym, inl, inr, subst, arith}
+use Rattle.std.specs.List.{All}
+use Rattle.esto_term.specs.declared.term.Term.{Term}
+use Rattle.esto_semantics.specs.declared.fact.Fact.{Fact}
 use Rattle.esto_query.specs.Making.{IsFirstMisfit}
 use Rattle.esto_query.specs.Schemas.{arities_of}
 use Rattle.esto_constraint.proofs.MakingLemmas.{AreOver-append, IsFirstMisfit-body, IsFirstMisfit-head}
 use Rattle.esto_constraint.proofs.make.make_tuple_rule.Goals as goal
+
+pub first_misfit-requires : goal.first_misfit-requires
+first_misfit-requires c =
+    subst (λ (body : List (Fact Term)). All (λ atom. atom.relation < length c.args.schema.now) body) (sym c.items.ensures) c.requires.body_relations
+
+pub first_misfit-requires-2 : goal.first_misfit-requires-2
+first_misfit-requires-2 c =
+    subst (λ (head : List (Fact Term)). All (λ atom. atom.relation < length c.args.schema.now) head) (sym c.items-2.ensures) c.requires.head_relations
 
 pub returns-in-Some : goal.returns-in-Some
 returns-in-Some c = IsFirstMisfit-body _ _ c.args.head _ (rw c.items.ensures at c.in-Some.ensures)
