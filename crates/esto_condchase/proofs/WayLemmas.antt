@@ -629,9 +629,6 @@ pub from_turn : (body : List (Fact Term)) (place : ℕ) (atom : Fact Term) (from
 from_turn body place atom from later copied within is from_is copied_is grown =
     rw (take-item body place atom within is) (grown ∙ (λ i. from_is i ++ copied_is i) ∙ sym (terms_of-push (take place body) atom))
 
-pub start_counted : (count : ℕ) (start : Way) (ways : List Way) → length start.product ≡ count → AreCounted count ways → AreCounted (length start.product) ways
-start_counted count start ways is counted way inside = counted way inside ∙ sym is
-
 pub rows_of_items : (entries : List Entry) (from terms items owns its_owns : List Term) (start : Way) (ways : List Way) → items ≡ terms → its_owns ≡ owns
     → AreRows entries from items its_owns start ways → AreRows entries from terms owns start ways
 rows_of_items entries from terms items owns its_owns start ways same same_owns rows = subst (λ it. AreRows entries from it owns start ways) same

@@ -73,7 +73,7 @@ fn met_by(
 }
 
 /// The way with one more fact, of an entry.
-pub fn begun(alloc: Global, way: &Way, place: usize, product: &RowBits) -> Result<Way, OutOfMemory>
+fn begun(alloc: Global, way: &Way, place: usize, product: &RowBits) -> Result<Way, OutOfMemory>
     requires { length way.now.product ≡ length product.now }
     ensures { IfOk result (λ it. it ≡ begun way.now place product.now) }
 {
