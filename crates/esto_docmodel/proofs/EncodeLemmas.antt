@@ -1,18 +1,20 @@
 -- The loops of the encodings, a turn at a time.
-use Rattle.std.proofs.Common.{◌≡◌, ℕ, suc, ◌+◌, ◌<◌, List, [], ◌∷◌, ◌++◌, map, drop, length, get_or, refl, sym, ap, ◌∙◌, subst, arith, add-one, append_assoc}
+use Rattle.std.proofs.Common.{◌≡◌, ℕ, suc, ◌+◌, ◌<◌, List, [], ◌∷◌, ◌++◌, map, drop, length, get_or, Some, None, refl, sym, ap, ◌∙◌, subst, arith, add-one, append_assoc}
 use Rattle.std.proofs.Math.Seq.{drop-cons}
-use Rattle.std.proofs.lemmas.List.{map-append}
+use Rattle.std.proofs.lemmas.List.{append-nil, map-append}
 use Rattle.esto_term.specs.declared.term.Term.{Term}
 use Rattle.esto_term.specs.declared.term.Term.TheVariants.{Const, Plain}
 use Rattle.esto_semantics.specs.declared.fact.Fact.{Fact}
 use Rattle.esto_docmodel.specs.DocumentFacts.{DocFact, below, flat}
 use Rattle.esto_docmodel.specs.Encodings.{size, entering, belows, holding, facts_from}
-use Rattle.esto_docmodel.specs.Forests.{Label, name, place, Forest, kid, Node}
+use Rattle.esto_docmodel.specs.Forests.{Label, name, place, Forest, none, kid, Node, node}
 use Rattle.esto_docmodel.specs.Putting.{fact_over, turned, node_facts}
 use Rattle.esto_docmodel.specs.Rising.{IsRising, AreInside}
 use Rattle.esto_docmodel.specs.Shapes.{shape, row, named_row, shaped_field}
 use Rattle.esto_docmodel.specs.declared.field.FieldOf.{FieldOf}
 use Rattle.esto_docmodel.specs.declared.tree.Tree.{Tree}
+use Rattle.esto_docmodel.specs.declared.tree.Tree.TheVariants.{Value, Nothing, Fields, Items}
+use Rattle.esto_docmodel.proofs.ShapeLemmas.{shape-Value, shape-Nothing, shape-Fields, shape-Items}
 
 -- ---- lists
 
@@ -66,6 +68,38 @@ kid_step base facts whole a n l t rest known =
 
 pub kid_count : (n all : ℕ) (t : Node) (rest : Forest) (l : Label) → n + size (kid l t.content t.inside rest) ≡ all → (suc n + size t.inside) + size rest ≡ all
 kid_count n all t rest l known = omega (arith, known)
+
+-- what is put for a node, kind by kind, when the nodes above are put
+module _ (base n : ℕ) (above : List ℕ) (start put : List (Fact Term)) (entered : put ≡ start ++ map (flat base) (belows (turned above) n)) where
+  node_rest : (t : Node) → put ++ map (flat base) (holding t.content n ++ facts_from (n ∷ turned above) (suc n) t.inside)
+      ≡ start ++ map (flat base) (node_facts (turned above) n t)
+  node_rest t = rw entered (append_assoc start _ _
+    ∙ ap (λ (w : List (Fact Term)). start ++ w)
+    (sym (map-append (flat base) (belows (turned above) n) (holding t.content n ++ facts_from (n ∷ turned above) (suc n) t.inside))))
+
+  pub value_put : (tree : Tree) (text said : List ℕ) (now : List (Fact Term)) → tree ≡ Value text → said ≡ text
+      → now ≡ put ++ fact_over (base + 3) (Plain n ∷ Const said ∷ []) ∷ []
+      → now ≡ start ++ map (flat base) (node_facts (turned above) n (shape tree))
+  value_put tree text said now is copied more = rw (is, shape-Value text) (more
+    ∙ ap (λ (w : List ℕ). put ++ fact_over (base + 3) (Plain n ∷ Const w ∷ []) ∷ []) copied
+    ∙ node_rest (node (Some text) none))
+
+  pub nothing_put : (tree : Tree) → tree ≡ Nothing → put ≡ start ++ map (flat base) (node_facts (turned above) n (shape tree))
+  nothing_put tree is = rw (is, shape-Nothing) (sym (append-nil put) ∙ node_rest (node None none))
+
+  pub fields_put : (tree : Tree) (fields : List (FieldOf Tree)) (first : ℕ) (now : List (Fact Term)) → tree ≡ Fields fields → first ≡ suc n
+      → now ≡ put ++ map (flat base) (facts_from (n ∷ turned above) first (named_row (map shaped_field fields)))
+      → now ≡ start ++ map (flat base) (node_facts (turned above) n (shape tree))
+  fields_put tree fields first now is numbered more = rw (is, shape-Fields fields) (more
+    ∙ ap (λ (k : ℕ). put ++ map (flat base) (facts_from (n ∷ turned above) k (named_row (map shaped_field fields)))) numbered
+    ∙ node_rest (node None (named_row (map shaped_field fields))))
+
+  pub items_put : (tree : Tree) (items : List Tree) (first : ℕ) (now : List (Fact Term)) → tree ≡ Items items → first ≡ suc n
+      → now ≡ put ++ map (flat base) (facts_from (n ∷ turned above) first (row (map shape items)))
+      → now ≡ start ++ map (flat base) (node_facts (turned above) n (shape tree))
+  items_put tree items first now is numbered more = rw (is, shape-Items items) (more
+    ∙ ap (λ (k : ℕ). put ++ map (flat base) (facts_from (n ∷ turned above) k (row (map shape items)))) numbered
+    ∙ node_rest (node None (row (map shape items))))
 
 module _ (base number next : ℕ) (above inner : List ℕ) (facts whole : List (Fact Term)) (all : ℕ) (is_inner : inner ≡ above ++ number ∷ []) where
   inside_turned : turned inner ≡ number ∷ turned above
@@ -124,16 +158,16 @@ document_facts base next above facts whole none_above items i t within is known 
 
 module _ (base number next later : ℕ) (above inner : List ℕ) (facts entered now whole : List (Fact Term)) (all : ℕ)
     (is_inner : inner ≡ above ++ number ∷ []) where
-  pub field_turn : (fields : List (FieldOf Tree)) (i : ℕ) (f : FieldOf Tree) (named : List ℕ) → i < length fields → f ≡ get_or fields i f → named ≡ f.name
-      → entered ≡ facts ++ fact_over (base + 1) (Plain number ∷ Const named ∷ Plain next ∷ []) ∷ []
+  pub field_turn : (fields : List (FieldOf Tree)) (i : ℕ) (f : FieldOf Tree) → i < length fields → f ≡ get_or fields i f
+      → entered ≡ facts ++ fact_over (base + 1) (Plain number ∷ Const f.name ∷ Plain next ∷ []) ∷ []
       → now ≡ entered ++ map (flat base) (node_facts (turned inner) next (shape f.tree))
       → later ≡ suc next + size (shape f.tree).inside
       → (facts ++ map (flat base) (facts_from (number ∷ turned above) next (named_row (map shaped_field (drop i fields)))) ≡ whole)
       × (next + size (named_row (map shaped_field (drop i fields))) ≡ all)
       → (now ++ map (flat base) (facts_from (number ∷ turned above) later (named_row (map shaped_field (drop (i + 1) fields)))) ≡ whole)
       × (later + size (named_row (map shaped_field (drop (i + 1) fields))) ≡ all)
-  field_turn fields i f named within is copied put more numbered known =
-      rw (more, put, copied, numbered)
+  field_turn fields i f within is put more numbered known =
+      rw (more, put, numbered)
       (field_facts base number next above inner facts whole all is_inner fields i f within is known.0, field_count next all fields i f within is known.1)
 
   pub item_turn : (items : List Tree) (i : ℕ) (t : Tree) → i < length items → t ≡ get_or items i t

@@ -1,10 +1,10 @@
 -- What makes entries a layout, an entry at a time.
-use Rattle.std.proofs.Common.{◌≡◌, ◌≢◌, ◌⊎◌, ◌↔◌, inl, inr, ℕ, ◌+◌, ◌<◌, ◌≤◌, ◌==◌, Bool, true, false, not, IsTrue, List, [], ◌∷◌, length, drop, get_or, Contains, refl, sym, ap, ◌∙◌, subst, arith}
-use Rattle.std.proofs.lemmas.Bool.{false≢true, cases_eq}
+use Rattle.std.proofs.Common.{◌≡◌, ◌≢◌, ◌⊎◌, ◌↔◌, inl, inr, ℕ, ◌+◌, ◌-◌, ◌<◌, ◌≤◌, ◌==◌, Bool, true, false, not, IsTrue, List, [], ◌∷◌, length, drop, get_or, Contains, refl, sym, ap, ◌∙◌, subst, arith}
+use Rattle.std.proofs.lemmas.Bool.{false≢true, cases_eq, eqb-true, eq-eqb}
 use Rattle.esto_term.proofs.ListLemmas.{Contains-head, Contains-rest, Contains-cases}
 use Rattle.esto_term.specs.declared.term.Term.{Term}
 use Rattle.esto_term.specs.declared.term.Term.TheVariants.{Plain}
-use Rattle.esto_docmodel.specs.Layouts.{paths, Begins, SomeBegins, AreFields, IsOneItem, FitTogether, AreLaidOut, StandsOnce, height, IsLayout}
+use Rattle.esto_docmodel.specs.Layouts.{paths, Begins, SomeBegins, AreFields, IsOneItem, FitTogether, IsColumn, AreLaidOut, StandsOnce, height, IsLayout}
 use Rattle.esto_docmodel.specs.Patterns.{Entries, done, holds, group, Mentions}
 use Rattle.esto_docmodel.specs.Shapes.{entry_shape, entries_of}
 use Rattle.esto_docmodel.proofs.EncodeLemmas.{drop_at}
@@ -41,6 +41,27 @@ module _ {First Rest Left Whole : Type 0} where
 
   pub each_fails : Left ↔ (First × Rest) → ¬ First → Left ↔ Whole → ¬ Whole
   each_fails parts other same whole = other (parts.0 (same.1 whole)).0
+
+-- ---- tests of one and of another
+
+module _ {First Second Whole : Type 0} (parts : Whole ↔ (First × Second)) where
+  pub first_fails : (p : Bool) → IsTrue p ↔ First → p ≡ false → IsTrue p ↔ Whole
+  first_fails p tells is = (λ e. absurd (false≢true (sym is ∙ e)), λ whole. tells.1 (parts.0 whole).0)
+
+  pub first_goes : (p q : Bool) → IsTrue p ↔ First → p ≡ true → IsTrue q ↔ Second → IsTrue q ↔ Whole
+  first_goes p q tells is goes = (λ e. parts.1 (tells.0 is, goes.0 e), λ whole. goes.1 (parts.0 whole).1)
+
+pub same_parts : (First Second : Type 0) → (First × Second) ↔ (First × Second)
+same_parts First Second = (λ both. both, λ both. both)
+
+pub told_as : {First Second Third : Type 0} → First ↔ Second → Second ↔ Third → First ↔ Third
+told_as one two = (λ it. two.0 (one.0 it), λ it. one.1 (two.1 it))
+
+pub same_variable : (term : Term) (variable number : ℕ) → term ≡ Plain variable → IsTrue (variable == number) ↔ (term ≡ Plain number)
+same_variable term variable number is = (
+  λ e. is ∙ ap Plain (eqb-true variable number e),
+  λ h. let same : Plain variable ≡ Plain number = sym is ∙ h in eq-eqb variable number cc,
+)
 
 -- ---- paths
 
@@ -100,6 +121,22 @@ module _ (columns steps : ℕ) (others : Entries) where
   laid_here = entry_cases LaidParts
       (λ path term. rw (entry-Value path term others, entry-Value path term done) (laid_value path term))
       (λ path inner. rw (entry-Group path inner others, entry-Group path inner done) (laid_group path (entries_of inner)))
+
+module _ (columns steps : ℕ) (it : Entry) (path : List Step) where
+  pub value_parts : (term : Term) → it ≡ entry.Value path term → LaidOutWithin columns steps (entry_shape it done)
+      ↔ ((¬ (Contains path Below) × (length path ≤ steps)) × IsColumn columns term)
+  value_parts term is = rw (is, entry-Value path term done) (
+    λ ((plain, column, end), low). ((plain, omega (arith, low)), column),
+    λ ((plain, low), column). ((plain, column, tt), omega (arith, low)),
+  )
+
+  pub group_parts : (inner : List Entry) → it ≡ entry.Group path inner → LaidOutWithin columns steps (entry_shape it done)
+      ↔ ((¬ (Contains path Below) × (length path ≤ steps))
+      × (FitTogether (paths (entries_of inner)) × LaidOutWithin columns (steps - length path) (entries_of inner)))
+  group_parts inner is = rw (is, entry-Group path inner done) (
+    λ ((plain, fit, within, end), low). ((plain, omega (arith, low)), (fit, (within, omega (arith, low)))),
+    λ ((plain, short), (fit, (within, low))). ((plain, fit, within, tt), omega (arith, short, low)),
+  )
 
 pub laid_parts : (columns steps : ℕ) (left rest : List Entry) (it : Entry) → left ≡ it ∷ rest → LaidOutWithin columns steps (entries_of left)
     ↔ (LaidOutWithin columns steps (entry_shape it done) × LaidOutWithin columns steps (entries_of rest))
@@ -169,9 +206,35 @@ pub mention_at : (term : Term) (entries : List Entry) (i : ℕ) (it : Entry) →
     → Mentions (entries_of (drop i entries)) term ↔ (Mentions (entry_shape it done) term ⊎ Mentions (entries_of (drop (i + 1) entries)) term)
 mention_at term entries i it within is = mention_parts term (drop i entries) (drop (i + 1) entries) it (drop_at entries i it it within is)
 
-pub once_parts : (term : Term) (left rest : List Entry) (it : Entry) → left ≡ it ∷ rest
+once_parts : (term : Term) (left rest : List Entry) (it : Entry) → left ≡ it ∷ rest
     → StandsOnce term (entries_of left) ↔ Once term (entry_shape it done) (entries_of rest)
 once_parts term left rest it is = rw is (once_here term (entries_of rest) it)
+
+-- an entry by itself
+module _ (term : Term) (it : Entry) (path : List Step) where
+  pub value_once : (first : Term) → it ≡ entry.Value path first → (first ≡ term) ↔ StandsOnce term (entry_shape it done)
+  value_once first is = rw (is, entry-Value path first done) (
+    λ same. inl (same, λ never. never),
+    λ either. elim either [ inl (same, none) ↦ same | inr (other, never) ↦ absurd never ],
+  )
+
+  pub group_once : (inner : List Entry) → it ≡ entry.Group path inner → StandsOnce term (entries_of inner) ↔ StandsOnce term (entry_shape it done)
+  group_once inner is = rw (is, entry-Group path inner done) (
+    λ once. inl (once, λ never. never),
+    λ either. elim either [ inl (once, none) ↦ once | inr (unsaid, never) ↦ absurd never ],
+  )
+
+  pub value_mention : (first : Term) → it ≡ entry.Value path first → (first ≡ term) ↔ Mentions (entry_shape it done) term
+  value_mention first is = rw (is, entry-Value path first done) (
+    λ same. inl same,
+    λ either. elim either [ inl same ↦ same | inr never ↦ absurd never ],
+  )
+
+  pub group_mention : (inner : List Entry) → it ≡ entry.Group path inner → Mentions (entries_of inner) term ↔ Mentions (entry_shape it done) term
+  group_mention inner is = rw (is, entry-Group path inner done) (
+    λ inside. inl inside,
+    λ either. elim either [ inl inside ↦ inside | inr never ↦ absurd never ],
+  )
 
 -- what stands once is mentioned
 once_is_mentioned : (term : Term) (entries : Entries) → StandsOnce term entries → Mentions entries term
@@ -182,14 +245,24 @@ once_is_mentioned term (group path inner rest) (inl (once, none)) = inl (once_is
 once_is_mentioned term (group path inner rest) (inr (unsaid, once)) = inr (once_is_mentioned term rest once)
 
 -- the first entry that mentions it decides
-pub once_found : (term : Term) (left rest : List Entry) (it : Entry) {Whole : Type 0} → left ≡ it ∷ rest → Mentions (entry_shape it done) term
-    → StandsOnce term (entries_of left) ↔ Whole → (StandsOnce term (entry_shape it done) × ¬ (Mentions (entries_of rest) term)) ↔ Whole
+once_found : (term : Term) (left rest : List Entry) (it : Entry) {Whole : Type 0} → left ≡ it ∷ rest → Mentions (entry_shape it done) term
+    → StandsOnce term (entries_of left) ↔ Whole → Whole ↔ (StandsOnce term (entry_shape it done) × ¬ (Mentions (entries_of rest) term))
 once_found term left rest it is said same = (
-  λ both. same.0 ((once_parts term left rest it is).1 (inl both)),
   λ whole. elim ((once_parts term left rest it is).0 (same.1 whole)) [ inl both ↦ both | inr (unsaid, once) ↦ absurd (unsaid said) ],
+  λ both. same.0 ((once_parts term left rest it is).1 (inl both)),
 )
 
-pub once_passed : (term : Term) (left rest : List Entry) (it : Entry) {Whole : Type 0} → left ≡ it ∷ rest → ¬ (Mentions (entry_shape it done) term)
+pub once_found_at : (term : Term) (entries : List Entry) (i : ℕ) (it : Entry) {Whole : Type 0} → i < length entries → it ≡ get_or entries i it
+    → Mentions (entry_shape it done) term → StandsOnce term (entries_of (drop i entries)) ↔ Whole
+    → Whole ↔ (StandsOnce term (entry_shape it done) × ¬ (Mentions (entries_of (drop (i + 1) entries)) term))
+once_found_at term entries i it within is said same =
+    once_found term (drop i entries) (drop (i + 1) entries) it (drop_at entries i it it within is) said same
+
+pub not_told : {P : Type 0} (test : Bool) → IsTrue test ↔ P → IsTrue (not test) ↔ ¬ P
+not_told true tells = (λ e. absurd (false≢true e), λ none. absurd (none (tells.0 refl)))
+not_told false tells = ((λ e it. false≢true (tells.1 it)), λ none. refl)
+
+once_passed : (term : Term) (left rest : List Entry) (it : Entry) {Whole : Type 0} → left ≡ it ∷ rest → ¬ (Mentions (entry_shape it done) term)
     → StandsOnce term (entries_of left) ↔ Whole → StandsOnce term (entries_of rest) ↔ Whole
 once_passed term left rest it is unsaid same = (
   λ once. same.0 ((once_parts term left rest it is).1 (inr (unsaid, once))),

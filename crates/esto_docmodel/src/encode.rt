@@ -1,5 +1,6 @@
 //! The encodings of documents and of patterns.
 ghost use Rattle.std.specs.Prelude.{◌≡◌, ◌≤◌, ◌+◌, suc, [], ◌∷◌, ◌++◌, length, map, IfOk, OnOk};
+ghost use Rattle.esto_term.specs.declared.term.Term.TheVariants.{Const, Plain};
 ghost use Rattle.esto_constraint.specs.EncodingRules.{document_rules_2};
 ghost use Rattle.esto_constraint.specs.Matches.{AreMet};
 ghost use Rattle.esto_docmodel.specs.DocumentFacts.{flat};
@@ -12,7 +13,7 @@ ghost use Rattle.esto_docmodel.specs.Shapes.{shape, row, named_row, shaped_field
 use crate::pattern::{Entry, Pattern, Step};
 use crate::tree::{Fields, Tree, Trees};
 use esto_semantics::{Atoms, Fact, Facts};
-use esto_term::{List, OutOfMemory, Replicate, Term, Values};
+use esto_term::{List, OutOfMemory, Replicate, Term, Text, Values};
 use std::alloc::Global;
 
 /// The facts of documents, and the first number that is no node's.
@@ -42,47 +43,48 @@ pub fn after(number: u64) -> Result<u64, OutOfMemory>
     }
 }
 
-/// Puts a fact over one term.
-fn put_one(alloc: Global, facts: &mut Facts, relation: usize, term: Term) -> Result<(), OutOfMemory>
-    ensures { OnOk result (facts.new ≡ facts.old ++ fact_over relation (term ∷ []) ∷ []) }
+/// Puts a fact over one node.
+fn put_one(alloc: Global, facts: &mut Facts, relation: usize, node: u64) -> Result<(), OutOfMemory>
+    ensures { OnOk result (facts.new ≡ facts.old ++ fact_over relation (Plain node ∷ []) ∷ []) }
 {
     let mut terms = List::new(alloc);
-    terms.push(term)?;
+    terms.push(Term::Plain(node))?;
     facts.push(Fact { relation, terms })
 }
 
-/// Puts a fact over two terms.
+/// Puts a fact over a node and a term.
 fn put_two(
     alloc: Global,
     facts: &mut Facts,
     relation: usize,
+    node: u64,
     term: Term,
-    second: Term,
 ) -> Result<(), OutOfMemory>
-    ensures { OnOk result (facts.new ≡ facts.old ++ fact_over relation (term ∷ second ∷ []) ∷ []) }
+    ensures { OnOk result (facts.new ≡ facts.old
+        ++ fact_over relation (Plain node ∷ term ∷ []) ∷ []) }
 {
     let mut terms = List::new(alloc);
+    terms.push(Term::Plain(node))?;
     terms.push(term)?;
-    terms.push(second)?;
     facts.push(Fact { relation, terms })
 }
 
-/// Puts a fact over three terms.
-fn put_three(
+/// Puts a fact over a node, a name and another node.
+fn put_named(
     alloc: Global,
     facts: &mut Facts,
     relation: usize,
-    term: Term,
-    second: Term,
-    third: Term,
+    node: u64,
+    name: &Text,
+    other: u64,
 ) -> Result<(), OutOfMemory>
     ensures { OnOk result (facts.new ≡ facts.old
-        ++ fact_over relation (term ∷ second ∷ third ∷ []) ∷ []) }
+        ++ fact_over relation (Plain node ∷ Const name.now ∷ Plain other ∷ []) ∷ []) }
 {
     let mut terms = List::new(alloc);
-    terms.push(term)?;
-    terms.push(second)?;
-    terms.push(third)?;
+    terms.push(Term::Plain(node))?;
+    terms.push(Term::Const(name.copy(alloc)?))?;
+    terms.push(Term::Plain(other))?;
     facts.push(Fact { relation, terms })
 }
 
@@ -103,7 +105,7 @@ fn put_belows(
             alloc,
             facts,
             base + 4,
-            Term::Plain(*ancestor),
+            *ancestor,
             Term::Plain(number),
         )?;
     }
@@ -136,30 +138,17 @@ fn put_node(
     ensures next { IfOk result (λ next. next ≡ suc number + size (shape tree.now).inside) }
 {
     put_belows(alloc, facts, base, above.items(), number)?;
+    let next = after(number)?;
     match tree {
         Tree::Value(text) => {
-            put_two(
-                alloc,
-                facts,
-                base + 3,
-                Term::Plain(number),
-                Term::Const(text.copy(alloc)?),
-            )?;
-            after(number)
+            let text = Term::Const(text.copy(alloc)?);
+            put_two(alloc, facts, base + 3, number, text)?;
+            Ok(next)
         }
-        Tree::Nothing => after(number),
+        Tree::Nothing => Ok(next),
         Tree::Fields(fields) => {
             let inner = with_last(alloc, above, number)?;
-            put_fields(
-                alloc,
-                facts,
-                base,
-                fields,
-                above,
-                &inner,
-                number,
-                after(number)?,
-            )
+            put_fields(alloc, facts, base, fields, above, &inner, number, next)
         }
         Tree::Items(items) => {
             let inner = with_last(alloc, above, number)?;
@@ -171,7 +160,7 @@ fn put_node(
                 above,
                 &inner,
                 number,
-                after(number)?,
+                next,
             )
         }
     }
@@ -200,14 +189,7 @@ fn put_fields(
 {
     let mut next = first;
     'fields: for field in fields.items() {
-        put_three(
-            alloc,
-            facts,
-            base + 1,
-            Term::Plain(number),
-            Term::Const(field.name.copy(alloc)?),
-            Term::Plain(next),
-        )?;
+        put_named(alloc, facts, base + 1, number, &field.name, next)?;
         next = put_node(alloc, facts, base, &field.tree, inner, next)?;
     }
     Ok(next)
@@ -235,13 +217,7 @@ fn put_items(
 {
     let mut next = first;
     'items: for item in items {
-        put_two(
-            alloc,
-            facts,
-            base + 2,
-            Term::Plain(number),
-            Term::Plain(next),
-        )?;
+        put_two(alloc, facts, base + 2, number, Term::Plain(next))?;
         next = put_node(alloc, facts, base, item, inner, next)?;
     }
     Ok(next)
@@ -265,7 +241,7 @@ fn put_documents(
 {
     let mut next = first;
     'trees: for tree in trees {
-        put_one(alloc, facts, base, Term::Plain(next))?;
+        put_one(alloc, facts, base, next)?;
         next = put_node(alloc, facts, base, tree, above, next)?;
     }
     Ok(next)
@@ -327,16 +303,9 @@ fn put_step(
         ++ map (flat base) (step_atoms (step.now ∷ []) from to)) }
 {
     match step {
-        Step::Name(name) => put_three(
-            alloc,
-            body,
-            base + 1,
-            Term::Plain(from),
-            Term::Const(name.copy(alloc)?),
-            Term::Plain(to),
-        ),
-        Step::Item => put_two(alloc, body, base + 2, Term::Plain(from), Term::Plain(to)),
-        Step::Below => put_two(alloc, body, base + 4, Term::Plain(from), Term::Plain(to)),
+        Step::Name(name) => put_named(alloc, body, base + 1, from, name, to),
+        Step::Item => put_two(alloc, body, base + 2, from, Term::Plain(to)),
+        Step::Below => put_two(alloc, body, base + 4, from, Term::Plain(to)),
     }
 }
 
@@ -382,7 +351,7 @@ fn put_entry(
     match entry {
         Entry::Value(path, term) => {
             let (end, next) = put_path(alloc, body, base, path.items(), node, next)?;
-            put_two(alloc, body, base + 3, Term::Plain(end), term.copy(alloc)?)?;
+            put_two(alloc, body, base + 3, end, term.copy(alloc)?)?;
             Ok(next)
         }
         Entry::Group(path, entries) => {
@@ -428,7 +397,7 @@ fn with_root(
     ensures next { IfOk result (λ it. it.next ≡ next + used (entries_of pattern.now.entries)) }
 {
     let mut atoms = List::new(alloc);
-    put_one(alloc, &mut atoms, base, Term::Plain(root))?;
+    put_one(alloc, &mut atoms, base, root)?;
     let next = put_entries(alloc, &mut atoms, base, pattern.entries.items(), root, next)?;
     Ok(EncodedAtoms { atoms, next })
 }

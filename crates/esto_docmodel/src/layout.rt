@@ -1,5 +1,5 @@
 //! Layouts of fragment files.
-ghost use Rattle.std.specs.Prelude.{◌≡◌, ◌↔◌, ◌∷◌, ◌<◌, ◌≤◌, ℕ, List, Contains, IsTrue, MatchOption};
+ghost use Rattle.std.specs.Prelude.{◌≡◌, ◌↔◌, ◌∷◌, ◌<◌, ◌≤◌, ℕ, List, length, Contains, IsTrue, MatchOption};
 ghost use Rattle.esto_term.specs.declared.term.Term.TheVariants.{Plain};
 ghost use Rattle.esto_docmodel.specs.Layouts.{paths, Begins, SomeBegins, AreFields, IsOneItem, FitTogether, IsColumn, AreLaidOut, StandsOnce, height, IsLayout};
 ghost use Rattle.esto_docmodel.specs.Patterns.{Entries, done, Mentions};
@@ -150,6 +150,13 @@ fn is_column(term: &Term, columns: usize) -> bool
     }
 }
 
+/// Whether the path has no `**`, and at most so many steps.
+fn is_plain(path: &[Step], most: usize) -> bool
+    ensures { IsTrue result ↔ (¬ (Contains path.now steps.Below) × (length path.now ≤ most)) }
+{
+    path.len() <= most && !has_below(path)
+}
+
 /// Whether the entry is laid out, within so many steps.
 #[cycle(laid_out)]
 fn is_laid_out(entry: &Entry, columns: usize, steps: usize) -> bool
@@ -157,14 +164,11 @@ fn is_laid_out(entry: &Entry, columns: usize, steps: usize) -> bool
         × (height (entry_shape entry.now done) ≤ steps)) }
 {
     match entry {
-        Entry::Value(path, term) => {
-            path.len() <= steps && !has_below(path.items()) && is_column(term, columns)
-        }
+        Entry::Value(path, term) => is_plain(path.items(), steps) && is_column(term, columns),
         Entry::Group(path, inner) => {
-            path.len() <= steps
-                && !has_below(path.items())
-                && fit_together(inner.items())
-                && are_laid_out(inner.items(), columns, steps - path.len())
+            is_plain(path.items(), steps)
+                && (fit_together(inner.items())
+                    && are_laid_out(inner.items(), columns, steps - path.len()))
         }
     }
 }

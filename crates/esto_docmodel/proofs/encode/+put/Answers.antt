@@ -1,12 +1,13 @@
-use Rattle.esto_docmodel.proofs.EncodeLemmas.{field_turn, item_turn, field_inside, item_inside}
+use Rattle.esto_docmodel.proofs.EncodeLemmas.{value_put, nothing_put, fields_put, items_put, field_turn, item_turn, field_inside, item_inside}
 use Rattle.std.proofs.Common.{arith}
+use Rattle.std.proofs.lemmas.Result.{on_ok_weaker}
 use Rattle.esto_docmodel.proofs.RisingLemmas.{field_end, item_end}
 use Rattle.esto_docmodel.proofs.encode.+put.Goals as goal
 
 pub put_fields-fields-preserved : goal.put_fields-fields-preserved
 put_fields-fields-preserved t c = let p =
-    field_turn _ _ _ _ _ _ _ _ _ _ _ c.requires.inside c.items-field-items.result.now _ _ _ c.fields-test.true c.field-item.is c.in_ok-copy.ensures
-    c.in_ok-put_three.ensures c.in_ok-next.ensures.facts c.in_ok-next.ensures.next (c.fields.invariant.0, c.fields.invariant.1) in
+    field_turn _ _ _ _ _ _ _ _ _ _ _ c.requires.inside c.items-field-items.result.now _ _ c.fields-test.true c.field-item.is
+    c.in_ok-put_named.ensures c.in_ok-next.ensures.facts c.in_ok-next.ensures.next (c.fields.invariant.0, c.fields.invariant.1) in
     (p.0, p.1, field_inside c.items-field-items.result.now _ _ _ c.fields-test.true c.field-item.is c.in_ok-next.ensures.rising c.fields.invariant.2)
 
 pub put_items-items-preserved : goal.put_items-items-preserved
@@ -22,3 +23,24 @@ put_fields-returns-clause-rising t c =
 
 pub put_items-returns-clause-rising : goal.put_items-returns-clause-rising
 put_items-returns-clause-rising t c = item_end c.args.items.now c.items.item-index (omega (arith, c.items-test.false)) c.items.invariant.2
+
+pub put_node-returns-in_ok-put_two-in-Value-clause-facts : goal.put_node-returns-in_ok-put_two-in-Value-clause-facts
+put_node-returns-in_ok-put_two-in-Value-clause-facts t c =
+    value_put c.args.base c.args.number c.args.above.now _ _ (rw c.items.ensures at c.in_ok-put_belows.ensures) c.args.tree.now c.in-Value.text _ _
+    c.in-Value.is c.in_ok-copy-in-Value.ensures c.in_ok-put_two-in-Value.ensures
+
+pub put_node-returns-in-Nothing-clause-facts : goal.put_node-returns-in-Nothing-clause-facts
+put_node-returns-in-Nothing-clause-facts t c =
+    nothing_put c.args.base c.args.number c.args.above.now _ _ (rw c.items.ensures at c.in_ok-put_belows.ensures) c.args.tree.now c.in-Nothing.is
+
+pub put_node-returns-in_ok-inner-in-Fields-clause-facts : goal.put_node-returns-in_ok-inner-in-Fields-clause-facts
+put_node-returns-in_ok-inner-in-Fields-clause-facts t c =
+    on_ok_weaker c.put_fields.result
+    (fields_put c.args.base c.args.number c.args.above.now _ _ (rw c.items.ensures at c.in_ok-put_belows.ensures) c.args.tree.now c.in-Fields.fields _ _
+    c.in-Fields.is c.in_ok-next.ensures) c.put_fields.ensures.facts
+
+pub put_node-returns-in_ok-inner-in-Items-clause-facts : goal.put_node-returns-in_ok-inner-in-Items-clause-facts
+put_node-returns-in_ok-inner-in-Items-clause-facts t c =
+    on_ok_weaker c.put_items.result
+    (items_put c.args.base c.args.number c.args.above.now _ _ (rw c.items.ensures at c.in_ok-put_belows.ensures) c.args.tree.now c.in-Items.items _ _
+    c.in-Items.is c.in_ok-next.ensures) (rw c.items-in-Items.ensures at c.put_items.ensures.facts)
