@@ -74,15 +74,15 @@ module _ (base n : ℕ) (above : List ℕ) (start put : List (Fact Term)) (enter
   node_rest : (t : Node) → put ++ map (flat base) (holding t.content n ++ facts_from (n ∷ turned above) (suc n) t.inside)
       ≡ start ++ map (flat base) (node_facts (turned above) n t)
   node_rest t = rw entered (append_assoc start _ _
-    ∙ ap (λ (w : List (Fact Term)). start ++ w)
-    (sym (map-append (flat base) (belows (turned above) n) (holding t.content n ++ facts_from (n ∷ turned above) (suc n) t.inside))))
+      ∙ ap (λ (w : List (Fact Term)). start ++ w)
+      (sym (map-append (flat base) (belows (turned above) n) (holding t.content n ++ facts_from (n ∷ turned above) (suc n) t.inside))))
 
   pub value_put : (tree : Tree) (text said : List ℕ) (now : List (Fact Term)) → tree ≡ Value text → said ≡ text
       → now ≡ put ++ fact_over (base + 3) (Plain n ∷ Const said ∷ []) ∷ []
       → now ≡ start ++ map (flat base) (node_facts (turned above) n (shape tree))
   value_put tree text said now is copied more = rw (is, shape-Value text) (more
-    ∙ ap (λ (w : List ℕ). put ++ fact_over (base + 3) (Plain n ∷ Const w ∷ []) ∷ []) copied
-    ∙ node_rest (node (Some text) none))
+      ∙ ap (λ (w : List ℕ). put ++ fact_over (base + 3) (Plain n ∷ Const w ∷ []) ∷ []) copied
+      ∙ node_rest (node (Some text) none))
 
   pub nothing_put : (tree : Tree) → tree ≡ Nothing → put ≡ start ++ map (flat base) (node_facts (turned above) n (shape tree))
   nothing_put tree is = rw (is, shape-Nothing) (sym (append-nil put) ∙ node_rest (node None none))
@@ -91,15 +91,15 @@ module _ (base n : ℕ) (above : List ℕ) (start put : List (Fact Term)) (enter
       → now ≡ put ++ map (flat base) (facts_from (n ∷ turned above) first (named_row (map shaped_field fields)))
       → now ≡ start ++ map (flat base) (node_facts (turned above) n (shape tree))
   fields_put tree fields first now is numbered more = rw (is, shape-Fields fields) (more
-    ∙ ap (λ (k : ℕ). put ++ map (flat base) (facts_from (n ∷ turned above) k (named_row (map shaped_field fields)))) numbered
-    ∙ node_rest (node None (named_row (map shaped_field fields))))
+      ∙ ap (λ (k : ℕ). put ++ map (flat base) (facts_from (n ∷ turned above) k (named_row (map shaped_field fields)))) numbered
+      ∙ node_rest (node None (named_row (map shaped_field fields))))
 
   pub items_put : (tree : Tree) (items : List Tree) (first : ℕ) (now : List (Fact Term)) → tree ≡ Items items → first ≡ suc n
       → now ≡ put ++ map (flat base) (facts_from (n ∷ turned above) first (row (map shape items)))
       → now ≡ start ++ map (flat base) (node_facts (turned above) n (shape tree))
   items_put tree items first now is numbered more = rw (is, shape-Items items) (more
-    ∙ ap (λ (k : ℕ). put ++ map (flat base) (facts_from (n ∷ turned above) k (row (map shape items)))) numbered
-    ∙ node_rest (node None (row (map shape items))))
+      ∙ ap (λ (k : ℕ). put ++ map (flat base) (facts_from (n ∷ turned above) k (row (map shape items)))) numbered
+      ∙ node_rest (node None (row (map shape items))))
 
 module _ (base number next : ℕ) (above inner : List ℕ) (facts whole : List (Fact Term)) (all : ℕ) (is_inner : inner ≡ above ++ number ∷ []) where
   inside_turned : turned inner ≡ number ∷ turned above

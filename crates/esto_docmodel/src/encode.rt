@@ -101,13 +101,7 @@ fn put_belows(
         ++ map (flat base) (belows (turned above.now) number)) }
 {
     'above: for ancestor in above {
-        put_two(
-            alloc,
-            facts,
-            base + 4,
-            *ancestor,
-            Term::Plain(number),
-        )?;
+        put_two(alloc, facts, base + 4, *ancestor, Term::Plain(number))?;
     }
     Ok(())
 }
@@ -420,6 +414,5 @@ pub fn encode_pattern(
     if base > LAST_BASE {
         return Err(OutOfMemory);
     }
-    let encoded = with_root(alloc, base, pattern, root, next)?;
-    Ok(encoded)
+    with_root(alloc, base, pattern, root, next)
 }

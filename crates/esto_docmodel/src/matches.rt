@@ -152,8 +152,7 @@ fn rows_of(
 {
     let query = query_of(alloc, pattern, variables)?;
     let encoded = numbered(alloc, 0, from_ref(tree), 0)?;
-    let rows = answers(alloc, &query, &encoded.facts)?;
-    Ok(rows)
+    answers(alloc, &query, &encoded.facts)
 }
 
 /// The valuation of a row of that head.

@@ -1,4 +1,4 @@
-use Rattle.std.proofs.Common.{◌≡◌, sym, ◌∙◌, true}
+use Rattle.std.proofs.Common.{◌≡◌, sym, ◌∙◌}
 use Rattle.std.proofs.lemmas.Bool.{false≢true}
 use Rattle.esto_term.specs.declared.term.Term.TheVariants.{Plain, Const, Made}
 use Rattle.esto_docmodel.proofs.LayoutLemmas.{same_variable}

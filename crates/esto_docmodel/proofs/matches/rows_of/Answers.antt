@@ -1,4 +1,5 @@
 use Rattle.std.proofs.Common.{List, ap, subst, ◌∙◌, Contains}
+use Rattle.std.proofs.lemmas.Result.{IfOk-weaker}
 use Rattle.std.specs.Prelude.{◌↔◌}
 use Rattle.esto_term.specs.declared.term.Term.{Term}
 use Rattle.esto_term.specs.declared.term.Term.TheVariants.{Const}
@@ -10,11 +11,12 @@ use Rattle.esto_docmodel.proofs.MatchLemmas.{are_rows}
 use Rattle.esto_docmodel.proofs.matches.rows_of.Goals as goal
 
 pub returns-clause-rows : goal.returns-clause-rows
-returns-clause-rows c =
-    are_rows (entries_of c.args.pattern.now.entries) (shape c.args.tree.now) c.args.variables.now c.requires.variables c.in_ok-encoded.encoded.facts
+returns-clause-rows c = IfOk-weaker c.answers.result _ _
+    (λ rows told. are_rows (entries_of c.args.pattern.now.entries) (shape c.args.tree.now) c.args.variables.now c.requires.variables c.in_ok-encoded.encoded.facts
     c.in_ok-query.query.body
     (c.in_ok-encoded.ensures.facts ∙ ap (λ (trees : List Tree). facts_of 0 0 (documents trees)) c.from_ref.ensures.value) c.in_ok-query.ensures.body
-    c.in_ok-rows.rows
-    (subst (λ (head : List Term). (row : List Term) → Contains c.in_ok-rows.rows row
+    rows
+    (subst (λ (head : List Term). (row : List Term) → Contains rows row
     ↔ IsAnswerInto Const (record { head = head; body = c.in_ok-query.query.body }) (Contains c.in_ok-encoded.encoded.facts) row)
-    c.in_ok-query.ensures.head c.in_ok-rows.ensures.rows)
+    c.in_ok-query.ensures.head told))
+    c.answers.ensures.rows
