@@ -1,6 +1,7 @@
 -- Items, and the whole text.
-use Rattle.std.proofs.Common.{◌≡◌, ◌≢◌, true, List, [], ◌∷◌, ◌++◌, length, drop, Option, refl, sym, ap, subst, ◌∙◌, append_assoc}
+use Rattle.std.proofs.Common.{◌≡◌, ◌≢◌, suc, ◌+◌, ◌<◌, true, arith, List, [], ◌∷◌, ◌++◌, length, drop, Option, refl, sym, ap, subst, ◌∙◌, append_assoc}
 use Rattle.std.specs.Prelude.{map}
+use Rattle.std.proofs.lemmas.List.{append-nil, length-append, length-drop}
 use Rattle.esto_text.specs.declared.stop.Stop.{Stop}
 use Rattle.esto_text.specs.declared.stop.Stop.TheVariants.{Syntax}
 use Rattle.esto_text.specs.declared.token.Token.{Token}
@@ -11,7 +12,7 @@ use Rattle.esto_text.specs.Grammar.{class_of, IsName, IsTerm, IsRow, IsGroup, Is
 use Rattle.esto_text.specs.Machine.{Symbol, AName, ATerm, AParen, ATurnstile, MoreNames, MoreTerms, AnItem, ItemRest, MoreItems, AnEntry, MoreEntries, start, after_head, class_at, first_fault, FaultLeaves, FailsAt, Fails, Takes}
 use Rattle.esto_text.specs.View.{item_of}
 use Rattle.esto_text.proofs.Runs.{after, put, seen, names_runs, item_runs}
-use Rattle.esto_text.proofs.RowLemmas.{fails_along, fails_here, not_name, not_paren, not_turnstile, not_more_items, Goes, goes_more, goes_fails}
+use Rattle.esto_text.proofs.RowLemmas.{fails_along, fails_here, stops_here, not_name, not_item, not_item_rest, not_paren, not_turnstile, not_more_items, Goes, goes_more, goes_fails}
 use Rattle.esto_text.proofs.PathLemmas.{next_is}
 
 -- ---- one item
@@ -47,17 +48,49 @@ module _ (tokens rest : List Token) (name : Token) (h : Named tokens name rest) 
       let t = next_is rest LeftBrace p (λ q. cc) in
       (name ∷ t.0 ∷ front, h.0 ∙ ap (λ (l : List Token). name ∷ l) (t.1 ∙ ap (λ (l : List Token). t.0 ∷ l) e), (t.0, front, refl, h.1, t.2, q))
 
+  pub item_rest_stops : class_at rest ≢ LeftParen → class_at rest ≢ Dot → class_at rest ≢ LeftBrace → Fails (AnItem ∷ []) tokens (Syntax (length rest))
+  item_rest_stops paren dot brace s =
+      fails_along (AnItem ∷ s) (ItemRest ∷ s) tokens rest (Syntax (length rest)) (named_runs s)
+      (stops_here ItemRest s rest refl (not_item_rest (class_at rest) paren dot brace))
+
+  pub item_shorter : {P : List Token → Type 0} (left : List Token) → Takes P (drop 1 rest) left → length left < length tokens
+  item_shorter left (front, e, p) =
+      let all : length tokens ≡ suc (length rest) = ap length h.0 in
+      let some : length (drop 1 rest) ≡ length front + length left = ap length e ∙ length-append front left in
+      omega (arith, all, some, length-drop 1 rest)
+
+-- no item begins there
+pub item_name_fails : (tokens : List Token) (e : Stop) → (e ≡ Syntax (length tokens)) × (class_at tokens ≢ Name) → Fails (AnItem ∷ []) tokens e
+item_name_fails tokens e (is, other) s = fails_here AnItem s tokens e refl (not_item (class_at tokens) other) is
+
 -- an item of a dataset with parts
 module _ (tokens rest : List Token) (name : Token) (h : Named tokens name rest) (d : class_at rest ≡ Dot) where
   to_part : (s : List Symbol) → first_fault (AnItem ∷ s) tokens ≡ first_fault (AName ∷ AParen ∷ ATerm ∷ MoreTerms ∷ s) (drop 1 rest)
   to_part s = let t = next_is rest Dot d (λ q. cc) in ap (first_fault (AnItem ∷ s)) h.0 ∙ seen (AnItem ∷ s) name rest Name h.1
       ∙ ap (first_fault (ItemRest ∷ s)) t.1 ∙ seen (ItemRest ∷ s) t.0 (drop 1 rest) Dot t.2
 
+  pub part_name_fails : (e : Stop) → (e ≡ Syntax (length (drop 1 rest))) × (class_at (drop 1 rest) ≢ Name) → Fails (AnItem ∷ []) tokens e
+  part_name_fails e (is, other) s =
+      fails_along (AnItem ∷ s) (AName ∷ AParen ∷ ATerm ∷ MoreTerms ∷ s) tokens (drop 1 rest) e (to_part s)
+      (fails_here AName (AParen ∷ ATerm ∷ MoreTerms ∷ s) (drop 1 rest) e refl (not_name (class_at (drop 1 rest)) other) is)
+
   module _ (part : Token) (t2 : List Token) (g : Named (drop 1 rest) part t2) where
     to_terms : (s : List Symbol) → first_fault (AnItem ∷ s) tokens ≡ first_fault (AParen ∷ ATerm ∷ MoreTerms ∷ s) t2
     to_terms s = to_part s ∙ ap (first_fault (AName ∷ AParen ∷ ATerm ∷ MoreTerms ∷ s)) g.0 ∙ seen (AName ∷ AParen ∷ ATerm ∷ MoreTerms ∷ s) part t2 Name g.1
 
+    pub part_paren_fails : (e : Stop) → (e ≡ Syntax (length t2)) × (class_at t2 ≢ LeftParen) → Fails (AnItem ∷ []) tokens e
+    part_paren_fails e (is, other) s =
+        fails_along (AnItem ∷ s) (AParen ∷ ATerm ∷ MoreTerms ∷ s) tokens t2 e (to_terms s)
+        (fails_here AParen (ATerm ∷ MoreTerms ∷ s) t2 e refl (not_paren (class_at t2) other) is)
+
     module _ (paren : Token) (t3 : List Token) (k : (t2 ≡ paren ∷ t3) × (class_of paren ≡ LeftParen)) where
+      pub part_shorter : {P : List Token → Type 0} (left : List Token) → Takes P t3 left → length left < length tokens
+      part_shorter left (front, e, p) =
+          let all : length tokens ≡ suc (length rest) = ap length h.0 in
+          let more : length (drop 1 rest) ≡ suc (length t2) = ap length g.0 in
+          let some : length t2 ≡ suc (length front + length left) = ap length k.0 ∙ ap suc (ap length e ∙ length-append front left) in
+          omega (arith, all, more, some, length-drop 1 rest)
+
       pub part_terms_fail : (e : Stop) → Fails (ATerm ∷ MoreTerms ∷ []) t3 e → Fails (AnItem ∷ []) tokens e
       part_terms_fail e f s = fails_along (AnItem ∷ s) (ATerm ∷ MoreTerms ∷ s) tokens t3 e (to_terms s ∙ ap (first_fault (AParen ∷ ATerm ∷ MoreTerms ∷ s)) k.0
           ∙ seen (AParen ∷ ATerm ∷ MoreTerms ∷ s) paren t3 LeftParen k.1) (f s)
@@ -101,6 +134,12 @@ module _ (tokens : List Token) (so_far : List ItemSyntax) (rest : List Token) (h
       here : (l : List Token) → (length l ≡ 0 → ⊥) → class_at l ≢ Comma → FaultLeaves (MoreItems ∷ []) l (length l)
       here [] ne m = absurd (ne refl)
       here (t ∷ ts) ne m = (t ∷ ts, ap (λ (o : Option (List Symbol)). after (put o []) t ts) (not_more_items (class_of t) m), refl)
+
+  pub items_done : (x : ItemSyntax) (left : List Token) → Takes (IsItem (item_of x)) rest left → length left ≡ 0 → IsItemsOf (so_far ++ x ∷ []) tokens
+  items_done x [] (a, r, p) none =
+      subst (IsItemsOf (so_far ++ x ∷ [])) (sym (h.split ∙ ap (λ (l : List Token). h.front ++ l) (r ∙ append-nil a)))
+      (h.grows (x ∷ []) a (a, [], sym (append-nil a), p, refl))
+  items_done x (t ∷ left) (a, r, p) none = absurd cc
 
   pub items_more : (x : ItemSyntax) (left left' : List Token) (t : Token) → Takes (IsItem (item_of x)) rest left → (left ≡ t ∷ left') × (class_of t ≡ Comma)
       → ItemsSoFar tokens (so_far ++ x ∷ []) left'

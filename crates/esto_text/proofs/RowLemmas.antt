@@ -8,7 +8,7 @@ use Rattle.esto_text.specs.declared.token.Token.{Token}
 use Rattle.esto_text.specs.declared.token.TokenKind.{TokenKind}
 use Rattle.esto_text.specs.declared.token.TokenKind.TheVariants.{Name, Quoted, LeftParen, RightParen, LeftBrace, RightBrace, LeftBracket, RightBracket, Comma, Dot, Colon, Turnstile, Arrow, Stars}
 use Rattle.esto_text.specs.Grammar.{class_of, step_at, is_term, IsName, IsTerm, IsRow}
-use Rattle.esto_text.specs.Machine.{Symbol, AName, ATerm, ANext, AParen, ABracket, ATurnstile, MoreNames, MoreTerms, MoreItems, MoreBody, AGroup, AnEntry, PathRest, MoreEntries, step, is_done, class_at, first_fault, FaultLeaves, FailsAt, Fails, Takes}
+use Rattle.esto_text.specs.Machine.{Symbol, AName, ATerm, ANext, AParen, ABracket, ATurnstile, MoreNames, MoreTerms, AnItem, ItemRest, MoreItems, MoreBody, AGroup, AnEntry, PathRest, MoreEntries, step, is_done, class_at, first_fault, FaultLeaves, FailsAt, Fails, Takes}
 use Rattle.esto_text.proofs.Runs.{after, put, seen, term_seen}
 
 -- ---- failures
@@ -29,6 +29,16 @@ fails_here x s ts e d n q = subst (FailsAt (x ∷ s) ts) (sym q) (stops_here x s
 pub not_name : (c : TokenKind) → c ≢ Name → step AName c ≡ None
 not_name Name h = absurd (h refl)
 not_name _ h = refl
+
+pub not_item : (c : TokenKind) → c ≢ Name → step AnItem c ≡ None
+not_item Name h = absurd (h refl)
+not_item _ h = refl
+
+pub not_item_rest : (c : TokenKind) → c ≢ LeftParen → c ≢ Dot → c ≢ LeftBrace → step ItemRest c ≡ None
+not_item_rest LeftParen h g f = absurd (h refl)
+not_item_rest Dot h g f = absurd (g refl)
+not_item_rest LeftBrace h g f = absurd (f refl)
+not_item_rest _ h g f = refl
 
 pub not_paren : (c : TokenKind) → c ≢ LeftParen → step AParen c ≡ None
 not_paren LeftParen h = absurd (h refl)

@@ -8,8 +8,8 @@ use Rattle.esto_text.specs.declared.stop.Stop.TheVariants.{Syntax, OutOfMemory}
 use Rattle.esto_text.specs.declared.token.Token.{Token}
 use Rattle.esto_text.specs.declared.token.TokenKind.TheVariants.{Name, Comma, Arrow, Equals}
 use Rattle.esto_text.specs.declared.tree.ItemSyntax.{ItemSyntax}
-use Rattle.esto_text.specs.Trees.{ItemTree, HeadTree, Never, ConstraintTree}
-use Rattle.esto_text.specs.Grammar.{class_of, IsTerm, IsItem, IsRuleBody, IsHead, IsConstraint}
+use Rattle.esto_text.specs.Trees.{ItemTree, HeadTree, Equality, Never, ConstraintTree}
+use Rattle.esto_text.specs.Grammar.{class_of, IsTerm, IsItem, IsRuleBody, IsHead, IsConstraint, NoFalse}
 use Rattle.esto_text.specs.Machine.{Symbol, ATerm, AnItem, MoreBody, AHead, HeadRest, constraint_start, class_at, first_fault, FailsAt, ConstraintFails, Fails, Takes}
 use Rattle.esto_text.specs.View.{item_of}
 use Rattle.esto_text.proofs.Runs.{seen, term_seen, item_runs, rule_body_runs, head_runs, head_through, plain_or_denial}
@@ -73,6 +73,15 @@ module _ (tokens rest : List Token) (name : Token) (h : Named tokens name rest) 
         ∙ seen (HeadRest ∷ []) t.0 (drop 1 rest) Equals t.2
 
     module _ (right : Token) (left : List Token) (g : (drop 1 rest ≡ right ∷ left) × IsTerm right) where
+      pub side_ends : length left ≡ 0 → IsHead NoFalse (Equality name right) tokens
+      side_ends none =
+          let t = next_is rest Equals is (λ z. cc) in
+          (t.0, h.0 ∙ ap (λ (l : List Token). name ∷ l) (t.1 ∙ ap (λ (l : List Token). t.0 ∷ l) (only left g.0 none)), h.1, t.2, g.1)
+        where
+          only : (l : List Token) → drop 1 rest ≡ right ∷ l → length l ≡ 0 → drop 1 rest ≡ right ∷ []
+          only [] e n = e
+          only (t ∷ ts) e n = absurd cc
+
       pub side_end_fails : ¬ (length left ≡ 0) → FailsAt (AHead ∷ []) tokens (Syntax (length left))
       side_end_fails ne =
           fails_along (AHead ∷ []) [] tokens left (Syntax (length left)) (to_term ∙ ap (first_fault (ATerm ∷ [])) g.0 ∙ term_seen [] right left g.1)

@@ -7,7 +7,7 @@ ghost use Rattle.esto_text.specs.Quotes.{LongestClosed};
 const LEAST_QUOTED: u8 = 32;
 
 /// A class of bytes.
-#[derive(Clone, Copy, Debug)]
+#[derive(Clone, Copy)]
 pub enum Class {
     /// An ASCII letter.
     Letter,

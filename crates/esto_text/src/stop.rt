@@ -3,7 +3,7 @@ ghost use Rattle.std.specs.Prelude.{◌≡◌};
 ghost use Rattle.esto_text.specs.declared.stop.Stop.TheVariants.{OutOfMemory};
 
 /// Why a part of a text is not read.
-#[derive(Clone, Copy, Debug, PartialEq, Eq)]
+#[derive(Clone, Copy)]
 pub enum Stop {
     /// How many tokens are left at the first that does not fit.
     Syntax(usize),

@@ -1,4 +1,5 @@
 use Rattle.std.proofs.Common.{◌<◌, ◌∷◌, [], length, arith, ap, sym, ◌∙◌}
+use Rattle.std.proofs.lemmas.List.{length-drop}
 use Rattle.std.proofs.lemmas.Result.{err_from_is_err_and}
 use Rattle.esto_text.specs.Machine.{AnEntry, MoreEntries}
 use Rattle.esto_text.proofs.RowLemmas.{row_fails, goes_done}
@@ -80,3 +81,13 @@ entry-returns-in_ok-entries-in-LeftBrace-clause-ok t c =
     rw group_entry (entry_group c.args.depth c.args.tokens.now c.in_ok-path.rest.now c.in_ok-path.path c.in_ok-path.ensures.ok b.0 _
     c.in_ok-entries-in-LeftBrace.rest.now b.1 b.2 (omega arith)
     (rw c.split_at-in-LeftBrace.ensures.back at c.in_ok-entries-in-LeftBrace.ensures.ok))
+
+pub entry-returns-in_ok-term-in-Colon-clause-shorter : goal.entry-returns-in_ok-term-in-Colon-clause-shorter
+entry-returns-in_ok-term-in-Colon-clause-shorter t c =
+    let all = rw c.split_at.ensures.back at c.in_ok-term-in-Colon.ensures.ok.0 in
+    omega (arith, c.in_ok-path.ensures.shorter, ap length all, length-drop 1 c.in_ok-path.rest.now)
+
+pub entry-returns-in_ok-entries-in-LeftBrace-clause-shorter : goal.entry-returns-in_ok-entries-in-LeftBrace-clause-shorter
+entry-returns-in_ok-entries-in-LeftBrace-clause-shorter t c =
+    let some = rw c.split_at-in-LeftBrace.ensures.back at c.in_ok-entries-in-LeftBrace.ensures.shorter in
+    omega (arith, c.in_ok-path.ensures.shorter, some, length-drop 1 c.in_ok-path.rest.now)

@@ -1,7 +1,7 @@
-use Rattle.std.proofs.Common.{false-eqb}
+use Rattle.std.proofs.Common.{length, true-eqb, false-eqb}
 use Rattle.std.proofs.lemmas.Result.{err_from_is_err_and}
 use Rattle.esto_text.specs.View.{entries_of}
-use Rattle.esto_text.proofs.LayoutLemmas.{no_layout, group_fails, more_fails}
+use Rattle.esto_text.proofs.LayoutLemmas.{no_layout, group_fails, more_fails, layout_is}
 use Rattle.esto_text.proofs.layout.layout.Goals as goal
 
 pub returns-in_err-rest-clause-err : goal.returns-in_err-rest-clause-err
@@ -18,3 +18,8 @@ pub returns-then-not-is_empty-clause-err : goal.returns-then-not-is_empty-clause
 returns-then-not-is_empty-clause-err c =
     more_fails c.args.tokens.now c.in_ok-rest.rest.now c.in_ok-rest.field-0-0 c.in_ok-rest.ensures.ok (entries_of c.in_ok-entries.entries)
     c.in_ok-entries.rest.now c.in_ok-entries.ensures.ok (false-eqb _ 0 c.if-not-is_empty.ensures)
+
+pub returns-clause-ok : goal.returns-clause-ok
+returns-clause-ok c =
+    layout_is c.args.tokens.now c.in_ok-rest.rest.now c.in_ok-rest.field-0-0 c.in_ok-rest.ensures.ok (entries_of c.in_ok-entries.entries)
+    c.in_ok-entries.rest.now c.in_ok-entries.ensures.ok (true-eqb (length c.in_ok-entries.rest.now) 0 c.if-not-is_empty.ensures)
