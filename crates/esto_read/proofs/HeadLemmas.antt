@@ -5,7 +5,12 @@ use Rattle.std.proofs.lemmas.Option.{slice_get-get_or, slice_get_within}
 use Rattle.std.proofs.lemmas.Bool.{cases_lt}
 use Rattle.esto_text.specs.Tokens.{text_of}
 use Rattle.esto_text.specs.declared.token.Token.{Token}
-use Rattle.esto_read.specs.Heads.{HasText, IsRepeat, AreDifferent, IsFirstRepeat}
+use Rattle.esto_text.specs.declared.fault.TextKind.TheVariants.{Unsafe}
+use Rattle.esto_term.specs.declared.term.Term.{Term}
+use Rattle.esto_semantics.specs.declared.fact.Fact.{Fact}
+use Rattle.esto_read.specs.Heads.{HasText, IsRepeat, AreDifferent, IsFirstRepeat, IsFirstMissing}
+use Rattle.esto_read.specs.Readings.{IsAllowed, IsHeadFault}
+use Rattle.esto_read.specs.declared.read.Form.{Form}
 
 module _ (bytes : List ℕ) (variables : List Token) where
   abbrev pub NoneBefore : ℕ → Type 0
@@ -31,3 +36,12 @@ module _ (bytes : List ℕ) (variables : List Token) where
 
   pub none_at_all : (place : ℕ) → length variables ≤ place → NoneBefore place → AreDifferent bytes variables
   none_at_all place le none before other repeat = none before other (omega (arith, slice_get_within variables before other repeat.0)) repeat
+
+-- ---- the first fault of a head
+
+pub missing_fault : (form : Form) (bytes : List ℕ) (variables : List Token) (head : List Term) (body : List (Fact Term)) (place : ℕ) (other : Token)
+    → IsAllowed form bytes variables → length head ≡ length variables → IsFirstMissing body head place
+    → IsHeadFault form bytes variables head body (record { offset = (get_or variables place other).start; kind = Unsafe })
+missing_fault form bytes variables head body place other allowed lengths (term, there, unsaid, before) =
+    let within : place < length variables = omega (arith, slice_get_within head place term there, lengths) in
+    inr (refl, allowed, place, get_or variables place other, (term, there, unsaid, before), slice_get-get_or variables place other within, refl)

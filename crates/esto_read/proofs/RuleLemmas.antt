@@ -25,7 +25,7 @@ use Rattle.esto_text.specs.declared.fault.ReadError.TheVariants.{Fault, OutOfMem
 use Rattle.esto_text.specs.declared.fault.TextKind.TheVariants.{Unsafe}
 use Rattle.esto_text.specs.declared.token.Token.{Token}
 use Rattle.esto_text.specs.declared.version.Version.{Version}
-use Rattle.esto_read.specs.Constraints.{IsTupleRead, IsEqualityRead, IsDenialRead, IsUnsafeSide, IsRuleOf, IsConstraintReading, IsRuleHeadFault, IsConstraintError}
+use Rattle.esto_read.specs.Constraints.{IsTupleRead, IsEqualityRead, IsDenialRead, IsUnsafeSide, IsRuleOf, IsRuleHeadFault, IsRuleError, IsConstraintError}
 use Rattle.esto_read.specs.Items.{AreFitting, AreItems, IsBodyError}
 use Rattle.esto_read.specs.Parts.{AreTupleParts, AreEqualityParts, AreDenialParts}
 use Rattle.esto_read.specs.Terms.{IsTermOf, AreTerms}
@@ -222,23 +222,23 @@ module _ (schema : List ℕ) (names : List Name) where
 
 -- ---- readings and errors
 
-module _ (version : Version) (words : List Word) (schema bytes : List ℕ) (tree : ConstraintTree) (text : IsConstraintText version bytes tree) where
-  pub tuple_reading : (head_items : List ItemTree) (rule : Constraint) (body head : List (Fact Term)) (names : List Name)
+module _ (words : List Word) (schema bytes : List ℕ) (tree : ConstraintTree) where
+  pub tuple_said : (head_items : List ItemTree) (rule : Constraint) (body head : List (Fact Term)) (names : List Name)
       → MakesTuple schema body head names (Ok rule)
-      → tree.head ≡ Items head_items → IsTupleRead words schema bytes tree.body head_items body head names → IsConstraintReading version words schema bytes rule
-  tuple_reading head_items (Tuple rule) body head names made is h =
+      → tree.head ≡ Items head_items → IsTupleRead words schema bytes tree.body head_items body head names → IsRuleOf words schema bytes tree.body tree.head rule
+  tuple_said head_items (Tuple rule) body head names made is h =
       let bodies = subst (λ (l : List (Fact Term)). IsTupleRead words schema bytes tree.body head_items l head names) (sym made.3) h in
       let heads = subst (λ (l : List (Fact Term)). IsTupleRead words schema bytes tree.body head_items rule.body l names) (sym made.4) bodies in
       let whole = subst (λ (l : List Name). IsTupleRead words schema bytes tree.body head_items rule.body rule.head l) (sym made.5) heads in
-      (tree, text, subst (λ (x : HeadTree). IsRuleOf words schema bytes tree.body x (Tuple rule)) (sym is) whole)
-  tuple_reading head_items (Equal rule) body head names made is h = absurd made
-  tuple_reading head_items (Never rule) body head names made is h = absurd made
+      subst (λ (x : HeadTree). IsRuleOf words schema bytes tree.body x (Tuple rule)) (sym is) whole
+  tuple_said head_items (Equal rule) body head names made is h = absurd made
+  tuple_said head_items (Never rule) body head names made is h = absurd made
 
-  pub equality_reading : (left right : Token) (rule : Constraint) (body : List (Fact Term)) (one other : Term) (names : List Name)
+  pub equality_said : (left right : Token) (rule : Constraint) (body : List (Fact Term)) (one other : Term) (names : List Name)
       → MakesEquality schema body one other names (Ok rule)
       → tree.head ≡ Equality left right → IsEqualityRead words schema bytes tree.body left right body one other names
-      → IsConstraintReading version words schema bytes rule
-  equality_reading left right (Equal rule) body one other names made is h =
+      → IsRuleOf words schema bytes tree.body tree.head rule
+  equality_said left right (Equal rule) body one other names made is h =
       let bodies = subst (λ (l : List (Fact Term)). IsEqualityRead words schema bytes tree.body left right l one other names × IsFixedBy l one
       × IsFixedBy l other) (sym made.4) (h, made.2, made.3) in
       let lefts = subst (λ (x : Term). IsEqualityRead words schema bytes tree.body left right rule.body x other names × IsFixedBy rule.body x
@@ -247,39 +247,40 @@ module _ (version : Version) (words : List Word) (schema bytes : List ℕ) (tree
       × IsFixedBy rule.body x) (sym made.6) lefts in
       let whole = subst (λ (l : List Name). IsEqualityRead words schema bytes tree.body left right rule.body rule.left rule.right l
       × IsFixedBy rule.body rule.left × IsFixedBy rule.body rule.right) (sym made.7) sides in
-      (tree, text, subst (λ (x : HeadTree). IsRuleOf words schema bytes tree.body x (Equal rule)) (sym is) whole)
-  equality_reading left right (Tuple rule) body one other names made is h = absurd made
-  equality_reading left right (Never rule) body one other names made is h = absurd made
+      subst (λ (x : HeadTree). IsRuleOf words schema bytes tree.body x (Equal rule)) (sym is) whole
+  equality_said left right (Tuple rule) body one other names made is h = absurd made
+  equality_said left right (Never rule) body one other names made is h = absurd made
 
-  pub denial_reading : (rule : Constraint) (body : List (Fact Term)) (names : List Name) → MakesDenial schema body names (Ok rule) → tree.head ≡ Nothing
-      → IsDenialRead words schema bytes tree.body body names → IsConstraintReading version words schema bytes rule
-  denial_reading (Never rule) body names made is h =
+  pub denial_said : (rule : Constraint) (body : List (Fact Term)) (names : List Name) → MakesDenial schema body names (Ok rule) → tree.head ≡ Nothing
+      → IsDenialRead words schema bytes tree.body body names → IsRuleOf words schema bytes tree.body tree.head rule
+  denial_said (Never rule) body names made is h =
       let bodies = subst (λ (l : List (Fact Term)). IsDenialRead words schema bytes tree.body l names) (sym made.2) h in
       let whole = subst (λ (l : List Name). IsDenialRead words schema bytes tree.body rule.body l) (sym made.3) bodies in
-      (tree, text, subst (λ (x : HeadTree). IsRuleOf words schema bytes tree.body x (Never rule)) (sym is) whole)
-  denial_reading (Tuple rule) body names made is h = absurd made
-  denial_reading (Equal rule) body names made is h = absurd made
+      subst (λ (x : HeadTree). IsRuleOf words schema bytes tree.body x (Never rule)) (sym is) whole
+  denial_said (Tuple rule) body names made is h = absurd made
+  denial_said (Equal rule) body names made is h = absurd made
 
-  pub body_error : (e : ReadError) → IsBodyError words schema bytes tree.body e → IsConstraintError version words schema bytes e
-  body_error OutOfMemory h = text.1.0
-  body_error (Fault f) h = inr (tree, text, inl h)
+  pub body_error : (e : ReadError) → IsBodyError words schema bytes tree.body e → IsRuleError words schema bytes tree e
+  body_error OutOfMemory h = tt
+  body_error (Fault f) h = inl h
 
   module _ (fits : AreFitting words schema bytes 0 tree.body) where
     pub head_error : (head_items : List ItemTree) → tree.head ≡ Items head_items → (e : ReadError) → IsBodyError words schema bytes head_items e
-        → IsConstraintError version words schema bytes e
-    head_error head_items is OutOfMemory h = text.1.0
-    head_error head_items is (Fault f) h = inr (tree, text, inr (fits, subst (λ (x : HeadTree). IsRuleHeadFault words schema bytes tree.body x f) (sym is) h))
+        → IsRuleError words schema bytes tree e
+    head_error head_items is OutOfMemory h = tt
+    head_error head_items is (Fault f) h = inr (fits, subst (λ (x : HeadTree). IsRuleHeadFault words schema bytes tree.body x f) (sym is) h)
 
     pub side_error : (left right : Token) (body : List (Fact Term)) (one other : Term) (names : List Name) (offset : ℕ) → tree.head ≡ Equality left right
         → IsEqualityRead words schema bytes tree.body left right body one other names → IsUnsafeSide body left right one other offset
-        → IsConstraintError version words schema bytes (Fault (record { offset = offset; kind = Unsafe }))
+        → IsRuleError words schema bytes tree (Fault (record { offset = offset; kind = Unsafe }))
     side_error left right body one other names offset is h g =
         inr (
-          tree,
-          text,
-          inr (
-            fits,
-            subst (λ (x : HeadTree). IsRuleHeadFault words schema bytes tree.body x (record { offset = offset; kind = Unsafe }))
-                (sym is) (body, one, other, names, h, refl, g),
-          ),
+          fits,
+          subst (λ (x : HeadTree). IsRuleHeadFault words schema bytes tree.body x (record { offset = offset; kind = Unsafe }))
+              (sym is) (body, one, other, names, h, refl, g),
         )
+
+pub rule_error : (version : Version) (words : List Word) (schema bytes : List ℕ) (tree : ConstraintTree) → IsConstraintText version bytes tree
+    → (e : ReadError) → IsRuleError words schema bytes tree e → IsConstraintError version words schema bytes e
+rule_error version words schema bytes tree text OutOfMemory h = text.1.0
+rule_error version words schema bytes tree text (Fault f) h = inr (tree, text, h)

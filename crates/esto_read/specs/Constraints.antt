@@ -84,6 +84,11 @@ IsRuleFault words schema bytes tree fault =
     IsFirstItemFault words schema bytes 0 tree.body fault
     ⊎ (AreFitting words schema bytes 0 tree.body × IsRuleHeadFault words schema bytes tree.body tree.head fault)
 
+-- Why no constraint is made of a tree: its first fault, or want of memory.
+abbrev pub IsRuleError : List Word → List ℕ → List ℕ → ConstraintTree → ReadError → Type 0
+IsRuleError words schema bytes tree (Fault fault) = IsRuleFault words schema bytes tree fault
+IsRuleError words schema bytes tree OutOfMemory = Unit {0}
+
 -- The first fault of a text in this version: that of its bytes or its grammar, or else that of its tree.
 abbrev pub IsConstraintFault : Version → List Word → List ℕ → List ℕ → TextFault → Type 0
 IsConstraintFault version words schema bytes fault =

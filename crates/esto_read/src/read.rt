@@ -100,7 +100,6 @@ pub fn said(
         form words.now (arities_of schema.now) bytes.now (tree_of tree.now)) }
 {
     let words = words.items();
-    let name = plain(alloc, bytes_of(bytes, tree.name))?;
     let mut names = List::new(alloc);
     let head = terms(alloc, bytes, tree.variables.items(), &mut names)?;
     let body = body(alloc, bytes, tree.items.items(), words, schema, &mut names)?;
@@ -112,10 +111,11 @@ pub fn said(
         body.items(),
     ) {
         Some(fault) => Err(ReadError::Fault(fault)),
-        None => Ok(NamedQuery {
-            name,
-            query: query(alloc, schema, head, body, names),
-        }),
+        None => {
+            let query = query(alloc, schema, head, body, names);
+            let name = plain(alloc, bytes_of(bytes, tree.name))?;
+            Ok(NamedQuery { name, query })
+        }
     }
 }
 

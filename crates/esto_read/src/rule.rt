@@ -1,22 +1,26 @@
 //! Constraints, from their texts.
-ghost use Rattle.std.specs.Prelude.{◌≡◌, ◌↔◌, IsTrue, MatchOption, IfOk, IfErr};
+ghost use Rattle.std.specs.Prelude.{◌≡◌, ◌↔◌, [], ◌∷◌, All, IsTrue, IsUtf8, MatchOption, IfOk, IfErr};
 ghost use Rattle.esto_constraint.specs.Constraints.{rule_of};
 ghost use Rattle.esto_query.specs.Schemas.{arities_of};
 ghost use Rattle.esto_semantics.specs.Maps.{IsFixedBy};
 ghost use Rattle.esto_semantics.specs.WellFormed.{IsRuleOver};
-ghost use Rattle.esto_read.specs.Words.{IsVocabulary};
-ghost use Rattle.esto_read.specs.Constraints.{IsUnsafeSide, IsConstraintReading, IsConstraintError, HaveOneRule, HaveNoRuleFault, HaveOneRuleFault};
+ghost use Rattle.esto_text.specs.Faults.{IsTermIn, IsConstraintText, ConstraintStandsAt};
+ghost use Rattle.esto_text.specs.View.{constraint_of};
+ghost use Rattle.esto_text.specs.declared.version.Version.{Version};
+ghost use Rattle.esto_read.specs.Terms.{AreTerms};
+ghost use Rattle.esto_read.specs.Words.{HasRelations, IsVocabulary};
+ghost use Rattle.esto_read.specs.Constraints.{IsUnsafeSide, IsRuleOf, IsRuleError, IsConstraintReading, IsConstraintError, HaveOneRule, HaveNoRuleFault, HaveOneRuleFault};
 
 use crate::body::body;
 use crate::make::{denial, equal_rule, tuple_rule};
 use crate::term::term;
-use crate::words::Vocabulary;
+use crate::words::{Vocabulary, Word};
 use esto_constraint::Constraint;
-use esto_query::{Schema, mentions};
+use esto_query::{Names, Schema, mentions};
 use esto_semantics::Atom;
-use esto_term::{List, Term};
+use esto_term::{List, OutOfMemory, Term};
 use esto_text::{
-    HeadSyntax, ReadError, TextFault, TextKind, Token, Version, read_constraint_tree,
+    ConstraintSyntax, HeadSyntax, ReadError, TextFault, TextKind, Token, Version, read_constraint_tree,
     trees_are_determined,
 };
 use std::alloc::Global;
@@ -49,6 +53,65 @@ fn unsafe_side(
     None
 }
 
+/// The terms at the two sides of an equality.
+fn sides(
+    alloc: Global,
+    bytes: &[u8],
+    left: Token,
+    right: Token,
+    names: &mut Names,
+) -> Result<(Term, Term), OutOfMemory>
+    requires utf8 { IsUtf8 bytes.now }
+    requires left { IsTermIn bytes.now left }
+    requires right { IsTermIn bytes.now right }
+    ensures { IfOk result (λ it.
+        AreTerms bytes.now names.old (left ∷ right ∷ []) (it.0 ∷ it.1 ∷ []) names.new) }
+{
+    let left = term(alloc, bytes, left, names)?;
+    let right = term(alloc, bytes, right, names)?;
+    Ok((left, right))
+}
+
+/// The constraint that a tree of the text says.
+fn said_rule(
+    alloc: Global,
+    bytes: &[u8],
+    tree: &ConstraintSyntax,
+    words: &[Word],
+    schema: &Schema,
+) -> Result<Constraint, ReadError>
+    requires relations { All (λ word.
+        HasRelations (arities_of schema.now) word.model word.base) words.now }
+    requires text { (version : Version)
+        × IsConstraintText version bytes.now (constraint_of tree.now) }
+    requires stands { ConstraintStandsAt bytes.now (constraint_of tree.now) }
+    ensures said { IfOk result (IsRuleOf words.now (arities_of schema.now)
+        bytes.now (constraint_of tree.now).body (constraint_of tree.now).head) }
+    ensures over { IfOk result (λ rule. IsRuleOver (arities_of schema.now) (rule_of rule)) }
+    ensures error { IfErr result (IsRuleError
+        words.now (arities_of schema.now) bytes.now (constraint_of tree.now)) }
+{
+    let mut names = List::new(alloc);
+    let atoms = body(alloc, bytes, tree.body.items(), words, schema, &mut names)?;
+    match &tree.head {
+        HeadSyntax::Items(items) => {
+            let head = body(alloc, bytes, items.items(), words, schema, &mut names)?;
+            Ok(tuple_rule(alloc, schema, atoms, head, names))
+        }
+        HeadSyntax::Equality { left, right } => {
+            let (left_term, right_term) = sides(alloc, bytes, *left, *right, &mut names)?;
+            match unsafe_side(*left, *right, &left_term, &right_term, atoms.items()) {
+                Some(offset) => Err(ReadError::Fault(TextFault {
+                    offset,
+                    kind: TextKind::Unsafe,
+                })),
+                None => Ok(equal_rule(alloc, schema, atoms, left_term, right_term, names)),
+            }
+        }
+        HeadSyntax::Never => Ok(denial(alloc, schema, atoms, names)),
+    }
+}
+
 /// The constraint that a text of this version is.
 fn read_rule(
     alloc: Global,
@@ -64,28 +127,9 @@ fn read_rule(
     ensures error { IfErr result (IsConstraintError
         version words.now (arities_of schema.now) bytes.now) }
 {
-    let words = words.items();
     let tree = read_constraint_tree(alloc, bytes, version)?;
-    let mut names = List::new(alloc);
-    let atoms = body(alloc, bytes, tree.body.items(), words, schema, &mut names)?;
-    match &tree.head {
-        HeadSyntax::Items(items) => {
-            let head = body(alloc, bytes, items.items(), words, schema, &mut names)?;
-            Ok(tuple_rule(alloc, schema, atoms, head, names))
-        }
-        HeadSyntax::Equality { left, right } => {
-            let left_term = term(alloc, bytes, *left, &mut names)?;
-            let right_term = term(alloc, bytes, *right, &mut names)?;
-            match unsafe_side(*left, *right, &left_term, &right_term, atoms.items()) {
-                Some(offset) => Err(ReadError::Fault(TextFault {
-                    offset,
-                    kind: TextKind::Unsafe,
-                })),
-                None => Ok(equal_rule(alloc, schema, atoms, left_term, right_term, names)),
-            }
-        }
-        HeadSyntax::Never => Ok(denial(alloc, schema, atoms, names)),
-    }
+    let rule = said_rule(alloc, bytes, &tree, words.items(), schema)?;
+    Ok(rule)
 }
 
 /// The constraint that a text of version 1 is, over the datasets that the words name; or the text's first fault: Utf8,

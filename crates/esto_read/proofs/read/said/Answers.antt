@@ -47,8 +47,8 @@ returns-in-Some-clause-error c =
 
 -- ---- the query that is made
 
-pub query-requires-clause-sound : goal.query-requires-clause-sound
-query-requires-clause-sound c =
+pub query-query-requires-clause-sound : goal.query-query-requires-clause-sound
+query-query-requires-clause-sound c =
     let fit = rw (c.items-3.ensures, c.items-4.ensures, c.items-5.ensures) at c.in-None.ensures in
     let read : IsRead c.args.words.now (arities_of c.args.schema.now) c.args.bytes.now (tree_of c.args.tree.now)
     c.in_ok-head.head c.in_ok-body.body c.body.new.names = record {
@@ -60,8 +60,8 @@ query-requires-clause-sound c =
     sound c.args.words.now (arities_of c.args.schema.now) c.args.bytes.now c.requires.utf8 (tree_of c.args.tree.now) c.in_ok-head.head
     c.in_ok-body.body c.body.new.names c.requires.parts c.requires.stands read c.requires.words.relations fit.1
 
-pub query-requires-clause-over : goal.query-requires-clause-over
-query-requires-clause-over c =
+pub query-query-requires-clause-over : goal.query-query-requires-clause-over
+query-query-requires-clause-over c =
     let read : IsRead c.args.words.now (arities_of c.args.schema.now) c.args.bytes.now (tree_of c.args.tree.now)
     c.in_ok-head.head c.in_ok-body.body c.body.new.names = record {
       between = c.terms.new.names;
@@ -72,8 +72,8 @@ query-requires-clause-over c =
     (over c.args.words.now (arities_of c.args.schema.now) c.args.bytes.now c.requires.utf8 (tree_of c.args.tree.now) c.in_ok-head.head
     c.in_ok-body.body c.body.new.names c.requires.parts c.requires.stands read c.requires.words.relations).over
 
-pub query-requires-clause-size : goal.query-requires-clause-size
-query-requires-clause-size c =
+pub query-query-requires-clause-size : goal.query-query-requires-clause-size
+query-query-requires-clause-size c =
     let read : IsRead c.args.words.now (arities_of c.args.schema.now) c.args.bytes.now (tree_of c.args.tree.now)
     c.in_ok-head.head c.in_ok-body.body c.body.new.names = record {
       between = c.terms.new.names;
@@ -85,8 +85,8 @@ query-requires-clause-size c =
     c.body.new.names (omega arith) read.body_atoms read.fits in
     omega (arith, size)
 
-pub returns-in-None-clause-said : goal.returns-in-None-clause-said
-returns-in-None-clause-said c =
+pub returns-in_ok-name-in-None-clause-said : goal.returns-in_ok-name-in-None-clause-said
+returns-in_ok-name-in-None-clause-said c =
     let fit = rw (c.items-3.ensures, c.items-4.ensures, c.items-5.ensures) at c.in-None.ensures in
     let read : IsRead c.args.words.now (arities_of c.args.schema.now) c.args.bytes.now (tree_of c.args.tree.now)
     c.in_ok-head.head c.in_ok-body.body c.body.new.names = record {
@@ -97,15 +97,15 @@ returns-in-None-clause-said c =
     } in
     let tree = tree_of c.args.tree.now in
     record {
-      name = c.in_ok-name.ensures ∙ c.bytes_of.ensures;
-      read = query_along (arities_of c.args.schema.now) c.in_ok-head.head c.in_ok-body.body c.body.new.names c.query.result
-          (λ head body names. IsRead c.args.words.now (arities_of c.args.schema.now) c.args.bytes.now tree head body names) c.query.ensures read;
-      fit = query_along (arities_of c.args.schema.now) c.in_ok-head.head c.in_ok-body.body c.body.new.names c.query.result
-          (λ head body names. IsHeadFit c.args.form c.args.bytes.now tree.variables head body) c.query.ensures fit;
+      name = c.in_ok-name-in-None.ensures ∙ c.bytes_of.ensures;
+      read = query_along (arities_of c.args.schema.now) c.in_ok-head.head c.in_ok-body.body c.body.new.names c.query-query.result
+          (λ head body names. IsRead c.args.words.now (arities_of c.args.schema.now) c.args.bytes.now tree head body names) c.query-query.ensures read;
+      fit = query_along (arities_of c.args.schema.now) c.in_ok-head.head c.in_ok-body.body c.body.new.names c.query-query.result
+          (λ head body names. IsHeadFit c.args.form c.args.bytes.now tree.variables head body) c.query-query.ensures fit;
     }
 
-pub returns-in-None-clause-over : goal.returns-in-None-clause-over
-returns-in-None-clause-over c =
+pub returns-in_ok-name-in-None-clause-over : goal.returns-in_ok-name-in-None-clause-over
+returns-in_ok-name-in-None-clause-over c =
     let read : IsRead c.args.words.now (arities_of c.args.schema.now) c.args.bytes.now (tree_of c.args.tree.now)
     c.in_ok-head.head c.in_ok-body.body c.body.new.names = record {
       between = c.terms.new.names;
@@ -113,15 +113,15 @@ returns-in-None-clause-over c =
       body_atoms = rw (c.items-2.ensures, c.items-words.ensures) at c.in_ok-body.ensures.ok;
       fits = rw (c.items-2.ensures, c.items-words.ensures) at c.in_ok-body.ensures.fits;
     } in
-    query_along (arities_of c.args.schema.now) c.in_ok-head.head c.in_ok-body.body c.body.new.names c.query.result
-    (λ head body names. IsQueryOver (arities_of c.args.schema.now) (record { head = head; body = body })) c.query.ensures
+    query_along (arities_of c.args.schema.now) c.in_ok-head.head c.in_ok-body.body c.body.new.names c.query-query.result
+    (λ head body names. IsQueryOver (arities_of c.args.schema.now) (record { head = head; body = body })) c.query-query.ensures
     (over c.args.words.now (arities_of c.args.schema.now) c.args.bytes.now c.requires.utf8 (tree_of c.args.tree.now) c.in_ok-head.head
     c.in_ok-body.body c.body.new.names c.requires.parts c.requires.stands read c.requires.words.relations)
 
-pub returns-in-None-clause-head : goal.returns-in-None-clause-head
-returns-in-None-clause-head c =
+pub returns-in_ok-name-in-None-clause-head : goal.returns-in_ok-name-in-None-clause-head
+returns-in_ok-name-in-None-clause-head c =
     let fit = rw (c.items-3.ensures, c.items-4.ensures, c.items-5.ensures) at c.in-None.ensures in
-    query_along (arities_of c.args.schema.now) c.in_ok-head.head c.in_ok-body.body c.body.new.names c.query.result
-    (λ head body names. HasVariables c.args.form head) c.query.ensures
+    query_along (arities_of c.args.schema.now) c.in_ok-head.head c.in_ok-body.body c.body.new.names c.query-query.result
+    (λ head body names. HasVariables c.args.form head) c.query-query.ensures
     (head_is c.args.bytes.now c.args.tree.now.variables c.in_ok-head.head c.terms.new.names c.requires.stands.1
     (rw (c.new-names.ensures, c.items.ensures) at c.in_ok-head.ensures) c.args.form fit.0)

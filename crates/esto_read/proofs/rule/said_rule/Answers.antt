@@ -1,0 +1,99 @@
+use Rattle.std.proofs.Common.{ap}
+use Rattle.std.specs.Prelude.{map}
+use Rattle.std.proofs.lemmas.Result.{err_from_is_err_and}
+use Rattle.esto_query.specs.Schemas.{arities_of}
+use Rattle.esto_text.specs.View.{item_of, head_of, constraint_of}
+use Rattle.esto_read.proofs.RuleLemmas.{tuple_parts, equality_parts, denial_parts, tuple_said, equality_said, denial_said, body_error, head_error, side_error}
+use Rattle.esto_read.proofs.rule.said_rule.Goals as goal
+
+-- ---- errors of items
+
+pub returns-in_err-atoms-clause-error : goal.returns-in_err-atoms-clause-error
+returns-in_err-atoms-clause-error c =
+    let p = err_from_is_err_and c.from_residual.result c.from_residual.ensures.1 in
+    rw (p.1, p.2)
+    (body_error c.args.words.now (arities_of c.args.schema.now) c.args.bytes.now (constraint_of c.args.tree.now) _ (rw c.items.ensures at c.in_err-atoms.ensures.err))
+
+pub returns-in_err-head-in-Items-clause-error : goal.returns-in_err-head-in-Items-clause-error
+returns-in_err-head-in-Items-clause-error c =
+    let p = err_from_is_err_and c.from_residual-in_err-head-in-Items.result c.from_residual-in_err-head-in-Items.ensures.1 in
+    rw (p.1, p.2)
+    (head_error c.args.words.now (arities_of c.args.schema.now) c.args.bytes.now (constraint_of c.args.tree.now) (rw c.items.ensures at c.in_ok-atoms.ensures.fits)
+    (map item_of c.in-Items.items) (ap head_of c.in-Items.is) _ (rw c.items-in-Items.ensures at c.in_err-head-in-Items.ensures.err))
+
+-- ---- a tuple rule
+
+pub tuple_rule-requires : goal.tuple_rule-requires
+tuple_rule-requires c =
+    tuple_parts c.requires.text.0 c.args.words.now (arities_of c.args.schema.now) c.args.bytes.now (constraint_of c.args.tree.now)
+    c.requires.text.1 c.requires.stands c.requires.relations (map item_of c.in-Items.items) (ap head_of c.in-Items.is)
+    c.in_ok-atoms.atoms c.in_ok-head-in-Items.head c.body-in-Items.new.names (record {
+      between = c.body.new.names;
+      body_atoms = rw (c.new-names.ensures, c.items.ensures) at c.in_ok-atoms.ensures.ok;
+      body_fits = rw c.items.ensures at c.in_ok-atoms.ensures.fits;
+      head_atoms = rw c.items-in-Items.ensures at c.in_ok-head-in-Items.ensures.ok;
+      head_fits = rw c.items-in-Items.ensures at c.in_ok-head-in-Items.ensures.fits;
+    })
+
+pub returns-in_ok-head-in-Items-clause-said : goal.returns-in_ok-head-in-Items-clause-said
+returns-in_ok-head-in-Items-clause-said c =
+    tuple_said c.args.words.now (arities_of c.args.schema.now) c.args.bytes.now (constraint_of c.args.tree.now) (map item_of c.in-Items.items) c.tuple_rule.result
+    c.in_ok-atoms.atoms c.in_ok-head-in-Items.head c.body-in-Items.new.names c.tuple_rule.ensures.made (ap head_of c.in-Items.is) (record {
+      between = c.body.new.names;
+      body_atoms = rw (c.new-names.ensures, c.items.ensures) at c.in_ok-atoms.ensures.ok;
+      body_fits = rw c.items.ensures at c.in_ok-atoms.ensures.fits;
+      head_atoms = rw c.items-in-Items.ensures at c.in_ok-head-in-Items.ensures.ok;
+      head_fits = rw c.items-in-Items.ensures at c.in_ok-head-in-Items.ensures.fits;
+    })
+
+-- ---- an equality rule
+
+pub returns-in-Some-clause-error : goal.returns-in-Some-clause-error
+returns-in-Some-clause-error c =
+    side_error c.args.words.now (arities_of c.args.schema.now) c.args.bytes.now (constraint_of c.args.tree.now) (rw c.items.ensures at c.in_ok-atoms.ensures.fits)
+    c.in-Equality.left c.in-Equality.right _ _ _ _ _ (ap head_of c.in-Equality.is) (record {
+      between = c.body.new.names;
+      body_atoms = rw (c.new-names.ensures, c.items.ensures) at c.in_ok-atoms.ensures.ok;
+      body_fits = rw c.items.ensures at c.in_ok-atoms.ensures.fits;
+      sides = c.in_ok-left_term-in-Equality.ensures;
+    }) (rw c.items-in-Equality.ensures at c.in-Some.ensures)
+
+pub equal_rule-requires : goal.equal_rule-requires
+equal_rule-requires c =
+    equality_parts c.requires.text.0 c.args.words.now (arities_of c.args.schema.now) c.args.bytes.now (constraint_of c.args.tree.now)
+    c.requires.text.1 c.requires.stands c.requires.relations c.in-Equality.left c.in-Equality.right (ap head_of c.in-Equality.is)
+    c.in_ok-atoms.atoms c.in_ok-left_term-in-Equality.left_term c.in_ok-left_term-in-Equality.right_term c.sides.new.names (record {
+      between = c.body.new.names;
+      body_atoms = rw (c.new-names.ensures, c.items.ensures) at c.in_ok-atoms.ensures.ok;
+      body_fits = rw c.items.ensures at c.in_ok-atoms.ensures.fits;
+      sides = c.in_ok-left_term-in-Equality.ensures;
+    })
+    (rw c.items-in-Equality.ensures at c.in-None.ensures)
+
+pub returns-in-None-clause-said : goal.returns-in-None-clause-said
+returns-in-None-clause-said c =
+    equality_said c.args.words.now (arities_of c.args.schema.now) c.args.bytes.now (constraint_of c.args.tree.now) c.in-Equality.left c.in-Equality.right c.equal_rule.result
+    c.in_ok-atoms.atoms c.in_ok-left_term-in-Equality.left_term c.in_ok-left_term-in-Equality.right_term c.sides.new.names
+    c.equal_rule.ensures.made (ap head_of c.in-Equality.is) (record {
+      between = c.body.new.names;
+      body_atoms = rw (c.new-names.ensures, c.items.ensures) at c.in_ok-atoms.ensures.ok;
+      body_fits = rw c.items.ensures at c.in_ok-atoms.ensures.fits;
+      sides = c.in_ok-left_term-in-Equality.ensures;
+    })
+
+-- ---- a denial
+
+pub denial-requires : goal.denial-requires
+denial-requires c =
+    denial_parts c.requires.text.0 c.args.words.now (arities_of c.args.schema.now) c.args.bytes.now (constraint_of c.args.tree.now)
+    c.requires.text.1 c.requires.stands c.requires.relations c.in_ok-atoms.atoms c.body.new.names (record {
+      body_atoms = rw (c.new-names.ensures, c.items.ensures) at c.in_ok-atoms.ensures.ok;
+      body_fits = rw c.items.ensures at c.in_ok-atoms.ensures.fits;
+    })
+
+pub returns-in-Never-clause-said : goal.returns-in-Never-clause-said
+returns-in-Never-clause-said c =
+    denial_said c.args.words.now (arities_of c.args.schema.now) c.args.bytes.now (constraint_of c.args.tree.now) c.denial.result c.in_ok-atoms.atoms c.body.new.names c.denial.ensures.made (ap head_of c.in-Never.is) (record {
+      body_atoms = rw (c.new-names.ensures, c.items.ensures) at c.in_ok-atoms.ensures.ok;
+      body_fits = rw c.items.ensures at c.in_ok-atoms.ensures.fits;
+    })
