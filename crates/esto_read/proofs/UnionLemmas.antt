@@ -1,6 +1,6 @@
 -- Unions of queries, tree by tree.
-use Rattle.std.proofs.Common.{◌≡◌, ◌≢◌, ◌<◌, ◌≤◌, ◌+◌, ℕ, zero, suc, List, [], ◌∷◌, ◌++◌, length, map, take, drop, get_or, drop-cons, add-one, Some, inl, inr, refl, sym, ap, subst, ◌∙◌, append_assoc, arith}
-use Rattle.std.specs.Prelude.{IsUtf8, Contains, AllPairs, slice_get}
+use Rattle.std.proofs.Common.{◌≡◌, ◌≢◌, ◌<◌, ◌≤◌, ◌+◌, ℕ, zero, suc, List, [], ◌∷◌, ◌++◌, length, map, drop, get_or, drop-cons, add-one, Some, inl, inr, refl, sym, ap, subst, ◌∙◌, append_assoc, arith}
+use Rattle.std.specs.Prelude.{Contains, AllPairs, slice_get}
 use Rattle.std.specs.List.{AllByRecursion}
 use Rattle.std.proofs.lemmas.List.{append-nil, drop_all, length-map, get_or-map}
 use Rattle.std.proofs.lemmas.List.Elements.{Contains-push_cases}
@@ -8,9 +8,8 @@ use Rattle.esto_term.proofs.ListLemmas.{Contains-cases, Contains-nil}
 use Rattle.esto_semantics.specs.WellFormed.{IsQueryOver}
 use Rattle.esto_query.specs.Making.{query_of}
 use Rattle.esto_text.specs.Faults.{IsUnionText, UnionOfOneIsQueryText, IsUnionGrammarFault, HaveOneTree, HaveNoFault as HaveNoGrammarFault, HaveOneFault as HaveOneGrammarFault}
-use Rattle.esto_text.specs.Grammar.{IsQuery, IsUnionEnd, IsUnionFrom, IsUnion}
+use Rattle.esto_text.specs.Grammar.{IsUnionEnd, IsUnionFrom}
 use Rattle.esto_text.specs.Trees.{QueryTree}
-use Rattle.esto_text.specs.Tokens.{text_of}
 use Rattle.esto_text.specs.View.{tree_of}
 use Rattle.esto_text.specs.declared.fault.ReadError.{ReadError}
 use Rattle.esto_text.specs.declared.fault.ReadError.TheVariants.{Fault, OutOfMemory}

@@ -20,8 +20,8 @@ use esto_query::{Names, Schema, mentions};
 use esto_semantics::Atom;
 use esto_term::{List, OutOfMemory, Term};
 use esto_text::{
-    ConstraintSyntax, HeadSyntax, ReadError, TextFault, TextKind, Token, Version, read_constraint_tree,
-    trees_are_determined,
+    ConstraintSyntax, HeadSyntax, ReadError, TextFault, TextKind, Token, Version,
+    read_constraint_tree, trees_are_determined,
 };
 use std::alloc::Global;
 

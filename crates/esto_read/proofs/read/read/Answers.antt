@@ -1,4 +1,3 @@
-use Rattle.std.proofs.Common.{inr}
 use Rattle.std.proofs.lemmas.Result.{err_from_is_err_and}
 use Rattle.esto_query.specs.Schemas.{arities_of}
 use Rattle.esto_text.specs.View.{tree_of}
