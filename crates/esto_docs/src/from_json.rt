@@ -2,11 +2,19 @@
 ghost use Rattle.std.specs.Prelude.{◌≡◌, IfOk};
 ghost use Rattle.serde_json.specs.View.{view, number_view, items_view, members_view};
 ghost use Rattle.esto_docs.specs.Trees.{number_tree, tree_of, trees_of, fields_of};
+ghost use Rattle.esto_docmodel.specs.declared.tree.Tree.TheVariants as variants;
 
 use esto_docmodel::{Field, Fields, Tree, Trees};
 use esto_term::{List, OutOfMemory, Text};
 use serde_json::{Map, Number, Value};
 use std::alloc::Global;
+
+// The tree of a text.
+fn value_of(alloc: Global, text: &str) -> Result<Tree, OutOfMemory>
+    ensures { IfOk result (λ tree. tree ≡ variants.Value text.now) }
+{
+    Ok(Tree::Value(Text::from_str(alloc, text)?))
+}
 
 // The tree of a number.
 fn number_of(alloc: Global, number: &Number) -> Result<Tree, OutOfMemory>
@@ -14,11 +22,11 @@ fn number_of(alloc: Global, number: &Number) -> Result<Tree, OutOfMemory>
 {
     if let Some(n) = number.as_u64() {
         let digits = format!(in alloc; "{n}")?;
-        return Ok(Tree::Value(Text::from_str(alloc, digits.as_str())?));
+        return value_of(alloc, digits.as_str());
     }
     if let Some(n) = number.as_i64() {
         let digits = format!(in alloc; "{n}")?;
-        return Ok(Tree::Value(Text::from_str(alloc, digits.as_str())?));
+        return value_of(alloc, digits.as_str());
     }
     Ok(Tree::Nothing)
 }
@@ -30,10 +38,10 @@ pub fn tree_of(alloc: Global, value: &Value) -> Result<Tree, OutOfMemory>
 {
     match value {
         Value::Null => Ok(Tree::Nothing),
-        Value::Bool(true) => Ok(Tree::Value(Text::from_str(alloc, "true")?)),
-        Value::Bool(false) => Ok(Tree::Value(Text::from_str(alloc, "false")?)),
+        Value::Bool(true) => value_of(alloc, "true"),
+        Value::Bool(false) => value_of(alloc, "false"),
         Value::Number(number) => number_of(alloc, number),
-        Value::String(text) => Ok(Tree::Value(Text::from_str(alloc, text.as_str())?)),
+        Value::String(text) => value_of(alloc, text.as_str()),
         Value::Array(items) => Ok(Tree::Items(trees_of(alloc, items)?)),
         Value::Object(members) => Ok(Tree::Fields(fields_of(alloc, members)?)),
     }
