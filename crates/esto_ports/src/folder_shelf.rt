@@ -37,7 +37,7 @@ impl<'a, R: Files> FolderShelf<'a, R> {
 }
 
 // Why a file could not be read.
-#[derive(Debug, Drop)]
+#[derive(Drop)]
 enum ReadError {
     Fault,
     OutOfMemory,
