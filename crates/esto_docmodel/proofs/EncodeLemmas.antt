@@ -5,16 +5,20 @@ use Rattle.std.proofs.lemmas.List.{append-nil, map-append}
 use Rattle.esto_term.specs.declared.term.Term.{Term}
 use Rattle.esto_term.specs.declared.term.Term.TheVariants.{Const, Plain}
 use Rattle.esto_semantics.specs.declared.fact.Fact.{Fact}
-use Rattle.esto_docmodel.specs.DocumentFacts.{DocFact, below, flat}
-use Rattle.esto_docmodel.specs.Encodings.{size, entering, belows, holding, facts_from}
+use Rattle.esto_docmodel.specs.DocumentFacts.{DocFact, value, below, flat}
+use Rattle.esto_docmodel.specs.Encodings.{size, entering, belows, holding, facts_from, end, step_atoms, atoms}
+use Rattle.esto_docmodel.specs.Patterns.{done}
 use Rattle.esto_docmodel.specs.Forests.{Label, name, place, Forest, none, kid, Node, node}
 use Rattle.esto_docmodel.specs.Putting.{fact_over, turned, node_facts}
 use Rattle.esto_docmodel.specs.Rising.{IsRising, AreInside}
-use Rattle.esto_docmodel.specs.Shapes.{shape, row, named_row, shaped_field}
+use Rattle.esto_docmodel.specs.Shapes.{shape, row, named_row, shaped_field, entry_shape, entries_of}
 use Rattle.esto_docmodel.specs.declared.field.FieldOf.{FieldOf}
 use Rattle.esto_docmodel.specs.declared.tree.Tree.{Tree}
 use Rattle.esto_docmodel.specs.declared.tree.Tree.TheVariants.{Value, Nothing, Fields, Items}
-use Rattle.esto_docmodel.proofs.ShapeLemmas.{shape-Value, shape-Nothing, shape-Fields, shape-Items}
+use Rattle.esto_docmodel.proofs.ShapeLemmas.{shape-Value, shape-Nothing, shape-Fields, shape-Items, entry-Value, entry-Group}
+use Rattle.esto_docmodel.specs.declared.pattern.Step.{Step}
+use Rattle.esto_docmodel.specs.declared.pattern.Entry.{Entry}
+use Rattle.esto_docmodel.specs.declared.pattern.Entry.TheVariants as entry
 
 -- ---- lists
 
@@ -100,6 +104,27 @@ module _ (base n : ℕ) (above : List ℕ) (start put : List (Fact Term)) (enter
   items_put tree items first now is numbered more = rw (is, shape-Items items) (more
       ∙ ap (λ (k : ℕ). put ++ map (flat base) (facts_from (n ∷ turned above) k (row (map shape items)))) numbered
       ∙ node_rest (node None (row (map shape items))))
+
+-- what is put for an entry, kind by kind, when its path is put
+module _ (base v next : ℕ) (path : List Step) (start put : List (Fact Term)) (last later : ℕ)
+    (stepped : put ≡ start ++ map (flat base) (step_atoms path v next)) (numbers : ◌≡◌ {A = ℕ × ℕ} (last, later) (end path v next, next + length path)) where
+  path_then : (more : List (DocFact Term)) → put ++ map (flat base) more ≡ start ++ map (flat base) (step_atoms path v next ++ more)
+  path_then more = rw stepped (append_assoc start _ _
+      ∙ ap (λ (w : List (Fact Term)). start ++ w) (sym (map-append (flat base) (step_atoms path v next) more)))
+
+  pub value_entry_put : (it : Entry) (term said : Term) (now : List (Fact Term)) → it ≡ entry.Value path term → said ≡ term
+      → now ≡ put ++ fact_over (base + 3) (Plain last ∷ said ∷ []) ∷ [] → now ≡ start ++ map (flat base) (atoms (entry_shape it done) v next)
+  value_entry_put it term said now is copied more = rw (is, entry-Value path term done) (more
+      ∙ ap (λ (w : Term). put ++ fact_over (base + 3) (Plain last ∷ w ∷ []) ∷ []) copied
+      ∙ ap (λ (w : ℕ × ℕ). put ++ fact_over (base + 3) (Plain w.0 ∷ term ∷ []) ∷ []) numbers
+      ∙ path_then (value (Plain (end path v next)) term ∷ []))
+
+  pub group_entry_put : (it : Entry) (inner : List Entry) (now : List (Fact Term)) → it ≡ entry.Group path inner
+      → now ≡ put ++ map (flat base) (atoms (entries_of inner) last later) → now ≡ start ++ map (flat base) (atoms (entry_shape it done) v next)
+  group_entry_put it inner now is more = rw (is, entry-Group path inner done) (more
+      ∙ ap (λ (w : ℕ × ℕ). put ++ map (flat base) (atoms (entries_of inner) w.0 w.1)) numbers
+      ∙ ap (λ (w : List (DocFact Term)). put ++ map (flat base) w) (sym (append-nil (atoms (entries_of inner) (end path v next) (next + length path))))
+      ∙ path_then (atoms (entries_of inner) (end path v next) (next + length path) ++ []))
 
 module _ (base number next : ℕ) (above inner : List ℕ) (facts whole : List (Fact Term)) (all : ℕ) (is_inner : inner ≡ above ++ number ∷ []) where
   inside_turned : turned inner ≡ number ∷ turned above
