@@ -2,6 +2,8 @@
 use Rattle.std.proofs.Common.{◌≡◌, ℕ, suc, ◌+◌, ◌<◌, List, [], ◌∷◌, ◌++◌, map, drop, length, get_or, Some, None, refl, sym, ap, ◌∙◌, subst, arith, add-one, append_assoc}
 use Rattle.std.proofs.Math.Seq.{drop-cons}
 use Rattle.std.proofs.lemmas.List.{append-nil, map-append}
+use Rattle.std.proofs.lemmas.Result.{IfOk-weaker, on_ok_weaker}
+use Rattle.std.specs.Prelude.{Result, IfOk, OnOk}
 use Rattle.esto_term.specs.declared.term.Term.{Term}
 use Rattle.esto_term.specs.declared.term.Term.TheVariants.{Const, Plain}
 use Rattle.esto_semantics.specs.declared.fact.Fact.{Fact}
@@ -104,6 +106,38 @@ module _ (base n : ℕ) (above : List ℕ) (start put : List (Fact Term)) (enter
   items_put tree items first now is numbered more = rw (is, shape-Items items) (more
       ∙ ap (λ (k : ℕ). put ++ map (flat base) (facts_from (n ∷ turned above) k (row (map shape items)))) numbered
       ∙ node_rest (node None (row (map shape items))))
+
+-- what stands inside a tree, kind by kind
+inside_of : (tree other : Tree) (it : Node) → tree ≡ other → shape other ≡ it → (shape tree).inside ≡ it.inside
+inside_of tree other it is shaped = ap (λ (t : Tree). (shape t).inside) is ∙ ap (λ (m : Node). m.inside) shaped
+
+pub value_inside : (tree : Tree) (text : List ℕ) → tree ≡ Value text → (shape tree).inside ≡ none
+value_inside tree text is = inside_of tree (Value text) (node (Some text) none) is (shape-Value text)
+
+pub nothing_inside : (tree : Tree) → tree ≡ Nothing → (shape tree).inside ≡ none
+nothing_inside tree is = inside_of tree Nothing (node None none) is shape-Nothing
+
+pub fields_inside : (tree : Tree) (fields : List (FieldOf Tree)) → tree ≡ Fields fields → (shape tree).inside ≡ named_row (map shaped_field fields)
+fields_inside tree fields is = inside_of tree (Fields fields) (node None (named_row (map shaped_field fields))) is (shape-Fields fields)
+
+pub items_inside : (tree : Tree) (items : List Tree) → tree ≡ Items items → (shape tree).inside ≡ row (map shape items)
+items_inside tree items is = inside_of tree (Items items) (node None (row (map shape items))) is (shape-Items items)
+
+module _ (inside : Forest) where
+  pub leaf_next : (n next : ℕ) → inside ≡ none → next ≡ suc n → next ≡ suc n + size inside
+  leaf_next n next none_inside numbered = omega (arith, numbered, ap size none_inside)
+
+  pub leaf_rising : inside ≡ none → IsRising inside
+  leaf_rising none_inside = subst IsRising (sym none_inside) tt
+
+  module _ {E : Type 0} (answer : Result ℕ E) (forest : Forest) (same : inside ≡ forest) where
+    pub row_next : (n first : ℕ) → first ≡ suc n → IfOk answer (λ next. next ≡ first + size forest) → IfOk answer (λ next. next ≡ suc n + size inside)
+    row_next n first numbered =
+        IfOk-weaker answer (λ next. next ≡ first + size forest) (λ next. next ≡ suc n + size inside)
+        (λ next told. omega (arith, told, numbered, ap size same))
+
+    pub row_rising : OnOk answer (IsRising forest) → OnOk answer (IsRising inside)
+    row_rising = on_ok_weaker answer (λ rising. subst IsRising (sym same) rising)
 
 -- what is put for an entry, kind by kind, when its path is put
 module _ (base v next : ℕ) (path : List Step) (start put : List (Fact Term)) (last later : ℕ)

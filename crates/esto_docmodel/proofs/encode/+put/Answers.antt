@@ -1,4 +1,4 @@
-use Rattle.esto_docmodel.proofs.EncodeLemmas.{value_put, nothing_put, fields_put, items_put, field_turn, item_turn, field_inside, item_inside}
+use Rattle.esto_docmodel.proofs.EncodeLemmas.{value_inside, nothing_inside, fields_inside, items_inside, leaf_next, leaf_rising, row_next, row_rising, value_put, nothing_put, fields_put, items_put, field_turn, item_turn, field_inside, item_inside}
 use Rattle.std.proofs.Common.{arith}
 use Rattle.std.proofs.lemmas.Result.{on_ok_weaker}
 use Rattle.esto_docmodel.proofs.RisingLemmas.{field_end, item_end}
@@ -44,3 +44,29 @@ put_node-returns-in_ok-inner-in-Items-clause-facts t c =
     on_ok_weaker c.put_items.result
     (items_put c.args.base c.args.number c.args.above.now _ _ (rw c.items.ensures at c.in_ok-put_belows.ensures) c.args.tree.now c.in-Items.items _ _
     c.in-Items.is c.in_ok-next.ensures) (rw c.items-in-Items.ensures at c.put_items.ensures.facts)
+
+pub put_node-returns-in_ok-put_two-in-Value-clause-rising : goal.put_node-returns-in_ok-put_two-in-Value-clause-rising
+put_node-returns-in_ok-put_two-in-Value-clause-rising t c = leaf_rising _ (value_inside c.args.tree.now c.in-Value.text c.in-Value.is)
+
+pub put_node-returns-in_ok-put_two-in-Value-clause-next : goal.put_node-returns-in_ok-put_two-in-Value-clause-next
+put_node-returns-in_ok-put_two-in-Value-clause-next t c = leaf_next _ c.args.number _ (value_inside c.args.tree.now c.in-Value.text c.in-Value.is) c.in_ok-next.ensures
+
+pub put_node-returns-in-Nothing-clause-rising : goal.put_node-returns-in-Nothing-clause-rising
+put_node-returns-in-Nothing-clause-rising t c = leaf_rising _ (nothing_inside c.args.tree.now c.in-Nothing.is)
+
+pub put_node-returns-in-Nothing-clause-next : goal.put_node-returns-in-Nothing-clause-next
+put_node-returns-in-Nothing-clause-next t c = leaf_next _ c.args.number _ (nothing_inside c.args.tree.now c.in-Nothing.is) c.in_ok-next.ensures
+
+pub put_node-returns-in_ok-inner-in-Fields-clause-rising : goal.put_node-returns-in_ok-inner-in-Fields-clause-rising
+put_node-returns-in_ok-inner-in-Fields-clause-rising t c = row_rising _ c.put_fields.result _ (fields_inside c.args.tree.now c.in-Fields.fields c.in-Fields.is) c.put_fields.ensures.rising
+
+pub put_node-returns-in_ok-inner-in-Fields-clause-next : goal.put_node-returns-in_ok-inner-in-Fields-clause-next
+put_node-returns-in_ok-inner-in-Fields-clause-next t c = row_next _ c.put_fields.result _ (fields_inside c.args.tree.now c.in-Fields.fields c.in-Fields.is) c.args.number _ c.in_ok-next.ensures c.put_fields.ensures.next
+
+pub put_node-returns-in_ok-inner-in-Items-clause-rising : goal.put_node-returns-in_ok-inner-in-Items-clause-rising
+put_node-returns-in_ok-inner-in-Items-clause-rising t c =
+    row_rising _ c.put_items.result _ (items_inside c.args.tree.now c.in-Items.items c.in-Items.is) (rw c.items-in-Items.ensures at c.put_items.ensures.rising)
+
+pub put_node-returns-in_ok-inner-in-Items-clause-next : goal.put_node-returns-in_ok-inner-in-Items-clause-next
+put_node-returns-in_ok-inner-in-Items-clause-next t c =
+    row_next _ c.put_items.result _ (items_inside c.args.tree.now c.in-Items.items c.in-Items.is) c.args.number _ c.in_ok-next.ensures (rw c.items-in-Items.ensures at c.put_items.ensures.next)
