@@ -17,7 +17,7 @@ use std::marker::Model;
 
 /// The ranks of the relations of a schema, where the rules' graph of relations is acyclic. Contracts see their
 /// list, in the order of the relations.
-#[derive(Debug, Drop)]
+#[derive(Drop)]
 pub struct Ranks {
     ranks: Vec<usize>,
 }
@@ -50,7 +50,7 @@ impl Ranks {
 
 /// A cycle of the graph of relations: for each of its edges, in order, the relation at which it starts, and that
 /// relation's name.
-#[derive(Debug, Drop)]
+#[derive(Drop)]
 pub struct Cycle {
     pub relations: Places,
     pub names: TextRow,

@@ -31,7 +31,7 @@ use std::alloc::Global;
 use std::slice;
 
 /// The listed sets of a plan, with the entries that they come from.
-#[derive(Debug, Drop)]
+#[derive(Drop)]
 pub struct Backchase {
     pub entries: Entries,
     pub sets: Products,

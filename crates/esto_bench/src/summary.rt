@@ -6,7 +6,7 @@ use esto_term::{Bytes, OutOfMemory};
 use std::alloc::Global;
 
 /// What is summed up of a query over a catalogue and over a database.
-#[derive(Debug, Clone, Copy)]
+#[derive(Clone, Copy)]
 pub struct Summary {
     /// How many atoms the query's universal plan has.
     pub plan: usize,

@@ -12,7 +12,7 @@ use std::marker::Model;
 
 /// Sets of numbers below one count, in the order in which they came, in one vector of words: each set has equally many of
 /// them, and at least one. Contracts see the count and the list of the sets.
-#[derive(Debug, Drop)]
+#[derive(Drop)]
 pub struct PackedSets {
     count: usize,
     many: usize,

@@ -13,7 +13,7 @@ use std::marker::Model;
 pub type SetList = List<RowBits>;
 
 /// Sets of one count, none of which is a subset of another. Contracts see the count and the list of the sets.
-#[derive(Debug, Drop)]
+#[derive(Drop)]
 pub struct Products {
     packed: PackedSets,
 }

@@ -12,7 +12,7 @@ use std::marker::Model;
 
 /// A set of atom numbers below a count. Contracts see the list of the answers to "is it in?", one for each
 /// number below the count, so two sets of one count are equal exactly where they have the same numbers.
-#[derive(Debug, Drop)]
+#[derive(Drop)]
 pub struct RowBits {
     count: usize,
     words: Vec<u64>,

@@ -8,7 +8,7 @@ use esto_views::AccessList;
 use std::alloc::{AllocError, Global};
 
 /// Why a line is not obeyed: it is ill-formed, or memory is wanting.
-#[derive(Clone, Copy, Debug, Drop)]
+#[derive(Clone, Copy, Drop)]
 pub struct Refused;
 
 impl From<AllocError> for Refused {

@@ -12,7 +12,7 @@ use esto_term::{List, Text, TextRow};
 use esto_views::FragmentDefs;
 
 /// How the rows of a fragment are stored.
-#[derive(Debug, Drop)]
+#[derive(Drop)]
 pub enum Shape {
     /// As a CSV file with these columns.
     Table(TextRow),
@@ -24,7 +24,7 @@ pub enum Shape {
 }
 
 /// Where a fragment is stored.
-#[derive(Debug, Drop)]
+#[derive(Drop)]
 pub struct Store {
     pub shape: Shape,
     pub file: Text,
@@ -41,7 +41,7 @@ pub type Stores = List<Store>;
 /// made; and no relation leads back to itself by the rules. A fragment has at most `MAX_PATTERNS` binding patterns, all
 /// distinct, and weighs at most `MAX_WEIGHT`. The columns of a table are distinct, as many as its view has, and the first
 /// does not begin with a byte-order mark; the pattern of documents is a layout for as many columns.
-#[derive(Debug, Drop)]
+#[derive(Drop)]
 pub struct Catalogue {
     pub schema: Schema,
     pub words: Vocabulary,

@@ -16,7 +16,7 @@ use std::alloc::Global;
 
 /// A dataset: its name, what it is, the number of its first relation, the names of its columns, which a table alone has,
 /// how its documents stand in their file, which is in lines where nothing else is written, and its file where it has one.
-#[derive(Debug, Drop)]
+#[derive(Drop)]
 pub struct Dataset {
     pub name: Text,
     pub model: DataModel,

@@ -9,7 +9,7 @@ use esto_text::TextFault;
 use std::alloc::Global;
 
 /// A section of a catalogue.
-#[derive(Clone, Copy, Debug, PartialEq, Eq)]
+#[derive(Clone, Copy, PartialEq, Eq)]
 pub enum Section {
     Top,
     Dataset,
@@ -44,7 +44,7 @@ pub const TOP: Place = Place {
 };
 
 /// What is wrong.
-#[derive(Clone, Copy, Debug, PartialEq, Eq)]
+#[derive(Clone, Copy, PartialEq, Eq)]
 pub enum CatalogueKind {
     /// The bytes are no TOML.
     Toml,
@@ -85,7 +85,7 @@ pub enum CatalogueKind {
 
 /// The first fault of a catalogue: what is wrong, in which section, at which entry counted from 1 (0 for the top), and
 /// at which key (`-` where the bytes are no TOML). There is a text's fault exactly where the kind is BadText.
-#[derive(Debug, Drop)]
+#[derive(Drop)]
 pub struct CatalogueFault {
     pub kind: CatalogueKind,
     pub section: Section,
@@ -95,7 +95,7 @@ pub struct CatalogueFault {
 }
 
 /// Why a catalogue is not read.
-#[derive(Debug, Drop)]
+#[derive(Drop)]
 pub enum CatalogueError {
     /// It has this first fault.
     Fault(CatalogueFault),

@@ -27,7 +27,7 @@ use esto_world_laws::Claim;
 use std::alloc::Global;
 
 /// What is judged of a line.
-#[derive(Debug, Drop)]
+#[derive(Drop)]
 pub enum Judged {
     /// It may make the claim.
     Claims(Claim),

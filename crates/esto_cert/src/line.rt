@@ -5,7 +5,7 @@ use esto_term::Values;
 pub type Numbers = Values<u64>;
 
 /// What a line of a certificate says. Lines, rules, atoms and places are counted from 1.
-#[derive(Debug, Drop)]
+#[derive(Drop)]
 pub enum Line {
     /// The expanded fact of an atom, by the atom's number, at a place of its view's body.
     Expanded(u64, u64),

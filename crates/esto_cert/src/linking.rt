@@ -9,7 +9,7 @@ use esto_term::{List, OutOfMemory, Replicate, Term};
 use std::alloc::Global;
 
 /// Two terms that are one; or that the right one stands for the left one.
-#[derive(Debug, Drop)]
+#[derive(Drop)]
 pub struct Equality {
     pub left: Term,
     pub right: Term,

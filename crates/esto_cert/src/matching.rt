@@ -16,7 +16,7 @@ use esto_world_laws::Claim;
 use std::alloc::Global;
 
 /// A match: the chosen facts, the terms of the body and of the facts, and renamings that tell which terms are linked.
-#[derive(Debug, Drop)]
+#[derive(Drop)]
 pub struct Found {
     pub chosen: Atoms,
     pub from: Terms,

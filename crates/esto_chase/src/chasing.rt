@@ -25,7 +25,7 @@ use esto_term::OutOfMemory;
 use std::alloc::Global;
 
 /// What a finished chase leaves.
-#[derive(Debug, Drop)]
+#[derive(Drop)]
 pub struct Chased {
     pub instance: Instance,
 }

@@ -2,7 +2,7 @@
 use esto_term::Text;
 
 /// What a run clashes at.
-#[derive(Debug, Drop)]
+#[derive(Drop)]
 pub enum Clash {
     /// Two different constants that an equality rule wants to be one, in rising order of bytes.
     Equal(Text, Text),

@@ -10,7 +10,7 @@ use esto_term::{List, OutOfMemory, Places};
 use std::alloc::Global;
 
 /// A column of a fragment, and the code that it has to hold.
-#[derive(Debug, Clone, Copy)]
+#[derive(Clone, Copy)]
 pub struct Input {
     pub column: usize,
     pub code: u64,

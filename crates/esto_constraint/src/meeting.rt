@@ -14,7 +14,7 @@ use esto_term::{OutOfMemory, Term};
 use std::alloc::Global;
 
 /// A rule that some facts do not meet, by its number, and its least active match.
-#[derive(Debug, Drop)]
+#[derive(Drop)]
 pub struct Broken {
     pub rule: usize,
     pub found: Found,

@@ -9,7 +9,7 @@ use std::alloc::Global;
 /// A tuple rule: each match of the body is to have an extension to the head. The variables of the head that are
 /// not in the body are existential. Body and head are not empty, their terms are constants or plain, and each
 /// variable's number is below the length of the names.
-#[derive(Debug, Drop)]
+#[derive(Drop)]
 pub struct Tgd {
     pub body: Atoms,
     pub head: Atoms,
@@ -20,7 +20,7 @@ pub struct Tgd {
 /// An equality rule: each match of the body is to give both sides one term. The body is not empty, its terms are
 /// constants or plain, each side is a constant or a variable of the body, and each variable's number is below
 /// the length of the names.
-#[derive(Debug, Drop)]
+#[derive(Drop)]
 pub struct Egd {
     pub body: Atoms,
     pub left: Term,
@@ -31,7 +31,7 @@ pub struct Egd {
 
 /// A denial: the body is to have no match. It is not empty, its terms are constants or plain, and each variable's
 /// number is below the length of the names.
-#[derive(Debug, Drop)]
+#[derive(Drop)]
 pub struct Denial {
     pub body: Atoms,
     pub names: Names,
@@ -39,7 +39,7 @@ pub struct Denial {
 }
 
 /// A rule that databases are to meet.
-#[derive(Debug, Drop)]
+#[derive(Drop)]
 pub enum Constraint {
     Tuple(Tgd),
     Equal(Egd),

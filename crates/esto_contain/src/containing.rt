@@ -22,7 +22,7 @@ use esto_universal::plans_tell_satisfiable_queries;
 use std::alloc::Global;
 
 /// Whether a query is contained in another.
-#[derive(Debug, Drop)]
+#[derive(Drop)]
 pub enum Contain {
     /// It is.
     Yes,

@@ -44,7 +44,7 @@ use std::alloc::Global;
 /// The last facts and the head of a query's run, under new names, and the minimal sets of these facts that are equivalent
 /// to the query. The terms of the facts and of the head are constants or plain, and the name of the plain term of a number
 /// stands at that place of the names. The numbers of the sets are places of the facts, counted from 0.
-#[derive(Debug, Drop)]
+#[derive(Drop)]
 pub struct Minimal {
     pub facts: Facts,
     pub head: Terms,

@@ -22,7 +22,7 @@ use esto_term::{Bytes, List, OutOfMemory, Places, Replicate, Terms, Values};
 use std::alloc::Global;
 
 /// What has been written, and how many lines it is.
-#[derive(Debug, Drop)]
+#[derive(Drop)]
 pub struct Written {
     pub text: Bytes,
     pub count: usize,

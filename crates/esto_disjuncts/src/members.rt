@@ -17,7 +17,7 @@ use esto_views::Plan;
 use std::alloc::Global;
 
 /// A query of a union with its end.
-#[derive(Debug, Drop)]
+#[derive(Drop)]
 pub enum Member {
     /// The query is satisfiable: its printed plan, with that plan's list in the union.
     Planned(Plan, Listing),

@@ -17,14 +17,14 @@ use esto_term::{List, OutOfMemory, Replicate, Term, Text, Values};
 use std::alloc::Global;
 
 /// The facts of documents, and the first number that is no node's.
-#[derive(Debug, Drop)]
+#[derive(Drop)]
 pub struct Encoded {
     pub facts: Facts,
     pub next: u64,
 }
 
 /// The atoms of a pattern, and the first number that is no variable's.
-#[derive(Debug, Drop)]
+#[derive(Drop)]
 pub struct EncodedAtoms {
     pub atoms: Atoms,
     pub next: u64,

@@ -2,7 +2,7 @@
 use esto_term::Text;
 
 /// A field: its name, and what stands there.
-#[derive(Debug, Drop)]
+#[derive(Drop)]
 pub struct FieldOf<T> {
     pub name: Text,
     pub tree: T,

@@ -8,7 +8,7 @@ use std::alloc::Global;
 use std::marker::Model;
 
 /// Fields whose names rise strictly in order of bytes, which contracts see as the list of them.
-#[derive(Debug, Drop)]
+#[derive(Drop)]
 pub struct Fields<T> {
     fields: List<FieldOf<T>>,
 }

@@ -2,7 +2,7 @@
 use esto_term::{List, Term, Text};
 
 /// A step of a path, from a node of a tree.
-#[derive(Debug, Drop)]
+#[derive(Drop)]
 pub enum Step {
     /// To the field of that name, written `name` or `'name'`.
     Name(Text),
@@ -16,7 +16,7 @@ pub enum Step {
 pub type Path = List<Step>;
 
 /// An entry of a pattern.
-#[derive(Debug, Drop)]
+#[derive(Drop)]
 pub enum Entry {
     /// At the end of the path stands the value of the term, written `path: term`.
     Value(Path, Term),
@@ -28,7 +28,7 @@ pub enum Entry {
 pub type Entries = List<Entry>;
 
 /// A pattern of trees: a group of entries, each of which is matched in the tree.
-#[derive(Debug, Drop)]
+#[derive(Drop)]
 pub struct Pattern {
     pub entries: Entries,
 }

@@ -4,7 +4,7 @@ use crate::fields;
 use esto_term::{List, Text};
 
 /// A document, or a part of one.
-#[derive(Debug, Drop)]
+#[derive(Drop)]
 pub enum Tree {
     /// A string, a whole number of 64 bits or a truth value, as its text.
     Value(Text),

@@ -1,7 +1,7 @@
 //! How documents stand in a file.
 
 /// How documents stand in a file.
-#[derive(Clone, Copy, Debug, PartialEq, Eq)]
+#[derive(Clone, Copy, PartialEq, Eq)]
 pub enum Layout {
     /// The file is one JSON array, and its items are the documents.
     Array,

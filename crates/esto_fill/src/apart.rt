@@ -13,7 +13,7 @@ use std::alloc::Global;
 use std::cmp::Ordering;
 
 /// Where the least row is that is in one of two lists alone.
-#[derive(Clone, Copy, Debug)]
+#[derive(Clone, Copy)]
 pub enum Apart {
     /// At this place of the first list.
     Missing(usize),

@@ -29,7 +29,7 @@ use std::alloc::Global;
 pub type TextRowsList = List<TextRows>;
 
 /// A difference between the facts of datasets and the rules, or the rows of fragments.
-#[derive(Debug, Drop)]
+#[derive(Drop)]
 pub enum Difference {
     /// The facts do not meet the rule of this number, counted from 1 over all rules of the catalogue. The record has the
     /// values of its named variables in a match that shows it, in order of first occurrence in its body: a node as `#` and

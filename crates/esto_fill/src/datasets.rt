@@ -20,7 +20,7 @@ use std::alloc::Global;
 const KEY_CELLS: usize = 3;
 
 /// The bytes of a dataset's file, by the number of the dataset in the catalogue.
-#[derive(Debug, Drop)]
+#[derive(Drop)]
 pub struct DatasetBytes {
     pub dataset: usize,
     pub bytes: Bytes,
@@ -30,7 +30,7 @@ pub struct DatasetBytes {
 pub type LoadList = List<DatasetBytes>;
 
 /// Why the facts of datasets' files are not loaded.
-#[derive(Debug, Drop)]
+#[derive(Drop)]
 pub enum LoadError {
     /// The file of the dataset of that number has a fault, and this is its first; no file before has one.
     Fault(usize, FileFault),

@@ -21,7 +21,7 @@ use esto_term::{Bytes, OutOfMemory, Replicate, Text, TextRows};
 use std::alloc::Global;
 
 /// Why a fragment's file is not filled.
-#[derive(Debug, Drop)]
+#[derive(Drop)]
 pub enum FillError {
     /// A row of the view holds a node in this column, counted from 1, and no row holds one in a lesser.
     NodeInRow(u64),

@@ -8,7 +8,7 @@ use std::alloc::Global;
 
 /// The facts of datasets' files, over constants and plain terms: a constant is a text, a plain term the node of that
 /// number, and no node has the number `next` or a greater one.
-#[derive(Debug, Drop)]
+#[derive(Drop)]
 pub struct Loaded {
     pub facts: Facts,
     pub next: u64,

@@ -9,7 +9,7 @@ use esto_term::{List, OutOfMemory, Replicate, Term, TermRows, Terms, Text, TextR
 use std::alloc::Global;
 
 /// Why rows are not given as texts.
-#[derive(Debug, Drop)]
+#[derive(Drop)]
 pub enum AnswerError {
     /// A row holds a node in this column, counted from 1, and no row holds one in a lesser.
     NodeInRow(u64),

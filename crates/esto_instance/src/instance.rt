@@ -16,7 +16,7 @@ use esto_term::{List, OutOfMemory, Replicate, Term, Terms};
 use std::alloc::Global;
 
 /// A step of the chase, with the number of the rule that was applied, counted from 0, and the match at which it was.
-#[derive(Debug, Drop)]
+#[derive(Drop)]
 pub enum ChaseStep {
     /// A tuple rule added facts.
     Added(usize, Found),
@@ -28,7 +28,7 @@ pub enum ChaseStep {
 pub type Trace = List<ChaseStep>;
 
 /// Facts over terms with a head, and the trace of the steps that made them.
-#[derive(Debug, Drop)]
+#[derive(Drop)]
 pub struct Instance {
     facts: Facts,
     head: Terms,

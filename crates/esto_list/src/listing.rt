@@ -19,7 +19,7 @@ use std::alloc::Global;
 use std::marker::Model;
 
 /// A set of the plan's atoms that is listed, with its stated order and its weight.
-#[derive(Debug, Drop)]
+#[derive(Drop)]
 pub struct Listed {
     pub set: RowBits,
     pub order: Order,
@@ -27,7 +27,7 @@ pub struct Listed {
 }
 
 /// The listed sets, which contracts see as the list of its items.
-#[derive(Debug, Drop)]
+#[derive(Drop)]
 pub struct Listing {
     items: List<Listed>,
 }

@@ -3,7 +3,7 @@ use esto_chase::Clash;
 use esto_term::Bytes;
 
 /// A command's answer that is no refusal.
-#[derive(Debug, Drop)]
+#[derive(Drop)]
 pub enum Reply {
     /// The whole text of the command.
     Done(Bytes),

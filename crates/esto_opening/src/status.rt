@@ -12,7 +12,7 @@ use esto_term::{OutOfMemory, Text};
 use esto_text::TextFault;
 
 /// How a command line ended.
-#[derive(Debug, Drop)]
+#[derive(Drop)]
 pub enum Status {
     /// The command's text was put.
     Done,

@@ -16,7 +16,7 @@ use std::marker::Model;
 /// Entries, in the order in which they were made. A reason names earlier entries only, all products are of one count, and
 /// the product of an entry is the union of the products that its reason names, or the one atom that it expands. Contracts
 /// see the list of the entries.
-#[derive(Debug, Drop)]
+#[derive(Drop)]
 pub struct Entries {
     entries: List<Entry>,
 }

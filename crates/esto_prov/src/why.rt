@@ -9,7 +9,7 @@ use std::alloc::Global;
 
 /// A derivation: the tree of a reason, in which each entry that the reason names stands with its own derivation. Contracts
 /// see it as a tree.
-#[derive(Debug, Drop)]
+#[derive(Drop)]
 pub enum Why {
     /// The expanded fact of an atom, by the atom's number, at a place of its view's body.
     Expanded(usize, usize),

@@ -17,7 +17,7 @@ use std::alloc::Global;
 pub const MAX_ATOMS: usize = 64;
 
 /// Why no query is made.
-#[derive(Debug, Drop)]
+#[derive(Drop)]
 pub enum QueryFault {
     /// This variable of the head is not in the body.
     Unsafe(u64),

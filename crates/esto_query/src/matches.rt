@@ -17,7 +17,7 @@ use esto_term::{OutOfMemory, Places, Replicate, Values};
 use std::alloc::Global;
 
 /// A match of a body: the valuation, and for each atom the place of its fact.
-#[derive(Debug, Drop)]
+#[derive(Drop)]
 pub struct Found {
     pub valuation: Valuation,
     pub places: Places,

@@ -7,7 +7,7 @@ use esto_term::{List, OutOfMemory, Replicate, Terms, Text};
 use std::alloc::Global;
 
 /// How a variable is written.
-#[derive(Debug, Drop)]
+#[derive(Drop)]
 pub enum Name {
     /// By this name.
     Given(Text),
@@ -31,7 +31,7 @@ impl Replicate for Name {
 /// number, and its name stands at that place of the names. Head and body are not empty, the terms are constants
 /// or plain, each variable of the head is in the body, and each variable's number is below the length of the
 /// names.
-#[derive(Debug, Drop)]
+#[derive(Drop)]
 pub struct Query {
     pub head: Terms,
     pub body: Atoms,

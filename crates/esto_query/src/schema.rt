@@ -14,7 +14,7 @@ pub const MAX_COLUMNS: usize = 32;
 pub const MAX_RELATIONS: usize = 1280;
 
 /// A relation of a schema: its name, and how many columns it has.
-#[derive(Debug, Drop)]
+#[derive(Drop)]
 pub struct Relation {
     pub name: Text,
     pub arity: usize,
@@ -49,7 +49,7 @@ impl From<OutOfMemory> for SchemaError {
 
 /// The relations that a program knows, numbered from 0 in the order in which they were added. Contracts see
 /// their list. No two have one name, each has 1 to 32 columns, and there are at most 1,280.
-#[derive(Debug, Drop)]
+#[derive(Drop)]
 pub struct Schema {
     relations: List<Relation>,
 }

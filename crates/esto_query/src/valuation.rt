@@ -11,7 +11,7 @@ use std::alloc::Global;
 use std::marker::Model;
 
 /// The terms of some variables. Contracts see the finite map from the variables' numbers to their terms.
-#[derive(Debug, Drop)]
+#[derive(Drop)]
 pub struct Valuation {
     /// A later binding of a variable hides an earlier one.
     bindings: List<(u64, Term)>,

@@ -26,14 +26,14 @@ use esto_text::{
 use std::alloc::Global;
 
 /// A query or a view, and the name of its head.
-#[derive(Debug, Drop)]
+#[derive(Drop)]
 pub struct NamedQuery {
     pub name: Text,
     pub query: Query,
 }
 
 /// What a text is to be.
-#[derive(Clone, Copy, Debug)]
+#[derive(Clone, Copy)]
 pub enum Form {
     Query,
     /// A view, whose head has each name once.

@@ -7,7 +7,7 @@ ghost use Rattle.esto_read.specs.Words.{IsBaseOf, IsPart, IsPartOf};
 use esto_term::{List, Text};
 
 /// What a dataset is.
-#[derive(Clone, Copy, Debug, PartialEq, Eq)]
+#[derive(Clone, Copy, PartialEq, Eq)]
 pub enum DataModel {
     /// A table: one relation.
     Table,
@@ -18,7 +18,7 @@ pub enum DataModel {
 }
 
 /// A dataset's name, what it is, and the number of its first relation.
-#[derive(Debug, Drop)]
+#[derive(Drop)]
 pub struct Word {
     pub name: Text,
     pub model: DataModel,

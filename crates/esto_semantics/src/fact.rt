@@ -6,7 +6,7 @@ use std::alloc::Global;
 
 /// A relation, by its number, over a row of things of one kind: over terms it is an atom of a query or a fact
 /// of a chased instance, over values a fact of a database.
-#[derive(Debug, Drop)]
+#[derive(Drop)]
 pub struct Fact<V> {
     pub relation: usize,
     pub terms: List<V>,
@@ -22,7 +22,7 @@ pub type Atoms = List<Atom>;
 pub type Facts = List<Atom>;
 
 /// A value of a database.
-#[derive(Debug, Drop)]
+#[derive(Drop)]
 pub enum Value {
     /// A text.
     Text(Text),

@@ -44,7 +44,7 @@ pub struct Document {
 }
 
 /// Why bytes have no document.
-#[derive(Clone, Copy, Debug, PartialEq, Eq)]
+#[derive(Clone, Copy, PartialEq, Eq)]
 pub enum TomlError {
     /// They are no TOML.
     Refused,

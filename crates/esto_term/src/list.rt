@@ -15,7 +15,7 @@ impl From<AllocError> for OutOfMemory {
 }
 
 /// A list, which contracts see as the list of its items.
-#[derive(Debug, Drop)]
+#[derive(Drop)]
 pub struct List<T> {
     items: Vec<T>,
 }

@@ -14,7 +14,7 @@ use std::alloc::Global;
 use std::cmp::Ordering;
 
 /// A term, which contracts see as a tree.
-#[derive(Debug, Drop)]
+#[derive(Drop)]
 pub enum Term {
     /// A text constant.
     Const(Text),

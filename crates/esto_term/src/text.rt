@@ -20,7 +20,7 @@ pub enum TextError {
 }
 
 /// A text, which contracts see as the list of its bytes. They are UTF-8.
-#[derive(Debug, Drop)]
+#[derive(Drop)]
 pub struct Text {
     text: String,
 }
@@ -95,7 +95,7 @@ impl Replicate for Text {
 }
 
 /// Bytes, which contracts see as their list.
-#[derive(Debug, Drop)]
+#[derive(Drop)]
 pub struct Bytes {
     bytes: Vec<u8>,
 }

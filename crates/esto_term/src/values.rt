@@ -6,7 +6,7 @@ use std::alloc::Global;
 use std::marker::Model;
 
 /// A list of numbers or truth values, which contracts see as the list of its values.
-#[derive(Debug, Drop)]
+#[derive(Drop)]
 pub struct Values<T> {
     values: Vec<T>,
 }

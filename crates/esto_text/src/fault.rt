@@ -3,7 +3,7 @@ ghost use Rattle.std.specs.Prelude.{◌≡◌};
 ghost use Rattle.esto_text.specs.declared.fault.ReadError.TheVariants.{OutOfMemory};
 
 /// What is wrong with a text.
-#[derive(Clone, Copy, Debug, PartialEq, Eq)]
+#[derive(Clone, Copy, PartialEq, Eq)]
 pub enum TextKind {
     /// The bytes are not UTF-8.
     Utf8,
@@ -24,14 +24,14 @@ pub enum TextKind {
 }
 
 /// The first fault of a text, and the byte at which it stands, counted from 0.
-#[derive(Clone, Copy, Debug, PartialEq, Eq)]
+#[derive(Clone, Copy, PartialEq, Eq)]
 pub struct TextFault {
     pub offset: u64,
     pub kind: TextKind,
 }
 
 /// Why a text was not read.
-#[derive(Debug, Drop)]
+#[derive(Drop)]
 pub enum ReadError {
     /// The text has a fault.
     Fault(TextFault),

@@ -2,7 +2,7 @@
 use esto_term::List;
 
 /// What a token is.
-#[derive(Clone, Copy, Debug, PartialEq, Eq)]
+#[derive(Clone, Copy, PartialEq, Eq)]
 pub enum TokenKind {
     /// An ASCII letter, then ASCII letters, digits and `_`.
     Name,
@@ -45,7 +45,7 @@ pub enum TokenKind {
 }
 
 /// A token: the bytes of the text from `start` up to `end`, counted from 0.
-#[derive(Clone, Copy, Debug)]
+#[derive(Clone, Copy)]
 pub struct Token {
     pub kind: TokenKind,
     pub start: u64,

@@ -3,7 +3,7 @@ use crate::token::{Token, Tokens};
 use esto_term::List;
 
 /// A step of a path.
-#[derive(Clone, Copy, Debug)]
+#[derive(Clone, Copy)]
 pub enum StepSyntax {
     /// The field with this name, or with the name that this quoted constant says.
     Field(Token),
@@ -14,7 +14,7 @@ pub enum StepSyntax {
 }
 
 /// An entry of a group: a path, and what stands at its end.
-#[derive(Debug, Drop)]
+#[derive(Drop)]
 pub enum EntrySyntax {
     Value {
         path: List<StepSyntax>,
@@ -27,7 +27,7 @@ pub enum EntrySyntax {
 }
 
 /// An item of a body.
-#[derive(Debug, Drop)]
+#[derive(Drop)]
 pub enum ItemSyntax {
     /// `name(terms)`
     Atom {
@@ -48,7 +48,7 @@ pub enum ItemSyntax {
 }
 
 /// A query or a view: the name and the variables of its head, and the items of its body.
-#[derive(Debug, Drop)]
+#[derive(Drop)]
 pub struct QuerySyntax {
     pub name: Token,
     pub variables: Tokens,
@@ -56,7 +56,7 @@ pub struct QuerySyntax {
 }
 
 /// The head of a constraint.
-#[derive(Debug, Drop)]
+#[derive(Drop)]
 pub enum HeadSyntax {
     /// `item, item, ..`: the head of a tuple rule.
     Items(List<ItemSyntax>),
@@ -67,7 +67,7 @@ pub enum HeadSyntax {
 }
 
 /// A constraint: the items of its body, and its head.
-#[derive(Debug, Drop)]
+#[derive(Drop)]
 pub struct ConstraintSyntax {
     pub body: List<ItemSyntax>,
     pub head: HeadSyntax,

@@ -1,7 +1,7 @@
 //! Versions of the formats.
 
 /// A version of the formats. From version 2 on a constraint may be a denial.
-#[derive(Clone, Copy, Debug, PartialEq, Eq)]
+#[derive(Clone, Copy, PartialEq, Eq)]
 pub enum Version {
     One,
     Two,

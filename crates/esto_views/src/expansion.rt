@@ -19,7 +19,7 @@ use std::alloc::Global;
 
 /// A fact of an expansion, with the number of the plan's atom that it comes from, and its place in the body of
 /// that atom's view.
-#[derive(Debug, Drop)]
+#[derive(Drop)]
 pub struct ExpandedFact {
     pub atom: usize,
     pub place: usize,

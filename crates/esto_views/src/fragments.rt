@@ -20,7 +20,7 @@ pub type AccessList = List<Access>;
 
 /// A fragment: its name, the view whose rows it holds, in which ways it may be read, and what one use of it
 /// weighs.
-#[derive(Debug, Drop)]
+#[derive(Drop)]
 pub struct FragmentDef {
     pub name: Text,
     pub view: Query,

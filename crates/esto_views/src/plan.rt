@@ -7,7 +7,7 @@ use esto_term::{List, OutOfMemory, Replicate, Terms};
 use std::alloc::Global;
 
 /// An atom over fragments, which names its fragment by number.
-#[derive(Debug, Drop)]
+#[derive(Drop)]
 pub struct PlanAtom {
     pub fragment: usize,
     pub terms: Terms,
@@ -18,7 +18,7 @@ pub type PlanAtoms = List<PlanAtom>;
 
 /// A plan: a head of terms over atoms over fragments. The terms are constants or plain, the number of each plain
 /// one is below the length of the names, and its name stands at that place of them. The head is not empty.
-#[derive(Debug, Drop)]
+#[derive(Drop)]
 pub struct Plan {
     pub atoms: PlanAtoms,
     pub head: Terms,

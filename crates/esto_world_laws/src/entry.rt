@@ -11,14 +11,14 @@ use std::alloc::Global;
 pub type Chain = Places;
 
 /// What an entry claims: a fact, or that two terms are one.
-#[derive(Debug, Drop)]
+#[derive(Drop)]
 pub enum Claim {
     Fact(Atom),
     Same(Term, Term),
 }
 
 /// Why an entry's claim holds.
-#[derive(Debug, Drop)]
+#[derive(Drop)]
 pub enum Reason {
     /// It is the expanded fact of an atom, by the atom's number, at a place of its view's body.
     Expanded(usize, usize),
@@ -30,7 +30,7 @@ pub enum Reason {
 }
 
 /// A claim, the set of the atoms that it rests on, and its reason.
-#[derive(Debug, Drop)]
+#[derive(Drop)]
 pub struct Entry {
     pub claim: Claim,
     pub product: RowBits,
