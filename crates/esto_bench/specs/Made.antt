@@ -25,6 +25,12 @@ pub record IsMadeFragment (letter : List ℕ) (relation weight : ℕ) (fragment 
   pub access : fragment.access ≡ without_inputs relation
   pub weight_is : fragment.weight ≡ weight
 
+-- The fragment of the letter over the relation, with this weight, has come at the end.
+pub record AddsMade (letter : List ℕ) (relation weight : ℕ) (old new : List FragmentDef) : Type 0 where
+  pub fragment : FragmentDef
+  pub added : new ≡ old ++ fragment ∷ []
+  pub made : IsMadeFragment letter relation weight fragment
+
 -- Both fragments of the relation have come at the end.
 pub record AddsBoth (relation : ℕ) (old new : List FragmentDef) : Type 0 where
   pub first : FragmentDef

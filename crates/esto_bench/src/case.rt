@@ -131,6 +131,40 @@ fn summary_of_plan(
     })
 }
 
+// The summary of the plan of the made query.
+fn summary_of_query(
+    alloc: Global,
+    size: usize,
+    catalogue: &Catalogue,
+    query: &Query,
+) -> Result<Summary, OutOfMemory>
+    requires some { 0 < size }
+    requires few { size ≤ MAX_SIZE }
+    requires catalogue { IsMadeCatalogue size catalogue.now }
+    requires query { IsMadeQuery size query.now }
+    ensures { IfOk result (IsSummaryOfCase size) }
+{
+    match universal(alloc, query, catalogue)? {
+        Left(plan) => {
+            let summary = summary_of_plan(alloc, size, catalogue, query, &plan)?;
+            Ok(summary)
+        }
+        Right(_) => unreachable!(),
+    }
+}
+
+// The summary of the made case over the made catalogue.
+fn summary_over(alloc: Global, size: usize, catalogue: &Catalogue) -> Result<Summary, OutOfMemory>
+    requires some { 0 < size }
+    requires few { size ≤ MAX_SIZE }
+    requires catalogue { IsMadeCatalogue size catalogue.now }
+    ensures { IfOk result (IsSummaryOfCase size) }
+{
+    let query = made_query(alloc, size)?;
+    let summary = summary_of_query(alloc, size, catalogue, &query)?;
+    Ok(summary)
+}
+
 /// The summary of the made case of this size, 1 to `MAX_SIZE`: the query is planned and listed, and the pick is run over
 /// the made rows.
 pub fn bench(alloc: Global, size: usize) -> Result<Summary, OutOfMemory>
@@ -139,12 +173,6 @@ pub fn bench(alloc: Global, size: usize) -> Result<Summary, OutOfMemory>
     ensures { IfOk result (IsSummaryOfCase size) }
 {
     let catalogue = made_catalogue(alloc, size)?;
-    let query = made_query(alloc, size)?;
-    match universal(alloc, &query, &catalogue)? {
-        Left(plan) => {
-            let summary = summary_of_plan(alloc, size, &catalogue, &query, &plan)?;
-            Ok(summary)
-        }
-        Right(_) => unreachable!(),
-    }
+    let summary = summary_over(alloc, size, &catalogue)?;
+    Ok(summary)
 }

@@ -1,5 +1,7 @@
 //! The catalogue of the made case.
 ghost use Rattle.std.specs.Prelude.{◌≡◌, ◌<◌, ◌≤◌, ◌++◌, ◌∷◌, [], map, length, codes, Contains, IfOk, OnOk};
+ghost use Rattle.esto_acyclic.specs.Graphs.{AreRanks};
+ghost use Rattle.esto_acyclic.specs.Relations.{IsEdge};
 ghost use Rattle.esto_catalog.specs.Datasets.{words_of};
 ghost use Rattle.esto_query.specs.Schemas.{names_of};
 ghost use Rattle.esto_bench.specs.Case.{IsMadeCatalogue, below, made_dataset, made_datasets, made_relation, made_schema, numbered};
@@ -7,7 +9,7 @@ ghost use Rattle.esto_bench.specs.Case.{IsMadeCatalogue, below, made_dataset, ma
 use crate::case::MAX_SIZE;
 use crate::fragments::{made_columns, made_fragments, made_stores, numbered};
 use either::{Left, Right};
-use esto_acyclic::judge;
+use esto_acyclic::{Ranks, judge};
 use esto_catalog::{Catalogue, Dataset, Datasets};
 use esto_docs::Layout;
 use esto_query::{MAX_RELATIONS, Schema, SchemaError};
@@ -95,31 +97,40 @@ fn words_of(alloc: Global, datasets: &[Dataset]) -> Result<Vocabulary, OutOfMemo
     Ok(words)
 }
 
+// The ranks of the schema's relations under no rules, which make no cycle.
+fn ranks_of(alloc: Global, schema: &Schema) -> Result<Ranks, OutOfMemory>
+    ensures { IfOk result (AreRanks (IsEdge []) (length schema.now)) }
+{
+    let rules = List::new(alloc);
+    match judge(alloc, schema, &rules)? {
+        Left(ranks) => Ok(ranks),
+        Right(_) => unreachable!(),
+    }
+}
+
 /// The catalogue of the made case of this size, at most `MAX_SIZE`.
 pub fn made_catalogue(alloc: Global, size: usize) -> Result<Catalogue, OutOfMemory>
     requires { size ≤ MAX_SIZE }
     ensures { IfOk result (IsMadeCatalogue size) }
 {
     let schema = made_schema(alloc, size)?;
-    let datasets = made_datasets(alloc, size)?;
-    let words = words_of(alloc, datasets.items())?;
-    let fragments = made_fragments(alloc, size)?;
-    let stores = made_stores(alloc, size)?;
-    let rules = List::new(alloc);
     // the count is read so that the relations are known to be those of a schema
     let _count = schema.len();
-    match judge(alloc, &schema, &rules)? {
-        Left(ranks) => Ok(Catalogue {
-            schema,
-            words,
-            datasets,
-            fragments,
-            stores,
-            rules,
-            given: 0,
-            ranks,
-            core: false,
-        }),
-        Right(_) => unreachable!(),
-    }
+    let ranks = ranks_of(alloc, &schema)?;
+    let datasets = made_datasets(alloc, size)?;
+    let words = words_of(alloc, datasets.items())?;
+    let stores = made_stores(alloc, size)?;
+    let fragments = made_fragments(alloc, size)?;
+    let rules = List::new(alloc);
+    Ok(Catalogue {
+        schema,
+        words,
+        datasets,
+        fragments,
+        stores,
+        rules,
+        given: 0,
+        ranks,
+        core: false,
+    })
 }

@@ -3,7 +3,7 @@ ghost use Rattle.std.specs.Prelude.{◌≡◌, ◌++◌, ◌∷◌, [], ℕ, cod
 ghost use Rattle.esto_query.specs.Making.{query_of};
 ghost use Rattle.esto_term.specs.declared.term.Term.TheVariants.{Plain};
 ghost use Rattle.esto_bench.specs.Case.{made_columns, made_store, made_stores, made_view, numbered, without_inputs};
-ghost use Rattle.esto_bench.specs.Made.{AddsBoth, AreMadeFragments, IsMadeFragment};
+ghost use Rattle.esto_bench.specs.Made.{AddsBoth, AddsMade, AreMadeFragments, IsMadeFragment};
 
 use esto_catalog::{Shape, Store, Stores};
 use esto_query::{Name, Names, Query};
@@ -108,14 +108,27 @@ fn fragment_of(
     })
 }
 
+// Puts the fragment of the letter over the relation at the end.
+fn push_fragment(
+    alloc: Global,
+    fragments: &mut FragmentDefs,
+    letter: &str,
+    relation: usize,
+    weight: u64,
+) -> Result<(), OutOfMemory>
+    ensures { OnOk result (AddsMade letter.now relation weight fragments.old fragments.new) }
+{
+    let fragment = fragment_of(alloc, letter, relation, weight)?;
+    fragments.push(fragment)?;
+    Ok(())
+}
+
 // Puts both fragments of the relation at the end.
 fn add_both(alloc: Global, fragments: &mut FragmentDefs, relation: usize) -> Result<(), OutOfMemory>
     ensures { OnOk result (AddsBoth relation fragments.old fragments.new) }
 {
-    let first = fragment_of(alloc, "A", relation, 1)?;
-    let second = fragment_of(alloc, "B", relation, 2)?;
-    fragments.push(first)?;
-    fragments.push(second)?;
+    push_fragment(alloc, fragments, "A", relation, 1)?;
+    push_fragment(alloc, fragments, "B", relation, 2)?;
     Ok(())
 }
 

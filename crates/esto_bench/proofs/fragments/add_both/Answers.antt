@@ -5,13 +5,13 @@ use Rattle.esto_bench.proofs.fragments.add_both.Goals as goal
 
 pub returns : goal.returns
 returns c =
-    let first = c.in_ok-first.first in
-    let second = c.in_ok-second.second in
+    let first = c.in_ok-push_fragment.ensures in
+    let second = c.in_ok-push_fragment-2.ensures in
     record {
-      first = first;
-      second = second;
-      added = c.in_ok-push-2.ensures.ok ∙ ap (λ (it : List FragmentDef). it ++ second ∷ []) c.in_ok-push.ensures.ok
-          ∙ append_assoc c.args.fragments.now (first ∷ []) (second ∷ []);
-      is_first = c.in_ok-first.ensures;
-      is_second = c.in_ok-second.ensures;
+      first = first.fragment;
+      second = second.fragment;
+      added = second.added ∙ ap (λ (it : List FragmentDef). it ++ second.fragment ∷ []) first.added
+          ∙ append_assoc c.args.fragments.now (first.fragment ∷ []) (second.fragment ∷ []);
+      is_first = first.made;
+      is_second = second.made;
     }
