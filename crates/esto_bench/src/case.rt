@@ -145,10 +145,7 @@ fn summary_of_query(
     ensures { IfOk result (IsSummaryOfCase size) }
 {
     match universal(alloc, query, catalogue)? {
-        Left(plan) => {
-            let summary = summary_of_plan(alloc, size, catalogue, query, &plan)?;
-            Ok(summary)
-        }
+        Left(plan) => summary_of_plan(alloc, size, catalogue, query, &plan),
         Right(_) => unreachable!(),
     }
 }
@@ -161,8 +158,7 @@ fn summary_over(alloc: Global, size: usize, catalogue: &Catalogue) -> Result<Sum
     ensures { IfOk result (IsSummaryOfCase size) }
 {
     let query = made_query(alloc, size)?;
-    let summary = summary_of_query(alloc, size, catalogue, &query)?;
-    Ok(summary)
+    summary_of_query(alloc, size, catalogue, &query)
 }
 
 /// The summary of the made case of this size, 1 to `MAX_SIZE`: the query is planned and listed, and the pick is run over
@@ -173,6 +169,5 @@ pub fn bench(alloc: Global, size: usize) -> Result<Summary, OutOfMemory>
     ensures { IfOk result (IsSummaryOfCase size) }
 {
     let catalogue = made_catalogue(alloc, size)?;
-    let summary = summary_over(alloc, size, &catalogue)?;
-    Ok(summary)
+    summary_over(alloc, size, &catalogue)
 }
