@@ -1,5 +1,5 @@
 -- What `verify` asks of the shelf.
-use Rattle.std.proofs.Common.{◌≡◌, ℕ, Bool, List, Option, Result, Ok, Err, refl, subst, ◌∙◌}
+use Rattle.std.proofs.Common.{◌≡◌, ℕ, Bool, List, Option, Result, Ok, Err, refl, subst}
 use Rattle.esto_catalog.specs.declared.catalogue.Catalogue.{Catalogue}
 use Rattle.esto_course.specs.Course.{Names, gives}
 use Rattle.esto_course.proofs.Asking.{quiet_gives, quiet_judges}
@@ -9,12 +9,12 @@ use Rattle.esto_query.specs.declared.query.Query.{Query}
 use Rattle.esto_views.specs.declared.plan.Plan.{Plan}
 use Rattle.esto_opening.specs.Answers.{Answers}
 use Rattle.esto_opening.specs.Asked.{AsksIn}
-use Rattle.esto_opening.specs.Opening.{opens_catalogue, opens_query}
+use Rattle.esto_opening.specs.Opening.{opens_query}
 use Rattle.esto_opening.specs.declared.reply.Reply.TheVariants.{Done}
 use Rattle.esto_opening.specs.declared.status.Status.{Status}
 use Rattle.esto_opening.proofs.AskedSteps.{exit_asks, later_asks, quiet_asks}
 use Rattle.esto_planning.specs.Planning.{plans_query}
-use Rattle.esto_certify.specs.Verify.{names_set, verifies_query, verifies_set, verify_course}
+use Rattle.esto_certify.specs.Verify.{names_set, verifies_query, verifies_read, verifies_set}
 
 -- ---- the query
 
@@ -38,31 +38,19 @@ module _ (files : Option Files) (numbers file : List ℕ) (catalogue : Catalogue
 
 -- ---- the whole
 
-module _ (files read_files query_files : Option Files) (same : read_files ≡ files) (same_too : query_files ≡ read_files)
-    (catalogue_name query_name numbers file : List ℕ) (catalogue : Catalogue) {old mid : Option Names}
-    (opened : AsksIn old mid (opens_catalogue files catalogue_name) (Ok catalogue)) where
-  -- the query is not read
-  pub query_exit_asks : {new : Option Names} (refusal : Status) → AsksIn mid new (opens_query read_files query_name catalogue) (Err refusal)
-      → AsksIn old new (verify_course files catalogue_name query_name numbers file) (Err refusal)
-  query_exit_asks {new = new} refusal asked =
-      later_asks _ _ opened (exit_asks _ _
-      (subst (λ (it : Option Files). AsksIn mid new (opens_query it query_name catalogue) (Err refusal)) same asked))
+module _ (files read_files : Option Files) (same : read_files ≡ files) (query_name numbers file : List ℕ) (catalogue : Catalogue) (query : Query)
+    {old mid : Option Names} (read : AsksIn old mid (opens_query files query_name catalogue) (Ok query)) where
+  -- the certificate is not verified
+  pub text_exit_asks : {new : Option Names} (refusal : Status) → AsksIn mid new (verifies_query read_files numbers file catalogue query) (Err refusal)
+      → AsksIn old new (verifies_read files query_name numbers file catalogue) (Err refusal)
+  text_exit_asks {new = new} refusal asked =
+      later_asks _ _ read (exit_asks _ _
+      (subst (λ (it : Option Files). AsksIn mid new (verifies_query it numbers file catalogue query) (Err refusal)) same asked))
 
-  module _ (query : Query) {last : Option Names} (read : AsksIn mid last (opens_query read_files query_name catalogue) (Ok query)) where
-    read_asks : AsksIn mid last (opens_query files query_name catalogue) (Ok query)
-    read_asks = subst (λ (it : Option Files). AsksIn mid last (opens_query it query_name catalogue) (Ok query)) same read
-
-    -- the certificate is not verified
-    pub text_exit_asks : {new : Option Names} (refusal : Status) → AsksIn last new (verifies_query query_files numbers file catalogue query) (Err refusal)
-        → AsksIn old new (verify_course files catalogue_name query_name numbers file) (Err refusal)
-    text_exit_asks {new = new} refusal asked =
-        later_asks _ _ opened (later_asks _ _ read_asks (exit_asks _ _
-        (subst (λ (it : Option Files). AsksIn last new (verifies_query it numbers file catalogue query) (Err refusal)) (same_too ∙ same) asked)))
-
-    -- it is
-    pub text_asks : {new : Option Names} (text : List ℕ) → AsksIn last new (verifies_query query_files numbers file catalogue query) (Ok text)
-        → AsksIn old new (verify_course files catalogue_name query_name numbers file) (Ok (Done text))
-    text_asks {new = new} text asked =
-        later_asks _ _ opened (later_asks _ _ read_asks (later_asks _ _
-        (subst (λ (it : Option Files). AsksIn last new (verifies_query it numbers file catalogue query) (Ok text)) (same_too ∙ same) asked)
-        (quiet_asks (gives (Done text)) new (Ok (Done text)) (quiet_gives Status (Done text)) (gives_goes Status (Done text) (Done text) refl))))
+  -- it is
+  pub text_asks : {new : Option Names} (text : List ℕ) → AsksIn mid new (verifies_query read_files numbers file catalogue query) (Ok text)
+      → AsksIn old new (verifies_read files query_name numbers file catalogue) (Ok (Done text))
+  text_asks {new = new} text asked =
+      later_asks _ _ read (later_asks _ _
+      (subst (λ (it : Option Files). AsksIn mid new (verifies_query it numbers file catalogue query) (Ok text)) same asked)
+      (quiet_asks (gives (Done text)) new (Ok (Done text)) (quiet_gives Status (Done text)) (gives_goes Status (Done text) (Done text) refl)))

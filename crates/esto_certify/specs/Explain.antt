@@ -29,6 +29,13 @@ explains_plan catalogue query number plan =
 abbrev pub explains_query : ℕ → Catalogue → Query → Course Status (List ℕ)
 explains_query number catalogue query = and_then (plans_query catalogue query) (λ plan. explains_plan catalogue query number plan)
 
+-- The query is fetched and read, and a certificate is written.
+abbrev pub explains_read : Option Files → List ℕ → ℕ → Catalogue → Course Status Reply
+explains_read files query_name number catalogue =
+    and_then (opens_query files query_name catalogue) (λ query.
+    and_then (explains_query number catalogue query) (λ text.
+    gives (Done text)))
+
 -- The catalogue is fetched and read, then the query, and a certificate is written.
 abbrev pub explain_course : Option Files → List ℕ → List ℕ → ℕ → Course Status Reply
 explain_course files catalogue_name query_name number =

@@ -61,6 +61,13 @@ verifies_query files numbers file catalogue query =
     and_then (names_set plan numbers) (λ set.
     verifies_set files catalogue query plan file set))
 
+-- The query is fetched and read, and the certificate is verified.
+abbrev pub verifies_read : Option Files → List ℕ → List ℕ → List ℕ → Catalogue → Course Status Reply
+verifies_read files query_name numbers file catalogue =
+    and_then (opens_query files query_name catalogue) (λ query.
+    and_then (verifies_query files numbers file catalogue query) (λ text.
+    gives (Done text)))
+
 -- The catalogue is fetched and read, then the query, and the certificate is verified.
 abbrev pub verify_course : Option Files → List ℕ → List ℕ → List ℕ → List ℕ → Course Status Reply
 verify_course files catalogue_name query_name numbers file =

@@ -5,7 +5,7 @@ ghost use Rattle.esto_opening.specs.Answers.{Answers};
 ghost use Rattle.esto_opening.specs.Asked.{AsksIn};
 ghost use Rattle.esto_planning.specs.Choice.{IsItemOf};
 ghost use Rattle.esto_planning.specs.Listing.{IsPlanned};
-ghost use Rattle.esto_certify.specs.Explain.{explains_plan, explains_query, explain_course};
+ghost use Rattle.esto_certify.specs.Explain.{explains_plan, explains_query, explain_course, explains_read};
 ghost use Rattle.esto_certify.specs.Verify.{HasVerdict};
 
 use esto_backchase::entries_of;
@@ -76,6 +76,27 @@ fn explain_query(
     Ok(text)
 }
 
+// Fetches and reads the query, and writes a certificate for the set of the number in its list.
+#[tactic(auto, using(crate::proofs::Steps::steps, crate::proofs::Steps::asked_steps))]
+fn explain_read<S: Shelf>(
+    alloc: Global,
+    shelf: &mut S,
+    catalogue: &Catalogue,
+    query: &Text,
+    number: u64,
+) -> Result<Reply, Status>
+    ensures answer { Answers (explains_read (S.files shelf.old) query.now number catalogue.now)
+        (Rises S.faults shelf.old shelf.new) result }
+    ensures asked { AsksIn (S.asked shelf.old) (S.asked shelf.new)
+        (explains_read (S.files shelf.old) query.now number catalogue.now) result }
+    ensures files { S.files shelf.new ≡ S.files shelf.old }
+    ensures later { S.faults shelf.old ≤ S.faults shelf.new }
+{
+    let query = open_query(alloc, shelf, query, catalogue)?;
+    let text = explain_query(alloc, &query, catalogue, number)?;
+    Ok(Reply::Done(text))
+}
+
 /// Fetches and reads the catalogue, then the query, makes the query's printed plan and its list, and writes a certificate
 /// that the candidate of the set of the number, counted from 1, is contained in the query.
 #[tactic(auto, using(crate::proofs::Steps::steps, crate::proofs::Steps::asked_steps))]
@@ -94,7 +115,5 @@ pub fn explain<S: Shelf>(
     ensures later { S.faults shelf.old ≤ S.faults shelf.new }
 {
     let catalogue = open_catalogue(alloc, shelf, catalogue)?;
-    let query = open_query(alloc, shelf, query, &catalogue)?;
-    let text = explain_query(alloc, &query, &catalogue, number)?;
-    Ok(Reply::Done(text))
+    explain_read(alloc, shelf, &catalogue, query, number)
 }

@@ -5,7 +5,7 @@ ghost use Rattle.esto_semantics.specs.Sets.{Has};
 ghost use Rattle.esto_opening.specs.Answers.{Answers};
 ghost use Rattle.esto_opening.specs.Asked.{AsksIn};
 ghost use Rattle.esto_planning.specs.Listing.{IsPlanned};
-ghost use Rattle.esto_certify.specs.Verify.{judges_certificate, names_set, verifies_query, verifies_set, verify_course};
+ghost use Rattle.esto_certify.specs.Verify.{judges_certificate, names_set, verifies_query, verifies_read, verifies_set, verify_course};
 
 use esto_bits::RowBits;
 use esto_catalog::Catalogue;
@@ -123,6 +123,28 @@ fn verify_query<S: Shelf>(
     Ok(text)
 }
 
+// Fetches and reads the query, and verifies the certificate for the set of its plan's atoms of these numbers.
+#[tactic(auto, using(crate::proofs::Steps::steps, crate::proofs::Steps::asked_steps))]
+fn verify_read<S: Shelf>(
+    alloc: Global,
+    shelf: &mut S,
+    catalogue: &Catalogue,
+    query: &Text,
+    numbers: &[u64],
+    file: &Text,
+) -> Result<Reply, Status>
+    ensures answer { Answers (verifies_read (S.files shelf.old) query.now numbers.now file.now catalogue.now)
+        (Rises S.faults shelf.old shelf.new) result }
+    ensures asked { AsksIn (S.asked shelf.old) (S.asked shelf.new)
+        (verifies_read (S.files shelf.old) query.now numbers.now file.now catalogue.now) result }
+    ensures files { S.files shelf.new ≡ S.files shelf.old }
+    ensures later { S.faults shelf.old ≤ S.faults shelf.new }
+{
+    let query = open_query(alloc, shelf, query, catalogue)?;
+    let text = verify_query(alloc, shelf, &query, catalogue, numbers, file)?;
+    Ok(Reply::Done(text))
+}
+
 /// Fetches and reads the catalogue, then the query, makes the query's printed plan and the set of its atoms of these
 /// numbers, counted from 1, and then fetches the certificate and checks it for the set, which need not be listed. It says
 /// that the certificate is accepted, or refuses it with the first line that is not so.
@@ -143,7 +165,5 @@ pub fn verify<S: Shelf>(
     ensures later { S.faults shelf.old ≤ S.faults shelf.new }
 {
     let catalogue = open_catalogue(alloc, shelf, catalogue)?;
-    let query = open_query(alloc, shelf, query, &catalogue)?;
-    let text = verify_query(alloc, shelf, &query, &catalogue, numbers, file)?;
-    Ok(Reply::Done(text))
+    verify_read(alloc, shelf, &catalogue, query, numbers, file)
 }

@@ -1,24 +1,21 @@
-use Rattle.esto_opening.proofs.AskedSteps.{handed_asks}
-use Rattle.esto_certify.proofs.AskedLemmas.{query_exit_asks, text_asks, text_exit_asks}
+use Rattle.esto_course.proofs.Steps.{at_exit, first_stops}
+use Rattle.esto_opening.proofs.AskedSteps.{exit_asks, handed_asks, later_asks}
+use Rattle.esto_certify.proofs.CourseLemmas.{then_answers}
 use Rattle.esto_certify.proofs.verifying.verify.Goals as goal
 
-pub returns-in_err-query-clause-asked : goal.returns-in_err-query-clause-asked
-returns-in_err-query-clause-asked g c =
-    handed_asks _ _ _ c.from_residual-in_err-query.ensures.1
-    (query_exit_asks (g.S.Shelf.files c.args.shelf.now) (g.S.Shelf.files c.open_catalogue.new.shelf) (g.S.Shelf.files c.open_query.new.shelf)
-    c.in_ok-catalogue.ensures.files c.in_err-query.ensures.files c.args.catalogue.now c.args.query.now c.args.numbers.now c.args.file.now
-    c.in_ok-catalogue.catalogue c.in_ok-catalogue.ensures.asked _ c.in_err-query.ensures.asked)
+pub returns-in_err-catalogue-clause-answer : goal.returns-in_err-catalogue-clause-answer
+returns-in_err-catalogue-clause-answer g c = at_exit _ _ c.from_residual.result c.from_residual.ensures.1 (first_stops _ _ c.in_err-catalogue.ensures.answer)
 
-pub returns-in_err-text-clause-asked : goal.returns-in_err-text-clause-asked
-returns-in_err-text-clause-asked g c =
-    handed_asks _ _ _ c.from_residual-in_err-text.ensures.1
-    (text_exit_asks (g.S.Shelf.files c.args.shelf.now) (g.S.Shelf.files c.open_catalogue.new.shelf) (g.S.Shelf.files c.open_query.new.shelf)
-    c.in_ok-catalogue.ensures.files c.in_ok-query.ensures.files c.args.catalogue.now c.args.query.now c.args.numbers.now c.args.file.now
-    c.in_ok-catalogue.catalogue c.in_ok-catalogue.ensures.asked c.in_ok-query.query c.in_ok-query.ensures.asked _ c.in_err-text.ensures.asked)
+pub returns-in_err-catalogue-clause-asked : goal.returns-in_err-catalogue-clause-asked
+returns-in_err-catalogue-clause-asked g c = handed_asks _ _ _ c.from_residual.ensures.1 (exit_asks _ _ c.in_err-catalogue.ensures.asked)
+
+pub returns-clause-answer : goal.returns-clause-answer
+returns-clause-answer g c =
+    let answer = rw c.in_ok-catalogue.ensures.files at c.verify_read.ensures.answer in
+    then_answers _ _ _ _ _ c.in_ok-catalogue.catalogue c.verify_read.result c.in_ok-catalogue.ensures.answer c.in_ok-catalogue.ensures.later
+    c.verify_read.ensures.later answer
 
 pub returns-clause-asked : goal.returns-clause-asked
 returns-clause-asked g c =
-    text_asks (g.S.Shelf.files c.args.shelf.now) (g.S.Shelf.files c.open_catalogue.new.shelf) (g.S.Shelf.files c.open_query.new.shelf)
-    c.in_ok-catalogue.ensures.files c.in_ok-query.ensures.files c.args.catalogue.now c.args.query.now c.args.numbers.now c.args.file.now
-    c.in_ok-catalogue.catalogue c.in_ok-catalogue.ensures.asked c.in_ok-query.query c.in_ok-query.ensures.asked c.in_ok-text.text
-    c.in_ok-text.ensures.asked
+    let asked = rw c.in_ok-catalogue.ensures.files at c.verify_read.ensures.asked in
+    later_asks _ _ c.in_ok-catalogue.ensures.asked asked
