@@ -1,42 +1,56 @@
--- The courses of the commands stop where their texts are not made.
-use Rattle.std.proofs.Common.{◌≡◌, ℕ, List, Option, subst}
+-- The courses of the commands, a step at a time.
+use Rattle.std.proofs.Common.{◌≤◌, ℕ, List, Option, Result, Ok, Err, refl, arith}
 use Rattle.esto_catalog.specs.declared.catalogue.Catalogue.{Catalogue}
-use Rattle.esto_course.specs.Course.{IsQuiet, Stops, gives, and_then}
-use Rattle.esto_course.proofs.Asking.{quiet_demands, quiet_judges, quiet_then}
-use Rattle.esto_course.proofs.Steps.{then_stops}
-use Rattle.esto_ports.specs.Files.{Files}
+use Rattle.esto_course.specs.Course.{Course, IsQuiet, Names, Stops, gives, and_then}
+use Rattle.esto_course.proofs.Asking.{quiet_demands, quiet_gives, quiet_judges, quiet_then}
+use Rattle.esto_course.proofs.Steps.{gives_goes, then_goes, then_stops}
+use Rattle.esto_ports.specs.Faults.{Rose}
 use Rattle.esto_query.specs.declared.query.Query.{Query}
-use Rattle.esto_opening.specs.Answers.{IsWant, IsCaused}
-use Rattle.esto_opening.specs.Opening.{opens_catalogue, opens_query}
+use Rattle.esto_opening.specs.Answers.{Answers, IsWant, IsCaused}
+use Rattle.esto_opening.specs.Asked.{AsksIn}
+use Rattle.esto_opening.specs.declared.reply.Reply.{Reply}
 use Rattle.esto_opening.specs.declared.reply.Reply.TheVariants.{Done}
 use Rattle.esto_opening.specs.declared.status.Status.{Status}
-use Rattle.esto_opening.proofs.Steps.{still_stops}
-use Rattle.esto_reasoning.specs.Contains.{compares, contains_course, have_one_length, prints_told, tells_contained}
-use Rattle.esto_reasoning.specs.Minimise.{minimise_course, minimises, minimises_query, prints_minimal}
+use Rattle.esto_opening.proofs.AskedSteps.{exit_asks, later_asks, quiet_asks}
+use Rattle.esto_opening.proofs.Steps.{end_stops, still_stops}
+use Rattle.esto_reasoning.specs.Contains.{compares, have_one_length, prints_told, tells_contained}
+use Rattle.esto_reasoning.specs.Minimise.{minimises, minimises_query, prints_minimal}
 
-pub minimal_stops : {rose : Type 0} {refusal : Status} (files read_files : Option Files) → read_files ≡ files → (catalogue_name query_name : List ℕ)
-    (catalogue : Catalogue) → (opens_catalogue files catalogue_name).goes catalogue → (query : Query)
-    → (opens_query read_files query_name catalogue).goes query → Stops IsWant (IsCaused ⊥) (minimises catalogue query) refusal
-    → Stops IsWant (IsCaused rose) (minimise_course files catalogue_name query_name) refusal
-minimal_stops files read_files same catalogue_name query_name catalogue read query read_too stops =
-    then_stops (opens_catalogue files catalogue_name) _ catalogue read
-    (then_stops (opens_query files query_name catalogue) (λ it. and_then (minimises catalogue it) (λ text. gives (Done text))) query
-    (subst (λ (it : Option Files). (opens_query it query_name catalogue).goes query) same read_too)
-    (still_stops (minimises catalogue query) (λ text. gives (Done text)) stops))
+-- the first step goes on, and what follows answers
+pub then_answers : {A B : Type 0} (first : Course Status A) (next : A → Course Status B) (before mid now : ℕ) (value : A) (result : Result B Status)
+    → first.goes value → before ≤ mid → mid ≤ now → Answers (next value) (Rose mid now) result → Answers (and_then first next) (Rose before now) result
+then_answers first next before mid now value (Ok reply) goes early late answer = then_goes first next value reply goes answer
+then_answers first next before mid now value (Err status) goes early late stops =
+    then_stops first next value goes (end_stops before mid now now stops early late (omega arith))
 
-pub compared_stops : {rose : Type 0} {refusal : Status} (files left_files right_files : Option Files) → left_files ≡ files → right_files ≡ files
-    → (catalogue_name left_name right_name : List ℕ) (catalogue : Catalogue) → (opens_catalogue files catalogue_name).goes catalogue
-    → (left : Query) → (opens_query left_files left_name catalogue).goes left → (right : Query) → (opens_query right_files right_name catalogue).goes right
-    → Stops IsWant (IsCaused ⊥) (compares catalogue left right) refusal
-    → Stops IsWant (IsCaused rose) (contains_course files catalogue_name left_name right_name) refusal
-compared_stops files left_files right_files same same_too catalogue_name left_name right_name catalogue read left read_left right read_right stops =
-    then_stops (opens_catalogue files catalogue_name) _ catalogue read
-    (then_stops (opens_query files left_name catalogue)
-    (λ it. and_then (opens_query files right_name catalogue) (λ other. and_then (compares catalogue it other) (λ text. gives (Done text)))) left
-    (subst (λ (it : Option Files). (opens_query it left_name catalogue).goes left) same read_left)
-    (then_stops (opens_query files right_name catalogue) (λ other. and_then (compares catalogue left other) (λ text. gives (Done text))) right
-    (subst (λ (it : Option Files). (opens_query it right_name catalogue).goes right) same_too read_right)
-    (still_stops (compares catalogue left right) (λ text. gives (Done text)) stops)))
+-- a first step, and a text of its value, which is the reply
+module _ {A : Type 0} (first : Course Status A) (texts : A → Course Status (List ℕ)) where
+  abbrev reply : List ℕ → Course Status Reply
+  reply text = gives (Done text)
+
+  abbrev replies : A → Course Status Reply
+  replies value = and_then (texts value) reply
+
+  pub text_stops : {rose : Type 0} {refusal : Status} (value : A) → first.goes value → Stops IsWant (IsCaused ⊥) (texts value) refusal
+      → Stops IsWant (IsCaused rose) (and_then first replies) refusal
+  text_stops value goes stops = then_stops first replies value goes (still_stops (texts value) reply stops)
+
+  pub text_goes : (value : A) (text : List ℕ) → first.goes value → (texts value).goes text → (and_then first replies).goes (Done text)
+  text_goes value text goes is =
+      then_goes first replies value (Done text) goes
+      (then_goes (texts value) reply text (Done text) is (gives_goes Status (Done text) (Done text) refl))
+
+  pub stop_asks : {old new : Option Names} {refusal : Status} (value : A) → AsksIn old new first (Ok value) → IsQuiet (texts value)
+      → Stops IsWant (IsCaused ⊥) (texts value) refusal → AsksIn old new (and_then first replies) (Err refusal)
+  stop_asks {new = new} {refusal = refusal} value asked quiet stops =
+      later_asks first replies asked (exit_asks (texts value) reply (quiet_asks (texts value) new (Err refusal) quiet stops))
+
+  pub text_asks : {old new : Option Names} (value : A) (text : List ℕ) → AsksIn old new first (Ok value) → IsQuiet (texts value)
+      → (texts value).goes text → AsksIn old new (and_then first replies) (Ok (Done text))
+  text_asks {new = new} value text asked quiet goes =
+      later_asks first replies asked
+      (later_asks (texts value) reply (quiet_asks (texts value) new (Ok text) quiet goes)
+      (quiet_asks (reply text) new (Ok (Done text)) (quiet_gives Status (Done text)) (gives_goes Status (Done text) (Done text) refl)))
 
 -- what is told of queries asks for nothing
 pub compares_quiet : (catalogue : Catalogue) (left right : Query) → IsQuiet (compares catalogue left right)

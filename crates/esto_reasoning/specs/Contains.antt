@@ -51,6 +51,18 @@ compares catalogue left right =
     and_then (have_one_length left right) (λ _.
     and_then (tells_contained catalogue left right) (prints_told catalogue left))
 
+-- The right query is fetched and read, and the text of what is told of the left one and of it is the reply.
+abbrev pub compares_right : Option Files → List ℕ → Catalogue → Query → Course Status Reply
+compares_right files right_name catalogue left =
+    and_then (opens_query files right_name catalogue) (λ right.
+    and_then (compares catalogue left right) (λ text.
+    gives (Done text)))
+
+-- The left query is fetched and read, then the right one, and the text of what is told of them is the reply.
+abbrev pub compares_both : Option Files → List ℕ → List ℕ → Catalogue → Course Status Reply
+compares_both files left_name right_name catalogue =
+    and_then (opens_query files left_name catalogue) (compares_right files right_name catalogue)
+
 -- The catalogue is fetched and read, then the left query, then the right one, and the text of what is told of them is the reply.
 abbrev pub contains_course : Option Files → List ℕ → List ℕ → List ℕ → Course Status Reply
 contains_course files catalogue_name left_name right_name =

@@ -48,6 +48,13 @@ prints_minimal catalogue query minimal = judges (IsMinimalText (rules_of catalog
 abbrev pub minimises : Catalogue → Query → Course Status (List ℕ)
 minimises catalogue query = and_then (minimises_query catalogue query) (prints_minimal catalogue query)
 
+-- The query is fetched and read, and the text of what it is minimised to is the reply.
+abbrev pub minimises_read : Option Files → List ℕ → Catalogue → Course Status Reply
+minimises_read files query_name catalogue =
+    and_then (opens_query files query_name catalogue) (λ query.
+    and_then (minimises catalogue query) (λ text.
+    gives (Done text)))
+
 -- The catalogue is fetched and read, then the query, and the text of what it is minimised to is the reply.
 abbrev pub minimise_course : Option Files → List ℕ → List ℕ → Course Status Reply
 minimise_course files catalogue_name query_name =

@@ -6,7 +6,7 @@ ghost use Rattle.esto_opening.specs.Asked.{AsksIn};
 ghost use Rattle.esto_ports.specs.Faults.{Rises};
 ghost use Rattle.esto_query.specs.Making.{query_of};
 ghost use Rattle.esto_query.specs.Schemas.{names_of};
-ghost use Rattle.esto_reasoning.specs.Minimise.{IsMinimalText, IsMinimisedTo, minimise_course, minimises, minimises_query, prints_minimal};
+ghost use Rattle.esto_reasoning.specs.Minimise.{IsMinimalText, IsMinimisedTo, minimise_course, minimises, minimises_query, minimises_read, prints_minimal};
 
 use crate::printing::minimal_text;
 use either::{Left, Right};
@@ -76,6 +76,26 @@ fn minimised(alloc: Global, query: &Query, catalogue: &Catalogue) -> Result<Byte
     Ok(text)
 }
 
+// Fetches and reads the query, and prints what it is minimised to.
+#[tactic(auto, using(crate::proofs::Steps::steps, crate::proofs::Steps::asked_steps))]
+fn minimise_read<S: Shelf>(
+    alloc: Global,
+    shelf: &mut S,
+    catalogue: &Catalogue,
+    query: &Text,
+) -> Result<Reply, Status>
+    ensures answer { Answers (minimises_read (S.files shelf.old) query.now catalogue.now)
+        (Rises S.faults shelf.old shelf.new) result }
+    ensures asked { AsksIn (S.asked shelf.old) (S.asked shelf.new)
+        (minimises_read (S.files shelf.old) query.now catalogue.now) result }
+    ensures files { S.files shelf.new ≡ S.files shelf.old }
+    ensures later { S.faults shelf.old ≤ S.faults shelf.new }
+{
+    let query = open_query(alloc, shelf, query, catalogue)?;
+    let text = minimised(alloc, &query, catalogue)?;
+    Ok(Reply::Done(text))
+}
+
 /// Fetches and reads the catalogue, then the query, and prints the last facts of the query's run, its head, and the minimal
 /// sets of these facts that are equivalent to the query under the catalogue's rules.
 #[tactic(auto, using(crate::proofs::Steps::steps, crate::proofs::Steps::asked_steps))]
@@ -93,7 +113,5 @@ pub fn minimise<S: Shelf>(
     ensures later { S.faults shelf.old ≤ S.faults shelf.new }
 {
     let catalogue = open_catalogue(alloc, shelf, catalogue)?;
-    let query = open_query(alloc, shelf, query, &catalogue)?;
-    let text = minimised(alloc, &query, &catalogue)?;
-    Ok(Reply::Done(text))
+    minimise_read(alloc, shelf, &catalogue, query)
 }

@@ -1,32 +1,21 @@
-use Rattle.std.proofs.Common.{Err, Ok, refl}
-use Rattle.esto_course.proofs.Asking.{quiet_gives}
-use Rattle.esto_course.proofs.Steps.{at_exit, gives_goes}
-use Rattle.esto_opening.specs.declared.reply.Reply.TheVariants.{Done}
-use Rattle.esto_opening.proofs.AskedSteps.{exit_asks, handed_asks, later_asks, quiet_asks}
-use Rattle.esto_reasoning.proofs.CourseLemmas.{minimal_stops, minimises_quiet}
+use Rattle.esto_course.proofs.Steps.{at_exit, first_stops}
+use Rattle.esto_opening.proofs.AskedSteps.{exit_asks, handed_asks, later_asks}
+use Rattle.esto_reasoning.proofs.CourseLemmas.{then_answers}
 use Rattle.esto_reasoning.proofs.minimising.minimise.Goals as goal
 
-pub returns-in_err-text-clause-answer : goal.returns-in_err-text-clause-answer
-returns-in_err-text-clause-answer g c =
-    at_exit _ _ c.from_residual-in_err-text.result c.from_residual-in_err-text.ensures.1
-    (minimal_stops (g.S.Shelf.files c.args.shelf.now) (g.S.Shelf.files c.open_catalogue.new.shelf) c.in_ok-catalogue.ensures.files c.args.catalogue.now
-    c.args.query.now c.in_ok-catalogue.catalogue c.in_ok-catalogue.ensures.answer c.in_ok-query.query c.in_ok-query.ensures.answer c.in_err-text.ensures)
+pub returns-in_err-catalogue-clause-answer : goal.returns-in_err-catalogue-clause-answer
+returns-in_err-catalogue-clause-answer g c = at_exit _ _ c.from_residual.result c.from_residual.ensures.1 (first_stops _ _ c.in_err-catalogue.ensures.answer)
 
-pub returns-in_err-query-clause-asked : goal.returns-in_err-query-clause-asked
-returns-in_err-query-clause-asked g c =
-    let read = rw c.in_ok-catalogue.ensures.files at c.in_err-query.ensures.asked in
-    handed_asks _ _ _ c.from_residual-in_err-query.ensures.1 (later_asks _ _ c.in_ok-catalogue.ensures.asked (exit_asks _ _ read))
+pub returns-in_err-catalogue-clause-asked : goal.returns-in_err-catalogue-clause-asked
+returns-in_err-catalogue-clause-asked g c = handed_asks _ _ _ c.from_residual.ensures.1 (exit_asks _ _ c.in_err-catalogue.ensures.asked)
 
-pub returns-in_err-text-clause-asked : goal.returns-in_err-text-clause-asked
-returns-in_err-text-clause-asked g c =
-    let read = rw c.in_ok-catalogue.ensures.files at c.in_ok-query.ensures.asked in
-    handed_asks _ _ _ c.from_residual-in_err-text.ensures.1
-    (later_asks _ _ c.in_ok-catalogue.ensures.asked (later_asks _ _ read (exit_asks _ _
-    (quiet_asks _ _ (Err _) (minimises_quiet c.in_ok-catalogue.catalogue c.in_ok-query.query) c.in_err-text.ensures))))
+pub returns-clause-answer : goal.returns-clause-answer
+returns-clause-answer g c =
+    let answer = rw c.in_ok-catalogue.ensures.files at c.minimise_read.ensures.answer in
+    then_answers _ _ _ _ _ c.in_ok-catalogue.catalogue c.minimise_read.result c.in_ok-catalogue.ensures.answer c.in_ok-catalogue.ensures.later
+    c.minimise_read.ensures.later answer
 
 pub returns-clause-asked : goal.returns-clause-asked
 returns-clause-asked g c =
-    let read = rw c.in_ok-catalogue.ensures.files at c.in_ok-query.ensures.asked in
-    later_asks _ _ c.in_ok-catalogue.ensures.asked (later_asks _ _ read (later_asks _ _
-    (quiet_asks _ _ (Ok c.in_ok-text.text) (minimises_quiet c.in_ok-catalogue.catalogue c.in_ok-query.query) c.in_ok-text.ensures)
-    (quiet_asks _ _ (Ok (Done c.in_ok-text.text)) (quiet_gives _ _) (gives_goes _ _ _ refl))))
+    let asked = rw c.in_ok-catalogue.ensures.files at c.minimise_read.ensures.asked in
+    later_asks _ _ c.in_ok-catalogue.ensures.asked asked
