@@ -5,7 +5,7 @@ ghost use Rattle.esto_acyclic.specs.Graphs.{IsWithin, AreRanks};
 ghost use Rattle.esto_acyclic.specs.Relations.{IsEdge};
 ghost use Rattle.esto_cases.specs.Leading.{AreBelow, LeadsBelow};
 
-use crate::printing::put_row;
+use crate::printing::{put, put_counted, put_number, put_row};
 use crate::reading::Refused;
 use either::{Left, Right};
 use esto_acyclic::{Ranks, judge};
@@ -58,26 +58,24 @@ fn lead_below(rules: &[Constraint], relations: usize) -> bool
 fn put_chased<R: Print>(rt: &R, chased: &Chased) {
     let instance = &chased.instance;
     'facts: for fact in instance.facts().items() {
-        let relation = fact.relation;
-        let _ = print!(rt; "{relation} ");
+        put_number(rt, fact.relation as u64);
         put_row(rt, fact.terms.items());
     }
-    let _ = print!(rt; "head ");
+    put(rt, "head ");
     put_row(rt, instance.head().items());
-    let steps = instance.trace().len();
-    let _ = println!(rt; "steps {steps}");
+    put_counted(rt, "steps ", instance.trace().len() as u64);
 }
 
 fn put_clash<R: Print>(rt: &R, clash: &Clash) {
     match clash {
         Clash::Equal(one, other) => {
-            let one = one.as_str();
-            let other = other.as_str();
-            let _ = println!(rt; "clash '{one} '{other}");
+            put(rt, "clash '");
+            put(rt, one.as_str());
+            put(rt, " '");
+            put(rt, other.as_str());
+            put(rt, "\n");
         }
-        Clash::Denied(rule) => {
-            let _ = println!(rt; "denied {rule}");
-        }
+        Clash::Denied(rule) => put_counted(rt, "denied ", *rule as u64),
     }
 }
 

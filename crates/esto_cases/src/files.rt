@@ -1,9 +1,9 @@
 //! Files in memory, and the program run over them or over the machine's.
 
-use crate::printing::put_bytes;
-use crate::reading::{Refused, number, text};
+use crate::printing::{put, put_bytes, put_counted, put_digits};
+use crate::reading::{Refused, each, number, parts, text};
 use esto_ports::{FolderShelf, MemoryShelf, MemorySink, OutSink, Shelf, Sink};
-use esto_term::{Bytes, List, Replicate, Text};
+use esto_term::{Bytes, List, OutOfMemory, Replicate, Text};
 use esto_top::mediate;
 use std::alloc::Global;
 use std::mem;
@@ -53,14 +53,10 @@ pub struct FileSet {
 
 /// The words of a command line, between single blanks; an empty line has none.
 pub fn words_of(alloc: Global, line: &str) -> Result<List<Text>, Refused> {
-    let mut words = List::new(alloc);
     if line.is_empty() {
-        return Ok(words);
+        return Ok(List::new(alloc));
     }
-    'words: for word in line.split(' ') {
-        words.push(text(alloc, word)?)?;
-    }
-    Ok(words)
+    each(alloc, line, ' ', |word| text(alloc, word))
 }
 
 // The code of the status that a command line over a shelf and a sink ends with.
@@ -68,14 +64,32 @@ fn code_of<S: Shelf, O: Sink>(alloc: Global, words: &[Text], shelf: &mut S, out:
     mediate(alloc, words, shelf, out).code()
 }
 
+// Keeps a copy of a file.
+fn keep_copy(alloc: Global, shelf: &mut MemoryShelf, file: &File) -> Result<(), OutOfMemory> {
+    let name = file.name.copy(alloc)?;
+    let bytes = file.bytes.copy(alloc)?;
+    shelf.keep(name, bytes)
+}
+
 // The shelf of the files.
-fn shelf_of(alloc: Global, files: &List<File>) -> Result<MemoryShelf, Refused> {
+fn shelf_of(alloc: Global, files: &[File]) -> Result<MemoryShelf, OutOfMemory> {
     let mut shelf = MemoryShelf::new(alloc);
-    'files: for file in files.items() {
-        let bytes = Bytes::from_slice(alloc, file.bytes.bytes())?;
-        shelf.keep(file.name.copy(alloc)?, bytes)?;
+    'files: for file in files {
+        keep_copy(alloc, &mut shelf, file)?;
     }
     Ok(shelf)
+}
+
+// Says to a shelf and a sink what is to go wrong.
+fn spoil(
+    shelf: &mut MemoryShelf,
+    out: &mut MemorySink,
+    trouble: Trouble,
+) -> Result<(), OutOfMemory> {
+    shelf.fail_at(trouble.fetch)?;
+    shelf.refuse_at(trouble.refused_fetch)?;
+    out.fail_at(trouble.put, trouble.kept)?;
+    out.refuse_at(trouble.refused_put)
 }
 
 impl FileSet {
@@ -108,19 +122,16 @@ impl FileSet {
 
     /// The put of this number is to fail, after so many bytes.
     pub fn fail_put(&mut self, line: &str) {
-        let (put, kept) = line.split_once(' ').unwrap_or((line, ""));
+        let (put, kept) = parts(line, ' ');
         self.trouble.put = number(put);
         self.trouble.kept = number(kept);
     }
 
     /// What comes of a command line over the files where this goes wrong.
     pub fn ran(&self, alloc: Global, words: &[Text], trouble: Trouble) -> Result<Ran, Refused> {
-        let mut shelf = shelf_of(alloc, &self.files)?;
+        let mut shelf = shelf_of(alloc, self.files.items())?;
         let mut out = MemorySink::new(alloc);
-        shelf.fail_at(trouble.fetch)?;
-        shelf.refuse_at(trouble.refused_fetch)?;
-        out.fail_at(trouble.put, trouble.kept)?;
-        out.refuse_at(trouble.refused_put)?;
+        spoil(&mut shelf, &mut out, trouble)?;
         let code = code_of(alloc, words, &mut shelf, &mut out);
         Ok(Ran { shelf, out, code })
     }
@@ -136,7 +147,7 @@ impl FileSet {
     pub fn run<R: Print>(&mut self, rt: &R, alloc: Global, line: &str) -> Result<(), Refused> {
         let ran = self.outcome(alloc, line)?;
         put_bytes(rt, ran.out.written());
-        put_status(rt, &ran);
+        put_status(rt, ran.code);
         Ok(())
     }
 
@@ -148,31 +159,31 @@ impl FileSet {
         alloc: Global,
         line: &str,
     ) -> Result<(), Refused> {
-        let (first, rest) = line.split_once(' ').unwrap_or((line, ""));
-        let (last, words) = rest.split_once(' ').unwrap_or((rest, ""));
+        let (first, rest) = parts(line, ' ');
+        let (last, words) = parts(rest, ' ');
         let ran = self.outcome(alloc, words)?;
         put_ends(rt, ran.out.written(), number(first), number(last));
-        put_status(rt, &ran);
+        put_status(rt, ran.code);
         Ok(())
     }
 }
 
 // The code of the status.
-fn put_status<R: Print>(rt: &R, ran: &Ran) {
-    let code = ran.code;
-    let _ = println!(rt; "status {code}");
+fn put_status<R: Print>(rt: &R, code: u8) {
+    put_counted(rt, "status ", code as u64);
 }
 
 // How many lines the text has, so many first ones and so many last ones.
 fn put_ends<R: Print>(rt: &R, text: &[u8], first: u64, last: u64) {
     let count = text.iter().filter(|byte| **byte == 10).count();
-    let _ = println!(rt; "{count} lines");
+    put_digits(rt, count as u64);
+    put(rt, " lines\n");
     'lines: for (place, line) in text.split(|byte| *byte == 10).enumerate() {
         let is_first = (place as u64) < first;
         let is_last = place < count && (place as u64).saturating_add(last) >= count as u64;
         if is_first || is_last {
             put_bytes(rt, line);
-            let _ = println!(rt; "");
+            put(rt, "\n");
         }
     }
 }
@@ -183,6 +194,6 @@ pub fn run_on_machine<R: Files + Print>(rt: &R, alloc: Global, line: &str) -> Re
     let mut shelf = FolderShelf::new(rt);
     let mut out = OutSink::new(rt);
     let code = code_of(alloc, words.items(), &mut shelf, &mut out);
-    let _ = println!(rt; "status {code}");
+    put_status(rt, code);
     Ok(())
 }

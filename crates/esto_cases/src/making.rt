@@ -2,7 +2,8 @@
 ghost use Rattle.std.specs.Prelude.{◌≡◌, ◌≢◌, [], length, IsTrue, IfOk};
 ghost use Rattle.esto_cases.specs.Bodies.{IsFit, AreFit, IsFitAtom, AreFitAtoms};
 
-use crate::reading::{Refused, facts, term, terms};
+use crate::printing::{put, put_counted};
+use crate::reading::{Refused, facts, parts, term, terms};
 use esto_constraint::{Constraint, make_denial, make_equal_rule, make_tuple_rule};
 use esto_query::{Name, Names, Query, QueryFault, Schema, make_query};
 use esto_semantics::{Atom, Atoms};
@@ -107,7 +108,7 @@ pub fn query_made(
     schema: &Schema,
     line: &str,
 ) -> Result<Result<Query, QueryFault>, Refused> {
-    let (atoms, words) = line.split_once('|').unwrap_or((line, ""));
+    let (atoms, words) = parts(line, '|');
     let body = body(alloc, atoms, schema.len())?;
     let head = head(alloc, words)?;
     let names = names(alloc)?;
@@ -116,7 +117,7 @@ pub fn query_made(
 
 /// What comes of making a tuple rule: the atoms of its body, and after `|` those of its head.
 pub fn tuple_rule_made(alloc: Global, schema: &Schema, line: &str) -> Result<RuleMade, Refused> {
-    let (atoms, others) = line.split_once('|').unwrap_or((line, ""));
+    let (atoms, others) = parts(line, '|');
     let relations = schema.len();
     let left = body(alloc, atoms, relations)?;
     let right = body(alloc, others, relations)?;
@@ -126,8 +127,8 @@ pub fn tuple_rule_made(alloc: Global, schema: &Schema, line: &str) -> Result<Rul
 
 /// What comes of making an equality rule: the atoms of its body, and after `|` its two sides, with `=` between them.
 pub fn equal_rule_made(alloc: Global, schema: &Schema, line: &str) -> Result<RuleMade, Refused> {
-    let (atoms, sides) = line.split_once('|').unwrap_or((line, ""));
-    let (first, second) = sides.split_once('=').unwrap_or((sides, ""));
+    let (atoms, sides) = parts(line, '|');
+    let (first, second) = parts(sides, '=');
     let body = body(alloc, atoms, schema.len())?;
     let left = side(alloc, first)?;
     let right = side(alloc, second)?;
@@ -144,10 +145,10 @@ pub fn denial_made(alloc: Global, schema: &Schema, line: &str) -> Result<RuleMad
 
 /// Why something is refused.
 pub fn put_fault<R: Print>(rt: &R, fault: QueryFault) {
-    let _ = match fault {
-        QueryFault::Unsafe(variable) => println!(rt; "Unsafe {variable}"),
-        QueryFault::Arity(place) => println!(rt; "Arity {place}"),
-        QueryFault::TooLarge(count) => println!(rt; "TooLarge {count}"),
-        QueryFault::OutOfMemory => println!(rt; "OutOfMemory"),
-    };
+    match fault {
+        QueryFault::Unsafe(variable) => put_counted(rt, "Unsafe ", variable),
+        QueryFault::Arity(place) => put_counted(rt, "Arity ", place as u64),
+        QueryFault::TooLarge(count) => put_counted(rt, "TooLarge ", count as u64),
+        QueryFault::OutOfMemory => put(rt, "OutOfMemory\n"),
+    }
 }

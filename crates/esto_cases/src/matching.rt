@@ -1,6 +1,6 @@
 //! Matches, answers, and rules that facts meet or break.
 
-use crate::printing::{put_numbers, put_rows};
+use crate::printing::{put, put_digits, put_numbers, put_rows};
 use crate::reading::{Refused, term};
 use esto_catalog::{Catalogue, catalogues_are_sound};
 use esto_constraint::{Constraint, Rules, active, meets};
@@ -100,7 +100,7 @@ pub fn put_active<R: Print>(
 }
 
 fn put_met<R: Print>(rt: &R) {
-    let _ = println!(rt; "met");
+    put(rt, "met\n");
 }
 
 /// The number of the first rule that the facts break, with the places of its least active match, or that all are met.
@@ -112,8 +112,9 @@ pub fn put_broken<R: Print>(
 ) -> Result<(), Refused> {
     match meets(alloc, rules, facts)? {
         Some(broken) => {
-            let rule = broken.rule;
-            let _ = print!(rt; "rule {rule}: ");
+            put(rt, "rule ");
+            put_digits(rt, broken.rule as u64);
+            put(rt, ": ");
             put_numbers(rt, broken.found.places.items());
         }
         None => put_met(rt),

@@ -3,12 +3,13 @@ ghost use Rattle.std.specs.Prelude.{IfOk};
 ghost use Rattle.esto_docmodel.specs.Shapes.{entries_of};
 ghost use Rattle.esto_docmodel.specs.Valuations.{HaveFlatTerms};
 
-use crate::printing::{put_numbers, put_row};
-use crate::reading::{Refused, text};
+use crate::printing::{put, put_counted, put_number, put_numbers, put_row};
+use crate::reading::{Refused, each, text};
 use esto_columns::{Codes, Column, Picks, select};
 use esto_docmodel::{Entry, Pattern, Step, match_pattern};
 use esto_docs::{Layout, read_trees};
 use esto_keymodel::key_row_fault;
+use esto_query::Valuation;
 use esto_relmodel::table_facts;
 use esto_term::{List, Term, TextRow, TextRows, Values};
 use std::alloc::Global;
@@ -16,20 +17,12 @@ use std::slice::from_ref;
 
 // The cells between these signs.
 fn cells(alloc: Global, line: &str, sign: char) -> Result<TextRow, Refused> {
-    let mut cells = List::new(alloc);
-    'cells: for cell in line.split(sign) {
-        cells.push(text(alloc, cell)?)?;
-    }
-    Ok(cells)
+    each(alloc, line, sign, |cell| text(alloc, cell))
 }
 
 // Rows between semicolons, each of cells between commas.
 fn rows(alloc: Global, line: &str) -> Result<TextRows, Refused> {
-    let mut rows = List::new(alloc);
-    'rows: for row in line.split(';') {
-        rows.push(cells(alloc, row, ',')?)?;
-    }
-    Ok(rows)
+    each(alloc, line, ';', |row| cells(alloc, row, ','))
 }
 
 /// The facts of the rows of a table, a line each.
@@ -44,39 +37,57 @@ pub fn put_table<R: Print>(rt: &R, alloc: Global, line: &str) -> Result<(), Refu
 /// The first cell that no line of a key file can hold, or that there is none. Cells stand between bars.
 pub fn put_key_row<R: Print>(rt: &R, alloc: Global, line: &str) -> Result<(), Refused> {
     match key_row_fault(&cells(alloc, line, '|')?) {
-        Some(cell) => {
-            let _ = println!(rt; "cell {cell}");
-        }
-        None => {
-            let _ = println!(rt; "no fault");
-        }
+        Some(cell) => put_counted(rt, "cell ", cell as u64),
+        None => put(rt, "no fault\n"),
+    }
+    Ok(())
+}
+
+// Puts the code of a word at the end of the column.
+fn add_code(codes: &mut Codes, column: &mut Column, word: &str) -> Result<(), Refused> {
+    let Ok(code) = codes.intern(word.as_bytes()) else {
+        return Err(Refused);
+    };
+    column.push(code)?;
+    Ok(())
+}
+
+// Puts the codes of the words at the end of the column, in order.
+fn add_codes(codes: &mut Codes, column: &mut Column, line: &str) -> Result<(), Refused> {
+    'words: for word in line.split(' ') {
+        add_code(codes, column, word)?;
     }
     Ok(())
 }
 
 // The codes of the words, in order.
 fn codes_of(alloc: Global, line: &str) -> Result<Column, Refused> {
-    let mut codes = Codes::new(alloc);
     let mut column = Values::new(alloc);
-    'words: for word in line.split(' ') {
-        match codes.intern(word.as_bytes()) {
-            Ok(code) => column.push(code)?,
-            Err(_) => return Err(Refused),
-        }
-    }
+    add_codes(&mut Codes::new(alloc), &mut column, line)?;
     Ok(column)
+}
+
+// The places at which the first word's code stands.
+fn firsts(alloc: Global, column: &Column) -> Result<Picks, Refused> {
+    let mut picks = Picks::new(alloc);
+    picks.reserve(column.len())?;
+    select(column, 0, &mut picks);
+    Ok(picks)
+}
+
+// A line of codes.
+fn put_column<R: Print>(rt: &R, codes: &[u64]) {
+    'codes: for code in codes {
+        put_number(rt, *code);
+    }
+    put(rt, "\n");
 }
 
 /// The codes of the words, and then the places at which the first word's code stands.
 pub fn put_codes<R: Print>(rt: &R, alloc: Global, line: &str) -> Result<(), Refused> {
     let column = codes_of(alloc, line)?;
-    'codes: for code in column.items() {
-        let _ = print!(rt; "{code} ");
-    }
-    let _ = println!(rt; "");
-    let mut picks = Picks::new(alloc);
-    picks.reserve(column.len())?;
-    select(&column, 0, &mut picks);
+    put_column(rt, column.items());
+    let picks = firsts(alloc, &column)?;
     put_numbers(rt, picks.items());
     Ok(())
 }
@@ -92,6 +103,15 @@ fn anything_inside(alloc: Global) -> Result<Pattern, Refused>
     Ok(Pattern { entries })
 }
 
+// The terms that stand for the pattern's variable, a line each.
+fn put_found<R: Print>(rt: &R, found: &[Valuation]) {
+    'matches: for valuation in found {
+        if let Some(term) = valuation.value(0) {
+            put_row(rt, from_ref(term));
+        }
+    }
+}
+
 /// The texts that stand strictly inside a document, by a pattern.
 pub fn put_inside<R: Print>(rt: &R, alloc: Global, line: &str) -> Result<(), Refused> {
     let Ok(trees) = read_trees(alloc, line.as_bytes(), &Layout::Lines) else {
@@ -100,12 +120,7 @@ pub fn put_inside<R: Print>(rt: &R, alloc: Global, line: &str) -> Result<(), Ref
     let pattern = anything_inside(alloc)?;
     'trees: for tree in trees.items() {
         let found = match_pattern(alloc, &pattern, tree)?;
-        'matches: for valuation in found.items() {
-            match valuation.value(0) {
-                Some(term) => put_row(rt, from_ref(term)),
-                None => return Err(Refused),
-            }
-        }
+        put_found(rt, found.items());
     }
     Ok(())
 }

@@ -1,29 +1,50 @@
 //! Orders of sets of a plan's atoms under the binding patterns of the fragments.
 
-use crate::printing::{put_numbers, put_row, put_set, put_sets};
-use crate::reading::{Refused, numbers, set_of};
+use crate::printing::{put, put_number, put_numbers, put_row, put_set, put_sorted};
+use crate::reading::{Refused, numbers, place, set_of};
 use either::{Left, Right};
 use esto_access::{access_products, is_order, order_of, reached};
+use esto_bits::{Products, RowBits};
 use esto_catalog::Catalogue;
 use esto_query::Query;
-use esto_term::{List, Replicate};
+use esto_term::{List, OutOfMemory, Replicate};
 use esto_universal::universal;
-use esto_views::{AccessList, FragmentDefs, Plan};
+use esto_views::{AccessList, FragmentDef, FragmentDefs, Plan};
 use std::alloc::Global;
+
+// Gives a fragment these patterns, where there are some.
+fn give_patterns(
+    alloc: Global,
+    fragment: &mut FragmentDef,
+    patterns: Option<&AccessList>,
+) -> Result<(), OutOfMemory> {
+    if let Some(patterns) = patterns {
+        fragment.access = patterns.copy(alloc)?;
+    }
+    Ok(())
+}
+
+// Puts a copy of a fragment at the end, with the patterns where there are some.
+fn add_fragment(
+    alloc: Global,
+    fragments: &mut FragmentDefs,
+    fragment: &FragmentDef,
+    patterns: Option<&AccessList>,
+) -> Result<(), OutOfMemory> {
+    let mut copy = fragment.copy(alloc)?;
+    give_patterns(alloc, &mut copy, patterns)?;
+    fragments.push(copy)
+}
 
 /// The fragments of the catalogue, where the first ones have these patterns in place of their own.
 pub fn fragments_with(
     alloc: Global,
     catalogue: &Catalogue,
-    patterns: &List<AccessList>,
-) -> Result<FragmentDefs, Refused> {
+    patterns: &[AccessList],
+) -> Result<FragmentDefs, OutOfMemory> {
     let mut fragments = List::new(alloc);
     'fragments: for (number, fragment) in catalogue.fragments.items().iter().enumerate() {
-        let mut copy = fragment.copy(alloc)?;
-        if let Some(access) = patterns.items().get(number) {
-            copy.access = access.copy(alloc)?;
-        }
-        fragments.push(copy)?;
+        add_fragment(alloc, &mut fragments, fragment, patterns.get(number))?;
     }
     Ok(fragments)
 }
@@ -44,61 +65,69 @@ pub fn put_plan<R: Print>(rt: &R, plan: &Plan, fragments: &FragmentDefs) {
             Some(fragment) => fragment.name.as_str(),
             None => "",
         };
-        let _ = print!(rt; "{number} {name} ");
+        put_number(rt, number as u64);
+        put(rt, name);
+        put(rt, " ");
         put_row(rt, atom.terms.items());
     }
 }
 
-/// The stated order of a set of the plan's atoms.
-pub fn put_order<R: Print>(
+// The stated order of a set of the plan's atoms.
+fn put_order<R: Print>(
     rt: &R,
     alloc: Global,
+    set: &RowBits,
     plan: &Plan,
     fragments: &FragmentDefs,
-    word: &str,
 ) -> Result<(), Refused> {
-    let numbers = numbers(alloc, word)?;
-    let set = set_of(alloc, numbers.items(), plan.atoms.len())?;
-    match order_of(alloc, &set, plan, fragments)? {
+    match order_of(alloc, set, plan, fragments)? {
         Some(order) => put_numbers(rt, order.items()),
-        None => {
-            let _ = println!(rt; "no order");
-        }
+        None => put(rt, "no order\n"),
     }
     Ok(())
 }
 
-/// Whether the numbers, as they are written, are an order of their set.
-pub fn put_is_order<R: Print>(
+// What is reached in a set of the plan's atoms.
+fn put_reached<R: Print>(
     rt: &R,
     alloc: Global,
+    set: &RowBits,
     plan: &Plan,
     fragments: &FragmentDefs,
-    word: &str,
 ) -> Result<(), Refused> {
-    let order = numbers(alloc, word)?;
-    let set = set_of(alloc, order.items(), plan.atoms.len())?;
-    let answer = if is_order(&order, &set, plan, fragments) {
-        "an order"
-    } else {
-        "no order"
-    };
-    let _ = println!(rt; "{answer}");
+    let reached = reached(alloc, set, plan, fragments)?;
+    put_set(rt, &reached);
     Ok(())
 }
 
-/// What is reached in a set of the plan's atoms.
-pub fn put_reached<R: Print>(
+/// Answers what is asked about a set of the plan's atoms: its stated order, what is reached in it, and whether the numbers, as
+/// they are written, are an order of it.
+pub fn ask_set<R: Print>(
     rt: &R,
     alloc: Global,
     plan: &Plan,
     fragments: &FragmentDefs,
     word: &str,
+    rest: &str,
 ) -> Result<(), Refused> {
-    let numbers = numbers(alloc, word)?;
+    let numbers = numbers(alloc, rest)?;
     let set = set_of(alloc, numbers.items(), plan.atoms.len())?;
-    put_set(rt, &reached(alloc, &set, plan, fragments)?);
+    match word {
+        "order" => return put_order(rt, alloc, &set, plan, fragments),
+        "reached" => return put_reached(rt, alloc, &set, plan, fragments),
+        "is_order" if is_order(&numbers, &set, plan, fragments) => put(rt, "an order\n"),
+        "is_order" => put(rt, "no order\n"),
+        _ => return Err(Refused),
+    }
     Ok(())
+}
+
+// The products of an atom, sorted, or that it has none.
+fn put_own<R: Print>(rt: &R, alloc: Global, own: &Products) -> Result<(), Refused> {
+    if own.is_empty() {
+        put(rt, "none\n");
+    }
+    put_sorted(rt, alloc, own)
 }
 
 /// The access products of the atom of a number.
@@ -109,17 +138,10 @@ pub fn put_access<R: Print>(
     fragments: &FragmentDefs,
     word: &str,
 ) -> Result<(), Refused> {
-    let Ok(number) = word.parse::<usize>() else {
-        return Err(Refused);
-    };
+    let number = place(word)?;
     let products = access_products(alloc, plan, fragments)?;
-    let Some(own) = products.items().get(number) else {
-        return Err(Refused);
-    };
-    if own.is_empty() {
-        let _ = println!(rt; "none");
+    match products.items().get(number) {
+        Some(own) => put_own(rt, alloc, own),
+        None => Err(Refused),
     }
-    let sorted = own.sorted(alloc)?;
-    put_sets(rt, sorted.items());
-    Ok(())
 }

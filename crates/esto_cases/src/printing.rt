@@ -1,27 +1,52 @@
 //! How what comes of a line is printed. What can't be printed is let go.
 
-use esto_bits::RowBits;
+use crate::reading::Refused;
+use esto_bits::{Products, RowBits};
 use esto_ports::{OutSink, Sink};
 use esto_term::{Term, TermRows};
+use std::alloc::Global;
 
 /// The bytes as they are.
 pub fn put_bytes<R: Print>(rt: &R, bytes: &[u8]) {
     let _ = OutSink::new(rt).put(bytes);
 }
 
+/// The text as it is.
+pub fn put<R: Print>(rt: &R, text: &str) {
+    put_bytes(rt, text.as_bytes());
+}
+
+/// The digits of a number.
+pub fn put_digits<R: Print>(rt: &R, number: u64) {
+    let _ = print!(rt; "{number}");
+}
+
+/// A number, and a blank.
+pub fn put_number<R: Print>(rt: &R, number: u64) {
+    put_digits(rt, number);
+    put(rt, " ");
+}
+
+/// A line of a text and a number.
+pub fn put_counted<R: Print>(rt: &R, text: &str, number: u64) {
+    put(rt, text);
+    put_digits(rt, number);
+    put(rt, "\n");
+}
+
 /// A line of numbers.
 pub fn put_numbers<R: Print>(rt: &R, numbers: &[usize]) {
     'numbers: for number in numbers {
-        let _ = print!(rt; "{number} ");
+        put_number(rt, *number as u64);
     }
-    let _ = println!(rt; "");
+    put(rt, "\n");
 }
 
 /// The numbers of a set.
 pub fn put_members<R: Print>(rt: &R, set: &RowBits) {
     'numbers: for number in 0..set.count() {
         if set.has(number) {
-            let _ = print!(rt; "{number} ");
+            put_number(rt, number as u64);
         }
     }
 }
@@ -29,7 +54,7 @@ pub fn put_members<R: Print>(rt: &R, set: &RowBits) {
 /// A line of the numbers of a set.
 pub fn put_set<R: Print>(rt: &R, set: &RowBits) {
     put_members(rt, set);
-    let _ = println!(rt; "");
+    put(rt, "\n");
 }
 
 /// Sets, one a line.
@@ -39,21 +64,40 @@ pub fn put_sets<R: Print>(rt: &R, sets: &[RowBits]) {
     }
 }
 
+/// The sets of a collection, sorted, one a line.
+pub fn put_sorted<R: Print>(rt: &R, alloc: Global, products: &Products) -> Result<(), Refused> {
+    let sorted = products.sorted(alloc)?;
+    put_sets(rt, sorted.items());
+    Ok(())
+}
+
+// A made term: its rule, its variable, the length of its frontier and its nesting.
+fn put_made<R: Print>(rt: &R, rule: u64, variable: u64, count: u64, nesting: u64) {
+    put(rt, "made(");
+    put_digits(rt, rule);
+    put(rt, ",");
+    put_digits(rt, variable);
+    put(rt, ",");
+    put_digits(rt, count);
+    put(rt, "):");
+    put_number(rt, nesting);
+}
+
+/// A constant after a quote.
+pub fn put_constant<R: Print>(rt: &R, constant: &str) {
+    put(rt, "'");
+    put(rt, constant);
+    put(rt, " ");
+}
+
 /// A term: a constant after a quote, a plain term by its number, and a made one by its rule, its variable, the length of its
 /// frontier and its nesting.
 pub fn put_term<R: Print>(rt: &R, term: &Term) {
     match term {
-        Term::Const(constant) => {
-            let constant = constant.as_str();
-            let _ = print!(rt; "'{constant} ");
-        }
-        Term::Plain(number) => {
-            let _ = print!(rt; "{number} ");
-        }
+        Term::Const(constant) => put_constant(rt, constant.as_str()),
+        Term::Plain(number) => put_number(rt, *number),
         Term::Made(rule, variable, frontier) => {
-            let count = frontier.len();
-            let nesting = term.nesting();
-            let _ = print!(rt; "made({rule},{variable},{count}):{nesting} ");
+            put_made(rt, *rule, *variable, frontier.len() as u64, term.nesting());
         }
     }
 }
@@ -68,7 +112,7 @@ pub fn put_terms<R: Print>(rt: &R, row: &[Term]) {
 /// A line of terms.
 pub fn put_row<R: Print>(rt: &R, row: &[Term]) {
     put_terms(rt, row);
-    let _ = println!(rt; "");
+    put(rt, "\n");
 }
 
 /// Rows, one a line.

@@ -1,4 +1,5 @@
 //! What the words of a script say: numbers, terms, facts, sets and patterns.
+ghost use Rattle.std.specs.Prelude.{◌≡◌, length, IfOk};
 
 use esto_bits::RowBits;
 use esto_query::Facts;
@@ -28,6 +29,19 @@ pub fn number(word: &str) -> u64 {
     word.parse::<u64>().unwrap_or(0)
 }
 
+/// A number in decimal that counts or names a place.
+pub fn place(word: &str) -> Result<usize, Refused> {
+    match word.parse::<usize>() {
+        Ok(place) => Ok(place),
+        Err(_) => Err(Refused),
+    }
+}
+
+/// What stands before the first such sign and what after it; all and nothing where there is none.
+pub fn parts(line: &str, sign: char) -> (&str, &str) {
+    line.split_once(sign).unwrap_or((line, ""))
+}
+
 /// The text of a word.
 pub fn text(alloc: Global, word: &str) -> Result<Text, Refused> {
     let text = Text::from_str(alloc, word)?;
@@ -45,32 +59,45 @@ pub fn term(alloc: Global, word: &str) -> Result<Term, Refused> {
     }
 }
 
+// Puts the term that a word writes at the end.
+fn add_term(alloc: Global, terms: &mut Terms, word: &str) -> Result<(), Refused> {
+    terms.push(term(alloc, word)?)?;
+    Ok(())
+}
+
 /// Terms, between blanks.
 pub fn terms(alloc: Global, line: &str) -> Result<Terms, Refused> {
     let mut terms = List::new(alloc);
     'words: for word in line.split_whitespace() {
-        terms.push(term(alloc, word)?)?;
+        add_term(alloc, &mut terms, word)?;
     }
     Ok(terms)
 }
 
 // A fact: the number of its relation and its terms, between blanks.
 fn fact(alloc: Global, line: &str) -> Result<Atom, Refused> {
-    let (relation, rest) = line.split_once(' ').unwrap_or((line, ""));
-    match relation.parse::<usize>() {
-        Ok(relation) => Ok(Atom {
-            relation,
-            terms: terms(alloc, rest)?,
-        }),
-        Err(_) => Err(Refused),
-    }
+    let (relation, rest) = parts(line, ' ');
+    let relation = place(relation)?;
+    let terms = terms(alloc, rest)?;
+    Ok(Atom { relation, terms })
 }
 
-// Puts a fact at the end so many times.
-fn repeat(alloc: Global, facts: &mut Facts, line: &str) -> Result<(), Refused> {
-    let (count, part) = line.split_once(' ').unwrap_or((line, ""));
+// Puts a fact at the end, unless it has no sign.
+fn add_fact(alloc: Global, facts: &mut Facts, line: &str) -> Result<(), Refused> {
+    if !line.is_empty() {
+        facts.push(fact(alloc, line)?)?;
+    }
+    Ok(())
+}
+
+// Puts a fact at the end, or after `*` and a number one so many times.
+fn add_facts(alloc: Global, facts: &mut Facts, line: &str) -> Result<(), Refused> {
+    let Some(rest) = line.strip_prefix('*') else {
+        return add_fact(alloc, facts, line);
+    };
+    let (count, part) = parts(rest, ' ');
     'turns: for _turn in 0..number(count) {
-        facts.push(fact(alloc, part)?)?;
+        add_fact(alloc, facts, part)?;
     }
     Ok(())
 }
@@ -79,13 +106,15 @@ fn repeat(alloc: Global, facts: &mut Facts, line: &str) -> Result<(), Refused> {
 pub fn facts(alloc: Global, line: &str) -> Result<Facts, Refused> {
     let mut facts = List::new(alloc);
     'parts: for part in line.split(';') {
-        if let Some(rest) = part.strip_prefix('*') {
-            repeat(alloc, &mut facts, rest)?;
-        } else if !part.is_empty() {
-            facts.push(fact(alloc, part)?)?;
-        }
+        add_facts(alloc, &mut facts, part)?;
     }
     Ok(facts)
+}
+
+// Puts a number at the end.
+fn add_number(numbers: &mut Places, word: &str) -> Result<(), Refused> {
+    numbers.push(place(word)?)?;
+    Ok(())
 }
 
 /// Numbers, between commas; `-` is none.
@@ -95,21 +124,28 @@ pub fn numbers(alloc: Global, word: &str) -> Result<Places, Refused> {
         return Ok(numbers);
     }
     'words: for word in word.split(',') {
-        match word.parse::<usize>() {
-            Ok(number) => numbers.push(number)?,
-            Err(_) => return Err(Refused),
-        }
+        add_number(&mut numbers, word)?;
     }
     Ok(numbers)
 }
 
 /// The set of these numbers, where each is below the count.
-pub fn set_of(alloc: Global, numbers: &[usize], count: usize) -> Result<RowBits, Refused> {
+pub fn set_of(alloc: Global, numbers: &[usize], count: usize) -> Result<RowBits, Refused>
+    ensures { IfOk result (λ it. length it ≡ count) }
+{
     if !numbers.iter().all(|number| *number < count) {
         return Err(Refused);
     }
     let set = RowBits::of(alloc, count, numbers)?;
     Ok(set)
+}
+
+/// The set that a word writes, of numbers below the count.
+pub fn set(alloc: Global, word: &str, count: usize) -> Result<RowBits, Refused>
+    ensures { IfOk result (λ it. length it ≡ count) }
+{
+    let numbers = numbers(alloc, word)?;
+    set_of(alloc, numbers.items(), count)
 }
 
 // Which columns are inputs: those of a `+`.
@@ -121,11 +157,23 @@ fn pattern(alloc: Global, word: &str) -> Result<Values<bool>, Refused> {
     Ok(columns)
 }
 
+/// What the parts between these signs are read as, one by one.
+pub fn each<T: Drop, F: Fn(&str) -> Result<T, Refused>>(
+    alloc: Global,
+    line: &str,
+    sign: char,
+    read: F,
+) -> Result<List<T>, Refused>
+    requires { F.IsAlwaysCallable read }
+{
+    let mut list = List::new(alloc);
+    'parts: for part in line.split(sign) {
+        list.push(read(part)?)?;
+    }
+    Ok(list)
+}
+
 /// Patterns, between blanks.
 pub fn patterns(alloc: Global, line: &str) -> Result<AccessList, Refused> {
-    let mut patterns = List::new(alloc);
-    'words: for word in line.split(' ') {
-        patterns.push(pattern(alloc, word)?)?;
-    }
-    Ok(patterns)
+    each(alloc, line, ' ', |word| pattern(alloc, word))
 }

@@ -3,7 +3,7 @@ ghost use Rattle.std.specs.Prelude.{◌≡◌, ◌<◌, [], ◌∷◌, length, m
 ghost use Rattle.esto_exec.specs.Runnable.{AreRunnable};
 ghost use Rattle.esto_cases.specs.Refusing.{AreOpen, AskAll};
 
-use crate::reading::Refused;
+use crate::printing::{put, put_digits};
 use esto_columns::{Fragment, Inputs, Rows, StoredRows, Ways};
 use esto_exec::run_plan;
 use esto_plan::{Get, Gets, Steps};
@@ -38,15 +38,29 @@ impl Fragment for Flagged {
     }
 }
 
-// Two rows of one column, which may be asked for all together.
-fn two_rows(alloc: Global) -> Result<StoredRows, OutOfMemory>
-    ensures { IfOk result (λ it. it.ways ≡ [] ∷ []) }
-{
+// Two rows of one column.
+fn two_rows(alloc: Global) -> Result<Rows, OutOfMemory> {
     let mut rows = Rows::new(alloc, 1)?;
     rows.add(&[0])?;
     rows.add(&[1])?;
+    Ok(rows)
+}
+
+// The one way to ask for all rows together.
+fn all_together(alloc: Global) -> Result<Ways, OutOfMemory>
+    ensures { IfOk result (λ it. it ≡ [] ∷ []) }
+{
     let mut ways = List::new(alloc);
     ways.push(Places::new(alloc))?;
+    Ok(ways)
+}
+
+// Two rows of one column, which may be asked for all together.
+fn stored(alloc: Global) -> Result<StoredRows, OutOfMemory>
+    ensures { IfOk result (λ it. it.ways ≡ [] ∷ []) }
+{
+    let rows = two_rows(alloc)?;
+    let ways = all_together(alloc)?;
     StoredRows::new(alloc, rows, ways)
 }
 
@@ -56,7 +70,7 @@ fn fragments(alloc: Global, count: usize, refused: usize) -> Result<List<Flagged
 {
     let mut fragments = List::new(alloc);
     'fragments: for number in 0..count {
-        let stored = two_rows(alloc)?;
+        let stored = stored(alloc)?;
         let is_refused = number + 1 == refused;
         fragments.push(Flagged { stored, is_refused })?;
     }
@@ -78,29 +92,30 @@ fn gets(alloc: Global, count: usize) -> Result<Gets, OutOfMemory>
     Ok(gets)
 }
 
-// How many rows the gets of so many fragments give together, where a fragment finds memory wanting.
-fn joined(alloc: Global, count: usize, refused: usize) -> Result<usize, OutOfMemory> {
-    let fragments = fragments(alloc, count, refused)?;
+// The rows that the gets of so many fragments give together, where a fragment finds memory wanting.
+fn joined(alloc: Global, count: usize, refused: usize) -> Result<Rows, OutOfMemory> {
     let gets = gets(alloc, count)?;
-    let steps = Steps {
-        gets,
-        head: List::new(alloc),
-    };
-    let rows = run_plan(alloc, &steps, fragments.items())?;
-    Ok(rows.len())
+    let head = List::new(alloc);
+    let fragments = fragments(alloc, count, refused)?;
+    run_plan(alloc, &Steps { gets, head }, fragments.items())
+}
+
+// How many rows there are, or that memory is wanting.
+fn put_joined<R: Print>(rt: &R, alloc: Global, count: usize, refused: usize) {
+    put_digits(rt, refused as u64);
+    match joined(alloc, count, refused) {
+        Ok(rows) => {
+            put(rt, ": ");
+            put_digits(rt, rows.len() as u64);
+            put(rt, " rows\n");
+        }
+        Err(OutOfMemory) => put(rt, ": memory is wanting\n"),
+    }
 }
 
 /// Runs steps over so many fragments, with no get refused, and then with that of each fragment in turn.
-pub fn put_refused_gets<R: Print>(rt: &R, alloc: Global, count: u64) -> Result<(), Refused> {
+pub fn put_refused_gets<R: Print>(rt: &R, alloc: Global, count: u64) {
     'numbers: for refused in 0..=count {
-        match joined(alloc, count as usize, refused as usize) {
-            Ok(rows) => {
-                let _ = println!(rt; "{refused}: {rows} rows");
-            }
-            Err(OutOfMemory) => {
-                let _ = println!(rt; "{refused}: memory is wanting");
-            }
-        }
+        put_joined(rt, alloc, count as usize, refused as usize);
     }
-    Ok(())
 }

@@ -3,7 +3,8 @@
 use crate::contents::{put_constraint, put_dataset, put_fragment, put_line};
 use crate::files::{FileSet, run_on_machine};
 use crate::models::{put_codes, put_inside, put_key_row, put_table};
-use crate::reading::{Refused, number};
+use crate::printing::put;
+use crate::reading::{Refused, number, parts};
 use crate::refusing::put_refused_gets;
 use crate::sets::ask_sets;
 use crate::stage::Stage;
@@ -17,25 +18,6 @@ use std::rt::Files;
 pub struct Script {
     files: FileSet,
     stage: Stage,
-}
-
-// Whether the word begins a line that asks for nothing.
-fn is_setting(word: &str) -> bool {
-    let words = [
-        "keep",
-        "fetch",
-        "put",
-        "dataset",
-        "fragment",
-        "constraint",
-        "catalogue",
-        "patterns",
-        "facts",
-        "start",
-        "rule",
-        "rules",
-    ];
-    words.contains(&word)
 }
 
 // Answers what the words ask of rows, documents and codes.
@@ -62,23 +44,38 @@ impl Script {
         self.stage.open(alloc, bytes.bytes())
     }
 
-    // Sets what the words say: a file and what is to fail, the catalogue, facts, the start of matches, and rules.
-    fn set(&mut self, alloc: Global, word: &str, rest: &str) -> Result<(), Refused> {
+    // Sets what the words say: a file and what is to fail, the catalogue, facts, the start of matches, and rules. Answers None
+    // where the word sets nothing.
+    fn set(&mut self, alloc: Global, word: &str, rest: &str) -> Option<Result<(), Refused>> {
+        let outcome = match word {
+            "keep" => self.files.keep(alloc, rest),
+            "dataset" => put_dataset(&mut self.files.content, rest),
+            "fragment" => put_fragment(&mut self.files.content, rest),
+            "constraint" => put_constraint(&mut self.files.content, rest),
+            "catalogue" => self.open(alloc),
+            "patterns" => self.stage.add_patterns(alloc, rest),
+            "facts" => self.stage.set_facts(alloc, rest),
+            "start" => self.stage.set_start(alloc, rest),
+            "rule" => self.stage.add_rule(alloc, rest),
+            _ => return self.set_plainly(alloc, word, rest),
+        };
+        Some(outcome)
+    }
+
+    // Sets what takes no memory: what is to fail, and that there is no rule.
+    fn set_plainly(
+        &mut self,
+        alloc: Global,
+        word: &str,
+        rest: &str,
+    ) -> Option<Result<(), Refused>> {
         match word {
-            "keep" => return self.files.keep(alloc, rest),
             "fetch" => self.files.fail_fetch(rest),
             "put" => self.files.fail_put(rest),
-            "dataset" => return put_dataset(alloc, &mut self.files.content, rest),
-            "fragment" => return put_fragment(alloc, &mut self.files.content, rest),
-            "constraint" => return put_constraint(alloc, &mut self.files.content, rest),
-            "catalogue" => return self.open(alloc),
-            "patterns" => return self.stage.add_patterns(alloc, rest),
-            "facts" => return self.stage.set_facts(alloc, rest),
-            "start" => return self.stage.set_start(alloc, rest),
-            "rule" => return self.stage.add_rule(alloc, rest),
-            _ => self.stage.forget_rules(alloc),
+            "rules" => self.stage.forget_rules(alloc),
+            _ => return None,
         }
-        Ok(())
+        Some(Ok(()))
     }
 
     // Answers what the words ask of what lines have set.
@@ -114,7 +111,10 @@ impl Script {
             "run" => self.files.run(rt, alloc, rest),
             "ends" => self.files.run_for_ends(rt, alloc, rest),
             "sweep" => put_sweep(rt, alloc, &self.files, rest),
-            "refused_gets" => put_refused_gets(rt, alloc, number(rest)),
+            "refused_gets" => {
+                put_refused_gets(rt, alloc, number(rest));
+                Ok(())
+            }
             "machine" => run_on_machine(rt, alloc, rest),
             "terms" => put_terms(rt, alloc),
             "table" | "key_row" | "codes" | "inside" => ask_model(rt, alloc, word, rest),
@@ -129,11 +129,13 @@ impl Script {
         alloc: Global,
         line: &str,
     ) -> Result<(), Refused> {
-        let (word, rest) = line.split_once(' ').unwrap_or((line, ""));
-        if is_setting(word) {
-            return self.set(alloc, word, rest);
+        let (word, rest) = parts(line, ' ');
+        if let Some(outcome) = self.set(alloc, word, rest) {
+            return outcome;
         }
-        let _ = println!(rt; "> {line}");
+        put(rt, "> ");
+        put(rt, line);
+        put(rt, "\n");
         self.ask(rt, alloc, word, rest)
     }
 
@@ -143,16 +145,16 @@ impl Script {
             return;
         }
         if line.starts_with('#') {
-            let _ = println!(rt; "{line}");
+            put(rt, line);
+            put(rt, "\n");
             return;
         }
         let outcome = match put_line(&mut self.files.content, line) {
-            Ok(true) => Ok(()),
-            Ok(false) => self.obey_words(rt, alloc, line),
-            Err(refused) => Err(refused),
+            Some(outcome) => outcome,
+            None => self.obey_words(rt, alloc, line),
         };
         if outcome.is_err() {
-            let _ = println!(rt; "refused");
+            put(rt, "refused\n");
         }
     }
 }

@@ -1,80 +1,60 @@
 //! Sets of numbers, and the minimal ones of them.
 
-use crate::printing::{put_set, put_sets};
-use crate::reading::{Refused, numbers, set_of};
-use esto_bits::{Products, RowBits, SetList};
+use crate::printing::{put, put_digits, put_set, put_sorted};
+use crate::reading::{Refused, parts, place, set};
+use esto_bits::{Products, RowBits};
 use std::alloc::Global;
 
-// The set that a word writes.
-fn set(alloc: Global, word: &str, count: usize) -> Result<RowBits, Refused> {
-    let numbers = numbers(alloc, word)?;
-    set_of(alloc, numbers.items(), count)
+/// What came of a set: whether it was covered, and whether it was then added.
+#[derive(Clone, Copy)]
+struct Added {
+    was_covered: bool,
+    is_added: bool,
 }
 
-fn either(is_so: bool, word: &'static str, other: &'static str) -> &'static str {
-    if is_so { word } else { other }
+// Puts in the set that a word writes.
+fn add(alloc: Global, products: &mut Products, word: &str) -> Result<Added, Refused> {
+    let set = set(alloc, word, products.count())?;
+    let was_covered = products.covered(&set);
+    let is_added = products.add(alloc, &set)?;
+    Ok(Added {
+        was_covered,
+        is_added,
+    })
 }
 
-// Whether a set is covered, whether it is then added, and how many are kept.
-fn put_added<R: Print>(
+// What came of a set, and how many are kept.
+fn put_added<R: Print>(rt: &R, added: Added, kept: usize) {
+    put(rt, if added.was_covered { "" } else { "not " });
+    put(rt, "covered, ");
+    put(rt, if added.is_added { "" } else { "not " });
+    put(rt, "added, ");
+    put_digits(rt, kept as u64);
+    put(rt, " kept\n");
+}
+
+// The products of the sets, in the order of the words. Where it tells, there is a line of each.
+fn products_of<R: Print>(
     rt: &R,
     alloc: Global,
-    products: &mut Products,
-    set: &RowBits,
-) -> Result<(), Refused> {
-    if set.count() != products.count() {
-        return Err(Refused);
-    }
-    let covered = either(products.covered(set), "covered", "not covered");
-    let added = either(products.add(alloc, set)?, "added", "not added");
-    let kept = products.len();
-    let _ = println!(rt; "{covered}, {added}, {kept} kept");
-    Ok(())
-}
-
-// The number that the first word writes, and the other words.
-fn count_of(line: &str) -> Option<(usize, &str)> {
-    let (count, words) = line.split_once(' ')?;
-    match count.parse::<usize>() {
-        Ok(count) => Some((count, words)),
-        Err(_) => None,
-    }
-}
-
-// A line of each set, in the order of the words.
-fn put_all_added<R: Print>(
-    rt: &R,
-    alloc: Global,
-    products: &mut Products,
+    count: usize,
     words: &str,
-) -> Result<(), Refused> {
+    tells: bool,
+) -> Result<Products, Refused> {
+    let mut products = Products::new(alloc, count);
     'words: for word in words.split(' ') {
-        let set = set(alloc, word, products.count())?;
-        put_added(rt, alloc, products, &set)?;
+        let added = add(alloc, &mut products, word)?;
+        if tells {
+            put_added(rt, added, products.len());
+        }
     }
-    Ok(())
+    Ok(products)
 }
 
 // A line of each set, in the order of the words, and then the kept ones, sorted.
 fn put_products<R: Print>(rt: &R, alloc: Global, count: usize, words: &str) -> Result<(), Refused> {
-    let mut products = Products::new(alloc, count);
-    put_all_added(rt, alloc, &mut products, words)?;
-    let sorted = products.sorted(alloc)?;
-    put_sets(rt, sorted.items());
-    Ok(())
-}
-
-// The products of the sets.
-fn products_of(alloc: Global, count: usize, words: &str) -> Result<Products, Refused> {
-    let mut products = Products::new(alloc, count);
-    'words: for word in words.split(' ') {
-        let set = set(alloc, word, count)?;
-        if set.count() != products.count() {
-            return Err(Refused);
-        }
-        products.add(alloc, &set)?;
-    }
-    Ok(products)
+    let products = products_of(rt, alloc, count, words, true)?;
+    put_sorted(rt, alloc, &products)
 }
 
 // Puts the numbers of each kept set into the union.
@@ -88,39 +68,40 @@ fn unite(products: &Products, union: &mut RowBits) {
 
 // The first set with the numbers of each kept one of the others.
 fn put_union<R: Print>(rt: &R, alloc: Global, count: usize, words: &str) -> Result<(), Refused> {
-    let (first, others) = words.split_once(' ').unwrap_or((words, ""));
+    let (first, others) = parts(words, ' ');
+    let products = products_of(rt, alloc, count, others, false)?;
     let mut union = set(alloc, first, count)?;
-    let products = products_of(alloc, count, others)?;
     unite(&products, &mut union);
     put_set(rt, &union);
     Ok(())
 }
 
 // The sorted kept ones of the unions of a set of the one side and one of the other.
-fn joined(alloc: Global, count: usize, left: &str, right: &str) -> Result<SetList, Refused> {
-    let left = products_of(alloc, count, left)?;
-    let right = products_of(alloc, count, right)?;
+fn put_unions<R: Print>(
+    rt: &R,
+    alloc: Global,
+    left: &Products,
+    right: &Products,
+) -> Result<(), Refused> {
     if left.count() != right.count() {
         return Err(Refused);
     }
-    let joined = left.joined(alloc, &right)?;
-    let sorted = joined.sorted(alloc)?;
-    Ok(sorted)
+    let joined = left.joined(alloc, right)?;
+    put_sorted(rt, alloc, &joined)
 }
 
 // The minimal unions of a set before `|` and one after it.
 fn put_joined<R: Print>(rt: &R, alloc: Global, count: usize, words: &str) -> Result<(), Refused> {
     let (left, right) = words.split_once(" | ").unwrap_or((words, "-"));
-    let sorted = joined(alloc, count, left, right)?;
-    put_sets(rt, sorted.items());
-    Ok(())
+    let left = products_of(rt, alloc, count, left, false)?;
+    let right = products_of(rt, alloc, count, right, false)?;
+    put_unions(rt, alloc, &left, &right)
 }
 
 /// Answers what the words ask of sets. The first word of the line is what the numbers are below.
 pub fn ask_sets<R: Print>(rt: &R, alloc: Global, word: &str, line: &str) -> Result<(), Refused> {
-    let Some((count, words)) = count_of(line) else {
-        return Err(Refused);
-    };
+    let (count, words) = parts(line, ' ');
+    let count = place(count)?;
     match word {
         "products" => put_products(rt, alloc, count, words),
         "union" => put_union(rt, alloc, count, words),

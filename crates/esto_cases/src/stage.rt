@@ -5,10 +5,9 @@ use crate::making::{
     RuleMade, denial_made, equal_rule_made, put_fault, query_made, tuple_rule_made,
 };
 use crate::matching::{put_active, put_answers, put_broken, put_matches, query, rule, start_of};
-use crate::orders::{
-    fragments_with, plan_of, put_access, put_is_order, put_order, put_plan, put_reached,
-};
-use crate::reading::{Refused, facts, patterns};
+use crate::orders::{ask_set, fragments_with, plan_of, put_access, put_plan};
+use crate::printing::put;
+use crate::reading::{Refused, facts, patterns, place};
 use crate::worlds::{put_derivation, put_entries, put_listed, put_products_of};
 use esto_catalog::{Catalogue, read_catalogue};
 use esto_constraint::Rules;
@@ -89,16 +88,23 @@ impl Stage {
         self.rules = List::new(alloc);
     }
 
-    fn matches<R: Print>(&self, rt: &R, alloc: Global, text: &str) -> Result<(), Refused> {
+    // Answers what is asked about a query.
+    fn ask_query<R: Print>(
+        &self,
+        rt: &R,
+        alloc: Global,
+        word: &str,
+        text: &str,
+    ) -> Result<(), Refused> {
         let query = query(alloc, &self.catalogue, text)?;
-        put_matches(rt, alloc, &query, &self.facts, &self.start)
+        match word {
+            "matches" => put_matches(rt, alloc, &query, &self.facts, &self.start),
+            "answers" => put_answers(rt, alloc, &query, &self.facts),
+            _ => put_chase(rt, alloc, &self.catalogue.schema, &self.rules, &query),
+        }
     }
 
-    fn answers<R: Print>(&self, rt: &R, alloc: Global, text: &str) -> Result<(), Refused> {
-        let query = query(alloc, &self.catalogue, text)?;
-        put_answers(rt, alloc, &query, &self.facts)
-    }
-
+    // The least active match of a rule.
     fn active<R: Print>(&self, rt: &R, alloc: Global, text: &str) -> Result<(), Refused> {
         let rule = rule(alloc, &self.catalogue, text)?;
         put_active(rt, alloc, &rule, &self.facts)
@@ -106,25 +112,16 @@ impl Stage {
 
     // The least active match of the rule of this number.
     fn active_of<R: Print>(&self, rt: &R, alloc: Global, word: &str) -> Result<(), Refused> {
-        let Ok(number) = word.parse::<usize>() else {
-            return Err(Refused);
-        };
+        let number = place(word)?;
         match self.rules.items().get(number) {
             Some(rule) => put_active(rt, alloc, rule, &self.facts),
             None => Err(Refused),
         }
     }
 
-    fn chase<R: Print>(&self, rt: &R, alloc: Global, text: &str) -> Result<(), Refused> {
-        let query = query(alloc, &self.catalogue, text)?;
-        put_chase(rt, alloc, &self.catalogue.schema, &self.rules, &query)
-    }
-
     fn make_query<R: Print>(&self, rt: &R, alloc: Global, line: &str) -> Result<(), Refused> {
         match query_made(alloc, &self.catalogue.schema, line)? {
-            Ok(_) => {
-                let _ = println!(rt; "made");
-            }
+            Ok(_) => put(rt, "made\n"),
             Err(fault) => put_fault(rt, fault),
         }
         Ok(())
@@ -135,7 +132,7 @@ impl Stage {
         match made {
             Ok(rule) => {
                 self.rules.push(rule)?;
-                let _ = println!(rt; "made");
+                put(rt, "made\n");
             }
             Err(fault) => put_fault(rt, fault),
         }
@@ -157,10 +154,7 @@ impl Stage {
             "make_denial" => denial_made(alloc, &self.catalogue.schema, rest),
             _ => return Err(Refused),
         };
-        match made {
-            Ok(made) => self.keep_made(rt, made),
-            Err(refused) => Err(refused),
-        }
+        self.keep_made(rt, made?)
     }
 
     /// Makes the plan of a query, and prints it.
@@ -200,7 +194,7 @@ impl Stage {
         Ok(())
     }
 
-    // Answers what is asked about a set of the plan's atoms.
+    // Answers what is asked about an atom of the plan, or a set of them.
     fn ask_plan<R: Print>(
         &self,
         rt: &R,
@@ -211,13 +205,10 @@ impl Stage {
         let Some(plan) = &self.plan else {
             return Err(Refused);
         };
-        let fragments = fragments_with(alloc, &self.catalogue, &self.patterns)?;
+        let fragments = fragments_with(alloc, &self.catalogue, self.patterns.items())?;
         match word {
-            "order" => put_order(rt, alloc, plan, &fragments, rest),
-            "is_order" => put_is_order(rt, alloc, plan, &fragments, rest),
             "access" => put_access(rt, alloc, plan, &fragments, rest),
-            "reached" => put_reached(rt, alloc, plan, &fragments, rest),
-            _ => Err(Refused),
+            _ => ask_set(rt, alloc, plan, &fragments, word, rest),
         }
     }
 
@@ -230,12 +221,10 @@ impl Stage {
         rest: &str,
     ) -> Result<(), Refused> {
         match word {
-            "matches" => self.matches(rt, alloc, rest),
-            "answers" => self.answers(rt, alloc, rest),
+            "matches" | "answers" | "chase" => self.ask_query(rt, alloc, word, rest),
             "active" => self.active(rt, alloc, rest),
             "active_of" => self.active_of(rt, alloc, rest),
             "meets" => put_broken(rt, alloc, &self.rules, &self.facts),
-            "chase" => self.chase(rt, alloc, rest),
             "entries" | "why" | "products_of" => self.ask_entries(rt, alloc, word, rest),
             _ => self.ask_plan(rt, alloc, word, rest),
         }

@@ -1,7 +1,7 @@
 //! A command line over the files in memory, of which each fetch and the put fails in turn, and is refused in turn.
 
 use crate::files::{FileSet, NONE, Ran, Trouble, words_of};
-use crate::printing::put_bytes;
+use crate::printing::{put, put_bytes, put_counted, put_digits};
 use crate::reading::Refused;
 use esto_term::Text;
 use std::alloc::Global;
@@ -14,22 +14,23 @@ struct Sweep<'a> {
 }
 
 // The names of the files that were asked for, in order.
-fn put_asked<R: Print>(rt: &R, ran: &Ran) {
-    let _ = print!(rt; "asked");
-    'names: for name in ran.shelf.asked().items() {
-        let _ = print!(rt; " ");
+fn put_asked<R: Print>(rt: &R, names: &[Text]) {
+    put(rt, "asked");
+    'names: for name in names {
+        put(rt, " ");
         put_bytes(rt, name.bytes());
     }
-    let _ = println!(rt; "");
+    put(rt, "\n");
 }
 
 // What was put, the status, and how many files were asked for and how many puts there were.
 fn put_outcome<R: Print>(rt: &R, ran: &Ran) {
     put_bytes(rt, ran.out.written());
-    let code = ran.code;
-    let fetches = ran.shelf.asked().len();
-    let puts = ran.out.puts();
-    let _ = println!(rt; "status {code}, fetches {fetches}, puts {puts}");
+    put(rt, "status ");
+    put_digits(rt, ran.code as u64);
+    put(rt, ", fetches ");
+    put_digits(rt, ran.shelf.asked().len() as u64);
+    put_counted(rt, ", puts ", ran.out.puts());
 }
 
 impl Sweep<'_> {
@@ -37,12 +38,20 @@ impl Sweep<'_> {
         self.files.ran(alloc, self.words, trouble)
     }
 
+    // What comes of it where this goes wrong.
+    fn put_run<R: Print>(&self, rt: &R, alloc: Global, trouble: Trouble) -> Result<(), Refused> {
+        let ran = self.run(alloc, trouble)?;
+        put_outcome(rt, &ran);
+        Ok(())
+    }
+
     // Each fetch fails.
     fn fail_fetches<R: Print>(&self, rt: &R, alloc: Global, count: u64) -> Result<(), Refused> {
         'fetches: for fetch in 1..=count {
-            let _ = println!(rt; "fetch {fetch} fails");
-            let ran = self.run(alloc, Trouble { fetch, ..NONE })?;
-            put_outcome(rt, &ran);
+            put(rt, "fetch ");
+            put_digits(rt, fetch);
+            put(rt, " fails\n");
+            self.put_run(rt, alloc, Trouble { fetch, ..NONE })?;
         }
         Ok(())
     }
@@ -50,55 +59,74 @@ impl Sweep<'_> {
     // Memory is wanting at each fetch.
     fn refuse_fetches<R: Print>(&self, rt: &R, alloc: Global, count: u64) -> Result<(), Refused> {
         'fetches: for refused_fetch in 1..=count {
-            let _ = println!(rt; "fetch {refused_fetch} is refused");
-            let ran = self.run(
+            put(rt, "fetch ");
+            put_digits(rt, refused_fetch);
+            put(rt, " is refused\n");
+            self.put_run(
+                rt,
                 alloc,
                 Trouble {
                     refused_fetch,
                     ..NONE
                 },
             )?;
-            put_outcome(rt, &ran);
         }
         Ok(())
+    }
+
+    // Whether the put, where it fails after so many bytes, leaves these bytes alone and the status of a write fault.
+    fn leaves(&self, alloc: Global, bytes: &[u8]) -> Result<bool, Refused> {
+        let kept = bytes.len() as u64;
+        let ran = self.run(
+            alloc,
+            Trouble {
+                put: 1,
+                kept,
+                ..NONE
+            },
+        )?;
+        Ok(ran.code == 4 && ran.out.written() == bytes)
     }
 
     // The put fails after each number of bytes of the text, and how often that left these bytes alone and the status of a
     // write fault.
     fn fail_puts<R: Print>(&self, rt: &R, alloc: Global, text: &[u8]) -> Result<(), Refused> {
-        let mut right = 0usize;
+        let mut right = 0u64;
         'counts: for kept in 0..=text.len() {
-            let ran = self.run(
-                alloc,
-                Trouble {
-                    put: 1,
-                    kept: kept as u64,
-                    ..NONE
-                },
-            )?;
-            if ran.code == 4 && ran.out.written() == &text[..kept] {
+            if self.leaves(alloc, &text[..kept])? {
                 right = right.saturating_add(1);
             }
         }
-        let length = text.len();
-        let _ = println!(rt;
-            "put fails after 0 to {length} bytes, which it leaves with status 4: {right} times"
-        );
+        put(rt, "put fails after 0 to ");
+        put_digits(rt, text.len() as u64);
+        put(rt, " bytes, which it leaves with status 4: ");
+        put_digits(rt, right);
+        put(rt, " times\n");
         Ok(())
     }
 
     // Memory is wanting at the put.
     fn refuse_put<R: Print>(&self, rt: &R, alloc: Global) -> Result<(), Refused> {
-        let _ = println!(rt; "put is refused");
-        let ran = self.run(
+        put(rt, "put is refused\n");
+        self.put_run(
+            rt,
             alloc,
             Trouble {
                 refused_put: 1,
                 ..NONE
             },
-        )?;
-        put_outcome(rt, &ran);
-        Ok(())
+        )
+    }
+
+    // What it asks for, and what comes of it where each fetch fails and is refused, and where the put fails.
+    fn put_all<R: Print>(&self, rt: &R, alloc: Global) -> Result<(), Refused> {
+        let whole = self.run(alloc, NONE)?;
+        let names = whole.shelf.asked().items();
+        put_asked(rt, names);
+        let count = names.len() as u64;
+        self.fail_fetches(rt, alloc, count)?;
+        self.refuse_fetches(rt, alloc, count)?;
+        self.fail_puts(rt, alloc, whole.out.written())
     }
 }
 
@@ -115,11 +143,6 @@ pub fn put_sweep<R: Print>(
         files,
         words: words.items(),
     };
-    let whole = sweep.run(alloc, NONE)?;
-    put_asked(rt, &whole);
-    let count = whole.shelf.asked().len() as u64;
-    sweep.fail_fetches(rt, alloc, count)?;
-    sweep.refuse_fetches(rt, alloc, count)?;
-    sweep.fail_puts(rt, alloc, whole.out.written())?;
+    sweep.put_all(rt, alloc)?;
     sweep.refuse_put(rt, alloc)
 }

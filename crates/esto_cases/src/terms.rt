@@ -1,6 +1,7 @@
 //! Terms: how deep they nest, and how they compare.
 
-use crate::reading::Refused;
+use crate::printing::{put, put_digits};
+use crate::reading::{Refused, text};
 use esto_term::{List, Replicate, Term, Text, TextError};
 use std::alloc::Global;
 use std::cmp::Ordering;
@@ -9,32 +10,37 @@ use std::cmp::Ordering;
 fn rising(alloc: Global) -> Result<List<Term>, Refused> {
     let mut frontier = List::new(alloc);
     frontier.push(Term::Plain(0))?;
-    let mut terms = List::new(alloc);
-    terms.push(Term::Const(Text::from_str(alloc, "b")?))?;
-    terms.push(Term::Plain(0))?;
-    terms.push(Term::Made(1, 0, List::new(alloc)))?;
-    terms.push(Term::Made(0, 0, frontier))?;
-    Ok(terms)
+    let constant = Term::Const(text(alloc, "b")?);
+    let unlike = Term::Made(1, 0, List::new(alloc));
+    match vec![in alloc;
+        constant,
+        Term::Plain(0),
+        unlike,
+        Term::Made(0, 0, frontier),
+    ] {
+        Ok(terms) => Ok(List::from_vec(terms)),
+        Err(_) => Err(Refused),
+    }
 }
 
 fn word(order: Ordering) -> &'static str {
     match order {
-        Ordering::Less => "less",
-        Ordering::Equal => "equal",
-        Ordering::Greater => "greater",
+        Ordering::Less => " less",
+        Ordering::Equal => " equal",
+        Ordering::Greater => " greater",
     }
 }
 
 // A line of a term: its nesting, and how it compares with each of the terms.
 fn put_term<R: Print>(rt: &R, term: &Term, others: &[Term]) {
-    let nesting = term.nesting();
-    let _ = print!(rt; "nesting {nesting}:");
+    put(rt, "nesting ");
+    put_digits(rt, term.nesting());
+    put(rt, ":");
     'others: for other in others {
-        let word = word(term.compare(other));
-        let same = if term.equal(other) { " same" } else { "" };
-        let _ = print!(rt; " {word}{same}");
+        put(rt, word(term.compare(other)));
+        put(rt, if term.equal(other) { " same" } else { "" });
     }
-    let _ = println!(rt; "");
+    put(rt, "\n");
 }
 
 /// A line of each of four terms that rise, and one of bytes that are no text.
@@ -43,10 +49,9 @@ pub fn put_terms<R: Print>(rt: &R, alloc: Global) -> Result<(), Refused> {
     'terms: for term in terms.items() {
         put_term(rt, term, terms.items());
     }
-    let answer = match Text::from_bytes(alloc, b"\xff") {
-        Err(TextError::NotUtf8) => "no text",
-        _ => "a text",
-    };
-    let _ = println!(rt; "{answer}");
+    match Text::from_bytes(alloc, b"\xff") {
+        Err(TextError::NotUtf8) => put(rt, "no text\n"),
+        _ => put(rt, "a text\n"),
+    }
     Ok(())
 }

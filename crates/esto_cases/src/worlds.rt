@@ -1,15 +1,26 @@
 //! The list of a query by both of its bodies, and the entries of the conditional chase that it comes from.
-ghost use Rattle.std.specs.Prelude.{◌<◌, length, IfSome};
+ghost use Rattle.std.specs.Prelude.{◌≡◌, ◌<◌, length, IfSome};
+ghost use Rattle.esto_constraint.specs.Constraints.{rules_of};
+ghost use Rattle.esto_query.specs.Making.{query_of};
+ghost use Rattle.esto_semantics.specs.Containment.{IsSatisfiable};
+ghost use Rattle.esto_semantics.specs.Plans.{IsUniversalPlan};
+ghost use Rattle.esto_views.specs.Fragments.{views_of};
+ghost use Rattle.esto_views.specs.Plans.{plan_query, IsPlanOver};
 
-use crate::printing::{put_members, put_numbers, put_sets, put_term, put_terms};
+use crate::printing::{
+    put, put_digits, put_members, put_number, put_numbers, put_sets, put_sorted, put_term,
+    put_terms,
+};
 use crate::reading::Refused;
 use either::{Left, Right};
-use esto_backchase::{Backchase, minimal_sets, minimal_sets_plain};
+use esto_backchase::{minimal_sets, minimal_sets_plain};
 use esto_bits::{Products, RowBits};
 use esto_catalog::Catalogue;
 use esto_core::printed_plan;
 use esto_prov::{Claim, Entries, Entry, Reason, Why};
 use esto_query::Query;
+use esto_term::OutOfMemory;
+use esto_views::Plan;
 use std::alloc::Global;
 
 // Whether the sets are the same, in the same order.
@@ -31,17 +42,38 @@ fn put_compared<R: Print>(
     alloc: Global,
     sets: &Products,
     others: &Products,
-) -> Result<(), Refused> {
+) -> Result<(), OutOfMemory> {
     let sets = sets.sorted(alloc)?;
     let others = others.sorted(alloc)?;
     put_sets(rt, sets.items());
-    let found = if are_same(sets.items(), others.items()) {
-        "the same"
+    put(rt, "the plain search finds ");
+    if are_same(sets.items(), others.items()) {
+        put(rt, "the same\n");
     } else {
-        "others"
-    };
-    let _ = println!(rt; "the plain search finds {found}");
+        put(rt, "others\n");
+    }
     Ok(())
+}
+
+// The sets of the query's list over the plan, sorted, and whether the plain search finds the same ones. The answer has the
+// entries that the list comes from.
+fn put_list<R: Print>(
+    rt: &R,
+    alloc: Global,
+    catalogue: &Catalogue,
+    query: &Query,
+    plan: &Plan,
+) -> Result<Entries, Refused>
+    requires over { IsPlanOver plan.now catalogue.now.fragments }
+    requires same_length { length plan.now.head ≡ length query.now.head }
+    requires universal { IsUniversalPlan (rules_of catalogue.now.rules)
+        (views_of catalogue.now.fragments) (query_of query.now) (plan_query plan.now) }
+    requires satisfiable { IsSatisfiable (rules_of catalogue.now.rules) (query_of query.now) }
+{
+    let plain = minimal_sets_plain(alloc, plan, query, catalogue)?;
+    let list = minimal_sets(alloc, plan, query, catalogue)?;
+    put_compared(rt, alloc, &list.sets, &plain)?;
+    Ok(list.entries)
 }
 
 /// The sets of the query's list over its printed plan, sorted, and whether the plain search finds the same ones. The answer
@@ -57,10 +89,7 @@ pub fn put_listed<R: Print>(
             if plan.head.len() != query.head.len() {
                 return Err(Refused);
             }
-            let plain = minimal_sets_plain(alloc, &plan, query, catalogue)?;
-            let Backchase { entries, sets } = minimal_sets(alloc, &plan, query, catalogue)?;
-            put_compared(rt, alloc, &sets, &plain)?;
-            Ok(entries)
+            put_list(rt, alloc, catalogue, query, &plan)
         }
         Right(_) => Err(Refused),
     }
@@ -69,12 +98,13 @@ pub fn put_listed<R: Print>(
 fn put_claim<R: Print>(rt: &R, claim: &Claim) {
     match claim {
         Claim::Fact(fact) => {
-            let relation = fact.relation;
-            let _ = print!(rt; "fact {relation} : ");
+            put(rt, "fact ");
+            put_number(rt, fact.relation as u64);
+            put(rt, ": ");
             put_terms(rt, fact.terms.items());
         }
         Claim::Same(left, right) => {
-            let _ = print!(rt; "same : ");
+            put(rt, "same : ");
             put_term(rt, left);
             put_term(rt, right);
         }
@@ -84,25 +114,30 @@ fn put_claim<R: Print>(rt: &R, claim: &Claim) {
 fn put_reason<R: Print>(rt: &R, reason: &Reason) {
     match reason {
         Reason::Expanded(atom, place) => {
-            let _ = println!(rt; "expanded {atom} {place}");
+            put(rt, "expanded ");
+            put_number(rt, *atom as u64);
+            put_digits(rt, *place as u64);
+            put(rt, "\n");
         }
         Reason::Step(number, places) => {
-            let _ = print!(rt; "step {number} by ");
+            put(rt, "step ");
+            put_number(rt, *number as u64);
+            put(rt, "by ");
             put_numbers(rt, places.items());
         }
         Reason::Equal(places) => {
-            let _ = print!(rt; "equal by ");
+            put(rt, "equal by ");
             put_numbers(rt, places.items());
         }
     }
 }
 
 fn put_entry<R: Print>(rt: &R, number: usize, entry: &Entry) {
-    let _ = print!(rt; "{number} ");
+    put_number(rt, number as u64);
     put_claim(rt, &entry.claim);
-    let _ = print!(rt; ": ");
+    put(rt, ": ");
     put_members(rt, &entry.product);
-    let _ = print!(rt; ": ");
+    put(rt, ": ");
     put_reason(rt, &entry.reason);
 }
 
@@ -127,14 +162,18 @@ fn place_of(entries: &Entries, word: &str) -> Option<usize>
 fn put_why<R: Print>(rt: &R, why: &Why) {
     match why {
         Why::Expanded(atom, place) => {
-            let _ = print!(rt; "expanded {atom} {place} ");
+            put(rt, "expanded ");
+            put_number(rt, *atom as u64);
+            put_number(rt, *place as u64);
         }
         Why::Step(number, parts) => {
-            let _ = print!(rt; "step {number} ( ");
+            put(rt, "step ");
+            put_number(rt, *number as u64);
+            put(rt, "( ");
             put_whys(rt, parts.items());
         }
         Why::Same(parts) => {
-            let _ = print!(rt; "equal ( ");
+            put(rt, "equal ( ");
             put_whys(rt, parts.items());
         }
     }
@@ -145,7 +184,7 @@ fn put_whys<R: Print>(rt: &R, parts: &[Why]) {
     'parts: for part in parts {
         put_why(rt, part);
     }
-    let _ = print!(rt; ") ");
+    put(rt, ") ");
 }
 
 /// The derivation of the entry of that number.
@@ -159,7 +198,7 @@ pub fn put_derivation<R: Print>(
         return Err(Refused);
     };
     put_why(rt, &entries.why(alloc, place)?);
-    let _ = println!(rt; "");
+    put(rt, "\n");
     Ok(())
 }
 
@@ -174,7 +213,5 @@ pub fn put_products_of<R: Print>(
         return Err(Refused);
     };
     let products = entries.products_of(alloc, &entries.item(place).claim)?;
-    let sorted = products.sorted(alloc)?;
-    put_sets(rt, sorted.items());
-    Ok(())
+    put_sorted(rt, alloc, &products)
 }
