@@ -41,19 +41,24 @@ fn script_of<R: Files>(rt: &R, alloc: Global, name: &str) -> Result<Text, Refuse
     }
 }
 
-// Does what the lines say, one after the other.
-fn obey_lines<R: Files + Print>(rt: &R, alloc: Global, script: &mut Script, lines: &str) {
-    'lines: for line in lines.split('\n') {
+// Does what the lines of the file of that name say, one after the other.
+fn obey_lines<R: Files + Print>(
+    rt: &R,
+    alloc: Global,
+    script: &mut Script,
+    name: &str,
+) -> Result<(), Refused> {
+    let lines = script_of(rt, alloc, name)?;
+    'lines: for line in lines.as_str().split('\n') {
         script.obey(rt, alloc, line);
     }
+    Ok(())
 }
 
 // Does what the lines of a script say.
 fn obey_all<R: Files + Print>(rt: &R, alloc: Global, name: &str) -> Result<(), Refused> {
-    let lines = script_of(rt, alloc, name)?;
     let mut script = Script::new(alloc)?;
-    obey_lines(rt, alloc, &mut script, lines.as_str());
-    Ok(())
+    obey_lines(rt, alloc, &mut script, name)
 }
 
 fn main(rt: HostRuntime) -> ExitCode {

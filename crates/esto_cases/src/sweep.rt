@@ -118,15 +118,21 @@ impl Sweep<'_> {
         )
     }
 
-    // What it asks for, and what comes of it where each fetch fails and is refused, and where the put fails.
-    fn put_all<R: Print>(&self, rt: &R, alloc: Global) -> Result<(), Refused> {
-        let whole = self.run(alloc, NONE)?;
+    // What the run with nothing wrong asks for, and what comes of it where each fetch fails and is refused, and the put.
+    fn put_troubles<R: Print>(&self, rt: &R, alloc: Global, whole: &Ran) -> Result<(), Refused> {
         let names = whole.shelf.asked().items();
         put_asked(rt, names);
         let count = names.len() as u64;
         self.fail_fetches(rt, alloc, count)?;
         self.refuse_fetches(rt, alloc, count)?;
-        self.fail_puts(rt, alloc, whole.out.written())
+        self.fail_puts(rt, alloc, whole.out.written())?;
+        self.refuse_put(rt, alloc)
+    }
+
+    // Runs the command line with nothing wrong, and then with each trouble.
+    fn put_all<R: Print>(&self, rt: &R, alloc: Global) -> Result<(), Refused> {
+        let whole = self.run(alloc, NONE)?;
+        self.put_troubles(rt, alloc, &whole)
     }
 }
 
@@ -143,6 +149,5 @@ pub fn put_sweep<R: Print>(
         files,
         words: words.items(),
     };
-    sweep.put_all(rt, alloc)?;
-    sweep.refuse_put(rt, alloc)
+    sweep.put_all(rt, alloc)
 }
