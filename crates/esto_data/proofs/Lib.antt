@@ -1,5 +1,6 @@
 pub mod Steps
 pub mod StepLemmas
+pub mod CourseLemmas
 pub mod DatasetLemmas
 pub mod RowLemmas
 pub mod FindLemmas

@@ -33,12 +33,22 @@ IsUnionAnswerOfFacts queries facts values = IsUnionAnswer (map query_of queries)
 abbrev pub lists_texts : (List Value → Type 0) → Course Status (List Row)
 lists_texts Rows = judges (AreTextsOf Rows) (λ refusal. (column : ℕ) × IsFirstNodeColumn Rows column × (refusal ≡ NodeInRow column))
 
+-- The text of the answers of the union of the queries over the facts is the reply.
+abbrev pub answers_facts : List Query → List (Fact Term) → Course Status Reply
+answers_facts queries facts =
+    and_then (lists_texts (IsUnionAnswerOfFacts queries facts)) (λ rows.
+    gives (Done (union_rows_text queries rows)))
+
 -- The datasets that one of the queries names are loaded, and the text of the answers of their union is the reply.
 abbrev pub answers_union : Option Files → Catalogue → List Query → Course Status Reply
 answers_union files catalogue queries =
     and_then (loads files catalogue.datasets (OneNames (map query_of queries))) (λ facts.
     and_then (lists_texts (IsUnionAnswerOfFacts queries facts)) (λ rows.
     gives (Done (union_rows_text queries rows))))
+
+-- The union of queries is fetched and read, and it is answered.
+abbrev pub answers_read : Option Files → List ℕ → Catalogue → Course Status Reply
+answers_read files query_name catalogue = and_then (opens_union files query_name catalogue) (answers_union files catalogue)
 
 -- The catalogue is fetched and read, then the union of queries, and it is answered.
 abbrev pub answer_course : Option Files → List ℕ → List ℕ → Course Status Reply

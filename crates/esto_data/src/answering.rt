@@ -1,7 +1,7 @@
 //! The command `answer`.
 ghost use Rattle.std.specs.Prelude.{◌≡◌, ◌≤◌};
 ghost use Rattle.esto_ports.specs.Faults.{Rises};
-ghost use Rattle.esto_data.specs.Answer.{IsUnionAnswerOfFacts, answer_course, answers_union, lists_texts};
+ghost use Rattle.esto_data.specs.Answer.{IsUnionAnswerOfFacts, answer_course, answers_facts, answers_read, answers_union, lists_texts};
 ghost use Rattle.esto_opening.specs.Answers.{Answers};
 ghost use Rattle.esto_opening.specs.Asked.{AsksIn};
 ghost use Rattle.esto_opening.specs.Unions.{FormUnion};
@@ -25,6 +25,16 @@ fn rows_of(alloc: Global, queries: &Queries, loaded: &Loaded) -> Result<TextRows
     }
 }
 
+// Gives the text of the answers of the union of the queries over the facts.
+fn answer_loaded(alloc: Global, queries: &Queries, loaded: &Loaded) -> Result<Reply, Status>
+    requires { FormUnion queries.now }
+    ensures { Answers (answers_facts queries.now loaded.now.facts) ⊥ result }
+{
+    let rows = rows_of(alloc, queries, loaded)?;
+    let text = union_rows_text(alloc, queries, &rows)?;
+    Ok(Reply::Done(text))
+}
+
 // Loads the datasets that one of the queries names, and gives the text of the answers of their union.
 #[tactic(auto, using(crate::proofs::Steps::steps, crate::proofs::Steps::asked_steps))]
 fn answer_queries<S: Shelf>(
@@ -42,9 +52,25 @@ fn answer_queries<S: Shelf>(
     ensures later { S.faults shelf.old ≤ S.faults shelf.new }
 {
     let loaded = load_union(alloc, shelf, catalogue, queries)?;
-    let rows = rows_of(alloc, queries, &loaded)?;
-    let text = union_rows_text(alloc, queries, &rows)?;
-    Ok(Reply::Done(text))
+    answer_loaded(alloc, queries, &loaded)
+}
+
+// Fetches and reads the union of queries, and answers it.
+fn answer_read<S: Shelf>(
+    alloc: Global,
+    shelf: &mut S,
+    catalogue: &Catalogue,
+    query: &Text,
+) -> Result<Reply, Status>
+    ensures answer { Answers (answers_read (S.files shelf.old) query.now catalogue.now)
+        (Rises S.faults shelf.old shelf.new) result }
+    ensures asked { AsksIn (S.asked shelf.old) (S.asked shelf.new)
+        (answers_read (S.files shelf.old) query.now catalogue.now) result }
+    ensures files { S.files shelf.new ≡ S.files shelf.old }
+    ensures later { S.faults shelf.old ≤ S.faults shelf.new }
+{
+    let queries = open_union(alloc, shelf, query, catalogue)?;
+    answer_queries(alloc, shelf, catalogue, &queries)
 }
 
 /// Fetches and reads the catalogue, then the union of queries, loads the datasets that one of them names, and gives the text
@@ -64,7 +90,5 @@ pub fn answer<S: Shelf>(
     ensures later { S.faults shelf.old ≤ S.faults shelf.new }
 {
     let catalogue = open_catalogue(alloc, shelf, catalogue)?;
-    let queries = open_union(alloc, shelf, query, &catalogue)?;
-    let reply = answer_queries(alloc, shelf, &catalogue, &queries)?;
-    Ok(reply)
+    answer_read(alloc, shelf, &catalogue, query)
 }

@@ -162,8 +162,7 @@ fn audit_catalogue<S: Shelf>(
     ensures later { S.faults shelf.old ≤ S.faults shelf.new }
 {
     let loaded = load_all(alloc, shelf, catalogue)?;
-    let reply = audit_facts(alloc, shelf, catalogue, &loaded)?;
-    Ok(reply)
+    audit_facts(alloc, shelf, catalogue, &loaded)
 }
 
 /// Fetches and reads the catalogue, loads all datasets, opens the files of all fragments, and tells that the facts meet the
@@ -178,6 +177,5 @@ pub fn audit<S: Shelf>(alloc: Global, shelf: &mut S, catalogue: &Text) -> Result
     ensures later { S.faults shelf.old ≤ S.faults shelf.new }
 {
     let catalogue = open_catalogue(alloc, shelf, catalogue)?;
-    let reply = audit_catalogue(alloc, shelf, &catalogue)?;
-    Ok(reply)
+    audit_catalogue(alloc, shelf, &catalogue)
 }

@@ -101,8 +101,7 @@ fn fill_named<S: Shelf>(
     ensures later { S.faults shelf.old ≤ S.faults shelf.new }
 {
     let number = find_fragment(alloc, catalogue, name)?;
-    let reply = fill_fragment(alloc, shelf, catalogue, number)?;
-    Ok(reply)
+    fill_fragment(alloc, shelf, catalogue, number)
 }
 
 /// Fetches and reads the catalogue, finds the fragment of the name, loads the datasets that its view names, and gives the
@@ -122,6 +121,5 @@ pub fn fill<S: Shelf>(
     ensures later { S.faults shelf.old ≤ S.faults shelf.new }
 {
     let catalogue = open_catalogue(alloc, shelf, catalogue)?;
-    let reply = fill_named(alloc, shelf, &catalogue, name)?;
-    Ok(reply)
+    fill_named(alloc, shelf, &catalogue, name)
 }
