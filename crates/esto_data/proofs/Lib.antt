@@ -1,4 +1,3 @@
-pub mod Steps
 pub mod StepLemmas
 pub mod CourseLemmas
 pub mod DatasetLemmas

@@ -36,18 +36,6 @@ use Rattle.esto_term.proofs.ListLemmas.{thing_at}
 use Rattle.esto_opening.specs.declared.status.Status.{Status}
 use Rattle.esto_opening.specs.declared.status.Status.TheVariants as status
 
--- ---- a step that reads files, and what follows over the same files
-
-module _ {A : Type 0} (first : Course Status A) (rest : Option Files → A → Course Status Reply) (files later : Option Files) (same : later ≡ files) (value : A)
-    (goes : first.goes value) where
-  pub chain_goes : (reply : Reply) → (rest later value).goes reply → (and_then first (rest files)).goes reply
-  chain_goes reply more = then_goes first (rest files) value reply goes (subst (λ (it : Option Files). (rest it value).goes reply) same more)
-
-  pub chain_stops : {rose : Type 0} {refusal : Status} → Stops IsWant (IsCaused rose) (rest later value) refusal
-      → Stops IsWant (IsCaused rose) (and_then first (rest files)) refusal
-  chain_stops {rose} {refusal} stops =
-      then_stops first (rest files) value goes (subst (λ (it : Option Files). Stops IsWant (IsCaused rose) (rest it value) refusal) same stops)
-
 -- ---- `answer`
 
 pub node_stops : (Rows : List Value → Type 0) (column : ℕ) → IsFirstNodeColumn Rows column

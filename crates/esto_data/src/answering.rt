@@ -36,7 +36,6 @@ fn answer_loaded(alloc: Global, queries: &Queries, loaded: &Loaded) -> Result<Re
 }
 
 // Loads the datasets that one of the queries names, and gives the text of the answers of their union.
-#[tactic(auto, using(crate::proofs::Steps::steps, crate::proofs::Steps::asked_steps))]
 fn answer_queries<S: Shelf>(
     alloc: Global,
     shelf: &mut S,
@@ -75,7 +74,6 @@ fn answer_read<S: Shelf>(
 
 /// Fetches and reads the catalogue, then the union of queries, loads the datasets that one of them names, and gives the text
 /// of their answers over the facts.
-#[tactic(auto, using(crate::proofs::Steps::run_steps, crate::proofs::Steps::asked_steps))]
 pub fn answer<S: Shelf>(
     alloc: Global,
     shelf: &mut S,

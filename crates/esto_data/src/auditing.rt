@@ -148,7 +148,6 @@ fn audit_facts<S: Shelf>(
 }
 
 // Loads all datasets, and audits their facts.
-#[tactic(auto, using(crate::proofs::Steps::run_steps, crate::proofs::Steps::asked_steps))]
 fn audit_catalogue<S: Shelf>(
     alloc: Global,
     shelf: &mut S,
@@ -167,7 +166,6 @@ fn audit_catalogue<S: Shelf>(
 
 /// Fetches and reads the catalogue, loads all datasets, opens the files of all fragments, and tells that the facts meet the
 /// rules and that each fragment holds exactly the rows of its view, or the first difference.
-#[tactic(auto, using(crate::proofs::Steps::run_steps, crate::proofs::Steps::asked_steps))]
 pub fn audit<S: Shelf>(alloc: Global, shelf: &mut S, catalogue: &Text) -> Result<Reply, Status>
     ensures answer { Answers (audit_course (S.files shelf.old) catalogue.now)
         (Rises S.faults shelf.old shelf.new) result }

@@ -86,7 +86,6 @@ fn fill_fragment<S: Shelf>(
 }
 
 // Finds the fragment of the name, and fills its file.
-#[tactic(auto, using(crate::proofs::Steps::run_steps, crate::proofs::Steps::asked_steps))]
 fn fill_named<S: Shelf>(
     alloc: Global,
     shelf: &mut S,
@@ -106,7 +105,6 @@ fn fill_named<S: Shelf>(
 
 /// Fetches and reads the catalogue, finds the fragment of the name, loads the datasets that its view names, and gives the
 /// text of its file with the rows of the view over their facts.
-#[tactic(auto, using(crate::proofs::Steps::run_steps, crate::proofs::Steps::asked_steps))]
 pub fn fill<S: Shelf>(
     alloc: Global,
     shelf: &mut S,
