@@ -67,6 +67,12 @@ pub end_stops : {A : Type 0} {course : Course Status A} (before before' now' now
 end_stops {course = course} before before' now' now stops early inner late =
     caused_more course _ (caused_weaker (rose_within before before' now' now early inner late)) stops
 
+-- a first step goes on, and what follows, which fetches nothing, answers
+pub then_answers_still : {A B : Type 0} (first : Course Status A) (next : A → Course Status B) (rose : Type 0) (value : A) (result : Result B Status)
+    → first.goes value → Answers (next value) ⊥ result → Answers (and_then first next) rose result
+then_answers_still first next rose value (Ok given) goes answer = then_goes first next value given goes answer
+then_answers_still first next rose value (Err status) goes stops = then_stops first next value goes (last_stops stops)
+
 -- a command that fetches nothing
 pub answers_still : {A : Type 0} (course : Course Status A) (rose : Type 0) (result : Result A Status) → Answers course ⊥ result → Answers course rose result
 answers_still course rose (Ok value) goes = goes

@@ -57,8 +57,7 @@ pub fn open_catalogue<S: Shelf>(
     ensures later { S.faults shelf.old ≤ S.faults shelf.new }
 {
     let bytes = fetch(alloc, shelf, name, CATALOGUE_LIMIT)?;
-    let catalogue = catalogue_of(alloc, &bytes)?;
-    Ok(catalogue)
+    catalogue_of(alloc, &bytes)
 }
 
 // The query over the catalogue's words, or the status of the first fault of its text.
@@ -89,6 +88,5 @@ pub fn open_query<S: Shelf>(
     ensures later { S.faults shelf.old ≤ S.faults shelf.new }
 {
     let bytes = fetch(alloc, shelf, name, QUERY_LIMIT)?;
-    let query = query_of(alloc, &bytes, catalogue)?;
-    Ok(query)
+    query_of(alloc, &bytes, catalogue)
 }

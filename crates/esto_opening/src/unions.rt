@@ -66,8 +66,7 @@ pub fn open_union<S: Shelf>(
     ensures later { S.faults shelf.old ≤ S.faults shelf.new }
 {
     let bytes = fetch(alloc, shelf, name, QUERY_LIMIT)?;
-    let queries = union_of(alloc, &bytes, catalogue)?;
-    Ok(queries)
+    union_of(alloc, &bytes, catalogue)
 }
 
 /// The text of rows of answers of a union: a CSV record of the names of its first query's head, and a record of each row,

@@ -1,0 +1,22 @@
+use Rattle.esto_course.proofs.Asking.{quiet_judges}
+use Rattle.esto_course.proofs.Steps.{at_exit, first_stops}
+use Rattle.esto_ports.specs.Faults.{Rises}
+use Rattle.esto_opening.specs.Opening.{reads_union}
+use Rattle.esto_opening.proofs.AskedSteps.{exit_asks, handed_asks, later_asks, quiet_asks}
+use Rattle.esto_opening.proofs.Steps.{then_answers_still}
+use Rattle.esto_opening.proofs.unions.open_union.Goals as goal
+
+pub returns-in_err-bytes-clause-answer : goal.returns-in_err-bytes-clause-answer
+returns-in_err-bytes-clause-answer g c = at_exit _ _ c.from_residual.result c.from_residual.ensures.1 (first_stops _ _ c.in_err-bytes.ensures.answer)
+
+pub returns-in_err-bytes-clause-asked : goal.returns-in_err-bytes-clause-asked
+returns-in_err-bytes-clause-asked g c = handed_asks _ _ _ c.from_residual.ensures.1 (exit_asks _ _ c.in_err-bytes.ensures.asked)
+
+pub returns-clause-answer : goal.returns-clause-answer
+returns-clause-answer g c =
+    then_answers_still _ _ (Rises g.S.Shelf.faults c.args.shelf.now c.fetch.new.shelf) c.in_ok-bytes.bytes c.union_of.result c.in_ok-bytes.ensures.answer c.union_of.ensures.answer
+
+pub returns-clause-asked : goal.returns-clause-asked
+returns-clause-asked g c =
+    later_asks _ _ c.in_ok-bytes.ensures.asked
+    (quiet_asks (reads_union c.args.catalogue.now c.in_ok-bytes.bytes) _ c.union_of.result (quiet_judges _ _) c.union_of.ensures.answer)
