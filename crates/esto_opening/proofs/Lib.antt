@@ -11,3 +11,4 @@ pub mod AlikeLemmas
 pub mod ReadableLemmas
 pub mod RefusalLemmas
 pub mod UnionLemmas
+mod LineLemmas

@@ -19,27 +19,72 @@ use esto_term::{Bytes, OutOfMemory, Text, TextRow};
 use esto_text::{TextFault, TextKind};
 use std::alloc::Global;
 
-// A line of a word and a name, or another text, as one cell.
-fn named_line(alloc: Global, word: &str, name: &Text) -> Result<Bytes, OutOfMemory>
-    ensures { IfOk result (λ line. line ≡ word.now ++ cell_of name.now ++ codes "\n") }
+// Puts a number in decimal at the end.
+fn put_number(alloc: Global, line: &mut Bytes, number: u128) -> Result<(), OutOfMemory>
+    ensures { OnOk result (line.new ≡ line.old ++ decimal number) }
 {
-    let cell = cell_text(alloc, name.bytes())?;
-    let mut line = Bytes::from_slice(alloc, word.as_bytes())?;
-    line.append(cell.bytes())?;
-    line.append(b"\n")?;
-    Ok(line)
+    let digits = format!(in alloc; "{number}")?;
+    line.append(digits.as_str().as_bytes())
 }
 
-// The line of a file that is too long.
-fn too_long_line(alloc: Global, name: &Text, limit: u64) -> Result<Bytes, OutOfMemory>
-    ensures { IfOk result (λ line. line ≡ line_of (status.TooLong name.now limit)) }
+// Puts a name, or another text, as one cell at the end.
+fn put_cell(alloc: Global, line: &mut Bytes, name: &Text) -> Result<(), OutOfMemory>
+    ensures { OnOk result (line.new ≡ line.old ++ cell_of name.now) }
 {
     let cell = cell_text(alloc, name.bytes())?;
-    let end = format!(in alloc; " {limit}\n")?;
-    let mut line = Bytes::from_slice(alloc, b"TooLong ")?;
-    line.append(cell.bytes())?;
-    line.append(end.as_str().as_bytes())?;
-    Ok(line)
+    line.append(cell.bytes())
+}
+
+// Puts cells as a record at the end.
+fn put_record(alloc: Global, line: &mut Bytes, cells: &TextRow) -> Result<(), OutOfMemory>
+    ensures { OnOk result (line.new ≡ line.old ++ row_text default_writer cells.now) }
+{
+    let record = record_text(alloc, cells)?;
+    line.append(record.bytes())
+}
+
+// Puts a line of a word and a name, or another text, as one cell.
+fn put_named(alloc: Global, line: &mut Bytes, word: &str, name: &Text) -> Result<(), OutOfMemory>
+    ensures { OnOk result (line.new ≡ line.old ++ (word.now ++ cell_of name.now ++ codes "\n")) }
+{
+    line.append(word.as_bytes())?;
+    put_cell(alloc, line, name)?;
+    line.append(b"\n")
+}
+
+// Puts a line of a word and a number.
+fn put_numbered(alloc: Global, line: &mut Bytes, word: &str, number: u64) -> Result<(), OutOfMemory>
+    ensures { OnOk result (line.new ≡ line.old
+        ++ (word.now ++ (decimal number ++ codes "\n"))) }
+{
+    line.append(word.as_bytes())?;
+    put_number(alloc, line, number as u128)?;
+    line.append(b"\n")
+}
+
+// Puts a line of a word and two numbers.
+fn put_counts(
+    alloc: Global,
+    line: &mut Bytes,
+    word: &str,
+    one: u64,
+    other: u64,
+) -> Result<(), OutOfMemory>
+    ensures { OnOk result (line.new ≡ line.old ++ (word.now
+        ++ (decimal one ++ (codes " " ++ (decimal other ++ codes "\n"))))) }
+{
+    line.append(word.as_bytes())?;
+    put_number(alloc, line, one as u128)?;
+    put_numbered(alloc, line, " ", other)
+}
+
+// Puts the line of a file that is too long.
+fn put_too_long(alloc: Global, line: &mut Bytes, name: &Text, limit: u64) -> Result<(), OutOfMemory>
+    ensures { OnOk result (line.new ≡ line.old ++ line_of (status.TooLong name.now limit)) }
+{
+    line.append(b"TooLong ")?;
+    put_cell(alloc, line, name)?;
+    put_numbered(alloc, line, " ", limit)
 }
 
 // The word of a kind of a text's fault.
@@ -58,14 +103,23 @@ fn kind_word(kind: TextKind) -> &'static str
     }
 }
 
-// The line of a query's fault.
-fn bad_query_line(alloc: Global, fault: TextFault) -> Result<Bytes, OutOfMemory>
-    ensures { IfOk result (λ line. line ≡ line_of (status.BadQuery fault)) }
+// Puts the place and the word of a text's fault at the end.
+fn put_text_fault(alloc: Global, line: &mut Bytes, fault: TextFault) -> Result<(), OutOfMemory>
+    ensures { OnOk result (line.new ≡ line.old
+        ++ (decimal fault.offset ++ (codes " " ++ kind_word fault.kind))) }
 {
-    let offset = fault.offset;
-    let word = kind_word(fault.kind);
-    let line = format!(in alloc; "BadQuery {offset} {word}\n")?;
-    Bytes::from_slice(alloc, line.as_str().as_bytes())
+    put_number(alloc, line, fault.offset as u128)?;
+    line.append(b" ")?;
+    line.append(kind_word(fault.kind).as_bytes())
+}
+
+// Puts the line of a query's fault.
+fn put_bad_query(alloc: Global, line: &mut Bytes, fault: TextFault) -> Result<(), OutOfMemory>
+    ensures { OnOk result (line.new ≡ line.old ++ line_of (status.BadQuery fault)) }
+{
+    line.append(b"BadQuery ")?;
+    put_text_fault(alloc, line, fault)?;
+    line.append(b"\n")
 }
 
 // The word of a kind of a catalogue's fault.
@@ -106,38 +160,45 @@ fn section_word(section: Section) -> &'static str
 }
 
 // Puts a text's fault at the end, where there is one.
-fn put_text_fault(
-    alloc: Global,
-    line: &mut Bytes,
-    fault: &Option<TextFault>,
-) -> Result<(), OutOfMemory>
+fn put_within(alloc: Global, line: &mut Bytes, fault: &Option<TextFault>) -> Result<(), OutOfMemory>
     ensures { OnOk result (line.new ≡ line.old ++ within_text fault.now) }
 {
     match fault {
         Some(fault) => {
-            let offset = fault.offset;
-            let word = kind_word(fault.kind);
-            let end = format!(in alloc; " {offset} {word}")?;
-            line.append(end.as_str().as_bytes())
+            line.append(b" ")?;
+            put_text_fault(alloc, line, *fault)
         }
         None => Ok(()),
     }
 }
 
-// The line of a catalogue's fault.
-fn bad_catalogue_line(alloc: Global, fault: &CatalogueFault) -> Result<Bytes, OutOfMemory>
-    ensures { IfOk result (λ line. line ≡ line_of (status.BadCatalogue fault.now)) }
+// Puts the words of a catalogue's fault and of its section, and the number of what has it, at the end.
+fn put_section(alloc: Global, line: &mut Bytes, fault: &CatalogueFault) -> Result<(), OutOfMemory>
+    ensures { OnOk result (line.new ≡ line.old ++ (catalogue_word fault.now.kind
+        ++ (codes " " ++ (section_word fault.now.section
+        ++ (codes " " ++ (decimal fault.now.number ++ codes " ")))))) }
 {
-    let kind = catalogue_word(fault.kind);
-    let section = section_word(fault.section);
-    let number = fault.number;
-    let cell = cell_text(alloc, fault.key.bytes())?;
-    let start = format!(in alloc; "BadCatalogue {kind} {section} {number} ")?;
-    let mut line = Bytes::from_slice(alloc, start.as_str().as_bytes())?;
-    line.append(cell.bytes())?;
-    put_text_fault(alloc, &mut line, &fault.text)?;
-    line.append(b"\n")?;
-    Ok(line)
+    line.append(catalogue_word(fault.kind).as_bytes())?;
+    line.append(b" ")?;
+    line.append(section_word(fault.section).as_bytes())?;
+    line.append(b" ")?;
+    put_number(alloc, line, fault.number as u128)?;
+    line.append(b" ")
+}
+
+// Puts the line of a catalogue's fault.
+fn put_bad_catalogue(
+    alloc: Global,
+    line: &mut Bytes,
+    fault: &CatalogueFault,
+) -> Result<(), OutOfMemory>
+    ensures { OnOk result (line.new ≡ line.old ++ line_of (status.BadCatalogue fault.now)) }
+{
+    line.append(b"BadCatalogue ")?;
+    put_section(alloc, line, fault)?;
+    put_cell(alloc, line, &fault.key)?;
+    put_within(alloc, line, &fault.text)?;
+    line.append(b"\n")
 }
 
 // Puts an arrow and a name at the end.
@@ -171,14 +232,13 @@ fn put_way(line: &mut Bytes, names: &[Text]) -> Result<(), OutOfMemory>
     put_arrow(line, first)
 }
 
-// The line of a cycle.
-fn not_acyclic_line(alloc: Global, cycle: &Cycle) -> Result<Bytes, OutOfMemory>
-    ensures { IfOk result (λ line. line ≡ line_of (status.NotAcyclic cycle.now)) }
+// Puts the line of a cycle.
+fn put_not_acyclic(line: &mut Bytes, cycle: &Cycle) -> Result<(), OutOfMemory>
+    ensures { OnOk result (line.new ≡ line.old ++ line_of (status.NotAcyclic cycle.now)) }
 {
-    let mut line = Bytes::from_slice(alloc, b"NotAcyclic ")?;
-    put_way(&mut line, cycle.names.items())?;
-    line.append(b"\n")?;
-    Ok(line)
+    line.append(b"NotAcyclic ")?;
+    put_way(line, cycle.names.items())?;
+    line.append(b"\n")
 }
 
 // Puts two constants at the end.
@@ -195,9 +255,8 @@ fn put_constants(line: &mut Bytes, one: &Text, other: &Text) -> Result<(), OutOf
 fn put_denial(alloc: Global, line: &mut Bytes, rule: usize) -> Result<(), OutOfMemory>
     ensures { OnOk result (line.new ≡ line.old ++ (codes "constraint " ++ decimal (rule + 1))) }
 {
-    let number = rule as u128 + 1;
-    let text = format!(in alloc; "constraint {number}")?;
-    line.append(text.as_str().as_bytes())
+    line.append(b"constraint ")?;
+    put_number(alloc, line, rule as u128 + 1)
 }
 
 // Puts what clashes at the end.
@@ -210,14 +269,13 @@ fn put_clash(alloc: Global, line: &mut Bytes, clash: &Clash) -> Result<(), OutOf
     }
 }
 
-// The line of a clash.
-fn unsatisfiable_line(alloc: Global, clash: &Clash) -> Result<Bytes, OutOfMemory>
-    ensures { IfOk result (λ line. line ≡ line_of (status.Unsatisfiable clash.now)) }
+// Puts the line of a clash.
+fn put_unsatisfiable(alloc: Global, line: &mut Bytes, clash: &Clash) -> Result<(), OutOfMemory>
+    ensures { OnOk result (line.new ≡ line.old ++ line_of (status.Unsatisfiable clash.now)) }
 {
-    let mut line = Bytes::from_slice(alloc, b"Unsatisfiable ")?;
-    put_clash(alloc, &mut line, clash)?;
-    line.append(b"\n")?;
-    Ok(line)
+    line.append(b"Unsatisfiable ")?;
+    put_clash(alloc, line, clash)?;
+    line.append(b"\n")
 }
 
 // The word of a kind of a file's fault.
@@ -235,64 +293,30 @@ fn file_word(kind: FileKind) -> &'static str
     }
 }
 
-// A line of a word, of the name of a fragment or a dataset, and of a fault of its file.
-fn bad_file_line(
+// Puts the word and the place of a file's fault at the end of a line.
+fn put_file_fault(alloc: Global, line: &mut Bytes, fault: FileFault) -> Result<(), OutOfMemory>
+    ensures { OnOk result (line.new ≡ line.old ++ (codes " "
+        ++ (file_word fault.kind ++ (codes " " ++ (decimal fault.place ++ codes "\n"))))) }
+{
+    line.append(b" ")?;
+    line.append(file_word(fault.kind).as_bytes())?;
+    put_numbered(alloc, line, " ", fault.place)
+}
+
+// Puts a line of a word, of the name of a fragment or a dataset, and of a fault of its file.
+fn put_bad_file(
     alloc: Global,
+    line: &mut Bytes,
     word: &str,
     name: &Text,
     fault: FileFault,
-) -> Result<Bytes, OutOfMemory>
-    ensures { IfOk result (λ line. line ≡ word.now ++ (cell_of name.now ++ (codes " "
-        ++ (file_word fault.kind ++ (codes " " ++ (decimal fault.place ++ codes "\n")))))) }
+) -> Result<(), OutOfMemory>
+    ensures { OnOk result (line.new ≡ line.old ++ (word.now ++ (cell_of name.now ++ (codes " "
+        ++ (file_word fault.kind ++ (codes " " ++ (decimal fault.place ++ codes "\n"))))))) }
 {
-    let cell = cell_text(alloc, name.bytes())?;
-    let kind = file_word(fault.kind);
-    let place = fault.place;
-    let end = format!(in alloc; " {kind} {place}\n")?;
-    let mut line = Bytes::from_slice(alloc, word.as_bytes())?;
-    line.append(cell.bytes())?;
-    line.append(end.as_str().as_bytes())?;
-    Ok(line)
-}
-
-// The line of a certificate's first line that is not so.
-fn rejected_line(alloc: Global, number: u64) -> Result<Bytes, OutOfMemory>
-    ensures { IfOk result (λ line. line ≡ line_of (status.Rejected number)) }
-{
-    let line = format!(in alloc; "Rejected {number}\n")?;
-    Bytes::from_slice(alloc, line.as_str().as_bytes())
-}
-
-// The line of two different lengths of heads.
-fn head_lengths_line(alloc: Global, one: u64, other: u64) -> Result<Bytes, OutOfMemory>
-    ensures { IfOk result (λ line. line ≡ line_of (status.HeadLengths one other)) }
-{
-    let line = format!(in alloc; "HeadLengths {one} {other}\n")?;
-    Bytes::from_slice(alloc, line.as_str().as_bytes())
-}
-
-// The line of a number above how many there are.
-fn no_such_number_line(alloc: Global, number: u64, listed: u64) -> Result<Bytes, OutOfMemory>
-    ensures { IfOk result (λ line. line ≡ line_of (status.NoSuchNumber number listed)) }
-{
-    let line = format!(in alloc; "NoSuchNumber {number} {listed}\n")?;
-    Bytes::from_slice(alloc, line.as_str().as_bytes())
-}
-
-// The line of a node in a row.
-fn node_in_row_line(alloc: Global, column: u64) -> Result<Bytes, OutOfMemory>
-    ensures { IfOk result (λ line. line ≡ line_of (status.NodeInRow column)) }
-{
-    let line = format!(in alloc; "NodeInRow {column}\n")?;
-    Bytes::from_slice(alloc, line.as_str().as_bytes())
-}
-
-// A number in decimal, and a space.
-fn count_text(alloc: Global, number: u64) -> Result<Bytes, OutOfMemory>
-    ensures { IfOk result (λ text. text ≡ decimal number ++ codes " ") }
-{
-    let text = format!(in alloc; "{number} ")?;
-    Bytes::from_slice(alloc, text.as_str().as_bytes())
+    line.append(word.as_bytes())?;
+    put_cell(alloc, line, name)?;
+    put_file_fault(alloc, line, fault)
 }
 
 // Puts the number of a rule and a record at the end.
@@ -305,11 +329,10 @@ fn put_rule(
     ensures { OnOk result (line.new ≡ line.old ++ (codes "constraint "
         ++ (decimal number ++ codes " ") ++ row_text default_writer cells.now)) }
 {
-    let count = count_text(alloc, number)?;
-    let record = record_text(alloc, cells)?;
     line.append(b"constraint ")?;
-    line.append(count.bytes())?;
-    line.append(record.bytes())
+    put_number(alloc, line, number as u128)?;
+    line.append(b" ")?;
+    put_record(alloc, line, cells)
 }
 
 // Puts the name of a fragment, how a row of it differs, and the row as a record at the end.
@@ -323,12 +346,10 @@ fn put_row(
     ensures { OnOk result (line.new ≡ line.old ++ (codes "fragment " ++ cell_of name.now
         ++ how.now ++ row_text default_writer row.now)) }
 {
-    let cell = cell_text(alloc, name.bytes())?;
-    let record = record_text(alloc, row)?;
     line.append(b"fragment ")?;
-    line.append(cell.bytes())?;
+    put_cell(alloc, line, name)?;
     line.append(how.as_bytes())?;
-    line.append(record.bytes())
+    put_record(alloc, line, row)
 }
 
 // Puts a difference at the end.
@@ -346,13 +367,45 @@ fn put_difference(
     }
 }
 
-// The line of a difference.
-fn differs_line(alloc: Global, difference: &Difference) -> Result<Bytes, OutOfMemory>
-    ensures { IfOk result (λ line. line ≡ line_of (status.Differs difference.now)) }
+// Puts the line of a difference.
+fn put_differs(alloc: Global, line: &mut Bytes, difference: &Difference) -> Result<(), OutOfMemory>
+    ensures { OnOk result (line.new ≡ line.old ++ line_of (status.Differs difference.now)) }
 {
-    let mut line = Bytes::from_slice(alloc, b"Differs ")?;
-    put_difference(alloc, &mut line, difference)?;
-    Ok(line)
+    line.append(b"Differs ")?;
+    put_difference(alloc, line, difference)
+}
+
+// Puts the line of a status.
+fn put_status(alloc: Global, line: &mut Bytes, status: &Status) -> Result<(), OutOfMemory>
+    ensures { OnOk result (line.new ≡ line.old ++ line_of status.now) }
+{
+    match status {
+        Status::Done => Ok(()),
+        Status::OutOfMemory => Ok(()),
+        Status::Usage => line.append(b"Usage\n"),
+        Status::ReadFault(name) => put_named(alloc, line, "ReadFault ", name),
+        Status::WriteFault => line.append(b"WriteFault\n"),
+        Status::TooLong(name, limit) => put_too_long(alloc, line, name, *limit),
+        Status::BadCatalogue(fault) => put_bad_catalogue(alloc, line, fault),
+        Status::BadQuery(fault) => put_bad_query(alloc, line, *fault),
+        Status::NotAcyclic(cycle) => put_not_acyclic(line, cycle),
+        Status::BadFragment(name, fault) => {
+            put_bad_file(alloc, line, "BadFragment ", name, *fault)
+        }
+        Status::Unsatisfiable(clash) => put_unsatisfiable(alloc, line, clash),
+        Status::NoRewriting => line.append(b"NoRewriting\n"),
+        Status::NoSuchNumber(number, listed) => {
+            put_counts(alloc, line, "NoSuchNumber ", *number, *listed)
+        }
+        Status::NoData(name) => put_named(alloc, line, "NoData ", name),
+        Status::BadDataset(name, fault) => put_bad_file(alloc, line, "BadDataset ", name, *fault),
+        Status::NodeInRow(column) => put_numbered(alloc, line, "NodeInRow ", *column),
+        Status::Differs(difference) => put_differs(alloc, line, difference),
+        Status::KeyText(cell) => put_named(alloc, line, "KeyText ", cell),
+        Status::NoSuchFragment(name) => put_named(alloc, line, "NoSuchFragment ", name),
+        Status::Rejected(number) => put_numbered(alloc, line, "Rejected ", *number),
+        Status::HeadLengths(one, other) => put_counts(alloc, line, "HeadLengths ", *one, *other),
+    }
 }
 
 /// The line of a status, ended by a line feed. Done and OutOfMemory have none. The name of a file or a fragment and the
@@ -363,27 +416,7 @@ fn differs_line(alloc: Global, difference: &Difference) -> Result<Bytes, OutOfMe
 pub fn status_line(alloc: Global, status: &Status) -> Result<Bytes, OutOfMemory>
     ensures { IfOk result (λ line. line ≡ line_of status.now) }
 {
-    match status {
-        Status::Done => Ok(Bytes::new(alloc)),
-        Status::OutOfMemory => Ok(Bytes::new(alloc)),
-        Status::Usage => Bytes::from_slice(alloc, b"Usage\n"),
-        Status::ReadFault(name) => named_line(alloc, "ReadFault ", name),
-        Status::WriteFault => Bytes::from_slice(alloc, b"WriteFault\n"),
-        Status::TooLong(name, limit) => too_long_line(alloc, name, *limit),
-        Status::BadCatalogue(fault) => bad_catalogue_line(alloc, fault),
-        Status::BadQuery(fault) => bad_query_line(alloc, *fault),
-        Status::NotAcyclic(cycle) => not_acyclic_line(alloc, cycle),
-        Status::BadFragment(name, fault) => bad_file_line(alloc, "BadFragment ", name, *fault),
-        Status::Unsatisfiable(clash) => unsatisfiable_line(alloc, clash),
-        Status::NoRewriting => Bytes::from_slice(alloc, b"NoRewriting\n"),
-        Status::NoSuchNumber(number, listed) => no_such_number_line(alloc, *number, *listed),
-        Status::NoData(name) => named_line(alloc, "NoData ", name),
-        Status::BadDataset(name, fault) => bad_file_line(alloc, "BadDataset ", name, *fault),
-        Status::NodeInRow(column) => node_in_row_line(alloc, *column),
-        Status::Differs(difference) => differs_line(alloc, difference),
-        Status::KeyText(cell) => named_line(alloc, "KeyText ", cell),
-        Status::NoSuchFragment(name) => named_line(alloc, "NoSuchFragment ", name),
-        Status::Rejected(number) => rejected_line(alloc, *number),
-        Status::HeadLengths(one, other) => head_lengths_line(alloc, *one, *other),
-    }
+    let mut line = Bytes::new(alloc);
+    put_status(alloc, &mut line, status)?;
+    Ok(line)
 }
