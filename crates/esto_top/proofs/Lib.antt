@@ -2,6 +2,7 @@ pub mod Steps
 pub mod ValueLemmas
 pub mod SizeLemmas
 pub mod RunLemmas
+pub mod CommandLemmas
 pub mod ListCourseLemmas
 pub mod Mediation
 pub mod AskedLemmas

@@ -3,7 +3,7 @@ use Rattle.std.proofs.Common.{◌≡◌, ℕ, List, [], ◌∷◌, length, Optio
 use Rattle.esto_catalog.specs.declared.catalogue.Catalogue.{Catalogue}
 use Rattle.esto_course.specs.Course.{IsQuiet, Names, Stops, gives, and_then}
 use Rattle.esto_course.proofs.Asking.{quiet_gives, quiet_judges, quiet_then}
-use Rattle.esto_course.proofs.Steps.{gives_goes, then_stops}
+use Rattle.esto_course.proofs.Steps.{gives_goes, then_goes, then_stops}
 use Rattle.esto_ports.specs.Files.{Files}
 use Rattle.esto_query.specs.declared.query.Query.{Query}
 use Rattle.esto_opening.specs.Answers.{Answers, IsWant, IsCaused}
@@ -11,22 +11,26 @@ use Rattle.esto_opening.specs.Asked.{AsksIn}
 use Rattle.esto_opening.proofs.AskedSteps.{quiet_asks}
 use Rattle.esto_planning.specs.Planning.{plans_query}
 use Rattle.esto_disjuncts.specs.List.{lists_union, makes_members, prints_members}
-use Rattle.esto_top.specs.List.{list_course, lists_queries, prints_list}
-use Rattle.esto_opening.specs.Opening.{opens_catalogue, opens_union}
+use Rattle.esto_top.specs.List.{lists_queries, lists_read, prints_list}
+use Rattle.esto_opening.specs.Opening.{opens_union}
 use Rattle.esto_opening.specs.declared.reply.Reply.TheVariants.{Done}
 use Rattle.esto_opening.specs.declared.status.Status.{Status}
 use Rattle.esto_opening.proofs.Steps.{still_stops}
 
-pub text_stops : {rose : Type 0} {refusal : Status} (files read_files : Option Files) → read_files ≡ files → (catalogue_name query_name : List ℕ)
-    (catalogue : Catalogue) → (opens_catalogue files catalogue_name).goes catalogue → (queries items : List Query) → items ≡ queries
-    → (opens_union read_files query_name catalogue).goes queries → Stops IsWant (IsCaused ⊥) (lists_queries catalogue items) refusal
-    → Stops IsWant (IsCaused rose) (list_course files catalogue_name query_name) refusal
-text_stops {refusal = refusal} files read_files same catalogue_name query_name catalogue read queries items are read_too stops =
-    then_stops (opens_catalogue files catalogue_name) _ catalogue read
-    (then_stops (opens_union files query_name catalogue) (λ it. and_then (lists_queries catalogue it) (λ text. gives (Done text))) queries
-    (subst (λ (it : Option Files). (opens_union it query_name catalogue).goes queries) same read_too)
-    (still_stops (lists_queries catalogue queries) (λ text. gives (Done text))
-    (subst (λ (it : List Query). Stops IsWant (IsCaused ⊥) (lists_queries catalogue it) refusal) are stops)))
+module _ (files : Option Files) (query_name : List ℕ) (catalogue : Catalogue) (queries items : List Query) (are : items ≡ queries)
+    (read : (opens_union files query_name catalogue).goes queries) where
+  pub text_stops : {rose : Type 0} {refusal : Status} → Stops IsWant (IsCaused ⊥) (lists_queries catalogue items) refusal
+      → Stops IsWant (IsCaused rose) (lists_read files query_name catalogue) refusal
+  text_stops {refusal = refusal} stops =
+      then_stops (opens_union files query_name catalogue) (λ it. and_then (lists_queries catalogue it) (λ text. gives (Done text))) queries read
+      (still_stops (lists_queries catalogue queries) (λ text. gives (Done text))
+      (subst (λ (it : List Query). Stops IsWant (IsCaused ⊥) (lists_queries catalogue it) refusal) are stops))
+
+  pub text_goes : (text : List ℕ) → (lists_queries catalogue items).goes text → (lists_read files query_name catalogue).goes (Done text)
+  text_goes text goes =
+      then_goes (opens_union files query_name catalogue) (λ it. and_then (lists_queries catalogue it) (λ said. gives (Done said))) queries (Done text) read
+      (then_goes (lists_queries catalogue queries) (λ said. gives (Done said)) text (Done text)
+      (subst (λ (it : List Query). (lists_queries catalogue it).goes text) are goes) (gives_goes Status (Done text) (Done text) refl))
 
 -- the list of queries asks for nothing
 lists_quiet : (catalogue : Catalogue) (queries : List Query) → IsQuiet (lists_queries catalogue queries)

@@ -26,8 +26,7 @@ use Rattle.esto_views.specs.declared.fragments.FragmentDef.{FragmentDef}
 use Rattle.esto_views.specs.declared.plan.Plan.{Plan}
 use Rattle.esto_opening.specs.Answers.{IsWant, IsCaused}
 use Rattle.esto_opening.specs.Fragments.{opens_fragments}
-use Rattle.esto_opening.specs.Opening.{opens_catalogue, opens_union}
-use Rattle.esto_top.specs.Run.{IsRunText, runs_end, run_course, runs_item, runs_plan, runs_queries, runs_query}
+use Rattle.esto_top.specs.Run.{IsRunText, runs_end, runs_item, runs_plan, runs_query}
 use Rattle.esto_opening.specs.declared.reply.Reply.{Reply}
 use Rattle.esto_opening.specs.declared.reply.Reply.TheVariants.{Done, Unsatisfiable}
 use Rattle.esto_opening.specs.declared.status.Status.{Status}
@@ -136,25 +135,3 @@ module _ (files : Option Files) (catalogue : Catalogue) (query : Query) (number 
       → (runs_query files catalogue query number).goes reply
   unfolding judges gives
   clash_goes clash clashes reply is = then_goes (ends_query catalogue query) (runs_end files catalogue query number) (Right clash) reply clashes is
-
--- ---- the whole course
-
-module _ (files read_files query_files : Option Files) (same : read_files ≡ files) (same_too : query_files ≡ read_files)
-    (catalogue_name query_name : List ℕ) (number : Option ℕ) (catalogue : Catalogue) (read : (opens_catalogue files catalogue_name).goes catalogue)
-    (queries items : List Query) (are : items ≡ queries) (read_too : (opens_union read_files query_name catalogue).goes queries) where
-  queries_read : (opens_union files query_name catalogue).goes queries
-  queries_read = subst (λ (it : Option Files). (opens_union it query_name catalogue).goes queries) same read_too
-
-  pub course_goes : (reply : Reply) → (runs_queries query_files catalogue items number).goes reply
-      → (run_course files catalogue_name query_name number).goes reply
-  course_goes reply goes = then_goes (opens_catalogue files catalogue_name) _ catalogue reply read
-      (then_goes (opens_union files query_name catalogue) (λ it. runs_queries files catalogue it number) queries reply queries_read
-      (subst (λ (it : Option Files). (runs_queries it catalogue queries number).goes reply) (same_too ∙ same)
-      (subst (λ (it : List Query). (runs_queries query_files catalogue it number).goes reply) are goes)))
-
-  pub course_stops : {rose : Type 0} {refusal : Status} → Stops IsWant (IsCaused rose) (runs_queries query_files catalogue items number) refusal
-      → Stops IsWant (IsCaused rose) (run_course files catalogue_name query_name number) refusal
-  course_stops {rose} {refusal} stops = then_stops (opens_catalogue files catalogue_name) _ catalogue read
-      (then_stops (opens_union files query_name catalogue) (λ it. runs_queries files catalogue it number) queries queries_read
-      (subst (λ (it : Option Files). Stops IsWant (IsCaused rose) (runs_queries it catalogue queries number) refusal) (same_too ∙ same)
-      (subst (λ (it : List Query). Stops IsWant (IsCaused rose) (runs_queries query_files catalogue it number) refusal) are stops)))

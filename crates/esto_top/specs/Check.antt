@@ -30,6 +30,10 @@ abbrev pub check_text : Catalogue → List ℕ
 check_text catalogue =
     count_lines (length catalogue.datasets) (length catalogue.fragments) catalogue.given ++ rank_lines (names_of catalogue.schema) catalogue.ranks
 
+-- The text of the catalogue is the reply.
+abbrev pub prints_check : Catalogue → Course Status Reply
+prints_check catalogue = gives (Done (check_text catalogue))
+
 -- The catalogue is fetched and read, and its text is the reply.
 abbrev pub check_course : Option Files → List ℕ → Course Status Reply
 check_course files name = and_then (opens_catalogue files name) (λ catalogue. gives (Done (check_text catalogue)))

@@ -26,6 +26,13 @@ abbrev pub lists_queries : Catalogue → List Query → Course Status (List ℕ)
 lists_queries catalogue (query ∷ []) = lists_query catalogue query
 lists_queries catalogue queries = lists_union catalogue queries
 
+-- The queries are fetched and read, and the text of their list is the reply.
+abbrev pub lists_read : Option Files → List ℕ → Catalogue → Course Status Reply
+lists_read files query_name catalogue =
+    and_then (opens_union files query_name catalogue) (λ queries.
+    and_then (lists_queries catalogue queries) (λ text.
+    gives (Done text)))
+
 -- The catalogue is fetched and read, then the queries, and the text of their list is the reply.
 abbrev pub list_course : Option Files → List ℕ → List ℕ → Course Status Reply
 list_course files catalogue_name query_name =

@@ -63,6 +63,12 @@ abbrev pub runs_queries : Option Files → Catalogue → List Query → Option �
 runs_queries files catalogue (query ∷ []) number = runs_query files catalogue query number
 runs_queries files catalogue queries number = runs_union files catalogue queries number
 
+-- The queries are fetched and read, and they are run.
+abbrev pub runs_read : Option Files → List ℕ → Option ℕ → Catalogue → Course Status Reply
+runs_read files query_name number catalogue =
+    and_then (opens_union files query_name catalogue) (λ queries.
+    runs_queries files catalogue queries number)
+
 -- The catalogue is fetched and read, then the queries, and they are run.
 abbrev pub run_course : Option Files → List ℕ → List ℕ → Option ℕ → Course Status Reply
 run_course files catalogue_name query_name number =

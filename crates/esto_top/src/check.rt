@@ -2,7 +2,7 @@
 ghost use Rattle.std.specs.Prelude.{◌≡◌, ◌≤◌, ◌++◌, length, IfOk, OnOk};
 ghost use Rattle.esto_ports.specs.Faults.{Rises};
 ghost use Rattle.esto_query.specs.Schemas.{names_of};
-ghost use Rattle.esto_top.specs.Check.{count_lines, rank_line, rank_lines, check_text, check_course};
+ghost use Rattle.esto_top.specs.Check.{count_lines, rank_line, rank_lines, check_text, prints_check, check_course};
 ghost use Rattle.esto_opening.specs.Answers.{Answers};
 ghost use Rattle.esto_opening.specs.Asked.{AsksIn};
 
@@ -66,6 +66,15 @@ fn check_text(alloc: Global, catalogue: &Catalogue) -> Result<Bytes, OutOfMemory
     Ok(text)
 }
 
+// The reply with what the command prints.
+#[tactic(auto, using(crate::proofs::Steps::steps))]
+fn checked(alloc: Global, catalogue: &Catalogue) -> Result<Reply, Status>
+    ensures { Answers (prints_check catalogue.now) ⊥ result }
+{
+    let text = check_text(alloc, catalogue)?;
+    Ok(Reply::Done(text))
+}
+
 /// Fetches and reads the catalogue, and prints its counts and the ranks of its relations.
 #[tactic(auto, using(crate::proofs::Steps::steps, crate::proofs::Steps::asked_steps))]
 pub fn check<S: Shelf>(alloc: Global, shelf: &mut S, catalogue: &Text) -> Result<Reply, Status>
@@ -77,6 +86,5 @@ pub fn check<S: Shelf>(alloc: Global, shelf: &mut S, catalogue: &Text) -> Result
     ensures later { S.faults shelf.old ≤ S.faults shelf.new }
 {
     let catalogue = open_catalogue(alloc, shelf, catalogue)?;
-    let text = check_text(alloc, &catalogue)?;
-    Ok(Reply::Done(text))
+    checked(alloc, &catalogue)
 }

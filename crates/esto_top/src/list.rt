@@ -4,7 +4,7 @@ ghost use Rattle.esto_ports.specs.Faults.{Rises};
 ghost use Rattle.esto_opening.specs.Answers.{Answers};
 ghost use Rattle.esto_opening.specs.Asked.{AsksIn};
 ghost use Rattle.esto_opening.specs.Unions.{FormUnion};
-ghost use Rattle.esto_top.specs.List.{prints_list, lists_query, lists_queries, list_course};
+ghost use Rattle.esto_top.specs.List.{prints_list, lists_query, lists_queries, lists_read, list_course};
 ghost use Rattle.esto_planning.specs.Listing.{IsListing, IsPlanned};
 
 use esto_catalog::Catalogue;
@@ -67,6 +67,26 @@ fn listed_queries(alloc: Global, queries: &[Query], catalogue: &Catalogue) -> Re
     }
 }
 
+// Fetches and reads the queries, and prints the plan and the list of one, or the plans and lists of a union.
+#[tactic(auto, using(crate::proofs::Steps::steps, crate::proofs::Steps::asked_steps))]
+fn list_read<S: Shelf>(
+    alloc: Global,
+    shelf: &mut S,
+    catalogue: &Catalogue,
+    query: &Text,
+) -> Result<Reply, Status>
+    ensures answer { Answers (lists_read (S.files shelf.old) query.now catalogue.now)
+        (Rises S.faults shelf.old shelf.new) result }
+    ensures asked { AsksIn (S.asked shelf.old) (S.asked shelf.new)
+        (lists_read (S.files shelf.old) query.now catalogue.now) result }
+    ensures files { S.files shelf.new ≡ S.files shelf.old }
+    ensures later { S.faults shelf.old ≤ S.faults shelf.new }
+{
+    let queries = open_union(alloc, shelf, query, catalogue)?;
+    let text = listed_queries(alloc, queries.items(), catalogue)?;
+    Ok(Reply::Done(text))
+}
+
 /// Fetches and reads the catalogue, then the queries. For one query it makes the query's printed plan, and prints the plan
 /// and the list; for more it prints the plans and lists of their union.
 #[tactic(auto, using(crate::proofs::Steps::steps, crate::proofs::Steps::asked_steps))]
@@ -84,7 +104,5 @@ pub fn list<S: Shelf>(
     ensures later { S.faults shelf.old ≤ S.faults shelf.new }
 {
     let catalogue = open_catalogue(alloc, shelf, catalogue)?;
-    let queries = open_union(alloc, shelf, query, &catalogue)?;
-    let text = listed_queries(alloc, queries.items(), &catalogue)?;
-    Ok(Reply::Done(text))
+    list_read(alloc, shelf, &catalogue, query)
 }

@@ -4,7 +4,7 @@ ghost use Rattle.esto_ports.specs.Faults.{Rises};
 ghost use Rattle.esto_opening.specs.Answers.{Answers};
 ghost use Rattle.esto_opening.specs.Asked.{AsksIn};
 ghost use Rattle.esto_opening.specs.Unions.{FormUnion};
-ghost use Rattle.esto_top.specs.Run.{runs_item, runs_plan, runs_query, runs_queries, run_course};
+ghost use Rattle.esto_top.specs.Run.{runs_item, runs_plan, runs_query, runs_queries, runs_read, run_course};
 ghost use Rattle.esto_opening.specs.declared.reply.Reply.TheVariants as reply;
 ghost use Rattle.esto_run.specs.Answers.{rows_text};
 ghost use Rattle.std.specs.Prelude.{IfOk, []};
@@ -139,6 +139,26 @@ fn run_queries<S: Shelf>(
     }
 }
 
+// Fetches and reads the queries, and runs one of them, or the union of more.
+#[tactic(auto, using(crate::proofs::Steps::run_steps, crate::proofs::Steps::asked_steps))]
+fn run_read<S: Shelf>(
+    alloc: Global,
+    shelf: &mut S,
+    catalogue: &Catalogue,
+    query: &Text,
+    number: Option<u64>,
+) -> Result<Reply, Status>
+    ensures answer { Answers (runs_read (S.files shelf.old) query.now number catalogue.now)
+        (Rises S.faults shelf.old shelf.new) result }
+    ensures asked { AsksIn (S.asked shelf.old) (S.asked shelf.new)
+        (runs_read (S.files shelf.old) query.now number catalogue.now) result }
+    ensures files { S.files shelf.new ≡ S.files shelf.old }
+    ensures later { S.faults shelf.old ≤ S.faults shelf.new }
+{
+    let queries = open_union(alloc, shelf, query, catalogue)?;
+    run_queries(alloc, shelf, queries.items(), catalogue, number)
+}
+
 /// Fetches and reads the catalogue, then the queries. For one query it makes the query's plan and its list, opens the files
 /// of the fragments that the chosen set uses, and gives the text of the rows; for more it runs their union. The set is the
 /// pick, or that of the number, counted from 1. For a query that no database gives an answer the text has the names of its
@@ -159,7 +179,5 @@ pub fn run<S: Shelf>(
     ensures later { S.faults shelf.old ≤ S.faults shelf.new }
 {
     let catalogue = open_catalogue(alloc, shelf, catalogue)?;
-    let queries = open_union(alloc, shelf, query, &catalogue)?;
-    let reply = run_queries(alloc, shelf, queries.items(), &catalogue, number)?;
-    Ok(reply)
+    run_read(alloc, shelf, &catalogue, query, number)
 }

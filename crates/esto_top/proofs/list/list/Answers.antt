@@ -1,30 +1,21 @@
-use Rattle.esto_course.proofs.Steps.{at_exit}
+use Rattle.esto_course.proofs.Steps.{at_exit, first_stops}
 use Rattle.esto_opening.proofs.AskedSteps.{exit_asks, handed_asks, later_asks}
-use Rattle.esto_top.proofs.ListCourseLemmas.{lists_asks, text_asks, text_stops}
+use Rattle.esto_top.proofs.CommandLemmas.{then_answers}
 use Rattle.esto_top.proofs.list.list.Goals as goal
 
-pub returns-in_err-text-clause-answer : goal.returns-in_err-text-clause-answer
-returns-in_err-text-clause-answer g c =
-    at_exit _ _ c.from_residual-in_err-text.result c.from_residual-in_err-text.ensures.1
-    (text_stops (g.S.Shelf.files c.args.shelf.now) (g.S.Shelf.files c.open_catalogue.new.shelf) c.in_ok-catalogue.ensures.files c.args.catalogue.now
-    c.args.query.now c.in_ok-catalogue.catalogue c.in_ok-catalogue.ensures.answer c.in_ok-queries.queries
-    c.items.result.now c.items.ensures c.in_ok-queries.ensures.answer c.in_err-text.ensures)
+pub returns-in_err-catalogue-clause-answer : goal.returns-in_err-catalogue-clause-answer
+returns-in_err-catalogue-clause-answer g c = at_exit _ _ c.from_residual.result c.from_residual.ensures.1 (first_stops _ _ c.in_err-catalogue.ensures.answer)
 
-pub returns-in_err-queries-clause-asked : goal.returns-in_err-queries-clause-asked
-returns-in_err-queries-clause-asked g c =
-    let late = rw c.in_ok-catalogue.ensures.files at c.in_err-queries.ensures.asked in
-    handed_asks _ _ _ c.from_residual-in_err-queries.ensures.1 (later_asks _ _ c.in_ok-catalogue.ensures.asked (exit_asks _ _ late))
+pub returns-in_err-catalogue-clause-asked : goal.returns-in_err-catalogue-clause-asked
+returns-in_err-catalogue-clause-asked g c = handed_asks _ _ _ c.from_residual.ensures.1 (exit_asks _ _ c.in_err-catalogue.ensures.asked)
 
-pub returns-in_err-text-clause-asked : goal.returns-in_err-text-clause-asked
-returns-in_err-text-clause-asked g c =
-    let later = rw c.in_ok-catalogue.ensures.files at c.in_ok-queries.ensures.asked in
-    handed_asks _ _ _ c.from_residual-in_err-text.ensures.1
-    (later_asks _ _ c.in_ok-catalogue.ensures.asked (later_asks _ _ later
-    (exit_asks _ _ (lists_asks c.in_ok-catalogue.catalogue c.in_ok-queries.queries c.items.result.now c.items.ensures _ _ c.in_err-text.ensures))))
+pub returns-clause-answer : goal.returns-clause-answer
+returns-clause-answer g c =
+    let answer = rw c.in_ok-catalogue.ensures.files at c.list_read.ensures.answer in
+    then_answers _ _ _ _ _ c.in_ok-catalogue.catalogue c.list_read.result c.in_ok-catalogue.ensures.answer c.in_ok-catalogue.ensures.later
+    c.list_read.ensures.later answer
 
 pub returns-clause-asked : goal.returns-clause-asked
 returns-clause-asked g c =
-    let later = rw c.in_ok-catalogue.ensures.files at c.in_ok-queries.ensures.asked in
-    later_asks _ _ c.in_ok-catalogue.ensures.asked (later_asks _ _ later
-    (later_asks _ _ (lists_asks c.in_ok-catalogue.catalogue c.in_ok-queries.queries c.items.result.now c.items.ensures _ _ c.in_ok-text.ensures)
-    (text_asks c.in_ok-text.text _)))
+    let asked = rw c.in_ok-catalogue.ensures.files at c.list_read.ensures.asked in
+    later_asks _ _ c.in_ok-catalogue.ensures.asked asked

@@ -1,0 +1,20 @@
+use Rattle.esto_course.proofs.Asking.{quiet_gives}
+use Rattle.esto_course.proofs.Steps.{at_exit, first_stops}
+use Rattle.esto_opening.proofs.AskedSteps.{exit_asks, handed_asks, later_asks, quiet_asks}
+use Rattle.esto_top.specs.Check.{prints_check}
+use Rattle.esto_top.proofs.CommandLemmas.{still_answers}
+use Rattle.esto_top.proofs.check.check.Goals as goal
+
+pub returns-in_err-catalogue-clause-answer : goal.returns-in_err-catalogue-clause-answer
+returns-in_err-catalogue-clause-answer g c = at_exit _ _ c.from_residual.result c.from_residual.ensures.1 (first_stops _ _ c.in_err-catalogue.ensures.answer)
+
+pub returns-in_err-catalogue-clause-asked : goal.returns-in_err-catalogue-clause-asked
+returns-in_err-catalogue-clause-asked g c = handed_asks _ _ _ c.from_residual.ensures.1 (exit_asks _ _ c.in_err-catalogue.ensures.asked)
+
+pub returns-clause-answer : goal.returns-clause-answer
+returns-clause-answer g c = still_answers _ _ _ c.in_ok-catalogue.catalogue c.checked.result c.in_ok-catalogue.ensures.answer c.checked.ensures
+
+pub returns-clause-asked : goal.returns-clause-asked
+returns-clause-asked g c =
+    later_asks _ _ c.in_ok-catalogue.ensures.asked
+    (quiet_asks (prints_check c.in_ok-catalogue.catalogue) _ c.checked.result (quiet_gives _ _) c.checked.ensures)

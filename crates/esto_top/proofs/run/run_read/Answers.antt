@@ -1,0 +1,24 @@
+use Rattle.esto_course.proofs.Steps.{at_exit, first_stops}
+use Rattle.esto_opening.proofs.AskedSteps.{exit_asks, handed_asks, later_asks}
+use Rattle.esto_top.proofs.CommandLemmas.{then_answers}
+use Rattle.esto_top.proofs.RunAskedLemmas.{queries_answer, queries_asks}
+use Rattle.esto_top.proofs.run.run_read.Goals as goal
+
+pub returns-in_err-queries-clause-answer : goal.returns-in_err-queries-clause-answer
+returns-in_err-queries-clause-answer g c = at_exit _ _ c.from_residual.result c.from_residual.ensures.1 (first_stops _ _ c.in_err-queries.ensures.answer)
+
+pub returns-in_err-queries-clause-asked : goal.returns-in_err-queries-clause-asked
+returns-in_err-queries-clause-asked g c = handed_asks _ _ _ c.from_residual.ensures.1 (exit_asks _ _ c.in_err-queries.ensures.asked)
+
+pub returns-clause-answer : goal.returns-clause-answer
+returns-clause-answer g c =
+    let answer = queries_answer (g.S.Shelf.files c.args.shelf.now) _ c.in_ok-queries.ensures.files c.args.catalogue.now c.in_ok-queries.queries c.items.result.now
+    c.items.ensures c.args.number _ _ c.run_queries.ensures.answer in
+    then_answers _ _ _ _ _ c.in_ok-queries.queries c.run_queries.result c.in_ok-queries.ensures.answer c.in_ok-queries.ensures.later
+    c.run_queries.ensures.later answer
+
+pub returns-clause-asked : goal.returns-clause-asked
+returns-clause-asked g c =
+    let asked = queries_asks (g.S.Shelf.files c.args.shelf.now) _ c.in_ok-queries.ensures.files c.args.catalogue.now c.in_ok-queries.queries c.items.result.now
+    c.items.ensures c.args.number _ c.run_queries.ensures.asked in
+    later_asks _ _ c.in_ok-queries.ensures.asked asked
