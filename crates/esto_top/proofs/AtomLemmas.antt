@@ -1,19 +1,21 @@
 -- The numbers of atoms that a word names.
-use Rattle.std.proofs.Common.{◌≡◌, ◌==◌, ℕ, List, [], ◌∷◌, ◌++◌, Option, Some, None, Result, Ok, refl, sym, ap, subst, ◌∙◌}
+use Rattle.std.proofs.Common.{◌≡◌, ◌==◌, ◌≤◌, ℕ, List, [], ◌∷◌, ◌++◌, Option, Some, None, Result, Ok, Err, refl, sym, ap, subst, ◌∙◌, arith}
 use Rattle.std.proofs.lemmas.List.{append_assoc}
 use Rattle.std.specs.List.{slice_split}
 use Rattle.esto_certify.specs.Verify.{verify_course}
 use Rattle.esto_course.specs.Course.{Names, Stops, judges}
 use Rattle.esto_course.specs.Course.Stops.{refused}
 use Rattle.esto_course.proofs.Asking.{quiet_judges}
-use Rattle.esto_opening.proofs.AskedSteps.{later_asks, quiet_asks}
-use Rattle.esto_opening.specs.Answers.{IsCaused, IsWant}
+use Rattle.esto_opening.proofs.AskedSteps.{exit_asks, later_asks, quiet_asks}
+use Rattle.esto_opening.specs.Answers.{Answers, IsCaused, IsWant}
 use Rattle.esto_opening.specs.Asked.{AsksIn}
 use Rattle.esto_opening.specs.declared.reply.Reply.{Reply}
 use Rattle.esto_opening.specs.declared.status.Status.{Status}
 use Rattle.esto_opening.specs.declared.status.Status.TheVariants.{Usage}
+use Rattle.esto_ports.specs.Faults.{Rose}
 use Rattle.esto_ports.specs.Files.{Files}
 use Rattle.esto_top.specs.Grammar.{atom_numbers, before_all, names_atoms, number_above, numbers_above, verifies_named, with_rest}
+use Rattle.esto_top.proofs.CommandLemmas.{then_answers}
 
 -- the numbers before the others, if these are there
 abbrev pub after : List ℕ → Option (List ℕ) → Option (List ℕ)
@@ -58,7 +60,21 @@ module _ (bytes word : List ℕ) (parts : List (List ℕ)) (found : Option (List
   unfolding judges
   atoms_stop none = refused (record { cause = tt }) (sym (found_is bytes word parts found bytes_are parts_are is) ∙ none, refl)
 
--- what is asked for once the word has named its numbers
+-- memory is wanting for the numbers, or the word is outside the grammar
+pub unnamed_asks : (files : Option Files) (catalogue query atoms file : List ℕ) (told : Option Names) (refusal : Status)
+    → Stops IsWant (IsCaused ⊥) (names_atoms atoms) refusal → AsksIn told told (verifies_named files catalogue query atoms file) (Err refusal)
+unnamed_asks files catalogue query atoms file told refusal stops =
+    exit_asks _ _ (quiet_asks (names_atoms atoms) told (Err refusal) (quiet_judges _ _) stops)
+
+-- the answer once the word has named its numbers
+pub named_answers : (files : Option Files) (catalogue query atoms file numbers used : List ℕ) → (names_atoms atoms).goes numbers → used ≡ numbers
+    → (before now : ℕ) → before ≤ now → (result : Result Reply Status) → Answers (verify_course files catalogue query used file) (Rose before now) result
+    → Answers (verifies_named files catalogue query atoms file) (Rose before now) result
+named_answers files catalogue query atoms file numbers used named same before now later result answer =
+    then_answers _ _ before before now numbers result named (omega arith) later
+    (subst (λ (it : List ℕ). Answers (verify_course files catalogue query it file) (Rose before now) result) same answer)
+
+-- and what is asked for then
 pub named_asks : (files : Option Files) (catalogue query atoms file numbers used : List ℕ) → (names_atoms atoms).goes numbers → used ≡ numbers
     → {old new : Option Names} (result : Result Reply Status) → AsksIn old new (verify_course files catalogue query used file) result
     → AsksIn old new (verifies_named files catalogue query atoms file) result

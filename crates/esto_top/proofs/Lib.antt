@@ -6,6 +6,7 @@ pub mod CommandLemmas
 pub mod ListCourseLemmas
 pub mod Mediation
 pub mod AskedLemmas
+pub mod EndingLemmas
 pub mod RunAskedLemmas
 pub mod CheckLemmas
 pub mod LeadLemmas

@@ -3,6 +3,8 @@ use Rattle.std.specs.Prelude.{◌≡◌, ◌≢◌, ◌⊎◌, ℕ, List, take, 
 use Rattle.std.specs.Io.KnownBytes.{Appends, Keeps}
 use Rattle.esto_ports.specs.Asked.{CountGoes, CountStays}
 use Rattle.esto_ports.specs.Files.{Files}
+use Rattle.esto_ports.specs.declared.ports.SinkError.{SinkError}
+use Rattle.esto_ports.specs.declared.ports.SinkError.TheVariants as sink
 use Rattle.esto_opening.specs.Line.{line_of}
 use Rattle.esto_course.specs.Course.{Course}
 use Rattle.esto_opening.specs.Answers.{IsCaused}
@@ -39,6 +41,12 @@ pub data Finishes (answer : Result Reply Status) (old new : Option (List ℕ)) (
   cut : (said : Status) (text : List ℕ) (kept : ℕ) → IsSaid answer said text → sink_rose → Appends old new (take kept text) → result ≡ status.WriteFault
       → Finishes answer old new sink_rose result
   memory : Keeps old new → result ≡ status.OutOfMemory → Finishes answer old new sink_rose result
+
+-- The status of a put that is at a fault, or for which memory is refused.
+abbrev pub fault_of : Result (Unit {0}) SinkError → Option Status
+fault_of (Ok _) = None
+fault_of (Err sink.Failed) = Some status.WriteFault
+fault_of (Err sink.OutOfMemory) = Some status.OutOfMemory
 
 -- One put was counted, where puts are told; where memory is wanting it may be none.
 abbrev pub PutsOnce : Option ℕ → Option ℕ → Status → Type 0

@@ -166,8 +166,7 @@ fn verify_named<S: Shelf>(
     ensures later { S.faults shelf.old ≤ S.faults shelf.new }
 {
     let numbers = named_atoms(alloc, atoms)?;
-    let reply = verify(alloc, shelf, catalogue, query, numbers.items(), file)?;
-    Ok(reply)
+    verify(alloc, shelf, catalogue, query, numbers.items(), file)
 }
 
 // Whether the word is 1 to 14 in decimal.

@@ -1,24 +1,32 @@
 //! The one put of a command's answer.
-ghost use Rattle.std.specs.Prelude.{◌≤◌, IfSome, Err};
+ghost use Rattle.std.specs.Prelude.{◌≡◌, ◌≤◌, IfSome, Err};
 ghost use Rattle.esto_ports.specs.Faults.{Rises};
-ghost use Rattle.esto_top.specs.Outcome.{IsSaid, Finishes, PutsOnce};
+ghost use Rattle.esto_top.specs.Outcome.{IsSaid, Finishes, PutsOnce, fault_of};
 
 use esto_opening::{Reply, Status, status_line};
 use esto_ports::{Sink, SinkError};
 use esto_term::{Bytes, OutOfMemory};
 use std::alloc::Global;
 
+// The line of a refusal; nothing where memory is refused.
+fn refusal_line(alloc: Global, status: &Status) -> Option<Bytes>
+    ensures { IfSome result (λ line. IsSaid (Err status.now) status.now line) }
+{
+    match status {
+        Status::OutOfMemory => None,
+        _ => match status_line(alloc, status) {
+            Ok(line) => Some(line),
+            Err(OutOfMemory) => None,
+        },
+    }
+}
+
 // A refusal with its line; nothing where memory is refused.
 fn refusal(alloc: Global, status: Status) -> Option<(Status, Bytes)>
     ensures { IfSome result (λ said. IsSaid (Err status) said.0 said.1) }
 {
-    match &status {
-        Status::OutOfMemory => None,
-        _ => match status_line(alloc, &status) {
-            Ok(line) => Some((status, line)),
-            Err(OutOfMemory) => None,
-        },
-    }
+    let line = refusal_line(alloc, &status);
+    Some(status).zip(line)
 }
 
 // A status and the text to put; nothing where memory is refused.
@@ -32,6 +40,17 @@ fn said(alloc: Global, answer: Result<Reply, Status>) -> Option<(Status, Bytes)>
     }
 }
 
+// The status of a put that was at a fault, or where memory was refused; nothing where all was put.
+fn fault_of(put: Result<(), SinkError>) -> Option<Status>
+    ensures { result ≡ fault_of put }
+{
+    match put {
+        Ok(()) => None,
+        Err(SinkError::Failed) => Some(Status::WriteFault),
+        Err(SinkError::OutOfMemory) => Some(Status::OutOfMemory),
+    }
+}
+
 /// Puts the text of an answer, by one put, and answers the status.
 pub fn finish<O: Sink>(alloc: Global, answer: Result<Reply, Status>, out: &mut O) -> Status
     ensures put { Finishes answer (O.written out.old) (O.written out.new)
@@ -41,10 +60,6 @@ pub fn finish<O: Sink>(alloc: Global, answer: Result<Reply, Status>, out: &mut O
 {
     match said(alloc, answer) {
         None => Status::OutOfMemory,
-        Some((status, text)) => match out.put(text.bytes()) {
-            Ok(()) => status,
-            Err(SinkError::Failed) => Status::WriteFault,
-            Err(SinkError::OutOfMemory) => Status::OutOfMemory,
-        },
+        Some((status, text)) => fault_of(out.put(text.bytes())).unwrap_or(status),
     }
 }
