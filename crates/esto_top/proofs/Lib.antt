@@ -1,8 +1,8 @@
 pub mod Steps
 pub mod ValueLemmas
 pub mod SizeLemmas
-pub mod RunLemmas
 pub mod CommandLemmas
+pub mod RunLemmas
 pub mod ListCourseLemmas
 pub mod Mediation
 pub mod AskedLemmas

@@ -4,13 +4,11 @@ use Rattle.either.specs.declared.Either.TheVariants.{Left, Right}
 use Rattle.esto_catalog.specs.declared.catalogue.Catalogue.{Catalogue}
 use Rattle.esto_chase_laws.specs.declared.clash.Clash.{Clash}
 use Rattle.esto_course.specs.Course.{Names, Stops, gives}
-use Rattle.esto_course.specs.Course.Stops.{is_free}
 use Rattle.esto_course.proofs.Asking.{quiet_gives, quiet_judges}
 use Rattle.esto_course.proofs.Steps.{gives_goes}
 use Rattle.esto_list.specs.declared.listing.Listed.{Listed}
 use Rattle.esto_ports.specs.Files.{Files}
 use Rattle.esto_query.specs.declared.query.Query.{Query}
-use Rattle.esto_run.specs.Answers.{rows_text}
 use Rattle.esto_run.specs.Used.{AreUsed}
 use Rattle.esto_views.specs.Plans.{plan_query}
 use Rattle.esto_views.specs.declared.plan.Plan.{Plan}
@@ -19,13 +17,13 @@ use Rattle.esto_opening.specs.Answers.{Answers, IsCaused, IsWant}
 use Rattle.esto_opening.specs.Asked.{AsksIn}
 use Rattle.esto_opening.specs.Fragments.{opens_fragments}
 use Rattle.esto_opening.specs.declared.reply.Reply.{Reply}
-use Rattle.esto_opening.specs.declared.reply.Reply.TheVariants.{Done, Unsatisfiable}
+use Rattle.esto_opening.specs.declared.reply.Reply.TheVariants.{Done}
 use Rattle.esto_opening.specs.declared.status.Status.{Status}
 use Rattle.esto_opening.specs.declared.status.Status.TheVariants.{OutOfMemory}
 use Rattle.esto_opening.proofs.AskedSteps.{accepted, exit_asks, later_asks, quiet_asks, wanted}
 use Rattle.esto_planning.specs.Listing.{IsClash, IsListOf, IsPlanned}
 use Rattle.esto_planning.specs.Planning.{chooses, ends_query}
-use Rattle.esto_top.specs.Run.{IsRunText, runs_end, runs_item, runs_plan, runs_queries, runs_query}
+use Rattle.esto_top.specs.Run.{IsRunText, has_no_answers, runs_end, runs_item, runs_plan, runs_queries, runs_query}
 
 -- ---- the item
 
@@ -86,16 +84,12 @@ module _ (files : Option Files) (catalogue : Catalogue) (query : Query) (number 
   plan_asks {old = old} plan planned result asked =
       later_asks (ends_query catalogue query) (runs_end files catalogue query number) (accepted old _ _ (Left plan) planned) asked
 
-  module _ (told : Option Names) (clash : Clash) (clashes : IsClash catalogue query clash) where
-    -- the run ends with a clash
-    pub clash_asks : (reply : Reply) → reply ≡ Unsatisfiable clash (rows_text query []) → AsksIn told told (runs_query files catalogue query number) (Ok reply)
-    clash_asks reply is = later_asks (ends_query catalogue query) (runs_end files catalogue query number) (accepted told _ _ (Right clash) clashes)
-        (quiet_asks (gives (Unsatisfiable clash (rows_text query []))) told (Ok reply) (quiet_gives Status _) (gives_goes Status _ reply is))
-
-    -- and memory is wanting for its text
-    pub clash_wants : AsksIn told told (runs_query files catalogue query number) (Err OutOfMemory)
-    clash_wants = later_asks (ends_query catalogue query) (runs_end files catalogue query number) (accepted told _ _ (Right clash) clashes)
-        (quiet_asks (gives (Unsatisfiable clash (rows_text query []))) told (Err OutOfMemory) (quiet_gives Status _) (is_free refl))
+  -- the run ends with a clash
+  pub clash_asks : (told : Option Names) (clash : Clash) → IsClash catalogue query clash → (result : Result Reply Status)
+      → Answers (has_no_answers query clash) ⊥ result → AsksIn told told (runs_query files catalogue query number) result
+  clash_asks told clash clashes result answer =
+      later_asks (ends_query catalogue query) (runs_end files catalogue query number) (accepted told _ _ (Right clash) clashes)
+      (quiet_asks (has_no_answers query clash) told result (quiet_gives Status _) answer)
 
 -- ---- the queries
 

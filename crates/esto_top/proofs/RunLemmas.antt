@@ -1,6 +1,6 @@
 -- The set that is run, and the text of its rows.
 use Rattle.either.specs.declared.Either.TheVariants.{Left, Right}
-use Rattle.std.proofs.Common.{◌≡◌, ◌↔◌, ◌<◌, ℕ, Bool, List, [], length, Contains, slice_get, Option, Some, refl, ap, subst, ◌∙◌}
+use Rattle.std.proofs.Common.{◌≡◌, ◌↔◌, ◌<◌, ℕ, Bool, List, length, Contains, slice_get, Option, Some, Result, Ok, Err, refl, ap, subst, ◌∙◌}
 use Rattle.std.proofs.lemmas.Option.{slice_get_within}
 use Rattle.esto_catalog.specs.declared.catalogue.Catalogue.{Catalogue}
 use Rattle.esto_chase_laws.specs.declared.clash.Clash.{Clash}
@@ -9,7 +9,7 @@ use Rattle.esto_course.proofs.Steps.{caused_more, first_stops, then_goes, then_s
 use Rattle.esto_list.specs.declared.listing.Listed.{Listed}
 use Rattle.esto_ports.specs.Files.{Files}
 use Rattle.esto_query.specs.declared.query.Query.{Query}
-use Rattle.esto_run.specs.Answers.{IsAnswersText, rows_text}
+use Rattle.esto_run.specs.Answers.{IsAnswersText}
 use Rattle.esto_run.specs.Laws.{AnswersAreOverFiles, IsAnswerOver, UsesOnly}
 use Rattle.esto_run.specs.Opened.{AreOpened}
 use Rattle.esto_run.specs.Stores.{IsFileRow}
@@ -24,15 +24,16 @@ use Rattle.esto_term.proofs.ListLemmas.{Contains-at, Contains-map_from}
 use Rattle.esto_views.specs.Plans.{IsPlanOver, fact_of, plan_query}
 use Rattle.esto_views.specs.declared.fragments.FragmentDef.{FragmentDef}
 use Rattle.esto_views.specs.declared.plan.Plan.{Plan}
-use Rattle.esto_opening.specs.Answers.{IsWant, IsCaused}
+use Rattle.esto_opening.specs.Answers.{Answers, IsWant, IsCaused}
 use Rattle.esto_opening.specs.Fragments.{opens_fragments}
-use Rattle.esto_top.specs.Run.{IsRunText, runs_end, runs_item, runs_plan, runs_query}
+use Rattle.esto_top.specs.Run.{IsRunText, has_no_answers, runs_end, runs_item, runs_plan, runs_query}
 use Rattle.esto_opening.specs.declared.reply.Reply.{Reply}
-use Rattle.esto_opening.specs.declared.reply.Reply.TheVariants.{Done, Unsatisfiable}
+use Rattle.esto_opening.specs.declared.reply.Reply.TheVariants.{Done}
 use Rattle.esto_opening.specs.declared.status.Status.{Status}
 use Rattle.esto_opening.proofs.Steps.{caused_weaker}
 use Rattle.esto_planning.specs.Listing.{IsClash, IsListOf, IsPlanned}
 use Rattle.esto_planning.specs.Planning.{chooses, ends_query, lists_plan}
+use Rattle.esto_top.proofs.CommandLemmas.{still_answers}
 
 -- ---- the fragments
 
@@ -117,6 +118,11 @@ module _ (files : Option Files) (catalogue : Catalogue) (query : Query) (number 
     chosen_goes reply goes = then_goes (lists_plan catalogue query plan) _ items reply list (then_goes (chooses items number) _ place reply chosen
         (then_goes (judges (λ it. slice_get items place ≡ Some it) (λ _. ⊥)) (runs_item files catalogue query plan) item reply there goes))
 
+    pub chosen_answers : (rose : Type 0) (result : Result Reply Status) → Answers (runs_item files catalogue query plan item) rose result
+        → Answers (runs_plan files catalogue query number plan) rose result
+    chosen_answers rose (Ok reply) goes = chosen_goes reply goes
+    chosen_answers rose (Err refusal) stops = chosen_stops stops
+
 -- ---- the query's course
 
 module _ (files : Option Files) (catalogue : Catalogue) (query : Query) (number : Option ℕ) where
@@ -131,7 +137,13 @@ module _ (files : Option Files) (catalogue : Catalogue) (query : Query) (number 
   unfolding judges
   plan_stops plan planned stops = then_stops (ends_query catalogue query) (runs_end files catalogue query number) (Left plan) planned stops
 
-  pub clash_goes : (clash : Clash) → IsClash catalogue query clash → (reply : Reply) → reply ≡ Unsatisfiable clash (rows_text query [])
-      → (runs_query files catalogue query number).goes reply
-  unfolding judges gives
-  clash_goes clash clashes reply is = then_goes (ends_query catalogue query) (runs_end files catalogue query number) (Right clash) reply clashes is
+  pub plan_answers : (rose : Type 0) (plan : Plan) → IsPlanned catalogue query plan → (result : Result Reply Status)
+      → Answers (runs_plan files catalogue query number plan) rose result → Answers (runs_query files catalogue query number) rose result
+  plan_answers rose plan planned (Ok reply) goes = plan_goes plan planned reply goes
+  plan_answers rose plan planned (Err refusal) stops = plan_stops plan planned stops
+
+  pub clash_answers : (rose : Type 0) (clash : Clash) → IsClash catalogue query clash → (result : Result Reply Status)
+      → Answers (has_no_answers query clash) ⊥ result → Answers (runs_query files catalogue query number) rose result
+  unfolding judges
+  clash_answers rose clash clashes result answer =
+      still_answers (ends_query catalogue query) (runs_end files catalogue query number) rose (Right clash) result clashes answer

@@ -49,6 +49,10 @@ runs_plan files catalogue query number plan =
     and_then (judges (λ item. slice_get items place ≡ Some item) (λ _. ⊥)) (λ item.
     runs_item files catalogue query plan item)))
 
+-- The names of the query's head alone are the text, with the clash of its run.
+abbrev pub has_no_answers : Query → Clash → Course Status Reply
+has_no_answers query clash = gives (Unsatisfiable clash (rows_text query []))
+
 -- A plan is run. A query whose run ends with a clash has no answers, and the names of its head alone are the text.
 abbrev pub runs_end : Option Files → Catalogue → Query → Option ℕ → Either Plan Clash → Course Status Reply
 runs_end files catalogue query number (Left plan) = runs_plan files catalogue query number plan

@@ -4,10 +4,7 @@ ghost use Rattle.esto_ports.specs.Faults.{Rises};
 ghost use Rattle.esto_opening.specs.Answers.{Answers};
 ghost use Rattle.esto_opening.specs.Asked.{AsksIn};
 ghost use Rattle.esto_opening.specs.Unions.{FormUnion};
-ghost use Rattle.esto_top.specs.Run.{runs_item, runs_plan, runs_query, runs_queries, runs_read, run_course};
-ghost use Rattle.esto_opening.specs.declared.reply.Reply.TheVariants as reply;
-ghost use Rattle.esto_run.specs.Answers.{rows_text};
-ghost use Rattle.std.specs.Prelude.{IfOk, []};
+ghost use Rattle.esto_top.specs.Run.{has_no_answers, runs_item, runs_plan, runs_query, runs_queries, runs_read, run_course};
 ghost use Rattle.esto_planning.specs.Choice.{IsItemOf};
 ghost use Rattle.esto_planning.specs.Listing.{IsPlanned};
 
@@ -23,7 +20,7 @@ use esto_ports::Shelf;
 use esto_query::Query;
 use esto_run::{answers_are_over_files, answers_text, fragments_of_set, run_text};
 use esto_semantics::chosen_atoms_are_named;
-use esto_term::{List, OutOfMemory, Text};
+use esto_term::{List, Text};
 use esto_views::Plan;
 use std::alloc::Global;
 
@@ -76,13 +73,13 @@ fn run_plan<S: Shelf>(
     chosen_items_are_listed();
     let listing = listing_of(alloc, plan, query, catalogue)?;
     let place = choose(&listing, number)?;
-    let reply = run_item(alloc, shelf, query, catalogue, plan, listing.item(place))?;
-    Ok(reply)
+    run_item(alloc, shelf, query, catalogue, plan, listing.item(place))
 }
 
 // The reply to a query whose run ends with the clash: the names of its head alone.
-fn no_answers(alloc: Global, query: &Query, clash: Clash) -> Result<Reply, OutOfMemory>
-    ensures { IfOk result (λ it. it ≡ reply.Unsatisfiable clash (rows_text query.now [])) }
+#[tactic(auto, using(crate::proofs::Steps::steps))]
+fn no_answers(alloc: Global, query: &Query, clash: Clash) -> Result<Reply, Status>
+    ensures { Answers (has_no_answers query.now clash) ⊥ result }
 {
     let rows = List::new(alloc);
     let text = answers_text(alloc, query, &rows)?;
@@ -105,14 +102,8 @@ fn run_query<S: Shelf>(
     ensures later { S.faults shelf.old ≤ S.faults shelf.new }
 {
     match printed_plan(alloc, query, catalogue)? {
-        Left(plan) => {
-            let reply = run_plan(alloc, shelf, query, catalogue, &plan, number)?;
-            Ok(reply)
-        }
-        Right(clash) => {
-            let reply = no_answers(alloc, query, clash)?;
-            Ok(reply)
-        }
+        Left(plan) => run_plan(alloc, shelf, query, catalogue, &plan, number),
+        Right(clash) => no_answers(alloc, query, clash),
     }
 }
 

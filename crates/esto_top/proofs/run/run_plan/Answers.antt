@@ -2,7 +2,7 @@ use Rattle.esto_course.specs.Course.{judges}
 use Rattle.esto_course.proofs.Steps.{at_exit}
 use Rattle.esto_opening.proofs.AskedSteps.{handed_asks}
 use Rattle.esto_top.proofs.RunAskedLemmas.{choice_asks, chosen_asks, list_wants}
-use Rattle.esto_top.proofs.RunLemmas.{choice_stops, chosen_goes, chosen_stops}
+use Rattle.esto_top.proofs.RunLemmas.{choice_stops, chosen_answers}
 use Rattle.esto_top.proofs.run.run_plan.Goals as goal
 
 pub item-requires : goal.item-requires
@@ -20,16 +20,10 @@ returns-in_err-place-clause-answer g c =
     (choice_stops (g.S.Shelf.files c.args.shelf.now) c.args.catalogue.now c.args.query.now c.args.number c.args.plan.now c.in_ok-listing.listing
     c.in_ok-listing.ensures c.in_err-place.ensures)
 
-pub returns-in_err-reply-clause-answer : goal.returns-in_err-reply-clause-answer
-returns-in_err-reply-clause-answer g c =
-    at_exit _ _ c.from_residual-in_err-reply.result c.from_residual-in_err-reply.ensures.1
-    (chosen_stops (g.S.Shelf.files c.args.shelf.now) c.args.catalogue.now c.args.query.now c.args.number c.args.plan.now c.in_ok-listing.listing
-    c.in_ok-listing.ensures c.in_ok-place.place c.in_ok-place.ensures c.item.result.now c.item.ensures c.in_err-reply.ensures.answer)
-
 pub returns-clause-answer : goal.returns-clause-answer
 returns-clause-answer g c =
-    chosen_goes (g.S.Shelf.files c.args.shelf.now) c.args.catalogue.now c.args.query.now c.args.number c.args.plan.now c.in_ok-listing.listing
-    c.in_ok-listing.ensures c.in_ok-place.place c.in_ok-place.ensures c.item.result.now c.item.ensures c.in_ok-reply.reply c.in_ok-reply.ensures.answer
+    chosen_answers (g.S.Shelf.files c.args.shelf.now) c.args.catalogue.now c.args.query.now c.args.number c.args.plan.now c.in_ok-listing.listing
+    c.in_ok-listing.ensures c.in_ok-place.place c.in_ok-place.ensures c.item.result.now c.item.ensures _ c.run_item.result c.run_item.ensures.answer
 
 pub returns-in_err-listing-clause-asked : goal.returns-in_err-listing-clause-asked
 returns-in_err-listing-clause-asked g c =
@@ -42,13 +36,7 @@ returns-in_err-place-clause-asked g c =
     (choice_asks (g.S.Shelf.files c.args.shelf.now) c.args.catalogue.now c.args.query.now c.args.number c.args.plan.now c.in_ok-listing.listing
     c.in_ok-listing.ensures (g.S.Shelf.asked c.args.shelf.now) _ c.in_err-place.ensures)
 
-pub returns-in_err-reply-clause-asked : goal.returns-in_err-reply-clause-asked
-returns-in_err-reply-clause-asked g c =
-    handed_asks _ _ _ c.from_residual-in_err-reply.ensures.1
-    (chosen_asks (g.S.Shelf.files c.args.shelf.now) c.args.catalogue.now c.args.query.now c.args.number c.args.plan.now c.in_ok-listing.listing
-    c.in_ok-listing.ensures c.in_ok-place.place c.in_ok-place.ensures c.item.result.now c.item.ensures _ c.in_err-reply.ensures.asked)
-
 pub returns-clause-asked : goal.returns-clause-asked
 returns-clause-asked g c =
     chosen_asks (g.S.Shelf.files c.args.shelf.now) c.args.catalogue.now c.args.query.now c.args.number c.args.plan.now c.in_ok-listing.listing
-    c.in_ok-listing.ensures c.in_ok-place.place c.in_ok-place.ensures c.item.result.now c.item.ensures _ c.in_ok-reply.ensures.asked
+    c.in_ok-listing.ensures c.in_ok-place.place c.in_ok-place.ensures c.item.result.now c.item.ensures c.run_item.result c.run_item.ensures.asked
