@@ -28,8 +28,7 @@ fn list_text(
     ensures { IfOk result (IsListing catalogue.now query.now plan.now) }
 {
     let listing = listing_of(alloc, plan, query, catalogue)?;
-    let text = listing.text(alloc, plan, &catalogue.fragments)?;
-    Ok(text)
+    listing.text(alloc, plan, &catalogue.fragments)
 }
 
 // The text that the command prints of a plan.
@@ -52,8 +51,7 @@ fn listed(alloc: Global, query: &Query, catalogue: &Catalogue) -> Result<Bytes, 
     ensures { Answers (lists_query catalogue.now query.now) ⊥ result }
 {
     let plan = plan_of(alloc, query, catalogue)?;
-    let text = text_of(alloc, &plan, query, catalogue)?;
-    Ok(text)
+    text_of(alloc, &plan, query, catalogue)
 }
 
 // What the command prints of one query, or of a union of more, or the status with which it refuses them.
