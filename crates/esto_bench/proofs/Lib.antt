@@ -4,6 +4,5 @@ pub mod FragmentLemmas
 pub mod CaseLemmas
 pub mod CatalogueLemmas
 pub mod ViewLemmas
-pub mod FormLemmas
 pub mod PlanLemmas
 pub mod RunLemmas

@@ -1,5 +1,4 @@
 pub mod StepLemmas
-pub mod CourseLemmas
 pub mod DatasetLemmas
 pub mod RowLemmas
 pub mod FindLemmas

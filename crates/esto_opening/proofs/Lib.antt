@@ -1,5 +1,6 @@
 pub mod Steps
 pub mod AskedSteps
+pub mod TextSteps
 pub mod FileSteps
 pub mod LoopSteps
 pub mod OpeningLemmas

@@ -73,6 +73,19 @@ pub then_answers_still : {A B : Type 0} (first : Course Status A) (next : A → 
 then_answers_still first next rose value (Ok given) goes answer = then_goes first next value given goes answer
 then_answers_still first next rose value (Err status) goes stops = then_stops first next value goes (last_stops stops)
 
+-- a first step, which fetches nothing, goes on, and what follows answers
+pub next_answers : {A B : Type 0} (first : Course Status A) (next : A → Course Status B) (rose : Type 0) (value : A) (result : Result B Status)
+    → first.goes value → Answers (next value) rose result → Answers (and_then first next) rose result
+next_answers first next rose value (Ok given) goes answer = then_goes first next value given goes answer
+next_answers first next rose value (Err status) goes stops = then_stops first next value goes stops
+
+-- a first step goes on, and what follows answers
+pub then_answers : {A B : Type 0} (first : Course Status A) (next : A → Course Status B) (before mid now : ℕ) (value : A) (result : Result B Status)
+    → first.goes value → before ≤ mid → mid ≤ now → Answers (next value) (Rose mid now) result → Answers (and_then first next) (Rose before now) result
+then_answers first next before mid now value (Ok given) goes early late answer = then_goes first next value given goes answer
+then_answers first next before mid now value (Err status) goes early late stops =
+    then_stops first next value goes (end_stops before mid now now stops early late (omega arith))
+
 -- a command that fetches nothing
 pub answers_still : {A : Type 0} (course : Course Status A) (rose : Type 0) (result : Result A Status) → Answers course ⊥ result → Answers course rose result
 answers_still course rose (Ok value) goes = goes

@@ -1,5 +1,4 @@
 pub mod RuleLemmas
-pub mod FormLemmas
 pub mod OneListLemmas
 pub mod MovedLemmas
 pub mod ChoiceLemmas

@@ -1,58 +1,11 @@
--- The courses of the commands, a step at a time.
-use Rattle.std.proofs.Common.{◌≤◌, ℕ, List, Option, Result, Ok, Err, refl, arith}
+-- What is told of queries asks for nothing.
 use Rattle.esto_catalog.specs.declared.catalogue.Catalogue.{Catalogue}
-use Rattle.esto_course.specs.Course.{Course, IsQuiet, Names, Stops, gives, and_then}
-use Rattle.esto_course.proofs.Asking.{quiet_demands, quiet_gives, quiet_judges, quiet_then}
-use Rattle.esto_course.proofs.Steps.{gives_goes, then_goes, then_stops}
-use Rattle.esto_ports.specs.Faults.{Rose}
+use Rattle.esto_course.specs.Course.{IsQuiet, and_then}
+use Rattle.esto_course.proofs.Asking.{quiet_demands, quiet_judges, quiet_then}
 use Rattle.esto_query.specs.declared.query.Query.{Query}
-use Rattle.esto_opening.specs.Answers.{Answers, IsWant, IsCaused}
-use Rattle.esto_opening.specs.Asked.{AsksIn}
-use Rattle.esto_opening.specs.declared.reply.Reply.{Reply}
-use Rattle.esto_opening.specs.declared.reply.Reply.TheVariants.{Done}
-use Rattle.esto_opening.specs.declared.status.Status.{Status}
-use Rattle.esto_opening.proofs.AskedSteps.{exit_asks, later_asks, quiet_asks}
-use Rattle.esto_opening.proofs.Steps.{end_stops, still_stops}
 use Rattle.esto_reasoning.specs.Contains.{compares, have_one_length, prints_told, tells_contained}
 use Rattle.esto_reasoning.specs.Minimise.{minimises, minimises_query, prints_minimal}
 
--- the first step goes on, and what follows answers
-pub then_answers : {A B : Type 0} (first : Course Status A) (next : A → Course Status B) (before mid now : ℕ) (value : A) (result : Result B Status)
-    → first.goes value → before ≤ mid → mid ≤ now → Answers (next value) (Rose mid now) result → Answers (and_then first next) (Rose before now) result
-then_answers first next before mid now value (Ok reply) goes early late answer = then_goes first next value reply goes answer
-then_answers first next before mid now value (Err status) goes early late stops =
-    then_stops first next value goes (end_stops before mid now now stops early late (omega arith))
-
--- a first step, and a text of its value, which is the reply
-module _ {A : Type 0} (first : Course Status A) (texts : A → Course Status (List ℕ)) where
-  abbrev reply : List ℕ → Course Status Reply
-  reply text = gives (Done text)
-
-  abbrev replies : A → Course Status Reply
-  replies value = and_then (texts value) reply
-
-  pub text_stops : {rose : Type 0} {refusal : Status} (value : A) → first.goes value → Stops IsWant (IsCaused ⊥) (texts value) refusal
-      → Stops IsWant (IsCaused rose) (and_then first replies) refusal
-  text_stops value goes stops = then_stops first replies value goes (still_stops (texts value) reply stops)
-
-  pub text_goes : (value : A) (text : List ℕ) → first.goes value → (texts value).goes text → (and_then first replies).goes (Done text)
-  text_goes value text goes is =
-      then_goes first replies value (Done text) goes
-      (then_goes (texts value) reply text (Done text) is (gives_goes Status (Done text) (Done text) refl))
-
-  pub stop_asks : {old new : Option Names} {refusal : Status} (value : A) → AsksIn old new first (Ok value) → IsQuiet (texts value)
-      → Stops IsWant (IsCaused ⊥) (texts value) refusal → AsksIn old new (and_then first replies) (Err refusal)
-  stop_asks {new = new} {refusal = refusal} value asked quiet stops =
-      later_asks first replies asked (exit_asks (texts value) reply (quiet_asks (texts value) new (Err refusal) quiet stops))
-
-  pub text_asks : {old new : Option Names} (value : A) (text : List ℕ) → AsksIn old new first (Ok value) → IsQuiet (texts value)
-      → (texts value).goes text → AsksIn old new (and_then first replies) (Ok (Done text))
-  text_asks {new = new} value text asked quiet goes =
-      later_asks first replies asked
-      (later_asks (texts value) reply (quiet_asks (texts value) new (Ok text) quiet goes)
-      (quiet_asks (reply text) new (Ok (Done text)) (quiet_gives Status (Done text)) (gives_goes Status (Done text) (Done text) refl)))
-
--- what is told of queries asks for nothing
 pub compares_quiet : (catalogue : Catalogue) (left right : Query) → IsQuiet (compares catalogue left right)
 compares_quiet catalogue left right =
     quiet_then (have_one_length left right) (λ _. and_then (tells_contained catalogue left right) (prints_told catalogue left)) (quiet_demands _ _)

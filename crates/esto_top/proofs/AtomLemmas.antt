@@ -15,7 +15,7 @@ use Rattle.esto_opening.specs.declared.status.Status.TheVariants.{Usage}
 use Rattle.esto_ports.specs.Faults.{Rose}
 use Rattle.esto_ports.specs.Files.{Files}
 use Rattle.esto_top.specs.Grammar.{atom_numbers, before_all, names_atoms, number_above, numbers_above, verifies_named, with_rest}
-use Rattle.esto_top.proofs.CommandLemmas.{then_answers}
+use Rattle.esto_opening.proofs.Steps.{then_answers}
 
 -- the numbers before the others, if these are there
 abbrev pub after : List ℕ → Option (List ℕ) → Option (List ℕ)

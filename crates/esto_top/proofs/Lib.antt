@@ -1,7 +1,6 @@
 pub mod Steps
 pub mod ValueLemmas
 pub mod SizeLemmas
-pub mod CommandLemmas
 pub mod RunLemmas
 pub mod ListCourseLemmas
 pub mod Mediation

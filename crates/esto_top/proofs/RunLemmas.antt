@@ -33,7 +33,7 @@ use Rattle.esto_opening.specs.declared.status.Status.{Status}
 use Rattle.esto_opening.proofs.Steps.{caused_weaker}
 use Rattle.esto_planning.specs.Listing.{IsClash, IsListOf, IsPlanned}
 use Rattle.esto_planning.specs.Planning.{chooses, ends_query, lists_plan}
-use Rattle.esto_top.proofs.CommandLemmas.{still_answers}
+use Rattle.esto_opening.proofs.Steps.{then_answers_still}
 
 -- ---- the fragments
 
@@ -146,4 +146,4 @@ module _ (files : Option Files) (catalogue : Catalogue) (query : Query) (number 
       → Answers (has_no_answers query clash) ⊥ result → Answers (runs_query files catalogue query number) rose result
   unfolding judges
   clash_answers rose clash clashes result answer =
-      still_answers (ends_query catalogue query) (runs_end files catalogue query number) rose (Right clash) result clashes answer
+      then_answers_still (ends_query catalogue query) (runs_end files catalogue query number) rose (Right clash) result clashes answer

@@ -4,3 +4,4 @@ pub mod SubstitutionLemmas
 pub mod ExpandedLemmas
 pub mod PatternLemmas
 pub mod FlatLemmas
+pub mod FormLemmas

@@ -6,7 +6,7 @@ use Rattle.esto_views.specs.Plans.{plan_query}
 use Rattle.esto_constraint.specs.Constraints.{rules_of}
 use Rattle.esto_query.specs.Making.{query_of}
 use Rattle.esto_views.specs.Fragments.{views_of}
-use Rattle.esto_bench.proofs.FormLemmas.{plan_form}
+use Rattle.esto_views.proofs.FormLemmas.{plan_form}
 use Rattle.esto_bench.proofs.PlanLemmas.{list_of_case, none_are_rules, planned_by}
 use Rattle.esto_bench.proofs.case.listing_of.Goals as goal
 

@@ -3,7 +3,7 @@ use Rattle.esto_semantics.specs.Rules.{AreRules}
 use Rattle.esto_term.proofs.ListLemmas.{Contains-nil}
 use Rattle.esto_bench.specs.Case.{made_names, made_query, made_views}
 use Rattle.esto_bench.proofs.CaseLemmas.{chain_is}
-use Rattle.esto_bench.proofs.FormLemmas.{plan_form}
+use Rattle.esto_views.proofs.FormLemmas.{plan_form}
 use Rattle.esto_bench.proofs.PlanLemmas.{some_listed}
 use Rattle.esto_bench.proofs.ViewLemmas.{satisfied}
 use Rattle.esto_bench.proofs.case.pick_of.Goals as goal

@@ -3,7 +3,7 @@ use Rattle.esto_course.proofs.Steps.{at_exit, first_stops}
 use Rattle.esto_opening.proofs.AskedSteps.{exit_asks, handed_asks, later_asks, quiet_asks}
 use Rattle.esto_opening.proofs.Steps.{answers_still}
 use Rattle.esto_data.specs.Answer.{answers_facts}
-use Rattle.esto_data.proofs.CourseLemmas.{next_answers}
+use Rattle.esto_opening.proofs.Steps.{next_answers}
 use Rattle.esto_data.proofs.answering.answer_queries.Goals as goal
 
 pub returns-in_err-loaded-clause-answer : goal.returns-in_err-loaded-clause-answer

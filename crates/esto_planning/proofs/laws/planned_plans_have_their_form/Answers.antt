@@ -1,7 +1,7 @@
 use Rattle.esto_constraint.specs.Constraints.{rules_of}
 use Rattle.esto_query.specs.Making.{query_of}
 use Rattle.esto_views.specs.Fragments.{views_of}
-use Rattle.esto_planning.proofs.FormLemmas.{plan_form}
+use Rattle.esto_views.proofs.FormLemmas.{plan_form}
 use Rattle.esto_planning.proofs.laws.planned_plans_have_their_form.Goals as goal
 
 pub returns-clause-form : goal.returns-clause-form

@@ -2,7 +2,7 @@ use Rattle.esto_course.proofs.Asking.{quiet_gives}
 use Rattle.esto_course.proofs.Steps.{at_exit, first_stops}
 use Rattle.esto_opening.proofs.AskedSteps.{exit_asks, handed_asks, later_asks, quiet_asks}
 use Rattle.esto_top.specs.Check.{prints_check}
-use Rattle.esto_top.proofs.CommandLemmas.{still_answers}
+use Rattle.esto_opening.proofs.Steps.{then_answers_still}
 use Rattle.esto_top.proofs.check.check.Goals as goal
 
 pub returns-in_err-catalogue-clause-answer : goal.returns-in_err-catalogue-clause-answer
@@ -12,7 +12,7 @@ pub returns-in_err-catalogue-clause-asked : goal.returns-in_err-catalogue-clause
 returns-in_err-catalogue-clause-asked g c = handed_asks _ _ _ c.from_residual.ensures.1 (exit_asks _ _ c.in_err-catalogue.ensures.asked)
 
 pub returns-clause-answer : goal.returns-clause-answer
-returns-clause-answer g c = still_answers _ _ _ c.in_ok-catalogue.catalogue c.checked.result c.in_ok-catalogue.ensures.answer c.checked.ensures
+returns-clause-answer g c = then_answers_still _ _ _ c.in_ok-catalogue.catalogue c.checked.result c.in_ok-catalogue.ensures.answer c.checked.ensures
 
 pub returns-clause-asked : goal.returns-clause-asked
 returns-clause-asked g c =

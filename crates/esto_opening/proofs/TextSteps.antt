@@ -1,23 +1,15 @@
--- The courses of the commands, a step at a time.
-use Rattle.std.proofs.Common.{◌≤◌, ℕ, List, Option, Result, Ok, Err, refl, arith}
+-- The course of a command that reads, and then replies with a text of what it read.
+use Rattle.std.proofs.Common.{List, ℕ, Option, Result, Ok, Err, refl}
 use Rattle.esto_course.specs.Course.{Course, IsQuiet, Names, Stops, gives, and_then}
 use Rattle.esto_course.proofs.Asking.{quiet_gives}
 use Rattle.esto_course.proofs.Steps.{gives_goes, then_goes, then_stops}
-use Rattle.esto_ports.specs.Faults.{Rose}
-use Rattle.esto_opening.specs.Answers.{Answers, IsWant, IsCaused}
+use Rattle.esto_opening.specs.Answers.{IsWant, IsCaused}
 use Rattle.esto_opening.specs.Asked.{AsksIn}
 use Rattle.esto_opening.specs.declared.reply.Reply.{Reply}
 use Rattle.esto_opening.specs.declared.reply.Reply.TheVariants.{Done}
 use Rattle.esto_opening.specs.declared.status.Status.{Status}
 use Rattle.esto_opening.proofs.AskedSteps.{exit_asks, later_asks, quiet_asks}
-use Rattle.esto_opening.proofs.Steps.{end_stops, still_stops}
-
--- the first step goes on, and what follows answers
-pub then_answers : {A B : Type 0} (first : Course Status A) (next : A → Course Status B) (before mid now : ℕ) (value : A) (result : Result B Status)
-    → first.goes value → before ≤ mid → mid ≤ now → Answers (next value) (Rose mid now) result → Answers (and_then first next) (Rose before now) result
-then_answers first next before mid now value (Ok reply) goes early late answer = then_goes first next value reply goes answer
-then_answers first next before mid now value (Err status) goes early late stops =
-    then_stops first next value goes (end_stops before mid now now stops early late (omega arith))
+use Rattle.esto_opening.proofs.Steps.{still_stops}
 
 -- a first step, and a text of its value, which is the reply
 module _ {A : Type 0} (first : Course Status A) (texts : A → Course Status (List ℕ)) where
