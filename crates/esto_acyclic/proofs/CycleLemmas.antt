@@ -16,10 +16,6 @@ cmp_less x y less = grind (arith, nat_tests)
 cmp_same : (x y : ℕ) → x ≡ y → nat_cmp x y ≡ Equal
 cmp_same x y same = grind (arith, nat_tests)
 
-pub IsAtMost-nil : (others : List ℕ) → IsAtMost [] others
-IsAtMost-nil [] greater = let never : Equal ≡ Greater = greater in cc
-IsAtMost-nil (y ∷ ys) greater = let never : Less ≡ Greater = greater in cc
-
 pub IsAtMost-less : (x y : ℕ) (xs ys : List ℕ) → x < y → IsAtMost (x ∷ xs) (y ∷ ys)
 IsAtMost-less x y xs ys less greater =
     let first : slice_cmp nat_cmp (x ∷ xs) (y ∷ ys) ≡ Less = ap (λ order. ordering_then order (slice_cmp nat_cmp xs ys)) (cmp_less x y less) in

@@ -13,7 +13,7 @@ use Rattle.esto_semantics.specs.Expansions.{IsExpansion, IsPartOf}
 use Rattle.esto_semantics.specs.Facts.{image}
 use Rattle.esto_semantics.specs.Instances.{IsFinished, IsUniversalFor, MapsTo}
 use Rattle.esto_semantics.specs.Listed.{candidate}
-use Rattle.esto_semantics.specs.Maps.{AreFlat, IsFlat}
+use Rattle.esto_semantics.specs.Maps.{AreFlat}
 use Rattle.esto_semantics.specs.Queries.{ConjunctiveQuery, IsAnswer}
 use Rattle.esto_semantics.specs.Rules.{Rule, AreRules, IsRule}
 use Rattle.esto_semantics.specs.Sets.{Has, numbers}
@@ -27,20 +27,17 @@ use Rattle.esto_constraint.specs.declared.rule.Constraint.{Constraint}
 use Rattle.esto_views.specs.Expanded.{Expands, facts_of}
 use Rattle.esto_views.specs.Fragments.{views_of}
 use Rattle.esto_views.specs.Plans.{fact_of, plan_query}
-use Rattle.esto_views.specs.Soundness.{IsNamed, IsSoundPlan}
+use Rattle.esto_views.specs.Soundness.{IsSoundPlan}
 use Rattle.esto_views.specs.declared.expansion.ExpandedFact.{ExpandedFact}
 use Rattle.esto_views.specs.declared.fragments.FragmentDef.{FragmentDef}
 use Rattle.esto_views.specs.declared.plan.Plan.{Plan}
+use Rattle.esto_views.proofs.FlatLemmas.{named-flat}
 use Rattle.esto_backchase.specs.Candidates as own
 
 -- ---- rules, and the form of a plan
 
 pub rules-are : (constraints : List Constraint) → ((constraint : Constraint) → IsRule (rule_of constraint)) → AreRules (rules_of constraints)
 rules-are constraints each rule inside = let from = Contains-map_from rule_of constraints rule inside in subst IsRule from.2 (each from.0)
-
-pub named-flat : (plan : Plan) (term : Term) → IsNamed plan.names term → IsFlat term
-named-flat plan term (inl constant) = inl constant
-named-flat plan term (inr (number, is, _)) = inr (number, is)
 
 pub plan-flat : (plan : Plan) → IsSoundPlan plan.atoms plan.head plan.names → AreFlat (plan_query plan).body
 plan-flat plan sound term (fact, there, inside) =

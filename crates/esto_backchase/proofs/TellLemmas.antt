@@ -35,10 +35,11 @@ use Rattle.esto_world_laws.specs.Worlds.{InWorld, IsBroken, IsDenied}
 use Rattle.esto_world_laws.specs.declared.entry.Claim.{Claim}
 use Rattle.esto_world_laws.specs.declared.entry.Claim.TheVariants.{Fact as Stated}
 use Rattle.esto_world_laws.specs.declared.entry.Entry.{Entry}
+use Rattle.esto_views.proofs.FlatLemmas.{named-flat}
 use Rattle.esto_backchase.specs.Candidates.{facts_chosen}
 use Rattle.esto_backchase.specs.Evidence.{AreConditional}
 use Rattle.esto_backchase.proofs.ReadLemmas.{answer_matches}
-use Rattle.esto_backchase.proofs.CandidateLemmas.{chosen_start, chosen-expands, chosen-from, chosen-in_start, from-chosen, named-flat}
+use Rattle.esto_backchase.proofs.CandidateLemmas.{chosen_start, chosen-expands, chosen-from, chosen-in_start, from-chosen}
 
 module _ (rules : List Rule) (fragments : List FragmentDef) (rank : ℕ → ℕ) (plan : Plan) (expanded : List ExpandedFact)
     (expands : Expands plan fragments expanded) (entries : List Entry) (are : AreConditional rules rank (length plan.atoms) expanded entries)

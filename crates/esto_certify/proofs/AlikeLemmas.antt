@@ -6,7 +6,6 @@ use Rattle.esto_catalog.specs.declared.catalogue.Catalogue.{Catalogue}
 use Rattle.esto_cert.specs.Showing.{VerdictsAreMoved, VerdictsAreOne}
 use Rattle.esto_course.proofs.Determined.{gives_agree, judges_agree, then_agree}
 use Rattle.esto_ports.specs.Files.{Files}
-use Rattle.esto_query.specs.Making.{query_of}
 use Rattle.esto_query.specs.declared.query.Query.{Query}
 use Rattle.esto_semantics.specs.Queries.{ConjunctiveQuery}
 use Rattle.esto_semantics.specs.SetLaws.{NumbersTellSets}
@@ -19,11 +18,9 @@ use Rattle.esto_opening.specs.declared.status.Status.{Status}
 use Rattle.esto_opening.specs.declared.status.Status.TheVariants.{NoSuchNumber, Rejected}
 use Rattle.esto_opening.proofs.AgreeLemmas.{fetches-agree}
 use Rattle.esto_planning.specs.Alike.{IsSamePlan, PlanIsOne}
+use Rattle.esto_opening.proofs.AlikeLemmas.{same_query}
 use Rattle.esto_certify.specs.Verify.{HasVerdict, IsAbove, IsSetOf, judges_certificate, names_set, verifies_query, verifies_set, verify_course}
 use Rattle.esto_certify.specs.declared.verifying.TheConstants.{CERTIFICATE_LIMIT}
-
-pub same_query : (query other : Query) → IsSameQuery query other → query_of query ≡ query_of other
-same_query query other same = λ i. record { head = same.head i; body = same.body i }
 
 pub same_length : (plan other : Plan) → IsSamePlan plan other → length plan.atoms ≡ length other.atoms
 same_length plan other same =

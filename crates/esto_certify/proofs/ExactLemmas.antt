@@ -9,12 +9,12 @@ use Rattle.esto_query.specs.declared.query.Query.{Query}
 use Rattle.esto_semantics.specs.SetLaws.{NumbersTellSets}
 use Rattle.esto_views.specs.declared.plan.Plan.{Plan}
 use Rattle.esto_opening.specs.Alike.{CataloguesOpenAlike, IsSameQuery, QueriesOpenAlike}
-use Rattle.esto_opening.specs.Calm.{AgreeCalmly, Leads}
+use Rattle.esto_opening.specs.Calm.{Leads}
 use Rattle.esto_opening.specs.Line.{line_of}
 use Rattle.esto_opening.specs.declared.reply.Reply.TheVariants.{Done}
 use Rattle.esto_opening.specs.declared.status.Status.{Status}
 use Rattle.esto_opening.specs.declared.status.Status.TheVariants as status
-use Rattle.esto_opening.proofs.LeadLemmas.{fetches-leads, gives-leads, leads-more, then-leads}
+use Rattle.esto_opening.proofs.LeadLemmas.{fetches-leads, gives-leads, leads-more, then-leads, agreed_leads}
 use Rattle.esto_planning.specs.Alike.{IsSamePlan, PlanIsOne}
 use Rattle.esto_planning.specs.Listing.{IsPlanned}
 use Rattle.esto_planning.specs.Planning.{plans_query}
@@ -35,14 +35,6 @@ certifies show derive catalogue query plan set bytes over has = record {
 }
 
 -- ---- up to the plan
-
--- a course leads to what is the same as a value with which one goes on that agrees with it
-pub agreed_leads : {A : Type 0} (Same : A → A → Type 0) (course other : Course Status A) (value : A) (Refusal : Status → Type 0)
-    → AgreeCalmly Same course other → course.goes value → Leads other (Same value) Refusal
-agreed_leads Same course other value Refusal agree goes = record {
-  goes = λ its there. agree.one value its goes there;
-  stops = λ said caused stop. absurd (agree.apart value said caused goes stop);
-}
 
 module _ (catalogues : CataloguesOpenAlike) (queries : QueriesOpenAlike) (plans_one : PlanIsOne) (files : Files) (catalogue : Catalogue) (query : Query)
     (plan : Plan) (numbers file : List ℕ) where

@@ -15,7 +15,7 @@ use Rattle.esto_opening.specs.Calm.{Leads}
 use Rattle.esto_opening.specs.Line.{line_of}
 use Rattle.esto_opening.specs.declared.reply.Reply.TheVariants.{Done}
 use Rattle.esto_opening.specs.declared.status.Status.TheVariants as status
-use Rattle.esto_opening.proofs.LeadLemmas.{gives-leads, leads-more, then-leads}
+use Rattle.esto_opening.proofs.LeadLemmas.{gives-leads, leads-more, then-leads, agreed_leads}
 use Rattle.esto_planning.specs.Alike.{ClashIsMoved, IsSamePlan, ListIsMoved, PlanIsMoved, PlanIsOne}
 use Rattle.esto_planning.specs.Laws.{ItemIsListed}
 use Rattle.esto_planning.specs.Listing.{IsListOf, IsPlanned}
@@ -24,7 +24,7 @@ use Rattle.esto_certify.specs.Laws.{CertifiesOverPlans, ExplainSaysCertificates,
 use Rattle.esto_certify.specs.Laws.IsExplained.{clashes, has_no_set, explains}
 use Rattle.esto_certify.specs.Verify.{HasVerdict}
 use Rattle.esto_certify.proofs.AlikeLemmas.{same_length, verdict_moved}
-use Rattle.esto_certify.proofs.ExactLemmas.{agreed_leads, certifies}
+use Rattle.esto_certify.proofs.ExactLemmas.{certifies}
 
 -- the laws by which what is read is moved, and of what is accepted
 pub record ExplainLaws : Type 0 where

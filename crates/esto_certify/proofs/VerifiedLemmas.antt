@@ -12,7 +12,7 @@ use Rattle.esto_opening.specs.Line.{line_of}
 use Rattle.esto_opening.specs.declared.reply.Reply.TheVariants.{Done}
 use Rattle.esto_opening.specs.declared.status.Status.{Status}
 use Rattle.esto_opening.specs.declared.status.Status.TheVariants as status
-use Rattle.esto_opening.proofs.LeadLemmas.{gives-leads, leads-more, then-leads}
+use Rattle.esto_opening.proofs.LeadLemmas.{gives-leads, leads-more, then-leads, agreed_leads}
 use Rattle.esto_planning.specs.Alike.{ClashIsMoved, IsSamePlan, PlanIsMoved, PlanIsOne}
 use Rattle.esto_planning.specs.Listing.{IsPlanned}
 use Rattle.esto_ports.specs.Files.{Files}
@@ -24,7 +24,7 @@ use Rattle.esto_certify.specs.Laws.IsVerified.{clashes, has_plan}
 use Rattle.esto_certify.specs.Verify.{first_above, HasVerdict, IsAbove, IsSetOf, verifies_query}
 use Rattle.esto_certify.specs.declared.verifying.TheConstants.{CERTIFICATE_LIMIT}
 use Rattle.esto_certify.proofs.AlikeLemmas.{same_length, verdict_moved}
-use Rattle.esto_certify.proofs.ExactLemmas.{agreed_leads, certifies}
+use Rattle.esto_certify.proofs.ExactLemmas.{certifies}
 
 -- the laws by which what is read is moved, and of what is accepted
 pub record VerifyLaws : Type 0 where

@@ -27,6 +27,7 @@ use Rattle.esto_constraint.specs.Tests.{IsOver}
 use Rattle.esto_chase_laws.specs.Joined.{joined_by}
 use Rattle.esto_chase_laws.specs.Making.{is_variable_of, frontier, extended, made_facts}
 use Rattle.esto_chase_laws.proofs.MakingLemmas.{in_terms-Decides, terms_of-Mentions, extended-flat}
+use Rattle.esto_query.proofs.ValuationLemmas.{map_of-Plain, map_of-Const}
 use Rattle.esto_chase.specs.Made.{made_by, made_by_level}
 
 -- ---- whether a term is a variable of the atoms
@@ -109,12 +110,6 @@ made_by-Const number values valuation text = ap (made_by_level number values val
 made_by-Plain : (number : ℕ) (values : List Term) (valuation : Assignment) (variable : ℕ)
     → made_by number values valuation (Plain variable) ≡ unwrap_or (get valuation variable) (Made number variable values)
 made_by-Plain number values valuation variable = ap (made_by_level number values valuation (Plain variable)) (outs-Plain variable)
-
-map_of-Plain : (valuation : Assignment) (variable : ℕ) → map_of valuation (Plain variable) ≡ unwrap_or (get valuation variable) (Plain variable)
-map_of-Plain valuation variable = rw (outs-Plain variable) refl
-
-map_of-Const : (valuation : Assignment) (text : List ℕ) → map_of valuation (Const text) ≡ Const text
-map_of-Const valuation text = rw (outs-Const text) refl
 
 either_value : (value : Option Term) (one other : Term) → IsSome value → unwrap_or value one ≡ unwrap_or value other
 either_value (Some term) one other some = refl

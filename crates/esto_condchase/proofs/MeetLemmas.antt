@@ -1,12 +1,13 @@
 -- Steps of the walks for what a term meets first.
 use Rattle.std.proofs.Common.{◌≡◌, zero, suc, ℕ, ◌+◌, ◌<◌, ◌≤◌, Bool, true, false, cond, List, [], ◌∷◌, ◌++◌, drop, take, length, get_or, slice_get, Some, Contains, subst, refl, sym, ap, ◌∙◌, arith}
 use Rattle.std.proofs.lemmas.List.{drop_more, take_more}
-use Rattle.std.proofs.lemmas.Option.{slice_get-get_or, slice_get_within, get_or_from_slice_get}
+use Rattle.std.proofs.lemmas.Option.{slice_get_within, get_or_from_slice_get}
 use Rattle.esto_term.specs.declared.term.Term.{Term}
 use Rattle.esto_term.proofs.ListLemmas.{Contains-read}
 use Rattle.esto_term.specs.Order.{same_term}
 use Rattle.esto_semantics.proofs.TermLemmas.{same_term-Decides}
 use Rattle.esto_views.specs.Spreads.{substituted}
+use Rattle.esto_prov.proofs.MeetLemmas.{drop-past}
 
 pub take-item : {X : Type 0} (items : List X) (place : ℕ) (thing : X) → place < length items → thing ≡ get_or items place thing → take (place + 1) items
     ≡ take place items ++ thing ∷ []
@@ -16,20 +17,10 @@ pub drop-item : {X : Type 0} (items : List X) (place : ℕ) (thing : X) → plac
     ≡ thing ∷ drop (place + 1) items
 drop-item items place thing within is = drop_more items place thing within ∙ ap (λ it. it ∷ drop (place + 1) items) (sym is)
 
-pub item_at : {X : Type 0} (items : List X) (place : ℕ) (thing : X) → place < length items → thing ≡ get_or items place thing → slice_get items place
-    ≡ Some thing
-item_at items place thing within is = slice_get-get_or items place thing within ∙ ap Some (sym is)
-
 -- what is read of the items is one of the things
 pub item_inside : {X : Type 0} (things items : List X) (place : ℕ) (thing : X) → items ≡ things → place < length items → thing ≡ get_or items place thing
     → Contains things thing
 item_inside things items place thing same within is = subst (λ it. Contains it thing) same (Contains-read items place thing within is)
-
-drop-past : {X : Type 0} (place : ℕ) (items : List X) → length items ≤ place → drop place items ≡ []
-drop-past zero [] past = refl
-drop-past zero (first ∷ rest) past = absurd (omega (arith, past))
-drop-past (suc place) [] past = refl
-drop-past (suc place) (first ∷ rest) past = drop-past place rest (omega (arith, past))
 
 module _ (from to more others : List Term) (place : ℕ) (term first own : Term) (answer : Bool) (within : place < length from)
     (at : first ≡ get_or from place first)

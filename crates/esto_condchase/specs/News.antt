@@ -1,5 +1,6 @@
 -- What is new since a round: the entries from a place on.
 use Rattle.std.specs.Prelude.{◌≡◌, ℕ, Bool, List, take, Contains}
+use Rattle.esto_acyclic.specs.Relations.{HasRelation}
 use Rattle.esto_term.specs.declared.term.Term.{Term}
 use Rattle.esto_semantics.specs.declared.fact.Fact.{Fact}
 use Rattle.esto_world_laws.specs.Matches.{IsDirectMatch}
@@ -7,10 +8,6 @@ use Rattle.esto_world_laws.specs.Worlds.{InWorld}
 use Rattle.esto_world_laws.specs.declared.entry.Claim.{Claim}
 use Rattle.esto_world_laws.specs.declared.entry.Claim.TheVariants.{Fact as Stated, Same}
 use Rattle.esto_world_laws.specs.declared.entry.Entry.{Entry}
-
--- Some atom of the body has the relation.
-abbrev pub HasRelation : List (Fact Term) → ℕ → Type 0
-HasRelation body relation = (atom : Fact Term) × Contains body atom × (atom.relation ≡ relation)
 
 -- No match of the body uses the claim: it is a fact of a relation that no atom of the body has.
 abbrev pub IsApart : Claim → List (Fact Term) → Type 0

@@ -4,7 +4,8 @@ ghost use Rattle.esto_term.specs.declared.term.Term.{Term};
 ghost use Rattle.esto_semantics.specs.Rules.{body_of};
 ghost use Rattle.esto_semantics.specs.declared.fact.Fact.{Fact};
 ghost use Rattle.esto_constraint.specs.Constraints.{rule_of};
-ghost use Rattle.esto_condchase.specs.News.{HasRelation, IsApart, IsSettled};
+ghost use Rattle.esto_acyclic.specs.Relations.{HasRelation};
+ghost use Rattle.esto_condchase.specs.News.{IsApart, IsSettled};
 
 use esto_constraint::Constraint;
 use esto_semantics::Atom;

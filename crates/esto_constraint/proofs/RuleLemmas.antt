@@ -4,17 +4,17 @@ use Rattle.std.proofs.Math.Logic.{∥∥₁_map}
 use Rattle.esto_term.specs.declared.term.Term.{Term}
 use Rattle.esto_term.specs.declared.term.Term.TheVariants.{Const}
 use Rattle.esto_semantics.specs.Maps.{IsFlat, AreFlat, IsFixedBy}
-use Rattle.esto_semantics.specs.Rules.{IsRule}
+use Rattle.esto_semantics.specs.Rules.{IsRule, AreRules}
 use Rattle.esto_semantics.specs.declared.fact.Fact.{Fact}
 use Rattle.esto_query.specs.Soundness.{AreNamed, IsSound}
 use Rattle.esto_query.specs.declared.query.Name.{Name}
 use Rattle.esto_query.proofs.SoundLemmas.{sound_of}
 use Rattle.esto_constraint.specs.Soundness.{IsSoundTuple, IsSoundEquality, IsSoundDenial}
-use Rattle.esto_constraint.specs.Constraints.{rule_of}
+use Rattle.esto_constraint.specs.Constraints.{rule_of, rules_of}
 use Rattle.esto_semantics.specs.Rules.{body_of}
 use Rattle.esto_constraint.specs.declared.rule.Constraint.{Constraint}
 use Rattle.esto_constraint.specs.declared.rule.Constraint.TheVariants.{Tuple, Equal, Never}
-use Rattle.esto_term.proofs.ListLemmas.{Contains-cases, Contains-head, Contains-nil, Contains-rest}
+use Rattle.esto_term.proofs.ListLemmas.{Contains-cases, Contains-head, Contains-nil, Contains-rest, Contains-map_from}
 
 -- ---- the atoms of a rule are the body of a query
 
@@ -40,7 +40,7 @@ with_constant body names some flat named = record {
   named = named;
 }
 
-flat_fixed : (body : List (Fact Term)) (term : Term) → AreFlat body → IsFixedBy body term → IsFlat term
+pub flat_fixed : (body : List (Fact Term)) (term : Term) → AreFlat body → IsFixedBy body term → IsFlat term
 flat_fixed body term flat (inl is_constant) = inl is_constant
 flat_fixed body term flat (inr mentioned) = flat term mentioned
 
@@ -119,3 +119,7 @@ pub flat_body : (constraint : Constraint) → AreFlat (body_of (rule_of constrai
 flat_body (Tuple rule) = (tuple_sound rule.body rule.head rule.names rule.sound).rule.flat_body
 flat_body (Equal rule) = (equality_sound rule.body rule.left rule.right rule.names rule.sound).rule.flat_body
 flat_body (Never rule) = (denial_sound rule.body rule.names rule.sound).rule.flat_body
+
+-- the meaning of each constraint is a rule, so that of a list of them is a list of rules
+pub are_rules : ((constraint : Constraint) → IsRule (rule_of constraint)) → (rules : List Constraint) → AreRules (rules_of rules)
+are_rules each rules rule inside = let found = Contains-map_from rule_of rules rule inside in subst IsRule found.2 (each found.0)

@@ -4,7 +4,7 @@ use Rattle.std.proofs.lemmas.Bool.{false≢true}
 use Rattle.std.proofs.lemmas.List.{length-map}
 use Rattle.std.specs.Prelude.{AllPairs}
 use Rattle.esto_term.specs.declared.term.Term.{Term}
-use Rattle.esto_term.proofs.ListLemmas.{Contains-cases, Contains-head, Contains-nil}
+use Rattle.esto_term.proofs.ListLemmas.{Contains-head}
 use Rattle.esto_semantics.specs.Containment.{IsSatisfiable}
 use Rattle.esto_semantics.specs.Instances.{MapsTo}
 use Rattle.esto_semantics.specs.Queries.{ConjunctiveQuery}
@@ -17,6 +17,7 @@ use Rattle.esto_views.specs.Plans.{plan_query}
 use Rattle.esto_views.specs.declared.plan.Plan.{Plan}
 use Rattle.esto_universal.specs.PlannedLaws.{PlanOfRunIsOne}
 use Rattle.esto_universal.specs.Stated.{IsRenamedPlan}
+use Rattle.esto_views.proofs.FormLemmas.{only_one}
 use Rattle.esto_core.specs.Cored.{IsCoredPlan}
 use Rattle.esto_core.specs.CoredLaws.{CoredIsCore, CoredHasNoRetract, CoredIsOne}
 use Rattle.esto_core.specs.Printed.{IsPrintedOf}
@@ -62,9 +63,6 @@ printed_plan-one one cored_one core rules views names query plan other are_rules
     printed-one cored_one core printed.stated again.stated plan other same.0 same.1 printed.printed again.printed
 
 -- ---- the head
-
-only_one : {A : Type 0} (one other : A) → Contains (one ∷ []) other → one ≡ other
-only_one one other inside = elim (Contains-cases one [] other inside) [ inl is ↦ is | inr later ↦ absurd (Contains-nil other later) ]
 
 -- two lists of terms that one row is made of are of one length
 one_length : (one other : Term → Value) (terms others : List Term) (row : List Value) → row ≡ map one terms → row ≡ map other others

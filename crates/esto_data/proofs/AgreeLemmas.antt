@@ -41,11 +41,12 @@ use Rattle.esto_opening.specs.declared.reply.Reply.TheVariants.{Done}
 use Rattle.esto_opening.specs.declared.status.Status.{Status}
 use Rattle.esto_opening.specs.declared.status.Status.TheVariants as status
 use Rattle.esto_opening.proofs.Steps.{never_wanting}
+use Rattle.esto_constraint.proofs.RuleLemmas.{are_rules}
 use Rattle.esto_data.specs.Answer.{IsUnionAnswerOfFacts, answer_course, answers_union, lists_texts}
 use Rattle.esto_data.specs.Audit.{AuditsFiles, all_fragments, audit_course, audit_text, audits_catalogue, audits_facts, compares, judges_views}
 use Rattle.esto_data.specs.Datasets.{IsAny, Names, OneNames, loads}
 use Rattle.esto_data.specs.Fill.{IsFirstOf, fill_course, fill_status, fills_file, fills_fragment, fills_named, finds_fragment, names_of}
-use Rattle.esto_data.proofs.AlikeLemmas.{are_rules, audits_over, first_one, fragments_long, texts_one, same_stored, same_view}
+use Rattle.esto_data.proofs.AlikeLemmas.{audits_over, first_one, fragments_long, texts_one, same_stored, same_view}
 use Rattle.esto_data.proofs.LoadLemmas.{loads_agree, loads_flat}
 use Rattle.esto_data.proofs.UnionLemmas.{same_queries, same_union_text}
 

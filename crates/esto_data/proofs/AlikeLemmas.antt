@@ -4,14 +4,12 @@ use Rattle.std.specs.Prelude.{codes}
 use Rattle.std.specs.Fmt.{decimal}
 use Rattle.std.proofs.lemmas.Bool.{cases_order}
 use Rattle.std.proofs.lemmas.List.{length-map}
-use Rattle.std.proofs.lemmas.Option.{same_Some}
 use Rattle.esto_catalog.specs.Determined.{AreSame, StoredAs, as_table, as_documents, as_keys, shape_as, stored_as}
 use Rattle.esto_catalog.specs.declared.catalogue.Catalogue.{Catalogue}
 use Rattle.esto_catalog.specs.declared.catalogue.Shape.{Shape}
 use Rattle.esto_catalog.specs.declared.catalogue.Shape.TheVariants.{Table, Documents, Keys}
-use Rattle.esto_constraint.specs.Constraints.{rule_of, rules_of}
+use Rattle.esto_constraint.specs.Constraints.{rules_of}
 use Rattle.esto_constraint.specs.EncodingRules.{written}
-use Rattle.esto_constraint.specs.declared.rule.Constraint.{Constraint}
 use Rattle.esto_docs.specs.Documents.{document, documents_text}
 use Rattle.esto_fill.specs.Databases.{database_of}
 use Rattle.esto_fill.specs.Differences.{Audits, AreOne, IsFirstApart, IsInOne, IsOfView, at}
@@ -25,18 +23,19 @@ use Rattle.esto_query.specs.declared.query.Name.{Name}
 use Rattle.esto_query.specs.declared.query.Query.{Query}
 use Rattle.esto_run.specs.Answers.{level_name, rows_text}
 use Rattle.esto_semantics.specs.Queries.{ConjunctiveQuery}
-use Rattle.esto_semantics.specs.Rules.{Rule, AreRules, IsRule}
+use Rattle.esto_semantics.specs.Rules.{Rule}
 use Rattle.esto_semantics.specs.declared.fact.Fact.{Fact}
 use Rattle.esto_semantics.specs.declared.fact.Value.{Value}
 use Rattle.esto_stores.specs.KeyText.{keys_text}
 use Rattle.esto_stores.specs.Rows.{Row}
 use Rattle.esto_stores.specs.TableText.{table_text}
-use Rattle.esto_term.proofs.ListLemmas.{Contains-map_from, map_at, map_at-from}
+use Rattle.esto_term.proofs.ListLemmas.{map_at, map_at-from}
 use Rattle.esto_term.specs.declared.term.Term.{Term, out-Term}
 use Rattle.esto_views.specs.declared.fragments.FragmentDef.{FragmentDef}
 use Rattle.esto_views.specs.Fragments.{views_of}
 use Rattle.esto_opening.specs.Alike.{IsSameQuery}
 use Rattle.esto_opening.specs.Fragments.{Stored, IsStoredAt}
+use Rattle.esto_opening.proofs.StoreLemmas.{same_at}
 use Rattle.esto_data.specs.Audit.{audit_text}
 use Rattle.esto_data.specs.Fill.{IsFirstOf, names_of}
 
@@ -138,23 +137,9 @@ module _ (rules : List Rule) (names : List (List Name)) (fragments : List (List 
 
 -- ---- the rules, queries and fragments of catalogues that say the same
 
--- the meaning of each constraint is a rule, so that of a list of them is a list of rules
-pub are_rules : ((constraint : Constraint) → IsRule (rule_of constraint)) → (rules : List Constraint) → AreRules (rules_of rules)
-are_rules each rules rule inside = let found = Contains-map_from rule_of rules rule inside in subst IsRule found.2 (each found.0)
-
-pub same_query : (query other : Query) → IsSameQuery query other → query_of query ≡ query_of other
-same_query query other same = λ i. record { head = same.head i; body = same.body i }
-
 -- rows have one text under the names of one head
 pub same_rows_text : (query other : Query) → IsSameQuery query other → (rows : List Row) → rows_text query rows ≡ rows_text other rows
 same_rows_text query other same rows = λ i. table_text (map (λ term. level_name (same.names i) (out-Term term)) (same.head i)) rows
-
--- what is the same of all things is the same of those at a place
-same_at : {X Y : Type 0} (m : X → Y) (things others : List X) (place : ℕ) (thing other : X) → map m things ≡ map m others
-    → slice_get things place ≡ Some thing → slice_get others place ≡ Some other → m thing ≡ m other
-same_at m things others place thing other same is is_other =
-    same_Some (m thing) (m other)
-    (sym (map_at m things place thing is) ∙ ap (λ it. slice_get it place) same ∙ map_at m others place other is_other)
 
 module _ (catalogue other : Catalogue) (alike : AreSame catalogue other) (number : ℕ) (stored other_stored : Stored) (here : IsStoredAt catalogue number stored)
     (there : IsStoredAt other number other_stored) where

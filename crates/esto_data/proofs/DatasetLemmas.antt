@@ -2,7 +2,6 @@
 use Rattle.std.proofs.Common.{◌≡◌, ◌↔◌, ◌⊎◌, ◌<◌, ◌≤◌, ◌+◌, ℕ, suc, List, [], ◌∷◌, ◌++◌, drop, length, get_or, Contains, slice_get, Option, Some, None, Result, Ok, Err, refl, sym, ap, subst, ◌∙◌, arith, inl, inr}
 use Rattle.std.specs.Prelude.{AllPairs, IfSome, IsSome}
 use Rattle.std.specs.Result.{IsErrAnd}
-use Rattle.std.proofs.lemmas.List.{get_or_default}
 use Rattle.std.proofs.lemmas.List.Elements.{Contains-append_cases, Contains-append_left, Contains-append_right, Contains-get_or}
 use Rattle.std.proofs.lemmas.List.Quantifiers.{all_pairs_push}
 use Rattle.std.proofs.lemmas.Option.{same_Some, slice_get-get_or, slice_get_within}
@@ -368,15 +367,6 @@ needed_all datasets Needs count numbers so_far le = record {
   );
   rising = so_far.rising;
 }
-
--- the number at a place of the list, as it is read off a slice of it
-pub number_inside : (numbers items : List ℕ) (index : ℕ) → items ≡ numbers → index < length items → Contains numbers (get_or items index 0)
-number_inside numbers items index is below = subst (λ (it : List ℕ). Contains it (get_or items index 0)) is (Contains-get_or items index 0 below)
-
-pub number_read : (numbers items : List ℕ) (index : ℕ) → items ≡ numbers → index < length items
-    → get_or items index 0 ≡ get_or numbers index (get_or items index 0)
-number_read numbers items index is below =
-    get_or_default items index 0 (get_or items index 0) below ∙ ap (λ (it : List ℕ). get_or it index (get_or items index 0)) is
 
 -- the dataset that is read at a place
 pub dataset_read : (datasets items : List Dataset) → items ≡ datasets → (number : ℕ) (dataset : Dataset) → number < length items

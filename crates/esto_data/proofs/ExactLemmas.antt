@@ -49,6 +49,7 @@ use Rattle.esto_opening.specs.declared.status.Status.TheVariants as status
 use Rattle.esto_opening.proofs.LeadLemmas.{then-leads, leads-more, gives-leads}
 use Rattle.esto_opening.proofs.Steps.{never_wanting, read_cause}
 use Rattle.esto_course.proofs.Steps.{then_goes}
+use Rattle.esto_constraint.proofs.RuleLemmas.{are_rules}
 use Rattle.esto_data.specs.Answer.{IsAnswerOfFacts, IsUnionAnswerOfFacts, answer_course, answers_union}
 use Rattle.esto_data.specs.Audit.{AuditsFiles, all_fragments, audit_course, audit_text, audits_catalogue}
 use Rattle.esto_data.specs.Datasets.{IsAny, Names, OneNames, demands_file, loads, loads_next, opens_dataset}
@@ -57,7 +58,7 @@ use Rattle.esto_data.specs.Exact.{AreReadableFragments, AuditsExactly, FillsExac
 use Rattle.esto_data.specs.Exact.FillsExactly.{prints, tells_key, tells_node}
 use Rattle.esto_data.specs.Fill.{IsFilled, IsFirstOf, IsRowOfView, fill_course, fill_status, fills_file, fills_named, names_of}
 use Rattle.esto_data.proofs.AgreeLemmas.{DataLaws}
-use Rattle.esto_data.proofs.AlikeLemmas.{are_rules, audits-moved, first_one}
+use Rattle.esto_data.proofs.AlikeLemmas.{audits-moved, first_one}
 use Rattle.esto_data.proofs.FragmentLemmas.{fragments_never, rows_same}
 use Rattle.esto_data.proofs.LeadLemmas.{holds-leads, holds_leads}
 use Rattle.esto_data.proofs.LoadLemmas.{loads_flat}

@@ -14,10 +14,11 @@ use Rattle.esto_opening.specs.Fragments.{Stored, IsReadableFragment, IsStoredAt,
 use Rattle.esto_opening.specs.declared.fragments.TheConstants.{FRAGMENT_LIMIT}
 use Rattle.esto_opening.specs.declared.status.Status.{Status}
 use Rattle.esto_opening.proofs.LeadLemmas.{then-leads, leads-more, gives-leads, judges-leads, fetches-leads}
+use Rattle.esto_opening.proofs.FragmentLemmas.{content_there}
 use Rattle.esto_data.specs.Audit.{all_fragments}
 use Rattle.esto_data.specs.Exact.{AreReadableFragments}
 use Rattle.esto_data.proofs.LeadLemmas.{holds-leads}
-use Rattle.esto_data.proofs.RowLemmas.{content_there, elsewhere_than}
+use Rattle.esto_data.proofs.RowLemmas.{elsewhere_than}
 
 -- ---- what was opened
 

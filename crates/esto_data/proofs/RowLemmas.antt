@@ -29,7 +29,7 @@ use Rattle.esto_opening.specs.declared.status.Status.{Status}
 use Rattle.esto_opening.specs.declared.status.Status.TheVariants.{BadFragment, OutOfMemory}
 use Rattle.esto_opening.proofs.AskedSteps.{exit_asks}
 use Rattle.esto_opening.proofs.FileSteps.{opened_asks, opened_goes, unfetched_asks, unfetched_stops, unread_asks, unread_stops}
-use Rattle.esto_opening.proofs.FragmentLemmas.{next_way}
+use Rattle.esto_opening.proofs.FragmentLemmas.{next_way, content_there}
 use Rattle.esto_opening.proofs.LoopSteps.{IsAlong, along_end_asks, along_ends, along_goes, along_starts, along_stop_asks, along_stops, along_wants, kept_asks}
 use Rattle.esto_data.specs.Audit.{OpensNextRows, OpensRows, ReadsRows, all_fragments}
 
@@ -125,9 +125,6 @@ pub record SoFarRows (files : Option Files) (catalogue : Catalogue) (before : Op
 
 pub elsewhere_than : (contents : ℕ → List ℕ) (number other : ℕ) (bytes : List ℕ) → other ≢ number → with_content contents number bytes other ≡ contents other
 elsewhere_than contents number other bytes apart = let test : (other == number) ≡ false = grind (arith, nat_tests) in rw test refl
-
-pub content_there : (contents : ℕ → List ℕ) (number : ℕ) (bytes : List ℕ) → with_content contents number bytes number ≡ bytes
-content_there contents number bytes = let test : (number == number) ≡ true = grind (arith, nat_tests) in rw test refl
 
 -- a row that is held stands in the list at its number, and the other way round
 row_from : (rows : List (List Row)) (number : ℕ) (row : Row) → Contains (held_by rows number) row

@@ -17,6 +17,7 @@ use Rattle.esto_query.specs.declared.query.Query.{Query}
 use Rattle.esto_semantics.specs.Containment.{IsSatisfiable}
 use Rattle.esto_term.proofs.ListLemmas.{Contains-cases, Contains-head, Contains-nil, Contains-rest}
 use Rattle.esto_views.specs.declared.plan.Plan.{Plan}
+use Rattle.esto_opening.proofs.StatusLemmas.{done_not_clash, same_clash}
 use Rattle.esto_disjuncts.specs.Exact.{HaveAnswers, ListsUnionExactly, TellsSatisfiable}
 use Rattle.esto_disjuncts.specs.Laws.{EmptyListsAreTold, MembersAreCores, MembersAreUniversal, MembersCoverUnions, MembersTellSatisfiable}
 use Rattle.esto_disjuncts.specs.List.{IsUnionText, lists_union}
@@ -85,12 +86,6 @@ module _ (catalogue : Catalogue) where
       (query, refl, subst (IsMemberOf catalogue all query) (same_Some member (Clashed clash) is) here)
 
 -- ---- the outcome
-
-pub done_not_clash : (clash : Clash) → status.Done ≡ status.Unsatisfiable clash → ⊥
-done_not_clash clash same = cc
-
-same_clash : (clash other : Clash) → status.Unsatisfiable clash ≡ status.Unsatisfiable other → clash ≡ other
-same_clash clash other same = cc
 
 module _ (tell : MembersTellSatisfiable) (universal : MembersAreUniversal) (cored : MembersAreCores) (cover : MembersCoverUnions) (empty : EmptyListsAreTold)
     (catalogue : Catalogue) (queries : List Query) where

@@ -18,7 +18,6 @@ use Rattle.esto_opening.specs.declared.status.Status.TheVariants as status
 use Rattle.esto_plan_laws.specs.UnionLaws.{UnionListIsOne}
 use Rattle.esto_plan_laws.specs.UnionSets.{AreUnionListed}
 use Rattle.esto_planning.specs.Alike.{EndIsOne, IsSamePlan, ItemsAreOne, ListTextIsOne}
-use Rattle.esto_query.specs.Making.{query_of}
 use Rattle.esto_query.specs.declared.query.Query.{Query}
 use Rattle.esto_semantics.specs.Access.{IsStatedOrder, Patterns}
 use Rattle.esto_semantics.specs.Listed.{IsWeight, chosen}
@@ -26,6 +25,7 @@ use Rattle.esto_union.specs.Unions.{queries_of}
 use Rattle.esto_views.specs.Fragments.{patterns_of, views_of}
 use Rattle.esto_views.specs.Plans.{plan_query}
 use Rattle.esto_views.specs.declared.plan.Plan.{Plan}
+use Rattle.esto_opening.proofs.AlikeLemmas.{same_query}
 use Rattle.esto_disjuncts.specs.Laws.{IsSameMember, MembersAreOne, UnionListsAreOne}
 use Rattle.esto_disjuncts.specs.List.{IsMemberText, IsUnionText, disjunct_text}
 use Rattle.esto_disjuncts.specs.Members.{IsListIn, IsMemberOf, has_plan}
@@ -33,9 +33,6 @@ use Rattle.esto_disjuncts.specs.declared.members.Member.{Member}
 use Rattle.esto_disjuncts.specs.declared.members.Member.TheVariants.{Planned, Clashed}
 
 -- ---- the lists
-
-same_query : (query other : Query) → IsSameQuery query other → query_of query ≡ query_of other
-same_query query other same = λ i. record { head = same.head i; body = same.body i }
 
 pub same_queries : (queries others : List Query) → AreSameQueries queries others → queries_of queries ≡ queries_of others
 same_queries [] [] same = refl

@@ -29,10 +29,10 @@ use Rattle.esto_chase_laws.specs.declared.clash.Clash.{Clash}
 
 -- ---- the least length
 
-same_items : (plan other : Plan) (items others : List Listed) → Planned plan items ≡ Planned other others → items ≡ others
+pub same_items : (plan other : Plan) (items others : List Listed) → Planned plan items ≡ Planned other others → items ≡ others
 same_items plan other items others same = cc
 
-not_planned : (clash : Clash) (plan : Plan) (items : List Listed) → Clashed clash ≡ Planned plan items → ⊥
+pub not_planned : (clash : Clash) (plan : Plan) (items : List Listed) → Clashed clash ≡ Planned plan items → ⊥
 not_planned clash plan items same = cc
 
 module _ (members : List Member) where

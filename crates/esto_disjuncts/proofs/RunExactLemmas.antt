@@ -3,7 +3,6 @@ use Rattle.std.proofs.Common.{◌≡◌, ◌↔◌, ℕ, List, [], ◌∷◌, ma
 use Rattle.std.specs.List.{AllZip}
 use Rattle.std.specs.Prelude.{MatchOption}
 use Rattle.std.proofs.lemmas.Option.{none-some, same_Some}
-use Rattle.esto_catalog.specs.Determined.{AreSame}
 use Rattle.esto_catalog.specs.declared.catalogue.Catalogue.{Catalogue}
 use Rattle.esto_chase_laws.specs.declared.clash.Clash.{Clash}
 use Rattle.esto_constraint.specs.Constraints.{rules_of}
@@ -40,6 +39,9 @@ use Rattle.esto_term.proofs.ListLemmas.{Contains-filter, Contains-flat, Contains
 use Rattle.esto_term.specs.declared.term.Term.{Term}
 use Rattle.esto_union.specs.Unions.{queries_of}
 use Rattle.esto_views.specs.Fragments.{views_of}
+use Rattle.esto_fill.proofs.FilledLemmas.{same_texts}
+use Rattle.esto_opening.proofs.UnionLemmas.{itself}
+use Rattle.esto_opening.proofs.StatusLemmas.{done_not_clash, same_clash}
 use Rattle.esto_disjuncts.specs.Exact.{HasNoRewriting, HaveAnswers}
 use Rattle.esto_disjuncts.specs.Laws.{EmptyListsAreTold, IsSameMember, MembersAreOne, MembersTellSatisfiable}
 use Rattle.esto_disjuncts.specs.Members.{AreMembersOf, ClashAt, HavePlan, OneIsEmpty, has_plan}
@@ -49,7 +51,7 @@ use Rattle.esto_disjuncts.specs.RunExact.{CanRunUnion, IsAboveLists, PrintsUnion
 use Rattle.esto_disjuncts.specs.RunLaws.{ChosenAreRewriting, RunsAnswerUnions}
 use Rattle.esto_disjuncts.specs.declared.members.Member.{Member}
 use Rattle.esto_disjuncts.specs.declared.members.Member.TheVariants.{Planned}
-use Rattle.esto_disjuncts.proofs.ExactLemmas.{done_not_clash, first_clash, have_answers, have_plan, one_plan}
+use Rattle.esto_disjuncts.proofs.ExactLemmas.{first_clash, have_answers, have_plan, one_plan}
 use Rattle.esto_disjuncts.proofs.RunOneLemmas.{all_one, never_refused, refusal_one, refusal_there}
 use Rattle.esto_disjuncts.proofs.ZipLemmas.{zip_right}
 
@@ -63,9 +65,6 @@ texts_back : (row : Row) → map value_text (map Text row) ≡ row
 unfolding value_text
 texts_back [] = refl
 texts_back (text ∷ row) = ap (λ rest. text ∷ rest) (texts_back row)
-
-same_texts : (row other : Row) → map Text row ≡ map Text other → row ≡ other
-same_texts row other same = sym (texts_back row) ∙ ap (map value_text) same ∙ texts_back other
 
 module _ (answer : RunsAnswerUnions) (catalogue : Catalogue) (queries : List Query) (number : Option ℕ) (members : List Member)
     (are : AreMembersOf catalogue queries members) (others : List ConjunctiveQuery) (chosen : AreChosen number members others) where
@@ -191,9 +190,6 @@ clash_not_above clash asked least same = cc
 none_not_above : (asked least : ℕ) → status.NoRewriting ≡ status.NoSuchNumber asked least → ⊥
 none_not_above asked least same = cc
 
-same_clash : (clash other : Clash) → status.Unsatisfiable clash ≡ status.Unsatisfiable other → clash ≡ other
-same_clash clash other same = cc
-
 same_asked : (asked least other count : ℕ) → status.NoSuchNumber asked least ≡ status.NoSuchNumber other count → asked ≡ other
 same_asked asked least other count same = cc
 
@@ -211,24 +207,6 @@ choice_not_clash clash members number said (is_empty one is) other = clash_not_n
 choice_not_clash clash members number said (is_above asked least asks full is_least less is) other = clash_not_above clash asked least (sym other ∙ is)
 
 -- ---- one union
-
--- a catalogue says the same as itself, and so do queries
-itself : (catalogue : Catalogue) → AreSame catalogue catalogue
-itself catalogue = record {
-  schema = refl;
-  words = refl;
-  datasets = refl;
-  names = refl;
-  views = refl;
-  patterns = refl;
-  weights = refl;
-  stores = refl;
-  rules = refl;
-  rule_names = refl;
-  given = refl;
-  ranks = refl;
-  core = refl;
-}
 
 themselves : (queries : List Query) → AreSameQueries queries queries
 themselves [] = tt

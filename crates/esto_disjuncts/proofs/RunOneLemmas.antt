@@ -28,6 +28,7 @@ use Rattle.esto_semantics.specs.Listed.{candidate}
 use Rattle.esto_semantics.specs.Queries.{ConjunctiveQuery}
 use Rattle.esto_term.proofs.ListLemmas.{Contains-cases, Contains-head, Contains-nil, Contains-rest}
 use Rattle.esto_views.specs.declared.plan.Plan.{Plan}
+use Rattle.esto_disjuncts.proofs.PickingLemmas.{same_items, not_planned}
 use Rattle.esto_disjuncts.specs.Laws.{IsSameMember, MembersAreOne}
 use Rattle.esto_disjuncts.specs.Members.{ClashAt, HavePlan}
 use Rattle.esto_disjuncts.specs.Run.{AreChosen, HasNoChoice, IsChosen, IsChosenOf, IsNoRows, IsUnionRunText, chooses_each, ends_members, runs_chosen, runs_end, runs_members}
@@ -71,12 +72,6 @@ planned_there (member ∷ members) (other ∷ others) (same, rest) plan items in
     here (Clashed clash) never = absurd never
 
 -- ---- the choice
-
-same_items : (plan other : Plan) (items others : List Listed) → Planned plan items ≡ Planned other others → items ≡ others
-same_items plan other items others same = cc
-
-not_planned : (clash : Clash) (plan : Plan) (items : List Listed) → Clashed clash ≡ Planned plan items → ⊥
-not_planned clash plan items same = cc
 
 module _ (choice : ChoiceIsOne) (number : Option ℕ) where
   item_one : (items : List Listed) (item other : Listed) → IsChosen items number item → IsChosen items number other → item ≡ other

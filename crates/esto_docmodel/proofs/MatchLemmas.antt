@@ -1,7 +1,6 @@
 -- A pattern's matches in a tree, from the rows of its query.
 use Rattle.std.proofs.Common.{◌≡◌, ◌⊎◌, ◌↔◌, ℕ, suc, ◌<◌, true, false, cond, List, [], ◌∷◌, length, map, get_or, Contains, AllPairs, Option, Some, None, IsSome, refl, sym, ap, ◌∙◌, subst, inl, inr, arith}
 use Rattle.std.proofs.lemmas.Bool.{cases_eq}
-use Rattle.std.proofs.lemmas.Bool.Decides.{nat_tests}
 use Rattle.std.proofs.lemmas.List.{length-map, get_or-map}
 use Rattle.std.proofs.lemmas.List.Elements.{Contains-get_or}
 use Rattle.std.proofs.lemmas.Option.{none-some, same_Some}
@@ -21,6 +20,7 @@ use Rattle.esto_semantics.specs.Queries.{IsAnswerInto}
 use Rattle.esto_semantics.specs.declared.fact.Fact.{Fact}
 use Rattle.esto_query.specs.Rows.{IsAscending}
 use Rattle.esto_query.specs.Valuations.{Assignment, Extends}
+use Rattle.esto_query.proofs.ValuationLemmas.{other_key, same_key}
 use Rattle.esto_docmodel.specs.Encodings.{facts_of}
 use Rattle.esto_docmodel.specs.Forests.{Label, Node, Forest, place, kid, none, HasKid}
 use Rattle.esto_docmodel.specs.Matching.{AreVariables, AreRows, head_of, IsEncoding, given, valuation_of}
@@ -31,12 +31,6 @@ use Rattle.esto_docmodel.proofs.ExtendingLemmas.{matches_on}
 use Rattle.esto_docmodel.proofs.SameLemmas.{means_the_same}
 
 -- ---- the terms of variables
-
-same_key : (m n : ℕ) → m ≡ n → eq_by_cmp nat_cmp n m ≡ true
-same_key m n e = grind (arith, nat_tests)
-
-other_key : (m n : ℕ) → (m ≡ n → ⊥) → eq_by_cmp nat_cmp n m ≡ false
-other_key m n e = grind (arith, nat_tests)
 
 module _ (known : Assignment) (variable : ℕ) (term : Term) where
   value_here : (other : ℕ) → variable ≡ other → get (insert known variable term) other ≡ Some term

@@ -14,6 +14,7 @@ use Rattle.esto_docmodel.specs.Patterns.{Entries, done, holds, group, Matches, M
 use Rattle.esto_docmodel.specs.Shapes.{shape}
 use Rattle.esto_docmodel.specs.Valuations.{HaveFlatTerms, AreMatches, BindsVariables, GivesTexts}
 use Rattle.esto_docmodel.specs.declared.tree.Tree.{Tree}
+use Rattle.esto_query.proofs.RowLemmas.{some_value}
 use Rattle.esto_docs.specs.Trees.{tree_of}
 use Rattle.esto_docs.specs.Rows.{Row, text_by_kind, text_in, row_map, IsRowOf, Gains, text_of_value, row_of}
 use Rattle.esto_docs.specs.Documents.{document}
@@ -83,10 +84,6 @@ pub row_more : (columns : ℕ) (valuation : Assignment) (row new : Row) (cell : 
 row_more columns valuation row new cell so_far here more =
     more ∙ ap (λ (r : Row). r ++ cell ∷ []) so_far ∙ ap (λ (x : List ℕ). row_of columns valuation ++ x ∷ []) here
     ∙ sym (map-range_with_len_more (λ k. text_of_value (get valuation k)) 0 columns columns (omega arith))
-
-some_value : (o : Option Term) → IsSome o → (term : Term) × (o ≡ Some term)
-some_value None h = cc h
-some_value (Some term) h = (term, refl)
 
 is_some : (o : Option Term) (term : Term) → o ≡ Some term → IsSome o
 is_some o term e = rw e refl

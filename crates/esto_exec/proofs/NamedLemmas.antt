@@ -9,13 +9,8 @@ use Rattle.esto_plan.specs.declared.steps.Link.{Link}
 use Rattle.esto_plan.specs.declared.steps.Source.{Source}
 use Rattle.esto_plan.specs.declared.steps.Source.TheVariants.{Code, Cell}
 use Rattle.esto_plan.specs.Meaning.{code_at, IsMet, Follows}
+use Rattle.esto_plan.proofs.MeaningLemmas.{same_some}
 use Rattle.esto_exec.specs.Named.{NamesCodes, IsEarly}
-
-same_some : (row other : List ℕ) → map Some row ≡ map Some other → row ≡ other
-same_some [] [] e = refl
-same_some [] (x ∷ other) e = absurd (cc)
-same_some (x ∷ row) [] e = absurd (cc)
-same_some (x ∷ row) (y ∷ other) e = let first : x ≡ y = cc in let rest = same_some row other (cc) in λ i. first i ∷ rest i
 
 pub one_key : (row : List ℕ) (columns : List Source) (key other : List ℕ) → NamesCodes row columns key → NamesCodes row columns other → key ≡ other
 one_key row columns key other named also = same_some key other (sym named ∙ also)

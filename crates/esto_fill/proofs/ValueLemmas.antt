@@ -4,11 +4,12 @@ use Rattle.std.proofs.Math.Logic.{∥∥₁_elim}
 use Rattle.esto_semantics.specs.Maps.{AreFlat}
 use Rattle.esto_semantics.specs.declared.fact.Fact.{Fact}
 use Rattle.esto_semantics.specs.declared.fact.Value.TheVariants.{Text, Node}
-use Rattle.esto_semantics.proofs.TermLemmas.{term_cases, flat-apart-Made, Const-apart-Plain, Const-apart-Made}
+use Rattle.esto_semantics.proofs.TermLemmas.{term_cases, Const-apart-Plain, Const-apart-Made}
 use Rattle.esto_term.specs.Kinds.{IsConstant, IsFlat}
 use Rattle.esto_term.specs.declared.term.Term.{Term}
-use Rattle.esto_term.specs.declared.term.Term.TheVariants.{Const, Plain, Made, outs-Const, outs-Plain, outs-Made}
+use Rattle.esto_term.specs.declared.term.Term.TheVariants.{Const, Plain, outs-Const, outs-Plain, outs-Made}
 use Rattle.esto_term.proofs.ListLemmas.{map_then, map_agree, map_itself}
+use Rattle.esto_query.proofs.SoundLemmas.{flat_known}
 use Rattle.esto_fill.specs.Databases.{value_by_kind, value_of}
 use Rattle.esto_fill.specs.Laws.{FactsStand}
 use Rattle.esto_fill.specs.Placing.{text_by_kind, text_of}
@@ -79,13 +80,6 @@ facts_stand facts flat = record {
         let numbers : number ≡ its = cc in is ∙ ap Plain numbers ∙ sym plain
 
 -- what is loaded keeps that its facts are flat
-
-flat_known : (term : Term) → ¬ (¬ (IsFlat term)) → IsFlat term
-flat_known term = term_cases (λ it. ¬ (¬ (IsFlat it)) → IsFlat it)
-    (λ text known. inl (text, refl))
-    (λ number known. inr (number, refl))
-    (λ rule variable frontier known. absurd (known (λ flat. flat-apart-Made (Made rule variable frontier) rule variable frontier flat refl)))
-    term
 
 pub flat_kept : (facts : List (Fact Term)) → ∥ AreFlat facts ∥₁ → AreFlat facts
 flat_kept facts sound term mentioned = flat_known term (λ no. ∥∥₁_elim sound (λ p q. absurd p) (λ flat. no (flat term mentioned)))

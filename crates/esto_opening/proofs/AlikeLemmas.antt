@@ -18,6 +18,7 @@ use Rattle.esto_read.specs.declared.read.Form.TheVariants as form
 use Rattle.esto_read.specs.declared.read.NamedQuery.{NamedQuery}
 use Rattle.esto_read.specs.declared.words.Word.{Word}
 use Rattle.esto_text.specs.declared.fault.TextFault.{TextFault}
+use Rattle.esto_query.specs.Making.{query_of}
 use Rattle.esto_opening.specs.Alike.{IsSameQuery}
 use Rattle.esto_opening.specs.Answers.{IsCaused}
 use Rattle.esto_opening.specs.Calm.{AgreeCalmly}
@@ -160,3 +161,7 @@ module _ (files : Files) (catalogue other : Catalogue) (alike : AreSame catalogu
 
   pub fragments_agree : (numbers : List ℕ) → AgreeCalmly ◌≡◌ (opens_fragments (Some files) catalogue numbers) (opens_fragments (Some files) other numbers)
   fragments_agree numbers = each_agree 0 no_contents numbers
+
+-- queries that say the same have one meaning
+pub same_query : (query other : Query) → IsSameQuery query other → query_of query ≡ query_of other
+same_query query other same = λ i. record { head = same.head i; body = same.body i }

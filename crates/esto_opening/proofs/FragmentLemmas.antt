@@ -124,7 +124,7 @@ still_opened stores contents numbers opened number bytes absent are fact inside 
     elsewhere : (other : ℕ) → other ≢ number → with_content contents number bytes other ≡ contents other
     elsewhere other apart = let test : (other == number) ≡ false = grind (arith, nat_tests) in rw test refl
 
-content_there : (contents : ℕ → List ℕ) (number : ℕ) (bytes : List ℕ) → with_content contents number bytes number ≡ bytes
+pub content_there : (contents : ℕ → List ℕ) (number : ℕ) (bytes : List ℕ) → with_content contents number bytes number ≡ bytes
 content_there contents number bytes = let test : (number == number) ≡ true = grind (arith, nat_tests) in rw test refl
 
 -- before the file of a fragment is asked for

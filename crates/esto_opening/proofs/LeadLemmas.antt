@@ -3,7 +3,7 @@ use Rattle.std.proofs.Common.{◌≡◌, ℕ, List, Some, sym, ap, ◌∙◌, in
 use Rattle.esto_ports.specs.Files.{Files}
 use Rattle.esto_course.specs.Course.{Course, judges, gives, and_then}
 use Rattle.esto_opening.specs.Answers.{IsCaused}
-use Rattle.esto_opening.specs.Calm.{Leads}
+use Rattle.esto_opening.specs.Calm.{Leads, AgreeCalmly}
 use Rattle.esto_fill.specs.Filled.{without_mark}
 use Rattle.esto_opening.specs.Fetch.{FetchStops, HasWithin, fetches}
 use Rattle.esto_opening.specs.Fetch.FetchStops.{fails, is_longer}
@@ -54,3 +54,11 @@ module _ (files : Files) (name : List ℕ) (limit : ℕ) (bytes : List ℕ) (has
     goes = λ other fetched. fetched.3 ∙ ap without_mark (same-file fetched.0 has.0 (sym fetched.1 ∙ has.1)) ∙ sym has.3;
     stops = λ status caused stop. absurd (never-longer status caused stop);
   }
+
+-- a course leads to what is the same as a value with which one goes on that agrees with it
+pub agreed_leads : {A : Type 0} (Same : A → A → Type 0) (course other : Course Status A) (value : A) (Refusal : Status → Type 0)
+    → AgreeCalmly Same course other → course.goes value → Leads other (Same value) Refusal
+agreed_leads Same course other value Refusal agree goes = record {
+  goes = λ its there. agree.one value its goes there;
+  stops = λ said caused stop. absurd (agree.apart value said caused goes stop);
+}

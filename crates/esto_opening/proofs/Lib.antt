@@ -6,6 +6,7 @@ pub mod LoopSteps
 pub mod OpeningLemmas
 pub mod FragmentLemmas
 pub mod LeadLemmas
+pub mod StatusLemmas
 pub mod AgreeLemmas
 pub mod StoreLemmas
 pub mod AlikeLemmas

@@ -86,7 +86,7 @@ row_moved stores others same contents fact (other, there, is) =
 -- ---- fragments
 
 -- what is the same of all things is the same of those at a place
-same_at : {X Y : Type 0} (m : X → Y) (things others : List X) (place : ℕ) (thing other : X) → map m things ≡ map m others
+pub same_at : {X Y : Type 0} (m : X → Y) (things others : List X) (place : ℕ) (thing other : X) → map m things ≡ map m others
     → slice_get things place ≡ Some thing → slice_get others place ≡ Some other → m thing ≡ m other
 same_at m things others place thing other same is is_other =
     same_Some (m thing) (m other)

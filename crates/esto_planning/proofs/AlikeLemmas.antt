@@ -21,13 +21,13 @@ use Rattle.esto_views.specs.declared.plan.Plan.{Plan}
 use Rattle.esto_opening.specs.Alike.{IsSameQuery}
 use Rattle.esto_opening.specs.Calm.{AgreeCalmly}
 use Rattle.esto_opening.specs.declared.status.Status.TheVariants as status
+use Rattle.esto_constraint.proofs.RuleLemmas.{are_rules}
 use Rattle.esto_planning.specs.Alike.{EndIsOne, IsSameEnd, IsSamePlan, ListIsOne, ListingIsOne, PlanIsOne}
 use Rattle.esto_planning.specs.Laws.{PlanLaws}
 use Rattle.esto_planning.specs.Listing.{IsClash, IsListing, IsListOf, IsPlanned}
 use Rattle.esto_planning.specs.Planning.{ends_query, lists_plan, plans_query}
 use Rattle.esto_planning.proofs.MovedLemmas.{clash_moved, list_moved, listing_moved, planned_moved}
 use Rattle.esto_planning.proofs.OneListLemmas.{items_same, text_same}
-use Rattle.esto_planning.proofs.RuleLemmas.{are_rules}
 
 -- ---- over one catalogue
 

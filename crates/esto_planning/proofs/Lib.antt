@@ -1,4 +1,3 @@
-pub mod RuleLemmas
 pub mod OneListLemmas
 pub mod MovedLemmas
 pub mod ChoiceLemmas

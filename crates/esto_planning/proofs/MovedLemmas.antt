@@ -17,11 +17,9 @@ use Rattle.esto_views.specs.Fragments.{views_of, patterns_of}
 use Rattle.esto_views.specs.Plans.{plan_query}
 use Rattle.esto_views.specs.declared.plan.Plan.{Plan}
 use Rattle.esto_opening.specs.Alike.{IsSameQuery}
+use Rattle.esto_opening.proofs.AlikeLemmas.{same_query}
 use Rattle.esto_planning.specs.Listing.{IsClash, IsListing, IsListOf, IsPlanned, HasListedSets}
 use Rattle.esto_planning.proofs.OneListLemmas.{text_moved}
-
-same_query : (query other : Query) → IsSameQuery query other → query_of query ≡ query_of other
-same_query query other same = λ i. record { head = same.head i; body = same.body i }
 
 module _ (catalogue other : Catalogue) (alike : AreSame catalogue other) (query other_query : Query) (same : IsSameQuery query other_query) where
   pub planned_moved : (plan : Plan) → IsPlanned other other_query plan → IsPlanned catalogue query plan

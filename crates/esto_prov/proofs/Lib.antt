@@ -2,4 +2,4 @@ pub mod LeafLemmas
 pub mod WhyLemmas
 pub mod ProductLemmas
 pub mod DeriveLemmas
-mod MeetLemmas
+pub mod MeetLemmas

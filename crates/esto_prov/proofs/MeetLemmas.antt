@@ -13,7 +13,7 @@ pub item_at : {X : Type 0} (items : List X) (place : ℕ) (thing : X) → place 
     ≡ Some thing
 item_at items place thing within is = slice_get-get_or items place thing within ∙ ap Some (sym is)
 
-drop-past : {X : Type 0} (place : ℕ) (items : List X) → length items ≤ place → drop place items ≡ []
+pub drop-past : {X : Type 0} (place : ℕ) (items : List X) → length items ≤ place → drop place items ≡ []
 drop-past zero [] past = refl
 drop-past zero (first ∷ rest) past = absurd (omega (arith, past))
 drop-past (suc place) [] past = refl

@@ -30,7 +30,7 @@ use Rattle.esto_term.proofs.ListLemmas.{Contains-at, Contains-cases, Contains-he
 
 -- ---- with no atom left there is one row
 
-some_value : (o : Option Term) → IsSome o → (term : Term) × (o ≡ Some term)
+pub some_value : (o : Option Term) → IsSome o → (term : Term) × (o ≡ Some term)
 some_value None some = absurd (false≢true some)
 some_value (Some term) some = (term, refl)
 

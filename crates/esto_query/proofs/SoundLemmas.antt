@@ -52,7 +52,7 @@ flat_kind term (Term-F.Plain number) e known = inr (number, e ∙ rolls-Plain nu
 flat_kind term (Term-F.Made rule variable frontier) e known =
     absurd (known (λ flat. Made-flat rule variable frontier (subst IsFlat (e ∙ rolls-Made rule variable frontier) flat)))
 
-flat_known : (term : Term) → ¬ (¬ (IsFlat term)) → IsFlat term
+pub flat_known : (term : Term) → ¬ (¬ (IsFlat term)) → IsFlat term
 flat_known term known = flat_kind term (out-Term term) (sym (roll-out-Term term)) known
 
 fixed_plain : (body : List (Fact Term)) (variable : ℕ) → Decided (Mentions body (Plain variable)) → ¬ (¬ (IsFixedBy body (Plain variable)))

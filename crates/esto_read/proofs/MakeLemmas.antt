@@ -8,7 +8,7 @@ use Rattle.esto_term.specs.declared.term.Term.{Term}
 use Rattle.esto_term.specs.declared.term.Term.TheVariants.{Plain}
 use Rattle.esto_term.proofs.ListLemmas.{Contains-at}
 use Rattle.esto_semantics.specs.Facts.{Mentions}
-use Rattle.esto_semantics.specs.Maps.{IsFlat, AreFlat, IsFixedBy}
+use Rattle.esto_semantics.specs.Maps.{IsFixedBy}
 use Rattle.esto_semantics.specs.WellFormed.{AreOver}
 use Rattle.esto_semantics.specs.declared.fact.Fact.{Fact}
 use Rattle.esto_query.specs.Making.{MakesQuery, IsFirstMisfit, IsFirstUnsafe}
@@ -31,10 +31,6 @@ relations_within schema atoms over k d lt =
     let inside : Contains atoms (get_or atoms k d) = (k, lt, get_or_default atoms k (get_or atoms k d) d lt) in
     let within = slice_get_within (arities_of schema) (get_or atoms k d).relation (length (get_or atoms k d).terms) (over (get_or atoms k d) inside) in
     omega (arith, within, length-map schema (λ relation. relation.arity))
-
-pub flat_fixed : (body : List (Fact Term)) (term : Term) → AreFlat body → IsFixedBy body term → IsFlat term
-flat_fixed body term flat (inl constant) = inl constant
-flat_fixed body term flat (inr mentioned) = flat term mentioned
 
 -- ---- what is never wrong
 

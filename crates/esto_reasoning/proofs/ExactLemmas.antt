@@ -23,6 +23,7 @@ use Rattle.esto_semantics.specs.Rules.{Rule, AreRules}
 use Rattle.esto_semantics.specs.declared.fact.Fact.{Fact}
 use Rattle.esto_term.specs.declared.term.Term.{Term}
 use Rattle.esto_universal.specs.PlannedLaws.{ClashedIsUnsatisfiable, ClashOfRunIsOne}
+use Rattle.esto_opening.proofs.StatusLemmas.{done_not_clash, same_clash}
 use Rattle.esto_reasoning.specs.Contains.{IsNoText, SaysTold}
 use Rattle.esto_reasoning.specs.Exact.{ContainsExactly, IsWithin, MinimisesExactly}
 use Rattle.esto_reasoning.specs.Minimise.{IsMinimalText}
@@ -32,12 +33,6 @@ use Rattle.esto_reasoning.proofs.AlikeLemmas.{compares_by, minimises_by}
 
 done_not_lengths : (one other : ℕ) → status.Done ≡ status.HeadLengths one other → ⊥
 done_not_lengths one other same = cc
-
-done_not_clash : (clash : Clash) → status.Done ≡ status.Unsatisfiable clash → ⊥
-done_not_clash clash same = cc
-
-same_clash : (clash other : Clash) → status.Unsatisfiable clash ≡ status.Unsatisfiable other → clash ≡ other
-same_clash clash other same = cc
 
 no_not_yes : (rest : List ℕ) → codes "no\n" ++ rest ≡ codes "yes\n" → ⊥
 no_not_yes rest same = cc

@@ -6,13 +6,13 @@ use Rattle.esto_constraint.specs.Constraints.{rules_of}
 use Rattle.esto_course.specs.Course.{Course, gives, and_then}
 use Rattle.esto_course.proofs.Determined.{then_agree, gives_agree}
 use Rattle.esto_opening.specs.Alike.{CataloguesOpenAlike, IsSameQuery, QueriesOpenAlike}
-use Rattle.esto_opening.specs.Calm.{AgreeCalmly, IsOne, Leads, SaysAlways}
+use Rattle.esto_opening.specs.Calm.{IsOne, Leads, SaysAlways}
 use Rattle.esto_opening.specs.Line.{line_of}
 use Rattle.esto_opening.specs.Opening.{opens_catalogue, opens_query}
 use Rattle.esto_opening.specs.declared.reply.Reply.TheVariants.{Done}
 use Rattle.esto_opening.specs.declared.status.Status.{Status}
 use Rattle.esto_opening.specs.declared.status.Status.TheVariants as status
-use Rattle.esto_opening.proofs.LeadLemmas.{then-leads, leads-more, gives-leads}
+use Rattle.esto_opening.proofs.LeadLemmas.{then-leads, leads-more, gives-leads, agreed_leads}
 use Rattle.esto_ports.specs.Files.{Files}
 use Rattle.esto_query.specs.Making.{query_of}
 use Rattle.esto_query.specs.Schemas.{names_of}
@@ -20,21 +20,11 @@ use Rattle.esto_query.specs.declared.query.Name.{Name}
 use Rattle.esto_query.specs.declared.query.Query.{Query}
 use Rattle.esto_semantics.specs.Queries.{ConjunctiveQuery}
 use Rattle.esto_semantics.specs.Rules.{Rule}
+use Rattle.esto_opening.proofs.AlikeLemmas.{same_query}
 use Rattle.esto_reasoning.specs.Contains.{compares, contains_course}
 use Rattle.esto_reasoning.specs.Laws.{ComparedAlike, MinimisedAlike}
 use Rattle.esto_reasoning.specs.Minimise.{minimise_course, minimises}
 use Rattle.esto_reasoning.proofs.AlikeLemmas.{compares_by, minimises_by}
-
-same_query : (query other : Query) → IsSameQuery query other → query_of query ≡ query_of other
-same_query query other same = λ i. record { head = same.head i; body = same.body i }
-
--- a course leads to what is the same as a value with which one goes on that agrees with it
-agreed_leads : {A : Type 0} (Same : A → A → Type 0) (course other : Course Status A) (value : A) (Refusal : Status → Type 0)
-    → AgreeCalmly Same course other → course.goes value → Leads other (Same value) Refusal
-agreed_leads Same course other value Refusal agree goes = record {
-  goes = λ its there. agree.one value its goes there;
-  stops = λ said caused stop. absurd (agree.apart value said caused goes stop);
-}
 
 -- a text that is the reply
 replies_say : (course : Course Status (List ℕ)) (Fact : Status → List ℕ → Type 0) → Leads course (Fact status.Done) (λ said. Fact said (line_of said))

@@ -32,12 +32,12 @@ use Rattle.esto_stores.specs.Rows.{Row}
 use Rattle.esto_term.specs.declared.term.Term.{Term}
 use Rattle.esto_views.specs.Fragments.{views_of}
 use Rattle.esto_views.specs.Plans.{plan_query}
+use Rattle.esto_fill.proofs.FilledLemmas.{same_texts}
 use Rattle.esto_top.specs.DataOutcomes.{OutcomesAgree}
 use Rattle.esto_top.specs.Outcome.{Says}
 use Rattle.esto_top.specs.Outcome.Says.{replies, refuses}
 use Rattle.esto_top.specs.Runs.{OutcomesAreRuns, PrintsAnswers}
 use Rattle.esto_top.specs.Unions.{OutcomesAreUnionRuns, UnionOutcomesAgree}
-use Rattle.esto_top.proofs.RunsLemmas.{same_texts}
 use Rattle.esto_top.proofs.SayLemmas.{catalogue_opens, query_opens, union_opens}
 
 -- ---- the rows

@@ -4,23 +4,18 @@ use Rattle.esto_catalog.specs.Determined.{AreSame, stored_as}
 use Rattle.esto_catalog.specs.declared.catalogue.Catalogue.{Catalogue}
 use Rattle.esto_catalog.specs.declared.catalogue.Store.{Store}
 use Rattle.esto_query.specs.declared.query.Query.{Query}
-use Rattle.esto_run.specs.Answers.{IsAnswersText, level_name, rows_text}
+use Rattle.esto_run.specs.Answers.{IsAnswersText, rows_text}
 use Rattle.esto_run.specs.Laws.{IsAnswerOver, RisingRowsAreOne}
 use Rattle.esto_run.specs.Stores.{IsFileRow}
 use Rattle.esto_semantics.specs.Facts.{image}
 use Rattle.esto_semantics.specs.Listed.{candidate}
 use Rattle.esto_semantics.specs.Queries.{ConjunctiveQuery}
 use Rattle.esto_stores.specs.Rows.{Row}
-use Rattle.esto_stores.specs.TableText.{table_text}
-use Rattle.esto_term.specs.declared.term.Term.{out-Term}
 use Rattle.esto_views.specs.declared.plan.Plan.{Plan}
+use Rattle.esto_data.proofs.AlikeLemmas.{same_rows_text}
 use Rattle.esto_top.specs.Run.{IsRunText}
 use Rattle.esto_opening.specs.Alike.{IsSameQuery, StoresHaveOneContent}
 use Rattle.esto_planning.specs.Alike.{IsSamePlan}
-
--- rows have one text under the names of one head
-pub same_rows_text : (query other : Query) → IsSameQuery query other → (rows : List Row) → rows_text query rows ≡ rows_text other rows
-same_rows_text query other same rows = λ i. table_text (map (λ term. level_name (same.names i) (out-Term term)) (same.head i)) rows
 
 -- a set of rows has one text
 pub one_text : RisingRowsAreOne → (query : Query) (Has : Row → Type 0) (text other : List ℕ) → IsAnswersText query Has text → IsAnswersText query Has other

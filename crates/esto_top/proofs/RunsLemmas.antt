@@ -34,6 +34,9 @@ use Rattle.esto_opening.specs.Answers.{IsCaused}
 use Rattle.esto_opening.specs.Fragments.{IsReadableFragment, opens_fragments}
 use Rattle.esto_opening.specs.Readable.{AreReadable, OpenedAreReadable, ReadableAreOpened, TellsOfFile}
 use Rattle.esto_opening.specs.Readable.TellsOfFile.{fails, is_longer, has_fault}
+use Rattle.esto_fill.proofs.FilledLemmas.{same_texts}
+use Rattle.esto_data.proofs.AlikeLemmas.{same_rows_text}
+use Rattle.esto_opening.proofs.StatusLemmas.{same_clash}
 use Rattle.esto_top.specs.Grammar.{course_of, is_list_number}
 use Rattle.esto_top.specs.Headline.{FilesSay, HasAnswers, Rewrites}
 use Rattle.esto_opening.specs.Replies.{reply_status, reply_text}
@@ -45,7 +48,7 @@ use Rattle.esto_opening.specs.declared.reply.Reply.{Reply}
 use Rattle.esto_opening.specs.declared.reply.Reply.TheVariants.{Done, Unsatisfiable}
 use Rattle.esto_opening.specs.declared.status.Status.{Status}
 use Rattle.esto_opening.specs.declared.status.Status.TheVariants as status
-use Rattle.esto_top.proofs.AlikeRunLemmas.{same_rows_text, run_text_moved}
+use Rattle.esto_top.proofs.AlikeRunLemmas.{run_text_moved}
 use Rattle.esto_top.specs.Laws.{ListingLaws, OpeningLaws}
 use Rattle.esto_top.proofs.HeadlineLemmas.{empty-without}
 use Rattle.esto_opening.specs.Calm.{Leads}
@@ -168,18 +171,6 @@ file_not_above asked count said (has_fault name fault is) other =
 
 -- ---- the rows
 
-pub same_texts : (row other : Row) → map Text row ≡ map Text other → row ≡ other
-same_texts [] [] same = refl
-same_texts [] (text ∷ texts) same = absurd (cc)
-same_texts (text ∷ texts) [] same = absurd (cc)
-same_texts (text ∷ texts) (other ∷ others) same =
-    let first : text ≡ other = one text other (map Text texts) (map Text others) same in
-    let rest : texts ≡ others = same_texts texts others (more (Text text) (Text other) (map Text texts) (map Text others) same) in
-    λ i. first i ∷ rest i
-  where
-    one : (text other : List ℕ) (rest others : List Value) → Text text ∷ rest ≡ Text other ∷ others → text ≡ other
-    one text other rest others same = cc
-
     more : (value other : Value) (rest others : List Value) → value ∷ rest ≡ other ∷ others → rest ≡ others
     more value other rest others same = cc
 
@@ -226,9 +217,6 @@ module _ (laws : RunLaws) (catalogue : Catalogue) (query : Query) (plan : Plan) 
   run_printed = record { rows = is_text; answers = answers-printed }
 
 -- ---- the numbers
-
-same_clash : (clash other : Clash) → status.Unsatisfiable clash ≡ status.Unsatisfiable other → clash ≡ other
-same_clash clash other same = cc
 
 same_asked : (asked count other more : ℕ) → status.NoSuchNumber asked count ≡ status.NoSuchNumber other more → asked ≡ other
 same_asked asked count other more same = cc

@@ -1,17 +1,14 @@
 -- The plan of a query's run: there is one, and it is universal, by the laws of runs and of stated plans.
 use Rattle.std.proofs.Common.{◌≡◌, ◌≢◌, ℕ, inl, inr, List, [], ◌∷◌, map, length, sym, ◌∙◌, subst}
-use Rattle.esto_term.proofs.ListLemmas.{Contains-map_from}
 use Rattle.esto_term.specs.declared.term.Term.{Term}
 use Rattle.esto_semantics.specs.Containment.{IsSatisfiable}
 use Rattle.esto_semantics.specs.Instances.{IsFinished}
 use Rattle.esto_semantics.specs.Plans.{IsUniversalPlan}
 use Rattle.esto_semantics.specs.Queries.{ConjunctiveQuery, IsQuery}
-use Rattle.esto_semantics.specs.Rules.{Rule, IsRule, AreRules}
+use Rattle.esto_semantics.specs.Rules.{Rule, AreRules}
 use Rattle.esto_semantics.specs.Unions.{ReceivesUnions}
 use Rattle.esto_semantics.specs.declared.fact.Fact.{Fact}
 use Rattle.esto_query.specs.declared.query.Name.{Name}
-use Rattle.esto_constraint.specs.Constraints.{rule_of, rules_of}
-use Rattle.esto_constraint.specs.declared.rule.Constraint.{Constraint}
 use Rattle.esto_acyclic.specs.Graphs.{IsWithin, AreRanks}
 use Rattle.esto_acyclic.specs.Relations.{IsEdge}
 use Rattle.esto_views.specs.Fragments.{views_of, AreFragments}
@@ -91,10 +88,6 @@ pub planned_over : (rules : List Rule) (fragments : List FragmentDef) (names : L
 planned_over rules fragments names query plan are_fragments planned = plan_over names fragments planned.end plan are_fragments planned.stated
 
 -- ---- what the chase wants and gives
-
--- the rules of a catalogue are rules
-pub constraints-AreRules : (constraints : List Constraint) → ((constraint : Constraint) → IsRule (rule_of constraint)) → AreRules (rules_of constraints)
-constraints-AreRules constraints sound rule inside = let from = Contains-map_from rule_of constraints rule inside in subst IsRule from.2 (sound from.0)
 
 pub within_ranks : (rules : List Rule) (count : ℕ) (ranks : List ℕ) → IsWithin count (IsEdge rules) → AreRanks (IsEdge rules) count ranks
     → IsWithin (length ranks) (IsEdge rules)

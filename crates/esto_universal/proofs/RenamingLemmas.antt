@@ -9,6 +9,7 @@ use Rattle.esto_term.specs.declared.term.Term.TheOpen.{Term-F}
 use Rattle.esto_term.specs.declared.term.Term.TheVariants.{Const, Plain, outs-Const, outs-Plain}
 use Rattle.esto_term.specs.Order.{same_term}
 use Rattle.esto_semantics.proofs.TermLemmas.{same_term-Decides}
+use Rattle.esto_views.proofs.SubstitutionLemmas.{apart_told}
 use Rattle.esto_universal.specs.Reading.{OccursBefore, AreFirstOccurrences}
 use Rattle.esto_universal.specs.Renamings.{IsRenaming, numbered}
 use Rattle.esto_term.proofs.ListLemmas.{Contains-head, Contains-rest}
@@ -16,13 +17,6 @@ use Rattle.esto_universal.proofs.IndexLemmas.{in_take}
 
 cond_is : {X : Type 0} (answer told : Bool) (one other : X) → answer ≡ told → cond answer one other ≡ cond told one other
 cond_is answer told one other is = ap (λ it. cond it one other) is
-
-apart_told : (term other : Term) → (term ≡ other → ⊥) → same_term term other ≡ false
-apart_told term other apart = by (same_term term other) refl
-  where
-    by : (answer : Bool) → same_term term other ≡ answer → answer ≡ false
-    by true told = absurd (apart ((same_term-Decides term other).0 told))
-    by false told = refl
 
 numbered-at : (number : ℕ) (seen : List Term) (place : ℕ) (term : Term) → slice_get seen place ≡ Some term → (Contains (take place seen) term → ⊥)
     → numbered number seen term ≡ Plain (number + place)

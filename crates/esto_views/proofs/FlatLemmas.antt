@@ -1,7 +1,6 @@
 -- The facts of an expansion are over constants and variables.
 use Rattle.std.proofs.Common.{◌≡◌, ◌⊎◌, inl, inr, ℕ, ◌<◌, List, length, map, slice_get, Some, ap, Contains, sym, ◌∙◌, subst}
 use Rattle.esto_term.specs.declared.term.Term.{Term}
-use Rattle.esto_term.specs.declared.term.Term.TheVariants.{Const, Plain}
 use Rattle.esto_term.proofs.ChoiceLemmas.{Decided}
 use Rattle.esto_term.proofs.DistinctLemmas.{decided_contains}
 use Rattle.esto_term.proofs.ListLemmas.{Contains-at, Contains-map, Contains-map_from, map_at-from, thing_at}
@@ -19,7 +18,7 @@ use Rattle.esto_views.specs.declared.expansion.ExpandedFact.{ExpandedFact}
 use Rattle.esto_views.specs.declared.fragments.FragmentDef.{FragmentDef}
 use Rattle.esto_views.specs.declared.plan.Plan.{Plan}
 
-named-flat : (plan : Plan) (term : Term) → IsNamed plan.names term → IsFlat term
+pub named-flat : (plan : Plan) (term : Term) → IsNamed plan.names term → IsFlat term
 named-flat plan term (inl constant) = inl constant
 named-flat plan term (inr (number, is, _)) = inr (number, is)
 

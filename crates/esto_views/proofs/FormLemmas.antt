@@ -16,7 +16,7 @@ use Rattle.esto_views.specs.Soundness.{IsSoundPlan}
 use Rattle.esto_views.specs.declared.plan.Plan.{Plan}
 use Rattle.esto_term.proofs.ListLemmas.{Contains-cases, Contains-head, Contains-map_from, Contains-nil}
 
-only_one : {A : Type 0} (one other : A) → Contains (one ∷ []) other → one ≡ other
+pub only_one : {A : Type 0} (one other : A) → Contains (one ∷ []) other → one ≡ other
 only_one one other inside = elim (Contains-cases one [] other inside) [ inl is ↦ is | inr later ↦ absurd (Contains-nil other later) ]
 
 -- two rows that one row is made of are of one length

@@ -21,7 +21,7 @@ use Rattle.esto_term.proofs.ListLemmas.{Contains-at, Contains-map_from, at_left,
 cond_false : {X : Type 0} (answer : Bool) (one other : X) → answer ≡ false → cond answer one other ≡ other
 cond_false answer one other told = ap (λ it. cond it one other) told
 
-apart_told : (term other : Term) → (term ≡ other → ⊥) → same_term term other ≡ false
+pub apart_told : (term other : Term) → (term ≡ other → ⊥) → same_term term other ≡ false
 apart_told term other apart = by (same_term term other) refl
   where
     by : (answer : Bool) → same_term term other ≡ answer → answer ≡ false

@@ -6,11 +6,11 @@ use Rattle.esto_query.specs.Making.{query_of}
 use Rattle.esto_semantics.specs.Sets.{Covers}
 use Rattle.esto_semantics.specs.declared.fact.Fact.{Fact}
 use Rattle.esto_term.specs.declared.term.Term.{Term}
-use Rattle.esto_universal.proofs.PlannedLemmas.{constraints-AreRules}
 use Rattle.esto_world_laws.specs.Laws.{HasMatch}
 use Rattle.esto_world_laws.specs.Steps.{AreJoined}
 use Rattle.esto_world_laws.specs.Worlds.{InWorld}
 use Rattle.esto_world_laws.specs.declared.entry.Entry.{Entry}
+use Rattle.esto_constraint.proofs.RuleLemmas.{are_rules}
 use Rattle.esto_contain.proofs.MinimisedLemmas.{head_length}
 use Rattle.esto_contain.proofs.NumberedLemmas.{numbered_below, numbered_flat}
 use Rattle.esto_contain.proofs.PartLemmas.{told_parts}
@@ -55,7 +55,7 @@ returns-clause-exact c =
     let end = with_head c.args.head.now c.args.facts.now in
     let sets = c.in_ok-sets.sets in
     told_parts rules query end c.in_ok-expanded.expanded c.in_ok-entries.entries
-    (constraints-AreRules c.args.catalogue.now.rules c.rules_are_sound.ensures.rules) (c.queries_are_sound.ensures c.args.query.now).query
+    (are_rules c.rules_are_sound.ensures.rules c.args.catalogue.now.rules) (c.queries_are_sound.ensures c.args.query.now).query
     c.requires.flat c.requires.universal c.requires.satisfiable (rw c.items.ensures at c.in_ok-expanded.ensures) c.in_ok-entries.ensures.given
     c.in_ok-entries.ensures.closed c.in_ok-entries.ensures.sound c.in_ok-entries.ensures.nowhere c.in_ok-entries.ensures.derived
     c.chosen_atoms_are_named.ensures c.parts_of_an_instance_contain_the_query.ensures.contains c.matches_decide_containment.ensures.shown

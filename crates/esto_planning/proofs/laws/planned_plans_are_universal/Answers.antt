@@ -1,7 +1,7 @@
 use Rattle.esto_constraint.specs.Constraints.{rules_of}
 use Rattle.esto_query.specs.Making.{query_of}
 use Rattle.esto_views.specs.Fragments.{views_of}
-use Rattle.esto_planning.proofs.RuleLemmas.{are_rules}
+use Rattle.esto_constraint.proofs.RuleLemmas.{are_rules}
 use Rattle.esto_planning.proofs.laws.planned_plans_are_universal.Goals as goal
 
 pub returns-clause-universal : goal.returns-clause-universal

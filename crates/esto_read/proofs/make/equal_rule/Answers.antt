@@ -1,5 +1,6 @@
 use Rattle.esto_query.specs.Schemas.{arities_of}
-use Rattle.esto_read.proofs.MakeLemmas.{relations_within, flat_fixed, equality_is_made}
+use Rattle.esto_constraint.proofs.RuleLemmas.{flat_fixed}
+use Rattle.esto_read.proofs.MakeLemmas.{relations_within, equality_is_made}
 use Rattle.esto_read.proofs.RuleLemmas.{equality_made_over}
 use Rattle.esto_read.proofs.make.equal_rule.Goals as goal
 

@@ -5,7 +5,8 @@ use Rattle.esto_chase_laws.specs.Runs.{IsStart}
 use Rattle.esto_chase.specs.Chased.{RunClashes}
 use Rattle.esto_instance.specs.Instances.{state_of}
 use Rattle.esto_views.specs.Fragments.{views_of}
-use Rattle.esto_universal.proofs.PlannedLemmas.{constraints-AreRules, within_ranks, ranks_of_all, head_of_end, planned_from}
+use Rattle.esto_constraint.proofs.RuleLemmas.{are_rules}
+use Rattle.esto_universal.proofs.PlannedLemmas.{within_ranks, ranks_of_all, head_of_end, planned_from}
 use Rattle.esto_universal.proofs.planning.plan_or_clash.Goals as goal
 
 pub chase-requires-clause-start : goal.chase-requires-clause-start
@@ -31,7 +32,7 @@ stated_plan-requires c =
     let query = c.args.query.now in
     subst (λ it. it ≢ []) (sym c.head-head.ensures)
     (head_of_end c.heads_go_along.ensures.heads c.queries_have_starts.ensures.start (rules_of rules) (query_of query) (state_of c.in_ok-start.start)
-    c.in-Left.chased.instance (constraints-AreRules rules c.rules_are_sound.ensures.rules) (c.queries_are_sound.ensures query).query
+    c.in-Left.chased.instance (are_rules c.rules_are_sound.ensures.rules rules) (c.queries_are_sound.ensures query).query
     c.in_ok-start.ensures.state (rw c.in-Left.is at c.in_ok-outcome.ensures.run))
 
 pub returns-in_ok-plan-in-Left : goal.returns-in_ok-plan-in-Left

@@ -2,7 +2,7 @@ use Rattle.esto_query.specs.Making.{query_of}
 use Rattle.esto_constraint.specs.Constraints.{rules_of}
 use Rattle.esto_views.specs.Fragments.{views_of}
 use Rattle.esto_chase.proofs.OutcomeLemmas.{on_either}
-use Rattle.esto_universal.proofs.PlannedLemmas.{constraints-AreRules}
+use Rattle.esto_constraint.proofs.RuleLemmas.{are_rules}
 use Rattle.esto_universal.proofs.planning.universal.Goals as goal
 
 pub returns-clause-over : goal.returns-clause-over
@@ -20,7 +20,7 @@ returns-clause-universal c =
     let query = c.args.query.now in
     on_either c.in_ok-outcome.outcome
     (λ plan planned. c.plans_of_runs_are_universal.ensures.universal (rules_of it.rules) (views_of it.fragments) query.names (query_of query) plan
-    (constraints-AreRules it.rules c.rules_are_sound.ensures.rules) (c.queries_are_sound.ensures query).query planned)
+    (are_rules c.rules_are_sound.ensures.rules it.rules) (c.queries_are_sound.ensures query).query planned)
     (λ clash clashes. tt) c.in_ok-outcome.ensures
 
 pub returns-clause-unions : goal.returns-clause-unions
@@ -29,7 +29,7 @@ returns-clause-unions c =
     let query = c.args.query.now in
     on_either c.in_ok-outcome.outcome
     (λ plan planned. c.plans_of_runs_are_universal.ensures.unions (rules_of it.rules) (views_of it.fragments) query.names (query_of query) plan
-    (constraints-AreRules it.rules c.rules_are_sound.ensures.rules) (c.queries_are_sound.ensures query).query planned)
+    (are_rules c.rules_are_sound.ensures.rules it.rules) (c.queries_are_sound.ensures query).query planned)
     (λ clash clashes. tt) c.in_ok-outcome.ensures
 
 pub returns-clause-satisfiable : goal.returns-clause-satisfiable
@@ -38,7 +38,7 @@ returns-clause-satisfiable c =
     let query = c.args.query.now in
     on_either c.in_ok-outcome.outcome
     (λ plan planned. c.plans_tell_satisfiable_queries.ensures.plan (rules_of it.rules) (views_of it.fragments) query.names (query_of query) plan
-    (constraints-AreRules it.rules c.rules_are_sound.ensures.rules) (c.queries_are_sound.ensures query).query planned)
+    (are_rules c.rules_are_sound.ensures.rules it.rules) (c.queries_are_sound.ensures query).query planned)
     (λ clash clashes. c.plans_tell_satisfiable_queries.ensures.clash (rules_of it.rules) (query_of query) clash
-    (constraints-AreRules it.rules c.rules_are_sound.ensures.rules) (c.queries_are_sound.ensures query).query clashes)
+    (are_rules c.rules_are_sound.ensures.rules it.rules) (c.queries_are_sound.ensures query).query clashes)
     c.in_ok-outcome.ensures
