@@ -5,14 +5,12 @@ use Rattle.std.proofs.lemmas.Option.{none-some}
 use Rattle.esto_catalog.specs.Determined.{AreSame}
 use Rattle.esto_catalog.specs.declared.catalogue.Catalogue.{Catalogue}
 use Rattle.esto_catalog.specs.declared.dataset.Dataset.{Dataset}
-use Rattle.esto_constraint.specs.Constraints.{rule_of, rules_of}
+use Rattle.esto_constraint.specs.Constraints.{rules_of}
 use Rattle.esto_constraint.specs.EncodingRules.{written}
-use Rattle.esto_constraint.specs.declared.rule.Constraint.{Constraint}
 use Rattle.esto_course.specs.Course.{Course, judges}
 use Rattle.esto_course.proofs.Determined.{then_agree, gives_agree, judges_agree}
 use Rattle.esto_fill.specs.Databases.{database_of}
 use Rattle.esto_fill.specs.Filled.{Fills}
-use Rattle.esto_fill.specs.Laws.{AuditsAreOne, FactsAreOne, FillsAreOne, JudgementsAreOne, UnionAnswersAreOne}
 use Rattle.esto_fill.specs.Texts.{AreTextsOf, AreTextViews, IsFirstNodeColumn, IsFirstNodeView}
 use Rattle.esto_fill.specs.declared.auditing.Difference.{Difference}
 use Rattle.esto_fill.specs.declared.filled.FillError.{FillError}
@@ -25,14 +23,14 @@ use Rattle.esto_query.specs.declared.query.Query.{Query}
 use Rattle.esto_run.specs.Stores.{IsFileRow}
 use Rattle.esto_semantics.specs.Maps.{AreFlat}
 use Rattle.esto_semantics.specs.Queries.{ConjunctiveQuery, IsAnswer}
-use Rattle.esto_semantics.specs.Rules.{AreRules, IsRule}
+use Rattle.esto_semantics.specs.Rules.{AreRules}
 use Rattle.esto_semantics.specs.Unions.{IsUnionAnswer}
 use Rattle.esto_semantics.specs.declared.fact.Fact.{Fact}
 use Rattle.esto_stores.specs.Rows.{Row}
 use Rattle.esto_term.proofs.ListLemmas.{Contains-at}
 use Rattle.esto_term.specs.declared.term.Term.{Term}
 use Rattle.esto_views.specs.Fragments.{views_of}
-use Rattle.esto_opening.specs.Alike.{CataloguesOpenAlike, FragmentOpensAlike, FragmentsOpenAlike, AreSameQueries, StoresHaveOneContent, StoresHaveOneFault, StoresHaveOneFile, UnionsOpenAlike}
+use Rattle.esto_opening.specs.Alike.{AreSameQueries}
 use Rattle.esto_opening.specs.Answers.{IsCaused}
 use Rattle.esto_opening.specs.Calm.{AgreeCalmly, IsOne}
 use Rattle.esto_opening.specs.Fragments.{Stored, IsStoredAt, opens_fragments}
@@ -45,26 +43,11 @@ use Rattle.esto_constraint.proofs.RuleLemmas.{are_rules}
 use Rattle.esto_data.specs.Answer.{IsUnionAnswerOfFacts, answer_course, answers_union, lists_texts}
 use Rattle.esto_data.specs.Audit.{AuditsFiles, all_fragments, audit_course, audit_text, audits_catalogue, audits_facts, compares, judges_views}
 use Rattle.esto_data.specs.Datasets.{IsAny, Names, OneNames, loads}
+use Rattle.esto_data.specs.DataLaws.{DataLaws}
 use Rattle.esto_data.specs.Fill.{IsFirstOf, fill_course, fill_status, fills_file, fills_fragment, fills_named, finds_fragment, names_of}
 use Rattle.esto_data.proofs.AlikeLemmas.{audits_over, first_one, fragments_long, texts_one, same_stored, same_view}
 use Rattle.esto_data.proofs.LoadLemmas.{loads_agree, loads_flat}
 use Rattle.esto_data.proofs.UnionLemmas.{same_queries, same_union_text}
-
--- the laws by which the commands on data are determined
-pub record DataLaws : Type 0 where
-  pub rules : (constraint : Constraint) → IsRule (rule_of constraint)
-  pub catalogues : CataloguesOpenAlike
-  pub unions : UnionsOpenAlike
-  pub fragment : FragmentOpensAlike
-  pub fragments : FragmentsOpenAlike
-  pub file : StoresHaveOneFile
-  pub fault : StoresHaveOneFault
-  pub rows : StoresHaveOneContent
-  pub facts : FactsAreOne
-  pub answers : UnionAnswersAreOne
-  pub judgements : JudgementsAreOne
-  pub fills : FillsAreOne
-  pub audits : AuditsAreOne
 
 -- ---- results
 

@@ -35,7 +35,7 @@ use Rattle.esto_data.specs.Answer.{IsAnswerOfFacts, IsUnionAnswerOfFacts, answer
 use Rattle.esto_data.specs.Datasets.{IsAny, Names, OneNames, loads, opens_dataset}
 use Rattle.esto_data.specs.Exact.{PrintsRows}
 use Rattle.esto_data.specs.Laws.{RepliesAreAudited}
-use Rattle.esto_data.proofs.AgreeLemmas.{DataLaws}
+use Rattle.esto_data.specs.DataLaws.{DataLaws}
 use Rattle.esto_data.proofs.AlikeLemmas.{fragments_long}
 use Rattle.esto_data.proofs.DatasetLemmas.{sources_there}
 use Rattle.esto_data.proofs.ExactLemmas.{agreed-leads, no_node}

@@ -57,7 +57,7 @@ use Rattle.esto_data.specs.declared.datasets.TheConstants.{DATASET_LIMIT}
 use Rattle.esto_data.specs.Exact.{AreReadableFragments, AuditsExactly, FillsExactly, GivesExactly, HoldFacts, IsExactAnswer, IsExactAudit, IsExactFill, IsExactUnionAnswer}
 use Rattle.esto_data.specs.Exact.FillsExactly.{prints, tells_key, tells_node}
 use Rattle.esto_data.specs.Fill.{IsFilled, IsFirstOf, IsRowOfView, fill_course, fill_status, fills_file, fills_named, names_of}
-use Rattle.esto_data.proofs.AgreeLemmas.{DataLaws}
+use Rattle.esto_data.specs.DataLaws.{DataLaws}
 use Rattle.esto_data.proofs.AlikeLemmas.{audits-moved, first_one}
 use Rattle.esto_data.proofs.FragmentLemmas.{fragments_never, rows_same}
 use Rattle.esto_data.proofs.LeadLemmas.{holds-leads, holds_leads}

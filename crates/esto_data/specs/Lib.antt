@@ -3,4 +3,5 @@ pub mod Fill
 pub mod Answer
 pub mod Audit
 pub mod Exact
+pub mod DataLaws
 pub mod Laws

@@ -1,4 +1,5 @@
 //! Laws of the commands on data.
+ghost use Rattle.esto_data.specs.DataLaws.{DataLaws};
 ghost use Rattle.esto_data.specs.Laws.{AnswersAreExact, AnswersAreOne, AuditsAreExact, AuditsAreOne, AuditsRefuse, FillsAreExact, FillsAreOne, RepliesAreAudited, UnionAnswersAreExact};
 
 use esto_catalog::catalogues_are_sound;
@@ -6,15 +7,22 @@ use esto_constraint::rules_are_sound;
 use esto_fill::{answers_rest_on_their_datasets, outcomes_are_one};
 use esto_opening::{opened_unions_are_queries, openings_are_one};
 
+// The laws by which the commands on data are determined, together.
+fn data_laws_hold()
+    ensures { DataLaws }
+{
+    openings_are_one();
+    outcomes_are_one();
+    rules_are_sound();
+}
+
 /// A law: over the same files `fill`, `answer` and `audit` have one reply or one refusal each, where no fetch is at a fault.
 pub fn data_outcomes_are_one()
     ensures fills { FillsAreOne }
     ensures answers { AnswersAreOne }
     ensures audits { AuditsAreOne }
 {
-    openings_are_one();
-    outcomes_are_one();
-    rules_are_sound();
+    data_laws_hold();
 }
 
 /// A law: where the files say a catalogue, and a query, or a union of queries, over it, and the files of what a command needs
@@ -28,10 +36,8 @@ pub fn data_outcomes_are_exact()
     ensures audits { AuditsAreExact }
 {
     catalogues_are_sound();
-    openings_are_one();
     opened_unions_are_queries();
-    outcomes_are_one();
-    rules_are_sound();
+    data_laws_hold();
 }
 
 /// A law: where `audit` has a reply, the facts of all datasets meet the rules and the fragments hold their views' rows, and
@@ -41,9 +47,7 @@ pub fn audited_datasets_answer()
     ensures replies { RepliesAreAudited }
     ensures refusals { AuditsRefuse }
 {
-    openings_are_one();
     opened_unions_are_queries();
-    outcomes_are_one();
     answers_rest_on_their_datasets();
-    rules_are_sound();
+    data_laws_hold();
 }

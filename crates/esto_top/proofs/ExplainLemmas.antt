@@ -1,7 +1,6 @@
 -- What `explain` answers where the files say a catalogue and a query over it.
 use Rattle.std.proofs.Common.{◌≡◌, ◌≢◌, ◌↔◌, ℕ, ◌-◌, ◌<◌, List, [], length, slice_get, Option, Some, None, refl, sym, ap, subst, ◌∙◌, inl, inr, arith}
 use Rattle.std.proofs.lemmas.Option.{none-some, same_Some, slice_get_within}
-use Rattle.esto_catalog.specs.Determined.{AreSame}
 use Rattle.esto_catalog.specs.declared.catalogue.Catalogue.{Catalogue}
 use Rattle.esto_cert.specs.declared.line.Line.TheVariants.{Match}
 use Rattle.esto_certify.specs.Explain.{explain_course}
@@ -23,6 +22,7 @@ use Rattle.esto_ports.specs.Files.{Files}
 use Rattle.esto_query.specs.declared.query.Query.{Query}
 use Rattle.esto_semantics.specs.Queries.{ConjunctiveQuery}
 use Rattle.esto_views.specs.declared.plan.Plan.{Plan}
+use Rattle.esto_opening.proofs.UnionLemmas.{itself}
 use Rattle.esto_top.specs.CertificateOutcomes.{ExplainsWhereTold, IsExactExplain, IsNumbered, OutcomesAreExplained, OutcomesAreVerified, OutcomesOfExplainAreAccepted}
 use Rattle.esto_top.specs.Headline.{HasAnswers, IsExactRefusal, Rewrites}
 use Rattle.esto_top.specs.Laws.{ListingLaws}
@@ -62,24 +62,7 @@ done_none same = cc
 
 -- ---- plans and lists
 
--- a catalogue says the same as itself, and so does a query
-same_catalogue : (catalogue : Catalogue) → AreSame catalogue catalogue
-same_catalogue catalogue = record {
-  schema = refl;
-  words = refl;
-  datasets = refl;
-  names = refl;
-  views = refl;
-  patterns = refl;
-  weights = refl;
-  stores = refl;
-  rules = refl;
-  rule_names = refl;
-  given = refl;
-  ranks = refl;
-  core = refl;
-}
-
+-- a query says the same as itself
 same_query : (query : Query) → IsSameQuery query query
 same_query query = record { head = refl; body = refl; names = refl }
 
@@ -90,8 +73,8 @@ module _ (laws : ListingLaws) (catalogue : Catalogue) (query : Query) (number : 
   unfolding judges
   one_list plan other items others planned other_planned list other_list =
       let plans : IsSamePlan plan other =
-      (laws.planning.plan catalogue catalogue query query (same_catalogue catalogue) (same_query query)).one plan other planned other_planned in
-      (laws.planning.list catalogue catalogue query query plan other (same_catalogue catalogue) (same_query query) plans).one items others list other_list
+      (laws.planning.plan catalogue catalogue query query (itself catalogue) (same_query query)).one plan other planned other_planned in
+      (laws.planning.list catalogue catalogue query query plan other (itself catalogue) (same_query query) plans).one items others list other_list
 
   never_clashes : (clash : Clash) → IsClash catalogue query clash → ¬ (HasAnswers catalogue query)
   never_clashes = laws.unsatisfiable catalogue query

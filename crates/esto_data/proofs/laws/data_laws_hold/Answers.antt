@@ -1,0 +1,18 @@
+use Rattle.esto_data.proofs.laws.data_laws_hold.Goals as goal
+
+pub returns : goal.returns
+returns c = record {
+  rules = c.rules_are_sound.ensures.rules;
+  catalogues = c.openings_are_one.ensures.catalogues;
+  unions = c.openings_are_one.ensures.unions;
+  fragment = c.openings_are_one.ensures.fragment;
+  fragments = c.openings_are_one.ensures.fragments;
+  file = c.openings_are_one.ensures.file;
+  fault = c.openings_are_one.ensures.fault;
+  rows = c.openings_are_one.ensures.rows;
+  facts = c.outcomes_are_one.ensures.facts;
+  answers = c.outcomes_are_one.ensures.unions;
+  judgements = c.outcomes_are_one.ensures.judgements;
+  fills = c.outcomes_are_one.ensures.fills;
+  audits = c.outcomes_are_one.ensures.audits;
+}

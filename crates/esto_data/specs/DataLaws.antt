@@ -1,0 +1,22 @@
+-- The laws by which the commands on data are determined, together.
+use Rattle.esto_constraint.specs.Constraints.{rule_of}
+use Rattle.esto_constraint.specs.declared.rule.Constraint.{Constraint}
+use Rattle.esto_fill.specs.Laws.{AuditsAreOne, FactsAreOne, FillsAreOne, JudgementsAreOne, UnionAnswersAreOne}
+use Rattle.esto_semantics.specs.Rules.{IsRule}
+use Rattle.esto_opening.specs.Alike.{CataloguesOpenAlike, FragmentOpensAlike, FragmentsOpenAlike, StoresHaveOneContent, StoresHaveOneFault, StoresHaveOneFile, UnionsOpenAlike}
+
+-- The same files say the same, and what they say has one outcome each: facts, answers, judgements, filled files and audits.
+pub record DataLaws : Type 0 where
+  pub rules : (constraint : Constraint) → IsRule (rule_of constraint)
+  pub catalogues : CataloguesOpenAlike
+  pub unions : UnionsOpenAlike
+  pub fragment : FragmentOpensAlike
+  pub fragments : FragmentsOpenAlike
+  pub file : StoresHaveOneFile
+  pub fault : StoresHaveOneFault
+  pub rows : StoresHaveOneContent
+  pub facts : FactsAreOne
+  pub answers : UnionAnswersAreOne
+  pub judgements : JudgementsAreOne
+  pub fills : FillsAreOne
+  pub audits : AuditsAreOne
