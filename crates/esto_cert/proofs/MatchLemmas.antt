@@ -106,7 +106,8 @@ module _ (claims : List Claim) (body : List (Fact Term)) (facts links : List ℕ
   none_there = no_match claims body facts links chosen equalities renamings from to stated named all_told from_is to_chosen
 
 -- what is told of the match as it is found
-pub judged_there : {E : Type 0} (claims : List Claim) (body : List (Fact Term)) (facts links : List ℕ) (chosen : List (Fact Term)) (equalities them : List Equality)
+pub judged_there : {E : Type 0} (claims : List Claim) (body : List (Fact Term)) (facts links : List ℕ) (chosen : List (Fact Term))
+    (equalities them : List Equality)
     → facts_at claims facts ≡ Some chosen → equalities_at claims links ≡ Some equalities → them ≡ equalities
     → (it : Found) → it.chosen ≡ chosen → ((others : List (Fact Term)) → Tells it.renamings (IsAmong others them)) → it.from ≡ terms_of body
     → it.to ≡ terms_of chosen → (result : Result (Option Found) E)

@@ -20,7 +20,8 @@ use Rattle.esto_condchase.specs.Rounds.{IsRuleAnswered}
 
 -- each entry from a place on, and before another, is apart from the body
 abbrev pub AreApartBelow : List Entry → ℕ → List (Fact Term) → ℕ → Type 0
-AreApartBelow entries since body count = (place : ℕ) (d : Entry) → since ≤ place → place < count → place < length entries → IsApart (get_or entries place d).claim body
+AreApartBelow entries since body count = (place : ℕ) (d : Entry) → since ≤ place → place < count → place < length entries → IsApart
+    (get_or entries place d).claim body
 
 -- one entry more that is apart
 pub apart_next : (entries : List Entry) (since : ℕ) (body : List (Fact Term)) (place : ℕ) (entry : Entry) → place < length entries

@@ -149,7 +149,8 @@ module _ {E A B : Type 0} (caused : E → Type 0) (Same : A → A → Type 0) (f
   chain_begins : (names all : Names) (point end : Point E B) → IsEnd caused end → Stands caused first next names point
       → Stands caused other other_next all end
       → Begins names all
-  chain_begins names all point end is_end (early at asks ends) (early at' asks' ends') = here.begins names all at at' (stop_ends caused at' (ends' is_end)) asks asks'
+  chain_begins names all point end is_end (early at asks ends) (early at' asks' ends') = here.begins names all at at' (stop_ends caused at' (ends' is_end))
+      asks asks'
   chain_begins names all point end is_end (early at asks ends) (late later) =
       begins_more names later.early all later.late (here.begins names later.early at (went later.value) tt asks later.first_asks) later.all
   chain_begins names all point end is_end (late later) (early at' asks' ends') =

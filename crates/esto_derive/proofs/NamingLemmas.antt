@@ -132,7 +132,8 @@ module _ (case : Case) (entries : List Entry) (used : List Bool) (basis : IsBasi
     where
       by : Contains are.stated place ⊎ Contains are.equal place → (number : ℕ) × Contains (facts ++ links) number × (numbered state.places number ≡ Some other)
       by (inl fact) =
-          let (number, there, is) = zip_left (λ (place : ℕ) (number : ℕ). numbered state.places number ≡ Some place) are.stated facts are.facts_are place fact in
+          let (number, there, is) = zip_left (λ (place : ℕ) (number : ℕ). numbered state.places number ≡ Some place) are.stated facts are.facts_are place fact
+              in
           (number, Contains-append_left facts links number there, is ∙ ap Some (sym (names_fact place other number is behind)))
       by (inr link) = let (number, there, is) = are.links_all place other link behind in (number, Contains-append_right facts links number there, is)
 
@@ -147,7 +148,8 @@ module _ (case : Case) (entries : List Entry) (used : List Bool) (basis : IsBasi
     abbrev IsNamed : ℕ → Type 0
     IsNamed at = IsNamedLater (state.lines ++ Match numbers others ∷ []) at
 
-    by_last : (place other : ℕ) → Contains (facts ++ links) place → IsBehind entries place other → (at : ℕ) → slice_get state.places at ≡ Some other → IsNamed at
+    by_last : (place other : ℕ) → Contains (facts ++ links) place → IsBehind entries place other → (at : ℕ) → slice_get state.places at ≡ Some other → IsNamed
+        at
     by_last place other inside behind at other_at = (
       length state.lines,
       Match numbers others,
@@ -169,7 +171,8 @@ module _ (case : Case) (entries : List Entry) (used : List Bool) (basis : IsBasi
         (subst HasLine (sym is) tt) in
         let (later, up_at) = place-from_Contains state.places up written in
         let (line, its_line, (its, its_at, within, says)) = line_at later up up_at in
-        let said = step_said entries state.places its.reason line number places (ap (λ (it : Entry). it.reason) (some_one (sym its_at ∙ entry_at)) ∙ is) says in (
+        let said = step_said entries state.places its.reason line number places (ap (λ (it : Entry). it.reason) (some_one (sym its_at ∙ entry_at)) ∙ is) says
+            in (
           later,
           line,
           stands_before state.places state.are_of.rising at later other up other_at up_at

@@ -242,7 +242,8 @@ module _ (case : Case) (entries : List Entry) (used : List Bool) (basis : IsBasi
               → new.text ≡ written.text
               ++ (line_text (line.Step (number + 1) at_place (map (λ line. line + 1) (lines_at lines facts)) (map (λ line. line + 1) linked)) ++ codes "\n")
               → new.count ≡ written.count + 1 → (own : List ℕ) → own ≡ written.count ∷ [] → Goes new own
-          step_line some facts links in_order facts_among links_among linked adds at_place fits fits_too few stated equalities like fit made new text count own own_is =
+          step_line some facts links in_order facts_among links_among linked adds at_place fits fits_too few stated equalities like fit made new text count
+              own own_is =
               let its : Line = line.Step (number + 1) at_place (map (λ line. line + 1) (lines_at lines facts)) (map (λ line. line + 1) linked) in
               let found = eqs state.claims lines entries places stands facts links step.2.chosen
               (body_of step.0) facts_among links_among stated equalities linked adds

@@ -91,7 +91,8 @@ module _ (rules : List Rule) (names : List (List Name)) (facts : List (Fact Term
           one.counted ∙ ap suc is ∙ sym two.counted,
           records_one (body_of two.rule) two.own one.m two.m two.places cells its
               (subst (IsMatch one.m (body_of two.rule) facts) places active.matches) two.active.matches
-              (subst (λ (it : Rule). IsRecordOf two.own (body_of it) one.m cells) same (subst (λ those. IsRecordOf those (body_of one.rule) one.m cells) own one.shown))
+              (subst (λ (it : Rule). IsRecordOf two.own (body_of it) one.m cells) same
+                  (subst (λ those. IsRecordOf those (body_of one.rule) one.m cells) own one.shown))
               two.shown,
         )
     | inr (inl less) ↦ absurd (broken_before stand are flat number other cells its one two less)
@@ -231,7 +232,8 @@ module _ (rules : List Rule) (names : List (List Name)) (fragments : List (List 
     );
   }
 
-  pub audits_same : (result : Option Difference) → Audits rules names fragments views facts Holds result → Audits rules names fragments views facts Others result
+  pub audits_same : (result : Option Difference) → Audits rules names fragments views facts Holds result → Audits rules names fragments views facts Others
+      result
   audits_same None agree = record {
     meets = agree.meets;
     rows = λ fact. (
@@ -242,12 +244,14 @@ module _ (rules : List Rule) (names : List (List Name)) (fragments : List (List 
   audits_same (Some (Broken number cells)) broken = broken
   audits_same (Some (Missing name row)) (meets, apart) = (
     meets,
-    first_same (IsOfView views (database_of facts)) (λ number it. Holds (at number it)) (IsOfView views (database_of facts)) (λ number it. Others (at number it))
+    first_same (IsOfView views (database_of facts)) (λ number it. Holds (at number it)) (IsOfView views (database_of facts))
+        (λ number it. Others (at number it))
         itself (λ number it. same (at number it)) name row apart,
   )
   audits_same (Some (Extra name row)) (meets, apart) = (
     meets,
-    first_same (λ number it. Holds (at number it)) (IsOfView views (database_of facts)) (λ number it. Others (at number it)) (IsOfView views (database_of facts))
+    first_same (λ number it. Holds (at number it)) (IsOfView views (database_of facts)) (λ number it. Others (at number it))
+        (IsOfView views (database_of facts))
         (λ number it. same (at number it)) itself name row apart,
   )
 

@@ -72,7 +72,8 @@ pub rule_broken : (stand : RulesStand) (least : LeastActiveIsLeast) (facts : Lis
     → IsRecordOf (written constraint) (body_of (rule_of constraint)) (map_of valuation) cells
     → IsFirstBroken (rules_of rules) (map written rules) facts number cells
 rule_broken stand least facts stands rules are place number constraint valuation places cells counted there broken shown =
-    let same : rule_of constraint ≡ broken.rule = same_Some (rule_of constraint) broken.rule (sym (map_at rule_of rules place constraint there) ∙ broken.there) in
+    let same : rule_of constraint ≡ broken.rule = same_Some (rule_of constraint) broken.rule
+        (sym (map_at rule_of rules place constraint there) ∙ broken.there) in
     let active = least broken.rule facts valuation places broken.active in
     record {
       place = place;

@@ -90,7 +90,8 @@ forest_flat above n (kid label content inside_it rest) fact inside = elim (Conta
             | inr after ↦ elim (Contains-append_cases (holding content n)
                 (facts_from (n ∷ above) (suc n) inside_it ++ facts_from above (suc n + size inside_it) rest) fact after) [
                   | inl there ↦ holding_flat content n fact there
-                  | inr others ↦ elim (Contains-append_cases (facts_from (n ∷ above) (suc n) inside_it) (facts_from above (suc n + size inside_it) rest) fact others) [
+                  | inr others ↦ elim (Contains-append_cases (facts_from (n ∷ above) (suc n) inside_it) (facts_from above (suc n + size inside_it) rest) fact
+                      others) [
                     | inl there ↦ forest_flat (n ∷ above) (suc n) inside_it fact there
                     | inr there ↦ forest_flat above (suc n + size inside_it) rest fact there
                   ]
@@ -104,7 +105,8 @@ documents_flat base first forest term (fact, inside, in_fact) =
     forest_flat [] first forest from.0 from.1 term (subst (λ (it : Fact Term). Contains it.terms term) (sym from.2) in_fact)
 
 pub append_flat : (facts others : List (Fact Term)) → AreFlat facts → AreFlat others → AreFlat (facts ++ others)
-append_flat facts others one other term mentioned = elim (Mentions-append facts others term mentioned) [ inl there ↦ one term there | inr there ↦ other term there ]
+append_flat facts others one other term mentioned = elim (Mentions-append facts others term mentioned)
+    [ inl there ↦ one term there | inr there ↦ other term there ]
 
 -- ---- one file more
 

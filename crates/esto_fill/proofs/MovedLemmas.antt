@@ -105,7 +105,8 @@ module _ (number : ℕ → ℕ) where
           let too : to + (suc (size inside) + k) ≡ suc to + size inside + k = omega arith in
           ap number same ∙ moves (suc (size inside) + k) (omega (arith, within)) ∙ too
 
-      whole : map (carried other_value) (facts_from (n ∷ above) (suc n) inside) ≡ map (carried value_of) (facts_from (number n ∷ map number above) (suc to) inside)
+      whole : map (carried other_value) (facts_from (n ∷ above) (suc n) inside) ≡ map (carried value_of)
+          (facts_from (number n ∷ map number above) (suc to) inside)
           → map (carried other_value) (facts_from above (suc n + size inside) rest)
           ≡ map (carried value_of) (facts_from (map number above) (suc to + size inside) rest)
           → map (carried other_value) (facts_from above n (kid label content inside rest))
@@ -300,8 +301,10 @@ module _ (datasets : List Dataset) where
   stands first [] facts next apart are file inside = absurd (Contains-nil file inside)
   stands first (head ∷ files) facts next apart (its, own, others, at_its, is, rest, whole) file inside = elim (Contains-cases head files file inside) [
     | inl same ↦ subst (Stands first (head ∷ files) facts) same (head_stands first head files facts own others its at_its is whole)
-    | inr later ↦ tail_stands first head files facts own others its file at_its (pairs_head (λ one other. one.dataset ≢ other.dataset) head files apart file later)
-        whole (stands (first + nodes_in its head.bytes) files others next (pairs_tail (λ one other. one.dataset ≢ other.dataset) head files apart) rest file later)
+    | inr later ↦ tail_stands first head files facts own others its file at_its
+        (pairs_head (λ one other. one.dataset ≢ other.dataset) head files apart file later)
+        whole (stands (first + nodes_in its head.bytes) files others next (pairs_tail (λ one other. one.dataset ≢ other.dataset) head files apart) rest file
+            later)
   ]
 
   -- each fact is one of a file's own

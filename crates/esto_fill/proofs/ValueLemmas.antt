@@ -31,7 +31,8 @@ pub told : (term : Term) → IsTold term
 told term = term_cases IsTold
     (λ text. inl (text, refl))
     (λ number. inr (number, value_Plain number, λ (text, is). Const-apart-Plain text number (sym is)))
-    (λ rule variable frontier. inr (rule, ap value_by_kind (outs-Made rule variable frontier), λ (text, is). Const-apart-Made text rule variable frontier (sym is)))
+    (λ rule variable frontier. inr (rule, ap value_by_kind (outs-Made rule variable frontier), λ (text, is). Const-apart-Made text rule variable frontier
+        (sym is)))
     term
 
 -- a term with an unnamed value is no constant
@@ -53,7 +54,8 @@ pub map_value : (cells : List (List ℕ)) → map value_of (map Const cells) ≡
 map_value cells = map_then Const value_of cells ∙ map_agree (λ cell. value_of (Const cell)) Text cells (λ cell inside. value_Const cell)
 
 pub map_text : (cells : List (List ℕ)) → map text_of (map Const cells) ≡ cells
-map_text cells = map_then Const text_of cells ∙ map_agree (λ cell. text_of (Const cell)) (λ cell. cell) cells (λ cell inside. text_Const cell) ∙ map_itself cells
+map_text cells = map_then Const text_of cells ∙ map_agree (λ cell. text_of (Const cell)) (λ cell. cell) cells (λ cell inside. text_Const cell) ∙ map_itself
+    cells
 
 -- ---- facts
 

@@ -42,12 +42,14 @@ grows_on : (first old new : List (List ℕ)) → Grows first old → Grows old n
 grows_on first old new grown more = (grown.0 ++ more.0, more.1 ∙ ap (λ them. them ++ more.0) grown.1 ∙ append_assoc first grown.0 more.0)
 
 -- The rows are the answers of the queries so far, and texts have come after the first ones.
-pub record AreAnswersSoFar (first now : List (List ℕ)) (stored : List StoredRows) (arity : ℕ) (rows : CodedRows) (queries : List ConjunctiveQuery) : Type 0 where
+pub record AreAnswersSoFar (first now : List (List ℕ)) (stored : List StoredRows) (arity : ℕ) (rows : CodedRows) (queries : List ConjunctiveQuery) : Type 0
+    where
   pub grown : Grows first now
   pub wide : rows.arity ≡ arity
   pub codes : AreCodesOfAll now rows.rows (IsAnswerOfOne (IsStoredRow first stored) queries)
 
-pub none_so_far : (first : List (List ℕ)) (stored : List StoredRows) (arity : ℕ) → AreAnswersSoFar first first stored arity (record { arity = arity; rows = [] }) []
+pub none_so_far : (first : List (List ℕ)) (stored : List StoredRows) (arity : ℕ) → AreAnswersSoFar first first stored arity
+    (record { arity = arity; rows = [] }) []
 none_so_far first stored arity = record { grown = ([], sym (append-nil first)); wide = refl; codes = no_codes first (IsStoredRow first stored) }
 
 module _ (first now : List (List ℕ)) (stored : List StoredRows) (arity : ℕ) (rows : CodedRows) (queries : List ConjunctiveQuery)

@@ -249,7 +249,8 @@ module _ (numbers firsts : List ℕ) (are : AreFirsts numbers firsts) (next : �
   -- a number of the list stands first where it did
   within_list : (number place : ℕ) → Contains numbers number → StandsFirst (numbers ++ next ∷ []) number place
       → (place < length numbers) × StandsFirst numbers number place
-  within_list number place inside first = (below, record { here = here; least = λ lesser less at. first.least lesser less (at_left numbers (next ∷ []) lesser number at) })
+  within_list number place inside first = (below, record { here = here; least = λ lesser less at. first.least lesser less
+      (at_left numbers (next ∷ []) lesser number at) })
     where
       there : (own : ℕ) × (slice_get numbers own ≡ Some number)
       there = place-from_Contains numbers number inside
@@ -354,7 +355,8 @@ firsts_step set atoms number atom numbers old new at adds are =
     one_more = let next : number + 1 ≡ suc number = omega arith in ap (λ count. chosen set (take count atoms)) next ∙ chosen_one_more set atoms number atom at
 
     joined : (numbers ++ fragments_of before) ++ atom.relation ∷ [] ≡ numbers ++ fragments_of (before ++ atom ∷ [])
-    joined = append_assoc numbers (fragments_of before) (atom.relation ∷ []) ∙ ap (λ them. numbers ++ them) (sym (map-append (λ (it : Fact Term). it.relation) before (atom ∷ [])))
+    joined = append_assoc numbers (fragments_of before) (atom.relation ∷ []) ∙ ap (λ them. numbers ++ them)
+        (sym (map-append (λ (it : Fact Term). it.relation) before (atom ∷ [])))
 
     by : (has : Bool) → get_or set number false ≡ has → AddsUse set number atom.relation old new
         → AreFirsts (numbers ++ fragments_of (before ++ cond has (atom ∷ []) [])) new
@@ -376,7 +378,8 @@ firsts_step set atoms number atom numbers old new at adds are =
 pub one_seen : (picks : List Pick) (index : ℕ) (pick : Pick) → index < length picks → pick ≡ get_or picks index pick
     → map candidate_of (take (index + 1) picks) ≡ map candidate_of (take index picks) ++ candidate_of pick ∷ []
 one_seen picks index pick below is =
-    ap (map candidate_of) (take_more picks index pick below ∙ ap (λ it. take index picks ++ it ∷ []) (sym is)) ∙ map-append candidate_of (take index picks) (pick ∷ [])
+    ap (map candidate_of) (take_more picks index pick below ∙ ap (λ it. take index picks ++ it ∷ []) (sym is)) ∙ map-append candidate_of (take index picks)
+        (pick ∷ [])
 
 pub picks_step : (picks : List Pick) (index : ℕ) (pick : Pick) (old new : List ℕ) → index < length picks → pick ≡ get_or picks index pick
     → ((numbers : List ℕ) → AreFirsts numbers old → AreFirsts (numbers ++ fragments_of (candidate_of pick).body) new)

@@ -55,7 +55,8 @@ pub record ArePicks (catalogue : Catalogue) (queries : List Query) (others : Lis
 -- Picks are an executable rewriting of the union.
 abbrev pub PicksAreRewriting : Type 0
 PicksAreRewriting =
-    (catalogue : Catalogue) (queries : List Query) (others : List ConjunctiveQuery) → ArePicks catalogue queries others → AreRewritingOf catalogue queries others
+    (catalogue : Catalogue) (queries : List Query) (others : List ConjunctiveQuery) → ArePicks catalogue queries others → AreRewritingOf catalogue queries
+        others
 
 -- So over each database that meets the rules they have together exactly the union's answers.
 abbrev pub PicksAnswerUnion : Type 0

@@ -13,4 +13,5 @@ equalities-preserved c = λ facts.
     c.equality-item.result c.in_ok-renaming.renaming c.equalities-test.true c.equality-item.is c.items.ensures c.in_ok-renaming.ensures c.in_ok-push.ensures.ok
 
 pub returns : goal.returns
-returns c = λ facts. tells_end facts c.equalities.renamings c.args.equalities.now c.equalities.equality-index (c.equalities.invariant facts) (omega (arith, c.equalities-test.false))
+returns c = λ facts. tells_end facts c.equalities.renamings c.args.equalities.now c.equalities.equality-index (c.equalities.invariant facts)
+    (omega (arith, c.equalities-test.false))

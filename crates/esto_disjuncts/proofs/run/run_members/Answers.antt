@@ -51,7 +51,8 @@ returns-in_err-picks-clause-answer g c =
     let some = subst (λ (it : Option Clash). MatchOption it (HavePlan c.args.members.now) (ClashAt c.args.members.now)) c.in_default.is c.in_ok-clash.ensures in
     at_exit _ _ c.from_residual-in_err-picks.result c.from_residual-in_err-picks.ensures.1
     (choice_stops (g.S.Shelf.files c.args.shelf.now) c.args.catalogue.now c.args.queries.now c.args.number c.args.members.now some
-    (subst (λ (them : List Member). Stops IsWant (IsCaused ⊥) (chooses_each them c.args.number) c.in_err-picks.field-0.0) c.items.ensures c.in_err-picks.ensures.refusal))
+    (subst (λ (them : List Member). Stops IsWant (IsCaused ⊥) (chooses_each them c.args.number) c.in_err-picks.field-0.0) c.items.ensures
+        c.in_err-picks.ensures.refusal))
 
 pub returns-in_err-picks-clause-asked : goal.returns-in_err-picks-clause-asked
 returns-in_err-picks-clause-asked g c =
@@ -59,7 +60,8 @@ returns-in_err-picks-clause-asked g c =
     handed_asks _ _ _ c.from_residual-in_err-picks.ensures.1
     (choice_asks (g.S.Shelf.files c.args.shelf.now) c.args.catalogue.now c.args.queries.now c.args.number c.args.members.now some
     (g.S.Shelf.asked c.args.shelf.now) _
-    (subst (λ (them : List Member). Stops IsWant (IsCaused ⊥) (chooses_each them c.args.number) c.in_err-picks.field-0.0) c.items.ensures c.in_err-picks.ensures.refusal))
+    (subst (λ (them : List Member). Stops IsWant (IsCaused ⊥) (chooses_each them c.args.number) c.in_err-picks.field-0.0) c.items.ensures
+        c.in_err-picks.ensures.refusal))
 
 pub run_picks-requires-clause-runnable : goal.run_picks-requires-clause-runnable
 run_picks-requires-clause-runnable g c = λ pick inside.

@@ -49,7 +49,8 @@ pub put_node-returns-in_ok-put_two-in-Value-clause-rising : goal.put_node-return
 put_node-returns-in_ok-put_two-in-Value-clause-rising t c = leaf_rising _ (value_inside c.args.tree.now c.in-Value.text c.in-Value.is)
 
 pub put_node-returns-in_ok-put_two-in-Value-clause-next : goal.put_node-returns-in_ok-put_two-in-Value-clause-next
-put_node-returns-in_ok-put_two-in-Value-clause-next t c = leaf_next _ c.args.number _ (value_inside c.args.tree.now c.in-Value.text c.in-Value.is) c.in_ok-next.ensures
+put_node-returns-in_ok-put_two-in-Value-clause-next t c = leaf_next _ c.args.number _ (value_inside c.args.tree.now c.in-Value.text c.in-Value.is)
+    c.in_ok-next.ensures
 
 pub put_node-returns-in-Nothing-clause-rising : goal.put_node-returns-in-Nothing-clause-rising
 put_node-returns-in-Nothing-clause-rising t c = leaf_rising _ (nothing_inside c.args.tree.now c.in-Nothing.is)
@@ -58,10 +59,12 @@ pub put_node-returns-in-Nothing-clause-next : goal.put_node-returns-in-Nothing-c
 put_node-returns-in-Nothing-clause-next t c = leaf_next _ c.args.number _ (nothing_inside c.args.tree.now c.in-Nothing.is) c.in_ok-next.ensures
 
 pub put_node-returns-in_ok-inner-in-Fields-clause-rising : goal.put_node-returns-in_ok-inner-in-Fields-clause-rising
-put_node-returns-in_ok-inner-in-Fields-clause-rising t c = row_rising _ c.put_fields.result _ (fields_inside c.args.tree.now c.in-Fields.fields c.in-Fields.is) c.put_fields.ensures.rising
+put_node-returns-in_ok-inner-in-Fields-clause-rising t c = row_rising _ c.put_fields.result _
+    (fields_inside c.args.tree.now c.in-Fields.fields c.in-Fields.is) c.put_fields.ensures.rising
 
 pub put_node-returns-in_ok-inner-in-Fields-clause-next : goal.put_node-returns-in_ok-inner-in-Fields-clause-next
-put_node-returns-in_ok-inner-in-Fields-clause-next t c = row_next _ c.put_fields.result _ (fields_inside c.args.tree.now c.in-Fields.fields c.in-Fields.is) c.args.number _ c.in_ok-next.ensures c.put_fields.ensures.next
+put_node-returns-in_ok-inner-in-Fields-clause-next t c = row_next _ c.put_fields.result _ (fields_inside c.args.tree.now c.in-Fields.fields c.in-Fields.is)
+    c.args.number _ c.in_ok-next.ensures c.put_fields.ensures.next
 
 pub put_node-returns-in_ok-inner-in-Items-clause-rising : goal.put_node-returns-in_ok-inner-in-Items-clause-rising
 put_node-returns-in_ok-inner-in-Items-clause-rising t c =
@@ -69,4 +72,5 @@ put_node-returns-in_ok-inner-in-Items-clause-rising t c =
 
 pub put_node-returns-in_ok-inner-in-Items-clause-next : goal.put_node-returns-in_ok-inner-in-Items-clause-next
 put_node-returns-in_ok-inner-in-Items-clause-next t c =
-    row_next _ c.put_items.result _ (items_inside c.args.tree.now c.in-Items.items c.in-Items.is) c.args.number _ c.in_ok-next.ensures (rw c.items-in-Items.ensures at c.put_items.ensures.next)
+    row_next _ c.put_items.result _ (items_inside c.args.tree.now c.in-Items.items c.in-Items.is) c.args.number _ c.in_ok-next.ensures
+        (rw c.items-in-Items.ensures at c.put_items.ensures.next)

@@ -19,7 +19,8 @@ lines-preserved c =
     let trees = c.lines.invariant.0 in
     let line = c.cut_line.result.0.now in (
       trees ++ trees_of_line line,
-      goes c.args.bytes.now c.lines.rest.now line c.cut_line.result.1.now trees c.lines.number c.lines.invariant.1 c.cut_line.ensures.lines c.cut_line.ensures.less
+      goes c.args.bytes.now c.lines.rest.now line c.cut_line.result.1.now trees c.lines.number c.lines.invariant.1 c.cut_line.ensures.lines
+          c.cut_line.ensures.less
           c.in-Ok.ensures.0,
       rows_go c.args.columns es trees (trees_of_line line) c.lines.rows _ c.lines.invariant.2 c.in-Ok.ensures.1,
     )

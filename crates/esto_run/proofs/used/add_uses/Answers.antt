@@ -11,7 +11,8 @@ use Rattle.esto_run.proofs.used.add_uses.Goals as goal
 
 pub atoms-init : goal.atoms-init
 atoms-init c = (
-  λ none. subst (AreUsedBelow (map fact_of c.items-atom-items.result.now) c.args.set.now 0) (sym none) (none_used (map fact_of c.items-atom-items.result.now) c.args.set.now),
+  λ none. subst (AreUsedBelow (map fact_of c.items-atom-items.result.now) c.args.set.now 0) (sym none)
+      (none_used (map fact_of c.items-atom-items.result.now) c.args.set.now),
   λ numbers are. subst (λ them. AreFirsts them c.args.fragments.now)
       (sym (ap (λ them. numbers ++ fragments_of them) (nothing_chosen c.args.set.now) ∙ append-nil numbers)) are,
 )

@@ -13,7 +13,8 @@ returns c = (
       (numbered_rule c.args.self.now.rules.now c.args.number c.in-Some.rule.now (sym c.numbered.ensures ∙ ap (option_map (λ item. item.now)) c.in-Some.is))
       c.body_of.ensures c.in_ok-it.ensures c.in-Some-2.is
       (ap (λ (it : List Term). made_at c.args.place (c.args.number - 1) (rule_of c.in-Some.rule.now) (taken it c.in-Some-2.it.to)) (sym c.items-from.ensures)
-      ∙ ap (λ (it : List Term). made_at c.args.place (c.args.number - 1) (rule_of c.in-Some.rule.now) (taken c.items-from.result.now it)) (sym c.items-to.ensures)
+      ∙ ap (λ (it : List Term). made_at c.args.place (c.args.number - 1) (rule_of c.in-Some.rule.now) (taken c.items-from.result.now it))
+          (sym c.items-to.ensures)
       ∙ sym c.in_ok-claim.ensures ∙ c.in-None.is) claim it.0 it.1 it.2.0 it.2.1 it.2.2 it.2.3),
   (λ wrong. wrong),
 )
