@@ -78,7 +78,7 @@ module _ (rules : List Rule) (number place : ℕ) (rule : Rule) (claims : List C
   makes_nothing claim other other_is chosen equalities matches makes =
       let same : other ≡ rule = some_one (sym other_is ∙ numbered_is) in
       let theirs : Matches claims (body_of rule) facts links chosen equalities = subst
-          (λ (it : Rule). Matches claims (body_of it) facts links chosen equalities)
+      (λ (it : Rule). Matches claims (body_of it) facts links chosen equalities)
       same matches in
       let chosen_is : chosen ≡ found.chosen = same_facts claims (body_of rule) facts links found found_is chosen equalities theirs in
       let m : match_map (body_of other) chosen ≡ taken found.from found.to =

@@ -94,8 +94,11 @@ dropped-flat head place old new within dropped flat = by dropped
     by (inl (retracts, is)) = λ term mentioned.
         let found = thing_at old place within in
         let kept = subst (λ all. Contains all mentioned.0) is mentioned.1 in
-        flat term (mentioned.0, first-among old place found.0 found.1 within mentioned.0 (Contains-rest found.0 (without place old) mentioned.0 kept),
-            mentioned.2)
+        flat term (
+          mentioned.0,
+          first-among old place found.0 found.1 within mentioned.0 (Contains-rest found.0 (without place old) mentioned.0 kept),
+          mentioned.2,
+        )
     by (inr (stays, is)) = subst AreFlat (sym is) flat
 
 -- ---- the loop

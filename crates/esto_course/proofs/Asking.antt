@@ -113,4 +113,4 @@ module _ {E A B : Type 0} (step : ℕ → B → A → Course E B) (items : List 
       let P : List A → Type 0 = λ left. LeadsAsking so_far (each step number given left) to in
       let done : LeadsAsking so_far (gives given) to = subst P (drop_all place items le) leads in
       subst (λ (all : Names). to.asks all (went given)) (append-nil so_far)
-          (done.asks [] (went given) ((quiet_gives E given).goes given (gives_goes E given given refl)))
+      (done.asks [] (went given) ((quiet_gives E given).goes given (gives_goes E given given refl)))

@@ -164,7 +164,7 @@ module _ (case : Case) (entries : List Entry) (used : List Bool) (basis : IsBasi
       ) in
       let named : AreNamedBy entries state.places (facts ++ links) numbers others =
       are_named state.claims state.places lines entries (facts ++ links) (fact_lines case entries used basis lines written state) stand_both facts links left
-          right
+      right
       match.chosen match.stated match.equalities linked adds in
       ended case entries used lines written state numbers others readable may bytes text
       (all_named case entries used basis lines written state whole facts links are_used numbers others named)

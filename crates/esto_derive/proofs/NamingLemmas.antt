@@ -133,7 +133,7 @@ module _ (case : Case) (entries : List Entry) (used : List Bool) (basis : IsBasi
       by : Contains are.stated place ⊎ Contains are.equal place → (number : ℕ) × Contains (facts ++ links) number × (numbered state.places number ≡ Some other)
       by (inl fact) =
           let (number, there, is) = zip_left (λ (place : ℕ) (number : ℕ). numbered state.places number ≡ Some place) are.stated facts are.facts_are place fact
-              in
+          in
           (number, Contains-append_left facts links number there, is ∙ ap Some (sym (names_fact place other number is behind)))
       by (inr link) = let (number, there, is) = are.links_all place other link behind in (number, Contains-append_right facts links number there, is)
 
@@ -172,7 +172,7 @@ module _ (case : Case) (entries : List Entry) (used : List Bool) (basis : IsBasi
         let (later, up_at) = place-from_Contains state.places up written in
         let (line, its_line, (its, its_at, within, says)) = line_at later up up_at in
         let said = step_said entries state.places its.reason line number places (ap (λ (it : Entry). it.reason) (some_one (sym its_at ∙ entry_at)) ∙ is) says
-            in (
+        in (
           later,
           line,
           stands_before state.places state.are_of.rising at later other up other_at up_at

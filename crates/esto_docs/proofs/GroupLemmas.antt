@@ -35,7 +35,7 @@ module _ (rest : Entries) (row : Row) where
 
 pub members_first : (e : Entry) (es : List Entry) (row : Row)
     → members (entries_of (e ∷ es)) row ≡ put (first_name (first_path (entries_of (e ∷ [])))) (first_data (entries_of (e ∷ [])) row)
-        (members (entries_of es) row)
+    (members (entries_of es) row)
 unfolding MakesMembers
 members_first e es row = entry_members (entries_of es) row e
 

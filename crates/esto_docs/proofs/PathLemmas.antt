@@ -42,9 +42,12 @@ one_field k d u (inr h) = absurd h
 
 ends_one : (path : List Step) (d : Data) → NoneBelow path → Leads path (node_of (path_data path d)) (node_of d)
 ends_one [] d h = refl
-ends_one (Name k ∷ path) d h =
-    (node_of (path_data path d), object_kid (member k (path_data path d) no_members) k (node_of (path_data path d)) (inl (refl, refl)), ends_one path d
-        (none_later (Name k) path h))
+ends_one (Name k ∷ path) d h = (
+  node_of (path_data path d),
+  object_kid (member k (path_data path d) no_members) k (node_of (path_data path d)) (inl (refl, refl)),
+  ends_one path d
+      (none_later (Name k) path h),
+)
 ends_one (Item ∷ path) d h = (node_of (path_data path d), array_kid (path_data path d), ends_one path d (none_later Item path h))
 ends_one (Below ∷ path) d h = absurd (h (Contains-head Below path))
 

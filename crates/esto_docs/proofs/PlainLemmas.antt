@@ -109,7 +109,7 @@ mutual
       (fields_depth row columns rest n laid.2 fields.1 (omega (arith, small)))
   fields_depth row columns (group path inner rest) n laid fields small =
       let first = later_depth path (document inner row) (height inner) (has_steps (Name fields.0.0) path fields.0.1)
-          (document_depth row columns inner laid.2 laid.1) in
+      (document_depth row columns inner laid.2 laid.1) in
       put_depth (first_name path) (path_data (later_steps path) (document inner row)) (members rest row) n (omega (arith, first, small))
       (fields_depth row columns rest n laid.3 fields.1 (omega (arith, small)))
 

@@ -103,13 +103,13 @@ row_extended columns es valuation row layout binds size extends =
     same_rows columns (row_of columns valuation) row (row_length columns valuation) size (λ k within.
     let found = some_value (get valuation k) ((binds k).1 (mentioned columns es k layout within)) in
     row_cell columns valuation k within ∙ ap text_of_value found.1 ∙ ap (text_in []) (sym (extends k found.0 found.1)) ∙ text_constant []
-        (text_in row (Plain k))
+    (text_in row (Plain k))
     ∙ text_column row k)
 
 -- The rows of the valuations of one tree are the tree's rows.
 pub found_rows : (columns : ℕ) (es : Entries) (tree : Tree) (found : List Assignment) → IsLayout columns es → AreMatches es (shape tree) found
     → ((valuation : Assignment) → Contains found valuation → BindsVariables es valuation) →
-        ((valuation : Assignment) → Contains found valuation → GivesTexts valuation)
+    ((valuation : Assignment) → Contains found valuation → GivesTexts valuation)
     → (row : Row) → Contains (map (row_of columns) found) row ↔ IsRowOf columns es (tree ∷ []) row
 found_rows columns es tree found layout are binds texts row = (into, from) where
   into : Contains (map (row_of columns) found) row → IsRowOf columns es (tree ∷ []) row
@@ -117,7 +117,7 @@ found_rows columns es tree found layout are binds texts row = (into, from) where
       let (valuation, among, is) = Contains-map_from (row_of columns) found row there in
       let extends = row_extends columns es valuation layout (binds valuation among) (texts valuation among) in
       let matches = (are (row_map (row_of columns valuation)) (λ text. ap Const (text_constant (row_of columns valuation) text))).1
-          (valuation, among, extends) in
+      (valuation, among, extends) in
       (ap length (sym is) ∙ row_length columns valuation, (tree, Contains-head tree [], subst (λ (r : Row). Matches (row_map r) es (shape tree)) is matches))
 
   from : IsRowOf columns es (tree ∷ []) row → Contains (map (row_of columns) found) row
@@ -213,5 +213,5 @@ written_rows columns es rows layout sizes row = (into, from) where
       let agrees = document_into (row_map row) other columns es layout.laid_out layout.together here in
       let same = same_rows columns other row (All-contains (λ (r : Row). length r ≡ columns) rows other sizes there) size (λ k within.
       sym (text_column other k) ∙ sym (same_constant _ _ (agree_at (row_map row) other es (Plain k) agrees (mentioned columns es k layout within))) ∙
-          text_column row k) in
+      text_column row k) in
       subst (Contains rows) same there

@@ -30,7 +30,7 @@ digit_plain d = let h = digit_at_least d in ne_eqb (digit_char d) 10 (λ e. omeg
 -- What stands for a byte in a text.
 escape_cases : (quote backspace page feed carriage tab_byte low : Bool) (x : ℕ) → (quote ≡ true → (x == 10) ≡ false) → (low ≡ false → (x == 10) ≡ false)
     → has_feed (cond (nat_lt 0 (cond quote x (cond backspace 98 (cond page 102 (cond feed 110 (cond carriage 114 (cond tab_byte 116 0)))))))
-        (92 ∷ cond quote x (cond backspace 98 (cond page 102 (cond feed 110 (cond carriage 114 (cond tab_byte 116 0))))) ∷ [])
+    (92 ∷ cond quote x (cond backspace 98 (cond page 102 (cond feed 110 (cond carriage 114 (cond tab_byte 116 0))))) ∷ [])
     (cond low (92 ∷ 117 ∷ 48 ∷ 48 ∷ digit_char (x / 16) ∷ digit_char (x % 16) ∷ []) (x ∷ []))) ≡ false
 escape_cases true b p f c t low x q l = elim (cases_Bool (nat_lt 0 x)) [
   | inl some ↦ rw (some, q refl) refl

@@ -100,7 +100,7 @@ module _ (begins : LinesBeginAnew) (es : Entries) (plain : (row : Row) → IsPla
 pub built_more : (es : Entries) (rows : List Row) (count : ℕ) (values new : List Value) (value : Value) (row : Row)
     → map view values ≡ map (document es) (take count rows)
     → count < length rows → row ≡ get_or rows count row → view value ≡ document es row → new ≡ values ++ value ∷ [] → map view new ≡ map (document es)
-        (take (count + 1) rows)
+    (take (count + 1) rows)
 built_more es rows count values new value row so_far within at is more =
     ap (map view) more ∙ map_push view values value ∙ ap (λ (ds : List Data). ds ++ view value ∷ []) so_far
     ∙ ap (λ (d : Data). map (document es) (take count rows) ++ d ∷ []) (is ∙ ap (document es) at)
@@ -129,7 +129,7 @@ pub array_written : (es : Entries) → ((row : Row) → IsPlain (document es row
     → HasWritten Array (map (document es) rows) text
 array_written es plain rows d line text is e r u more =
     let json : json_of text ≡ Some (array (items_of (map (document es) rows))) = array_json d line text (array_texts es plain rows d is).0 e r u more ∙ ap
-        Some is in
+    Some is in
     record {
       written = more ∙ ap with_feed (e ∙ ap compact_text is);
       read = ap trees_of_array json ∙ items_trees (map (document es) rows);

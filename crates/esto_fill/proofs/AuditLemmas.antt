@@ -92,7 +92,7 @@ module _ (rules : List Rule) (names : List (List Name)) (facts : List (Fact Term
           records_one (body_of two.rule) two.own one.m two.m two.places cells its
               (subst (IsMatch one.m (body_of two.rule) facts) places active.matches) two.active.matches
               (subst (λ (it : Rule). IsRecordOf two.own (body_of it) one.m cells) same
-                  (subst (λ those. IsRecordOf those (body_of one.rule) one.m cells) own one.shown))
+              (subst (λ those. IsRecordOf those (body_of one.rule) one.m cells) own one.shown))
               two.shown,
         )
     | inr (inl less) ↦ absurd (broken_before stand are flat number other cells its one two less)

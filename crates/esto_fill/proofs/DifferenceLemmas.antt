@@ -73,7 +73,7 @@ pub rule_broken : (stand : RulesStand) (least : LeastActiveIsLeast) (facts : Lis
     → IsFirstBroken (rules_of rules) (map written rules) facts number cells
 rule_broken stand least facts stands rules are place number constraint valuation places cells counted there broken shown =
     let same : rule_of constraint ≡ broken.rule = same_Some (rule_of constraint) broken.rule
-        (sym (map_at rule_of rules place constraint there) ∙ broken.there) in
+    (sym (map_at rule_of rules place constraint there) ∙ broken.there) in
     let active = least broken.rule facts valuation places broken.active in
     record {
       place = place;

@@ -92,9 +92,9 @@ forest_flat above n (kid label content inside_it rest) fact inside = elim (Conta
                   | inl there ↦ holding_flat content n fact there
                   | inr others ↦ elim (Contains-append_cases (facts_from (n ∷ above) (suc n) inside_it) (facts_from above (suc n + size inside_it) rest) fact
                       others) [
-                    | inl there ↦ forest_flat (n ∷ above) (suc n) inside_it fact there
-                    | inr there ↦ forest_flat above (suc n + size inside_it) rest fact there
-                  ]
+                        | inl there ↦ forest_flat (n ∷ above) (suc n) inside_it fact there
+                        | inr there ↦ forest_flat above (suc n + size inside_it) rest fact there
+                      ]
                 ]
           ]
     ]

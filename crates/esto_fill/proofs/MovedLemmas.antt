@@ -304,7 +304,7 @@ module _ (datasets : List Dataset) where
     | inr later ↦ tail_stands first head files facts own others its file at_its
         (pairs_head (λ one other. one.dataset ≢ other.dataset) head files apart file later)
         whole (stands (first + nodes_in its head.bytes) files others next (pairs_tail (λ one other. one.dataset ≢ other.dataset) head files apart) rest file
-            later)
+        later)
   ]
 
   -- each fact is one of a file's own

@@ -31,8 +31,12 @@ pub told : (term : Term) → IsTold term
 told term = term_cases IsTold
     (λ text. inl (text, refl))
     (λ number. inr (number, value_Plain number, λ (text, is). Const-apart-Plain text number (sym is)))
-    (λ rule variable frontier. inr (rule, ap value_by_kind (outs-Made rule variable frontier), λ (text, is). Const-apart-Made text rule variable frontier
-        (sym is)))
+    (λ rule variable frontier. inr (
+      rule,
+      ap value_by_kind (outs-Made rule variable frontier),
+      λ (text, is). Const-apart-Made text rule variable frontier
+          (sym is),
+    ))
     term
 
 -- a term with an unnamed value is no constant

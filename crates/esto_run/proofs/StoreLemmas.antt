@@ -63,7 +63,7 @@ rows_wide kind width taken number (cells ∷ rest) none row inside =
     by : (same : Bool) → (length cells == width) ≡ same
         → (if same then (if are_texts (taken cells) then first_fault kind width taken (number + 1) rest else Some (fault_at NotUtf8 number))
         else Some (fault_at kind number)) ≡ None → (first_fault kind width taken (number + 1) rest ≡ None → Contains rest row → length row ≡ width) → length
-            row ≡ width
+        row ≡ width
     by true is passed again = later (are_texts (taken cells)) passed (eqb-true (length cells) width is) again
     by false is passed again = absurd (none-some _ (sym passed))
 

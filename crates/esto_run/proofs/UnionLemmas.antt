@@ -43,10 +43,10 @@ grows_on first old new grown more = (grown.0 ++ more.0, more.1 ∙ ap (λ them. 
 
 -- The rows are the answers of the queries so far, and texts have come after the first ones.
 pub record AreAnswersSoFar (first now : List (List ℕ)) (stored : List StoredRows) (arity : ℕ) (rows : CodedRows) (queries : List ConjunctiveQuery) : Type 0
-    where
-  pub grown : Grows first now
-  pub wide : rows.arity ≡ arity
-  pub codes : AreCodesOfAll now rows.rows (IsAnswerOfOne (IsStoredRow first stored) queries)
+  where
+    pub grown : Grows first now
+    pub wide : rows.arity ≡ arity
+    pub codes : AreCodesOfAll now rows.rows (IsAnswerOfOne (IsStoredRow first stored) queries)
 
 pub none_so_far : (first : List (List ℕ)) (stored : List StoredRows) (arity : ℕ) → AreAnswersSoFar first first stored arity
     (record { arity = arity; rows = [] }) []

@@ -249,8 +249,14 @@ module _ (numbers firsts : List ℕ) (are : AreFirsts numbers firsts) (next : �
   -- a number of the list stands first where it did
   within_list : (number place : ℕ) → Contains numbers number → StandsFirst (numbers ++ next ∷ []) number place
       → (place < length numbers) × StandsFirst numbers number place
-  within_list number place inside first = (below, record { here = here; least = λ lesser less at. first.least lesser less
-      (at_left numbers (next ∷ []) lesser number at) })
+  within_list number place inside first = (
+    below,
+    record {
+      here = here;
+      least = λ lesser less at. first.least lesser less
+          (at_left numbers (next ∷ []) lesser number at);
+    },
+  )
     where
       there : (own : ℕ) × (slice_get numbers own ≡ Some number)
       there = place-from_Contains numbers number inside
@@ -379,7 +385,7 @@ pub one_seen : (picks : List Pick) (index : ℕ) (pick : Pick) → index < lengt
     → map candidate_of (take (index + 1) picks) ≡ map candidate_of (take index picks) ++ candidate_of pick ∷ []
 one_seen picks index pick below is =
     ap (map candidate_of) (take_more picks index pick below ∙ ap (λ it. take index picks ++ it ∷ []) (sym is)) ∙ map-append candidate_of (take index picks)
-        (pick ∷ [])
+    (pick ∷ [])
 
 pub picks_step : (picks : List Pick) (index : ℕ) (pick : Pick) (old new : List ℕ) → index < length picks → pick ≡ get_or picks index pick
     → ((numbers : List ℕ) → AreFirsts numbers old → AreFirsts (numbers ++ fragments_of (candidate_of pick).body) new)

@@ -23,7 +23,6 @@ use Rattle.esto_semantics.specs.ListedLaws.{ChosenAreNamed}
 use Rattle.esto_semantics.specs.Queries.{ConjunctiveQuery, IsAnswer}
 use Rattle.esto_semantics.specs.Rules.{Meets}
 use Rattle.esto_semantics.specs.declared.fact.Fact.{Fact}
-use Rattle.esto_semantics.specs.declared.fact.Value.{Value}
 use Rattle.esto_semantics.specs.declared.fact.Value.TheVariants.{Text}
 use Rattle.esto_stores.specs.Rows.{Row}
 use Rattle.esto_term.specs.declared.term.Term.{Term}
@@ -170,9 +169,6 @@ file_not_above asked count said (has_fault name fault is) other =
     let h : status.BadFragment name fault ≡ status.NoSuchNumber asked count = sym is ∙ other in cc
 
 -- ---- the rows
-
-    more : (value other : Value) (rest others : List Value) → value ∷ rest ≡ other ∷ others → rest ≡ others
-    more value other rest others same = cc
 
 -- the answers of a query over files rest on the contents of those that it uses
 pub over_same : (stores : List Store) (contents others : ℕ → List ℕ) (query : ConjunctiveQuery)

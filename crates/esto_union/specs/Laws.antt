@@ -56,7 +56,7 @@ pub record ArePicks (catalogue : Catalogue) (queries : List Query) (others : Lis
 abbrev pub PicksAreRewriting : Type 0
 PicksAreRewriting =
     (catalogue : Catalogue) (queries : List Query) (others : List ConjunctiveQuery) → ArePicks catalogue queries others → AreRewritingOf catalogue queries
-        others
+    others
 
 -- So over each database that meets the rules they have together exactly the union's answers.
 abbrev pub PicksAnswerUnion : Type 0

@@ -16,7 +16,7 @@ pub lines-preserved : goal.lines-preserved
 lines-preserved c = (
   claims_on (λ part. part.now) (case_of c.args.case.now) c.lines.claims c.args.parts.now c.lines.place c.lines.invariant.0 _ c.lines-test.true
       c.items.result.now c.in_ok-claim.field-0 c.items.ensures c.in_ok-claim.ensures (omega (arith, c.lines-test.true, c.if-place-parts.false))
-          c.in-Claims.claim c.in-Claims.is
+      c.in-Claims.claim c.in-Claims.is
       c.push.new.self c.in_ok-push-in-Claims.ensures.ok,
   inr (omega (arith, c.lines-test.true, c.if-place-parts.false)),
 )
@@ -29,7 +29,7 @@ pub returns-in-Ends : goal.returns-in-Ends
 returns-in-Ends c =
     ends_at (λ part. part.now) (case_of c.args.case.now) c.lines.claims c.args.parts.now c.lines.place c.lines.invariant.0 _ c.lines-test.true
     c.items.result.now c.in_ok-claim.field-0 c.items.ensures c.in_ok-claim.ensures (omega (arith, c.lines-test.true, c.if-place-parts.false)) c.in-Ends.is
-        c.after_end.result
+    c.after_end.result
     (c.after_end.ensures ∙ ap (λ it. after_end (c.lines.place + 1) (map (λ part. part.now) it))
     (take_all (length c.args.parts.now - (c.lines.place + 1)) (drop (c.lines.place + 1) c.args.parts.now)
     (omega (arith, length-drop (c.lines.place + 1) c.args.parts.now))))

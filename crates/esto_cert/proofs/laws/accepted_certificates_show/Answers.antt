@@ -12,6 +12,6 @@ returns c plan fragments set rules query bytes over (expanded, exact, expands, f
     let case = case_for plan set rules query expanded in
     let (entries, are, matched) = walked case _ 1 [] [] (nothing case) decides in
     c.matched_sets_are_contained.ensures (rules_of rules) fragments plan expanded entries set (query_of query) are_rules (c.plans_are_sound.ensures plan)
-        expands
+    expands
     are.derived (c.derived_entries_are_sound.ensures.sound expanded (rules_of rules) entries are_rules flat are.derived set) over
     (c.queries_are_sound.ensures query).query matched

@@ -21,7 +21,7 @@ pub returns-in_err-text-clause-asked : goal.returns-in_err-text-clause-asked
 returns-in_err-text-clause-asked g c =
     handed_asks _ _ _ c.from_residual-in_err-text.ensures.1
     (later_asks _ _ c.in_ok-bytes.ensures.asked (quiet_asks (judges_certificate c.args.catalogue.now c.args.query.now c.args.plan.now c.args.set.now
-        c.in_ok-bytes.bytes) _ (Err _) (quiet_judges _ _) c.in_err-text.ensures))
+    c.in_ok-bytes.bytes) _ (Err _) (quiet_judges _ _) c.in_err-text.ensures))
 
 pub returns-clause-answer : goal.returns-clause-answer
 returns-clause-answer g c = then_goes _ _ c.in_ok-bytes.bytes c.in_ok-text.text c.in_ok-bytes.ensures.answer c.in_ok-text.ensures
@@ -29,4 +29,4 @@ returns-clause-answer g c = then_goes _ _ c.in_ok-bytes.bytes c.in_ok-text.text 
 pub returns-clause-asked : goal.returns-clause-asked
 returns-clause-asked g c =
     later_asks _ _ c.in_ok-bytes.ensures.asked (quiet_asks (judges_certificate c.args.catalogue.now c.args.query.now c.args.plan.now c.args.set.now
-        c.in_ok-bytes.bytes) _ (Ok c.in_ok-text.text) (quiet_judges _ _) c.in_ok-text.ensures)
+    c.in_ok-bytes.bytes) _ (Ok c.in_ok-text.text) (quiet_judges _ _) c.in_ok-text.ensures)

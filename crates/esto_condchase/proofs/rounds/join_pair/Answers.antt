@@ -14,5 +14,5 @@ returns-in_ok-join_with-in-Same-2-clause-grows c rules =
 pub returns-in_ok-join_with-in-Same-2-clause-joined : goal.returns-in_ok-join_with-in-Same-2-clause-joined
 returns-in_ok-join_with-in-Same-2-clause-joined c =
     pair_joined c.args.entries.now _ _ c.args.first_entry.now c.args.second_entry.now c.in-Same.left c.in-Same.right c.in-Same.is
-        (c.in_ok-join_with-in-Same-2.ensures.grows []).kept
+    (c.in_ok-join_with-in-Same-2.ensures.grows []).kept
     c.in_ok-join_with-in-Same.ensures.joined c.in_ok-join_with-in-Same-2.ensures.joined

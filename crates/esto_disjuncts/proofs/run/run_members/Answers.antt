@@ -52,7 +52,7 @@ returns-in_err-picks-clause-answer g c =
     at_exit _ _ c.from_residual-in_err-picks.result c.from_residual-in_err-picks.ensures.1
     (choice_stops (g.S.Shelf.files c.args.shelf.now) c.args.catalogue.now c.args.queries.now c.args.number c.args.members.now some
     (subst (λ (them : List Member). Stops IsWant (IsCaused ⊥) (chooses_each them c.args.number) c.in_err-picks.field-0.0) c.items.ensures
-        c.in_err-picks.ensures.refusal))
+    c.in_err-picks.ensures.refusal))
 
 pub returns-in_err-picks-clause-asked : goal.returns-in_err-picks-clause-asked
 returns-in_err-picks-clause-asked g c =
@@ -61,7 +61,7 @@ returns-in_err-picks-clause-asked g c =
     (choice_asks (g.S.Shelf.files c.args.shelf.now) c.args.catalogue.now c.args.queries.now c.args.number c.args.members.now some
     (g.S.Shelf.asked c.args.shelf.now) _
     (subst (λ (them : List Member). Stops IsWant (IsCaused ⊥) (chooses_each them c.args.number) c.in_err-picks.field-0.0) c.items.ensures
-        c.in_err-picks.ensures.refusal))
+    c.in_err-picks.ensures.refusal))
 
 pub run_picks-requires-clause-runnable : goal.run_picks-requires-clause-runnable
 run_picks-requires-clause-runnable g c = λ pick inside.

@@ -73,4 +73,4 @@ put_node-returns-in_ok-inner-in-Items-clause-rising t c =
 pub put_node-returns-in_ok-inner-in-Items-clause-next : goal.put_node-returns-in_ok-inner-in-Items-clause-next
 put_node-returns-in_ok-inner-in-Items-clause-next t c =
     row_next _ c.put_items.result _ (items_inside c.args.tree.now c.in-Items.items c.in-Items.is) c.args.number _ c.in_ok-next.ensures
-        (rw c.items-in-Items.ensures at c.put_items.ensures.next)
+    (rw c.items-in-Items.ensures at c.put_items.ensures.next)

@@ -13,7 +13,7 @@ use Rattle.esto_docmodel.proofs.matches.rows_of.Goals as goal
 pub returns-clause-rows : goal.returns-clause-rows
 returns-clause-rows c = IfOk-weaker c.answers.result _ _
     (λ rows told. are_rows (entries_of c.args.pattern.now.entries) (shape c.args.tree.now) c.args.variables.now c.requires.variables
-        c.in_ok-encoded.encoded.facts
+    c.in_ok-encoded.encoded.facts
     c.in_ok-query.query.body
     (c.in_ok-encoded.ensures.facts ∙ ap (λ (trees : List Tree). facts_of 0 0 (documents trees)) c.from_ref.ensures.value) c.in_ok-query.ensures.body
     rows

@@ -31,6 +31,6 @@ fields_of-members-preserved t c =
       c.members.invariant.1 ∙ ap (λ es. gone ++ es) c.in-Some.ensures.steps ∙ sym (append_assoc gone (e ∷ []) c.next.new.self),
       c.in_ok-push.ensures.ok
           ∙ fields_go c.members.fields (fields_of (members_view gone)) _ _ _ _ c.members.invariant.2 (c.in_ok-name.ensures ∙ c.as_str.ensures.value)
-              c.in_ok-tree.ensures
+          c.in_ok-tree.ensures
           ∙ sym (fields_push gone e),
     )

@@ -10,11 +10,11 @@ returns-in-Array c =
     let es = entries_of c.args.pattern.now.entries in
     let bytes = c.args.bytes.now in
     subst (λ (l : Layout). Opens (IsRowOf c.args.columns es (file_trees l bytes)) (trees_fault l bytes) c.open_array.result) (sym c.in-Array.is)
-        c.open_array.ensures
+    c.open_array.ensures
 
 pub returns-in-Lines : goal.returns-in-Lines
 returns-in-Lines c =
     let es = entries_of c.args.pattern.now.entries in
     let bytes = c.args.bytes.now in
     subst (λ (l : Layout). Opens (IsRowOf c.args.columns es (file_trees l bytes)) (trees_fault l bytes) c.open_lines.result) (sym c.in-Lines.is)
-        c.open_lines.ensures
+    c.open_lines.ensures

@@ -15,7 +15,7 @@ returns-in-Ok c =
     let es = entries_of c.args.pattern.now.entries in
     let d : Data = view (Array c.in_ok-documents_of.field-0) in
     let is : d ≡ array (items_of (map (document es) c.args.rows.now)) = view-Array c.in_ok-documents_of.field-0 ∙ ap (λ ds. array (items_of ds))
-        c.in_ok-documents_of.ensures in
+    c.in_ok-documents_of.ensures in
     let plain = array_texts es c.requires c.args.rows.now d is in
     array_written es c.requires c.args.rows.now d (string_bytes c.in-Ok.line) c.append.new.self is (c.in-Ok.ensures.text (no_float d plain.0))
     (c.in-Ok.ensures.reads_back plain.1) (IsUtf8-string_bytes c.in-Ok.line)

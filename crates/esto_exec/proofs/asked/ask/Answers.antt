@@ -37,15 +37,15 @@ pub returns-clause-kept : goal.returns-clause-kept
 returns-clause-kept g c =
     on_ok_weaker c.push_asked.result
     (λ grown. ask_kept c.args.asked.now.rows c.push_asked.new.asked.rows
-        (filter (holds_all (inputs_with c.args.get.now.inputs c.items-3.result.now)) (g.F.Fragment.rows c.args.fragment.now))
-            (ap (λ (it : CodedRows). it.rows) grown))
+    (filter (holds_all (inputs_with c.args.get.now.inputs c.items-3.result.now)) (g.F.Fragment.rows c.args.fragment.now))
+    (ap (λ (it : CodedRows). it.rows) grown))
     c.push_asked.ensures
 
 pub returns-clause-sound : goal.returns-clause-sound
 returns-clause-sound g c =
     on_ok_weaker c.push_asked.result
     (λ grown. ask_sound c.args.asked.now.rows c.push_asked.new.asked.rows
-        (filter (holds_all (inputs_with c.args.get.now.inputs c.items-3.result.now)) (g.F.Fragment.rows c.args.fragment.now))
+    (filter (holds_all (inputs_with c.args.get.now.inputs c.items-3.result.now)) (g.F.Fragment.rows c.args.fragment.now))
     (ap (λ (it : CodedRows). it.rows) grown) (g.F.Fragment.rows c.args.fragment.now) (inputs_with c.args.get.now.inputs c.items-3.result.now)
     refl)
     c.push_asked.ensures
@@ -54,7 +54,7 @@ pub returns-clause-answered : goal.returns-clause-answered
 returns-clause-answered g c =
     on_ok_weaker c.push_asked.result
     (λ grown. ask_answered c.args.asked.now.rows c.push_asked.new.asked.rows
-        (filter (holds_all (inputs_with c.args.get.now.inputs c.items-3.result.now)) (g.F.Fragment.rows c.args.fragment.now))
+    (filter (holds_all (inputs_with c.args.get.now.inputs c.items-3.result.now)) (g.F.Fragment.rows c.args.fragment.now))
     (ap (λ (it : CodedRows). it.rows) grown) (g.F.Fragment.rows c.args.fragment.now) (inputs_with c.args.get.now.inputs c.items-3.result.now)
     refl
     c.args.get.now c.items-3.result.now refl c.args.seen.now.rows c.put.new.self.rows
@@ -65,7 +65,7 @@ pub returns-clause-complete : goal.returns-clause-complete
 returns-clause-complete g c =
     on_ok_weaker c.push_asked.result
     (λ grown. ask_complete c.args.asked.now.rows c.push_asked.new.asked.rows
-        (filter (holds_all (inputs_with c.args.get.now.inputs c.items-3.result.now)) (g.F.Fragment.rows c.args.fragment.now))
+    (filter (holds_all (inputs_with c.args.get.now.inputs c.items-3.result.now)) (g.F.Fragment.rows c.args.fragment.now))
     (ap (λ (it : CodedRows). it.rows) grown) (g.F.Fragment.rows c.args.fragment.now) (inputs_with c.args.get.now.inputs c.items-3.result.now)
     refl
     c.args.get.now c.items-3.result.now refl c.args.seen.now.rows c.args.cells.now c.args.sources.now c.requires.sources

@@ -29,7 +29,7 @@ returns-in-Less c =
     let at_own = slice_get_read others (length others) c.rows.place own refl c.if-place-others.false c.index-others-place.is in
     let less : row_cmp row own ≡ Less =
     sym (c.compare_terms.ensures ∙ ap (λ it. row_cmp it c.items-in-rows.result.now) c.items.ensures ∙ ap (row_cmp row) c.items-in-rows.ensures) ∙ c.in-Less.is
-        in (
+    in (
       row,
       at,
       is_apart rows others c.requires.rows c.rows.place row at c.rows.invariant
@@ -46,7 +46,7 @@ returns-in-Greater c =
     let at_own = slice_get_read others (length others) c.rows.place own refl c.if-place-others.false c.index-others-place.is in
     let more : row_cmp row own ≡ Greater =
     sym (c.compare_terms.ensures ∙ ap (λ it. row_cmp it c.items-in-rows.result.now) c.items.ensures ∙ ap (row_cmp row) c.items-in-rows.ensures) ∙
-        c.in-Greater.is in (
+    c.in-Greater.is in (
       own,
       at_own,
       is_apart others rows c.requires.others c.rows.place own at_own (turned row_cmp row_cmp_total rows others c.rows.place c.rows.invariant)
@@ -63,7 +63,7 @@ rows-preserved c =
     let at_own = slice_get_read others (length others) c.rows.place own refl c.if-place-others.false c.index-others-place.is in
     let equal : row_cmp row own ≡ Equal =
     sym (c.compare_terms.ensures ∙ ap (λ it. row_cmp it c.items-in-rows.result.now) c.items.ensures ∙ ap (row_cmp row) c.items-in-rows.ensures) ∙
-        c.in-Equal.is in
+    c.in-Equal.is in
     one_below row_cmp row_cmp_total rows others c.rows.place (at ∙ ap Some (row_cmp_exact row own equal) ∙ sym at_own) c.rows.invariant
 
 pub returns-then-rows-others : goal.returns-then-rows-others

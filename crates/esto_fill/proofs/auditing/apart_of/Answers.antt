@@ -25,7 +25,7 @@ returns-in-Some-Missing c =
       c.in_ok-copy-in-Some-Missing.ensures,
       missing_least (IsAnswer query (database_of facts)) own images c.requires.texts c.args.rows.now held c.in_ok-held.ensures.rows c.in-Some-Missing.place
           c.item.result.now c.in_ok-row-in-Some-Missing.row (c.in_ok-row-in-Some-Missing.ensures ∙ ap (map text_of) c.items-in-Some-Missing.ensures)
-              c.item.ensures
+          c.item.ensures
           (subst (λ (those : List (List Term)). IsApartAt those held (apart.Missing c.in-Some-Missing.place)) c.items.ensures
           (subst (λ (those : List (List Term)). IsApartAt c.items.result.now those (apart.Missing c.in-Some-Missing.place)) c.items-2.ensures
           (subst (IsApartAt c.items.result.now c.items-2.result.now) c.in-Some-Missing.field-0-is c.in-Some-Missing.ensures))),

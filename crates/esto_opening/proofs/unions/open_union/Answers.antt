@@ -15,7 +15,7 @@ returns-in_err-bytes-clause-asked g c = handed_asks _ _ _ c.from_residual.ensure
 pub returns-clause-answer : goal.returns-clause-answer
 returns-clause-answer g c =
     then_answers_still _ _ (Rises g.S.Shelf.faults c.args.shelf.now c.fetch.new.shelf) c.in_ok-bytes.bytes c.union_of.result c.in_ok-bytes.ensures.answer
-        c.union_of.ensures.answer
+    c.union_of.ensures.answer
 
 pub returns-clause-asked : goal.returns-clause-asked
 returns-clause-asked g c =

@@ -15,7 +15,7 @@ returns-in-Table c =
     let bytes = c.args.bytes.now in
     let names = c.in-Table.names in
     subst (λ (it : Shape). GivesRows (IsRowIn it bytes) (first_fault_in it (length c.args.fragment.now.view.head) bytes) c.open_table.result)
-        (sym c.in-Table.is)
+    (sym c.in-Table.is)
     (gives_rows (table_rows names bytes) (table_fault names bytes) c.open_table.result c.open_table.ensures)
 
 pub open_documents-requires : goal.open_documents-requires

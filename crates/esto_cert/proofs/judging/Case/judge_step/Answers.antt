@@ -14,7 +14,7 @@ returns c = (
       c.body_of.ensures c.in_ok-it.ensures c.in-Some-2.is
       (ap (λ (it : List Term). made_at c.args.place (c.args.number - 1) (rule_of c.in-Some.rule.now) (taken it c.in-Some-2.it.to)) (sym c.items-from.ensures)
       ∙ ap (λ (it : List Term). made_at c.args.place (c.args.number - 1) (rule_of c.in-Some.rule.now) (taken c.items-from.result.now it))
-          (sym c.items-to.ensures)
+      (sym c.items-to.ensures)
       ∙ sym c.in_ok-claim.ensures ∙ c.in-None.is) claim it.0 it.1 it.2.0 it.2.1 it.2.2 it.2.3),
   (λ wrong. wrong),
 )
