@@ -71,7 +71,8 @@ fn renaming_of(
 
 /// Renamings under which one term stands for two exactly where the equalities link them.
 pub fn renamings_of(alloc: Global, equalities: &[Equality]) -> Result<Equalities, OutOfMemory>
-    ensures { IfOk result (λ it. (facts : List (Fact Term)) → Tells it (IsAmong facts equalities.now)) }
+    ensures { IfOk result (λ it.
+        (facts : List (Fact Term)) → Tells it (IsAmong facts equalities.now)) }
 {
     let mut renamings = List::new(alloc);
     'equalities: for equality in equalities {

@@ -39,7 +39,4 @@ explains_read files query_name number catalogue =
 -- The catalogue is fetched and read, then the query, and a certificate is written.
 abbrev pub explain_course : Option Files → List ℕ → List ℕ → ℕ → Course Status Reply
 explain_course files catalogue_name query_name number =
-    and_then (opens_catalogue files catalogue_name) (λ catalogue.
-    and_then (opens_query files query_name catalogue) (λ query.
-    and_then (explains_query number catalogue query) (λ text.
-    gives (Done text))))
+    and_then (opens_catalogue files catalogue_name) (explains_read files query_name number)

@@ -71,7 +71,4 @@ verifies_read files query_name numbers file catalogue =
 -- The catalogue is fetched and read, then the query, and the certificate is verified.
 abbrev pub verify_course : Option Files → List ℕ → List ℕ → List ℕ → List ℕ → Course Status Reply
 verify_course files catalogue_name query_name numbers file =
-    and_then (opens_catalogue files catalogue_name) (λ catalogue.
-    and_then (opens_query files query_name catalogue) (λ query.
-    and_then (verifies_query files numbers file catalogue query) (λ text.
-    gives (Done text))))
+    and_then (opens_catalogue files catalogue_name) (verifies_read files query_name numbers file)

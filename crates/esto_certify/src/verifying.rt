@@ -133,7 +133,8 @@ fn verify_read<S: Shelf>(
     numbers: &[u64],
     file: &Text,
 ) -> Result<Reply, Status>
-    ensures answer { Answers (verifies_read (S.files shelf.old) query.now numbers.now file.now catalogue.now)
+    ensures answer { Answers
+        (verifies_read (S.files shelf.old) query.now numbers.now file.now catalogue.now)
         (Rises S.faults shelf.old shelf.new) result }
     ensures asked { AsksIn (S.asked shelf.old) (S.asked shelf.new)
         (verifies_read (S.files shelf.old) query.now numbers.now file.now catalogue.now) result }

@@ -31,7 +31,8 @@ fn add_coded(
 ) -> Result<(), OutOfMemory>
     requires { length row.now ≡ coded.old.arity }
     ensures arity { OnOk result (coded.new.arity ≡ coded.old.arity) }
-    ensures coded { OnOk result ((rows : List (List (List ℕ))) → AreCodedRows codes.old coded.old.rows rows
+    ensures coded { OnOk result ((rows : List (List (List ℕ)))
+        → AreCodedRows codes.old coded.old.rows rows
         → AreCodedRows codes.new coded.new.rows (rows ++ row.now ∷ [])) }
     ensures grown { Grows codes.old codes.new }
 {

@@ -311,13 +311,13 @@ pub pair_joined : (entries one two : List Entry) (x y : Entry) (left right : Ter
     → ((entry : Entry) → Contains one entry → Contains two entry)
     → IsJoinedWith (entries ++ one) left right x.product y → IsJoinedWith (entries ++ two) right left x.product y
     → IsPairJoined (entries ++ two) x y
-pair_joined entries one two x y left right is kept joined_one joined_two s t u (inl a) b =
+pair_joined entries one two x y left right is kept joined_one joined_two s t (inl a) u b =
     let both : Same left right ≡ Same s t = sym is ∙ a in
     let begin : left ≡ s = cc in
     let meet : right ≡ t = cc in
     subst (λ it. IsThere (entries ++ two) (Same it u) (united x.product y.product)) begin
     (IsThere-grows entries one two kept (Same left u) (united x.product y.product) (joined_one u (subst (λ it. Links y.claim it u) (sym meet) b)))
-pair_joined entries one two x y left right is kept joined_one joined_two s t u (inr a) b =
+pair_joined entries one two x y left right is kept joined_one joined_two s t (inr a) u b =
     let both : Same left right ≡ Same t s = sym is ∙ a in
     let begin : right ≡ s = cc in
     let meet : left ≡ t = cc in
@@ -325,8 +325,8 @@ pair_joined entries one two x y left right is kept joined_one joined_two s t u (
 
 pub IsPairJoined-grows : (entries more later : List Entry) (x y : Entry) → ((entry : Entry) → Contains more entry → Contains later entry)
     → IsPairJoined (entries ++ more) x y → IsPairJoined (entries ++ later) x y
-IsPairJoined-grows entries more later x y kept joined s t u a b = IsThere-grows entries more later kept (Same s u) (united x.product y.product)
-    (joined s t u a b)
+IsPairJoined-grows entries more later x y kept joined s t a u b = IsThere-grows entries more later kept (Same s u) (united x.product y.product)
+    (joined s t a u b)
 
 pub pairs_turn : (entries more later : List Entry) (x : Entry) (place : ℕ) (y : Entry) → place < length entries → y ≡ get_or entries place y
     → ((entry : Entry) → Contains more entry → Contains later entry)
@@ -371,7 +371,7 @@ all_joined entries more pairs atoms s t u one two = by one two
     by (inr it) (inr its) =
         let a = linked s t it in
         let b = linked t u its in
-        pairs a.0 b.0 a.1 b.1 s t u a.3 b.3 atoms (λ number has. elim ((has_united a.0.product b.0.product number).0 has) [
+        pairs a.0 b.0 a.1 b.1 s t a.3 u b.3 atoms (λ number has. elim ((has_united a.0.product b.0.product number).0 has) [
           | inl here ↦ a.2 number here
           | inr
               there ↦ b.2 number there

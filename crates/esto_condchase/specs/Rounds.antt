@@ -39,7 +39,7 @@ pub record Grows (rules : List Rule) (count : ℕ) (entries more later : List En
 abbrev pub IsThere : List Entry → Claim → List Bool → Type 0
 IsThere entries claim product = (atoms : List Bool) → Within product atoms → IsCovered (InWorld entries atoms) claim
 
--- The entry is that of the expanded fact: it states it, with the one atom and by its place.
+-- The entry is that of the expanded fact: it states the fact, its product is the fact's atom alone, and its reason names the atom and the fact's place.
 pub record IsEntryOf (fact : ExpandedFact) (entry : Entry) : Type 0 where
   pub states : entry.claim ≡ Stated fact.fact
   pub only : (number : ℕ) → Has entry.product number ↔ (number ≡ fact.atom)
@@ -65,7 +65,7 @@ IsRuleAnswered old new number rule =
 abbrev pub LinksAt : List Entry → ℕ → Entry → Term → Term → Type 0
 LinksAt entries place entry term other = (slice_get entries place ≡ Some entry) × Links entry.claim term other
 
--- What an entry links to where a link leads is there, from where the link begins.
+-- What a link and an entry link one after the other is there, with both products.
 abbrev pub IsJoinedWith : List Entry → Term → Term → List Bool → Entry → Type 0
 IsJoinedWith entries from to product second =
     (other : Term) → Links second.claim to other → IsThere entries (Same from other) (united product second.product)
@@ -73,5 +73,4 @@ IsJoinedWith entries from to product second =
 -- What two entries link one after the other is there.
 abbrev pub IsPairJoined : List Entry → Entry → Entry → Type 0
 IsPairJoined entries first second =
-    (term next other : Term) → Links first.claim term next → Links second.claim next other
-    → IsThere entries (Same term other) (united first.product second.product)
+    (term next : Term) → Links first.claim term next → IsJoinedWith entries term next first.product second

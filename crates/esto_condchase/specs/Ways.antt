@@ -22,8 +22,8 @@ abbrev pub Links : Claim → Term → Term → Type 0
 Links claim term other = (claim ≡ Same term other) ⊎ (claim ≡ Same other term)
 
 -- The way that has matched nothing.
-abbrev pub unbegun : ℕ → Way
-unbegun count = record { to = []; facts = []; links = []; product = replicate count false }
+abbrev pub empty_way : ℕ → Way
+empty_way count = record { to = []; facts = []; links = []; product = replicate count false }
 
 -- The way with one more term met.
 abbrev pub met : Way → Term → Way
@@ -68,7 +68,7 @@ pub record AreRows (entries : List Entry) (from terms owns : List Term) (start :
 abbrev pub IsAlike : Fact Term → Fact Term → Type 0
 IsAlike atom fact = (fact.relation ≡ atom.relation) × (length fact.terms ≡ length atom.terms)
 
--- The ways go on from one through the claim of an entry at a place, with that product, where it is a fact that is alike to the atom; else there is none.
+-- The ways are those that go on from one, where the claim of the entry at a place, with that product, is a fact alike to the atom; else there is none.
 abbrev pub AreThrough : List Entry → List Term → Fact Term → Way → ℕ → List Bool → Claim → List Way → Type 0
 AreThrough entries from atom before place product (Stated fact) ways =
     (IsAlike atom fact × AreRows entries from atom.terms fact.terms (begun before place product) ways) ⊎ ((IsAlike atom fact → ⊥) × (ways ≡ []))

@@ -4,10 +4,10 @@ ghost use Rattle.esto_semantics.specs.Sets.{Covers};
 ghost use Rattle.esto_world_laws.specs.Laws.{HasMatch};
 ghost use Rattle.esto_world_laws.specs.Steps.{AreJoined};
 ghost use Rattle.esto_world_laws.specs.Worlds.{InWorld, AreOfCount};
-ghost use Rattle.esto_condchase.specs.Ways.{unbegun, AreCounted, AreRows};
+ghost use Rattle.esto_condchase.specs.Ways.{empty_way, AreCounted, AreRows};
 
 use crate::matching::Matching;
-use crate::ways::{Way, through_row, unbegun};
+use crate::ways::{Way, empty_way, through_row};
 use esto_bits::Products;
 use esto_semantics::Atom;
 use esto_term::{List, OutOfMemory, Term, Terms};
@@ -25,11 +25,11 @@ fn first_ways(
     requires heads { length targets.now ≡ length head.now }
     requires counts { AreOfCount count entries.now }
     ensures rows { IfOk result
-        (λ ways. AreRows entries.now [] head.now targets.now (unbegun count) ways) }
+        (λ ways. AreRows entries.now [] head.now targets.now (empty_way count) ways) }
     ensures counted { IfOk result (λ ways. AreCounted count ways) }
 {
     let none = List::new(alloc);
-    let start = unbegun(alloc, count)?;
+    let start = empty_way(alloc, count)?;
     let ways = through_row(alloc, entries, &none, head.items(), targets, &start, count)?;
     Ok(ways)
 }

@@ -4,7 +4,7 @@ ghost use Rattle.esto_world_laws.specs.Derived.{Claims};
 ghost use Rattle.esto_world_laws.specs.declared.entry.Claim.TheVariants.{Fact as Stated};
 ghost use Rattle.esto_world_laws.specs.Matches.{taken};
 ghost use Rattle.esto_world_laws.specs.Worlds.{AreOfCount};
-ghost use Rattle.esto_condchase.specs.Ways.{AreCounted, Links, unbegun, met, met_by, begun, AreLonger, AreRows, AreThrough, AreMatched, AreFound};
+ghost use Rattle.esto_condchase.specs.Ways.{AreCounted, Links, empty_way, met, met_by, begun, AreLonger, AreRows, AreThrough, AreMatched, AreFound};
 ghost use Rattle.esto_condchase.specs.declared.ways.Way.{Way};
 
 use crate::taking::to_meet;
@@ -25,8 +25,8 @@ pub struct Way {
 }
 
 /// The way that has matched nothing.
-pub fn unbegun(alloc: Global, count: usize) -> Result<Way, OutOfMemory>
-    ensures { IfOk result (λ it. it ≡ unbegun count) }
+pub fn empty_way(alloc: Global, count: usize) -> Result<Way, OutOfMemory>
+    ensures { IfOk result (λ it. it ≡ empty_way count) }
 {
     let product = RowBits::new(alloc, count)?;
     Ok(Way {
@@ -396,7 +396,7 @@ pub fn matches_of(
     ensures found { IfOk result (λ ways. AreFound entries.now body.now ways) }
     ensures counted { IfOk result (λ ways. AreCounted count ways) }
 {
-    let mut ways = only(alloc, unbegun(alloc, count)?)?;
+    let mut ways = only(alloc, empty_way(alloc, count)?)?;
     let mut from = List::new(alloc);
     'atoms: for atom in body {
         match_next(alloc, entries, atom, count, &mut from, &mut ways)?;

@@ -42,9 +42,7 @@ answers_facts queries facts =
 -- The datasets that one of the queries names are loaded, and the text of the answers of their union is the reply.
 abbrev pub answers_union : Option Files → Catalogue → List Query → Course Status Reply
 answers_union files catalogue queries =
-    and_then (loads files catalogue.datasets (OneNames (map query_of queries))) (λ facts.
-    and_then (lists_texts (IsUnionAnswerOfFacts queries facts)) (λ rows.
-    gives (Done (union_rows_text queries rows))))
+    and_then (loads files catalogue.datasets (OneNames (map query_of queries))) (answers_facts queries)
 
 -- The union of queries is fetched and read, and it is answered.
 abbrev pub answers_read : Option Files → List ℕ → Catalogue → Course Status Reply
@@ -52,7 +50,4 @@ answers_read files query_name catalogue = and_then (opens_union files query_name
 
 -- The catalogue is fetched and read, then the union of queries, and it is answered.
 abbrev pub answer_course : Option Files → List ℕ → List ℕ → Course Status Reply
-answer_course files catalogue_name query_name =
-    and_then (opens_catalogue files catalogue_name) (λ catalogue.
-    and_then (opens_union files query_name catalogue) (λ queries.
-    answers_union files catalogue queries))
+answer_course files catalogue_name query_name = and_then (opens_catalogue files catalogue_name) (answers_read files query_name)

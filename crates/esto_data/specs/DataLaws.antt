@@ -5,7 +5,7 @@ use Rattle.esto_fill.specs.Laws.{AuditsAreOne, FactsAreOne, FillsAreOne, Judgeme
 use Rattle.esto_semantics.specs.Rules.{IsRule}
 use Rattle.esto_opening.specs.Alike.{CataloguesOpenAlike, FragmentOpensAlike, FragmentsOpenAlike, StoresHaveOneContent, StoresHaveOneFault, StoresHaveOneFile, UnionsOpenAlike}
 
--- The same files say the same, and what they say has one outcome each: facts, answers, judgements, filled files and audits.
+-- Constraints are rules; the same files say the same; and what they say has one outcome each: facts, answers, judgements, filled files and audits.
 pub record DataLaws : Type 0 where
   pub rules : (constraint : Constraint) → IsRule (rule_of constraint)
   pub catalogues : CataloguesOpenAlike

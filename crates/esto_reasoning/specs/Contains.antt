@@ -66,8 +66,4 @@ compares_both files left_name right_name catalogue =
 -- The catalogue is fetched and read, then the left query, then the right one, and the text of what is told of them is the reply.
 abbrev pub contains_course : Option Files → List ℕ → List ℕ → List ℕ → Course Status Reply
 contains_course files catalogue_name left_name right_name =
-    and_then (opens_catalogue files catalogue_name) (λ catalogue.
-    and_then (opens_query files left_name catalogue) (λ left.
-    and_then (opens_query files right_name catalogue) (λ right.
-    and_then (compares catalogue left right) (λ text.
-    gives (Done text)))))
+    and_then (opens_catalogue files catalogue_name) (compares_both files left_name right_name)

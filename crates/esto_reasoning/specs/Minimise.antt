@@ -58,7 +58,4 @@ minimises_read files query_name catalogue =
 -- The catalogue is fetched and read, then the query, and the text of what it is minimised to is the reply.
 abbrev pub minimise_course : Option Files → List ℕ → List ℕ → Course Status Reply
 minimise_course files catalogue_name query_name =
-    and_then (opens_catalogue files catalogue_name) (λ catalogue.
-    and_then (opens_query files query_name catalogue) (λ query.
-    and_then (minimises catalogue query) (λ text.
-    gives (Done text))))
+    and_then (opens_catalogue files catalogue_name) (minimises_read files query_name)

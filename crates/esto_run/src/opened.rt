@@ -21,8 +21,9 @@ use std::alloc::Global;
 pub fn no_rows(alloc: Global, fragments: &FragmentDefs) -> Result<FragmentRows, OutOfMemory>
     ensures none { IfOk result (λ it. it ≡ map unopened fragments.now) }
     ensures rows { IfOk result (AreRowsFor fragments.now) }
-    ensures opened { IfOk result
-        (λ it. (stores : List Store) (files : ℕ → List ℕ) → AreOpened stores files [] (rows_held it)) }
+    ensures opened { IfOk result (λ it.
+        (stores : List Store) (files : ℕ → List ℕ)
+        → AreOpened stores files [] (rows_held it)) }
 {
     let mut stored = List::new(alloc);
     'fragments: for fragment in fragments.items() {

@@ -55,7 +55,8 @@ fn add_answers(
         → AreCodesOfAll codes.old rows.old.rows
         (IsAnswerOfOne (IsStoredRow codes.old stored.now) queries)
         → AreCodesOfAll codes.new rows.new.rows
-        (IsAnswerOfOne (IsStoredRow codes.old stored.now) (queries ++ candidate_of pick.now ∷ []))) }
+        (IsAnswerOfOne (IsStoredRow codes.old stored.now)
+        (queries ++ candidate_of pick.now ∷ []))) }
 {
     let own = coded_answers(alloc, pick.order, pick.plan, fragments, stored, codes)?;
     append_rows(alloc, &own, rows)?;

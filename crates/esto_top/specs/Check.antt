@@ -36,4 +36,4 @@ prints_check catalogue = gives (Done (check_text catalogue))
 
 -- The catalogue is fetched and read, and its text is the reply.
 abbrev pub check_course : Option Files → List ℕ → Course Status Reply
-check_course files name = and_then (opens_catalogue files name) (λ catalogue. gives (Done (check_text catalogue)))
+check_course files name = and_then (opens_catalogue files name) prints_check

@@ -35,8 +35,4 @@ lists_read files query_name catalogue =
 
 -- The catalogue is fetched and read, then the queries, and the text of their list is the reply.
 abbrev pub list_course : Option Files → List ℕ → List ℕ → Course Status Reply
-list_course files catalogue_name query_name =
-    and_then (opens_catalogue files catalogue_name) (λ catalogue.
-    and_then (opens_union files query_name catalogue) (λ queries.
-    and_then (lists_queries catalogue queries) (λ text.
-    gives (Done text))))
+list_course files catalogue_name query_name = and_then (opens_catalogue files catalogue_name) (lists_read files query_name)

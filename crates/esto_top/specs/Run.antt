@@ -56,7 +56,7 @@ has_no_answers query clash = gives (Unsatisfiable clash (rows_text query []))
 -- A plan is run. A query whose run ends with a clash has no answers, and the names of its head alone are the text.
 abbrev pub runs_end : Option Files → Catalogue → Query → Option ℕ → Either Plan Clash → Course Status Reply
 runs_end files catalogue query number (Left plan) = runs_plan files catalogue query number plan
-runs_end files catalogue query number (Right clash) = gives (Unsatisfiable clash (rows_text query []))
+runs_end files catalogue query number (Right clash) = has_no_answers query clash
 
 -- The query is chased, and its plan is run.
 abbrev pub runs_query : Option Files → Catalogue → Query → Option ℕ → Course Status Reply
@@ -76,6 +76,4 @@ runs_read files query_name number catalogue =
 -- The catalogue is fetched and read, then the queries, and they are run.
 abbrev pub run_course : Option Files → List ℕ → List ℕ → Option ℕ → Course Status Reply
 run_course files catalogue_name query_name number =
-    and_then (opens_catalogue files catalogue_name) (λ catalogue.
-    and_then (opens_union files query_name catalogue) (λ queries.
-    runs_queries files catalogue queries number))
+    and_then (opens_catalogue files catalogue_name) (runs_read files query_name number)

@@ -130,7 +130,7 @@ fn run_queries<S: Shelf>(
     }
 }
 
-// Fetches and reads the queries, and runs one of them, or the union of more.
+// Fetches and reads the queries, and runs one, or the union of more.
 #[tactic(auto, using(crate::proofs::Steps::run_steps, crate::proofs::Steps::asked_steps))]
 fn run_read<S: Shelf>(
     alloc: Global,

@@ -8,8 +8,8 @@ use Rattle.esto_condchase.proofs.ways.matches_of.Goals as goal
 
 pub atoms-init : goal.atoms-init
 atoms-init c =
-    let way : Way = c.in_ok-unbegun.field-0 in
-    let is = c.in_ok-unbegun.ensures in
+    let way : Way = c.in_ok-empty_way.field-0 in
+    let is = c.in_ok-empty_way.ensures in
     let are = c.in_ok-ways.ensures in
     record {
       found = found_none c.args.entries.now c.in_ok-ways.ways way are (ap (λ (it : Way). it.to) is) (ap (λ (it : Way). it.facts) is)
