@@ -39,7 +39,6 @@ use Rattle.esto_term.proofs.ListLemmas.{Contains-filter, Contains-flat, Contains
 use Rattle.esto_term.specs.declared.term.Term.{Term}
 use Rattle.esto_union.specs.Unions.{queries_of}
 use Rattle.esto_views.specs.Fragments.{views_of}
-use Rattle.esto_fill.proofs.FilledLemmas.{same_texts}
 use Rattle.esto_opening.proofs.UnionLemmas.{itself}
 use Rattle.esto_opening.proofs.StatusLemmas.{done_not_clash, same_clash}
 use Rattle.esto_disjuncts.specs.Exact.{HasNoRewriting, HaveAnswers}
@@ -65,6 +64,9 @@ texts_back : (row : Row) → map value_text (map Text row) ≡ row
 unfolding value_text
 texts_back [] = refl
 texts_back (text ∷ row) = ap (λ rest. text ∷ rest) (texts_back row)
+
+same_texts : (row other : Row) → map Text row ≡ map Text other → row ≡ other
+same_texts row other same = sym (texts_back row) ∙ ap (map value_text) same ∙ texts_back other
 
 module _ (answer : RunsAnswerUnions) (catalogue : Catalogue) (queries : List Query) (number : Option ℕ) (members : List Member)
     (are : AreMembersOf catalogue queries members) (others : List ConjunctiveQuery) (chosen : AreChosen number members others) where
