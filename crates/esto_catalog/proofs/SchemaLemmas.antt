@@ -3,7 +3,7 @@ use Rattle.std.proofs.Common.{◌≡◌, ◌≢◌, ◌<◌, ◌≤◌, ◌+◌,
 use Rattle.std.proofs.Math.ListN.{get_or-append}
 use Rattle.std.proofs.Math.Seq.{get_or-append_seam}
 use Rattle.std.specs.Prelude.{Contains, All, AllPairs, slice_get}
-use Rattle.std.proofs.lemmas.List.{append_assoc, map-append, take-append-drop, take_all, take_more}
+use Rattle.std.proofs.lemmas.List.{append-nil, append_assoc, map-append, take-append-drop, take_more}
 use Rattle.std.proofs.lemmas.List.Elements.{Contains-append_cases, Contains-get_or, Contains-push}
 use Rattle.std.proofs.lemmas.Option.{slice_get_within}
 use Rattle.esto_query.specs.Schemas.{IsArity, IsSchema, arities_of, names_of}
@@ -95,46 +95,82 @@ pub schema_step : (datasets : List Dataset) (index : ℕ) (dataset : Dataset) �
 schema_step datasets index dataset below is =
     ap schema_of (take_more datasets index dataset below ∙ ap (λ d. take index datasets ++ d ∷ []) (sym is)) ∙ schema_more (take index datasets) dataset
 
-pub schema_more_step : (datasets : List Dataset) (index : ℕ) (dataset : Dataset) (schema relations after : List Relation) → index < length datasets
-    → dataset ≡ get_or datasets index dataset → schema ≡ schema_of (take index datasets) → relations ≡ relations_of dataset → after ≡ schema ++ relations
+pub schema_more_step : (datasets : List Dataset) (index : ℕ) (dataset : Dataset) (schema after : List Relation) → index < length datasets
+    → dataset ≡ get_or datasets index dataset → schema ≡ schema_of (take index datasets) → after ≡ schema ++ relations_of dataset
     → after ≡ schema_of (take (index + 1) datasets)
-schema_more_step datasets index dataset schema relations after below is so_far own at =
-    at ∙ (λ i. so_far i ++ own i) ∙ sym (schema_step datasets index dataset below is)
+schema_more_step datasets index dataset schema after below is so_far at =
+    at ∙ ap (λ it. it ++ relations_of dataset) so_far ∙ sym (schema_step datasets index dataset below is)
 
-pub schema_turn : (datasets : List Dataset) (index : ℕ) (dataset : Dataset) (schema relations : List Relation) → AreDatasets datasets → index < length datasets
-    → dataset ≡ get_or datasets index dataset → schema ≡ schema_of (take index datasets) → relations ≡ relations_of dataset → IsSchema (schema ++ relations)
-schema_turn datasets index dataset schema relations are below is so_far own =
+pub schema_turn : (datasets : List Dataset) (index : ℕ) (dataset : Dataset) (schema : List Relation) → AreDatasets datasets → index < length datasets
+    → dataset ≡ get_or datasets index dataset → schema ≡ schema_of (take index datasets) → IsSchema (schema ++ relations_of dataset)
+schema_turn datasets index dataset schema are below is so_far =
     let whole : schema_of datasets ≡ schema_of (take (index + 1) datasets) ++ schema_of (drop (index + 1) datasets) =
     ap schema_of (sym (take-append-drop (index + 1) datasets)) ∙ schema_append (take (index + 1) datasets) (drop (index + 1) datasets) in
     let front = first_schema (schema_of (take (index + 1) datasets)) (schema_of (drop (index + 1) datasets)) (subst IsSchema whole (datasets_schema datasets
     are)) in
-    let here : schema ++ relations ≡ schema_of (take (index + 1) datasets) =
-    (λ i. so_far i ++ own i) ∙ sym (schema_step datasets index dataset below is) in
+    let here : schema ++ relations_of dataset ≡ schema_of (take (index + 1) datasets) =
+    ap (λ it. it ++ relations_of dataset) so_far ∙ sym (schema_step datasets index dataset below is) in
     subst IsSchema (sym here) front
 
--- a turn of the loop over relations that make a schema with those before
-module _ (schema relations : List Relation) (index : ℕ) (relation : Relation) (name : List ℕ) (now : List Relation) (below : index < length relations)
-    (at : relation ≡ get_or relations index relation) (copied : name ≡ relation.name) (so_far : now ≡ schema ++ take index relations) where
-  abbrev one_more : List Relation
-  one_more = now ++ record { name = name; arity = relation.arity } ∷ []
+-- relations that are added one after another: those before, and the first ones
+added : (schema now after front : List Relation) (relation : Relation) → now ≡ schema ++ front → after ≡ now ++ relation ∷ []
+    → after ≡ schema ++ (front ++ relation ∷ [])
+added schema now after front relation so_far is = is ∙ ap (λ it. it ++ relation ∷ []) so_far ∙ append_assoc schema front (relation ∷ [])
 
-  pub relation_step : (after : List Relation) → after ≡ one_more → after ≡ schema ++ take (index + 1) relations
-  relation_step after is =
-      is ∙ ap (λ (n : List ℕ). now ++ record { name = n; arity = relation.arity } ∷ []) copied ∙ ap (λ it. it ++ relation ∷ []) so_far
-      ∙ append_assoc schema (take index relations) (relation ∷ [])
-      ∙ ap (λ it. schema ++ it) (sym (take_more relations index relation below ∙ ap (λ r. take index relations ++ r ∷ []) (sym at)))
+fits : (schema now front rest : List Relation) (relation : Relation) → now ≡ schema ++ front → IsSchema (schema ++ (front ++ relation ∷ rest))
+    → IsSchema (now ++ relation ∷ [])
+fits schema now front rest relation so_far is =
+    let whole : (now ++ relation ∷ []) ++ rest ≡ schema ++ (front ++ relation ∷ rest) =
+    append_assoc now (relation ∷ []) rest ∙ ap (λ it. it ++ relation ∷ rest) so_far ∙ append_assoc schema front (relation ∷ rest) in
+    first_schema (now ++ relation ∷ []) rest (subst IsSchema (sym whole) is)
 
-  pub relation_turn : IsSchema (schema ++ relations) → IsSchema one_more
-  relation_turn is =
-      let whole : schema ++ relations ≡ (schema ++ take (index + 1) relations) ++ drop (index + 1) relations =
-      ap (λ it. schema ++ it) (sym (take-append-drop (index + 1) relations))
-      ∙ sym (append_assoc schema (take (index + 1) relations) (drop (index + 1) relations)) in
-      subst IsSchema (sym (relation_step one_more refl))
-      (first_schema (schema ++ take (index + 1) relations) (drop (index + 1) relations) (subst IsSchema whole is))
+-- the relations of a collection of documents, added one after another
+module _ (name : List ℕ) (schema : List Relation) (is : IsSchema (schema ++ model_relations name 0 Documents)) where
+  abbrev root : Relation
+  root = part name (codes "root") 1
 
-pub relation_end : (schema relations : List Relation) (index : ℕ) (now : List Relation) → length relations ≤ index → now ≡ schema ++ take index relations
-    → now ≡ schema ++ relations
-relation_end schema relations index now most so_far = so_far ∙ ap (λ it. schema ++ it) (take_all index relations most)
+  abbrev field : Relation
+  field = part name (codes "field") 3
+
+  abbrev item : Relation
+  item = part name (codes "item") 2
+
+  abbrev value : Relation
+  value = part name (codes "value") 2
+
+  abbrev below : Relation
+  below = part name (codes "below") 2
+
+  pub root_fits : IsSchema (schema ++ root ∷ [])
+  root_fits = fits schema schema [] (field ∷ item ∷ value ∷ below ∷ []) root (sym (append-nil schema)) is
+
+  module _ (one : List Relation) (root_added : one ≡ schema ++ root ∷ []) where
+    pub field_fits : IsSchema (one ++ field ∷ [])
+    field_fits = fits schema one (root ∷ []) (item ∷ value ∷ below ∷ []) field root_added is
+
+    module _ (two : List Relation) (field_added : two ≡ one ++ field ∷ []) where
+      two_are : two ≡ schema ++ (root ∷ field ∷ [])
+      two_are = added schema one two (root ∷ []) field root_added field_added
+
+      pub item_fits : IsSchema (two ++ item ∷ [])
+      item_fits = fits schema two (root ∷ field ∷ []) (value ∷ below ∷ []) item two_are is
+
+      module _ (three : List Relation) (item_added : three ≡ two ++ item ∷ []) where
+        three_are : three ≡ schema ++ (root ∷ field ∷ item ∷ [])
+        three_are = added schema two three (root ∷ field ∷ []) item two_are item_added
+
+        pub value_fits : IsSchema (three ++ value ∷ [])
+        value_fits = fits schema three (root ∷ field ∷ item ∷ []) (below ∷ []) value three_are is
+
+        module _ (four : List Relation) (value_added : four ≡ three ++ value ∷ []) where
+          four_are : four ≡ schema ++ (root ∷ field ∷ item ∷ value ∷ [])
+          four_are = added schema three four (root ∷ field ∷ item ∷ []) value three_are value_added
+
+          pub below_fits : IsSchema (four ++ below ∷ [])
+          below_fits = fits schema four (root ∷ field ∷ item ∷ value ∷ []) [] below four_are is
+
+          pub all_added : (five : List Relation) → five ≡ four ++ below ∷ [] → five ≡ schema ++ model_relations name 0 Documents
+          all_added five below_added = added schema four five (root ∷ field ∷ item ∷ value ∷ []) below four_are below_added
 
 -- a relation that comes last in a schema has a new name, and is not too wide
 pub is_new : (schema : List Relation) (relation : Relation) → IsSchema (schema ++ relation ∷ []) → ¬ Contains (names_of schema) relation.name

@@ -6,7 +6,7 @@ ghost use Rattle.esto_read.specs.declared.words.DataModel.{DataModel};
 ghost use Rattle.esto_catalog.specs.Scope.{IsScope};
 
 use crate::dataset::{Dataset, Datasets};
-use esto_query::{Relation, Schema, SchemaError};
+use esto_query::{Schema, SchemaError};
 use esto_read::{DataModel, Vocabulary, Word};
 use esto_term::{List, OutOfMemory, Replicate, Text};
 use std::alloc::Global;
@@ -29,60 +29,6 @@ fn part_name(alloc: Global, name: &Text, own: &str) -> Result<Text, OutOfMemory>
     Text::from_str(alloc, text.as_str())
 }
 
-// The relation of a part of a dataset.
-fn part(alloc: Global, name: &Text, own: &str, arity: usize) -> Result<Relation, OutOfMemory>
-    ensures { IfOk result (λ it. it ≡ part name.now own.now arity) }
-{
-    let name = part_name(alloc, name, own)?;
-    Ok(Relation { name, arity })
-}
-
-// The relation of a table of so many columns.
-fn of_table(alloc: Global, name: &Text, columns: usize) -> Result<List<Relation>, OutOfMemory>
-    ensures { IfOk result (λ it. it ≡ model_relations name.now columns DataModel.Table) }
-{
-    let name = name.copy(alloc)?;
-    let mut relations = List::new(alloc);
-    relations.push(Relation {
-        name,
-        arity: columns,
-    })?;
-    Ok(relations)
-}
-
-// The relations of a collection of documents.
-fn of_documents(alloc: Global, name: &Text) -> Result<List<Relation>, OutOfMemory>
-    ensures { IfOk result (λ it. it ≡ model_relations name.now 0 DataModel.Documents) }
-{
-    let mut relations = List::new(alloc);
-    relations.push(part(alloc, name, "root", 1)?)?;
-    relations.push(part(alloc, name, "field", 3)?)?;
-    relations.push(part(alloc, name, "item", 2)?)?;
-    relations.push(part(alloc, name, "value", 2)?)?;
-    relations.push(part(alloc, name, "below", 2)?)?;
-    Ok(relations)
-}
-
-// The relation of a key-value set.
-fn of_keys(alloc: Global, name: &Text) -> Result<List<Relation>, OutOfMemory>
-    ensures { IfOk result (λ it. it ≡ model_relations name.now 0 DataModel.Keys) }
-{
-    let mut relations = List::new(alloc);
-    relations.push(part(alloc, name, "pair", 3)?)?;
-    Ok(relations)
-}
-
-// The relations of a dataset, in order.
-fn relations_of(alloc: Global, dataset: &Dataset) -> Result<List<Relation>, OutOfMemory>
-    ensures { IfOk result (λ it. it ≡ relations_of dataset.now) }
-{
-    match dataset.model {
-        DataModel::Table => of_table(alloc, &dataset.name, dataset.columns.len()),
-        DataModel::Documents => of_documents(alloc, &dataset.name),
-        DataModel::Keys => of_keys(alloc, &dataset.name),
-    }
-}
-
 // Adds a relation.
 fn add(schema: &mut Schema, name: Text, arity: usize) -> Result<(), OutOfMemory>
     requires { IsSchema (schema.old ++ record { name = name; arity = arity } ∷ []) }
@@ -97,15 +43,59 @@ fn add(schema: &mut Schema, name: Text, arity: usize) -> Result<(), OutOfMemory>
     }
 }
 
-// Adds relations, in order.
-fn add_all(alloc: Global, schema: &mut Schema, relations: &[Relation]) -> Result<(), OutOfMemory>
-    requires { IsSchema (schema.old ++ relations.now) }
-    ensures { OnOk result (schema.new ≡ schema.old ++ relations.now) }
+// Adds the relation of a table of so many columns.
+fn add_table(
+    alloc: Global,
+    schema: &mut Schema,
+    name: &Text,
+    columns: usize,
+) -> Result<(), OutOfMemory>
+    requires { IsSchema (schema.old ++ model_relations name.now columns DataModel.Table) }
+    ensures { OnOk result
+        (schema.new ≡ schema.old ++ model_relations name.now columns DataModel.Table) }
 {
-    'relations: for relation in relations {
-        add(schema, relation.name.copy(alloc)?, relation.arity)?;
+    let name = name.copy(alloc)?;
+    add(schema, name, columns)
+}
+
+// Adds the relation of a part of a dataset.
+fn add_part(
+    alloc: Global,
+    schema: &mut Schema,
+    name: &Text,
+    own: &str,
+    arity: usize,
+) -> Result<(), OutOfMemory>
+    requires { IsSchema (schema.old ++ part name.now own.now arity ∷ []) }
+    ensures { OnOk result (schema.new ≡ schema.old ++ part name.now own.now arity ∷ []) }
+{
+    let name = part_name(alloc, name, own)?;
+    add(schema, name, arity)
+}
+
+// Adds the relations of a collection of documents.
+fn add_documents(alloc: Global, schema: &mut Schema, name: &Text) -> Result<(), OutOfMemory>
+    requires { IsSchema (schema.old ++ model_relations name.now 0 DataModel.Documents) }
+    ensures { OnOk result
+        (schema.new ≡ schema.old ++ model_relations name.now 0 DataModel.Documents) }
+{
+    add_part(alloc, schema, name, "root", 1)?;
+    add_part(alloc, schema, name, "field", 3)?;
+    add_part(alloc, schema, name, "item", 2)?;
+    add_part(alloc, schema, name, "value", 2)?;
+    add_part(alloc, schema, name, "below", 2)
+}
+
+// Adds the relations of a dataset, in order.
+fn add_relations(alloc: Global, schema: &mut Schema, dataset: &Dataset) -> Result<(), OutOfMemory>
+    requires { IsSchema (schema.old ++ relations_of dataset.now) }
+    ensures { OnOk result (schema.new ≡ schema.old ++ relations_of dataset.now) }
+{
+    match dataset.model {
+        DataModel::Table => add_table(alloc, schema, &dataset.name, dataset.columns.len()),
+        DataModel::Documents => add_documents(alloc, schema, &dataset.name),
+        DataModel::Keys => add_part(alloc, schema, &dataset.name, "pair", 3),
     }
-    Ok(())
 }
 
 // The relations of the datasets.
@@ -115,8 +105,7 @@ fn schema_of(alloc: Global, datasets: &[Dataset]) -> Result<Schema, OutOfMemory>
 {
     let mut schema = Schema::new(alloc);
     'datasets: for dataset in datasets {
-        let relations = relations_of(alloc, dataset)?;
-        add_all(alloc, &mut schema, relations.items())?;
+        add_relations(alloc, &mut schema, dataset)?;
     }
     Ok(schema)
 }
