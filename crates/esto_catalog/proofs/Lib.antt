@@ -1,4 +1,5 @@
 pub mod RowLemmas
+pub mod WholeLemmas
 pub mod NameLemmas
 pub mod LeastLemmas
 pub mod DatasetLemmas
@@ -7,6 +8,7 @@ pub mod EncodingLemmas
 pub mod LayoutLemmas
 pub mod ShapeLemmas
 pub mod AccessLemmas
+pub mod FragmentLemmas
 pub mod WalkLemmas
 pub mod OneLemmas
 pub mod ColumnLemmas

@@ -2,13 +2,13 @@
 use Rattle.std.proofs.Common.{◌≡◌, ◌<◌, ◌≤◌, ℕ, List, length, Bor, Option, Some, None, option_copied, subst, arith, Bool, true, false, not, Result, Ok, Err, inl, inr, refl, sym, ◌∙◌}
 use Rattle.std.proofs.lemmas.Bool.{false≢true}
 use Rattle.std.specs.Prelude.{◌↔◌, MatchOption}
-use Rattle.std.specs.Result.{IsErrAnd}
+use Rattle.std.specs.Result.{IfErr, IsErrAnd}
 use Rattle.esto_course.proofs.Steps.{at_exit, first_stops, then_stops, then_goes, gives_goes}
-use Rattle.esto_course.specs.Course.{Course, judges, gives, refuses, demands, Stops}
+use Rattle.esto_course.specs.Course.{Course, judges, gives, refuses, demands, and_then, Stops}
 use Rattle.esto_course.specs.Course.Stops.{is_free, refused}
 use Rattle.esto_catalog.specs.Rows.{IsWant, IsAny, IsFault, Walks, fault_at, top}
-use Rattle.esto_catalog.specs.Whole.{reads_section}
-use Rattle.esto_catalog.specs.declared.fault.CatalogueKind.TheVariants.{TooMany}
+use Rattle.esto_catalog.specs.Whole.{entries_of, reads_section}
+use Rattle.esto_catalog.specs.declared.fault.CatalogueKind.TheVariants.{TooMany, WrongType}
 use Rattle.esto_settings.specs.declared.setting.Field.{Field}
 use Rattle.esto_settings.specs.declared.setting.Setting.{Setting}
 use Rattle.esto_catalog.specs.declared.fault.CatalogueError.{CatalogueError}
@@ -19,6 +19,18 @@ use Rattle.esto_catalog.specs.declared.whole.TheConstants.{MAX_ENTRIES}
 pub row_exit : {A : Type 0} (course : Course CatalogueError A) (error : CatalogueError) (result : Result A CatalogueError)
     → IsErrAnd result (λ handed. handed ≡ error) → Stops IsWant IsAny course error → Walks course result
 row_exit course error result handed stops = at_exit course error result handed stops
+
+-- what is said of an error that `?` hands on
+pub error_exit : {A : Type 0} (P : CatalogueError → Type 0) (error : CatalogueError) (result : Result A CatalogueError)
+    → IsErrAnd result (λ handed. handed ≡ error) → P error → IfErr result P
+error_exit P error (Ok value) handed holds = tt
+error_exit P error (Err other) handed holds = subst P (sym handed) holds
+
+-- a row that goes on, and then what follows
+pub then_walks : {A B : Type 0} (first : Course CatalogueError A) (next : A → Course CatalogueError B) (value : A) (result : Result B CatalogueError)
+    → first.goes value → Walks (next value) result → Walks (and_then first next) result
+then_walks first next value (Ok more) goes walks = then_goes first next value more goes walks
+then_walks first next value (Err error) goes walks = then_stops first next value goes walks
 
 -- want of memory is free
 pub memory_stops : {A : Type 0} (course : Course CatalogueError A) (error : CatalogueError) → error ≡ OutOfMemory → Stops IsWant IsAny course error
@@ -99,9 +111,9 @@ judges_stops accepts refuses fault error refused_so (inr want) = is_free want
 -- ---- a section
 
 pub section_goes : (key : List ℕ) (section : Option (List (List Field))) (entries : List (List Field)) → section ≡ Some entries
-    → length entries ≤ MAX_ENTRIES → (reads_section key section).goes entries
+    → length entries ≤ MAX_ENTRIES → (reads_section key section).goes (entries_of section)
 section_goes key section entries is few =
-    subst (λ (s : Option (List (List Field))). (reads_section key s).goes entries) (sym is)
+    subst (λ (s : Option (List (List Field))). (reads_section key s).goes (entries_of s)) (sym is)
     (then_goes (demands (length entries ≤ MAX_ENTRIES) (fault_at TooMany top key)) (λ _. gives entries) tt entries
     (demands_goes (length entries ≤ MAX_ENTRIES) (fault_at TooMany top key) tt few) (gives_goes CatalogueError entries entries refl))
 
@@ -112,6 +124,11 @@ section_stops key section entries error is many fault =
     subst (λ (s : Option (List (List Field))). Stops IsWant IsAny (reads_section key s) error) (sym is)
     (first_stops (demands (length entries ≤ MAX_ENTRIES) (fault_at TooMany top key)) (λ _. gives entries)
     (demands_stops (length entries ≤ MAX_ENTRIES) (fault_at TooMany top key) error (λ few. absurd (omega arith)) fault))
+
+pub section_absent : (key : List ℕ) (section : Option (List (List Field))) (error : CatalogueError) → section ≡ None → IsFault (fault_at WrongType top key) error
+    → Stops IsWant IsAny (reads_section key section) error
+section_absent key section error is fault =
+    subst (λ (s : Option (List (List Field))). Stops IsWant IsAny (reads_section key s) error) (sym is) (refuses_stops _ _ error fault)
 
 -- a setting by reference
 pub copied_setting : (found : Option (Bor Setting)) (setting : Option Setting) → MatchOption found (setting ≡ None) (λ it. setting ≡ Some it.now)

@@ -9,21 +9,22 @@ use Rattle.esto_acyclic.specs.Relations.{AreNamesOf, HasRelation, IsEdge}
 use Rattle.esto_acyclic.specs.declared.relations.Cycle.{Cycle}
 use Rattle.esto_constraint.specs.Constraints.{rule_of, rules_of}
 use Rattle.esto_constraint.specs.declared.rule.Constraint.{Constraint}
-use Rattle.esto_course.proofs.Steps.{Leads, first_stops, then_goes, gives_goes, turn_next, turn_stops}
-use Rattle.esto_course.specs.Course.{Course, Stops, gives, each}
+use Rattle.esto_course.proofs.Steps.{Leads, first_stops, stops_more, then_goes, gives_goes, turn_next, turn_stops}
+use Rattle.esto_course.specs.Course.{Course, Stops, and_then, judges, gives, each}
 use Rattle.esto_query.specs.Schemas.{IsSchema, arities_of}
 use Rattle.esto_query.specs.declared.schema.Relation.{Relation}
 use Rattle.esto_semantics.specs.Rules.{Rule, tuple}
 use Rattle.esto_semantics.specs.WellFormed.{AreOver, IsRuleOver}
 use Rattle.esto_semantics.specs.declared.fact.Fact.{Fact}
 use Rattle.esto_term.specs.declared.term.Term.{Term}
+use Rattle.esto_catalog.proofs.EncodingLemmas.{given_most}
 use Rattle.esto_catalog.proofs.SchemaLemmas.{datasets_schema}
-use Rattle.esto_catalog.specs.Datasets.{IsDataset, schema_of, words_of}
+use Rattle.esto_catalog.specs.Datasets.{IsDataset, reads_datasets, schema_of, words_of}
 use Rattle.esto_catalog.specs.Scope.{IsScope}
 use Rattle.esto_catalog.specs.declared.scope.Scope.{Scope}
 use Rattle.esto_catalog.specs.Constraints.{adds_constraint, reads_constraint, reads_constraints}
 use Rattle.esto_catalog.specs.Fragments.{adds_fragment, reads_fragment, reads_fragments, with_fragment, no_fragments, stored_fragment}
-use Rattle.esto_catalog.specs.Reading.{IsCycleOf, is_acyclic}
+use Rattle.esto_catalog.specs.Reading.{AreRankedOf, IsCycleOf, IsMadeOf, reads_parts, reads_sections}
 use Rattle.esto_catalog.specs.Rows.{IsWant, IsAny}
 use Rattle.esto_catalog.specs.declared.catalogue.Catalogue.{Catalogue}
 use Rattle.esto_catalog.specs.Soundness.{AreSoundRules, AreSoundFragments, IsShapeFor, IsSoundCatalogue, IsSoundFragment, IsSoundStored, IsSoundView}
@@ -35,6 +36,8 @@ use Rattle.esto_catalog.specs.declared.fault.Place.{Place}
 use Rattle.esto_catalog.specs.declared.fault.Section.TheVariants as section
 use Rattle.esto_catalog.specs.declared.fragment.Fragments.{Fragments}
 use Rattle.esto_catalog.specs.declared.fragment.Stored.{Stored}
+use Rattle.esto_catalog.specs.declared.walk.Ranked.{Ranked}
+use Rattle.esto_catalog.specs.declared.whole.Sections.{Sections}
 use Rattle.esto_settings.specs.declared.setting.Field.{Field}
 use Rattle.esto_read.specs.Constraints.{IsConstraintReading, IsConstraintFault}
 use Rattle.esto_read.specs.Readings.{IsReading, IsFirstFault}
@@ -101,37 +104,31 @@ module _ (version : Version) (datasets : List Dataset) (entries : List (List Fie
       turn_stops (adds_constraint version datasets) entries to index rules leads item below is error
       (first_stops (reads_constraint version rule_place datasets item) (λ r. gives (rules ++ r ∷ [])) here)
 
--- a turn of the loop over the entries of fragments
-module _ (datasets : List Dataset) (entries : List (List Field)) (to : Course CatalogueError Fragments) (index : ℕ) (fragments : Fragments)
-    (leads : Leads (each (adds_fragment datasets) (suc index) fragments (drop index entries)) to) (item : List Field) (below : index < length entries)
-    (is : item ≡ get_or entries index item)
-    (place : Place) (there : place ≡ record { section = section.Fragment; number = index + 1 }) (seen : List FragmentDef) (entry : List Field)
-    (same : seen ≡ fragments.definitions) (fields : entry ≡ item) where
+-- the fragment of one entry
+module _ (datasets : List Dataset) (number : ℕ) (before : Fragments) (entry : List Field) (place : Place)
+    (there : place ≡ record { section = section.Fragment; number = number }) (seen : List FragmentDef) (same : seen ≡ before.definitions) where
   abbrev fragment_place : Place
-  fragment_place = record { section = section.Fragment; number = index + 1 }
+  fragment_place = record { section = section.Fragment; number = number }
 
-  -- what is said of the place, the fragments so far and the entry
-  fragment_moved : (P : Place → List FragmentDef → List Field → Type 0) → P place seen entry → P fragment_place fragments.definitions item
-  fragment_moved P holds = subst (λ it. P it fragments.definitions item) there (subst (λ it. P place it item) same (subst (P place seen) fields holds))
+  -- what is said of the place and the fragments so far
+  fragment_moved : (P : Place → List FragmentDef → Type 0) → P place seen → P fragment_place before.definitions
+  fragment_moved P holds = subst (λ it. P it before.definitions) there (subst (P place) same holds)
 
-  pub fragment_turn : (fragment : Stored) → (reads_fragment place datasets seen entry).goes fragment
-      → Leads (each (adds_fragment datasets) (suc (index + 1)) (with_fragment fragments fragment) (drop (index + 1) entries)) to
-  fragment_turn fragment goes =
-      let here = fragment_moved (λ (at : Place) (earlier : List FragmentDef)
-      (fields : List Field). (reads_fragment at datasets earlier fields).goes fragment) goes in
-      turn_next (adds_fragment datasets) entries to index fragments leads item below is (with_fragment fragments fragment)
-      (then_goes (reads_fragment fragment_place datasets fragments.definitions item) (λ f. gives (with_fragment fragments f)) fragment
-      (with_fragment fragments fragment) here (gives_goes CatalogueError _ _ refl))
+  pub fragment_added : (fragment : Stored) (after : Fragments) → after ≡ with_fragment before fragment
+      → (reads_fragment place datasets seen entry).goes fragment → (adds_fragment datasets number before entry).goes after
+  fragment_added fragment after is goes =
+      then_goes (reads_fragment fragment_place datasets before.definitions entry) (λ f. gives (with_fragment before f)) fragment after
+      (fragment_moved (λ (at : Place) (earlier : List FragmentDef). (reads_fragment at datasets earlier entry).goes fragment) goes)
+      (gives_goes CatalogueError _ _ is)
 
-  pub fragment_fails : (error : CatalogueError) → Stops IsWant IsAny (reads_fragment place datasets seen entry) error → Stops IsWant IsAny to error
-  fragment_fails error stops =
-      let here = fragment_moved (λ (at : Place) (earlier : List FragmentDef) (fields : List Field). Stops IsWant IsAny
-      (reads_fragment at datasets earlier fields) error) stops in
-      turn_stops (adds_fragment datasets) entries to index fragments leads item below is error
-      (first_stops (reads_fragment fragment_place datasets fragments.definitions item) (λ f. gives (with_fragment fragments f)) here)
+  pub fragment_refused : (error : CatalogueError) → Stops IsWant IsAny (reads_fragment place datasets seen entry) error
+      → Stops IsWant IsAny (adds_fragment datasets number before entry) error
+  fragment_refused error stops =
+      first_stops (reads_fragment fragment_place datasets before.definitions entry) (λ f. gives (with_fragment before f))
+      (fragment_moved (λ (at : Place) (earlier : List FragmentDef). Stops IsWant IsAny (reads_fragment at datasets earlier entry) error) stops)
 
 -- one fragment more
-pub fragments_more : (arities : List ℕ) (fragments : Fragments) (stored : Stored) → AreSoundFragments arities fragments → IsSoundStored arities stored
+fragments_more : (arities : List ℕ) (fragments : Fragments) (stored : Stored) → AreSoundFragments arities fragments → IsSoundStored arities stored
     → AreSoundFragments arities (with_fragment fragments stored)
 fragments_more arities fragments stored sound one = record {
   sound = λ other inside. elim (Contains-push_cases fragments.definitions stored.definition other inside) [
@@ -156,6 +153,10 @@ fragments_more arities fragments stored sound one = record {
   shape_more number store fragment (inr (end, same_store)) (inr (at, same)) =
       subst (λ (it : Store). IsShapeFor it.shape fragment.view) same_store (subst (λ (it : FragmentDef). IsShapeFor stored.store.shape it.view) same one.shape)
 
+pub fragments_grown : (arities : List ℕ) (before after : Fragments) (stored : Stored) → after ≡ with_fragment before stored → AreSoundFragments arities before
+    → IsSoundStored arities stored → AreSoundFragments arities after
+fragments_grown arities before after stored is sound one = subst (AreSoundFragments arities) (sym is) (fragments_more arities before stored sound one)
+
 pub no_fragments_sound : (arities : List ℕ) → AreSoundFragments arities no_fragments
 no_fragments_sound arities = record {
   sound = λ fragment inside. absurd (Contains-nil fragment inside);
@@ -178,36 +179,39 @@ stored_sound arities view file shape access weight stored is (over, variables) f
   shape = fit;
 })
 
--- what a catalogue keeps, where its graph has ranks
-pub sound_catalogue : (scope : Scope) (fragments : Fragments) (rules : List Constraint) (given : ℕ) (ranks : List ℕ) → IsScope scope
-    → AreSoundFragments (arities_of scope.schema) fragments → AreSoundRules (arities_of scope.schema) rules → given ≤ length rules
-    → AreRanks (IsEdge (rules_of rules)) (length scope.schema) ranks
-    → IsSoundCatalogue scope.schema scope.words scope.datasets fragments.definitions fragments.stores rules given ranks
-sound_catalogue scope fragments rules given ranks are sound over own exact = record {
-  schema_is = subst IsSchema (sym are.schema) (datasets_schema scope.datasets are.datasets_are);
-  datasets_are = λ dataset inside. subst (λ (s : List Relation). IsDataset s dataset) (sym are.schema) (are.datasets_are.sound dataset inside);
-  named = are.words;
-  vocabulary = are.vocabulary;
-  fragments_are = λ fragment inside. (sound.sound fragment inside).made;
-  views = λ fragment inside. (sound.sound fragment inside).view;
-  few = λ fragment inside. (sound.sound fragment inside).few;
-  distinct = λ fragment inside. (sound.sound fragment inside).distinct;
-  light = λ fragment inside. (sound.sound fragment inside).light;
-  stored = sound.stored;
-  shapes = sound.shapes;
-  given_are = own;
-  rules_are = over;
-  within = rules_within scope.schema rules over;
-  ranks_are = exact;
-}
-
--- ranks and cycles by other words of the rules and the relations
+-- ranks by other words of the rules and the relations
 pub ranks_as : (rules others : List Rule) (schema relations : List Relation) (ranks : List ℕ) → rules ≡ others → schema ≡ relations
     → AreRanks (IsEdge rules) (length schema) ranks → AreRanks (IsEdge others) (length relations) ranks
 ranks_as rules others schema relations ranks same is exact =
     subst (λ (r : List Rule). AreRanks (IsEdge r) (length relations) ranks) same
     (subst (λ (s : List Relation). AreRanks (IsEdge rules) (length s) ranks) is exact)
 
+-- what a catalogue keeps, where its graph has ranks
+pub sound_catalogue : (version : Version) (scope : Scope) (fragments : Fragments) (own : List Constraint) (ranked : Ranked) → IsScope scope
+    → AreSoundFragments (arities_of scope.schema) fragments → AreSoundRules (arities_of scope.schema) ranked.rules
+    → AreRankedOf version scope.datasets own ranked
+    → IsSoundCatalogue scope.schema scope.words scope.datasets fragments.definitions fragments.stores ranked.rules ranked.given ranked.ranks
+sound_catalogue version scope fragments own ranked are sound over exact =
+    let most : length own ≤ length ranked.rules = given_most version scope.datasets own ranked.rules exact.rules in
+    record {
+      schema_is = subst IsSchema (sym are.schema) (datasets_schema scope.datasets are.datasets_are);
+      datasets_are = λ dataset inside. subst (λ (s : List Relation). IsDataset s dataset) (sym are.schema) (are.datasets_are.sound dataset inside);
+      named = are.words;
+      vocabulary = are.vocabulary;
+      fragments_are = λ fragment inside. (sound.sound fragment inside).made;
+      views = λ fragment inside. (sound.sound fragment inside).view;
+      few = λ fragment inside. (sound.sound fragment inside).few;
+      distinct = λ fragment inside. (sound.sound fragment inside).distinct;
+      light = λ fragment inside. (sound.sound fragment inside).light;
+      stored = sound.stored;
+      shapes = sound.shapes;
+      given_are = subst (λ n. n ≤ length ranked.rules) (sym exact.given_are) most;
+      rules_are = over;
+      within = rules_within scope.schema ranked.rules over;
+      ranks_are = ranks_as _ _ (schema_of scope.datasets) scope.schema ranked.ranks (sym exact.rules.all) (sym are.schema) exact.ranks;
+    }
+
+-- cycles by other words of the rules and the relations
 pub cycle_as : (datasets : List Dataset) (rules others : List Rule) (schema : List Relation) (cycle : Cycle) → rules ≡ others → schema ≡ schema_of datasets
     → IsLeastCycle (IsEdge rules) cycle.relations × AreNamesOf schema cycle.relations cycle.names → IsCycleOf datasets others cycle
 cycle_as datasets rules others schema cycle same is (least, names) = (
@@ -238,38 +242,32 @@ module _ (scope : Scope) (are : IsScope scope) (text : List ℕ) where
       → IsConstraintFault version (words_of scope.datasets) (arities_of (schema_of scope.datasets)) text fault
   rule_fault_over version fault first = over_datasets (λ words arities. IsConstraintFault version words arities text fault) first
 
--- what holds of datasets and entries, by other names of them
-pub over_same : (P : List Dataset → List (List Field) → Type 0) (others datasets : List Dataset) (seen entries : List (List Field)) → others ≡ datasets
-    → seen ≡ entries → P others seen → P datasets entries
-over_same P others datasets seen entries same is holds = subst (λ (d : List Dataset). P d entries) same (subst (λ (e : List (List Field)). P others e) is holds)
+-- the walk after the rows of the whole file
+module _ (sections : Sections) (datasets : List Dataset) (reads : (reads_datasets sections.datasets).goes datasets) where
+  pub sections_go : (fragments : Fragments) (ranked : Ranked) (catalogue : Catalogue) → (reads_parts sections datasets).goes (fragments, ranked)
+      → ((version : Version) (own : List Constraint) → AreRankedOf version datasets own ranked
+      → IsMadeOf version sections.core datasets fragments own catalogue)
+      → (reads_sections sections).goes catalogue
+  unfolding and_then judges gives
+  sections_go fragments ranked catalogue (found, f, (found_ranked, (own, o, are), same)) made =
+      let fragments_are : found ≡ fragments = sym (ap (λ (it : Fragments × Ranked). it.0) same) in
+      let ranked_are : found_ranked ≡ ranked = sym (ap (λ (it : Fragments × Ranked). it.1) same) in
+      let all = made sections.version own (subst (AreRankedOf sections.version datasets own) ranked_are are) in
+      (datasets, reads, (fragments, subst (reads_fragments datasets sections.fragments).goes fragments_are f, (own, o, all)))
 
-pub fragments_same : (others datasets : List Dataset) (seen entries : List (List Field)) (fragments : Fragments) → others ≡ datasets → seen ≡ entries
-    → (reads_fragments others seen).goes fragments → (reads_fragments datasets entries).goes fragments
-fragments_same others datasets seen entries fragments = over_same (λ d e. (reads_fragments d e).goes fragments) others datasets seen entries
+  parts_stop : (error : CatalogueError) → (reads_parts sections datasets).stops error → (reads_sections sections).stops error
+  unfolding and_then judges gives
+  parts_stop error (inl stops) = inr (datasets, reads, inl stops)
+  parts_stop error (inr (fragments, f, inl stops)) = inr (datasets, reads, inr (fragments, f, stops))
+  parts_stop error (inr (fragments, f, inr (ranked, r, never))) = absurd never
 
-pub fragments_same_stops : (others datasets : List Dataset) (seen entries : List (List Field)) (error : CatalogueError) → others ≡ datasets → seen ≡ entries
-    → Stops IsWant IsAny (reads_fragments others seen) error
-    → Stops IsWant IsAny (reads_fragments datasets entries) error
-fragments_same_stops others datasets seen entries error = over_same (λ d e. Stops IsWant IsAny (reads_fragments d e) error) others datasets seen entries
+  pub sections_stop : (error : CatalogueError) → Stops IsWant IsAny (reads_parts sections datasets) error → Stops IsWant IsAny (reads_sections sections) error
+  sections_stop error stops = stops_more (reads_parts sections datasets) (reads_sections sections) parts_stop error stops
 
-pub rules_same : (version : Version) (others datasets : List Dataset) (seen entries : List (List Field)) (rules : List Constraint) → others ≡ datasets
-    → seen ≡ entries → (reads_constraints version others seen).goes rules → (reads_constraints version datasets entries).goes rules
-rules_same version others datasets seen entries rules = over_same (λ d e. (reads_constraints version d e).goes rules) others datasets seen entries
-
-pub rules_same_stops : (version : Version) (others datasets : List Dataset) (seen entries : List (List Field)) (error : CatalogueError) → others ≡ datasets
-    → seen ≡ entries → Stops IsWant IsAny (reads_constraints version others seen) error
-    → Stops IsWant IsAny (reads_constraints version datasets entries) error
-rules_same_stops version others datasets seen entries error =
-    over_same (λ d e. Stops IsWant IsAny (reads_constraints version d e) error) others datasets seen entries
-
-pub acyclic_same : (version : Version) (core : Bool) (seen datasets : List Dataset) (fragments : Fragments) (given : List Constraint) (catalogue : Catalogue)
-    → seen ≡ datasets
-    → (is_acyclic version core seen fragments given).goes catalogue → (is_acyclic version core datasets fragments given).goes catalogue
-acyclic_same version core seen datasets fragments given catalogue same goes =
-    subst (λ (d : List Dataset). (is_acyclic version core d fragments given).goes catalogue) same goes
-
-pub acyclic_same_stops : (version : Version) (core : Bool) (seen datasets : List Dataset) (fragments : Fragments) (given : List Constraint) (error : CatalogueError)
-    → seen ≡ datasets → Stops IsWant IsAny (is_acyclic version core seen fragments given) error
-    → Stops IsWant IsAny (is_acyclic version core datasets fragments given) error
-acyclic_same_stops version core seen datasets fragments given error same stops =
-    subst (λ (d : List Dataset). Stops IsWant IsAny (is_acyclic version core d fragments given) error) same stops
+-- the rules that are read are ranked
+pub parts_ranked : (sections : Sections) (datasets : List Dataset) (fragments : Fragments) (ranked : Ranked)
+    → (reads_parts sections datasets).goes (fragments, ranked)
+    → (version : Version) × (own : List Constraint) × AreRankedOf version datasets own ranked
+unfolding and_then judges gives
+parts_ranked sections datasets fragments ranked (found, f, (found_ranked, (own, o, are), same)) =
+    (sections.version, own, subst (AreRankedOf sections.version datasets own) (sym (ap (λ (it : Fragments × Ranked). it.1) same)) are)

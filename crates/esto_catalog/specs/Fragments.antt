@@ -5,7 +5,9 @@ use Rattle.esto_course.specs.Course.{Course, judges, gives, demands, and_then, e
 use Rattle.esto_query.specs.Schemas.{arities_of}
 use Rattle.esto_read.specs.Readings.{IsReading, IsFirstFault}
 use Rattle.esto_read.specs.declared.read.Form.TheVariants.{View}
+use Rattle.esto_query.specs.declared.query.Query.{Query}
 use Rattle.esto_read.specs.declared.read.NamedQuery.{NamedQuery}
+use Rattle.esto_read.specs.declared.words.DataModel.{DataModel}
 use Rattle.esto_text.specs.declared.fault.TextFault.{TextFault}
 use Rattle.esto_views.specs.declared.fragments.FragmentDef.{FragmentDef}
 use Rattle.esto_catalog.specs.Access.{access_row, weight_row}
@@ -15,6 +17,7 @@ use Rattle.esto_catalog.specs.Rows.{fault_at, text_fault_at, knows_keys, needs_t
 use Rattle.esto_settings.specs.Settings.{is_same, setting_at}
 use Rattle.esto_catalog.specs.Shapes.{shape_row}
 use Rattle.esto_catalog.specs.declared.catalogue.Shape.{Shape}
+use Rattle.esto_catalog.specs.declared.catalogue.Store.{Store}
 use Rattle.esto_catalog.specs.declared.dataset.Dataset.{Dataset}
 use Rattle.esto_catalog.specs.declared.fault.CatalogueError.{CatalogueError}
 use Rattle.esto_catalog.specs.declared.fault.CatalogueKind.TheVariants.{SameName, BadStore}
@@ -47,6 +50,28 @@ view_row place datasets earlier entry =
 -- The file is needed.
 abbrev pub file_row : Place → List Field → Course CatalogueError (List ℕ)
 file_row place entry = needs_text place (codes "file") (setting_at (codes "file") entry)
+
+-- The rows of how a fragment may be read, in order: access, weight.
+abbrev pub ways_row : Place → DataModel → Query → List Field → Course CatalogueError (List (List Bool) × ℕ)
+ways_row place model view entry =
+    and_then (access_row place model view entry) (λ access.
+    and_then (weight_row place entry) (λ weight.
+    gives (access, weight)))
+
+-- The rows of a store's shape and of how a fragment may be read, in order: columns, layout, pattern, access, weight.
+abbrev pub form_row : Place → DataModel → Query → List Field → Course CatalogueError (Shape × List (List Bool) × ℕ)
+form_row place model view entry =
+    and_then (shape_row place model view entry) (λ shape.
+    and_then (ways_row place model view entry) (λ ways.
+    gives (shape, ways.0, ways.1)))
+
+-- The rows after the view, in order: store, file, columns, layout, pattern, access, weight.
+abbrev pub kept_row : Place → Query → List Field → Course CatalogueError (Store × List (List Bool) × ℕ)
+kept_row place view entry =
+    and_then (needs_model BadStore place (codes "store") entry) (λ model.
+    and_then (file_row place entry) (λ file.
+    and_then (form_row place model view entry) (λ form.
+    gives (record { shape = form.0; file = file }, form.1, form.2))))
 
 -- The fragment of a view, its store, its binding patterns and its weight.
 abbrev pub stored_fragment : NamedQuery → List ℕ → Shape → List (List Bool) → ℕ → Stored

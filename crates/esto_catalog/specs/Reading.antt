@@ -4,7 +4,7 @@ use Rattle.esto_acyclic.specs.Graphs.{IsAcyclic, AreRanks, IsLeastCycle}
 use Rattle.esto_acyclic.specs.Relations.{IsEdge, AreNamesOf}
 use Rattle.esto_acyclic.specs.declared.relations.Cycle.{Cycle}
 use Rattle.esto_constraint.specs.declared.rule.Constraint.{Constraint}
-use Rattle.esto_course.specs.Course.{Course, judges, and_then}
+use Rattle.esto_course.specs.Course.{Course, judges, gives, and_then}
 use Rattle.esto_semantics.specs.Rules.{Rule}
 use Rattle.esto_text.specs.declared.version.Version.{Version}
 use Rattle.esto_catalog.specs.Constraints.{reads_constraints}
@@ -17,6 +17,8 @@ use Rattle.esto_catalog.specs.declared.dataset.Dataset.{Dataset}
 use Rattle.esto_catalog.specs.declared.fault.CatalogueError.{CatalogueError}
 use Rattle.esto_catalog.specs.declared.fault.CatalogueError.TheVariants.{NotAcyclic, OutOfMemory}
 use Rattle.esto_catalog.specs.declared.fragment.Fragments.{Fragments}
+use Rattle.esto_catalog.specs.declared.walk.Ranked.{Ranked}
+use Rattle.esto_catalog.specs.declared.whole.Sections.{Sections}
 
 -- The catalogue of this version, that asks for the core of the plan or not, of these datasets, fragments and constraints: its relations and words are the
 -- datasets', its rules are the constraints and then those of the encodings, no relation leads back to itself by them, and its ranks are those of the relations
@@ -61,3 +63,36 @@ IsCatalogueOf bytes catalogue = (reads_catalogue bytes).goes catalogue
 abbrev pub IsCatalogueError : List ℕ → CatalogueError → Type 0
 IsCatalogueError bytes OutOfMemory = Unit {0}
 IsCatalogueError bytes error = (reads_catalogue bytes).stops error
+
+-- The rules are all the rules, the given ones of which are counted; no relation leads back to itself by them, and the ranks are those of the relations by them.
+pub record AreRankedOf (version : Version) (datasets : List Dataset) (given : List Constraint) (ranked : Ranked) : Type 0 where
+  pub rules : AreAllRules version datasets given ranked.rules
+  pub given_are : ranked.given ≡ length given
+  pub acyclic : IsAcyclic (IsEdge (all_rules version datasets given))
+  pub ranks : AreRanks (IsEdge (all_rules version datasets given)) (length (schema_of datasets)) ranked.ranks
+
+-- No relation leads back to itself by the rules, which have these ranks; else NotAcyclic with the least cycle.
+abbrev pub is_ranked : Version → List Dataset → List Constraint → Course CatalogueError Ranked
+is_ranked version datasets given =
+    judges (AreRankedOf version datasets given)
+    (λ error. (cycle : Cycle) × IsCycleOf datasets (all_rules version datasets given) cycle × (error ≡ NotAcyclic cycle))
+
+-- The constraints, and the graph of the rules.
+abbrev pub reads_rules : Sections → List Dataset → Course CatalogueError Ranked
+reads_rules sections datasets =
+    and_then (reads_constraints sections.version datasets sections.constraints) (λ given. is_ranked sections.version datasets given)
+
+-- The fragments and the constraints, and the graph of the rules.
+abbrev pub reads_parts : Sections → List Dataset → Course CatalogueError (Fragments × Ranked)
+reads_parts sections datasets =
+    and_then (reads_fragments datasets sections.fragments) (λ fragments.
+    and_then (reads_rules sections datasets) (λ ranked.
+    gives (fragments, ranked)))
+
+-- The walk over the rows after those of the whole file.
+abbrev pub reads_sections : Sections → Course CatalogueError Catalogue
+reads_sections sections =
+    and_then (reads_datasets sections.datasets) (λ datasets.
+    and_then (reads_fragments datasets sections.fragments) (λ fragments.
+    and_then (reads_constraints sections.version datasets sections.constraints) (λ given.
+    is_acyclic sections.version sections.core datasets fragments given)))

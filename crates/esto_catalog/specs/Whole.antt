@@ -1,5 +1,5 @@
 -- The rows of the whole file, before its entries.
-use Rattle.std.specs.Prelude.{◌≡◌, ℕ, ◌≤◌, pos, Bool, false, if◌then◌else◌, List, Option, Some, None, length, codes}
+use Rattle.std.specs.Prelude.{◌≡◌, ℕ, ◌≤◌, pos, Bool, false, if◌then◌else◌, List, [], Option, Some, None, length, codes}
 use Rattle.std.specs.Ordering.{int_eq}
 use Rattle.esto_course.specs.Course.{Course, judges, gives, refuses, demands, and_then}
 use Rattle.esto_text.specs.declared.version.Version.{Version}
@@ -62,3 +62,30 @@ reads_whole bytes =
     and_then (reads_section (codes "fragment") document.fragments) (λ fragments.
     and_then (reads_section (codes "constraint") document.constraints) (λ constraints.
     gives (record { version = version; core = core; datasets = datasets; fragments = fragments; constraints = constraints }))))))))
+
+-- The entries of a section, or none where it is no array of tables.
+abbrev pub entries_of : Option (List (List Field)) → List (List Field)
+entries_of None = []
+entries_of (Some entries) = entries
+
+-- The document's entries, with the version and whether the core is asked for.
+abbrev pub sections_of : Version → Bool → Document → Sections
+sections_of version core document = record {
+  version = version;
+  core = core;
+  datasets = entries_of document.datasets;
+  fragments = entries_of document.fragments;
+  constraints = entries_of document.constraints;
+}
+
+-- The rows of a document, in order: unknown keys, the version, whether the core is asked for, each section. They give the version and whether the core is asked
+-- for.
+abbrev pub reads_rows : Document → Course CatalogueError (Version × Bool)
+reads_rows document =
+    and_then (knows_keys top (top_keys (setting_at (codes "version") document.fields)) document.fields) (λ _.
+    and_then (reads_version (setting_at (codes "version") document.fields)) (λ version.
+    and_then (reads_core document.core) (λ core.
+    and_then (reads_section (codes "dataset") document.datasets) (λ _.
+    and_then (reads_section (codes "fragment") document.fragments) (λ _.
+    and_then (reads_section (codes "constraint") document.constraints) (λ _.
+    gives (version, core)))))))

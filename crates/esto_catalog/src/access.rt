@@ -139,10 +139,7 @@ pub fn access(
         None => Ok(usual_access(alloc, model, view)?),
         Some(Setting::Text(text)) => written_access(alloc, place, view, slice::from_ref(text)),
         Some(Setting::Texts(texts)) => written_access(alloc, place, view, texts.items()),
-        Some(Setting::Integer(_)) => {
-            Err(fault(alloc, CatalogueKind::WrongType, place, "access", None))
-        }
-        Some(Setting::Other) => Err(fault(alloc, CatalogueKind::WrongType, place, "access", None)),
+        Some(_) => Err(fault(alloc, CatalogueKind::WrongType, place, "access", None)),
     }
 }
 
@@ -178,12 +175,6 @@ pub fn weight(alloc: Global, place: Place, entry: &[Field]) -> Result<u64, Catal
     match setting_at("weight", entry) {
         None => Ok(USUAL_WEIGHT),
         Some(Setting::Integer(number)) => written_weight(alloc, place, *number),
-        Some(Setting::Text(_)) => {
-            Err(fault(alloc, CatalogueKind::WrongType, place, "weight", None))
-        }
-        Some(Setting::Texts(_)) => {
-            Err(fault(alloc, CatalogueKind::WrongType, place, "weight", None))
-        }
-        Some(Setting::Other) => Err(fault(alloc, CatalogueKind::WrongType, place, "weight", None)),
+        Some(_) => Err(fault(alloc, CatalogueKind::WrongType, place, "weight", None)),
     }
 }

@@ -65,7 +65,6 @@ fn rule_of_text(
 }
 
 // The rule.
-#[tactic(auto, using(crate::proofs::RowLemmas::rows))]
 fn rule(
     alloc: Global,
     version: Version,
@@ -78,12 +77,10 @@ fn rule(
     ensures over { IfOk result (λ rule. IsRuleOver (arities_of scope.now.schema) (rule_of rule)) }
 {
     let text = needs_text(alloc, place, "rule", entry)?;
-    let rule = rule_of_text(alloc, version, place, scope, &text)?;
-    Ok(rule)
+    rule_of_text(alloc, version, place, scope, text)
 }
 
 // The rows of a constraint, in order: unknown keys, rule.
-#[tactic(auto, using(crate::proofs::RowLemmas::rows))]
 fn read_entry(
     alloc: Global,
     version: Version,
@@ -97,8 +94,7 @@ fn read_entry(
     ensures over { IfOk result (λ rule. IsRuleOver (arities_of scope.now.schema) (rule_of rule)) }
 {
     knows_keys(alloc, place, Keys::Constraint, entry)?;
-    let rule = rule(alloc, version, place, scope, entry)?;
-    Ok(rule)
+    rule(alloc, version, place, scope, entry)
 }
 
 /// The constraints of the entries by this version's grammar, in order, counted from 1.

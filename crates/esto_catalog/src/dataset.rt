@@ -1,6 +1,6 @@
 //! Datasets, and the rows of one.
 ghost use Rattle.std.specs.Prelude.{◌≡◌, ◌≤◌, length, IfOk};
-ghost use Rattle.esto_catalog.specs.Datasets.{AreDatasets, has_dataset, name_row, needs_columns, no_columns, columns_row, dataset_file_row, relation_count, schema_of, reads_dataset, reads_datasets};
+ghost use Rattle.esto_catalog.specs.Datasets.{AreDatasets, has_dataset, name_row, needs_columns, no_columns, columns_row, relation_count, schema_of, reads_dataset, reads_datasets};
 ghost use Rattle.esto_catalog.specs.Rows.{Walks};
 ghost use Rattle.esto_catalog.specs.declared.whole.TheConstants.{MAX_ENTRIES};
 
@@ -11,7 +11,7 @@ use crate::row::{Keys, allows_text, knows_keys, needs_text, needs_texts};
 use esto_docs::Layout;
 use esto_read::DataModel;
 use esto_settings::{Field, KeyList, is_same};
-use esto_term::{List, Text, TextRow};
+use esto_term::{List, Replicate, Text, TextRow};
 use std::alloc::Global;
 
 /// A dataset: its name, what it is, the number of its first relation, the names of its columns, which a table alone has,
@@ -52,9 +52,9 @@ fn name(
     let bytes = name.bytes();
     let is_name = is_name(bytes);
     demand(alloc, is_name, CatalogueKind::BadName, place, "name")?;
-    let is_there = has_dataset(&name, earlier);
+    let is_there = has_dataset(name, earlier);
     demand(alloc, !is_there, CatalogueKind::SameName, place, "name")?;
-    Ok(name)
+    Ok(name.copy(alloc)?)
 }
 
 // The columns of a table.
@@ -72,7 +72,7 @@ fn needs_columns(alloc: Global, place: Place, entry: &[Field]) -> Result<TextRow
         place,
         "columns",
     )?;
-    Ok(columns)
+    Ok(columns.copy(alloc)?)
 }
 
 // No columns are written, since they are for tables; else Unfit.
@@ -98,14 +98,6 @@ fn columns(
         DataModel::Documents => no_columns(alloc, place, entry),
         DataModel::Keys => no_columns(alloc, place, entry),
     }
-}
-
-// The file, where there is one.
-#[tactic(auto, using(crate::proofs::RowLemmas::rows))]
-fn file(alloc: Global, place: Place, entry: &[Field]) -> Result<Option<Text>, CatalogueError>
-    ensures { Walks (dataset_file_row place entry.now) result }
-{
-    allows_text(alloc, place, "file", entry)
 }
 
 // The number of relations of a dataset of this model.
@@ -137,7 +129,7 @@ fn read_dataset(
     let model = needs_model(alloc, CatalogueKind::BadModel, place, "model", entry)?;
     let columns = columns(alloc, place, model, entry)?;
     let layout = layout(alloc, place, model, entry)?;
-    let file = file(alloc, place, entry)?;
+    let file = allows_text(alloc, place, "file", entry)?;
     Ok(Dataset {
         name,
         model,

@@ -1,10 +1,12 @@
 //! The rows of a fragment.
-ghost use Rattle.std.specs.Prelude.{◌≡◌, ◌||◌, IfOk};
+ghost use Rattle.std.specs.Prelude.{◌≡◌, ◌<◌, ◌+◌, ◌||◌, IfOk, IfErr, OnOk};
+ghost use Rattle.esto_course.specs.Course.{Stops};
 ghost use Rattle.esto_query.specs.Schemas.{arities_of};
 ghost use Rattle.esto_catalog.specs.Datasets.{has_dataset};
-ghost use Rattle.esto_catalog.specs.Fragments.{has_fragment, reads_view, view_row, file_row, stored_fragment, reads_fragment, reads_fragments};
-ghost use Rattle.esto_catalog.specs.Rows.{Walks};
+ghost use Rattle.esto_catalog.specs.Fragments.{has_fragment, reads_view, view_row, ways_row, form_row, kept_row, stored_fragment, reads_fragment, adds_fragment, reads_fragments};
+ghost use Rattle.esto_catalog.specs.Rows.{IsAny, IsWant, Walks};
 ghost use Rattle.esto_catalog.specs.Scope.{IsScope};
+ghost use Rattle.esto_catalog.specs.Shapes.{AreDistinctNames};
 ghost use Rattle.esto_catalog.specs.Soundness.{IsSoundView, IsSoundStored, AreSoundFragments};
 
 use crate::access::{access, weight};
@@ -15,9 +17,10 @@ use crate::model::needs_model;
 use crate::row::{Keys, knows_keys, needs_text};
 use crate::scope::Scope;
 use crate::shape::shape;
-use esto_read::{NamedQuery, read_view, views_name_their_columns};
+use esto_query::Query;
+use esto_read::{DataModel, NamedQuery, read_view, views_name_their_columns};
 use esto_settings::{Field, KeyList, is_same};
-use esto_term::{List, Text};
+use esto_term::{List, Replicate, Text};
 use esto_text::ReadError;
 use esto_views::{AccessList, FragmentDef, FragmentDefs};
 use std::alloc::Global;
@@ -78,7 +81,6 @@ fn view_of_text(
 }
 
 // The view, whose head has a name that no dataset and no earlier fragment has.
-#[tactic(auto, using(crate::proofs::RowLemmas::rows))]
 fn view(
     alloc: Global,
     place: Place,
@@ -91,29 +93,62 @@ fn view(
     ensures sound { IfOk result (IsSoundView (arities_of scope.now.schema)) }
 {
     let text = needs_text(alloc, place, "view", entry)?;
-    let view = view_of_text(alloc, place, scope, &text)?;
+    let view = view_of_text(alloc, place, scope, text)?;
     let is_taken = is_taken(&view.name, scope, earlier);
     demand(alloc, !is_taken, CatalogueKind::SameName, place, "view")?;
     Ok(view)
 }
 
-// The file.
-#[tactic(auto, using(crate::proofs::RowLemmas::rows))]
-fn file(alloc: Global, place: Place, entry: &[Field]) -> Result<Text, CatalogueError>
-    ensures { Walks (file_row place entry.now) result }
+// The rows of how a fragment may be read, in order: access, weight.
+fn ways(
+    alloc: Global,
+    place: Place,
+    model: DataModel,
+    view: &Query,
+    entry: &[Field],
+) -> Result<(AccessList, u64), CatalogueError>
+    ensures { Walks (ways_row place model view.now entry.now) result }
 {
-    needs_text(alloc, place, "file", entry)
+    let access = access(alloc, place, model, view, entry)?;
+    let weight = weight(alloc, place, entry)?;
+    Ok((access, weight))
+}
+
+// The rows of a store's shape and of how a fragment may be read, in order: columns, layout, pattern, access, weight.
+fn form(
+    alloc: Global,
+    place: Place,
+    model: DataModel,
+    view: &Query,
+    entry: &[Field],
+) -> Result<(Shape, AccessList, u64), CatalogueError>
+    requires { AreDistinctNames view.now }
+    ensures { Walks (form_row place model view.now entry.now) result }
+{
+    let shape = shape(alloc, place, model, view, entry)?;
+    let (access, weight) = ways(alloc, place, model, view, entry)?;
+    Ok((shape, access, weight))
+}
+
+// The rows after the view, in order: store, file, columns, layout, pattern, access, weight.
+fn kept(
+    alloc: Global,
+    place: Place,
+    view: &Query,
+    entry: &[Field],
+) -> Result<(Store, AccessList, u64), CatalogueError>
+    requires { AreDistinctNames view.now }
+    ensures { Walks (kept_row place view.now entry.now) result }
+{
+    let model = needs_model(alloc, CatalogueKind::BadStore, place, "store", entry)?;
+    let file = needs_text(alloc, place, "file", entry)?.copy(alloc)?;
+    let (shape, access, weight) = form(alloc, place, model, view, entry)?;
+    Ok((Store { shape, file }, access, weight))
 }
 
 // The fragment of a view, its store, its binding patterns and its weight.
-fn stored_fragment(
-    view: NamedQuery,
-    file: Text,
-    shape: Shape,
-    access: AccessList,
-    weight: u64,
-) -> Stored
-    ensures { result ≡ stored_fragment view file shape access weight }
+fn stored_fragment(view: NamedQuery, store: Store, access: AccessList, weight: u64) -> Stored
+    ensures { result ≡ stored_fragment view store.file store.shape access weight }
 {
     let NamedQuery { name, query } = view;
     Stored {
@@ -123,12 +158,11 @@ fn stored_fragment(
             access,
             weight,
         },
-        store: Store { shape, file },
+        store,
     }
 }
 
 // The rows of a fragment, in order: unknown keys, view, store, file, columns, layout, pattern, access, weight.
-#[tactic(auto, using(crate::proofs::RowLemmas::rows))]
 fn read_fragment(
     alloc: Global,
     place: Place,
@@ -144,12 +178,35 @@ fn read_fragment(
     views_name_their_columns();
     knows_keys(alloc, place, Keys::Fragment, entry)?;
     let view = view(alloc, place, scope, earlier, entry)?;
-    let model = needs_model(alloc, CatalogueKind::BadStore, place, "store", entry)?;
-    let file = file(alloc, place, entry)?;
-    let shape = shape(alloc, place, model, &view.query, entry)?;
-    let access = access(alloc, place, model, &view.query, entry)?;
-    let weight = weight(alloc, place, entry)?;
-    Ok(stored_fragment(view, file, shape, access, weight))
+    let (store, access, weight) = kept(alloc, place, &view.query, entry)?;
+    Ok(stored_fragment(view, store, access, weight))
+}
+
+// Adds the fragment of the entry at this index to those before.
+fn add_fragment(
+    alloc: Global,
+    scope: &Scope,
+    index: usize,
+    entry: &[Field],
+    fragments: &mut Fragments,
+) -> Result<(), CatalogueError>
+    requires scope { IsScope scope.now }
+    requires index { index < usize.MAX }
+    ensures goes { OnOk result
+        ((adds_fragment scope.now.datasets (index + 1) fragments.old entry.now).goes
+        fragments.new) }
+    ensures sound { OnOk result (AreSoundFragments (arities_of scope.now.schema) fragments.old
+        → AreSoundFragments (arities_of scope.now.schema) fragments.new) }
+    ensures error { IfErr result (Stops IsWant IsAny
+        (adds_fragment scope.now.datasets (index + 1) fragments.old entry.now)) }
+{
+    let place = Place::entry(Section::Fragment, index);
+    let earlier = fragments.definitions.items();
+    let stored = read_fragment(alloc, place, scope, earlier, entry)?;
+    let Stored { definition, store } = stored;
+    fragments.definitions.push(definition)?;
+    fragments.stores.push(store)?;
+    Ok(())
 }
 
 /// The fragments of the entries, in order, counted from 1.
@@ -162,19 +219,12 @@ pub fn read_fragments(
     ensures fragments { Walks (reads_fragments scope.now.datasets entries.now) result }
     ensures sound { IfOk result (AreSoundFragments (arities_of scope.now.schema)) }
 {
-    let mut definitions = List::new(alloc);
-    let mut stores = List::new(alloc);
+    let mut fragments = Fragments {
+        definitions: List::new(alloc),
+        stores: List::new(alloc),
+    };
     'entries: for (index, entry) in entries.iter().enumerate() {
-        let place = Place::entry(Section::Fragment, index);
-        let earlier = definitions.items();
-        let fields = entry.items();
-        let stored = read_fragment(alloc, place, scope, earlier, fields)?;
-        let Stored { definition, store } = stored;
-        definitions.push(definition)?;
-        stores.push(store)?;
+        add_fragment(alloc, scope, index, entry.items(), &mut fragments)?;
     }
-    Ok(Fragments {
-        definitions,
-        stores,
-    })
+    Ok(fragments)
 }

@@ -63,7 +63,6 @@ fn written_model(
 }
 
 /// The model of which the text at the key is the word; a fault of this kind where it is the word for none.
-#[tactic(auto, using(crate::proofs::RowLemmas::rows))]
 pub fn needs_model(
     alloc: Global,
     kind: CatalogueKind,
@@ -74,8 +73,7 @@ pub fn needs_model(
     ensures { Walks (needs_model kind place key.now entry.now) result }
 {
     let text = needs_text(alloc, place, key, entry)?;
-    let model = written_model(alloc, kind, place, key, &text)?;
-    Ok(model)
+    written_model(alloc, kind, place, key, text)
 }
 
 // The layout of which the text is the word; else BadLayout.
@@ -97,13 +95,7 @@ fn allows_layout(alloc: Global, place: Place, entry: &[Field]) -> Result<Layout,
     match setting_at("layout", entry) {
         None => Ok(Layout::Lines),
         Some(Setting::Text(text)) => written_layout(alloc, place, text),
-        Some(Setting::Integer(_)) => {
-            Err(fault(alloc, CatalogueKind::WrongType, place, "layout", None))
-        }
-        Some(Setting::Texts(_)) => {
-            Err(fault(alloc, CatalogueKind::WrongType, place, "layout", None))
-        }
-        Some(Setting::Other) => Err(fault(alloc, CatalogueKind::WrongType, place, "layout", None)),
+        Some(_) => Err(fault(alloc, CatalogueKind::WrongType, place, "layout", None)),
     }
 }
 

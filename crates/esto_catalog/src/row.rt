@@ -1,7 +1,9 @@
 //! What rows of the catalogue's table have in common.
-ghost use Rattle.std.specs.Prelude.{◌≡◌, ℕ, List, codes, Contains, MatchOption, option_copied};
-ghost use Rattle.esto_catalog.specs.Rows.{Walks, is_known, IsUnknown, IsLeastUnknown, IsLesserOf, knows_keys, needs_text, allows_text, needs_texts};
-ghost use Rattle.esto_settings.specs.Settings.{setting_at};
+ghost use Rattle.std.specs.Prelude.{◌≡◌, ℕ, List, codes, Contains, IfOk, IfErr, MatchOption, option_copied};
+ghost use Rattle.esto_course.specs.Course.{Stops};
+ghost use Rattle.std.specs.List.{list_any};
+ghost use Rattle.esto_catalog.specs.Rows.{IsAny, IsWant, Walks, is_known, IsUnknown, IsLeastUnknown, IsLesserOf, knows_keys, needs_text, allows_text, needs_texts};
+ghost use Rattle.esto_settings.specs.Settings.{is_same, setting_at};
 
 use crate::fault::{CatalogueError, CatalogueKind, Place, fault};
 use esto_settings::{Field, Setting, is_same, setting_at};
@@ -20,42 +22,33 @@ pub enum Keys {
     Constraint,
 }
 
+// Whether the key is one of these words.
+fn is_one_of(key: &Text, words: &[&str]) -> bool
+    ensures { result ≡ list_any (λ word. is_same key.now word.now) words.now }
+{
+    words.iter().any(|word| is_same(key, word))
+}
+
 // Whether the key is one of these.
 fn is_known(keys: Keys, key: &Text) -> bool
     ensures { result ≡ is_known keys key.now }
 {
     match keys {
-        Keys::Top => {
-            is_same(key, "version")
-                || is_same(key, "dataset")
-                || is_same(key, "fragment")
-                || is_same(key, "constraint")
-        }
+        Keys::Top => is_one_of(key, &["version", "dataset", "fragment", "constraint"]),
         Keys::TopOfTwo => {
-            is_same(key, "version")
-                || is_same(key, "core")
-                || is_same(key, "dataset")
-                || is_same(key, "fragment")
-                || is_same(key, "constraint")
+            is_one_of(
+                key,
+                &["version", "core", "dataset", "fragment", "constraint"],
+            )
         }
-        Keys::Dataset => {
-            is_same(key, "name")
-                || is_same(key, "model")
-                || is_same(key, "columns")
-                || is_same(key, "layout")
-                || is_same(key, "file")
-        }
-        Keys::Fragment => {
-            is_same(key, "view")
-                || is_same(key, "store")
-                || is_same(key, "file")
-                || is_same(key, "columns")
-                || is_same(key, "layout")
-                || is_same(key, "pattern")
-                || is_same(key, "access")
-                || is_same(key, "weight")
-        }
-        Keys::Constraint => is_same(key, "rule"),
+        Keys::Dataset => is_one_of(key, &["name", "model", "columns", "layout", "file"]),
+        Keys::Fragment => is_one_of(
+            key,
+            &[
+                "view", "store", "file", "columns", "layout", "pattern", "access", "weight",
+            ],
+        ),
+        Keys::Constraint => is_one_of(key, &["rule"]),
     }
 }
 
@@ -106,20 +99,21 @@ pub fn knows_keys(
 
 /// The text at the key; Missing where it is absent, WrongType where it is something else.
 #[tactic(auto, using(crate::proofs::RowLemmas::rows))]
-pub fn needs_text(
+pub fn needs_text<'a>(
     alloc: Global,
     place: Place,
     key: &str,
-    entry: &[Field],
-) -> Result<Text, CatalogueError>
-    ensures { Walks (needs_text place key.now (setting_at key.now entry.now)) result }
+    entry: &'a [Field],
+) -> Result<&'a Text, CatalogueError>
+    ensures goes { IfOk result (λ text.
+        (needs_text place key.now (setting_at key.now entry.now)).goes text.now) }
+    ensures error { IfErr result (Stops IsWant IsAny
+        (needs_text place key.now (setting_at key.now entry.now))) }
 {
     match setting_at(key, entry) {
         None => Err(fault(alloc, CatalogueKind::Missing, place, key, None)),
-        Some(Setting::Text(text)) => Ok(text.copy(alloc)?),
-        Some(Setting::Integer(_)) => Err(fault(alloc, CatalogueKind::WrongType, place, key, None)),
-        Some(Setting::Texts(_)) => Err(fault(alloc, CatalogueKind::WrongType, place, key, None)),
-        Some(Setting::Other) => Err(fault(alloc, CatalogueKind::WrongType, place, key, None)),
+        Some(Setting::Text(text)) => Ok(text),
+        Some(_) => Err(fault(alloc, CatalogueKind::WrongType, place, key, None)),
     }
 }
 
@@ -136,27 +130,26 @@ pub fn allows_text(
     match setting_at(key, entry) {
         None => Ok(None),
         Some(Setting::Text(text)) => Ok(Some(text.copy(alloc)?)),
-        Some(Setting::Integer(_)) => Err(fault(alloc, CatalogueKind::WrongType, place, key, None)),
-        Some(Setting::Texts(_)) => Err(fault(alloc, CatalogueKind::WrongType, place, key, None)),
-        Some(Setting::Other) => Err(fault(alloc, CatalogueKind::WrongType, place, key, None)),
+        Some(_) => Err(fault(alloc, CatalogueKind::WrongType, place, key, None)),
     }
 }
 
 /// The texts at the key; Missing where it is absent, WrongType where it is something else.
 #[tactic(auto, using(crate::proofs::RowLemmas::rows))]
-pub fn needs_texts(
+pub fn needs_texts<'a>(
     alloc: Global,
     place: Place,
     key: &str,
-    entry: &[Field],
-) -> Result<TextRow, CatalogueError>
-    ensures { Walks (needs_texts place key.now (setting_at key.now entry.now)) result }
+    entry: &'a [Field],
+) -> Result<&'a TextRow, CatalogueError>
+    ensures goes { IfOk result (λ texts.
+        (needs_texts place key.now (setting_at key.now entry.now)).goes texts.now) }
+    ensures error { IfErr result (Stops IsWant IsAny
+        (needs_texts place key.now (setting_at key.now entry.now))) }
 {
     match setting_at(key, entry) {
         None => Err(fault(alloc, CatalogueKind::Missing, place, key, None)),
-        Some(Setting::Texts(texts)) => Ok(texts.copy(alloc)?),
-        Some(Setting::Text(_)) => Err(fault(alloc, CatalogueKind::WrongType, place, key, None)),
-        Some(Setting::Integer(_)) => Err(fault(alloc, CatalogueKind::WrongType, place, key, None)),
-        Some(Setting::Other) => Err(fault(alloc, CatalogueKind::WrongType, place, key, None)),
+        Some(Setting::Texts(texts)) => Ok(texts),
+        Some(_) => Err(fault(alloc, CatalogueKind::WrongType, place, key, None)),
     }
 }

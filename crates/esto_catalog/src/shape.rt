@@ -88,21 +88,7 @@ fn columns(
     match setting_at("columns", entry) {
         None => Ok(head_columns(alloc, view)?),
         Some(Setting::Texts(columns)) => written_columns(alloc, place, view, columns),
-        Some(Setting::Text(_)) => Err(fault(
-            alloc,
-            CatalogueKind::WrongType,
-            place,
-            "columns",
-            None,
-        )),
-        Some(Setting::Integer(_)) => Err(fault(
-            alloc,
-            CatalogueKind::WrongType,
-            place,
-            "columns",
-            None,
-        )),
-        Some(Setting::Other) => Err(fault(alloc, CatalogueKind::WrongType, place, "columns", None)),
+        Some(_) => Err(fault(alloc, CatalogueKind::WrongType, place, "columns", None)),
     }
 }
 
@@ -122,13 +108,13 @@ fn table(
     Ok(Shape::Table(columns))
 }
 
-// The texts as names.
-fn given(alloc: Global, texts: &[Text]) -> Result<Names, OutOfMemory>
-    ensures { IfOk result (λ it. it ≡ map Name.Given texts.now) }
+// The names of the columns that are named as the variables of the view's head are.
+fn head_names(alloc: Global, view: &Query) -> Result<Names, OutOfMemory>
+    ensures { IfOk result (λ it. it ≡ map Name.Given (head_columns view.now)) }
 {
     let mut names = List::new(alloc);
-    'texts: for text in texts {
-        names.push(Name::Given(text.copy(alloc)?))?;
+    'terms: for term in view.head.items() {
+        names.push(Name::Given(column_of(alloc, view.names.items(), term)?))?;
     }
     Ok(names)
 }
@@ -143,8 +129,7 @@ fn pattern_of_text(
     requires { AreDistinctNames view.now }
     ensures { Walks (reads_pattern place view.now text.now) result }
 {
-    let columns = head_columns(alloc, view)?;
-    let names = given(alloc, columns.items())?;
+    let names = head_names(alloc, view)?;
     match read_layout(alloc, text.bytes(), &names) {
         Ok(pattern) => Ok(pattern),
         Err(ReadError::Fault(found)) => Err(fault(
@@ -159,7 +144,6 @@ fn pattern_of_text(
 }
 
 // The pattern, which is a layout for as many columns as the view has.
-#[tactic(auto, using(crate::proofs::RowLemmas::rows))]
 fn pattern(
     alloc: Global,
     place: Place,
@@ -170,7 +154,7 @@ fn pattern(
     ensures { Walks (pattern_row place view.now entry.now) result }
 {
     let text = needs_text(alloc, place, "pattern", entry)?;
-    let pattern = pattern_of_text(alloc, place, view, &text)?;
+    let pattern = pattern_of_text(alloc, place, view, text)?;
     let is_layout = is_layout(&pattern, view.head.len());
     demand(
         alloc,

@@ -1,15 +1,19 @@
 //! The walk over the rows of the whole catalogue.
-ghost use Rattle.std.specs.Prelude.{length, IfOk, IfErr};
+ghost use Rattle.std.specs.Prelude.{◌≡◌, ◌≤◌, List, length, IfOk, IfErr};
 ghost use Rattle.esto_acyclic.specs.Graphs.{IsWithin, AreRanks};
 ghost use Rattle.esto_acyclic.specs.Relations.{IsEdge};
 ghost use Rattle.esto_constraint.specs.Constraints.{rules_of};
+ghost use Rattle.esto_constraint.specs.declared.rule.Constraint.{Constraint};
 ghost use Rattle.esto_query.specs.Schemas.{arities_of};
 ghost use Rattle.esto_catalog.specs.Determined.{CataloguesAreSound, HaveOneCatalogue, HaveNoError, HaveOneError};
 ghost use Rattle.esto_catalog.specs.Kept.{ReadingsHaveRelations, ReadingsHaveEncodings};
-ghost use Rattle.esto_catalog.specs.Reading.{IsCatalogueOf, IsCatalogueError, is_acyclic, reads_catalogue};
+ghost use Rattle.esto_catalog.specs.Reading.{AreRankedOf, IsCatalogueOf, IsCatalogueError, IsMadeOf, is_ranked, reads_rules, reads_parts, reads_sections, reads_catalogue};
 ghost use Rattle.esto_catalog.specs.Rows.{Walks};
+ghost use Rattle.esto_catalog.specs.Rules.{AreAllRules};
 ghost use Rattle.esto_catalog.specs.Soundness.{AreSoundFragments, AreSoundRules};
 ghost use Rattle.esto_catalog.specs.Scope.{IsScope};
+ghost use Rattle.esto_catalog.specs.declared.whole.TheConstants.{MAX_ENTRIES};
+ghost use Rattle.esto_text.specs.declared.version.Version.{Version};
 
 use crate::catalogue::Catalogue;
 use crate::constraint::read_constraints;
@@ -18,34 +22,89 @@ use crate::fault::CatalogueError;
 use crate::fragment::{Fragments, read_fragments};
 use crate::rules::with_encodings;
 use crate::scope::{Scope, scope_of};
-use crate::whole::read_whole;
+use crate::whole::{Sections, read_whole};
 use either::{Left, Right};
-use esto_acyclic::{judge, judgements_are_exact};
+use esto_acyclic::{Ranks, judge, judgements_are_exact};
 use esto_constraint::Rules;
 use esto_read::{
     constraint_readings_are_determined, layout_readings_are_determined, readings_are_determined,
     views_name_their_columns,
 };
-use esto_text::Version;
 use std::alloc::Global;
 
-// The catalogue of this version, that asks for the core of the plan or not, of datasets, fragments, its own constraints
-// and the rules of the encodings; or the least cycle of the rules' graph of relations.
-fn judged(
+/// All rules, of which so many come first as they are given, and the ranks of the relations by them.
+#[derive(Drop)]
+pub struct Ranked {
+    pub rules: Rules,
+    pub given: usize,
+    pub ranks: Ranks,
+}
+
+// The rules with the ranks of the relations by them; or the least cycle of their graph of relations.
+fn rank_rules(
     alloc: Global,
-    version: Version,
-    core: bool,
-    scope: Scope,
-    fragments: Fragments,
-    given: Rules,
-) -> Result<Catalogue, CatalogueError>
+    scope: &Scope,
+    rules: Rules,
+    given: usize,
+) -> Result<Ranked, CatalogueError>
+    requires scope { IsScope scope.now }
+    requires rules { AreSoundRules (arities_of scope.now.schema) rules }
+    ensures course { (version : Version) (own : List Constraint)
+        → AreAllRules version scope.now.datasets own rules → given ≡ length own
+        → Walks (is_ranked version scope.now.datasets own) result }
+    ensures over { IfOk result (λ ranked. AreSoundRules (arities_of scope.now.schema) ranked.rules) }
+{
+    match judge(alloc, &scope.schema, &rules)? {
+        Left(ranks) => Ok(Ranked {
+            rules,
+            given,
+            ranks,
+        }),
+        Right(cycle) => Err(CatalogueError::NotAcyclic(cycle)),
+    }
+}
+
+// The constraints and then the rules of the encodings, with the ranks of the relations by them; or the least cycle of
+// their graph of relations.
+fn read_rules(alloc: Global, sections: &Sections, scope: &Scope) -> Result<Ranked, CatalogueError>
+    requires { IsScope scope.now }
+    ensures rules { Walks (reads_rules sections.now scope.now.datasets) result }
+    ensures over { IfOk result (λ ranked. AreSoundRules (arities_of scope.now.schema) ranked.rules) }
+{
+    let entries = sections.constraints.items();
+    let own = read_constraints(alloc, sections.version, scope, entries)?;
+    let given = own.len();
+    let rules = with_encodings(alloc, sections.version, scope, own)?;
+    rank_rules(alloc, scope, rules, given)
+}
+
+// The fragments, and the rules.
+fn read_parts(
+    alloc: Global,
+    sections: &Sections,
+    scope: &Scope,
+) -> Result<(Fragments, Ranked), CatalogueError>
+    requires { IsScope scope.now }
+    ensures parts { Walks (reads_parts sections.now scope.now.datasets) result }
+    ensures fragments { IfOk result (λ it. AreSoundFragments (arities_of scope.now.schema) it.0) }
+    ensures rules { IfOk result (λ it. AreSoundRules (arities_of scope.now.schema) it.1.rules) }
+{
+    let fragments = read_fragments(alloc, scope, sections.fragments.items())?;
+    let ranked = read_rules(alloc, sections, scope)?;
+    Ok((fragments, ranked))
+}
+
+// The catalogue of datasets, fragments and rules, that asks for the core of the plan or not.
+fn catalogue_of(scope: Scope, core: bool, fragments: Fragments, ranked: Ranked) -> Catalogue
     requires scope { IsScope scope }
     requires fragments { AreSoundFragments (arities_of scope.schema) fragments }
-    requires rules { AreSoundRules (arities_of scope.schema) given }
-    ensures { Walks (is_acyclic version core scope.datasets fragments given) result }
+    requires rules { AreSoundRules (arities_of scope.schema) ranked.rules }
+    requires ranked { (version : Version) × (own : List Constraint)
+        × AreRankedOf version scope.datasets own ranked }
+    ensures { (version : Version) (own : List Constraint)
+        → AreRankedOf version scope.datasets own ranked
+        → IsMadeOf version core scope.datasets fragments own result }
 {
-    let count = given.len();
-    let rules = with_encodings(alloc, version, &scope, given)?;
     let Scope {
         datasets,
         schema,
@@ -55,38 +114,41 @@ fn judged(
         definitions,
         stores,
     } = fragments;
-    match judge(alloc, &schema, &rules)? {
-        Left(ranks) => Ok(Catalogue {
-            schema,
-            words,
-            datasets,
-            fragments: definitions,
-            stores,
-            rules,
-            given: count,
-            ranks,
-            core,
-        }),
-        Right(cycle) => Err(CatalogueError::NotAcyclic(cycle)),
+    let Ranked {
+        rules,
+        given,
+        ranks,
+    } = ranked;
+    Catalogue {
+        schema,
+        words,
+        datasets,
+        fragments: definitions,
+        stores,
+        rules,
+        given,
+        ranks,
+        core,
     }
 }
 
+// The catalogue of the sections.
+fn read_sections(alloc: Global, sections: &Sections) -> Result<Catalogue, CatalogueError>
+    requires { length sections.now.datasets ≤ MAX_ENTRIES }
+    ensures { Walks (reads_sections sections.now) result }
+{
+    let datasets = read_datasets(alloc, sections.datasets.items())?;
+    let scope = scope_of(alloc, datasets)?;
+    let (fragments, ranked) = read_parts(alloc, sections, &scope)?;
+    Ok(catalogue_of(scope, sections.core, fragments, ranked))
+}
+
 // The walk over the rows.
-#[tactic(auto, using(crate::proofs::RowLemmas::rows))]
 fn walk(alloc: Global, bytes: &[u8]) -> Result<Catalogue, CatalogueError>
     ensures { Walks (reads_catalogue bytes.now) result }
 {
     let sections = read_whole(alloc, bytes)?;
-    let dataset_entries = sections.datasets.items();
-    let datasets = read_datasets(alloc, dataset_entries)?;
-    let scope = scope_of(alloc, datasets)?;
-    let fragment_entries = sections.fragments.items();
-    let fragments = read_fragments(alloc, &scope, fragment_entries)?;
-    let constraint_entries = sections.constraints.items();
-    let given = read_constraints(alloc, sections.version, &scope, constraint_entries)?;
-    let version = sections.version;
-    let catalogue = judged(alloc, version, sections.core, scope, fragments, given)?;
-    Ok(catalogue)
+    read_sections(alloc, &sections)
 }
 
 /// The catalogue that the bytes say; or its first fault; or, where there is none, the least cycle by which a relation

@@ -1,13 +1,15 @@
 //! The rows of the whole file, before its entries.
-ghost use Rattle.std.specs.Prelude.{◌≡◌, ◌≢◌, ◌≤◌, Some, codes, pos, option_copied, length, IfOk, MatchOption};
-ghost use Rattle.esto_catalog.specs.Rows.{Walks};
+ghost use Rattle.std.specs.Prelude.{◌≡◌, ◌≢◌, ◌≤◌, Some, codes, pos, option_copied, length, IfOk, IfErr, MatchOption};
+ghost use Rattle.esto_course.specs.Course.{Stops};
+ghost use Rattle.esto_catalog.specs.Rows.{IsAny, IsWant, Walks};
 ghost use Rattle.esto_settings.specs.Settings.{setting_at};
 ghost use Rattle.esto_settings.specs.declared.setting.Setting.TheVariants.{Integer};
-ghost use Rattle.esto_catalog.specs.Whole.{is_two, top_keys, number_of, reads_toml, reads_version, reads_core, reads_section, reads_whole};
+ghost use Rattle.esto_catalog.specs.Whole.{is_two, top_keys, number_of, reads_toml, reads_version, reads_core, reads_section, reads_rows, reads_whole, entries_of, sections_of};
 
 use crate::fault::{CatalogueError, CatalogueKind, TOP, fault};
 use crate::row::{Keys, knows_keys};
 use esto_settings::{Document, Field, SectionTables, Setting, TomlError, read_toml, setting_at};
+use esto_term::List;
 use esto_text::Version;
 use std::alloc::Global;
 
@@ -109,16 +111,15 @@ fn read_core(alloc: Global, core: Option<bool>) -> Result<bool, CatalogueError>
     }
 }
 
-// The entries of a section: WrongType where it is no array of tables, TooMany where it has
-// more than `MAX_ENTRIES`.
-#[tactic(auto, using(crate::proofs::RowLemmas::rows))]
-fn read_section(
+// The section is an array of tables, with at most `MAX_ENTRIES` entries; else WrongType or TooMany.
+fn fits_section(
     alloc: Global,
     key: &str,
-    section: Option<SectionTables>,
-) -> Result<SectionTables, CatalogueError>
-    ensures section { Walks (reads_section key.now section) result }
-    ensures few { IfOk result (λ entries. length entries ≤ MAX_ENTRIES) }
+    section: &Option<SectionTables>,
+) -> Result<(), CatalogueError>
+    ensures goes { IfOk result (λ _. (reads_section key.now section.now).goes
+        (entries_of section.now)) }
+    ensures error { IfErr result (Stops IsWant IsAny (reads_section key.now section.now)) }
 {
     let Some(entries) = section else {
         return Err(fault(alloc, CatalogueKind::WrongType, TOP, key, None));
@@ -126,36 +127,53 @@ fn read_section(
     if entries.len() > MAX_ENTRIES {
         return Err(fault(alloc, CatalogueKind::TooMany, TOP, key, None));
     }
-    Ok(entries)
+    Ok(())
+}
+
+// The rows of the document, in order: unknown keys, the version, whether the core is asked for, each section.
+fn read_rows(alloc: Global, document: &Document) -> Result<(Version, bool), CatalogueError>
+    ensures { Walks (reads_rows document.now) result }
+{
+    let entry = document.fields.items();
+    let keys = top_keys(entry);
+    knows_keys(alloc, TOP, keys, entry)?;
+    let version = read_version(alloc, entry)?;
+    let core = read_core(alloc, document.core)?;
+    fits_section(alloc, "dataset", &document.datasets)?;
+    fits_section(alloc, "fragment", &document.fragments)?;
+    fits_section(alloc, "constraint", &document.constraints)?;
+    Ok((version, core))
+}
+
+// The entries of a section, or none where it is no array of tables.
+fn entries_of(alloc: Global, section: Option<SectionTables>) -> SectionTables
+    ensures { result ≡ entries_of section }
+{
+    match section {
+        Some(entries) => entries,
+        None => List::new(alloc),
+    }
+}
+
+// The document's entries, with its version and whether the core is asked for.
+fn sections_of(alloc: Global, version: Version, core: bool, document: Document) -> Sections
+    ensures { result ≡ sections_of version core document }
+{
+    Sections {
+        version,
+        core,
+        datasets: entries_of(alloc, document.datasets),
+        fragments: entries_of(alloc, document.fragments),
+        constraints: entries_of(alloc, document.constraints),
+    }
 }
 
 /// The rows of the whole file, in order: TOML, unknown keys, the version, whether the core is asked for, each section.
-#[tactic(auto, using(crate::proofs::RowLemmas::rows))]
 pub fn read_whole(alloc: Global, bytes: &[u8]) -> Result<Sections, CatalogueError>
     ensures whole { Walks (reads_whole bytes.now) result }
     ensures few { IfOk result (λ sections. length sections.datasets ≤ MAX_ENTRIES) }
 {
     let document = document_of(alloc, bytes)?;
-    let Document {
-        fields,
-        core,
-        datasets,
-        fragments,
-        constraints,
-    } = document;
-    let entry = fields.items();
-    let keys = top_keys(entry);
-    knows_keys(alloc, TOP, keys, entry)?;
-    let version = read_version(alloc, entry)?;
-    let core = read_core(alloc, core)?;
-    let datasets = read_section(alloc, "dataset", datasets)?;
-    let fragments = read_section(alloc, "fragment", fragments)?;
-    let constraints = read_section(alloc, "constraint", constraints)?;
-    Ok(Sections {
-        version,
-        core,
-        datasets,
-        fragments,
-        constraints,
-    })
+    let (version, core) = read_rows(alloc, &document)?;
+    Ok(sections_of(alloc, version, core, document))
 }

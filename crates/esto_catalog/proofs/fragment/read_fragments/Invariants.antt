@@ -8,7 +8,6 @@ use Rattle.esto_catalog.proofs.fragment.read_fragments.Given as goal
 
 abbrev pub invariant-entries : goal.invariant-entries
 invariant-entries l = record {
-  leads : Leads (each (adds_fragment l.scope.datasets) (suc l.index) (record { definitions = l.definitions; stores = l.stores }) (drop l.index l.entries))
-      (reads_fragments l.scope.datasets l.entries);
-  sound : AreSoundFragments (arities_of l.scope.schema) (record { definitions = l.definitions; stores = l.stores });
+  leads : Leads (each (adds_fragment l.scope.datasets) (suc l.index) l.fragments (drop l.index l.entries)) (reads_fragments l.scope.datasets l.entries);
+  sound : AreSoundFragments (arities_of l.scope.schema) l.fragments;
 }
