@@ -4,8 +4,6 @@ use Rattle.esto_course.proofs.Steps.{stops_more}
 use Rattle.esto_course.specs.Course.{Stops, and_then, gives}
 use Rattle.esto_query.specs.declared.query.Query.{Query}
 use Rattle.esto_read.specs.declared.read.NamedQuery.{NamedQuery}
-use Rattle.esto_read.specs.declared.words.DataModel.{DataModel}
-use Rattle.esto_settings.specs.Settings.{setting_at}
 use Rattle.esto_settings.specs.declared.setting.Field.{Field}
 use Rattle.esto_views.specs.declared.fragments.FragmentDef.{FragmentDef}
 use Rattle.esto_catalog.proofs.AccessLemmas.{AreSoundPatterns, access_sound, weight_light}
@@ -20,7 +18,6 @@ use Rattle.esto_catalog.specs.declared.catalogue.Store.{Store}
 use Rattle.esto_catalog.specs.declared.dataset.Dataset.{Dataset}
 use Rattle.esto_catalog.specs.declared.fault.CatalogueError.{CatalogueError}
 use Rattle.esto_catalog.specs.declared.fault.Place.{Place}
-use Rattle.esto_catalog.specs.declared.fragment.Stored.{Stored}
 use Rattle.esto_catalog.specs.declared.row.Keys.TheVariants as keys
 
 module _ (place : Place) (datasets : List Dataset) (earlier : List FragmentDef) (entry : List Field) (unit : Unit {0})

@@ -22,7 +22,7 @@ use Rattle.esto_catalog.proofs.SchemaLemmas.{datasets_schema}
 use Rattle.esto_catalog.specs.Datasets.{IsDataset, reads_datasets, schema_of, words_of}
 use Rattle.esto_catalog.specs.Scope.{IsScope}
 use Rattle.esto_catalog.specs.declared.scope.Scope.{Scope}
-use Rattle.esto_catalog.specs.Constraints.{adds_constraint, reads_constraint, reads_constraints}
+use Rattle.esto_catalog.specs.Constraints.{adds_constraint, reads_constraint}
 use Rattle.esto_catalog.specs.Fragments.{adds_fragment, reads_fragment, reads_fragments, with_fragment, no_fragments, stored_fragment}
 use Rattle.esto_catalog.specs.Reading.{AreRankedOf, IsCycleOf, IsMadeOf, reads_parts, reads_sections}
 use Rattle.esto_catalog.specs.Rows.{IsWant, IsAny}

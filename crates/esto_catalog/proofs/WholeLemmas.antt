@@ -1,13 +1,10 @@
 -- What the rows of a document give is what the whole file gives.
-use Rattle.std.proofs.Common.{◌≡◌, ◌<◌, ◌≤◌, ℕ, Bool, List, Option, Some, None, codes, length, ap, inl, inr, refl, subst, sym, arith}
-use Rattle.esto_course.proofs.Steps.{first_stops, stops_more, then_goes, gives_goes}
-use Rattle.esto_course.specs.Course.{Course, Stops, and_then, demands, gives, refuses}
-use Rattle.esto_catalog.proofs.RowLemmas.{demands_goes, demands_stops}
-use Rattle.esto_catalog.specs.Rows.{IsAny, IsFault, IsWant, fault_at, top, knows_keys}
-use Rattle.esto_catalog.specs.Whole.{entries_of, sections_of, top_keys, reads_core, reads_rows, reads_section, reads_toml, reads_version, reads_whole}
+use Rattle.std.proofs.Common.{◌≡◌, ◌≤◌, ℕ, Bool, List, Option, Some, None, codes, length, ap, inl, inr, refl, subst, sym}
+use Rattle.esto_course.proofs.Steps.{stops_more}
+use Rattle.esto_course.specs.Course.{Stops, and_then, demands, gives, refuses}
+use Rattle.esto_catalog.specs.Rows.{IsAny, IsWant}
+use Rattle.esto_catalog.specs.Whole.{entries_of, sections_of, reads_core, reads_rows, reads_section, reads_toml, reads_version, reads_whole}
 use Rattle.esto_catalog.specs.declared.fault.CatalogueError.{CatalogueError}
-use Rattle.esto_catalog.specs.declared.fault.CatalogueKind.TheVariants.{TooMany}
-use Rattle.esto_catalog.specs.declared.whole.Sections.{Sections}
 use Rattle.esto_catalog.specs.declared.whole.TheConstants.{MAX_ENTRIES}
 use Rattle.esto_settings.specs.Settings.{setting_at}
 use Rattle.esto_settings.specs.declared.setting.Document.{Document}

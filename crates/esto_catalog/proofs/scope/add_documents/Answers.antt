@@ -1,4 +1,4 @@
-use Rattle.esto_catalog.proofs.SchemaLemmas.{root_fits, field_fits, item_fits, value_fits, below_fits, all_added}
+use Rattle.esto_catalog.proofs.SchemaLemmas.{root_fits, field_fits, item_fits, value_fits, below_fits}
 use Rattle.esto_catalog.proofs.scope.add_documents.Goals as goal
 
 pub add_part-requires : goal.add_part-requires
