@@ -1,5 +1,5 @@
 -- Datasets that were read are sound over the relations of all.
-use Rattle.std.proofs.Common.{◌≡◌, ◌≢◌, ◌<◌, ◌≤◌, ◌+◌, ◌*◌, ℕ, suc, List, [], ◌∷◌, ◌++◌, length, map, drop, get_or, true, false, Some, inl, inr, refl, sym, ap, subst, ◌∙◌, arith, length-append}
+use Rattle.std.proofs.Common.{◌≡◌, ◌≢◌, ◌<◌, ◌≤◌, ◌+◌, ◌*◌, ℕ, suc, List, [], ◌∷◌, ◌++◌, length, map, drop, get_or, true, false, Option, Some, inl, inr, refl, sym, ap, subst, ◌∙◌, arith, length-append}
 use Rattle.std.specs.Prelude.{Contains, AllPairs, slice_get}
 use Rattle.std.proofs.lemmas.Bool.{false≢true}
 use Rattle.std.proofs.lemmas.Cmp.{nat_list_eq_equiv}
@@ -25,6 +25,14 @@ use Rattle.esto_catalog.specs.declared.fault.Place.{Place}
 use Rattle.esto_catalog.specs.declared.fault.Section.TheVariants as section
 use Rattle.esto_settings.specs.declared.setting.Field.{Field}
 use Rattle.esto_catalog.specs.declared.whole.TheConstants.{MAX_ENTRIES}
+
+-- a dataset by other words of its name and its base
+pub same_dataset : (name other : List ℕ) (model : DataModel) (base from : ℕ) (columns : List (List ℕ)) (layout : Layout) (file : Option (List ℕ)) → other ≡ name
+    → from ≡ base
+    → ◌≡◌ {A = Dataset} (record { name = other; model = model; base = from; columns = columns; layout = layout; file = file })
+    (record { name = name; model = model; base = base; columns = columns; layout = layout; file = file })
+same_dataset name other model base from columns layout file named based =
+    λ i. record { name = named i; model = model; base = based i; columns = columns; layout = layout; file = file }
 
 -- ---- relations of more datasets
 

@@ -1,7 +1,8 @@
 //! Datasets, and the rows of one.
-ghost use Rattle.std.specs.Prelude.{◌≡◌, ◌≤◌, length, IfOk};
+ghost use Rattle.std.specs.Prelude.{◌≡◌, ◌≤◌, length, IfOk, IfErr};
+ghost use Rattle.esto_course.specs.Course.{Stops};
 ghost use Rattle.esto_catalog.specs.Datasets.{AreDatasets, has_dataset, name_row, needs_columns, no_columns, columns_row, relation_count, schema_of, reads_dataset, reads_datasets};
-ghost use Rattle.esto_catalog.specs.Rows.{Walks};
+ghost use Rattle.esto_catalog.specs.Rows.{IsAny, IsWant, Walks};
 ghost use Rattle.esto_catalog.specs.declared.whole.TheConstants.{MAX_ENTRIES};
 
 use crate::columns::{are_columns, is_name};
@@ -39,14 +40,14 @@ pub fn has_dataset(name: &Text, datasets: &[Dataset]) -> bool
 }
 
 // The name: a name, and no earlier dataset's.
-#[tactic(auto, using(crate::proofs::RowLemmas::rows))]
-fn name(
+fn name<'a>(
     alloc: Global,
     place: Place,
     earlier: &[Dataset],
-    entry: &[Field],
-) -> Result<Text, CatalogueError>
-    ensures { Walks (name_row place earlier.now entry.now) result }
+    entry: &'a [Field],
+) -> Result<&'a Text, CatalogueError>
+    ensures goes { IfOk result (λ name. (name_row place earlier.now entry.now).goes name.now) }
+    ensures error { IfErr result (Stops IsWant IsAny (name_row place earlier.now entry.now)) }
 {
     let name = needs_text(alloc, place, "name", entry)?;
     let bytes = name.bytes();
@@ -54,7 +55,7 @@ fn name(
     demand(alloc, is_name, CatalogueKind::BadName, place, "name")?;
     let is_there = has_dataset(name, earlier);
     demand(alloc, !is_there, CatalogueKind::SameName, place, "name")?;
-    Ok(name.copy(alloc)?)
+    Ok(name)
 }
 
 // The columns of a table.
@@ -113,7 +114,6 @@ fn relation_count(model: DataModel) -> usize
 
 // The rows of a dataset whose first relation is that of the base, in order: unknown keys, name, model, columns, layout,
 // file.
-#[tactic(auto, using(crate::proofs::RowLemmas::rows))]
 fn read_dataset(
     alloc: Global,
     place: Place,
@@ -131,7 +131,7 @@ fn read_dataset(
     let layout = layout(alloc, place, model, entry)?;
     let file = allows_text(alloc, place, "file", entry)?;
     Ok(Dataset {
-        name,
+        name: name.copy(alloc)?,
         model,
         base,
         columns,
