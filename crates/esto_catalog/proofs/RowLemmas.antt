@@ -2,7 +2,7 @@
 use Rattle.std.proofs.Common.{◌≡◌, ◌<◌, ◌≤◌, ℕ, List, length, Bor, Option, Some, None, option_copied, subst, arith, Bool, true, false, not, Result, Ok, Err, inl, inr, refl, sym, ◌∙◌}
 use Rattle.std.proofs.lemmas.Bool.{false≢true}
 use Rattle.std.specs.Prelude.{◌↔◌, MatchOption}
-use Rattle.std.specs.Result.{IfErr, IsErrAnd}
+use Rattle.std.specs.Result.{IfOk, IfErr, IsErrAnd, result_and}
 use Rattle.esto_course.proofs.Steps.{at_exit, first_stops, then_stops, then_goes, gives_goes}
 use Rattle.esto_course.specs.Course.{Course, judges, gives, refuses, demands, and_then, Stops}
 use Rattle.esto_course.specs.Course.Stops.{is_free, refused}
@@ -91,9 +91,29 @@ module _ (answer test : Bool) (fault : CatalogueError) where
   pub not_goes : (unit more : Unit {0}) → (demands (answer ≡ true) fault).goes unit → answer ≡ not test → (demands (test ≡ false) fault).goes more
   not_goes unit more goes is = same_goes _ _ fault (by_not answer test is) unit more goes
 
+  pub not_walks : (result : Result (Unit {0}) CatalogueError) → Walks (demands (answer ≡ true) fault) result → answer ≡ not test
+      → Walks (demands (test ≡ false) fault) result
+  not_walks result walks is = same_walks _ _ fault (by_not answer test is) result walks
+
   pub not_stops : (error : CatalogueError) → Stops IsWant IsAny (demands (answer ≡ true) fault) error → answer ≡ not test
       → Stops IsWant IsAny (demands (test ≡ false) fault) error
   not_stops error stops is = same_stops _ _ fault (by_not answer test is) error stops
+
+-- a value that a condition lets pass
+module _ {A : Type 0} (value : A) (checked : Result (Unit {0}) CatalogueError) (result : Result A CatalogueError) (is : result ≡ result_and checked (Ok value)) where
+  pub checked_walks : (condition : Type 0) (fault : CatalogueError) → Walks (demands condition fault) checked
+      → Walks (and_then (demands condition fault) (λ _. gives value)) result
+  checked_walks condition fault walks = subst (Walks (and_then (demands condition fault) (λ _. gives value))) (sym is) (passes condition fault checked walks) where
+    passes : (condition : Type 0) (fault : CatalogueError) (checked : Result (Unit {0}) CatalogueError) → Walks (demands condition fault) checked
+        → Walks (and_then (demands condition fault) (λ _. gives value)) (result_and checked (Ok value))
+    passes condition fault (Ok unit) goes = then_goes (demands condition fault) (λ _. gives value) unit value goes (gives_goes CatalogueError value value refl)
+    passes condition fault (Err error) stops = first_stops (demands condition fault) (λ _. gives value) stops
+
+  pub checked_holds : (P : A → Type 0) → P value → IfOk result P
+  checked_holds P holds = subst (λ (it : Result A CatalogueError). IfOk it P) (sym is) (keeps checked) where
+    keeps : (checked : Result (Unit {0}) CatalogueError) → IfOk (result_and checked (Ok value)) P
+    keeps (Ok unit) = holds
+    keeps (Err error) = tt
 
 -- a judgement that accepts
 pub judges_goes : {A : Type 0} (accepts : A → Type 0) (refuses : CatalogueError → Type 0) (value : A) → accepts value → (judges accepts refuses).goes value

@@ -1,10 +1,10 @@
 -- The shape in which a fragment is stored is one for its view.
-use Rattle.std.proofs.Common.{◌≡◌, ◌&&◌, ℕ, List, [], ◌∷◌, length, map, take, codes, Bool, false, Option, Some, None, refl, sym, ap, subst, ◌∙◌, arith, inl, inr}
+use Rattle.std.proofs.Common.{◌≡◌, ◌<◌, ◌+◌, ◌&&◌, ℕ, List, [], ◌∷◌, ◌++◌, length, map, take, get_or, codes, Bool, false, Option, Some, None, refl, sym, ap, subst, ◌∙◌, arith, inl, inr}
 use Rattle.std.specs.Prelude.{◌≢◌, AllPairs, Contains, nat_eq}
 use Rattle.std.specs.Cmp.Lexicographic.{pointwise}
 use Rattle.std.specs.List.{AllZip, starts_with}
 use Rattle.std.proofs.lemmas.Bool.Decides.{nat_tests}
-use Rattle.std.proofs.lemmas.List.{length-map}
+use Rattle.std.proofs.lemmas.List.{length-map, map-append, take_more}
 use Rattle.esto_course.specs.Course.{and_then, judges, gives, refuses, demands}
 use Rattle.esto_docmodel.specs.Layouts.{IsLayout}
 use Rattle.esto_docmodel.specs.Shapes.{entries_of}
@@ -112,3 +112,21 @@ pub view_reading : (place : Place) (datasets : List Dataset) (earlier : List Fra
 unfolding and_then judges gives demands
 view_reading place datasets earlier entry view (text, needed, (read, reads, (unit, new, is))) =
     (text, subst (IsReading View (words_of datasets) (arities_of (schema_of datasets)) text) (sym is) reads)
+
+-- one column more, and one name more
+module _ (names : List Name) (terms : List Term) (index : ℕ) (term : Term) (column : List ℕ) (below : index < length terms)
+    (at : term ≡ get_or terms index term) (is : column ≡ column_of names term) where
+  columns_more : map (column_of names) (take index terms) ++ column ∷ [] ≡ map (column_of names) (take (index + 1) terms)
+  columns_more =
+      ap (λ (it : List ℕ). map (column_of names) (take index terms) ++ it ∷ []) is ∙ sym (map-append (column_of names) (take index terms) (term ∷ []))
+      ∙ ap (map (column_of names)) (sym (take_more terms index term below ∙ ap (λ (it : Term). take index terms ++ it ∷ []) (sym at)))
+
+  pub column_turn : (columns after : List (List ℕ)) → columns ≡ map (column_of names) (take index terms) → after ≡ columns ++ column ∷ []
+      → after ≡ map (column_of names) (take (index + 1) terms)
+  column_turn columns after so_far one = one ∙ ap (λ it. it ++ column ∷ []) so_far ∙ columns_more
+
+  pub name_turn : (given after : List Name) → given ≡ map Given (map (column_of names) (take index terms)) → after ≡ given ++ Given column ∷ []
+      → after ≡ map Given (map (column_of names) (take (index + 1) terms))
+  name_turn given after so_far one =
+      one ∙ ap (λ it. it ++ Given column ∷ []) so_far ∙ sym (map-append Given (map (column_of names) (take index terms)) (column ∷ []))
+      ∙ ap (map Given) columns_more

@@ -125,13 +125,14 @@ fn read_dataset(
     ensures { Walks (reads_dataset place earlier.now entry.now) result }
 {
     knows_keys(alloc, place, Keys::Dataset, entry)?;
-    let name = name(alloc, place, earlier, entry)?;
+    let said = name(alloc, place, earlier, entry)?;
     let model = needs_model(alloc, CatalogueKind::BadModel, place, "model", entry)?;
+    let name = said.copy(alloc)?;
     let columns = columns(alloc, place, model, entry)?;
     let layout = layout(alloc, place, model, entry)?;
     let file = allows_text(alloc, place, "file", entry)?;
     Ok(Dataset {
-        name: name.copy(alloc)?,
+        name,
         model,
         base,
         columns,

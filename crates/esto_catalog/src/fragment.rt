@@ -95,8 +95,7 @@ fn view(
     let text = needs_text(alloc, place, "view", entry)?;
     let view = view_of_text(alloc, place, scope, text)?;
     let is_taken = is_taken(&view.name, scope, earlier);
-    demand(alloc, !is_taken, CatalogueKind::SameName, place, "view")?;
-    Ok(view)
+    demand(alloc, !is_taken, CatalogueKind::SameName, place, "view").and(Ok(view))
 }
 
 // The rows of how a fragment may be read, in order: access, weight.

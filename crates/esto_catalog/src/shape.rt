@@ -162,8 +162,8 @@ fn pattern(
         CatalogueKind::BadPattern,
         place,
         "pattern",
-    )?;
-    Ok(pattern)
+    )
+    .and(Ok(pattern))
 }
 
 // The shape of documents.
