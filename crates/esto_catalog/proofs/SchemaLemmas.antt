@@ -195,6 +195,16 @@ fits_arity schema relation is =
 abbrev pub word_of : Dataset → Word
 word_of dataset = record { name = dataset.name; model = dataset.model; base = dataset.base }
 
+-- the words of the first datasets and of the next one
+pub word_turn : (datasets : List Dataset) (index : ℕ) (dataset : Dataset) (name : List ℕ) (words after : List Word) → index < length datasets
+    → dataset ≡ get_or datasets index dataset → name ≡ dataset.name → words ≡ words_of (take index datasets)
+    → after ≡ words ++ record { name = name; model = dataset.model; base = dataset.base } ∷ []
+    → after ≡ words_of (take (index + 1) datasets)
+word_turn datasets index dataset name words after below at named so_far is =
+    is ∙ ap (λ (n : List ℕ). words ++ record { name = n; model = dataset.model; base = dataset.base } ∷ []) named
+    ∙ ap (λ it. it ++ word_of dataset ∷ []) so_far ∙ sym (map-append word_of (take index datasets) (dataset ∷ []))
+    ∙ ap words_of (sym (take_more datasets index dataset below ∙ ap (λ d. take index datasets ++ d ∷ []) (sym at)))
+
 arity_at : (schema : List Relation) (base : ℕ) (relations : List Relation) → StandFrom schema base relations → (number place : ℕ) (relation : Relation)
     → slice_get relations number ≡ Some relation → place ≡ base + number → slice_get (arities_of schema) place ≡ Some relation.arity
 arity_at schema base relations stand number place relation at is =

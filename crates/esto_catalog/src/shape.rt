@@ -93,7 +93,6 @@ fn columns(
 }
 
 // The shape of a table.
-#[tactic(auto, using(crate::proofs::RowLemmas::rows))]
 fn table(
     alloc: Global,
     place: Place,
@@ -167,7 +166,6 @@ fn pattern(
 }
 
 // The shape of documents.
-#[tactic(auto, using(crate::proofs::RowLemmas::rows))]
 fn documents(
     alloc: Global,
     place: Place,
@@ -184,7 +182,6 @@ fn documents(
 }
 
 // The shape of keys.
-#[tactic(auto, using(crate::proofs::RowLemmas::rows))]
 fn keys(alloc: Global, place: Place, entry: &[Field]) -> Result<Shape, CatalogueError>
     ensures { Walks (keys_row place entry.now) result }
 {
