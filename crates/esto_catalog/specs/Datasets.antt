@@ -2,6 +2,7 @@
 use Rattle.std.specs.Prelude.{◌≡◌, ◌≢◌, ℕ, ◌+◌, ◌≤◌, List, [], ◌∷◌, ◌++◌, Option, Some, Bool, true, false, ◌&&◌, ◌||◌, nat_le, nat_lt, nat_eq, length, map, codes, AllPairs, Contains, slice_get}
 use Rattle.std.specs.List.{list_all, list_any, starts_with}
 use Rattle.esto_course.specs.Course.{Course, gives, demands, and_then, each}
+use Rattle.esto_docs.specs.declared.layout.Layout.{Layout}
 use Rattle.esto_docs.specs.declared.layout.Layout.TheVariants.{Lines}
 use Rattle.esto_query.specs.declared.schema.Relation.{Relation}
 use Rattle.esto_read.specs.declared.words.DataModel.{DataModel}
@@ -124,6 +125,21 @@ reads_dataset place earlier entry =
     and_then (layout_row place model entry) (λ layout.
     and_then (dataset_file_row place entry) (λ file.
     gives (record { name = name; model = model; base = length (schema_of earlier); columns = columns; layout = layout; file = file })))))))
+
+-- The rows of how a dataset's documents stand and of its file, in order: layout, file.
+abbrev pub stand_row : Place → DataModel → List Field → Course CatalogueError (Layout × Option (List ℕ))
+stand_row place model entry =
+    and_then (layout_row place model entry) (λ layout.
+    and_then (dataset_file_row place entry) (λ file.
+    gives (layout, file)))
+
+-- The rows after the name, in order: model, columns, layout, file.
+abbrev pub described_row : Place → List Field → Course CatalogueError (DataModel × List (List ℕ) × Layout × Option (List ℕ))
+described_row place entry =
+    and_then (needs_model BadModel place (codes "model") entry) (λ model.
+    and_then (columns_row place model entry) (λ columns.
+    and_then (stand_row place model entry) (λ stand.
+    gives (model, columns, stand.0, stand.1))))
 
 -- One dataset more.
 abbrev pub adds_dataset : ℕ → List Dataset → List Field → Course CatalogueError (List Dataset)

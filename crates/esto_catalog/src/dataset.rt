@@ -1,7 +1,7 @@
 //! Datasets, and the rows of one.
 ghost use Rattle.std.specs.Prelude.{◌≡◌, ◌≤◌, length, IfOk, IfErr};
 ghost use Rattle.esto_course.specs.Course.{Stops};
-ghost use Rattle.esto_catalog.specs.Datasets.{AreDatasets, has_dataset, name_row, needs_columns, no_columns, columns_row, relation_count, schema_of, reads_dataset, reads_datasets};
+ghost use Rattle.esto_catalog.specs.Datasets.{AreDatasets, has_dataset, name_row, needs_columns, no_columns, columns_row, relation_count, schema_of, stand_row, described_row, reads_dataset, reads_datasets};
 ghost use Rattle.esto_catalog.specs.Rows.{IsAny, IsWant, Walks};
 ghost use Rattle.esto_catalog.specs.declared.whole.TheConstants.{MAX_ENTRIES};
 
@@ -112,6 +112,34 @@ fn relation_count(model: DataModel) -> usize
     }
 }
 
+// The rows of how a dataset's documents stand and of its file, in order: layout, file.
+fn stand(
+    alloc: Global,
+    place: Place,
+    model: DataModel,
+    entry: &[Field],
+) -> Result<(Layout, Option<Text>), CatalogueError>
+    ensures { Walks (stand_row place model entry.now) result }
+{
+    let layout = layout(alloc, place, model, entry)?;
+    let file = allows_text(alloc, place, "file", entry)?;
+    Ok((layout, file))
+}
+
+// The rows after the name, in order: model, columns, layout, file.
+fn described(
+    alloc: Global,
+    place: Place,
+    entry: &[Field],
+) -> Result<(DataModel, TextRow, Layout, Option<Text>), CatalogueError>
+    ensures { Walks (described_row place entry.now) result }
+{
+    let model = needs_model(alloc, CatalogueKind::BadModel, place, "model", entry)?;
+    let columns = columns(alloc, place, model, entry)?;
+    let (layout, file) = stand(alloc, place, model, entry)?;
+    Ok((model, columns, layout, file))
+}
+
 // The rows of a dataset whose first relation is that of the base, in order: unknown keys, name, model, columns, layout,
 // file.
 fn read_dataset(
@@ -126,11 +154,8 @@ fn read_dataset(
 {
     knows_keys(alloc, place, Keys::Dataset, entry)?;
     let said = name(alloc, place, earlier, entry)?;
-    let model = needs_model(alloc, CatalogueKind::BadModel, place, "model", entry)?;
     let name = said.copy(alloc)?;
-    let columns = columns(alloc, place, model, entry)?;
-    let layout = layout(alloc, place, model, entry)?;
-    let file = allows_text(alloc, place, "file", entry)?;
+    let (model, columns, layout, file) = described(alloc, place, entry)?;
     Ok(Dataset {
         name,
         model,
