@@ -1,15 +1,20 @@
 -- The atoms of a plan, read as facts over fragments, and lists of numbers.
-use Rattle.std.proofs.Common.{◌≡◌, ◌↔◌, ℕ, ◌<◌, ◌≤◌, Bool, List, map, length, get_or, Some, slice_get, IsTrue, Contains, sym, ◌∙◌, subst, arith}
-use Rattle.std.proofs.lemmas.List.{get_or_default}
+use Rattle.std.proofs.Common.{◌≡◌, ◌↔◌, ℕ, ◌<◌, ◌≤◌, Bool, List, map, length, get_or, [], Option, None, Some, slice_get, slice_index_or, IsTrue, Contains, refl, sym, ◌∙◌, subst, arith}
+use Rattle.std.specs.Option.{is_some}
+use Rattle.std.proofs.lemmas.Bool.{false≢true}
+use Rattle.std.proofs.lemmas.List.{get_or_default, get_or_past, length-map}
 use Rattle.std.proofs.lemmas.Option.{same_Some, slice_get_within, get_or_from_slice_get}
 use Rattle.esto_term.specs.declared.term.Term.{Term}
 use Rattle.esto_semantics.specs.declared.fact.Fact.{Fact}
 use Rattle.esto_semantics.specs.Sets.{Has}
 use Rattle.esto_semantics.specs.Access.{Patterns, IsAccessible}
 use Rattle.esto_views.specs.declared.plan.PlanAtom.{PlanAtom}
+use Rattle.esto_views.specs.declared.fragments.FragmentDef.{FragmentDef}
+use Rattle.esto_views.specs.Fragments.{patterns_of}
 use Rattle.esto_views.specs.Plans.{fact_of}
 use Rattle.esto_access.specs.Runs.{CanFollow}
-use Rattle.esto_term.proofs.ListLemmas.{map_at}
+use Rattle.esto_access.specs.Ways.{IsWay}
+use Rattle.esto_term.proofs.ListLemmas.{Contains-at, map_at}
 
 module _ (atoms : List PlanAtom) (number : ℕ) (atom : PlanAtom) (at : slice_get atoms number ≡ Some atom) where
   at_fact : slice_get (map fact_of atoms) number ≡ Some (fact_of atom)
@@ -50,3 +55,17 @@ pub holds_at_each : (P : ℕ → ℕ → Type 0) (numbers : List ℕ) (count : �
     → (place number : ℕ) → slice_get numbers place ≡ Some number → P place number
 holds_at_each P numbers count l each place number e = subst (P place) (get_or_from_slice_get numbers place number 0 e)
     (each place (omega (arith, slice_get_within numbers place number e, l)))
+
+-- ---- the way in which an atom is read
+
+-- no patterns are given past the last fragment
+pub no_patterns : (fragments : List FragmentDef) (number : ℕ) → length fragments ≤ number → slice_index_or (patterns_of fragments) number [] ≡ []
+no_patterns fragments number past =
+    get_or_past (patterns_of fragments) number [] (let same = length-map fragments (λ (it : FragmentDef). it.access) in omega (arith, same, past))
+
+-- an atom is accessible where there is a way in which it is read
+pub way_tells : (patterns : Patterns) (atoms : List (Fact Term)) (Chosen : ℕ → Type 0) (atom : Fact Term) (way : Option ℕ)
+    → IsWay atoms Chosen atom (slice_index_or patterns atom.relation []) way → IsTrue (is_some way) ↔ IsAccessible patterns atoms Chosen atom
+way_tells patterns atoms Chosen atom None none = (λ e. absurd (false≢true e), λ (pattern, inside, meets). absurd (none pattern inside meets))
+way_tells patterns atoms Chosen atom (Some place) first =
+    (λ _. (first.pattern, Contains-at (slice_index_or patterns atom.relation []) place first.pattern first.at, first.meets), λ _. refl)

@@ -16,6 +16,7 @@ use Rattle.esto_views.specs.declared.plan.PlanAtom.{PlanAtom}
 use Rattle.esto_views.proofs.PatternLemmas.{patterns_at}
 use Rattle.esto_bits.specs.Kept.{Kept, kept}
 use Rattle.esto_access.specs.Supplies.{sets_at, IsSupplied}
+use Rattle.esto_access.proofs.AtomLemmas.{no_patterns}
 use Rattle.esto_access.specs.Rounds.{IsNextIn}
 use Rattle.esto_bits.proofs.JoinLemmas.{covers_none}
 use Rattle.esto_term.proofs.ListLemmas.{Contains-nil, HoldsBelow, SomeBelow, some_none, some_step, some_all, some_contained, each_none, each_step, each_all, map_at, thing_at}
@@ -39,6 +40,16 @@ supplied_from supplies set number supplied = elim (cases_lt number (length suppl
       below in (there.0, there.1, subst (λ its. Covers its set) (sets_there supplies number there.0 there.1) supplied))
   | inr beyond ↦ absurd (covers_none set (subst (λ it. Covers it set) (ap (λ (it : Kept). it.sets) (get_or_past supplies number (kept 0 []) beyond)) supplied))
 ]
+
+-- what the set of one number is a subset of
+pub with_number : (count number : ℕ) (none row : List Bool) (found : List (List Bool)) → none ≡ replicate count false
+    → ((other : ℕ) → Has row other ↔ ((other ≡ number) ⊎ Has none other)) → ((set : List Bool) → Covers found set ↔ Within row set)
+    → (set : List Bool) → Covers found set ↔ Has set number
+with_number count number none row found is has covers set = (
+  λ h. (covers set).0 h number ((has number).1 (inl refl)),
+  λ there. (covers set).1 (λ other h. elim ((has other).0 h)
+      [ inl same ↦ subst (Has set) (sym same) there | inr never ↦ absurd (none_has count other (subst (λ it. Has it other) is never)) ]),
+)
 
 -- ---- the atoms in which a term occurs
 
@@ -81,11 +92,9 @@ module _ (atoms : List PlanAtom) (supplies : List Kept) (term : Term) where
       )
 
   -- a constant is bound in every set
-  pub binds_constant : (count : ℕ) (row : List Bool) (found : List (List Bool)) → row ≡ replicate count false
-      → ((set : List Bool) → Covers found set ↔ Within row set) → IsConstant term
+  pub binds_constant : (found : List (List Bool)) → ((set : List Bool) → Covers found set) → IsConstant term
       → (set : List Bool) → Covers found set ↔ IsBound (map fact_of atoms) (IsSupplied supplies set) term
-  binds_constant count row found is covers constant set =
-      (λ _. inl constant, λ _. (covers set).1 (subst (λ it. Within it set) (sym is) (none_within count set)))
+  binds_constant found covers constant set = (λ _. inl constant, λ _. covers set)
 
   pub binds_other : (found : List (List Bool)) → (IsConstant term → ⊥)
       → ((set : List Bool) → Covers found set
@@ -94,6 +103,14 @@ module _ (atoms : List PlanAtom) (supplies : List Kept) (term : Term) where
       → (set : List Bool) → Covers found set ↔ IsBound (map fact_of atoms) (IsSupplied supplies set) term
   binds_other found other covers set =
       (λ h. inr ((covers set).0 h), λ bound. elim bound [ inl constant ↦ absurd (other constant) | inr given ↦ (covers set).1 given ])
+
+-- one family covers also what the sets of another cover, which are those of which something holds
+pub covers_also : (found met after : List (List Bool)) (P : List Bool → Type 0) → ((set : List Bool) → Covers met set ↔ P set)
+    → ((set : List Bool) → Covers after set ↔ (Covers found set ⊎ Covers met set)) → (set : List Bool) → Covers after set ↔ (Covers found set ⊎ P set)
+covers_also found met after P holds also set = (
+  λ h. elim ((also set).0 h) [ inl before ↦ inl before | inr now ↦ inr ((holds set).0 now) ],
+  λ h. (also set).1 (elim h [ inl before ↦ inl before | inr now ↦ inr ((holds set).1 now) ]),
+)
 
 -- ---- the patterns
 
@@ -106,12 +123,10 @@ module _ (atoms : List (Fact Term)) (supplies : List Kept) (number : ℕ) (atom 
     abbrev pub AreMetBelow : ℕ → List (List Bool) → Type 0
     AreMetBelow count found = (set : List Bool) → Covers found set ↔ (Has set number × HoldsBelow (Needs set) atom.terms count)
 
-    pub met_start : (count : ℕ) (none row : List Bool) (found : List (List Bool)) → none ≡ replicate count false
-        → ((other : ℕ) → Has row other ↔ ((other ≡ number) ⊎ Has none other)) → ((set : List Bool) → Covers found set ↔ Within row set) → AreMetBelow 0 found
-    met_start count none row found is has covers set = (
-      λ h. ((covers set).0 h number ((has number).1 (inl refl)), each_none (Needs set) atom.terms),
-      λ (there, _). (covers set).1 (λ other h. elim ((has other).0 h)
-          [ inl same ↦ subst (Has set) (sym same) there | inr never ↦ absurd (none_has count other (subst (λ it. Has it other) is never)) ]),
+    pub met_start : (found : List (List Bool)) → ((set : List Bool) → Covers found set ↔ Has set number) → AreMetBelow 0 found
+    met_start found covers set = (
+      λ h. ((covers set).0 h, each_none (Needs set) atom.terms),
+      λ (there, _). (covers set).1 there,
     )
 
     module _ (count : ℕ) (term : Term) (at : slice_get atom.terms count ≡ Some term) (found : List (List Bool)) (so_far : AreMetBelow count found) where
@@ -147,14 +162,13 @@ module _ (atoms : List (Fact Term)) (supplies : List Kept) (number : ℕ) (atom 
           (some_none (λ _ pattern. Meets set pattern) patterns h),
     )
 
-    pub met_by_grows : (count : ℕ) (pattern : List Bool) → slice_get patterns count ≡ Some pattern → (found met after : List (List Bool))
-        → ((set : List Bool) → Covers met set ↔ Meets set pattern)
-        → ((set : List Bool) → Covers after set ↔ (Covers found set ⊎ Covers met set)) → AreMetByBelow patterns count found
+    pub met_by_grows : (count : ℕ) (pattern : List Bool) → slice_get patterns count ≡ Some pattern → (found after : List (List Bool))
+        → ((set : List Bool) → Covers after set ↔ (Covers found set ⊎ Meets set pattern)) → AreMetByBelow patterns count found
         → AreMetByBelow patterns (count + 1) after
-    met_by_grows count pattern at found met after meets also so_far set =
+    met_by_grows count pattern at found after also so_far set =
         let step = some_step (λ _ it. Meets set it) patterns count pattern at in (
-          λ h. step.1 (elim ((also set).0 h) [ inl before ↦ inl ((so_far set).0 before) | inr now ↦ inr ((meets set).0 now) ]),
-          λ h. (also set).1 (elim (step.0 h) [ inl before ↦ inl ((so_far set).1 before) | inr now ↦ inr ((meets set).1 now) ]),
+          λ h. step.1 (elim ((also set).0 h) [ inl before ↦ inl ((so_far set).0 before) | inr now ↦ inr now ]),
+          λ h. (also set).1 (elim (step.0 h) [ inl before ↦ inl ((so_far set).1 before) | inr now ↦ inr now ]),
         )
 
     pub met_by_end : (items : List (List Bool)) → items ≡ patterns → (count : ℕ) (found : List (List Bool)) → length items ≤ count
@@ -174,16 +188,12 @@ module _ (atoms : List PlanAtom) (fragments : List FragmentDef) (supplies : List
     one_fact : (fact : Fact Term) → slice_get (map fact_of atoms) number ≡ Some fact → fact_of atom ≡ fact
     one_fact fact e = same_Some (fact_of atom) fact (sym (map_at fact_of atoms number atom at) ∙ e)
 
-    no_pattern : length fragments ≤ atom.fragment → slice_index_or (patterns_of fragments) atom.fragment [] ≡ []
-    no_pattern l = get_or_past (patterns_of fragments) atom.fragment []
-        (let same = length-map fragments (λ (it : FragmentDef). it.access) in omega (arith, same, l))
-
     pub next_none : (found : List (List Bool)) → found ≡ [] → length fragments ≤ atom.fragment
         → (set : List Bool) → Covers found set ↔ IsNextIn (patterns_of fragments) (map fact_of atoms) set (IsSupplied supplies set) number
     next_none found is l set = (
       λ h. absurd (covers_none set (subst (λ it. Covers it set) is h)),
       λ (has, (fact, at_fact, (pattern, own, meets))). absurd
-          (Contains-nil pattern (subst (λ its. Contains its pattern) (no_pattern l)
+          (Contains-nil pattern (subst (λ its. Contains its pattern) (no_patterns fragments atom.fragment l)
           (subst (λ (it : Fact Term). Contains (slice_index_or (patterns_of fragments) it.relation []) pattern) (sym (one_fact fact at_fact)) own))),
     )
 

@@ -1,5 +1,5 @@
 //! What an atom needs, and the sets that give it.
-ghost use Rattle.std.specs.Prelude.{◌≡◌, ◌<◌, List, Bool, length, IfOk, OnOk};
+ghost use Rattle.std.specs.Prelude.{◌≡◌, ◌<◌, ◌↔◌, ◌⊎◌, List, Bool, length, IfOk, OnOk};
 ghost use Rattle.esto_semantics.specs.Access.{IsBound, IsInput, MeetsPattern};
 ghost use Rattle.esto_semantics.specs.Sets.{Covers, Has};
 ghost use Rattle.esto_views.specs.Fragments.{patterns_of};
@@ -37,6 +37,15 @@ fn givers(
     Ok(found)
 }
 
+/// All sets: those in which a constant is bound.
+fn every_set(alloc: Global, count: usize) -> Result<Products, OutOfMemory>
+    ensures count { IfOk result (λ it. it.count ≡ count) }
+    ensures covers { IfOk result (λ it. (set : List Bool) → Covers it.sets set) }
+{
+    let none = RowBits::new(alloc, count)?;
+    Products::only(alloc, &none)
+}
+
 /// The sets in which the term is bound.
 fn binders(
     alloc: Global,
@@ -51,12 +60,9 @@ fn binders(
         it.sets) }
 {
     if term.is_constant() {
-        let none = RowBits::new(alloc, plan.atoms.len())?;
-        let found = Products::only(alloc, &none)?;
-        return Ok(found);
+        return every_set(alloc, plan.atoms.len());
     }
-    let found = givers(alloc, plan, supplies, term)?;
-    Ok(found)
+    givers(alloc, plan, supplies, term)
 }
 
 /// Keeps of the covered sets those in which the term is bound, if its column is an input of the pattern.
@@ -85,6 +91,17 @@ fn bind_input(
     Ok(())
 }
 
+/// The sets that have the number.
+fn sets_with(alloc: Global, count: usize, number: usize) -> Result<Products, OutOfMemory>
+    requires { number < count }
+    ensures count { IfOk result (λ it. it.count ≡ count) }
+    ensures covers { IfOk result (λ it. CoversWhere (λ set. Has set number) it.sets) }
+{
+    let mut row = RowBits::new(alloc, count)?;
+    row.insert(number);
+    Products::only(alloc, &row)
+}
+
 /// The sets that have the number and in which its atom meets the pattern.
 fn meeting(
     alloc: Global,
@@ -102,13 +119,33 @@ fn meeting(
         (IsSupplied supplies.now set) (fact_of atom.now) pattern.now)
         it.sets) }
 {
-    let mut row = RowBits::new(alloc, plan.atoms.len())?;
-    row.insert(number);
-    let mut found = Products::only(alloc, &row)?;
+    let mut found = sets_with(alloc, plan.atoms.len(), number)?;
     'columns: for (column, term) in atom.terms.items().iter().enumerate() {
         bind_input(alloc, plan, supplies, pattern, column, term, &mut found)?;
     }
     Ok(found)
+}
+
+/// Adds the sets that have the number and in which its atom meets the pattern.
+fn add_meeting(
+    alloc: Global,
+    plan: &Plan,
+    supplies: &Supplies,
+    number: usize,
+    atom: &PlanAtom,
+    pattern: &Access,
+    found: &mut Products,
+) -> Result<(), OutOfMemory>
+    requires supplies { AreSupplies (plan_query plan.now).body supplies.now }
+    requires number { number < length plan.now.atoms }
+    requires count { found.old.count ≡ length plan.now.atoms }
+    ensures count { found.new.count ≡ found.old.count }
+    ensures covers { OnOk result ((set : List Bool) → Covers found.new.sets set
+        ↔ (Covers found.old.sets set ⊎ (Has set number × MeetsPattern (plan_query plan.now).body
+        (IsSupplied supplies.now set) (fact_of atom.now) pattern.now))) }
+{
+    let met = meeting(alloc, plan, supplies, number, atom, pattern)?;
+    found.add_all(alloc, &met)
 }
 
 /// The sets that have the number and in which its atom meets one of the patterns.
@@ -130,8 +167,7 @@ fn meeting_any(
 {
     let mut found = Products::new(alloc, plan.atoms.len());
     'patterns: for pattern in patterns.items() {
-        let met = meeting(alloc, plan, supplies, number, atom, pattern)?;
-        found.add_all(alloc, &met)?;
+        add_meeting(alloc, plan, supplies, number, atom, pattern, &mut found)?;
     }
     Ok(found)
 }

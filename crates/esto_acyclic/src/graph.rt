@@ -89,7 +89,10 @@ fn lower(from: usize, to: usize, distances: &mut Vec<usize>) -> bool
     requires to { to < length distances.old.items }
     ensures { Lowers from to distances.old.items distances.new.items result }
 {
-    if distances[from] <= 1 || distances[to] >= distances[from] - 1 {
+    if distances[from] <= 1 {
+        return false;
+    }
+    if distances[to] >= distances[from] - 1 {
         return false;
     }
     distances[from] = distances[to] + 1;

@@ -69,8 +69,7 @@ impl Search<'_> {
         ensures trace { IfOk result (λ it. trace_of it ≡ []) }
     {
         let facts = facts_chosen(alloc, self.expanded.items(), set)?;
-        let start = Instance::of_facts(alloc, &facts, &self.plan.head)?;
-        Ok(start)
+        Instance::of_facts(alloc, &facts, &self.plan.head)
     }
 
     /// Whether the set's candidate is contained in the query: the query maps, head to head, to the end of the chase of
@@ -94,10 +93,7 @@ impl Search<'_> {
         let start = self.start_for(alloc, set)?;
         let outcome = chase(alloc, start, &self.catalogue.rules, &self.catalogue.ranks)?;
         match outcome {
-            Left(chased) => {
-                let mapped = chased.instance.receives(alloc, self.query)?;
-                Ok(mapped)
-            }
+            Left(chased) => chased.instance.receives(alloc, self.query),
             Right(_) => Ok(true),
         }
     }
@@ -118,7 +114,6 @@ impl Search<'_> {
         if !is_safe(self.plan, set) {
             return Ok(false);
         }
-        let contained = self.is_contained(alloc, set)?;
-        Ok(contained)
+        self.is_contained(alloc, set)
     }
 }

@@ -1,10 +1,11 @@
 //! Completion: sets of a plan's atoms in which something holds, made executable.
-ghost use Rattle.std.specs.Prelude.{◌≡◌, ◌↔◌, ◌<◌, List, Bool, length, IfOk, IsTrue, Contains};
+ghost use Rattle.std.specs.Prelude.{◌≡◌, ◌↔◌, ◌<◌, List, Bool, Some, length, slice_get, IfOk, OnOk, IsTrue, Contains};
 ghost use Rattle.esto_semantics.specs.Access.{HoldsExecutably};
 ghost use Rattle.esto_semantics.specs.Sets.{Covers, Has, IsMinimal};
 ghost use Rattle.esto_views.specs.Fragments.{patterns_of};
 ghost use Rattle.esto_views.specs.Plans.{plan_query};
 ghost use Rattle.esto_access.specs.Supplies.{CoversWhere, IsSupplied};
+ghost use Rattle.esto_bits.specs.Kept.{CoversEither};
 ghost use Rattle.esto_backchase.specs.Completion.{AreComplete, AreSuppliesOf, HaveOwn, IsCompletedIn, IsOneCompletedIn, completions};
 
 use esto_access::{Supplies, access_products};
@@ -81,6 +82,29 @@ fn are_complete(
     Ok(true)
 }
 
+/// Adds the completions of the set at a place of the products.
+fn add_completions(
+    alloc: Global,
+    products: &Products,
+    supplies: &Supplies,
+    at: usize,
+    found: &mut Products,
+) -> Result<(), OutOfMemory>
+    requires supplies { AreSuppliesOf products.now.count supplies.now }
+    requires own { HaveOwn supplies.now }
+    requires at { at < length products.now.sets }
+    requires count { found.old.count ≡ products.now.count }
+    ensures count { found.new.count ≡ found.old.count }
+    ensures covers { OnOk result ((low : List Bool) × (slice_get products.now.sets at ≡ Some low)
+        × (completed : List (List Bool)) × CoversWhere (IsCompletedIn supplies.now low) completed
+        × CoversEither found.old.sets completed found.new.sets) }
+{
+    products_are_antichains(products);
+    let low = products.copy_of(alloc, at)?;
+    let completed = completions_of(alloc, &low, supplies)?;
+    found.add_all(alloc, &completed)
+}
+
 /// The minimal completions of the products, each completed by itself.
 fn complete_each(
     alloc: Global,
@@ -98,9 +122,7 @@ fn complete_each(
     products_are_antichains(products);
     let mut found = Products::new(alloc, products.count());
     'sets: for at in 0..products.len() {
-        let low = products.copy_of(alloc, at)?;
-        let completed = completions_of(alloc, &low, supplies)?;
-        found.add_all(alloc, &completed)?;
+        add_completions(alloc, products, supplies, at, &mut found)?;
     }
     products_are_antichains(&found);
     Ok(found)
@@ -124,11 +146,9 @@ pub fn complete(
     products_are_antichains(products);
     let complete = are_complete(alloc, products, supplies)?;
     if complete {
-        let same = products.copy(alloc)?;
-        return Ok(same);
+        return products.copy(alloc);
     }
-    let found = complete_each(alloc, products, supplies)?;
-    Ok(found)
+    complete_each(alloc, products, supplies)
 }
 
 /// The minimal executable sets of the plan's atoms that have one of the products as a subset: the minimal completions
@@ -147,6 +167,5 @@ pub fn executable_products(
 {
     executable_sets_unite();
     let supplies = access_products(alloc, plan, fragments)?;
-    let found = complete(alloc, products, &supplies)?;
-    Ok(found)
+    complete(alloc, products, &supplies)
 }

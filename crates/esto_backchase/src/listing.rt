@@ -14,11 +14,11 @@ ghost use Rattle.esto_backchase.specs.Listing.{MapsOntoOne};
 
 use crate::candidates::Search;
 use crate::completion::executable_products;
-use esto_bits::{Products, RowBits, products_are_antichains};
+use esto_bits::{Products, products_are_antichains};
 use esto_catalog::Catalogue;
 use esto_query::Query;
 use esto_semantics::{listed_sets_are_executable, rewritings_map_onto_sets};
-use esto_term::{List, OutOfMemory};
+use esto_term::OutOfMemory;
 use esto_views::{Plan, expand, plans_are_sound};
 use std::alloc::Global;
 
@@ -47,9 +47,7 @@ fn answering_sets(
         expanded: &expanded,
     };
     let mut found = Products::new(alloc, plan.atoms.len());
-    let mut failing = List::new(alloc);
-    let none = RowBits::new(alloc, plan.atoms.len())?;
-    search.visit(alloc, &none, &none, &mut found, &mut failing)?;
+    search.visit_all(alloc, &mut found)?;
     products_are_antichains(&found);
     Ok(found)
 }

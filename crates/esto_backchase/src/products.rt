@@ -1,11 +1,12 @@
 //! The listed sets of a plan, from the products of one conditional chase.
-ghost use Rattle.std.specs.Prelude.{◌≡◌, ◌↔◌, List, Bool, Contains, IfOk, length};
+ghost use Rattle.std.specs.Prelude.{◌≡◌, ◌↔◌, List, Bool, Contains, IfOk, OnOk, length};
 ghost use Rattle.esto_semantics.specs.Containment.{IsSatisfiable};
 ghost use Rattle.esto_semantics.specs.Listed.{IsListed, IsExecutableRewriting};
 ghost use Rattle.esto_semantics.specs.Plans.{IsUniversalPlan};
 ghost use Rattle.esto_semantics.specs.Queries.{ConjunctiveQuery};
 ghost use Rattle.esto_bits.specs.Kept.{CoversEither};
-ghost use Rattle.esto_semantics.specs.Sets.{Covers, TellHolds};
+ghost use Rattle.esto_semantics.specs.Access.{HoldsExecutably};
+ghost use Rattle.esto_semantics.specs.Sets.{Covers, IsMinimal, TellHolds};
 ghost use Rattle.esto_query.specs.declared.query.Query.{Query};
 ghost use Rattle.esto_semantics.specs.Unions.{ReceivesUnions};
 ghost use Rattle.esto_constraint.specs.Constraints.{rules_of};
@@ -55,18 +56,17 @@ pub fn entries_of(alloc: Global, plan: &Plan, catalogue: &Catalogue) -> Result<E
     Ok(entries)
 }
 
-/// The products with each set of the others added. Where there are none, the others are taken as they are.
-fn with_others(alloc: Global, products: Products, others: Products) -> Result<Products, OutOfMemory>
-    requires { others.count ≡ products.count }
-    ensures count { IfOk result (λ it. it.count ≡ products.count) }
-    ensures covers { IfOk result (λ it. CoversEither products.sets others.sets it.sets) }
+/// Adds each set of the others to the products. Where there are none, the others are taken as they are.
+fn add_others(alloc: Global, products: &mut Products, others: Products) -> Result<(), OutOfMemory>
+    requires { others.count ≡ products.old.count }
+    ensures count { products.new.count ≡ products.old.count }
+    ensures covers { OnOk result (CoversEither products.old.sets others.sets products.new.sets) }
 {
     if products.is_empty() {
-        return Ok(others);
+        *products = others;
+        return Ok(());
     }
-    let mut joined = products;
-    joined.add_all(alloc, &others)?;
-    Ok(joined)
+    products.add_all(alloc, &others)
 }
 
 /// The minimal sets of the plan's atoms in whose worlds one of the queries has a match, head to head with the plan's head:
@@ -96,7 +96,7 @@ pub fn matching_products(
             plan.head.items(),
             plan.atoms.len(),
         )?;
-        found = with_others(alloc, found, own)?;
+        add_others(alloc, &mut found, own)?;
     }
     Ok(found)
 }
@@ -120,8 +120,33 @@ fn answering_products(
         (Answers catalogue.now query.now plan.now) it.sets) }
 {
     entries_decide_answers();
-    let found = matching_products(alloc, plan, slice::from_ref(query), catalogue, entries)?;
-    Ok(found)
+    matching_products(alloc, plan, slice::from_ref(query), catalogue, entries)
+}
+
+/// The minimal executable sets of the plan's atoms that have a set as a subset which answers the query.
+fn listed_products(
+    alloc: Global,
+    plan: &Plan,
+    query: &Query,
+    catalogue: &Catalogue,
+    entries: &Entries,
+) -> Result<Products, OutOfMemory>
+    requires same_length { length plan.now.head ≡ length query.now.head }
+    requires universal { IsUniversalPlan (rules_of catalogue.now.rules)
+        (views_of catalogue.now.fragments) (query_of query.now) (plan_query plan.now) }
+    requires satisfiable { IsSatisfiable (rules_of catalogue.now.rules) (query_of query.now) }
+    requires entries { AreEntriesOf catalogue.now plan.now entries.now }
+    requires joined { AreJoined entries.now entries.now }
+    ensures count { IfOk result (λ it. it.count ≡ length plan.now.atoms) }
+    ensures minimal { IfOk result (λ it. (answering : List (List Bool))
+        × TellHolds (length plan.now.atoms) (Answers catalogue.now query.now plan.now) answering
+        × ((set : List Bool) → Contains it.sets set ↔ IsMinimal
+        (HoldsExecutably (patterns_of catalogue.now.fragments) (plan_query plan.now).body
+        (Covers answering)) set)) }
+{
+    let answering = answering_products(alloc, plan, query, catalogue, entries)?;
+    let sets = executable_products(alloc, plan, &catalogue.fragments, &answering)?;
+    Ok(sets)
 }
 
 /// The listed sets of the plan under the catalogue's rules: the minimal sets of its atoms that are executable, and whose
@@ -163,7 +188,6 @@ pub fn minimal_sets(
     rewritings_map_onto_sets();
     entries_decide_answers();
     let entries = entries_of(alloc, plan, catalogue)?;
-    let answering = answering_products(alloc, plan, query, catalogue, &entries)?;
-    let sets = executable_products(alloc, plan, &catalogue.fragments, &answering)?;
+    let sets = listed_products(alloc, plan, query, catalogue, &entries)?;
     Ok(Backchase { entries, sets })
 }

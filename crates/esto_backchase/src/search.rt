@@ -6,7 +6,7 @@ ghost use Rattle.esto_backchase.specs.Searching.{AreFailing, FailsWith, HasOneOf
 
 use crate::candidates::Search;
 use esto_bits::{Products, RowBits, SetList};
-use esto_term::{OutOfMemory, Places, Replicate, Values};
+use esto_term::{List, OutOfMemory, Places, Replicate, Values};
 use std::alloc::Global;
 
 /// The set with one number more.
@@ -75,8 +75,7 @@ fn absent_in_both(alloc: Global, set: &RowBits, other: &RowBits) -> Result<Place
 {
     let mut either = set.copy(alloc)?;
     either.union(other);
-    let numbers = absent(alloc, &either)?;
-    Ok(numbers)
+    absent(alloc, &either)
 }
 
 impl Search<'_> {
@@ -126,8 +125,7 @@ impl Search<'_> {
             return Ok(more);
         }
         if to <= from || to - from == 1 {
-            let same = set.copy(alloc)?;
-            return Ok(same);
+            return set.copy(alloc);
         }
         let middle = from + (to - from) / 2;
         let half = self.grown(alloc, set, from, middle)?;
@@ -165,6 +163,25 @@ impl Search<'_> {
         let failed = self.grown(alloc, set, 0, set.count())?;
         failing.push(failed.copy(alloc)?)?;
         Ok(Some(failed))
+    }
+
+    /// Tries every set, from the one that has no number on.
+    pub fn visit_all(&self, alloc: Global, found: &mut Products) -> Result<(), OutOfMemory>
+        requires search { IsSearch self.now.catalogue.now self.now.query.now self.now.plan.now
+            self.now.expanded.now }
+        requires rises { Rises (length self.now.plan.now.atoms)
+            (Answers self.now.catalogue.now self.now.query.now self.now.plan.now) }
+        requires same_count { found.old.count ≡ length self.now.plan.now.atoms }
+        ensures count { OnOk result (found.new.count ≡ found.old.count) }
+        ensures visited { OnOk result ((none : List Bool)
+            × (length none ≡ length self.now.plan.now.atoms)
+            × ((number : ℕ) → ¬ (Has none number))
+            × Visited (Answers self.now.catalogue.now self.now.query.now self.now.plan.now)
+            (IsBetween none none) found.old.sets found.new.sets) }
+    {
+        let mut failing = List::new(alloc);
+        let none = RowBits::new(alloc, self.plan.atoms.len())?;
+        self.visit(alloc, &none, &none, found, &mut failing)
     }
 
     /// Tries each set that has the set's numbers and none of those left out. Where the set does not answer the query,

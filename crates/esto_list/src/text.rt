@@ -2,10 +2,12 @@
 ghost use Rattle.std.specs.Prelude.{◌≡◌, ◌++◌, ◌↔◌, [], slice_get, length, IsTrue, IfOk, OnOk, codes};
 ghost use Rattle.esto_term.specs.declared.term.Term.{out-Term};
 ghost use Rattle.esto_list.specs.Names.{has_number, is_given, met_atoms, met_level, met_terms, met_variable, nameless_of};
-ghost use Rattle.esto_list.specs.Text.{atom_line, count_line, each_from, fragment_name, item_line, list_text, pick_line, plan_lines};
+ghost use Rattle.esto_list.specs.Text.{atom_line, count_line, each_from, fragment_name, item_line, list_text, numbers_text, pick_line, plan_lines, terms_text};
+ghost use Rattle.esto_semantics.specs.Sets.{numbers};
 
 use crate::listing::Listed;
 use crate::printing::{put_number, put_numbers, put_terms};
+use esto_bits::RowBits;
 use esto_query::{Name, Names};
 use esto_term::{Bytes, OutOfMemory, Term, Values};
 use esto_views::{FragmentDefs, Plan, PlanAtom};
@@ -147,17 +149,18 @@ fn put_atoms(
     Ok(())
 }
 
-/// Puts the lines of the plan at the end.
-fn put_plan(
+/// Puts the lines of the plan at the end, where these are the numbers of its variables without a name.
+fn put_plan_lines(
     alloc: Global,
     text: &mut Bytes,
     fragments: &FragmentDefs,
     plan: &Plan,
+    nameless: &[u64],
 ) -> Result<(), OutOfMemory>
-    ensures { OnOk result (text.new ≡ text.old ++ plan_lines fragments.now plan.now) }
+    ensures { OnOk result (text.new ≡ text.old ++ (count_line (codes "plan ") (length plan.now.atoms)
+        ++ each_from (atom_line fragments.now plan.now.names nameless.now) 0 plan.now.atoms
+        ++ codes "head " ++ terms_text plan.now.names nameless.now plan.now.head ++ codes "\n")) }
 {
-    let met = nameless_variables(alloc, plan)?;
-    let nameless = met.items();
     put_count(alloc, text, b"plan ", plan.atoms.len() as u128)?;
     put_atoms(
         alloc,
@@ -172,14 +175,34 @@ fn put_plan(
     text.append(b"\n")
 }
 
+/// Puts the lines of the plan at the end.
+fn put_plan(
+    alloc: Global,
+    text: &mut Bytes,
+    fragments: &FragmentDefs,
+    plan: &Plan,
+) -> Result<(), OutOfMemory>
+    ensures { OnOk result (text.new ≡ text.old ++ plan_lines fragments.now plan.now) }
+{
+    let met = nameless_variables(alloc, plan)?;
+    put_plan_lines(alloc, text, fragments, plan, met.items())
+}
+
+/// Puts the numbers of a set at the end, counted from 1 and between commas.
+fn put_set(alloc: Global, text: &mut Bytes, set: &RowBits) -> Result<(), OutOfMemory>
+    ensures { OnOk result (text.new ≡ text.old ++ numbers_text (numbers set.now)) }
+{
+    let numbers = set.numbers(alloc)?;
+    put_numbers(alloc, text, numbers.items())
+}
+
 /// Puts the line of an item at the end.
 fn put_item(alloc: Global, text: &mut Bytes, place: usize, item: &Listed) -> Result<(), OutOfMemory>
     ensures { OnOk result (text.new ≡ text.old ++ item_line place item.now) }
 {
-    let numbers = item.set.numbers(alloc)?;
     put_number(alloc, text, place as u128 + 1)?;
     text.append(b" {")?;
-    put_numbers(alloc, text, numbers.items())?;
+    put_set(alloc, text, &item.set)?;
     text.append(b"} order ")?;
     put_numbers(alloc, text, item.order.items())?;
     put_count(alloc, text, b" weight ", item.weight)

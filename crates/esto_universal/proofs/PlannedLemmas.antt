@@ -7,7 +7,6 @@ use Rattle.esto_semantics.specs.Plans.{IsUniversalPlan}
 use Rattle.esto_semantics.specs.Queries.{ConjunctiveQuery, IsQuery}
 use Rattle.esto_semantics.specs.Rules.{Rule, AreRules}
 use Rattle.esto_semantics.specs.Unions.{ReceivesUnions}
-use Rattle.esto_semantics.specs.declared.fact.Fact.{Fact}
 use Rattle.esto_query.specs.declared.query.Name.{Name}
 use Rattle.esto_acyclic.specs.Graphs.{IsWithin, AreRanks}
 use Rattle.esto_acyclic.specs.Relations.{IsEdge}
@@ -112,14 +111,12 @@ head_of_end heads have_starts rules query start instance are_rules is_query same
     head_stays heads rules query are_rules have_starts is_query (steps_of (trace_of instance)) (state_of instance)
     (subst (λ it. IsRun rules it (steps_of (trace_of instance)) (state_of instance)) same run.run)
 
-pub planned_from : (rules : List Rule) (views : List ConjunctiveQuery) (names : List Name) (query start : ConjunctiveQuery) (instance : Instance)
-    (facts : List (Fact Term)) (head : List Term) (plan : Plan) → start ≡ start_of query → IsFinishedRun rules start instance
-    → facts ≡ (state_of instance).body → head ≡ (state_of instance).head → IsStatedPlan names views (record { head = head; body = facts }) plan
-    → IsPlanOfRun rules views names query plan
-planned_from rules views names query start instance facts head plan same run facts_are head_is stated = record {
+pub planned_from : (rules : List Rule) (views : List ConjunctiveQuery) (names : List Name) (query start : ConjunctiveQuery) (instance : Instance) (plan : Plan)
+    → start ≡ start_of query → IsFinishedRun rules start instance → IsStatedPlan names views (state_of instance) plan → IsPlanOfRun rules views names query plan
+planned_from rules views names query start instance plan same run stated = record {
   trace = steps_of (trace_of instance);
   end = state_of instance;
   run = subst (λ it. IsRun rules it (steps_of (trace_of instance)) (state_of instance)) same run.run;
   finished = run.finished;
-  stated = subst (λ end. IsStatedPlan names views end plan) (λ i. record { head = head_is i; body = facts_are i }) stated;
+  stated = stated;
 }

@@ -1,5 +1,5 @@
 //! The universal plan.
-ghost use Rattle.std.specs.Prelude.{◌≡◌, ◌≢◌, [], map, IfOk, ⊤};
+ghost use Rattle.std.specs.Prelude.{◌≢◌, [], IfOk, ⊤};
 ghost use Rattle.either.specs.Either.{MatchEither};
 ghost use Rattle.esto_semantics.specs.Containment.{IsSatisfiable};
 ghost use Rattle.esto_semantics.specs.Plans.{IsUniversalPlan};
@@ -10,8 +10,9 @@ ghost use Rattle.esto_views.specs.Fragments.{views_of};
 ghost use Rattle.esto_views.specs.Plans.{plan_query, IsPlanOver};
 ghost use Rattle.esto_chase_laws.specs.Runs.{start_of};
 ghost use Rattle.esto_chase.specs.Chased.{RunClashes};
+ghost use Rattle.esto_instance.specs.Instances.{state_of};
 ghost use Rattle.esto_universal.specs.Planned.{IsPlanOfRun};
-ghost use Rattle.esto_universal.specs.Renamings.{numbered, renamed_atom};
+ghost use Rattle.esto_universal.specs.Reading.{terms_read, AreFirstOccurrences};
 ghost use Rattle.esto_universal.specs.Stated.{IsStatedPlan, IsRenamedPlan};
 
 use crate::indexed::IndexedTerms;
@@ -29,24 +30,29 @@ use esto_constraint::rules_are_sound;
 use esto_instance::Instance;
 use esto_query::{Facts, Names, Query, queries_are_sound};
 use esto_term::{OutOfMemory, Terms};
-use esto_views::{FragmentDefs, Plan, PlanAtoms};
+use esto_views::{FragmentDefs, Plan};
 use std::alloc::Global;
 
-/// The atoms that the rows become, and the head, where the terms seen are renamed.
-fn renamed(
+/// The plan of the rows and the head, where the terms seen are renamed, with their names.
+fn plan_by_places(
     alloc: Global,
-    seen: &Terms,
+    seen: &IndexedTerms,
     rows: &Facts,
     head: &Terms,
-) -> Result<(PlanAtoms, Terms), OutOfMemory>
-    ensures { IfOk result (λ it.
-        (it.0 ≡ map (renamed_atom (numbered 0 seen.now)) rows.now)
-        × (it.1 ≡ map (numbered 0 seen.now) head.now)) }
+    names: &Names,
+) -> Result<Plan, OutOfMemory>
+    requires head { head.now ≢ [] }
+    requires seen { AreFirstOccurrences (terms_read rows.now head.now) seen.now }
+    ensures { IfOk result (λ plan. IsRenamedPlan names.now rows.now head.now plan) }
 {
-    let indexed = IndexedTerms::of(alloc, seen)?;
-    let atoms = rename_rows(alloc, &indexed, rows)?;
-    let new_head = rename_row(alloc, &indexed, head.items())?;
-    Ok((atoms, new_head))
+    let atoms = rename_rows(alloc, seen, rows)?;
+    let new_head = rename_row(alloc, seen, head.items())?;
+    let new_names = names_of(alloc, names, seen.items())?;
+    Ok(Plan {
+        atoms,
+        head: new_head,
+        names: new_names,
+    })
 }
 
 /// The plan whose atoms are the rows over fragments, and whose head is the given one, renamed: each term that is no
@@ -62,13 +68,8 @@ pub fn renamed_plan(
     ensures { IfOk result (λ plan. IsRenamedPlan names.now rows.now head.now plan) }
 {
     let seen = first_occurrences(alloc, rows, head)?;
-    let new_names = names_of(alloc, names, &seen)?;
-    let (atoms, new_head) = renamed(alloc, &seen, rows, head)?;
-    Ok(Plan {
-        atoms,
-        head: new_head,
-        names: new_names,
-    })
+    let indexed = IndexedTerms::of(alloc, &seen)?;
+    plan_by_places(alloc, &indexed, rows, head, names)
 }
 
 /// The plan whose atoms are the rows of all views over the facts, and whose head is the given one, renamed.
@@ -84,8 +85,24 @@ fn stated_plan(
         (record { head = head.now; body = facts.now })) }
 {
     let rows = view_rows(alloc, facts, fragments)?;
-    let plan = renamed_plan(alloc, &rows, head, names)?;
-    Ok(plan)
+    renamed_plan(alloc, &rows, head, names)
+}
+
+/// The plan that is stated for the end of the query's run.
+fn plan_of_end(
+    alloc: Global,
+    query: &Query,
+    end: &Instance,
+    fragments: &FragmentDefs,
+) -> Result<Either<Plan, Clash>, OutOfMemory>
+    requires { (state_of end.now).head ≢ [] }
+    ensures { IfOk result (λ it. MatchEither it
+        (IsStatedPlan query.now.names (views_of fragments.now) (state_of end.now)) (λ _. ⊥)) }
+{
+    let facts = end.facts();
+    let head = end.head();
+    let plan = stated_plan(alloc, facts, head, fragments, &query.names)?;
+    Ok(Left(plan))
 }
 
 /// The plan of the query's run, or the clash at which the run ends.
@@ -107,13 +124,7 @@ fn plan_or_clash(
     let start = Instance::of_query(alloc, query)?;
     let outcome = chase(alloc, start, &catalogue.rules, &catalogue.ranks)?;
     match outcome {
-        Left(chased) => {
-            let facts = chased.instance.facts();
-            let head = chased.instance.head();
-            let fragments = &catalogue.fragments;
-            let plan = stated_plan(alloc, facts, head, fragments, &query.names)?;
-            Ok(Left(plan))
-        }
+        Left(chased) => plan_of_end(alloc, query, &chased.instance, &catalogue.fragments),
         Right(clash) => Ok(Right(clash)),
     }
 }
@@ -155,6 +166,5 @@ pub fn universal(
     plans_of_runs_are_over_fragments();
     plans_of_runs_are_universal();
     plans_tell_satisfiable_queries();
-    let outcome = plan_or_clash(alloc, query, catalogue)?;
-    Ok(outcome)
+    plan_or_clash(alloc, query, catalogue)
 }

@@ -50,8 +50,7 @@ fn read_term(
     if !is_new(terms, place, term) {
         return Ok(());
     }
-    seen.push(term.copy(alloc)?)?;
-    Ok(())
+    seen.push(term.copy(alloc)?)
 }
 
 /// Those of the terms that are no constants, each once, by first occurrence.
@@ -72,6 +71,5 @@ pub fn first_occurrences(alloc: Global, rows: &Facts, head: &Terms) -> Result<Te
 {
     let read = terms_read(alloc, rows, head)?;
     let terms = IndexedTerms::of(alloc, &read)?;
-    let seen = seen_in(alloc, &terms)?;
-    Ok(seen)
+    seen_in(alloc, &terms)
 }

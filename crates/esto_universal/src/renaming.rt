@@ -58,8 +58,7 @@ fn name_of(alloc: Global, names: &Names, term: &Term) -> Result<Name, OutOfMemor
             if number >= names.len() {
                 return Ok(Name::Hidden);
             }
-            let name = names.item(number).copy(alloc)?;
-            Ok(name)
+            names.item(number).copy(alloc)
         }
         Term::Const(_) => Ok(Name::Hidden),
         Term::Made(_, _, _) => Ok(Name::Hidden),
@@ -67,11 +66,11 @@ fn name_of(alloc: Global, names: &Names, term: &Term) -> Result<Name, OutOfMemor
 }
 
 /// The names of the terms.
-pub fn names_of(alloc: Global, names: &Names, terms: &Terms) -> Result<Names, OutOfMemory>
+pub fn names_of(alloc: Global, names: &Names, terms: &[Term]) -> Result<Names, OutOfMemory>
     ensures { IfOk result (λ found. found ≡ map (name_of names.now) terms.now) }
 {
     let mut found = List::new(alloc);
-    'terms: for term in terms.items() {
+    'terms: for term in terms {
         found.push(name_of(alloc, names, term)?)?;
     }
     Ok(found)

@@ -1,11 +1,18 @@
 //! The rows of all views.
-ghost use Rattle.std.specs.Prelude.{◌≡◌, ◌++◌, map, IfOk, OnOk};
+ghost use Rattle.std.specs.Prelude.{◌≡◌, ◌↔◌, ◌++◌, List, map, Contains, AllPairs, IfOk, OnOk};
+ghost use Rattle.std.specs.Cmp.Lexicographic.{slice_cmp};
+ghost use Rattle.std.specs.declared.cmp.Ordering.TheVariants.{Less};
+ghost use Rattle.esto_term.specs.Order.{term_cmp};
+ghost use Rattle.esto_term.specs.declared.term.Term.{Term};
+ghost use Rattle.esto_term.specs.declared.term.Term.TheVariants.{Const};
+ghost use Rattle.esto_semantics.specs.Queries.{IsAnswerInto};
+ghost use Rattle.esto_query.specs.Making.{query_of};
 ghost use Rattle.esto_views.specs.Fragments.{views_of};
 ghost use Rattle.esto_universal.specs.Rows.{AreRows, over};
 
 use esto_query::{Atom, Facts};
 use esto_term::{List, OutOfMemory, Replicate, TermRows};
-use esto_views::{FragmentDefs, rows_of_view};
+use esto_views::{FragmentDef, FragmentDefs, rows_of_view};
 use std::alloc::Global;
 
 /// Adds the rows, as rows of the fragment of that number.
@@ -27,6 +34,23 @@ fn push_rows(
     Ok(())
 }
 
+/// Adds the rows of the view of the fragment of that number.
+fn push_view_rows(
+    alloc: Global,
+    number: usize,
+    fragment: &FragmentDef,
+    facts: &Facts,
+    all: &mut Facts,
+) -> Result<(), OutOfMemory>
+    ensures { OnOk result ((rows : List (List Term)) × ((row : List Term) → Contains rows row
+        ↔ IsAnswerInto Const (query_of fragment.now.view) (Contains facts.now) row)
+        × AllPairs (λ row other. slice_cmp term_cmp row other ≡ Less) rows
+        × (all.new ≡ all.old ++ map (over number) rows)) }
+{
+    let rows = rows_of_view(alloc, fragment, facts)?;
+    push_rows(alloc, number, &rows, all)
+}
+
 /// The rows of all views over the facts: for each fragment in order, the rows of its view, in the order of terms.
 pub fn view_rows(
     alloc: Global,
@@ -37,8 +61,7 @@ pub fn view_rows(
 {
     let mut all = List::new(alloc);
     'fragments: for (number, fragment) in fragments.items().iter().enumerate() {
-        let rows = rows_of_view(alloc, fragment, facts)?;
-        push_rows(alloc, number, &rows, &mut all)?;
+        push_view_rows(alloc, number, fragment, facts, &mut all)?;
     }
     Ok(all)
 }

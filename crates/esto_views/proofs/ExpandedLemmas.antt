@@ -17,7 +17,7 @@ use Rattle.esto_query.specs.Soundness.{IsSound}
 use Rattle.esto_query.specs.declared.query.Query.{Query}
 use Rattle.esto_views.specs.Expanded.{placed, AreExpanded, facts_of, Expands}
 use Rattle.esto_views.specs.Fragments.{views_of, IsFragment}
-use Rattle.esto_views.specs.Plans.{fact_of, plan_query, IsPlanOver}
+use Rattle.esto_views.specs.Plans.{fact_of, plan_query, HasFragment, IsPlanOver}
 use Rattle.esto_views.specs.Soundness.{IsSoundPlan}
 use Rattle.esto_views.specs.Spreads.{IsSpread}
 use Rattle.esto_views.specs.declared.expansion.ExpandedFact.{ExpandedFact}
@@ -28,11 +28,6 @@ use Rattle.esto_views.proofs.SoundLemmas.{named-Plain}
 use Rattle.esto_term.proofs.ListLemmas.{Contains-at, Contains-cases, Contains-head, Contains-map, Contains-map_from, Contains-nil, Contains-read, Contains-rest, map_at, map_at-from, place-from_Contains}
 
 -- ---- the fragment of an atom
-
-abbrev HasFragment : List FragmentDef → PlanAtom → Type 0
-HasFragment fragments atom =
-    (fragment : FragmentDef) × (slice_get fragments atom.fragment ≡ Some fragment)
-    × IsFragment fragment × (length atom.terms ≡ length fragment.view.head)
 
 pub has_fragment : (plan : Plan) (fragments : List FragmentDef) (items : List PlanAtom) (number : ℕ) (atom : PlanAtom) → IsPlanOver plan fragments
     → items ≡ plan.atoms

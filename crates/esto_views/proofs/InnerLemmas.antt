@@ -1,7 +1,7 @@
 -- The inner variables of a view, found one after the other.
-use Rattle.std.proofs.Common.{◌↔◌, inl, inr, ℕ, ◌<◌, ◌+◌, List, [], ◌∷◌, ◌++◌, Contains, sym, subst, arith}
+use Rattle.std.proofs.Common.{◌↔◌, inl, inr, Bool, true, false, not, IsTrue, refl, ℕ, ◌<◌, ◌+◌, List, [], ◌∷◌, ◌++◌, Contains, sym, subst, arith}
 use Rattle.std.specs.List.{AllPairs}
-use Rattle.std.proofs.lemmas.Bool.{cases_order}
+use Rattle.std.proofs.lemmas.Bool.{cases_order, false≢true}
 use Rattle.std.proofs.lemmas.List.Elements.{Contains-append_left, Contains-push, Contains-push_cases, Contains-get_or}
 use Rattle.std.proofs.lemmas.List.Quantifiers.{all_pairs_push}
 use Rattle.esto_term.specs.declared.term.Term.TheVariants.{Plain}
@@ -19,6 +19,12 @@ inner-from_parts view number in_body not_in_head = record {
   no_constant = λ constant. Const-apart-Plain constant.0 number (sym constant.1);
   not_in_head = not_in_head;
 }
+
+pub inner_where : (view : ConjunctiveQuery) (number : ℕ) → Mentions view.body (Plain number) → (told : Bool)
+    → IsTrue told ↔ Contains view.head (Plain number) → IsTrue (not told) ↔ IsInner view (Plain number)
+inner_where view number in_body false told =
+    (λ _. inner-from_parts view number in_body (λ inside. absurd (false≢true (told.1 inside))), λ _. refl)
+inner_where view number in_body true told = (λ e. absurd (false≢true e), λ inner. absurd (inner.not_in_head (told.0 refl)))
 
 -- the numbers of the inner variables below a bound, in rising order
 pub record AreInnerBelow (view : ConjunctiveQuery) (bound : ℕ) (numbers : List ℕ) : Type 0 where

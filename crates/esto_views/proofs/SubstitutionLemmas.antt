@@ -68,6 +68,13 @@ module _ (from to : List Term) (place : ℕ) (term first own : Term) (answer : B
   pub substituted_later : answer ≡ false → substituted (drop (place + 1) from) (drop (place + 1) to) term ≡ substituted (drop place from) (drop place to) term
   substituted_later is = sym (one_step ∙ ap (λ it. cond it own (substituted (drop (place + 1) from) (drop (place + 1) to) term)) is)
 
+-- what one more of the things stands for, after those before it
+pub map_more : {X Y : Type 0} (m : X → Y) (things : List X) (place : ℕ) (thing : X) (before after : List Y) → place < length things
+    → thing ≡ get_or things place thing → after ≡ before ++ m thing ∷ [] → before ≡ map m (take place things) → after ≡ map m (take (place + 1) things)
+map_more m things place thing before after within read one so_far =
+    one ∙ ap (λ it. it ++ m thing ∷ []) so_far ∙ sym (map-append m (take place things) (thing ∷ []))
+    ∙ ap (map m) (ap (λ it. take place things ++ it ∷ []) read ∙ sym (take_more things place thing within))
+
 -- ---- what the terms of a view stand for
 
 -- the terms and what they stand for, after so many inner variables
@@ -93,6 +100,16 @@ spread_more head terms inner first count number from to from_more to_more next a
       ∙ ap (λ it. terms ++ it) (sym (map-range_with_len_more Plain first count next (sym so_far.next_is)));
   next_is = let before = so_far.next_is in omega arith;
 }
+
+pub spread_end : (head terms : List Term) (inner : List ℕ) (first count : ℕ) (from to : List Term) (next : ℕ) → length inner ≤ count → count ≤ length inner
+    → IsSpreadSoFar head terms inner first count from to next
+    → (from ≡ head ++ map Plain inner) × (to ≡ terms ++ map Plain (range_with_len first (length inner))) × (next ≡ first + length inner)
+spread_end head terms inner first count from to next past within so_far =
+    let whole : count ≡ length inner = omega arith in (
+      so_far.from_is ∙ ap (λ it. head ++ map Plain it) (take_all count inner past),
+      so_far.to_is ∙ ap (λ it. terms ++ map Plain (range_with_len first it)) whole,
+      so_far.next_is ∙ ap (λ it. first + it) whole,
+    )
 
 variables-distinct : (numbers : List ℕ) → AllPairs ◌<◌ numbers → AllPairs {X = Term} ◌≢◌ (map Plain numbers)
 variables-distinct numbers rising i j d less within same =
@@ -142,19 +159,15 @@ module _ (view : ConjunctiveQuery) (terms : List Term) (first next : ℕ) (inner
     after = after;
   }
 
-  pub spread_done : (count : ℕ) (sources targets : List Term) → length inner ≤ count → count ≤ length inner
-      → IsSpreadSoFar view.head terms inner first count sources targets next
+  pub spread_done : (sources targets : List Term) → sources ≡ from → targets ≡ to → next ≡ first + length inner
       → IsSpread view terms first next (substituted sources targets) × (length sources ≡ length targets)
-  spread_done count sources targets past within so_far =
-      let whole : count ≡ length inner = omega arith in
-      let sources_are : from ≡ sources = sym (so_far.from_is ∙ ap (λ it. view.head ++ map Plain it) (take_all count inner past)) in
-      let targets_are : to ≡ targets = sym (so_far.to_is ∙ ap (λ it. terms ++ map Plain (range_with_len first it)) whole) in (
-        subst (λ it. IsSpread view terms first next (substituted it targets)) sources_are
-            (subst (λ it. IsSpread view terms first next (substituted from it)) targets_are (spread_is (so_far.next_is ∙ ap (λ it. first + it) whole))),
-        ap length (sym sources_are)
-            ∙ length-append view.head (map Plain inner)
-            ∙ ap (λ it. it + length (map Plain inner)) (sym lengths) ∙ ap (λ it. length terms + it) (length-map inner Plain)
-            ∙ ap (λ it. length terms + it) (sym (length-map (range_with_len first (length inner)) Plain ∙ length-range_with_len first (length inner)))
-            ∙ sym (length-append terms (map Plain (range_with_len first (length inner))))
-            ∙ ap length targets_are,
-      )
+  spread_done sources targets sources_are targets_are after = (
+    subst (λ it. IsSpread view terms first next (substituted it targets)) (sym sources_are)
+        (subst (λ it. IsSpread view terms first next (substituted from it)) (sym targets_are) (spread_is after)),
+    ap length sources_are
+        ∙ length-append view.head (map Plain inner)
+        ∙ ap (λ it. it + length (map Plain inner)) (sym lengths) ∙ ap (λ it. length terms + it) (length-map inner Plain)
+        ∙ ap (λ it. length terms + it) (sym (length-map (range_with_len first (length inner)) Plain ∙ length-range_with_len first (length inner)))
+        ∙ sym (length-append terms (map Plain (range_with_len first (length inner))))
+        ∙ sym (ap length targets_are),
+  )

@@ -22,3 +22,9 @@ IsPlanOver plan fragments =
     (atom : PlanAtom) → Contains plan.atoms atom
     → (fragment : FragmentDef) × (slice_get fragments atom.fragment ≡ Some fragment)
     × IsFragment fragment × (length atom.terms ≡ length fragment.view.head)
+
+-- The atom names one of the fragments, which is well made and has as many columns as the atom has terms.
+abbrev pub HasFragment : List FragmentDef → PlanAtom → Type 0
+HasFragment fragments atom =
+    (fragment : FragmentDef) × (slice_get fragments atom.fragment ≡ Some fragment)
+    × IsFragment fragment × (length atom.terms ≡ length fragment.view.head)

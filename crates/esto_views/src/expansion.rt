@@ -1,17 +1,19 @@
 //! Expansion: what a plan asks of the datasets.
-ghost use Rattle.std.specs.Prelude.{◌≡◌, ◌++◌, List, length, map, IfOk, OnOk};
+ghost use Rattle.std.specs.Prelude.{◌≡◌, ◌++◌, List, Some, length, map, slice_get, IfOk, OnOk};
+ghost use Rattle.esto_term.specs.declared.term.Term.{Term};
 ghost use Rattle.esto_semantics.specs.Expansions.{FitsViews};
 ghost use Rattle.esto_semantics.specs.Facts.{image};
 ghost use Rattle.esto_semantics.specs.Maps.{AreFlat};
+ghost use Rattle.esto_query.specs.Making.{query_of};
 ghost use Rattle.esto_views.specs.Expanded.{placed, facts_of, AreExpanded, Expands};
 ghost use Rattle.esto_views.specs.Fragments.{views_of};
-ghost use Rattle.esto_views.specs.Plans.{plan_query, IsPlanOver};
-ghost use Rattle.esto_views.specs.Spreads.{substituted};
+ghost use Rattle.esto_views.specs.Plans.{plan_query, HasFragment, IsPlanOver};
+ghost use Rattle.esto_views.specs.Spreads.{IsSpread, substituted};
 ghost use Rattle.esto_views.specs.declared.fragments.FragmentDef.{FragmentDef};
 ghost use Rattle.esto_views.specs.declared.plan.Plan.{Plan};
 
 use crate::fragments::FragmentDefs;
-use crate::plan::{Plan, plans_are_sound};
+use crate::plan::{Plan, PlanAtom, plans_are_sound};
 use crate::spread::{Spread, spread_of};
 use esto_query::{Atom, queries_are_sound};
 use esto_term::{List, OutOfMemory, Replicate};
@@ -62,6 +64,28 @@ fn push_facts(
     Ok(())
 }
 
+/// Adds the facts of the atom of that number, whose new variables are numbered from `first` on. The first number after
+/// those of its new variables.
+fn expand_atom(
+    alloc: Global,
+    number: usize,
+    atom: &PlanAtom,
+    fragments: &FragmentDefs,
+    first: u64,
+    expanded: &mut ExpandedFacts,
+) -> Result<u64, OutOfMemory>
+    requires { HasFragment fragments.now atom.now }
+    ensures { IfOk result (λ next. (fragment : FragmentDef)
+        × (slice_get fragments.now atom.now.fragment ≡ Some fragment) × (m : Term → Term)
+        × IsSpread (query_of fragment.view) atom.now.terms first next m
+        × (expanded.new ≡ expanded.old ++ placed number 0 (map (image m) fragment.view.body))) }
+{
+    let fragment = fragments.item(atom.fragment);
+    let spread = spread_of(alloc, fragment, &atom.terms, first)?;
+    push_facts(alloc, number, fragment.view.body.items(), &spread, expanded)?;
+    Ok(spread.next)
+}
+
 /// The facts of all atoms, in order.
 fn expanded_facts(
     alloc: Global,
@@ -75,16 +99,7 @@ fn expanded_facts(
     let mut expanded = List::new(alloc);
     let mut first = plan.names.len() as u64;
     'atoms: for (number, atom) in plan.atoms.items().iter().enumerate() {
-        let fragment = fragments.item(atom.fragment);
-        let spread = spread_of(alloc, fragment, &atom.terms, first)?;
-        push_facts(
-            alloc,
-            number,
-            fragment.view.body.items(),
-            &spread,
-            &mut expanded,
-        )?;
-        first = spread.next;
+        first = expand_atom(alloc, number, atom, fragments, first, &mut expanded)?;
     }
     Ok(expanded)
 }
@@ -106,8 +121,7 @@ pub fn expand(
 {
     plans_are_sound();
     queries_are_sound();
-    let expanded = expanded_facts(alloc, plan, fragments)?;
-    Ok(expanded)
+    expanded_facts(alloc, plan, fragments)
 }
 
 /// A law: a plan over fragments, read as a query over fragments, fits their views.

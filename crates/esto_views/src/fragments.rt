@@ -35,8 +35,8 @@ impl Replicate for FragmentDef {
     fn copy(&self, alloc: Global) -> Result<FragmentDef, OutOfMemory> {
         Ok(FragmentDef {
             name: self.name.copy(alloc)?,
-            view: self.view.copy(alloc)?,
             access: self.access.copy(alloc)?,
+            view: self.view.copy(alloc)?,
             weight: self.weight,
         })
     }

@@ -1,14 +1,15 @@
 //! What the terms of a view stand for in an atom over its fragment.
-ghost use Rattle.std.specs.Prelude.{◌≡◌, ◌+◌, ◌++◌, ◌∷◌, [], length, map, IfOk, OnOk};
+ghost use Rattle.std.specs.Prelude.{◌≡◌, ◌+◌, ◌++◌, ◌∷◌, ℕ, List, [], length, map, IfOk, OnOk};
+ghost use Rattle.std.specs.List.{range_with_len};
 ghost use Rattle.esto_term.specs.declared.term.Term.TheVariants.{Plain};
 ghost use Rattle.esto_semantics.specs.Facts.{image};
 ghost use Rattle.esto_query.specs.Making.{query_of};
 ghost use Rattle.esto_views.specs.Fragments.{IsFragment};
-ghost use Rattle.esto_views.specs.Spreads.{IsSpread, substituted};
+ghost use Rattle.esto_views.specs.Spreads.{AreInner, IsSpread, substituted};
 
 use crate::fragments::FragmentDef;
 use crate::inner::inner_variables;
-use esto_query::Atom;
+use esto_query::{Atom, Query};
 use esto_term::{List, OutOfMemory, Replicate, Term, Terms};
 use std::alloc::Global;
 
@@ -21,24 +22,54 @@ pub struct Spread {
     pub next: u64,
 }
 
-/// Puts a variable at the end of the terms, and a new variable at the end of what they stand for. The number after that
-/// of the new variable.
-fn push_variable(
-    from: &mut Terms,
-    to: &mut Terms,
-    variable: u64,
-    new: u64,
-) -> Result<u64, OutOfMemory>
-    ensures from { OnOk result (from.new ≡ from.old ++ Plain variable ∷ []) }
-    ensures to { OnOk result (to.new ≡ to.old ++ Plain new ∷ []) }
-    ensures next { IfOk result (λ next. next ≡ new + 1) }
+/// The terms of a head for those of an atom, and no new variables, which are to be numbered from `first` on.
+fn spread_of_head(
+    alloc: Global,
+    head: &Terms,
+    terms: &Terms,
+    first: u64,
+) -> Result<Spread, OutOfMemory>
+    ensures from { IfOk result (λ spread. spread.from ≡ head.now) }
+    ensures to { IfOk result (λ spread. spread.to ≡ terms.now) }
+    ensures next { IfOk result (λ spread. spread.next ≡ first) }
 {
-    from.push(Term::Plain(variable))?;
-    to.push(Term::Plain(new))?;
-    match new.checked_add(1) {
-        Some(next) => Ok(next),
-        None => Err(OutOfMemory),
+    let from = head.copy(alloc)?;
+    let to = terms.copy(alloc)?;
+    Ok(Spread {
+        from,
+        to,
+        next: first,
+    })
+}
+
+/// Puts a variable at the end of the terms, and the next new variable at the end of what they stand for.
+fn push_variable(spread: &mut Spread, variable: u64) -> Result<(), OutOfMemory>
+    ensures from { OnOk result (spread.new.from ≡ spread.old.from ++ Plain variable ∷ []) }
+    ensures to { OnOk result (spread.new.to ≡ spread.old.to ++ Plain spread.old.next ∷ []) }
+    ensures next { OnOk result (spread.new.next ≡ spread.old.next + 1) }
+{
+    spread.from.push(Term::Plain(variable))?;
+    spread.to.push(Term::Plain(spread.next))?;
+    let Some(next) = spread.next.checked_add(1) else {
+        return Err(OutOfMemory);
+    };
+    spread.next = next;
+    Ok(())
+}
+
+/// Puts the view's inner variables at the end of the terms, by rising number, and the next new variables at the end of
+/// what they stand for.
+fn push_inner(alloc: Global, view: &Query, spread: &mut Spread) -> Result<(), OutOfMemory>
+    ensures { OnOk result ((inner : List ℕ) × AreInner (query_of view.now) inner
+        × (spread.new.from ≡ spread.old.from ++ map Plain inner)
+        × (spread.new.to ≡ spread.old.to ++ map Plain (range_with_len spread.old.next (length inner)))
+        × (spread.new.next ≡ spread.old.next + length inner)) }
+{
+    let inner = inner_variables(alloc, view)?;
+    'inner: for number in inner.items() {
+        push_variable(spread, *number)?;
     }
+    Ok(())
 }
 
 /// What the terms of the fragment's view stand for in an atom of these terms: those of its head for the atom's
@@ -56,14 +87,9 @@ pub fn spread_of(
         (substituted spread.from spread.to)) }
     ensures same_length { IfOk result (λ spread. length spread.from ≡ length spread.to) }
 {
-    let inner = inner_variables(alloc, &fragment.view)?;
-    let mut from = fragment.view.head.copy(alloc)?;
-    let mut to = terms.copy(alloc)?;
-    let mut next = first;
-    'inner: for number in inner.items() {
-        next = push_variable(&mut from, &mut to, *number, next)?;
-    }
-    Ok(Spread { from, to, next })
+    let mut spread = spread_of_head(alloc, &fragment.view.head, terms, first)?;
+    push_inner(alloc, &fragment.view, &mut spread)?;
+    Ok(spread)
 }
 
 impl Spread {
@@ -80,6 +106,15 @@ impl Spread {
         term.copy(alloc)
     }
 
+    /// Puts what the term stands for at the end.
+    fn push_term(&self, alloc: Global, term: &Term, terms: &mut Terms) -> Result<(), OutOfMemory>
+        requires { length self.now.from ≡ length self.now.to }
+        ensures { OnOk result (terms.new
+            ≡ terms.old ++ substituted self.now.from self.now.to term.now ∷ []) }
+    {
+        terms.push(self.term(alloc, term)?)
+    }
+
     /// The atom with what each of its terms stands for.
     pub fn atom(&self, alloc: Global, atom: &Atom) -> Result<Atom, OutOfMemory>
         requires { length self.now.from ≡ length self.now.to }
@@ -88,7 +123,7 @@ impl Spread {
     {
         let mut terms = List::new(alloc);
         'terms: for term in atom.terms.items() {
-            terms.push(self.term(alloc, term)?)?;
+            self.push_term(alloc, term, &mut terms)?;
         }
         Ok(Atom {
             relation: atom.relation,

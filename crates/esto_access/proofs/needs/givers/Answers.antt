@@ -1,7 +1,9 @@
 use Rattle.std.proofs.Common.{◌≡◌, ◌↔◌, ◌+◌, ◌∙◌, IsTrue, Contains, sym, subst, length, arith}
 use Rattle.std.proofs.lemmas.Bool.{false≢true}
+use Rattle.std.proofs.lemmas.List.{length-map}
+use Rattle.esto_views.specs.Plans.{fact_of}
 use Rattle.esto_bits.specs.Kept.{Kept}
-use Rattle.esto_access.proofs.NeedLemmas.{AreGivenBelow, given_grows, given_stays, given_end}
+use Rattle.esto_access.proofs.NeedLemmas.{AreGivenBelow, given_start, given_grows, given_stays, given_end}
 use Rattle.esto_access.proofs.needs.givers.Goals.{then-has_term+in_ok-add_all, else-has_term}
 use Rattle.esto_access.proofs.needs.givers.Goals as goal
 
@@ -31,3 +33,14 @@ atoms-preserved c =
 pub returns-clause-covers : goal.returns-clause-covers
 returns-clause-covers c = given_end c.args.plan.now.atoms c.args.supplies.now c.args.term.now c.atoms.number c.atoms.found.sets
     (omega (arith, c.atoms-test.false, c.len-number-end.ensures)) c.atoms.invariant.1
+
+pub atoms-init : goal.atoms-init
+atoms-init c = (
+  c.new-found.ensures.count ∙ c.len.ensures,
+  given_start c.args.plan.now.atoms c.args.supplies.now c.args.term.now c.new-found.result.sets c.new-found.ensures.empty,
+)
+
+pub add_all-requires : goal.add_all-requires
+add_all-requires c =
+    c.requires.counts c.atoms.number c.item-then-has_term.result.now c.item-then-has_term.ensures ∙ length-map c.args.plan.now.atoms fact_of
+    ∙ sym c.atoms.invariant.0

@@ -1,15 +1,12 @@
-use Rattle.std.proofs.Common.{◌∙◌, ◌≤◌, ap, subst, length}
-use Rattle.std.proofs.lemmas.List.{length-set, length-replicate}
+use Rattle.std.proofs.Common.{◌∙◌, ◌≤◌, subst, length}
 use Rattle.esto_views.specs.Plans.{fact_of, plan_query}
 use Rattle.esto_access.proofs.NeedLemmas.{read_at, met_start, met_turns, met_end}
 use Rattle.esto_access.proofs.needs.meeting.Goals as goal
 
 pub columns-init : goal.columns-init
 columns-init c = (
-  ap (λ products. products.count) c.in_ok-found.ensures.value ∙ ap length c.insert.ensures.value ∙ length-set c.in_ok-row.row _ _
-      ∙ ap length c.in_ok-row.ensures ∙ length-replicate c.len.result _ ∙ c.len.ensures,
-  met_start (plan_query c.args.plan.now).body c.args.supplies.now c.args.number (fact_of c.args.atom.now) c.args.pattern.now c.len.result c.in_ok-row.row
-      c.insert.new.self c.in_ok-found.found.sets c.in_ok-row.ensures c.insert.ensures.has
+  c.in_ok-found.ensures.count ∙ c.len.ensures,
+  met_start (plan_query c.args.plan.now).body c.args.supplies.now c.args.number (fact_of c.args.atom.now) c.args.pattern.now c.in_ok-found.found.sets
       c.in_ok-found.ensures.covers,
 )
 

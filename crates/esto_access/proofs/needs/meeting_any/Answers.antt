@@ -6,12 +6,11 @@ use Rattle.esto_access.proofs.needs.meeting_any.Goals as goal
 pub patterns-preserved : goal.patterns-preserved
 patterns-preserved c =
     let items = c.items-pattern-items.result.now in (
-      c.add_all.ensures.count ∙ c.patterns.invariant.0,
+      c.add_meeting.ensures.count ∙ c.patterns.invariant.0,
       met_by_grows (plan_query c.args.plan.now).body c.args.supplies.now c.args.number (fact_of c.args.atom.now) items c.patterns.pattern-index
           c.pattern-item.result
           (read_at items items refl c.patterns.pattern-index c.pattern-item.result c.patterns-test.true c.pattern-item.is) c.patterns.found.sets
-          c.in_ok-met.met.sets c.add_all.new.self.sets c.in_ok-met.ensures.covers
-          c.in_ok-add_all.ensures.covers c.patterns.invariant.1,
+          c.add_meeting.new.found.sets c.in_ok-add_meeting.ensures.covers c.patterns.invariant.1,
     )
 
 pub returns-clause-covers : goal.returns-clause-covers

@@ -1,5 +1,5 @@
 use Rattle.std.proofs.Common.{length, slice_index}
-use Rattle.esto_acyclic.proofs.DistanceLemmas.{least_whole, ends_within}
+use Rattle.esto_acyclic.proofs.DistanceLemmas.{least_start, least_whole, ends_within}
 use Rattle.esto_acyclic.proofs.graph.nearest.Goals as goal
 
 pub nearer-best-requires : goal.nearer-best-requires
@@ -8,3 +8,10 @@ nearer-best-requires c = (ends_within c.args.edges.now (length c.args.distances.
 pub returns-clause-least : goal.returns-clause-least
 returns-clause-least c = λ next edge. least_whole c.args.edges.now c.args.relation (λ n. Unit {0}) (λ n. slice_index c.args.distances.now n)
     (length c.args.distances.now) c.edges.best c.edges.edge-index c.edges.invariant c.edges-test.false next edge tt
+
+pub edges-init : goal.edges-init
+edges-init c =
+    least_start c.args.edges.now c.args.relation (λ n. Unit {0}) (λ n. slice_index c.args.distances.now n) (length c.args.distances.now)
+
+pub returns-clause-is : goal.returns-clause-is
+returns-clause-is c = λ below. let (next, joins, _, is) = c.edges.invariant.is below in (next, joins, is)

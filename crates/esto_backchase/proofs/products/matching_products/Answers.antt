@@ -14,12 +14,12 @@ queries-preserved c =
     let query = c.query-item.result in
     let entries = c.args.entries.now in
     let own = c.in_ok-own.own.sets in (
-      c.in_ok-found.ensures.count ∙ c.queries.invariant.0,
+      c.add_others.ensures.count ∙ c.queries.invariant.0,
       found_more (λ (it : Query) set. MatchesIn it plan entries set) c.args.queries.now c.queries.query-index query
-          (at_turn c.args.queries.now c.queries.query-index query c.queries-test.true c.query-item.is) c.queries.found.sets own c.in_ok-found.found.sets
+          (at_turn c.args.queries.now c.queries.query-index query c.queries-test.true c.query-item.is) c.queries.found.sets own c.add_others.new.products.sets
           (λ set. handed_over own set entries c.items.result.now query.head query.body c.items-in-queries.result.now plan.head c.items-in-queries-2.result.now
           c.items.ensures c.items-in-queries.ensures c.items-in-queries-2.ensures (c.in_ok-own.ensures.tell set))
-          c.in_ok-found.ensures.covers c.queries.invariant.1,
+          c.in_ok-add_others.ensures.covers c.queries.invariant.1,
     )
 
 pub returns-clause-tell : goal.returns-clause-tell

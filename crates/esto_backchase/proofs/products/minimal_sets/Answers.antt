@@ -19,12 +19,12 @@ returns-clause-listed c set =
     let plan = plan_query c.args.plan.now in
     let rules = rules_of c.args.catalogue.now.rules in
     let views = views_of c.args.catalogue.now.fragments in
-    let told : TellHolds (length plan.body) (AnswersQuery rules views query plan) c.in_ok-answering.answering.sets =
-    subst (λ count. TellHolds count (AnswersQuery rules views query plan) c.in_ok-answering.answering.sets)
-    (sym (length-map c.args.plan.now.atoms fact_of)) c.in_ok-answering.ensures.tell in
+    let (answering, tell, minimal) = c.in_ok-sets.ensures.minimal in
+    let told : TellHolds (length plan.body) (AnswersQuery rules views query plan) answering =
+    subst (λ count. TellHolds count (AnswersQuery rules views query plan) answering) (sym (length-map c.args.plan.now.atoms fact_of)) tell in
     let listed = c.listed_sets_are_executable.ensures.executable rules views (patterns_of c.args.catalogue.now.fragments) query plan
-    c.in_ok-answering.answering.sets told set in
-    let found = c.in_ok-sets.ensures.minimal set in
+    answering told set in
+    let found = minimal set in
     (λ inside. listed.1 (found.0 inside), λ is_listed. found.1 (listed.0 is_listed))
 
 pub returns-clause-complete : goal.returns-clause-complete

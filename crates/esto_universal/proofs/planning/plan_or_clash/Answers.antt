@@ -1,4 +1,6 @@
-use Rattle.std.proofs.Common.{◌≢◌, [], length, sym, subst}
+use Rattle.std.proofs.Common.{length, sym, subst}
+use Rattle.std.proofs.lemmas.Result.{IfOk-weaker}
+use Rattle.esto_chase.proofs.OutcomeLemmas.{on_either}
 use Rattle.esto_query.specs.Making.{query_of}
 use Rattle.esto_constraint.specs.Constraints.{rules_of}
 use Rattle.esto_chase_laws.specs.Runs.{IsStart}
@@ -26,22 +28,25 @@ chase-requires-clause-ranks c =
     let sound = c.catalogues_are_sound.ensures it in
     ranks_of_all (rules_of it.rules) (length it.schema) it.ranks sound.ranks_are
 
-pub stated_plan-requires : goal.stated_plan-requires
-stated_plan-requires c =
+pub plan_of_end-requires : goal.plan_of_end-requires
+plan_of_end-requires c =
     let rules = c.args.catalogue.now.rules in
     let query = c.args.query.now in
-    subst (λ it. it ≢ []) (sym c.head-head.ensures)
-    (head_of_end c.heads_go_along.ensures.heads c.queries_have_starts.ensures.start (rules_of rules) (query_of query) (state_of c.in_ok-start.start)
+    head_of_end c.heads_go_along.ensures.heads c.queries_have_starts.ensures.start (rules_of rules) (query_of query) (state_of c.in_ok-start.start)
     c.in-Left.chased.instance (are_rules c.rules_are_sound.ensures.rules rules) (c.queries_are_sound.ensures query).query
-    c.in_ok-start.ensures.state (rw c.in-Left.is at c.in_ok-outcome.ensures.run))
+    c.in_ok-start.ensures.state (rw c.in-Left.is at c.in_ok-outcome.ensures.run)
 
-pub returns-in_ok-plan-in-Left : goal.returns-in_ok-plan-in-Left
-returns-in_ok-plan-in-Left c =
+pub returns-in-Left : goal.returns-in-Left
+returns-in-Left c =
     let it = c.args.catalogue.now in
     let query = c.args.query.now in
-    planned_from (rules_of it.rules) (views_of it.fragments) query.names (query_of query) (state_of c.in_ok-start.start) c.in-Left.chased.instance
-    c.facts-facts.result.now c.head-head.result.now c.in_ok-plan-in-Left.plan c.in_ok-start.ensures.state
-    (rw c.in-Left.is at c.in_ok-outcome.ensures.run) c.facts-facts.ensures c.head-head.ensures c.in_ok-plan-in-Left.ensures
+    let run = rw c.in-Left.is at c.in_ok-outcome.ensures.run in
+    IfOk-weaker c.plan_of_end.result _ _
+    (λ outcome planned. on_either outcome
+    (λ plan stated. planned_from (rules_of it.rules) (views_of it.fragments) query.names (query_of query) (state_of c.in_ok-start.start)
+    c.in-Left.chased.instance plan c.in_ok-start.ensures.state run stated)
+    (λ clash never. absurd never) planned)
+    c.plan_of_end.ensures
 
 pub returns-in-Right : goal.returns-in-Right
 returns-in-Right c =

@@ -1,4 +1,5 @@
 use Rattle.std.proofs.Common.{IfSome, length, sym, subst}
+use Rattle.std.proofs.lemmas.Result.{IfOk-weaker}
 use Rattle.esto_backchase.specs.Candidates.{Answers}
 use Rattle.esto_backchase.specs.Searching.{FailsWith}
 use Rattle.esto_backchase.proofs.VisitLemmas.{fails-further, fails-own}
@@ -13,7 +14,8 @@ pub returns-then-to-from : goal.returns-then-to-from
 returns-then-to-from t c =
     let Pass = Answers c.args.self.now.catalogue.now c.args.self.now.query.now c.args.self.now.plan.now in
     let count = length c.args.self.now.plan.now.atoms in
-    subst (FailsWith count Pass c.args.set.now) (sym c.in_ok-same.ensures) (fails-own count Pass c.args.set.now c.requires.count c.requires.fails)
+    IfOk-weaker c.copy.result _ _
+    (λ same is. subst (FailsWith count Pass c.args.set.now) (sym is) (fails-own count Pass c.args.set.now c.requires.count c.requires.fails)) c.copy.ensures
 
 pub returns : goal.returns
 returns t c =

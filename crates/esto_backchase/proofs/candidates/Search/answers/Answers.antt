@@ -1,6 +1,7 @@
 use Rattle.std.proofs.Common.{sym, ◌∙◌}
 use Rattle.std.proofs.lemmas.Bool.{false≢true}
 use Rattle.std.proofs.lemmas.List.{length-map}
+use Rattle.std.proofs.lemmas.Result.{IfOk-weaker}
 use Rattle.esto_constraint.specs.Constraints.{rules_of}
 use Rattle.esto_query.specs.Making.{query_of}
 use Rattle.esto_semantics.specs.Listed.{HasCandidate}
@@ -28,7 +29,9 @@ returns c =
     let equivalent = c.candidates_contain_the_query.ensures.equivalent (rules_of it.catalogue.now.rules) (views_of it.catalogue.now.fragments)
     (query_of it.query.now) (plan_query it.plan.now) set
     (record { same_length = c.requires.search.same_length; has_head = sound.has_head; flat_body = plan-flat it.plan.now sound })
-    c.requires.search.universal has_candidate safe in (
-      λ holds. record { has_candidate = has_candidate; safe = safe; equivalent = equivalent.1 (c.in_ok-contained.ensures.0 holds) },
-      λ answers. c.in_ok-contained.ensures.1 (equivalent.0 answers.equivalent),
-    )
+    c.requires.search.universal has_candidate safe in
+    IfOk-weaker c.is_contained.result _ _
+    (λ _ contained. (
+      λ holds. record { has_candidate = has_candidate; safe = safe; equivalent = equivalent.1 (contained.0 holds) },
+      λ answers. contained.1 (equivalent.0 answers.equivalent),
+    )) c.is_contained.ensures

@@ -1,5 +1,6 @@
 use Rattle.std.proofs.Common.{◌<◌, refl, sym, subst}
 use Rattle.std.specs.Bool.{⊤}
+use Rattle.std.proofs.lemmas.Result.{IfOk-weaker}
 use Rattle.esto_acyclic.specs.Graphs.{AreRanks, IsWithin}
 use Rattle.esto_acyclic.specs.Relations.{IsEdge}
 use Rattle.esto_chase.specs.Chased.{IsFinishedRun, RunClashes}
@@ -49,8 +50,7 @@ returns-in-Left c =
     c.queries_have_starts.ensures.body rules (query_of it.query.now) c.an_expansion_of_a_plan_expands_its_candidates.ensures
     c.an_expansion_means_the_same.ensures.contained (rules-are it.catalogue.now.rules c.rules_are_sound.ensures.rules)
     (state_of c.in_ok-start.start) end start_is universal run.finished in
-    let mapped = c.in_ok-mapped-in-Left.ensures in
-    (λ holds. contained.1 (mapped.0 holds), λ is. mapped.1 (contained.0 is))
+    IfOk-weaker c.receives.result _ _ (λ _ mapped. (λ holds. contained.1 (mapped.0 holds), λ is. mapped.1 (contained.0 is))) c.receives.ensures
 
 pub returns : goal.returns
 returns c =

@@ -1,0 +1,20 @@
+use Rattle.std.proofs.Common.{◌∙◌, subst, sym}
+use Rattle.std.proofs.lemmas.Result.{on_ok_weaker}
+use Rattle.esto_backchase.specs.Completion.{AreSuppliesOf}
+use Rattle.esto_backchase.proofs.CompleteLemmas.{same_count}
+use Rattle.esto_backchase.proofs.completion.add_completions.Goals as goal
+
+pub completions_of-requires-clause-supplies : goal.completions_of-requires-clause-supplies
+completions_of-requires-clause-supplies c =
+    subst (λ count. AreSuppliesOf count c.args.supplies.now)
+    (sym (same_count c.args.products.now c.products_are_antichains.ensures.over c.args.at c.in_ok-low.low c.in_ok-low.ensures)) c.requires.supplies
+
+pub add_all-requires : goal.add_all-requires
+add_all-requires c =
+    c.in_ok-completed.ensures.count
+    ∙ same_count c.args.products.now c.products_are_antichains.ensures.over c.args.at c.in_ok-low.low c.in_ok-low.ensures
+    ∙ sym c.requires.count
+
+pub returns-clause-covers : goal.returns-clause-covers
+returns-clause-covers c = on_ok_weaker c.add_all.result
+    (λ also. (c.in_ok-low.low, c.in_ok-low.ensures, c.in_ok-completed.completed.sets, c.in_ok-completed.ensures.covers, also)) c.add_all.ensures.covers
