@@ -133,6 +133,34 @@ impl Search<'_> {
         Ok(both)
     }
 
+    /// The set grown, as far as it does not answer the query, which is known then. None comes exactly where the set
+    /// answers the query.
+    fn new_failing(
+        &self,
+        alloc: Global,
+        set: &RowBits,
+        failing: &mut SetList,
+    ) -> Result<Option<RowBits>, OutOfMemory>
+        requires search { IsSearch self.now.catalogue.now self.now.query.now self.now.plan.now
+            self.now.expanded.now }
+        requires count { length set.now ≡ length self.now.plan.now.atoms }
+        requires failing { AreFailing (length self.now.plan.now.atoms)
+            (Answers self.now.catalogue.now self.now.query.now self.now.plan.now) failing.old }
+        ensures failing { OnOk result (AreFailing (length self.now.plan.now.atoms)
+            (Answers self.now.catalogue.now self.now.query.now self.now.plan.now) failing.new) }
+        ensures failed { IfOk result (λ outcome. MatchOption outcome
+            (Answers self.now.catalogue.now self.now.query.now self.now.plan.now set.now)
+            (FailsWith (length self.now.plan.now.atoms)
+            (Answers self.now.catalogue.now self.now.query.now self.now.plan.now) set.now)) }
+    {
+        if self.answers(alloc, set)? {
+            return Ok(None);
+        }
+        let failed = self.grown(alloc, set, 0, set.count())?;
+        failing.push(failed.copy(alloc)?)?;
+        Ok(Some(failed))
+    }
+
     /// A set that has the set's numbers and does not answer the query: a known one, or the set grown, which is known
     /// then. None comes exactly where the set answers the query.
     fn failing_with(
@@ -157,12 +185,7 @@ impl Search<'_> {
         if let Some(failed) = known {
             return Ok(Some(failed));
         }
-        if self.answers(alloc, set)? {
-            return Ok(None);
-        }
-        let failed = self.grown(alloc, set, 0, set.count())?;
-        failing.push(failed.copy(alloc)?)?;
-        Ok(Some(failed))
+        self.new_failing(alloc, set, failing)
     }
 
     /// Tries every set, from the one that has no number on.

@@ -4,8 +4,14 @@ use Rattle.std.proofs.lemmas.List.Elements.{Contains-get_or}
 use Rattle.esto_semantics.specs.Sets.{Has}
 use Rattle.esto_backchase.specs.Candidates.{Answers}
 use Rattle.esto_backchase.specs.Searching.{HasOneOf, IsBetween}
-use Rattle.esto_backchase.proofs.VisitLemmas.{HasOneBelow, earlier-more, lacks, lacks-fewer, none-passes, one-all, one-splits, passing-has, some-fails, visited-added, visited-as, visited-both}
+use Rattle.esto_backchase.proofs.VisitLemmas.{AreEarlier, HasOneBelow, earlier-more, earlier-none, lacks, lacks-fewer, none-passes, one-all, one-none, one-splits, passing-has, some-fails, visited-added, visited-as, visited-both, visited-covered, visited-none}
 use Rattle.esto_backchase.proofs.candidates.Search.+visit.Goals as goal
+
+pub visit-returns-then-covered-clause-visited : goal.visit-returns-then-covered-clause-visited
+visit-returns-then-covered-clause-visited t c =
+    let Pass = Answers c.args.self.now.catalogue.now c.args.self.now.query.now c.args.self.now.plan.now in
+    visited-covered Pass (IsBetween c.args.set.now c.args.left_out.now) c.args.found.now.sets c.args.set.now (c.covered.ensures.0 c.if-covered.true)
+    (λ other between. between.has)
 
 pub visit-returns-in_ok-add-in-None-clause-visited : goal.visit-returns-in_ok-add-in-None-clause-visited
 visit-returns-in_ok-add-in-None-clause-visited t c =
@@ -46,6 +52,20 @@ pub visit_by-with_number-requires : goal.visit_by-with_number-requires
 visit_by-with_number-requires t c =
     let inside = Contains-get_or c.args.numbers.now c.numbers.number-index 0 c.numbers-test.true in
     omega (arith, (c.requires.numbers (get_or c.args.numbers.now c.numbers.number-index 0) inside).0, c.requires.count)
+
+pub visit_by-numbers-init : goal.visit_by-numbers-init
+visit_by-numbers-init t c =
+    let Pass = Answers c.args.self.now.catalogue.now c.args.self.now.query.now c.args.self.now.plan.now in
+    let set = c.args.set.now in
+    let left_out = c.args.left_out.now in
+    let numbers = c.args.numbers.now in
+    record {
+      earlier_count = ap length c.in_ok-earlier.ensures ∙ c.requires.left_out;
+      earlier = subst (AreEarlier set left_out numbers 0) (sym c.in_ok-earlier.ensures) (earlier-none set left_out numbers);
+      same_count = refl;
+      failing = c.requires.failing;
+      visited = visited-none Pass (HasOneBelow set left_out numbers 0) c.args.found.now.sets (one-none set left_out numbers);
+    }
 
 pub visit_by-visit-requires : goal.visit_by-visit-requires
 visit_by-visit-requires t c =

@@ -9,6 +9,12 @@ use Rattle.esto_backchase.specs.Searching.{AreFailing}
 use Rattle.esto_backchase.proofs.VisitLemmas.{failing-none}
 use Rattle.esto_backchase.proofs.candidates.Search.visit_all.Goals as goal
 
+pub visit-requires-clause-count : goal.visit-requires-clause-count
+visit-requires-clause-count c = ap length c.in_ok-none.ensures ∙ length-replicate _ _ ∙ c.len.ensures
+
+pub visit-requires-clause-left_out : goal.visit-requires-clause-left_out
+visit-requires-clause-left_out c = ap length c.in_ok-none.ensures ∙ length-replicate _ _ ∙ c.len.ensures
+
 pub visit-requires-clause-failing : goal.visit-requires-clause-failing
 visit-requires-clause-failing c =
     let it = c.args.self.now in
@@ -22,3 +28,6 @@ returns-clause-visited c = on_ok_weaker c.visit.result (λ visited. (
   λ number has. false≢true (none_within _ [] number (subst (λ row. Has row number) c.in_ok-none.ensures has)),
   visited,
 )) c.visit.ensures.visited
+
+pub returns-clause-count : goal.returns-clause-count
+returns-clause-count c = c.visit.ensures.count
