@@ -1,5 +1,8 @@
 //! The places of terms, by a sorted index.
-ghost use Rattle.std.specs.Prelude.{◌≡◌, IfOk, MatchOption};
+ghost use Rattle.std.specs.Prelude.{◌≡◌, true, false, IfOk, MatchOption};
+ghost use Rattle.std.specs.List.Sorted.{IsPartitionPoint};
+ghost use Rattle.std.specs.Ordering.{is_lt};
+ghost use Rattle.esto_term.specs.Order.{term_cmp};
 ghost use Rattle.esto_universal.specs.Indexes.{entry_cmp, AreEntries, IsIndex, IsInOrder};
 ghost use Rattle.esto_universal.specs.Indexes.{HasNoEntry, IsFirstEntry};
 
@@ -46,12 +49,21 @@ pub fn index_of<'a>(alloc: Global, terms: &'a [Term]) -> Result<Vec<Entry<'a>>, 
     Ok(entries)
 }
 
+/// How many entries have lesser terms.
+fn lesser_entries(index: &[Entry], term: &Term) -> usize
+    requires { IsInOrder index.now }
+    ensures { IsPartitionPoint (λ entry. is_lt (term_cmp entry.term.now term.now) ≡ true)
+        (λ entry. is_lt (term_cmp entry.term.now term.now) ≡ false) index.now result }
+{
+    index.partition_point(|entry| entry.term.compare(term).is_lt())
+}
+
 /// The place of the term's first entry, or None where it has none.
 pub fn first_place(index: &[Entry], term: &Term) -> Option<usize>
     requires { IsInOrder index.now }
     ensures { MatchOption result (HasNoEntry index.now term.now) (IsFirstEntry index.now term.now) }
 {
-    let first = index.partition_point(|entry| entry.term.compare(term).is_lt());
+    let first = lesser_entries(index, term);
     let entry = index.get(first)?;
     if entry.term.compare(term).is_eq() {
         Some(entry.place)

@@ -5,8 +5,11 @@ use Rattle.esto_universal.proofs.planning.plan_by_places.Goals as goal
 
 pub invariant_of-result : goal.invariant_of-result
 invariant_of-result c = record {
-  sound = ∣ rw (c.in_ok-atoms.ensures, c.in_ok-new_head.ensures ∙ ap (map (numbered 0 c.args.seen.now)) c.items.ensures,
-      c.in_ok-new_names.ensures ∙ ap (map (name_of c.args.names.now)) c.items-2.ensures)
+  sound = ∣ rw (
+    c.in_ok-atoms.ensures,
+    c.in_ok-new_head.ensures ∙ ap (map (numbered 0 c.args.seen.now)) c.items.ensures,
+    c.in_ok-new_names.ensures ∙ ap (map (name_of c.args.names.now)) c.items-2.ensures,
+  )
       (keeps c.args.names.now c.args.rows.now c.args.head.now c.args.seen.now c.requires.seen c.requires.head) ∣₁;
 }
 
