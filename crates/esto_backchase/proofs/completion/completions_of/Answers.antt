@@ -13,6 +13,13 @@ numbers-init c = (
   completed_start c.args.supplies.now c.args.low.now c.in_ok-found.found.sets c.in_ok-found.ensures.covers,
 )
 
+pub covered-requires : goal.covered-requires
+covered-requires c = sym (c.requires.supplies.counts c.numbers.number c.item.result.now c.item.ensures)
+
+pub joined-requires : goal.joined-requires
+joined-requires c =
+    c.requires.supplies.counts c.numbers.number c.item-then-not-covered.result.now c.item-then-not-covered.ensures ∙ sym c.numbers.invariant.0
+
 pub numbers-preserved : goal.numbers-preserved
 numbers-preserved c = elim c.if-has.branch [
   | then-has+then-not-covered+in_ok-found-2 w ↦
