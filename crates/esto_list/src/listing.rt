@@ -66,6 +66,28 @@ fn item_of(
     Ok(Listed { set, order, weight })
 }
 
+/// The sets, each with its order and its weight.
+fn items_of(
+    alloc: Global,
+    sets: &[RowBits],
+    plan: &Plan,
+    fragments: &FragmentDefs,
+) -> Result<List<Listed>, OutOfMemory>
+    requires { (set : List Bool) → Contains sets.now set
+        → IsExecutable (patterns_of fragments.now) (plan_query plan.now).body set }
+    ensures sets { IfOk result (λ items. sets_of items ≡ sets.now) }
+    ensures orders { IfOk result (HaveOrders plan.now fragments.now) }
+    ensures sums { IfOk result (HaveSums plan.now fragments.now) }
+    ensures weights { AllPairs ◌≢◌ (plan_query plan.now).body
+        → IfOk result (HaveWeights plan.now fragments.now) }
+{
+    let mut items = List::new(alloc);
+    'sets: for set in sets {
+        items.push(item_of(alloc, set, plan, fragments)?)?;
+    }
+    Ok(items)
+}
+
 impl Listing {
     /// The sets by size, then by their rising lists of numbers, compared as lists. Each has its stated order, and weighs
     /// the sum of the weights of its atoms' fragments. Where no two of the plan's atoms are the same, as in every stated
@@ -87,10 +109,7 @@ impl Listing {
             → IfOk result (HaveWeights plan.now fragments.now) }
     {
         let sorted = sets.sorted(alloc)?;
-        let mut items = List::new(alloc);
-        'sets: for set in sorted.items() {
-            items.push(item_of(alloc, set, plan, fragments)?)?;
-        }
+        let items = items_of(alloc, sorted.items(), plan, fragments)?;
         Ok(Listing { items })
     }
 

@@ -1,5 +1,5 @@
 //! The terms of rows and a head, by first occurrence.
-ghost use Rattle.std.specs.Prelude.{◌≡◌, ◌⊎◌, ◌+◌, true, false, Some, take, slice_get};
+ghost use Rattle.std.specs.Prelude.{◌≡◌, ◌⊎◌, ◌+◌, ◌++◌, true, false, Some, take, slice_get};
 ghost use Rattle.std.specs.Prelude.{Contains, IfOk, OnOk};
 ghost use Rattle.esto_semantics.specs.Maps.{IsConstant};
 ghost use Rattle.esto_universal.specs.Reading.{terms_read, AreFirstOccurrences};
@@ -9,15 +9,22 @@ use esto_query::Facts;
 use esto_term::{List, OutOfMemory, Replicate, Term, Terms};
 use std::alloc::Global;
 
+/// Puts a copy of the row's terms at the end.
+fn append_copy(alloc: Global, row: &Terms, terms: &mut Terms) -> Result<(), OutOfMemory>
+    ensures { OnOk result (terms.new ≡ terms.old ++ row.now) }
+{
+    terms.append(row.copy(alloc)?)
+}
+
 /// The terms of the rows, in order, and then those of the head.
 fn terms_read(alloc: Global, rows: &Facts, head: &Terms) -> Result<Terms, OutOfMemory>
     ensures { IfOk result (λ terms. terms ≡ terms_read rows.now head.now) }
 {
     let mut terms = List::new(alloc);
     'rows: for row in rows.items() {
-        terms.append(row.terms.copy(alloc)?)?;
+        append_copy(alloc, &row.terms, &mut terms)?;
     }
-    terms.append(head.copy(alloc)?)?;
+    append_copy(alloc, head, &mut terms)?;
     Ok(terms)
 }
 

@@ -20,6 +20,12 @@ visit-returns-in_ok-add-in-None-clause-visited t c =
     (none-passes (length c.args.self.now.plan.now.atoms) Pass c.in_ok-outcome.outcome c.args.set.now c.in_ok-outcome.ensures.failed c.in-None.is)
     (λ other between. between.has) c.in_ok-add-in-None.ensures.ok c.in_ok-add-in-None.ensures.covers
 
+pub visit-absent_in_both-requires : goal.visit-absent_in_both-requires
+visit-absent_in_both-requires t c =
+    let Pass = Answers c.args.self.now.catalogue.now c.args.self.now.query.now c.args.self.now.plan.now in
+    c.requires.left_out ∙ sym (some-fails (length c.args.self.now.plan.now.atoms) Pass c.in_ok-outcome.outcome c.args.set.now c.in-Some.failed
+    c.in_ok-outcome.ensures.failed c.in-Some.is).same_length
+
 pub visit-visit_by-requires : goal.visit-visit_by-requires
 visit-visit_by-requires t c =
     let Pass = Answers c.args.self.now.catalogue.now c.args.self.now.query.now c.args.self.now.plan.now in

@@ -1,37 +1,14 @@
-use Rattle.std.proofs.Common.{◌≡◌, ◌↔◌, Contains, sym, subst}
-use Rattle.std.proofs.lemmas.List.Elements.{All-push}
-use Rattle.esto_semantics.specs.Access.{IsStatedOrder}
-use Rattle.esto_semantics.specs.Listed.{chosen, IsWeight}
-use Rattle.esto_views.specs.Fragments.{patterns_of, weights_of}
-use Rattle.esto_views.specs.Plans.{plan_query}
-use Rattle.esto_list.specs.declared.listing.Listed.{Listed}
-use Rattle.esto_list.specs.Items.{HaveOrders, HaveSums, HaveWeights, set_weight}
-use Rattle.esto_list.proofs.ItemLemmas.{set_there, sets_more, sets_all}
+use Rattle.std.proofs.Common.{◌↔◌, ◌∙◌, Contains, sym, subst}
+use Rattle.esto_semantics.specs.Sets.{AreInOrder}
 use Rattle.esto_list.proofs.listing.Listing.of.Goals as goal
 
-pub item_of-requires : goal.item_of-requires
-item_of-requires c =
-    c.requires c.set-item.result ((c.in_ok-sorted.ensures.members c.set-item.result).0
-    (set_there _ c.items-set-items.result.now c.sets.set-index c.set-item.result c.items-set-items.ensures c.sets-test.true c.set-item.is))
-
-pub sets-preserved : goal.sets-preserved
-sets-preserved c = record {
-  sets = sets_more c.sets.items c.push.new.self c.in_ok-item_of.field-0 c.items-set-items.result.now c.sets.set-index c.set-item.result c.sets-test.true
-      c.set-item.is c.in_ok-item_of.ensures.set c.in_ok-push.ensures.ok
-      c.sets.invariant.sets;
-  orders = subst (HaveOrders c.args.plan.now c.args.fragments.now) (sym c.in_ok-push.ensures.ok)
-      (All-push (λ (item : Listed). IsStatedOrder (patterns_of c.args.fragments.now)
-      (plan_query c.args.plan.now).body item.set item.order) c.sets.items c.in_ok-item_of.field-0 c.sets.invariant.orders c.in_ok-item_of.ensures.order);
-  sums = subst (HaveSums c.args.plan.now c.args.fragments.now) (sym c.in_ok-push.ensures.ok)
-      (All-push (λ (item : Listed). item.weight ≡ set_weight (weights_of c.args.fragments.now)
-      (plan_query c.args.plan.now).body item.set) c.sets.items c.in_ok-item_of.field-0 c.sets.invariant.sums c.in_ok-item_of.ensures.sum);
-  weights = λ distinct. subst (HaveWeights c.args.plan.now c.args.fragments.now) (sym c.in_ok-push.ensures.ok)
-      (All-push (λ (item : Listed). IsWeight (weights_of c.args.fragments.now)
-      (chosen item.set (plan_query c.args.plan.now).body) item.weight) c.sets.items c.in_ok-item_of.field-0 (c.sets.invariant.weights distinct)
-      (c.in_ok-item_of.ensures.weight distinct));
-}
+pub items_of-requires : goal.items_of-requires
+items_of-requires c set inside =
+    c.requires set ((c.in_ok-sorted.ensures.members set).0 (subst (λ sets. Contains sets set) c.items.ensures inside))
 
 pub returns-clause-members : goal.returns-clause-members
-returns-clause-members c = λ set. subst (λ it. Contains it set ↔ Contains c.args.sets.now.sets set)
-    (sym (sets_all c.sets.items _ c.items-set-items.result.now c.sets.set-index c.items-set-items.ensures c.sets-test.false c.sets.invariant.sets))
-    (c.in_ok-sorted.ensures.members set)
+returns-clause-members c = λ set. subst (λ sets. Contains sets set ↔ Contains c.args.sets.now.sets set)
+    (sym (c.in_ok-items.ensures.sets ∙ c.items.ensures)) (c.in_ok-sorted.ensures.members set)
+
+pub returns-clause-in_order : goal.returns-clause-in_order
+returns-clause-in_order c = subst AreInOrder (sym (c.in_ok-items.ensures.sets ∙ c.items.ensures)) c.in_ok-sorted.ensures.in_order

@@ -1,0 +1,34 @@
+use Rattle.std.proofs.Common.{◌≡◌, refl, sym, subst}
+use Rattle.std.proofs.lemmas.List.Elements.{All-push}
+use Rattle.esto_semantics.specs.Access.{IsStatedOrder}
+use Rattle.esto_semantics.specs.Listed.{chosen, IsWeight}
+use Rattle.esto_views.specs.Fragments.{patterns_of, weights_of}
+use Rattle.esto_views.specs.Plans.{plan_query}
+use Rattle.esto_list.specs.declared.listing.Listed.{Listed}
+use Rattle.esto_list.specs.Items.{HaveOrders, HaveSums, HaveWeights, set_weight}
+use Rattle.esto_list.proofs.ItemLemmas.{set_there, sets_more, sets_all}
+use Rattle.esto_list.proofs.listing.items_of.Goals as goal
+
+pub item_of-requires : goal.item_of-requires
+item_of-requires c =
+    c.requires c.set-item.result (set_there c.args.sets.now c.args.sets.now c.sets.set-index c.set-item.result refl c.sets-test.true c.set-item.is)
+
+pub sets-preserved : goal.sets-preserved
+sets-preserved c = record {
+  sets = sets_more c.sets.items c.push.new.self c.in_ok-item_of.field-0 c.args.sets.now c.sets.set-index c.set-item.result c.sets-test.true
+      c.set-item.is c.in_ok-item_of.ensures.set c.in_ok-push.ensures.ok
+      c.sets.invariant.sets;
+  orders = subst (HaveOrders c.args.plan.now c.args.fragments.now) (sym c.in_ok-push.ensures.ok)
+      (All-push (λ (item : Listed). IsStatedOrder (patterns_of c.args.fragments.now)
+      (plan_query c.args.plan.now).body item.set item.order) c.sets.items c.in_ok-item_of.field-0 c.sets.invariant.orders c.in_ok-item_of.ensures.order);
+  sums = subst (HaveSums c.args.plan.now c.args.fragments.now) (sym c.in_ok-push.ensures.ok)
+      (All-push (λ (item : Listed). item.weight ≡ set_weight (weights_of c.args.fragments.now)
+      (plan_query c.args.plan.now).body item.set) c.sets.items c.in_ok-item_of.field-0 c.sets.invariant.sums c.in_ok-item_of.ensures.sum);
+  weights = λ distinct. subst (HaveWeights c.args.plan.now c.args.fragments.now) (sym c.in_ok-push.ensures.ok)
+      (All-push (λ (item : Listed). IsWeight (weights_of c.args.fragments.now)
+      (chosen item.set (plan_query c.args.plan.now).body) item.weight) c.sets.items c.in_ok-item_of.field-0 (c.sets.invariant.weights distinct)
+      (c.in_ok-item_of.ensures.weight distinct));
+}
+
+pub returns-clause-sets : goal.returns-clause-sets
+returns-clause-sets c = sets_all c.sets.items c.args.sets.now c.args.sets.now c.sets.set-index refl c.sets-test.false c.sets.invariant.sets
