@@ -16,15 +16,13 @@ fact_of atom = record { relation = atom.fragment; terms = atom.terms }
 abbrev pub plan_query : Plan → ConjunctiveQuery
 plan_query plan = record { head = plan.head; body = map fact_of plan.atoms }
 
--- The plan is over the fragments: each of its atoms names one, which is well made and has as many columns as the atom has terms.
-abbrev pub IsPlanOver : Plan → List FragmentDef → Type 0
-IsPlanOver plan fragments =
-    (atom : PlanAtom) → Contains plan.atoms atom
-    → (fragment : FragmentDef) × (slice_get fragments atom.fragment ≡ Some fragment)
-    × IsFragment fragment × (length atom.terms ≡ length fragment.view.head)
-
 -- The atom names one of the fragments, which is well made and has as many columns as the atom has terms.
 abbrev pub HasFragment : List FragmentDef → PlanAtom → Type 0
 HasFragment fragments atom =
     (fragment : FragmentDef) × (slice_get fragments atom.fragment ≡ Some fragment)
     × IsFragment fragment × (length atom.terms ≡ length fragment.view.head)
+
+-- The plan is over the fragments: each of its atoms names one, which is well made and has as many columns as the atom has terms.
+abbrev pub IsPlanOver : Plan → List FragmentDef → Type 0
+IsPlanOver plan fragments =
+    (atom : PlanAtom) → Contains plan.atoms atom → HasFragment fragments atom
