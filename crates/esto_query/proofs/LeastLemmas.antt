@@ -5,7 +5,7 @@ use Rattle.std.specs.List.Sorted.{IsNonDecreasingBy}
 use Rattle.std.specs.Option.{IfSome, IfNone}
 use Rattle.std.specs.declared.cmp.Ordering.TheVariants.{Less, Equal, Greater}
 use Rattle.std.proofs.lemmas.Bool.Decides.{nat_tests}
-use Rattle.std.proofs.lemmas.Option.{same_Some, slice_get_within}
+use Rattle.std.proofs.lemmas.Option.{slice_get_within}
 use Rattle.std.proofs.lemmas.List.{append_assoc, append-nil, drop_more, drop_all, get_or-drop, get_or_read, length-drop, nil_from_length}
 use Rattle.std.proofs.lemmas.List.Elements.{All-cons}
 use Rattle.esto_term.specs.declared.term.Term.{Term}
@@ -40,22 +40,22 @@ NoneAt atom rest facts known from here =
     (m : Term → Term) (places : List ℕ) → Keeps Const m → Extends m known → IsMatch m (atom ∷ rest) facts (here ∷ places) → IsAtMost from (here ∷ places) → ⊥
 
 module _ (atom : Fact Term) (rest facts : List (Fact Term)) (known : Assignment) (from : List ℕ) where
-  module _ (fact : Fact Term) (here : ℕ) (at : slice_get facts here ≡ Some fact) where
-    no_fact : Excludes known (λ m. image m atom ≡ fact) → NoneAt atom rest facts known from here
-    no_fact none m places keeps extends match after = none m keeps extends (same_Some _ _ (sym match.0 ∙ at))
+  module _ (here : ℕ) where
+    no_fact : Excludes known (λ m. slice_get facts here ≡ Some (image m atom)) → NoneAt atom rest facts known from here
+    no_fact none m places keeps extends match after = none m keeps extends match.0
 
-    no_rest : (mid : Assignment) → Narrows known mid (λ m. image m atom ≡ fact) → HasNoMatch rest facts mid (IsAtMost (rest_from from here))
+    no_rest : (mid : Assignment) → Narrows known mid (λ m. slice_get facts here ≡ Some (image m atom)) → HasNoMatch rest facts mid (IsAtMost (rest_from from here))
         → NoneAt atom rest facts known from here
     no_rest mid step none m places keeps extends match after =
-        none m places keeps ((step m keeps).1 (extends, same_Some _ _ (sym match.0 ∙ at))) match.1 (rest_is_at_most from here places after)
+        none m places keeps ((step m keeps).1 (extends, match.0)) match.1 (rest_is_at_most from here places after)
 
     IsLeastFrom-cons : (mid new : Assignment) (places : List ℕ) → NoneBelow atom rest facts known from here → first_from from ≤ here
-        → Narrows known mid (λ m. image m atom ≡ fact) → IsLeastFrom rest facts (rest_from from here) mid new places
+        → Narrows known mid (λ m. slice_get facts here ≡ Some (image m atom)) → IsLeastFrom rest facts (rest_from from here) mid new places
         → IsLeastFrom (atom ∷ rest) facts from known new (here ∷ places)
     IsLeastFrom-cons mid new places none low step found = record {
       matches = λ m keeps. (
-        λ extends. let f = (found.matches m keeps).0 extends in let s = (step m keeps).0 f.0 in (s.0, (at ∙ ap Some (sym s.1), f.1)),
-        λ both. (found.matches m keeps).1 ((step m keeps).1 (both.0, same_Some _ _ (sym both.1.0 ∙ at)), both.1.1),
+        λ extends. let f = (found.matches m keeps).0 extends in let s = (step m keeps).0 f.0 in (s.0, (s.1, f.1)),
+        λ both. (found.matches m keeps).1 ((step m keeps).1 (both.0, both.1.0), both.1.1),
       );
       within = IsAtMost-onto from here places low found.within;
       least = least_case;
@@ -64,7 +64,7 @@ module _ (atom : Fact Term) (rest facts : List (Fact Term)) (known : Assignment)
         same_place : (m : Term → Term) (qs : List ℕ) → Keeps Const m → Extends m known → IsMatch m (atom ∷ rest) facts (here ∷ qs) → IsAtMost from (here ∷ qs)
             → IsAtMost places qs
         same_place m qs keeps extends match after =
-            found.least m qs keeps ((step m keeps).1 (extends, same_Some _ _ (sym match.0 ∙ at))) match.1 (rest_is_at_most from here qs after)
+            found.least m qs keeps ((step m keeps).1 (extends, match.0)) match.1 (rest_is_at_most from here qs after)
 
         least_case : (m : Term → Term) (others : List ℕ) → Keeps Const m → Extends m known → IsMatch m (atom ∷ rest) facts others → IsAtMost from others
             → IsAtMost (here ∷ places) others
@@ -131,11 +131,6 @@ module _ (atom : Fact Term) (rest facts : List (Fact Term)) (known : Assignment)
               let up = rising i (i + has.1.0) has.0 (omega arith) (omega (arith, long)) in
               omega (arith, up, ap (λ (e : Entry). e.place) at, ap (λ (e : Entry). e.place) here, has.2)
 
--- a place where there is no fact has no match
-pub NoneAt-out : (atom : Fact Term) (rest facts : List (Fact Term)) (known : Assignment) (from : List ℕ) (here : ℕ) → length facts ≤ here
-    → NoneAt atom rest facts known from here
-NoneAt-out atom rest facts known from here out m places keeps extends match after = let within = slice_get_within facts here _ match.0 in omega arith
-
 -- ---- what a search leaves
 
 IsLeastFrom-nil : (facts : List (Fact Term)) (known : Assignment) → IsLeastFrom [] facts [] known known []
@@ -156,14 +151,17 @@ Searched-nil start facts (x ∷ xs) places trail false e = (refl, refl, none)
     none m [] keeps extends match after = after refl
     none m (p ∷ ps) keeps extends match after = match
 
-module _ (start : Assignment) (atom fact : Fact Term) (rest facts : List (Fact Term)) (from : List ℕ) (here : ℕ) (at : slice_get facts here ≡ Some fact)
+module _ (start : Assignment) (atom : Fact Term) (rest facts : List (Fact Term)) (from : List ℕ) (here : ℕ)
     (old now : List Binding) (same : now ≡ old) (none : NoneBelow atom rest facts (with_trail start old) from here) where
-  tried_first : (new : List Binding) (outcome : Bool) → Tries start now new outcome (λ m. image m atom ≡ fact)
-      → Tries start old new outcome (λ m. image m atom ≡ fact)
-  tried_first new outcome tried = subst (λ trail. Tries start trail new outcome (λ m. image m atom ≡ fact)) same tried
+  -- the map sends the atom to the fact at the place
+  abbrev pub Here : (Term → Term) → Type 0
+  Here m = slice_get facts here ≡ Some (image m atom)
+
+  tried_first : (new : List Binding) (outcome : Bool) → Tries start now new outcome Here → Tries start old new outcome Here
+  tried_first new outcome tried = subst (λ trail. Tries start trail new outcome Here) same tried
 
   pub Searched-found : (mid new : List Binding) (inner places_old places_now places_mid places_new : List ℕ) → places_now ≡ places_old
-      → inner ≡ rest_from from here → places_mid ≡ places_now ++ here ∷ [] → first_from from ≤ here → Tries start now mid true (λ m. image m atom ≡ fact)
+      → inner ≡ rest_from from here → places_mid ≡ places_now ++ here ∷ [] → first_from from ≤ here → Tries start now mid true Here
       → Searched start rest facts inner mid new places_mid places_new true → Searched start (atom ∷ rest) facts from old new places_old places_new true
   Searched-found mid new inner places_old places_now places_mid places_new same_places is_inner pushed low tried found =
       let step = tried_first mid true tried in
@@ -172,22 +170,22 @@ module _ (start : Assignment) (atom fact : Fact Term) (rest facts : List (Fact T
         here ∷ found.0,
         found.1 ∙ ap (λ z. z ++ found.0) (pushed ∙ ap (λ z. z ++ here ∷ []) same_places) ∙ append_assoc places_old (here ∷ []) found.0,
         Grew-then old mid new step.0 found.2,
-        IsLeastFrom-cons atom rest facts (with_trail start old) from fact here at (with_trail start mid) (with_trail start new) found.0 none low step.1 least,
+        IsLeastFrom-cons atom rest facts (with_trail start old) from here (with_trail start mid) (with_trail start new) found.0 none low step.1 least,
       )
 
   pub NoneAt-back : (mid new : List Binding) (inner places_mid places_new : List ℕ) → inner ≡ rest_from from here
-      → Tries start now mid true (λ m. image m atom ≡ fact) → Searched start rest facts inner mid new places_mid places_new false
+      → Tries start now mid true Here → Searched start rest facts inner mid new places_mid places_new false
       → NoneAt atom rest facts (with_trail start old) from here
   NoneAt-back mid new inner places_mid places_new is_inner tried missed =
       let step = tried_first mid true tried in
       let no : HasNoMatch rest facts (with_trail start mid) (IsAtMost (rest_from from here)) =
       subst (λ f. HasNoMatch rest facts (with_trail start mid) (IsAtMost f)) is_inner missed.2 in
-      no_rest atom rest facts (with_trail start old) from fact here at (with_trail start mid) step.1 no
+      no_rest atom rest facts (with_trail start old) from here (with_trail start mid) step.1 no
 
-  pub NoneAt-skip : (new : List Binding) → Tries start now new false (λ m. image m atom ≡ fact) → NoneAt atom rest facts (with_trail start old) from here
+  pub NoneAt-skip : (new : List Binding) → Tries start now new false Here → NoneAt atom rest facts (with_trail start old) from here
   NoneAt-skip new tried =
       let step = tried_first new false tried in
-      no_fact atom rest facts (with_trail start old) from fact here at step.1
+      no_fact atom rest facts (with_trail start old) from here step.1
 
 pub Searched-none : (start : Assignment) (atom : Fact Term) (rest facts : List (Fact Term)) (from : List ℕ) (old new : List Binding)
     (places_old places_new : List ℕ) → places_new ≡ places_old → new ≡ old → HasNoMatch (atom ∷ rest) facts (with_trail start old) (IsAtMost from)

@@ -9,3 +9,4 @@ pub mod LeastLemmas
 pub mod RowLemmas
 pub mod RowOrderLemmas
 pub mod IndexLemmas
+pub mod MisfitLemmas

@@ -4,7 +4,7 @@ use Rattle.std.specs.List.{slice_get}
 use Rattle.std.specs.FinMap.{get, empty, get-empty}
 use Rattle.std.specs.Ordering.{nat_cmp}
 use Rattle.std.proofs.lemmas.Bool.{false≢true}
-use Rattle.std.proofs.lemmas.Option.{none-some, same_Some, slice_get_within, slice_get_read}
+use Rattle.std.proofs.lemmas.Option.{none-some, same_Some, slice_get_read}
 use Rattle.std.proofs.lemmas.List.{take_more, take_all}
 use Rattle.std.specs.List.Sorted.{IsPermutation}
 use Rattle.std.proofs.lemmas.List.Sorted.{Contains-permutation, IsPermutation-sym}
@@ -155,17 +155,18 @@ AreMoved-end all rest kept none moved row = (
 
 -- ---- what is known after an atom
 
-module _ (old new : Assignment) (atom fact : Fact Term) (rest : List (Fact Term)) (step : Narrows old new (λ m. image m atom ≡ fact)) where
+module _ (old new : Assignment) (atom : Fact Term) (facts : List (Fact Term)) (place : ℕ) (rest : List (Fact Term))
+    (step : Narrows old new (λ m. slice_get facts place ≡ Some (image m atom))) where
   known_next : (term : Term) → IsKnown (atom ∷ rest) old term → IsKnown rest new term
   known_next term (inl constant) = inl constant
   known_next term (inr plain) = inr (
     plain.0,
     plain.1,
     elim plain.2 [
-      | inl some ↦ inl (known_kept old new (λ m. image m atom ≡ fact) step plain.0 some)
+      | inl some ↦ inl (known_kept old new (λ m. slice_get facts place ≡ Some (image m atom)) step plain.0 some)
       | inr mentioned ↦ elim (Contains-cases atom rest mentioned.0 mentioned.1) [
-        | inl same ↦ inl (known_fixed old new (λ m. image m atom ≡ fact) step plain.0
-            (λ m n p q. image_values m n atom (Plain plain.0) (p ∙ sym q)
+        | inl same ↦ inl (known_fixed old new (λ m. slice_get facts place ≡ Some (image m atom)) step plain.0
+            (λ m n p q. image_values m n atom (Plain plain.0) (same_Some _ _ (sym p ∙ q))
             (subst (Contains atom.terms) plain.1 (subst (λ (a : Fact Term). Contains a.terms term) (sym same) mentioned.2))))
         | inr later ↦ inr (mentioned.0, later, mentioned.2)
       ]
@@ -204,6 +205,9 @@ module _ (head : List Term) (atom : Fact Term) (rest facts : List (Fact Term)) (
   abbrev pub Seen : List Entry → List Term → Type 0
   Seen seen row = IsRowSeen head atom rest facts seen known row
 
+  pub none_seen : Adds old old (Seen [])
+  none_seen row = (λ there. inl there, λ either. elim either [ inl there ↦ there | inr s ↦ absurd (Contains-nil s.among.0 s.among.1) ])
+
   with_among : (seen other : List Entry) (row : List Term) (s : Seen seen row) → HasPlace other s.place → Seen other row
   with_among seen other row s among =
       record { m = s.m; keeps = s.keeps; extends = s.extends; place = s.place; among = among; first = s.first; others = s.others; is_image = s.is_image }
@@ -211,11 +215,11 @@ module _ (head : List Term) (atom : Fact Term) (rest facts : List (Fact Term)) (
   seen_more : (seen : List Entry) (entry : Entry) (row : List Term) → Seen seen row → Seen (seen ++ entry ∷ []) row
   seen_more seen entry row s = with_among seen (seen ++ entry ∷ []) row s (s.among.0, Contains-append_left seen (entry ∷ []) s.among.0 s.among.1, s.among.2)
 
-  -- no map that extends the known valuation sends the atom to the fact at this place
-  abbrev pub NoneHere : ℕ → Type 0
-  NoneHere place = (m : Term → Term) → Keeps Const m → Extends m known → slice_get facts place ≡ Some (image m atom) → ⊥
+  -- the map sends the atom to the fact at this place
+  abbrev pub Here : ℕ → (Term → Term) → Type 0
+  Here place m = slice_get facts place ≡ Some (image m atom)
 
-  skip : (seen : List Entry) (entry : Entry) (now : List (List Term)) → NoneHere entry.place → Adds old now (Seen seen)
+  skip : (seen : List Entry) (entry : Entry) (now : List (List Term)) → Excludes known (Here entry.place) → Adds old now (Seen seen)
       → Adds old now (Seen (seen ++ entry ∷ []))
   skip seen entry now none = Adds-same old now (Seen seen) (Seen (seen ++ entry ∷ [])) (λ row. (
     λ s. seen_more seen entry row s,
@@ -225,10 +229,9 @@ module _ (head : List Term) (atom : Fact Term) (rest facts : List (Fact Term)) (
     ],
   ))
 
-  next : (seen : List Entry) (entry : Entry) (fact : Fact Term) (mid : Assignment) (now new : List (List Term)) → slice_get facts entry.place ≡ Some fact
-      → Narrows known mid (λ m. image m atom ≡ fact) → Adds now new (IsRow head rest facts mid) → Adds old now (Seen seen)
-      → Adds old new (Seen (seen ++ entry ∷ []))
-  next seen entry fact mid now new at step more before row = (
+  next : (seen : List Entry) (entry : Entry) (mid : Assignment) (now new : List (List Term)) → Narrows known mid (Here entry.place)
+      → Adds now new (IsRow head rest facts mid) → Adds old now (Seen seen) → Adds old new (Seen (seen ++ entry ∷ []))
+  next seen entry mid now new step more before row = (
     λ there. elim ((more row).0 there) [
       | inl earlier ↦ elim ((before row).0 earlier) [ inl first ↦ inl first | inr s ↦ inr (seen_more seen entry row s) ]
       | inr r ↦
@@ -239,8 +242,7 @@ module _ (head : List Term) (atom : Fact Term) (rest facts : List (Fact Term)) (
             extends = n.0;
             place = entry.place;
             among = (entry, Contains-push seen entry, refl);
-            first =
-                at ∙ ap Some (sym n.1);
+            first = n.1;
             others = r.3;
             is_image = r.4;
           })
@@ -250,9 +252,9 @@ module _ (head : List Term) (atom : Fact Term) (rest facts : List (Fact Term)) (
       | inr s ↦ elim (Contains-push_cases seen entry s.among.0 s.among.1) [
         | inl earlier ↦ inl ((before row).1 (inr (with_among (seen ++ entry ∷ []) seen row s (s.among.0, earlier, s.among.2))))
         | inr same ↦
-            let here : slice_get facts s.place ≡ Some fact =
-            ap (slice_get facts) (sym s.among.2) ∙ ap (λ (e : Entry). slice_get facts e.place) (sym same) ∙ at in
-            inr (s.m, s.keeps, (step s.m s.keeps).1 (s.extends, same_Some _ _ (sym s.first ∙ here)), s.others, s.is_image)
+            let here : slice_get facts entry.place ≡ Some (image s.m atom) =
+            ap (λ (e : Entry). slice_get facts e.place) same ∙ ap (slice_get facts) s.among.2 ∙ s.first in
+            inr (s.m, s.keeps, (step s.m s.keeps).1 (s.extends, here), s.others, s.is_image)
       ]
     ]),
   )
@@ -288,24 +290,16 @@ module _ (head : List Term) (atom : Fact Term) (rest facts : List (Fact Term)) (
       seen_at : (entry : Entry) → i < length found → entry ≡ get_or found i entry → take (i + 1) found ≡ take i found ++ entry ∷ []
       seen_at entry within read = take_more found i entry within ∙ ap (λ e. take i found ++ e ∷ []) (sym read)
 
-      pub turn_out : (entry : Entry) (now : List (List Term)) → i < length found → entry ≡ get_or found i entry → length facts ≤ entry.place
+      pub turn_skip : (entry : Entry) (now : List (List Term)) → i < length found → entry ≡ get_or found i entry → Excludes known (Here entry.place)
           → Adds old now (Seen (take i found)) → Adds old now (Seen (take (i + 1) found))
-      turn_out entry now within read out seen =
-          subst (λ es. Adds old now (Seen es)) (sym (seen_at entry within read))
-          (skip (take i found) entry now (λ m keeps extends at. let l = slice_get_within facts entry.place _ at in omega arith) seen)
+      turn_skip entry now within read none seen =
+          subst (λ es. Adds old now (Seen es)) (sym (seen_at entry within read)) (skip (take i found) entry now none seen)
 
-      pub turn_skip : (entry : Entry) (fact : Fact Term) (now : List (List Term)) → i < length found → entry ≡ get_or found i entry
-          → slice_get facts entry.place ≡ Some fact → Excludes known (λ m. image m atom ≡ fact) → Adds old now (Seen (take i found))
-          → Adds old now (Seen (take (i + 1) found))
-      turn_skip entry fact now within read at none seen =
-          subst (λ es. Adds old now (Seen es)) (sym (seen_at entry within read))
-          (skip (take i found) entry now (λ m keeps extends is. none m keeps extends (same_Some _ _ (sym is ∙ at))) seen)
-
-      pub turn_next : (entry : Entry) (fact : Fact Term) (mid : Assignment) (now new : List (List Term)) → i < length found → entry ≡ get_or found i entry
-          → slice_get facts entry.place ≡ Some fact → Narrows known mid (λ m. image m atom ≡ fact) → Adds now new (IsRow head rest facts mid)
-          → Adds old now (Seen (take i found)) → Adds old new (Seen (take (i + 1) found))
-      turn_next entry fact mid now new within read at step more seen =
-          subst (λ es. Adds old new (Seen es)) (sym (seen_at entry within read)) (next (take i found) entry fact mid now new at step more seen)
+      pub turn_next : (entry : Entry) (mid : Assignment) (now new : List (List Term)) → i < length found → entry ≡ get_or found i entry
+          → Narrows known mid (Here entry.place) → Adds now new (IsRow head rest facts mid) → Adds old now (Seen (take i found))
+          → Adds old new (Seen (take (i + 1) found))
+      turn_next entry mid now new within read step more seen =
+          subst (λ es. Adds old new (Seen es)) (sym (seen_at entry within read)) (next (take i found) entry mid now new step more seen)
 
       pub end_adds : (now : List (List Term)) → length found ≤ i → Adds old now (Seen (take i found)) → Adds old now (IsRow head (atom ∷ rest) facts known)
       end_adds now end seen =

@@ -1,5 +1,5 @@
 -- Schemas: looking a name up, and adding a relation.
-use Rattle.std.proofs.Common.{◌≡◌, ◌≢◌, ℕ, ◌<◌, List, [], ◌∷◌, ◌++◌, length, get_or, All, Contains, Option, Some, None, false, sym, ap, ◌∙◌, arith}
+use Rattle.std.proofs.Common.{◌≡◌, ◌≢◌, ℕ, ◌<◌, List, [], ◌∷◌, ◌++◌, length, get_or, All, Contains, Option, Some, None, false, true, sym, ap, ◌∙◌, arith}
 use Rattle.std.specs.List.{slice_get}
 use Rattle.std.specs.Option.{option_map, is_some, MatchOption}
 use Rattle.std.proofs.lemmas.Bool.{false≢true}
@@ -43,3 +43,8 @@ IsSchema-push schema new relation grown old missing ranged room = rw grown (reco
 pub none_found : {X : Type 0} (found : Option X) (P : Type 0) (Q : X → Type 0) → is_some found ≡ false → MatchOption found P Q → P
 none_found None P Q e missing = missing
 none_found (Some x) P Q e there = absurd (false≢true (sym e))
+
+-- where it answered something
+pub some_found : {X : Type 0} (found : Option X) (P : Type 0) (Q : X → Type 0) → is_some found ≡ true → MatchOption found P Q → (x : X) × Q x
+some_found None P Q e missing = absurd (false≢true e)
+some_found (Some x) P Q e there = (x, there)

@@ -3,6 +3,8 @@ use Rattle.std.proofs.Common.{◌≡◌, ◌↔◌, ℕ, suc, ◌+◌, ◌-◌, 
 use Rattle.std.proofs.Math.Seq.{take-suc}
 use Rattle.std.proofs.lemmas.List.{append_assoc, append-nil, take-map, take_at, take_all, take_more, map_push, same_from_push}
 use Rattle.std.proofs.lemmas.List.Sums.{fold-append}
+use Rattle.std.proofs.lemmas.Option.{same_Some, slice_get_within}
+use Rattle.std.specs.List.{slice_get}
 use Rattle.std.specs.Ordering.{nat_cmp, eq_by_cmp}
 use Rattle.std.specs.Cmp.{nat_cmp_total}
 use Rattle.std.specs.FinMap.{get, insert, get-insert}
@@ -146,3 +148,17 @@ Tries-atom start old new outcome atom fact same =
           ∙ ap (λ (row : List Term). record { relation = fact.relation; terms = row }) e,
       λ e. ap (λ (f : Fact Term). f.terms) e,
     ))
+
+-- ---- facts at a place
+
+pub Tries-place : (start : Assignment) (old new : List Binding) (outcome : Bool) (atom fact : Fact Term) (facts : List (Fact Term)) (place : ℕ)
+    → slice_get facts place ≡ Some fact → Tries start old new outcome (λ m. image m atom ≡ fact)
+    → Tries start old new outcome (λ m. slice_get facts place ≡ Some (image m atom))
+Tries-place start old new outcome atom fact facts place at =
+    Tries-weaker start old new outcome (λ m. image m atom ≡ fact) (λ m. slice_get facts place ≡ Some (image m atom))
+    (λ m. (λ e. at ∙ ap Some (sym e), λ e. same_Some _ _ (sym e ∙ at)))
+
+-- where there is no fact
+pub Tries-out : (start : Assignment) (trail : List Binding) (atom : Fact Term) (facts : List (Fact Term)) (place : ℕ) → length facts ≤ place
+    → Tries start trail trail false (λ m. slice_get facts place ≡ Some (image m atom))
+Tries-out start trail atom facts place out = (refl, λ m keeps extends at. let within = slice_get_within facts place _ at in absurd (omega arith))

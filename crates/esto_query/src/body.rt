@@ -30,7 +30,8 @@ pub fn first_misfit(schema: &Schema, atoms: &[Atom]) -> Option<usize>
     ensures { MatchOption result (AreOver (arities_of schema.now) atoms.now)
         (IsFirstMisfit (arities_of schema.now) atoms.now) }
 {
-    for (place, atom) in atoms.iter().enumerate() {
+    for place in 0..atoms.len() {
+        let atom = &atoms[place];
         if atom.terms.len() != schema.arity(atom.relation) {
             return Some(place);
         }

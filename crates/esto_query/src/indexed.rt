@@ -1,10 +1,13 @@
 //! Facts with their index.
-ghost use Rattle.std.specs.Prelude.{◌≡◌, IfOk};
-ghost use Rattle.esto_query.specs.Trails.{with_trail};
+ghost use Rattle.std.specs.Prelude.{◌≡◌, Some, Contains, slice_get, IfOk};
+ghost use Rattle.esto_term.specs.declared.term.Term.{Term};
+ghost use Rattle.esto_semantics.specs.Facts.{image};
+ghost use Rattle.esto_semantics.specs.Maps.{IsFlat};
+ghost use Rattle.esto_query.specs.Trails.{with_trail, Tries};
 ghost use Rattle.esto_query.specs.Indexes.{AreCandidates};
 
 use crate::index::{Entry, index_of, places_for};
-use crate::trail::Binding;
+use crate::trail::{Binding, bind_atom};
 use crate::valuation::Valuation;
 use esto_semantics::{Atom, Facts};
 use esto_term::OutOfMemory;
@@ -64,4 +67,23 @@ pub fn candidates<'b>(
     ensures { AreCandidates facts.now atom.now (with_trail start.now trail.now) result.now }
 {
     places_for(start, facts.facts, &facts.index, trail, atom)
+}
+
+/// Gives variables terms, if need be, so that the atom becomes the fact at that place.
+pub fn bind_place<'a>(
+    start: &Valuation,
+    facts: &IndexedFacts<'a>,
+    trail: &mut Vec<Binding<'a>>,
+    atom: &Atom,
+    place: usize,
+) -> Result<bool, OutOfMemory>
+    requires { (term : Term) → Contains atom.now.terms term → IsFlat term }
+    ensures { IfOk result (λ is_bound. Tries start.now trail.old.items trail.new.items is_bound
+        (λ m. slice_get facts.now place ≡ Some (image m atom.now))) }
+{
+    let items = facts.items();
+    if place >= items.len() {
+        return Ok(false);
+    }
+    bind_atom(start, trail, atom, &items[place])
 }

@@ -105,8 +105,7 @@ fn least_after(
         return Ok(None);
     }
     let from = places_after(alloc, after, body.len(), facts.items().len())?;
-    let least = least_match(alloc, body, facts, start, from.items())?;
-    Ok(least)
+    least_match(alloc, body, facts, start, from.items())
 }
 
 impl<'a> IndexedFacts<'a> {
@@ -161,8 +160,7 @@ pub fn first_match(
         (HasNoMatch body.now facts.now start.now (λ _. ⊤))) }
 {
     let indexed = IndexedFacts::of(alloc, facts)?;
-    let first = indexed.first_match(alloc, body, start)?;
-    Ok(first)
+    indexed.first_match(alloc, body, start)
 }
 
 /// The least match after the given one, by the list of places, that extends the start. None comes exactly where
@@ -181,8 +179,7 @@ pub fn next_match(
         (HasNoMatch body.now facts.now start.now (IsBefore after.now.places))) }
 {
     let indexed = IndexedFacts::of(alloc, facts)?;
-    let next = indexed.next_match(alloc, body, start, after)?;
-    Ok(next)
+    indexed.next_match(alloc, body, start, after)
 }
 
 /// A law: a map of terms sends each atom of a body to one of the facts exactly where it has a match in their list.

@@ -1,5 +1,5 @@
 //! Schemas.
-ghost use Rattle.std.specs.Prelude.{◌≡◌, [], ◌∷◌, ◌++◌, ◌<◌, Contains, length, slice_get, Some, MatchOption, OnOk, OnErr, IsTrue, ◌↔◌};
+ghost use Rattle.std.specs.Prelude.{◌≡◌, [], ◌∷◌, ◌++◌, ◌<◌, Contains, length, slice_get, Some, Err, MatchOption, OnOk, OnErr, IsTrue, ◌↔◌};
 ghost use Rattle.esto_query.specs.Schemas.{names_of, arities_of, IsArity, IsSchema, AddsRelation};
 
 use esto_term::{List, OutOfMemory, Text};
@@ -84,6 +84,24 @@ impl Schema {
         }
     }
 
+    /// Why no relation of that name and number of columns is added, where memory is not wanting.
+    fn refusal(&self, name: &[u8], arity: usize) -> Option<SchemaError>
+        ensures { MatchOption result (¬ (Contains (names_of self.now) name.now)
+            × IsArity arity × (length self.now < MAX_RELATIONS))
+            (λ error. AddsRelation self.now name.now arity (Err error)) }
+    {
+        if self.find(name).is_some() {
+            return Some(SchemaError::SameName);
+        }
+        if arity == 0 || arity > MAX_COLUMNS {
+            return Some(SchemaError::BadArity);
+        }
+        if self.relations.len() >= MAX_RELATIONS {
+            return Some(SchemaError::TooMany);
+        }
+        None
+    }
+
     /// Adds a relation, and answers its number. SameName comes exactly where a relation of that name is there;
     /// else BadArity exactly where the number of columns is 0 or above 32; else TooMany exactly where 1,280
     /// relations are there. After an error the schema is as it was.
@@ -93,16 +111,10 @@ impl Schema {
             (self.new ≡ self.old ++ record { name = name; arity = arity } ∷ []) }
         ensures err { OnErr result (self.new ≡ self.old) }
     {
-        if self.find(name.bytes()).is_some() {
-            return Err(SchemaError::SameName);
-        }
-        if arity == 0 || arity > MAX_COLUMNS {
-            return Err(SchemaError::BadArity);
+        if let Some(error) = self.refusal(name.bytes(), arity) {
+            return Err(error);
         }
         let relation = self.relations.len();
-        if relation >= MAX_RELATIONS {
-            return Err(SchemaError::TooMany);
-        }
         self.relations.push(Relation { name, arity })?;
         Ok(relation)
     }

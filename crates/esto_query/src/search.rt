@@ -4,8 +4,8 @@ ghost use Rattle.esto_semantics.specs.Maps.{AreFlat};
 ghost use Rattle.esto_query.specs.Searches.{Searched, first_from, rest_from};
 
 use crate::index::entries_from;
-use crate::indexed::{IndexedFacts, candidates};
-use crate::trail::{Binding, bind_atom};
+use crate::indexed::{IndexedFacts, bind_place, candidates};
+use crate::trail::Binding;
 use crate::valuation::Valuation;
 use esto_semantics::Atom;
 use esto_term::{OutOfMemory, Places};
@@ -48,15 +48,11 @@ pub fn search<'a>(
     };
     let mark = trail.len();
     let depth = places.len();
-    let items = facts.items();
     let found = candidates(start, facts, trail, atom);
     let left = entries_from(found, least_first(from));
     for entry in left {
         let place = entry.place;
-        if place >= items.len() {
-            continue;
-        }
-        if bind_atom(start, trail, atom, &items[place])? {
+        if bind_place(start, facts, trail, atom, place)? {
             places.push(place)?;
             if search(start, rest, facts, from_after(from, place), trail, places)? {
                 return Ok(true);

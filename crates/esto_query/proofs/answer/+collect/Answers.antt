@@ -1,52 +1,58 @@
 use Rattle.std.proofs.Common.{length, ◌≡◌, [], refl, ap, subst, ◌∙◌, arith, rules}
 use Rattle.std.proofs.lemmas.List.{nil_from_length}
-use Rattle.std.proofs.lemmas.Option.{slice_get_read}
+use Rattle.std.proofs.lemmas.Result.{on_ok_weaker}
 use Rattle.esto_semantics.specs.Maps.{AreFlat}
 use Rattle.esto_query.specs.Trails.{with_trail}
 use Rattle.esto_query.proofs.IndexLemmas.{entry_at, entry_read}
 use Rattle.esto_query.proofs.TrailLemmas.{undone}
 use Rattle.esto_query.proofs.LeastLemmas.{flat_first, flat_rest}
-use Rattle.esto_query.proofs.RowLemmas.{leaf_adds, end_adds, AreKnown-next, turn_out, turn_skip, turn_next}
+use Rattle.esto_query.proofs.RowLemmas.{leaf_adds, none_seen, end_adds, AreKnown-next, turn_skip, turn_next}
 use Rattle.esto_query.proofs.answer.+collect.Goals as goal
 use Rattle.esto_query.proofs.answer.+collect.Goals.{then-branch+in_ok-collect, else-branch}
+
+pub returns-in_default-clause-trail : goal.returns-in_default-clause-trail
+returns-in_default-clause-trail t c = on_ok_weaker c.push_image.result (λ _. refl) c.push_image.ensures
 
 pub returns-in_default-clause-adds : goal.returns-in_default-clause-adds
 returns-in_default-clause-adds t c =
     let empty : c.args.body.now ≡ [] = nil_from_length _ (grind arith) in
-    let adds = rw c.deref.ensures.value at c.in_ok-push_image.ensures in
-    rw empty (leaf_adds c.args.head.now c.args.facts.now (with_trail c.args.start.now c.args.trail.now.items) _ _ _ (rw empty at c.requires.known) refl adds)
+    let adds = rw c.deref.ensures.value at c.push_image.ensures in
+    rw empty (on_ok_weaker c.push_image.result (leaf_adds c.args.head.now c.args.facts.now (with_trail c.args.start.now c.args.trail.now.items) _ _ _
+    (rw empty at c.requires.known) refl) adds)
+
+pub push_if_matched-requires-clause-flat : goal.push_if_matched-requires-clause-flat
+push_if_matched-requires-clause-flat t c = c.requires.flat
 
 pub push_if_matched-requires-clause-known : goal.push_if_matched-requires-clause-known
 push_if_matched-requires-clause-known t c = rw c.deref-2.ensures.value at (c.are_known.ensures c.if-are_known.true)
 
+pub returns-then-are_known-clause-trail : goal.returns-then-are_known-clause-trail
+returns-then-are_known-clause-trail t c = c.push_if_matched.ensures.trail
+
 pub returns-then-are_known-clause-adds : goal.returns-then-are_known-clause-adds
 returns-then-are_known-clause-adds t c = c.push_if_matched.ensures.adds
 
-pub loop-entry-preserved-then-place-items : goal.loop-entry-preserved-then-place-items
-loop-entry-preserved-then-place-items t c =
-    let serves = rw c.deref-3.ensures.value at c.candidates-found.ensures in
-    record {
-      split = c.loop-entry.invariant.split;
-      trail = c.loop-entry.invariant.trail;
-      adds = turn_out c.args.head.now c.in-Some.atom.now c.in-Some.rest.now c.args.facts.now
-          (with_trail c.args.start.now c.args.trail.now.items) c.args.rows.now.items c.candidates-found.result.now serves c.loop-entry.entry-index
-          (entry_at c.candidates-found.result.now c.loop-entry.entry-index) c.loop-entry.rows.items c.loop-entry-test.true
-          (entry_read c.candidates-found.result.now c.loop-entry.entry-index c.loop-entry-test.true)
-          (rw c.items-items.ensures at c.if-place-items.true) c.loop-entry.invariant.adds;
-    }
+pub loop-entry-init : goal.loop-entry-init
+loop-entry-init t c = record {
+  split = search rules;
+  trail = refl;
+  adds = none_seen c.args.head.now c.in-Some.atom.now c.in-Some.rest.now c.args.facts.now (with_trail c.args.start.now c.args.trail.now.items)
+      c.args.rows.now.items;
+}
 
-pub bind_atom-requires : goal.bind_atom-requires
-bind_atom-requires t c = flat_first _ c.in-Some.rest.now (subst AreFlat c.loop-entry.invariant.split c.requires.flat)
+pub bind_place-requires : goal.bind_place-requires
+bind_place-requires t c = flat_first _ c.in-Some.rest.now (subst AreFlat c.loop-entry.invariant.split c.requires.flat)
 
 pub collect-requires : goal.collect-requires
 collect-requires t c =
-    let tried = rw c.if-branch.true at c.in_ok-bind_atom.ensures in
+    let tried = rw c.if-branch.true at c.in_ok-bind_place.ensures in
     let known = rw (c.loop-entry.invariant.split, ← c.loop-entry.invariant.trail) at c.requires.known in (
-      search rules,
+      omega (arith, ap length c.loop-entry.invariant.split),
       (
         flat_rest c.in-Some.atom.now _ (subst AreFlat c.loop-entry.invariant.split c.requires.flat),
         AreKnown-next (with_trail c.args.start.now c.loop-entry.trail.items)
-            (with_trail c.args.start.now c.bind_atom.new.trail.items) c.in-Some.atom.now c.index-items-place.result c.in-Some.rest.now tried.1 c.args.head.now
+            (with_trail c.args.start.now c.bind_place.new.trail.items) c.in-Some.atom.now c.args.facts.now
+            (entry_at c.candidates-found.result.now c.loop-entry.entry-index).place c.in-Some.rest.now tried.1 c.args.head.now
             known,
       ),
     )
@@ -54,12 +60,10 @@ collect-requires t c =
 pub loop-entry-preserved : goal.loop-entry-preserved
 loop-entry-preserved t c =
     let serves = rw c.deref-3.ensures.value at c.candidates-found.ensures in
-    let at = slice_get_read c.args.facts.now _ (entry_at c.candidates-found.result.now c.loop-entry.entry-index).place _ refl
-    (omega (arith, ap length c.items-items.ensures, c.if-place-items.false)) (rw c.items-items.ensures at c.index-items-place.is) in
     elim c.if-branch.branch [
       | then-branch+in_ok-collect w ↦
-          let tried = rw (w.if-branch.true, c.loop-entry.invariant.trail) at c.in_ok-bind_atom.ensures in
-          let grown = rw w.if-branch.true at c.in_ok-bind_atom.ensures in
+          let tried = rw (w.if-branch.true, c.loop-entry.invariant.trail) at c.in_ok-bind_place.ensures in
+          let grown = rw w.if-branch.true at c.in_ok-bind_place.ensures in
           record {
             split = c.loop-entry.invariant.split;
             trail = ap (λ v. v.items) w.trail-is
@@ -67,22 +71,25 @@ loop-entry-preserved t c =
                 w.in_ok-collect.ensures.trail w.truncate.ensures.items;
             adds = rw w.rows-is (turn_next c.args.head.now c.in-Some.atom.now c.in-Some.rest.now c.args.facts.now
                 (with_trail c.args.start.now c.args.trail.now.items) c.args.rows.now.items c.candidates-found.result.now serves c.loop-entry.entry-index
-                (entry_at c.candidates-found.result.now c.loop-entry.entry-index) c.index-items-place.result
-                (with_trail c.args.start.now c.bind_atom.new.trail.items) c.loop-entry.rows.items _ c.loop-entry-test.true
-                (entry_read c.candidates-found.result.now c.loop-entry.entry-index c.loop-entry-test.true) at tried.1 w.in_ok-collect.ensures.adds
+                (entry_at c.candidates-found.result.now c.loop-entry.entry-index)
+                (with_trail c.args.start.now c.bind_place.new.trail.items) c.loop-entry.rows.items _ c.loop-entry-test.true
+                (entry_read c.candidates-found.result.now c.loop-entry.entry-index c.loop-entry-test.true) tried.1 w.in_ok-collect.ensures.adds
                 c.loop-entry.invariant.adds);
           }
       | else-branch w ↦
-          let tried = rw (w.if-branch.false, c.loop-entry.invariant.trail) at c.in_ok-bind_atom.ensures in
+          let tried = rw (w.if-branch.false, c.loop-entry.invariant.trail) at c.in_ok-bind_place.ensures in
           record {
             split = c.loop-entry.invariant.split;
             trail = ap (λ v. v.items) w.trail-is ∙ tried.0;
             adds = rw w.rows-is (turn_skip c.args.head.now c.in-Some.atom.now c.in-Some.rest.now c.args.facts.now
                 (with_trail c.args.start.now c.args.trail.now.items) c.args.rows.now.items c.candidates-found.result.now serves c.loop-entry.entry-index
-                (entry_at c.candidates-found.result.now c.loop-entry.entry-index) c.index-items-place.result c.loop-entry.rows.items c.loop-entry-test.true
-                (entry_read c.candidates-found.result.now c.loop-entry.entry-index c.loop-entry-test.true) at tried.1 c.loop-entry.invariant.adds);
+                (entry_at c.candidates-found.result.now c.loop-entry.entry-index) c.loop-entry.rows.items c.loop-entry-test.true
+                (entry_read c.candidates-found.result.now c.loop-entry.entry-index c.loop-entry-test.true) tried.1 c.loop-entry.invariant.adds);
           }
     ]
+
+pub returns-clause-trail : goal.returns-clause-trail
+returns-clause-trail t c = c.loop-entry.invariant.trail
 
 pub returns-clause-adds : goal.returns-clause-adds
 returns-clause-adds t c =

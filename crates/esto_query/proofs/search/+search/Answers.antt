@@ -1,11 +1,10 @@
 use Rattle.std.proofs.Common.{length, ◌≡◌, ◌∷◌, [], refl, ap, ◌∙◌, subst, ◌≤◌, arith, rules}
 use Rattle.std.proofs.lemmas.List.{nil_from_length}
-use Rattle.std.proofs.lemmas.Option.{slice_get_read}
 use Rattle.esto_semantics.specs.Maps.{AreFlat}
 use Rattle.esto_query.specs.Trails.{with_trail}
 use Rattle.esto_query.proofs.IndexLemmas.{entry_at, entry_read, entry_inside}
 use Rattle.esto_query.proofs.TrailLemmas.{undone}
-use Rattle.esto_query.proofs.LeastLemmas.{AreLeft-first, AreLeft-next, AreLeft-low, AreLeft-end, NoneAt-out, NoneAt-back, NoneAt-skip, Searched-nil, Searched-found, Searched-none, flat_first, flat_rest}
+use Rattle.esto_query.proofs.LeastLemmas.{AreLeft-first, AreLeft-next, AreLeft-low, AreLeft-end, NoneAt-back, NoneAt-skip, Searched-nil, Searched-found, Searched-none, flat_first, flat_rest}
 use Rattle.esto_query.proofs.search.+search.Goals as goal
 use Rattle.esto_query.proofs.search.+search.Goals.{then-branch+in_ok-push+in_ok-search+else-branch-2, else-branch}
 
@@ -29,26 +28,11 @@ loop-entry-init t c =
 pub entries_from-left-requires : goal.entries_from-left-requires
 entries_from-left-requires t c = c.candidates-found.ensures.rising
 
-pub loop-entry-preserved-then-place-items : goal.loop-entry-preserved-then-place-items
-loop-entry-preserved-then-place-items t c =
-    let rising = c.entries_from-left.ensures.rising in
-    record {
-      split = c.loop-entry.invariant.split;
-      trail = c.loop-entry.invariant.trail;
-      places = c.loop-entry.invariant.places;
-      left = AreLeft-next c.in-Some.atom.now c.in-Some.rest.now c.args.facts.now
-          (with_trail c.args.start.now c.args.trail.now.items) c.args.from.now c.entries_from-left.result.now rising c.loop-entry.entry-index
-          c.loop-entry.invariant.left (entry_at c.entries_from-left.result.now c.loop-entry.entry-index) c.loop-entry-test.true
-          (entry_read c.entries_from-left.result.now c.loop-entry.entry-index c.loop-entry-test.true)
-          (NoneAt-out c.in-Some.atom.now c.in-Some.rest.now c.args.facts.now (with_trail c.args.start.now c.args.trail.now.items) c.args.from.now
-          (entry_at c.entries_from-left.result.now c.loop-entry.entry-index).place (rw c.items-items.ensures at c.if-place-items.true));
-    }
-
-pub bind_atom-requires : goal.bind_atom-requires
-bind_atom-requires t c = flat_first _ c.in-Some.rest.now (subst AreFlat c.loop-entry.invariant.split c.requires)
+pub bind_place-requires : goal.bind_place-requires
+bind_place-requires t c = flat_first _ c.in-Some.rest.now (subst AreFlat c.loop-entry.invariant.split c.requires)
 
 pub search-requires : goal.search-requires
-search-requires t c = (search rules, flat_rest c.in-Some.atom.now _ (subst AreFlat c.loop-entry.invariant.split c.requires))
+search-requires t c = (omega (arith, ap length c.loop-entry.invariant.split), flat_rest c.in-Some.atom.now _ (subst AreFlat c.loop-entry.invariant.split c.requires))
 
 pub returns-then-branch-2 : goal.returns-then-branch-2
 returns-then-branch-2 t c =
@@ -61,14 +45,12 @@ returns-then-branch-2 t c =
     (c.entries_from-left.ensures.within (entry_at c.entries_from-left.result.now c.loop-entry.entry-index)
     (entry_inside c.entries_from-left.result.now c.loop-entry.entry-index c.loop-entry-test.true)) in
     let found = rw c.if-branch-2.true at c.in_ok-search.ensures in
-    let tried = rw c.if-branch.true at c.in_ok-bind_atom.ensures in
-    let at = slice_get_read c.args.facts.now _ (entry_at c.entries_from-left.result.now c.loop-entry.entry-index).place _ refl
-    (omega (arith, ap length c.items-items.ensures, c.if-place-items.false)) (rw c.items-items.ensures at c.index-items-place.is) in
+    let tried = rw c.if-branch.true at c.in_ok-bind_place.ensures in
     rw c.loop-entry.invariant.split
-    (Searched-found c.args.start.now c.in-Some.atom.now c.index-items-place.result c.in-Some.rest.now c.args.facts.now c.args.from.now
-    (entry_at c.entries_from-left.result.now c.loop-entry.entry-index).place at
+    (Searched-found c.args.start.now c.in-Some.atom.now c.in-Some.rest.now c.args.facts.now c.args.from.now
+    (entry_at c.entries_from-left.result.now c.loop-entry.entry-index).place
     c.args.trail.now.items c.loop-entry.trail.items c.loop-entry.invariant.trail low
-    c.bind_atom.new.trail.items c.search.new.trail.items c.from_after.result.now c.args.places.now c.loop-entry.places c.push.new.self c.search.new.places
+    c.bind_place.new.trail.items c.search.new.trail.items c.from_after.result.now c.args.places.now c.loop-entry.places c.push.new.self c.search.new.places
     c.loop-entry.invariant.places c.from_after.ensures c.in_ok-push.ensures.ok after tried found)
 
 pub loop-entry-preserved : goal.loop-entry-preserved
@@ -82,12 +64,10 @@ loop-entry-preserved t c =
     (with_trail c.args.start.now c.args.trail.now.items) c.args.from.now c.entries_from-left.result.now rising c.loop-entry.entry-index
     c.loop-entry.invariant.left (entry_at c.entries_from-left.result.now c.loop-entry.entry-index) c.loop-entry-test.true
     (entry_read c.entries_from-left.result.now c.loop-entry.entry-index c.loop-entry-test.true) in
-    let at = slice_get_read c.args.facts.now _ (entry_at c.entries_from-left.result.now c.loop-entry.entry-index).place _ refl
-    (omega (arith, ap length c.items-items.ensures, c.if-place-items.false)) (rw c.items-items.ensures at c.index-items-place.is) in
     elim c.if-branch.branch [
       | then-branch+in_ok-push+in_ok-search+else-branch-2 w ↦
           let missed = rw w.if-branch-2.false at w.in_ok-search.ensures in
-          let tried = rw w.if-branch.true at c.in_ok-bind_atom.ensures in
+          let tried = rw w.if-branch.true at c.in_ok-bind_place.ensures in
           record {
             split = c.loop-entry.invariant.split;
             trail = ap (λ v. v.items) w.trail-is
@@ -95,21 +75,21 @@ loop-entry-preserved t c =
                 w.truncate-then-branch.ensures.items;
             places = w.places-is ∙ undone _ _ _ _ _ _ (omega (arith, c.len-depth.ensures)) c.loop-entry.invariant.places
                 ((entry_at c.entries_from-left.result.now c.loop-entry.entry-index).place ∷ [], w.in_ok-push.ensures.ok) missed.0 w.truncate.ensures;
-            left = next (NoneAt-back c.args.start.now c.in-Some.atom.now c.index-items-place.result c.in-Some.rest.now c.args.facts.now c.args.from.now
-                (entry_at c.entries_from-left.result.now c.loop-entry.entry-index).place at
+            left = next (NoneAt-back c.args.start.now c.in-Some.atom.now c.in-Some.rest.now c.args.facts.now c.args.from.now
+                (entry_at c.entries_from-left.result.now c.loop-entry.entry-index).place
                 c.args.trail.now.items c.loop-entry.trail.items c.loop-entry.invariant.trail low
-                c.bind_atom.new.trail.items w.search.new.trail.items w.from_after.result.now w.push.new.self w.search.new.places w.from_after.ensures tried
+                c.bind_place.new.trail.items w.search.new.trail.items w.from_after.result.now w.push.new.self w.search.new.places w.from_after.ensures tried
                 missed);
           }
       | else-branch w ↦
-          let tried = rw w.if-branch.false at c.in_ok-bind_atom.ensures in
+          let tried = rw w.if-branch.false at c.in_ok-bind_place.ensures in
           record {
             split = c.loop-entry.invariant.split;
             trail = ap (λ v. v.items) w.trail-is ∙ tried.0 ∙ c.loop-entry.invariant.trail;
             places = w.places-is ∙ c.loop-entry.invariant.places;
-            left = next (NoneAt-skip c.args.start.now c.in-Some.atom.now c.index-items-place.result c.in-Some.rest.now c.args.facts.now c.args.from.now
-                (entry_at c.entries_from-left.result.now c.loop-entry.entry-index).place at
-                c.args.trail.now.items c.loop-entry.trail.items c.loop-entry.invariant.trail low c.bind_atom.new.trail.items tried);
+            left = next (NoneAt-skip c.args.start.now c.in-Some.atom.now c.in-Some.rest.now c.args.facts.now c.args.from.now
+                (entry_at c.entries_from-left.result.now c.loop-entry.entry-index).place
+                c.args.trail.now.items c.loop-entry.trail.items c.loop-entry.invariant.trail low c.bind_place.new.trail.items tried);
           }
     ]
 

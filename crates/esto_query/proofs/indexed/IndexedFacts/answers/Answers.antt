@@ -1,4 +1,5 @@
 use Rattle.std.proofs.Common.{◌∙◌, ap}
+use Rattle.std.proofs.lemmas.Result.{IfOk-weaker}
 use Rattle.esto_query.specs.Making.{query_of}
 use Rattle.esto_query.specs.Trails.{with_trail}
 use Rattle.esto_query.proofs.SoundLemmas.{sound_of}
@@ -18,6 +19,9 @@ collect-requires-clause-known c =
 pub returns-clause-rows : goal.returns-clause-rows
 returns-clause-rows c =
     let adds = rw (c.items-head.ensures, c.items-body.ensures) at c.in_ok-collect.ensures.adds in
-    answers_are (query_of c.args.query.now) c.args.self.now c.new-rows.result.items c.collect.new.rows.items _
+    IfOk-weaker c.in_order.result _ _ (λ kept. answers_are (query_of c.args.query.now) c.args.self.now c.new-rows.result.items c.collect.new.rows.items kept
     (with_trail c.new-start.result c.new-trail.result.items) c.new-rows.ensures.items
-    (ap (with_trail c.new-start.result) c.new-trail.ensures.items ∙ c.new-start.ensures) adds c.in_ok-rows.ensures.rows
+    (ap (with_trail c.new-start.result) c.new-trail.ensures.items ∙ c.new-start.ensures) adds) c.in_order.ensures.rows
+
+pub returns-clause-ascending : goal.returns-clause-ascending
+returns-clause-ascending c = c.in_order.ensures.ascending
