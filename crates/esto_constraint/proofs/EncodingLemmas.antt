@@ -1,13 +1,15 @@
 -- The rules of the encodings are rules.
-use Rattle.std.proofs.Common.{◌≡◌, ◌≢◌, ℕ, zero, suc, ◌<◌, List, [], ◌∷◌, ◌++◌, map, length, slice_index_or, Contains, refl, sym, ◌∙◌, ap, subst, inl, inr, arith}
+use Rattle.std.proofs.Common.{◌≡◌, ◌≢◌, ℕ, zero, suc, ◌<◌, List, [], ◌∷◌, ◌++◌, map, length, slice_index_or, Contains, Result, refl, sym, ◌∙◌, ap, subst, inl, inr, arith}
 use Rattle.std.specs.List.{AllByRecursion}
+use Rattle.std.specs.Result.{OnOk}
 use Rattle.std.proofs.lemmas.List.{length-map, map_push}
+use Rattle.std.proofs.lemmas.Result.{on_ok_weaker}
 use Rattle.esto_term.proofs.ListLemmas.{Contains-cases, Contains-head, Contains-map, Contains-map_from, Contains-nil, Contains-rest}
 use Rattle.esto_term.specs.declared.term.Term.{Term}
 use Rattle.esto_term.specs.declared.term.Term.TheVariants.{Plain}
 use Rattle.esto_semantics.proofs.TermLemmas.{Plain-same}
 use Rattle.esto_semantics.specs.Facts.{Mentions}
-use Rattle.esto_semantics.specs.Maps.{IsFlat, AreFlat, IsFixedBy}
+use Rattle.esto_semantics.specs.Maps.{IsFlat, AreFlat}
 use Rattle.esto_semantics.specs.declared.fact.Fact.{Fact}
 use Rattle.esto_query.specs.Soundness.{AreNamed}
 use Rattle.esto_query.specs.declared.query.Name.{Name}
@@ -133,8 +135,16 @@ module _ {T : Type 0} (named_as : T → Name) (texts : List T) (names : List Nam
       let it = two_atoms names (length texts) relation other first second body are many below lower in
       record { rule = record { has_body = it.some; flat_body = it.flat }; named = it.named }
 
--- one rule more
-pub one_more : {X Y : Type 0} (f : X → Y) (old new : List X) (last : X) (others : List Y) (other : Y) → new ≡ old ++ last ∷ [] → map f old ≡ others
-    → f last ≡ other
-    → map f new ≡ others ++ other ∷ []
-one_more f old new last others other is before now = ap (map f) is ∙ map_push f old last ∙ (λ i. before i ++ now i ∷ [])
+-- a list that got one more
+pub grown : {Y : Type 0} (old new all : List Y) (last : Y) → old ≡ all → new ≡ old ++ last ∷ [] → new ≡ all ++ last ∷ []
+grown old new all last before is = is ∙ ap (λ those. those ++ last ∷ []) before
+
+pub after : {T E Y : Type 0} (old new all : List Y) (last : Y) (result : Result T E) → old ≡ all → OnOk result (new ≡ old ++ last ∷ [])
+    → OnOk result (new ≡ all ++ last ∷ [])
+after old new all last result before = on_ok_weaker result (grown old new all last before)
+
+-- what is said of the items of a list that got one more
+pub put_last : {T E X Y : Type 0} (f : X → Y) (old new : List X) (last : X) (other : Y) (result : Result T E) → OnOk result (new ≡ old ++ last ∷ [])
+    → f last ≡ other → OnOk result (map f new ≡ map f old ++ other ∷ [])
+put_last f old new last other result pushed now =
+    on_ok_weaker result (λ is. ap (map f) is ∙ map_push f old last ∙ ap (λ one. map f old ++ one ∷ []) now) pushed

@@ -1,5 +1,5 @@
 -- The first misfit among atoms of a body and then of a head.
-use Rattle.std.proofs.Common.{ℕ, ◌+◌, ◌<◌, ◌++◌, List, length, take, Some, sym, ap, ◌∙◌, subst, inl, inr, arith, length-append}
+use Rattle.std.proofs.Common.{ℕ, ◌+◌, ◌<◌, ◌++◌, List, [], length, take, Some, Err, sym, ap, ◌∙◌, subst, inl, inr, arith, length-append}
 use Rattle.std.proofs.Math.Seq.{take-append-add}
 use Rattle.std.proofs.lemmas.List.{take-append-le, get_or_append_left, get_or-append-add}
 use Rattle.std.proofs.lemmas.List.Elements.{Contains-append_cases}
@@ -8,6 +8,10 @@ use Rattle.esto_term.specs.declared.term.Term.{Term}
 use Rattle.esto_semantics.specs.WellFormed.{AreOver}
 use Rattle.esto_semantics.specs.declared.fact.Fact.{Fact}
 use Rattle.esto_query.specs.Making.{IsFirstMisfit}
+use Rattle.esto_query.specs.declared.query.Name.{Name}
+use Rattle.esto_query.specs.declared.make.QueryFault.{QueryFault}
+use Rattle.esto_query.specs.declared.make.QueryFault.TheVariants.{Unsafe, Arity, TooLarge, OutOfMemory}
+use Rattle.esto_constraint.specs.Making.{MakesTuple, MakesEquality, MakesDenial}
 
 module _ (schema : List ℕ) where
   pub AreOver-append : (body head : List (Fact Term)) → AreOver schema body → AreOver schema head → AreOver schema (body ++ head)
@@ -40,3 +44,33 @@ module _ (schema : List ℕ) where
     where
       within : place < length head
       within = slice_get_within head place first.atom first.there
+
+-- ---- what is wrong, whatever the names are
+
+pub denial_refused : (schema : List ℕ) (body : List (Fact Term)) (names : List Name) (fault : QueryFault) → MakesDenial schema body [] (Err fault)
+    → MakesDenial schema body names (Err fault)
+denial_refused schema body names (Arity place) is = is
+denial_refused schema body names (TooLarge atoms) is = is
+denial_refused schema body names (Unsafe variable) is = is
+denial_refused schema body names OutOfMemory is = is
+
+pub body_refused : (schema : List ℕ) (body : List (Fact Term)) (left right : Term) (fault : QueryFault) → MakesDenial schema body [] (Err fault)
+    → MakesEquality schema body left right [] (Err fault)
+body_refused schema body left right (Arity place) is = is
+body_refused schema body left right (TooLarge atoms) is = is
+body_refused schema body left right (Unsafe variable) is = absurd is
+body_refused schema body left right OutOfMemory is = is
+
+pub equality_refused : (schema : List ℕ) (body : List (Fact Term)) (left right : Term) (names : List Name) (fault : QueryFault)
+    → MakesEquality schema body left right [] (Err fault) → MakesEquality schema body left right names (Err fault)
+equality_refused schema body left right names (Arity place) is = is
+equality_refused schema body left right names (TooLarge atoms) is = is
+equality_refused schema body left right names (Unsafe variable) is = is
+equality_refused schema body left right names OutOfMemory is = is
+
+pub tuple_refused : (schema : List ℕ) (body head : List (Fact Term)) (names : List Name) (fault : QueryFault) → MakesTuple schema body head [] (Err fault)
+    → MakesTuple schema body head names (Err fault)
+tuple_refused schema body head names (Arity place) is = is
+tuple_refused schema body head names (TooLarge atoms) is = is
+tuple_refused schema body head names (Unsafe variable) is = is
+tuple_refused schema body head names OutOfMemory is = is

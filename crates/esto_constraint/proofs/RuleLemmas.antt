@@ -1,6 +1,7 @@
 -- What every rule keeps.
 use Rattle.std.proofs.Common.{◌≡◌, ◌≢◌, List, [], ◌∷◌, Contains, sym, inl, inr, subst}
-use Rattle.std.proofs.Math.Logic.{∥∥₁_map}
+use Rattle.std.proofs.Math.Logic.{∥∥₁_map, ∥∥₁_prop}
+use Rattle.std.proofs.Math.Path.{to_path_p}
 use Rattle.esto_term.specs.declared.term.Term.{Term}
 use Rattle.esto_term.specs.declared.term.Term.TheVariants.{Const}
 use Rattle.esto_semantics.specs.Maps.{IsFlat, AreFlat, IsFixedBy}
@@ -12,6 +13,9 @@ use Rattle.esto_query.proofs.SoundLemmas.{sound_of}
 use Rattle.esto_constraint.specs.Soundness.{IsSoundTuple, IsSoundEquality, IsSoundDenial}
 use Rattle.esto_constraint.specs.Constraints.{rule_of, rules_of}
 use Rattle.esto_semantics.specs.Rules.{body_of}
+use Rattle.esto_constraint.specs.declared.rule.Tgd.{Tgd}
+use Rattle.esto_constraint.specs.declared.rule.Egd.{Egd}
+use Rattle.esto_constraint.specs.declared.rule.Denial.{Denial}
 use Rattle.esto_constraint.specs.declared.rule.Constraint.{Constraint}
 use Rattle.esto_constraint.specs.declared.rule.Constraint.TheVariants.{Tuple, Equal, Never}
 use Rattle.esto_term.proofs.ListLemmas.{Contains-cases, Contains-head, Contains-nil, Contains-rest, Contains-map_from}
@@ -123,3 +127,29 @@ flat_body (Never rule) = (denial_sound rule.body rule.names rule.sound).rule.fla
 -- the meaning of each constraint is a rule, so that of a list of them is a list of rules
 pub are_rules : ((constraint : Constraint) → IsRule (rule_of constraint)) → (rules : List Constraint) → AreRules (rules_of rules)
 are_rules each rules rule inside = let found = Contains-map_from rule_of rules rule inside in subst IsRule found.2 (each found.0)
+
+-- ---- rules of the same parts are the same
+
+pub same_tuple : (one other : Tgd) → one.body ≡ other.body → one.head ≡ other.head → one.names ≡ other.names → one ≡ other
+same_tuple one other body head names = λ i. record {
+  body = body i;
+  head = head i;
+  names = names i;
+  sound = to_path_p (λ j. ∥ IsSoundTuple (body j) (head j) (names j) ∥₁) {a = one.sound} {b = other.sound} (∥∥₁_prop _ other.sound) i;
+}
+
+pub same_equality : (one other : Egd) → one.body ≡ other.body → one.left ≡ other.left → one.right ≡ other.right → one.names ≡ other.names → one ≡ other
+same_equality one other body left right names = λ i. record {
+  body = body i;
+  left = left i;
+  right = right i;
+  names = names i;
+  sound = to_path_p (λ j. ∥ IsSoundEquality (body j) (left j) (right j) (names j) ∥₁) {a = one.sound} {b = other.sound} (∥∥₁_prop _ other.sound) i;
+}
+
+pub same_denial : (one other : Denial) → one.body ≡ other.body → one.names ≡ other.names → one ≡ other
+same_denial one other body names = λ i. record {
+  body = body i;
+  names = names i;
+  sound = to_path_p (λ j. ∥ IsSoundDenial (body j) (names j) ∥₁) {a = one.sound} {b = other.sound} (∥∥₁_prop _ other.sound) i;
+}

@@ -1,42 +1,55 @@
 //! The rules of the encodings: those that the facts of documents and of keys are to meet. Variables are numbered by first
 //! occurrence, the body first, and named as the rules are written.
-ghost use Rattle.std.specs.Prelude.{◌≡◌, ◌<◌, ◌≤◌, ◌+◌, [], ◌∷◌, length, map, take, slice_index_or, IfOk};
+ghost use Rattle.std.specs.Prelude.{◌≡◌, ◌<◌, ◌≤◌, ◌+◌, [], ◌∷◌, ◌++◌, length, map, take, slice_index_or, IfOk, OnOk};
 ghost use Rattle.std.specs.List.{AllByRecursion};
 ghost use Rattle.esto_term.specs.declared.term.Term.TheVariants.{Plain};
 ghost use Rattle.esto_query.specs.declared.query.Name.TheVariants.{Given};
 ghost use Rattle.esto_semantics.specs.Rules.{tuple, equality, denial};
-ghost use Rattle.esto_constraint.specs.Constraints.{rule_of, rules_of};
+ghost use Rattle.esto_constraint.specs.Constraints.{rules_of};
 ghost use Rattle.esto_constraint.specs.EncodingRules.{atom, document_rules, document_rules_2, key_rules, written, document_names, document_names_2, key_names};
 
 use crate::rule::{Constraint, Denial, Egd, Rules, Tgd};
 use esto_query::{Name, Names};
-use esto_semantics::{Atom, Atoms, Fact};
+use esto_semantics::{Atoms, Fact};
 use esto_term::{List, OutOfMemory, Term, Text};
 use std::alloc::Global;
 
 /// The greatest number of a base, beyond which one of the five relations of documents has no number.
 const LAST_BASE: usize = usize::MAX - 4;
 
+/// Adds these names, in order.
+fn add_names(alloc: Global, texts: &[&str], names: &mut Names) -> Result<(), OutOfMemory>
+    ensures { OnOk result (names.new ≡ names.old ++ map (λ text. Given text.now) texts.now) }
+{
+    'texts: for text in texts {
+        names.push(Name::Given(Text::from_str(alloc, text)?))?;
+    }
+    Ok(())
+}
+
 /// These names, in order.
 fn names_of(alloc: Global, texts: &[&str]) -> Result<Names, OutOfMemory>
     ensures { IfOk result (λ it. it ≡ map (λ text. Given text.now) texts.now) }
 {
     let mut names = List::new(alloc);
-    'texts: for text in texts {
-        names.push(Name::Given(Text::from_str(alloc, text)?))?;
-    }
+    add_names(alloc, texts, &mut names)?;
     Ok(names)
 }
 
-/// The atom of a relation over these variables.
-fn atom(alloc: Global, relation: usize, variables: &[u64]) -> Result<Atom, OutOfMemory>
-    ensures { IfOk result (λ it. it ≡ atom relation variables.now) }
+/// Adds the atom of a relation over these variables.
+fn add_atom(
+    alloc: Global,
+    relation: usize,
+    variables: &[u64],
+    atoms: &mut Atoms,
+) -> Result<(), OutOfMemory>
+    ensures { OnOk result (atoms.new ≡ atoms.old ++ atom relation variables.now ∷ []) }
 {
     let mut terms = List::new(alloc);
     'variables: for variable in variables {
         terms.push(Term::Plain(*variable))?;
     }
-    Ok(Fact { relation, terms })
+    atoms.push(Fact { relation, terms })
 }
 
 /// The body or head of one atom of a relation over these variables.
@@ -44,7 +57,7 @@ fn one_atom(alloc: Global, relation: usize, variables: &[u64]) -> Result<Atoms, 
     ensures { IfOk result (λ it. it ≡ atom relation variables.now ∷ []) }
 {
     let mut atoms = List::new(alloc);
-    atoms.push(atom(alloc, relation, variables)?)?;
+    add_atom(alloc, relation, variables, &mut atoms)?;
     Ok(atoms)
 }
 
@@ -60,31 +73,34 @@ fn two_atoms(
         it ≡ atom relation first.now ∷ atom other second.now ∷ []) }
 {
     let mut atoms = one_atom(alloc, relation, first)?;
-    atoms.push(atom(alloc, other, second)?)?;
+    add_atom(alloc, other, second, &mut atoms)?;
     Ok(atoms)
 }
 
-/// The rule that two atoms of one relation agree at a place.
-fn agree_at(
+/// Adds the rule that two atoms of one relation agree at a place.
+fn add_agreement(
     alloc: Global,
     relation: usize,
     first: &[u64],
     second: &[u64],
     place: usize,
     names: &[&str],
-) -> Result<Constraint, OutOfMemory>
+    rules: &mut Rules,
+) -> Result<(), OutOfMemory>
     requires in_first { place < length first.now }
     requires in_second { place < length second.now }
     requires first_named { AllByRecursion (λ v. v < length names.now) first.now }
     requires second_named { AllByRecursion (λ v. v < length names.now) second.now }
-    ensures rule { IfOk result (λ it. rule_of it ≡ equality
+    ensures rules { OnOk result (rules_of rules.new ≡ rules_of rules.old ++ equality
         (atom relation first.now ∷ atom relation second.now ∷ [])
-        (Plain (slice_index_or first.now place 0)) (Plain (slice_index_or second.now place 0))) }
-    ensures names { IfOk result (λ it. written it ≡ map (λ text. Given text.now) names.now) }
+        (Plain (slice_index_or first.now place 0)) (Plain (slice_index_or second.now place 0))
+        ∷ []) }
+    ensures names { OnOk result (map written rules.new
+        ≡ map written rules.old ++ map (λ text. Given text.now) names.now ∷ []) }
 {
     let body = two_atoms(alloc, relation, first, relation, second)?;
     let names = names_of(alloc, names)?;
-    Ok(Constraint::Equal(Egd {
+    rules.push(Constraint::Equal(Egd {
         body,
         left: Term::Plain(first[place]),
         right: Term::Plain(second[place]),
@@ -92,109 +108,115 @@ fn agree_at(
     }))
 }
 
-/// The rule that an atom of one relation asks for one of another.
-fn leads_to(
+/// Adds the rule that an atom of one relation asks for one of another.
+fn add_demand(
     alloc: Global,
     relation: usize,
     from: &[u64],
     other: usize,
     to: &[u64],
     names: &[&str],
-) -> Result<Constraint, OutOfMemory>
+    rules: &mut Rules,
+) -> Result<(), OutOfMemory>
     requires from_named { AllByRecursion (λ v. v < length names.now) from.now }
     requires to_named { AllByRecursion (λ v. v < length names.now) to.now }
-    ensures rule { IfOk result (λ it. rule_of it ≡ tuple (atom relation from.now ∷ [])
-        (atom other to.now ∷ [])) }
-    ensures names { IfOk result (λ it. written it ≡ map (λ text. Given text.now) names.now) }
+    ensures rules { OnOk result (rules_of rules.new ≡ rules_of rules.old
+        ++ tuple (atom relation from.now ∷ []) (atom other to.now ∷ []) ∷ []) }
+    ensures names { OnOk result (map written rules.new
+        ≡ map written rules.old ++ map (λ text. Given text.now) names.now ∷ []) }
 {
     let body = one_atom(alloc, relation, from)?;
     let head = one_atom(alloc, other, to)?;
     let names = names_of(alloc, names)?;
-    Ok(Constraint::Tuple(Tgd { body, head, names }))
+    rules.push(Constraint::Tuple(Tgd { body, head, names }))
 }
 
-/// The rule that two atoms never match together.
-fn never(
+/// Adds the rule that two atoms never match together.
+fn add_denial(
     alloc: Global,
     relation: usize,
     first: &[u64],
     other: usize,
     second: &[u64],
     names: &[&str],
-) -> Result<Constraint, OutOfMemory>
+    rules: &mut Rules,
+) -> Result<(), OutOfMemory>
     requires first_named { AllByRecursion (λ v. v < length names.now) first.now }
     requires second_named { AllByRecursion (λ v. v < length names.now) second.now }
-    ensures rule { IfOk result (λ it. rule_of it ≡ denial
-        (atom relation first.now ∷ atom other second.now ∷ [])) }
-    ensures names { IfOk result (λ it. written it ≡ map (λ text. Given text.now) names.now) }
+    ensures rules { OnOk result (rules_of rules.new ≡ rules_of rules.old
+        ++ denial (atom relation first.now ∷ atom other second.now ∷ []) ∷ []) }
+    ensures names { OnOk result (map written rules.new
+        ≡ map written rules.old ++ map (λ text. Given text.now) names.now ∷ []) }
 {
     let body = two_atoms(alloc, relation, first, other, second)?;
     let names = names_of(alloc, names)?;
-    Ok(Constraint::Never(Denial { body, names }))
+    rules.push(Constraint::Never(Denial { body, names }))
 }
 
-/// The first rule of documents, whose five relations stand from the base on: a node has one field of a name.
-fn rule_of_names(alloc: Global, base: usize) -> Result<Rules, OutOfMemory>
-    requires { base + 4 ≤ 18446744073709551615 }
-    ensures rules { IfOk result (λ it. rules_of it ≡ take 1 (document_rules base)) }
-    ensures names { IfOk result (λ it. map written it ≡ take 1 document_names) }
+/// Puts the first three rules of documents, whose five relations stand from the base on, into an empty list: a node has
+/// one field of a name, and a field has one node and one name.
+fn add_rules_of_fields(alloc: Global, base: usize, rules: &mut Rules) -> Result<(), OutOfMemory>
+    requires base { base + 4 ≤ 18446744073709551615 }
+    requires none { rules.old ≡ [] }
+    ensures rules { OnOk result (rules_of rules.new ≡ take 3 (document_rules base)) }
+    ensures names { OnOk result (map written rules.new ≡ take 3 document_names) }
 {
-    let mut rules = List::new(alloc);
     let names = ["n", "k", "m", "p"];
-    rules.push(agree_at(alloc, base + 1, &[0, 1, 2], &[0, 1, 3], 2, &names)?)?;
-    Ok(rules)
-}
-
-/// The first three rules of documents: that, and then that a field has one node and one name.
-fn rules_of_fields(alloc: Global, base: usize) -> Result<Rules, OutOfMemory>
-    requires { base + 4 ≤ 18446744073709551615 }
-    ensures rules { IfOk result (λ it. rules_of it ≡ take 3 (document_rules base)) }
-    ensures names { IfOk result (λ it. map written it ≡ take 3 document_names) }
-{
-    let mut rules = rule_of_names(alloc, base)?;
+    add_agreement(alloc, base + 1, &[0, 1, 2], &[0, 1, 3], 2, &names, rules)?;
     let names = ["n", "k", "m", "p", "l"];
-    rules.push(agree_at(alloc, base + 1, &[0, 1, 2], &[3, 4, 2], 0, &names)?)?;
-    rules.push(agree_at(alloc, base + 1, &[0, 1, 2], &[3, 4, 2], 1, &names)?)?;
-    Ok(rules)
+    add_agreement(alloc, base + 1, &[0, 1, 2], &[3, 4, 2], 0, &names, rules)?;
+    add_agreement(alloc, base + 1, &[0, 1, 2], &[3, 4, 2], 1, &names, rules)
 }
 
-/// The first five rules of documents: those of fields, and then those of items and of values.
-fn rules_of_values(alloc: Global, base: usize) -> Result<Rules, OutOfMemory>
-    requires { base + 4 ≤ 18446744073709551615 }
-    ensures rules { IfOk result (λ it. rules_of it ≡ take 5 (document_rules base)) }
-    ensures names { IfOk result (λ it. map written it ≡ take 5 document_names) }
+/// The same for the first five rules of documents: those of fields, and then those of items and of values.
+fn add_rules_of_values(alloc: Global, base: usize, rules: &mut Rules) -> Result<(), OutOfMemory>
+    requires base { base + 4 ≤ 18446744073709551615 }
+    requires none { rules.old ≡ [] }
+    ensures rules { OnOk result (rules_of rules.new ≡ take 5 (document_rules base)) }
+    ensures names { OnOk result (map written rules.new ≡ take 5 document_names) }
 {
-    let mut rules = rules_of_fields(alloc, base)?;
+    add_rules_of_fields(alloc, base, rules)?;
     let names = ["n", "m", "p"];
-    rules.push(agree_at(alloc, base + 2, &[0, 1], &[2, 1], 0, &names)?)?;
+    add_agreement(alloc, base + 2, &[0, 1], &[2, 1], 0, &names, rules)?;
     let names = ["n", "v", "w"];
-    rules.push(agree_at(alloc, base + 3, &[0, 1], &[0, 2], 1, &names)?)?;
-    Ok(rules)
+    add_agreement(alloc, base + 3, &[0, 1], &[0, 2], 1, &names, rules)
 }
 
-/// The first seven rules of documents: those, and then that fields and items stand below.
-fn rules_of_documents(alloc: Global, base: usize) -> Result<Rules, OutOfMemory>
-    requires { base + 4 ≤ 18446744073709551615 }
-    ensures rules { IfOk result (λ it. rules_of it ≡ document_rules base) }
-    ensures names { IfOk result (λ it. map written it ≡ document_names) }
+/// The same for the seven rules of documents: those, and then that fields and items stand below.
+fn add_rules_of_documents(alloc: Global, base: usize, rules: &mut Rules) -> Result<(), OutOfMemory>
+    requires base { base + 4 ≤ 18446744073709551615 }
+    requires none { rules.old ≡ [] }
+    ensures rules { OnOk result (rules_of rules.new ≡ document_rules base) }
+    ensures names { OnOk result (map written rules.new ≡ document_names) }
 {
-    let mut rules = rules_of_values(alloc, base)?;
+    add_rules_of_values(alloc, base, rules)?;
     let names = ["n", "k", "m"];
-    rules.push(leads_to(alloc, base + 1, &[0, 1, 2], base + 4, &[0, 2], &names)?)?;
+    add_demand(
+        alloc,
+        base + 1,
+        &[0, 1, 2],
+        base + 4,
+        &[0, 2],
+        &names,
+        rules,
+    )?;
     let names = ["n", "m"];
-    rules.push(leads_to(alloc, base + 2, &[0, 1], base + 4, &[0, 1], &names)?)?;
-    Ok(rules)
+    add_demand(alloc, base + 2, &[0, 1], base + 4, &[0, 1], &names, rules)
 }
 
-/// The eight rules of documents.
-fn rules_of_documents_2(alloc: Global, base: usize) -> Result<Rules, OutOfMemory>
-    requires { base + 4 ≤ 18446744073709551615 }
-    ensures rules { IfOk result (λ it. rules_of it ≡ document_rules_2 base) }
-    ensures names { IfOk result (λ it. map written it ≡ document_names_2) }
+/// The same for the eight rules of documents.
+fn add_rules_of_documents_2(
+    alloc: Global,
+    base: usize,
+    rules: &mut Rules,
+) -> Result<(), OutOfMemory>
+    requires base { base + 4 ≤ 18446744073709551615 }
+    requires none { rules.old ≡ [] }
+    ensures rules { OnOk result (rules_of rules.new ≡ document_rules_2 base) }
+    ensures names { OnOk result (map written rules.new ≡ document_names_2) }
 {
-    let mut rules = rules_of_documents(alloc, base)?;
-    rules.push(never(alloc, base, &[0], base + 4, &[1, 0], &["n", "m"])?)?;
-    Ok(rules)
+    add_rules_of_documents(alloc, base, rules)?;
+    add_denial(alloc, base, &[0], base + 4, &[1, 0], &["n", "m"], rules)
 }
 
 /// The rules that the facts of documents meet, in a catalogue of version 1, over the relations root, field, item, value
@@ -208,7 +230,8 @@ pub fn document_rules(alloc: Global, base: usize) -> Result<Rules, OutOfMemory>
     if base > LAST_BASE {
         return Err(OutOfMemory);
     }
-    let rules = rules_of_documents(alloc, base)?;
+    let mut rules = List::new(alloc);
+    add_rules_of_documents(alloc, base, &mut rules)?;
     Ok(rules)
 }
 
@@ -221,7 +244,8 @@ pub fn document_rules_2(alloc: Global, base: usize) -> Result<Rules, OutOfMemory
     if base > LAST_BASE {
         return Err(OutOfMemory);
     }
-    let rules = rules_of_documents_2(alloc, base)?;
+    let mut rules = List::new(alloc);
+    add_rules_of_documents_2(alloc, base, &mut rules)?;
     Ok(rules)
 }
 
@@ -231,7 +255,9 @@ pub fn key_rules(alloc: Global, relation: usize) -> Result<Rules, OutOfMemory>
     ensures names { IfOk result (λ it. map written it ≡ key_names) }
 {
     let names = ["k", "f", "v", "w"];
+    let first = [0, 1, 2];
+    let second = [0, 1, 3];
     let mut rules = List::new(alloc);
-    rules.push(agree_at(alloc, relation, &[0, 1, 2], &[0, 1, 3], 2, &names)?)?;
+    add_agreement(alloc, relation, &first, &second, 2, &names, &mut rules)?;
     Ok(rules)
 }

@@ -1,7 +1,8 @@
 //! When a rule is made.
-ghost use Rattle.std.specs.Prelude.{◌≢◌, [], ◌<◌, All, length, MatchOption};
+ghost use Rattle.std.specs.Prelude.{◌≢◌, [], ◌++◌, ◌<◌, ◌≤◌, All, length, Err, MatchOption};
 ghost use Rattle.esto_semantics.specs.Maps.{IsFlat, AreFlat, IsFixedBy};
 ghost use Rattle.esto_semantics.specs.Rules.{IsRule};
+ghost use Rattle.esto_semantics.specs.WellFormed.{AreOver};
 ghost use Rattle.esto_query.specs.Soundness.{AreNamed};
 ghost use Rattle.esto_query.specs.Schemas.{arities_of};
 ghost use Rattle.esto_constraint.specs.Soundness.{IsSoundTuple, IsSoundEquality, IsSoundDenial};
@@ -27,6 +28,68 @@ fn first_unsafe(left: &Term, right: &Term, body: &[Atom]) -> Option<u64>
     }
 }
 
+/// What is wrong with a body: its first atom with a wrong number of terms, or else its number of atoms.
+fn body_fault(schema: &Schema, body: &[Atom]) -> Option<QueryFault>
+    requires { All (λ atom. atom.relation < length schema.now) body.now }
+    ensures { MatchOption result
+        (AreOver (arities_of schema.now) body.now × (length body.now ≤ MAX_ATOMS))
+        (λ fault. MakesDenial (arities_of schema.now) body.now [] (Err fault)) }
+{
+    if let Some(place) = first_misfit(schema, body) {
+        return Some(QueryFault::Arity(place));
+    }
+    if body.len() > MAX_ATOMS {
+        return Some(QueryFault::TooLarge(body.len()));
+    }
+    None
+}
+
+/// What is wrong with a body and the sides of an equality rule: what is wrong with the body, or else the first unsafe side.
+fn equality_fault(schema: &Schema, body: &[Atom], left: &Term, right: &Term) -> Option<QueryFault>
+    requires relations { All (λ atom. atom.relation < length schema.now) body.now }
+    requires flat_left { IsFlat left.now }
+    requires flat_right { IsFlat right.now }
+    ensures { MatchOption result
+        (AreOver (arities_of schema.now) body.now × (length body.now ≤ MAX_ATOMS)
+        × IsFixedBy body.now left.now × IsFixedBy body.now right.now)
+        (λ fault. MakesEquality
+        (arities_of schema.now) body.now left.now right.now [] (Err fault)) }
+{
+    if let Some(fault) = body_fault(schema, body) {
+        return Some(fault);
+    }
+    let variable = first_unsafe(left, right, body)?;
+    Some(QueryFault::Unsafe(variable))
+}
+
+/// What is wrong with the body and the head of a tuple rule: the first atom with a wrong number of terms, or else the
+/// number of atoms.
+fn tuple_fault(schema: &Schema, body: &[Atom], head: &[Atom]) -> Option<QueryFault>
+    requires body_relations { All (λ atom. atom.relation < length schema.now) body.now }
+    requires head_relations { All (λ atom. atom.relation < length schema.now) head.now }
+    ensures { MatchOption result
+        (AreOver (arities_of schema.now) (body.now ++ head.now)
+        × (length body.now ≤ MAX_ATOMS) × (length head.now ≤ MAX_ATOMS))
+        (λ fault. MakesTuple (arities_of schema.now) body.now head.now [] (Err fault)) }
+{
+    if let Some(place) = first_misfit(schema, body) {
+        return Some(QueryFault::Arity(place));
+    }
+    if let Some(place) = first_misfit(schema, head) {
+        let Some(after_body) = body.len().checked_add(place) else {
+            return Some(QueryFault::OutOfMemory);
+        };
+        return Some(QueryFault::Arity(after_body));
+    }
+    if body.len() > MAX_ATOMS {
+        return Some(QueryFault::TooLarge(body.len()));
+    }
+    if head.len() > MAX_ATOMS {
+        return Some(QueryFault::TooLarge(head.len()));
+    }
+    None
+}
+
 /// The tuple rule of this body, head and names. Arity comes exactly where an atom has a wrong number of terms,
 /// with the place of the first such atom, where the body's atoms are counted before the head's; else TooLarge
 /// exactly where the body has more than `MAX_ATOMS` atoms, or else the head, with their number. OutOfMemory comes alone
@@ -48,22 +111,10 @@ pub fn make_tuple_rule(
     requires head_named { AreNamed names head }
     ensures { MakesTuple (arities_of schema.now) body head names result }
 {
-    if let Some(place) = first_misfit(schema, body.items()) {
-        return Err(QueryFault::Arity(place));
+    match tuple_fault(schema, body.items(), head.items()) {
+        Some(fault) => Err(fault),
+        None => Ok(Constraint::Tuple(Tgd { body, head, names })),
     }
-    if let Some(place) = first_misfit(schema, head.items()) {
-        let Some(after_body) = body.len().checked_add(place) else {
-            return Err(QueryFault::OutOfMemory);
-        };
-        return Err(QueryFault::Arity(after_body));
-    }
-    if body.len() > MAX_ATOMS {
-        return Err(QueryFault::TooLarge(body.len()));
-    }
-    if head.len() > MAX_ATOMS {
-        return Err(QueryFault::TooLarge(head.len()));
-    }
-    Ok(Constraint::Tuple(Tgd { body, head, names }))
 }
 
 /// The equality rule of this body, these sides and names. Arity comes exactly where an atom has a wrong number
@@ -86,14 +137,8 @@ pub fn make_equal_rule(
     requires named { AreNamed names body }
     ensures { MakesEquality (arities_of schema.now) body left right names result }
 {
-    if let Some(place) = first_misfit(schema, body.items()) {
-        return Err(QueryFault::Arity(place));
-    }
-    if body.len() > MAX_ATOMS {
-        return Err(QueryFault::TooLarge(body.len()));
-    }
-    match first_unsafe(&left, &right, body.items()) {
-        Some(variable) => Err(QueryFault::Unsafe(variable)),
+    match equality_fault(schema, body.items(), &left, &right) {
+        Some(fault) => Err(fault),
         None => Ok(Constraint::Equal(Egd {
             body,
             left,
@@ -118,13 +163,10 @@ pub fn make_denial(
     requires named { AreNamed names body }
     ensures { MakesDenial (arities_of schema.now) body names result }
 {
-    if let Some(place) = first_misfit(schema, body.items()) {
-        return Err(QueryFault::Arity(place));
+    match body_fault(schema, body.items()) {
+        Some(fault) => Err(fault),
+        None => Ok(Constraint::Never(Denial { body, names })),
     }
-    if body.len() > MAX_ATOMS {
-        return Err(QueryFault::TooLarge(body.len()));
-    }
-    Ok(Constraint::Never(Denial { body, names }))
 }
 
 /// A law: each rule keeps what its description says, so its meaning is that of a rule.

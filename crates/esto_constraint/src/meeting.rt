@@ -125,8 +125,7 @@ pub fn active_in(
         (λ found. IsLeastActive (rule_of rule.now) facts.now found.valuation found.places)) }
 {
     let start = Valuation::new(alloc);
-    let outcome = least_active(alloc, rule, facts, &start)?;
-    Ok(outcome)
+    least_active(alloc, rule, facts, &start)
 }
 
 /// The least active match of the rule in the facts, by the list of places: the least match of its body that has no
@@ -137,8 +136,7 @@ pub fn active(alloc: Global, rule: &Constraint, facts: &Facts) -> Result<Option<
         (λ found. IsLeastActive (rule_of rule.now) facts.now found.valuation found.places)) }
 {
     let indexed = IndexedFacts::of(alloc, facts)?;
-    let outcome = active_in(alloc, rule, &indexed)?;
-    Ok(outcome)
+    active_in(alloc, rule, &indexed)
 }
 
 /// The first rule, by its number, that the facts do not meet, with its least active match. None comes exactly
@@ -172,8 +170,7 @@ pub fn meets(alloc: Global, rules: &Rules, facts: &Facts) -> Result<Option<Broke
         broken.found.valuation broken.found.places)) }
 {
     let indexed = IndexedFacts::of(alloc, facts)?;
-    let outcome = first_broken(alloc, rules, &indexed)?;
-    Ok(outcome)
+    first_broken(alloc, rules, &indexed)
 }
 
 /// A law: the map of a least active match's valuation is an active match at its places, and no active match, of any map,

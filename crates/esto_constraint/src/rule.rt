@@ -1,4 +1,5 @@
 //! Rules.
+ghost use Rattle.std.specs.Prelude.{◌≡◌, IfOk};
 ghost use Rattle.esto_constraint.specs.Soundness.{IsSoundTuple, IsSoundEquality, IsSoundDenial};
 
 use esto_query::Names;
@@ -49,33 +50,44 @@ pub enum Constraint {
 /// The rules of a catalogue, numbered from 0.
 pub type Rules = List<Constraint>;
 
+/// Copies of both values.
+fn copy_both<A: Replicate + Drop, B: Replicate + Drop>(
+    alloc: Global,
+    one: &A,
+    other: &B,
+) -> Result<(A, B), OutOfMemory>
+    ensures { IfOk result (λ it. (it.0 ≡ one.now) × (it.1 ≡ other.now)) }
+{
+    let one = one.copy(alloc)?;
+    let other = other.copy(alloc)?;
+    Ok((one, other))
+}
+
 impl Replicate for Tgd {
     fn copy(&self, alloc: Global) -> Result<Tgd, OutOfMemory> {
-        Ok(Tgd {
-            body: self.body.copy(alloc)?,
-            head: self.head.copy(alloc)?,
-            names: self.names.copy(alloc)?,
-        })
+        let (body, names) = copy_both(alloc, &self.body, &self.names)?;
+        let head = self.head.copy(alloc)?;
+        Ok(Tgd { body, head, names })
     }
 }
 
 impl Replicate for Egd {
     fn copy(&self, alloc: Global) -> Result<Egd, OutOfMemory> {
+        let (body, names) = copy_both(alloc, &self.body, &self.names)?;
+        let (left, right) = copy_both(alloc, &self.left, &self.right)?;
         Ok(Egd {
-            body: self.body.copy(alloc)?,
-            left: self.left.copy(alloc)?,
-            right: self.right.copy(alloc)?,
-            names: self.names.copy(alloc)?,
+            body,
+            left,
+            right,
+            names,
         })
     }
 }
 
 impl Replicate for Denial {
     fn copy(&self, alloc: Global) -> Result<Denial, OutOfMemory> {
-        Ok(Denial {
-            body: self.body.copy(alloc)?,
-            names: self.names.copy(alloc)?,
-        })
+        let (body, names) = copy_both(alloc, &self.body, &self.names)?;
+        Ok(Denial { body, names })
     }
 }
 

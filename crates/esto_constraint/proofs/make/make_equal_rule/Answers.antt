@@ -1,29 +1,38 @@
-use Rattle.std.proofs.Common.{refl, arith}
+use Rattle.std.proofs.Common.{◌<◌, List, [], length, Err, refl, sym, subst}
+use Rattle.std.specs.List.{All}
+use Rattle.esto_term.specs.declared.term.Term.{Term}
+use Rattle.esto_semantics.specs.declared.fact.Fact.{Fact}
+use Rattle.esto_query.specs.Schemas.{arities_of}
+use Rattle.esto_constraint.specs.Making.{MakesEquality}
+use Rattle.esto_constraint.proofs.MakingLemmas.{equality_refused}
 use Rattle.esto_constraint.proofs.make.make_equal_rule.Goals as goal
+
+pub equality_fault-requires-clause-relations : goal.equality_fault-requires-clause-relations
+equality_fault-requires-clause-relations c =
+    subst (λ (body : List (Fact Term)). All (λ atom. atom.relation < length c.args.schema.now) body) (sym c.items.ensures) c.requires.relations
 
 pub invariant_of-result : goal.invariant_of-result
 invariant_of-result c =
-    let safe = rw c.items-2.ensures at c.in-None.ensures in
+    let fits = rw c.items.ensures at c.in-None.ensures in
     record {
       sound = ∣ record {
         rule = record {
           has_body = c.requires.has_body;
           flat_body = c.requires.flat_body;
-          left_fixed = safe.0;
-          right_fixed = safe.1;
+          left_fixed = fits.2;
+          right_fixed = fits.3;
         };
         named = c.requires.named;
       } ∣₁;
     }
 
-pub returns-in-Some-first_unsafe : goal.returns-in-Some-first_unsafe
-returns-in-Some-first_unsafe c =
-    let over = rw c.items.ensures at c.in_default.ensures in
-    let unsafe = rw c.items-2.ensures at c.in-Some-first_unsafe.ensures in
-    (over, omega arith, unsafe)
+pub returns-in-Some : goal.returns-in-Some
+returns-in-Some c =
+    equality_refused (arities_of c.args.schema.now) c.args.body c.args.left c.args.right c.args.names c.in-Some.fault
+    (subst (λ (body : List (Fact Term)). MakesEquality (arities_of c.args.schema.now) body c.args.left c.args.right [] (Err c.in-Some.fault))
+    c.items.ensures c.in-Some.ensures)
 
 pub returns-in-None : goal.returns-in-None
 returns-in-None c =
-    let over = rw c.items.ensures at c.in_default.ensures in
-    let safe = rw c.items-2.ensures at c.in-None.ensures in
-    (over, omega arith, safe.0, safe.1, refl, refl, refl, refl)
+    let fits = rw c.items.ensures at c.in-None.ensures in
+    (fits.0, fits.1, fits.2, fits.3, refl, refl, refl, refl)

@@ -1,4 +1,11 @@
+use Rattle.esto_constraint.proofs.RuleLemmas.{same_equality}
 use Rattle.esto_constraint.proofs.rule.EgdReplicate.copy.Goals as goal
 
 pub invariant_of-result : goal.invariant_of-result
-invariant_of-result c = record { sound = rw (c.in_ok-copy.ensures, c.in_ok-copy-2.ensures, c.in_ok-copy-3.ensures, c.in_ok-copy-4.ensures) c.args.self.now.sound }
+invariant_of-result c = record {
+  sound =
+      rw (c.in_ok-body.ensures.0, c.in_ok-left.ensures.0, c.in_ok-left.ensures.1, c.in_ok-body.ensures.1) c.args.self.now.sound;
+}
+
+pub returns : goal.returns
+returns c = same_equality _ c.args.self.now c.in_ok-body.ensures.0 c.in_ok-left.ensures.0 c.in_ok-left.ensures.1 c.in_ok-body.ensures.1

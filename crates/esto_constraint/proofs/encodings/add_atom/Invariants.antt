@@ -1,6 +1,6 @@
 use Rattle.std.proofs.Common.{◌≡◌, ◌++◌, map, drop}
 use Rattle.esto_term.specs.declared.term.Term.TheVariants.{Plain}
-use Rattle.esto_constraint.proofs.encodings.atom.Given as goal
+use Rattle.esto_constraint.proofs.encodings.add_atom.Given as goal
 
 -- the terms so far, with the variables that are left, are all of them
 abbrev pub invariant-variables : goal.invariant-variables
