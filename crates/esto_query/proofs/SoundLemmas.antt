@@ -1,7 +1,8 @@
 -- Which variables a body mentions, and what every query keeps.
 use Rattle.std.proofs.Common.{◌≡◌, ℕ, ◌<◌, List, [], ◌∷◌, length, get_or, take, Contains, Some, refl, sym, ap, subst, ◌∙◌, inl, inr}
 use Rattle.std.specs.Coded.{le_prop}
-use Rattle.std.proofs.Math.Logic.{∥∥₁_elim}
+use Rattle.std.proofs.Math.Logic.{∥∥₁_elim, ∥∥₁_prop}
+use Rattle.std.proofs.Math.Path.{to_path_p}
 use Rattle.std.proofs.lemmas.Option.{slice_get_read}
 use Rattle.esto_term.specs.declared.term.Term.{Term, out-Term, roll-Term, roll-out-Term}
 use Rattle.esto_term.specs.declared.term.Term.TheOpen.{Term-F}
@@ -12,6 +13,7 @@ use Rattle.esto_semantics.specs.declared.fact.Fact.{Fact}
 use Rattle.esto_query.specs.Soundness.{IsSafe, IsSound}
 use Rattle.esto_query.specs.Making.{IsFirstUnsafe}
 use Rattle.esto_query.specs.declared.query.Name.{Name}
+use Rattle.esto_query.specs.declared.query.Query.{Query}
 use Rattle.esto_term.proofs.ListLemmas.{Contains-cases, Contains-head, Contains-nil, Contains-rest}
 use Rattle.esto_term.proofs.ChoiceLemmas.{Decided}
 use Rattle.esto_semantics.proofs.JoinLemmas.{Contains-decided}
@@ -99,4 +101,14 @@ unsafe_at head body place variable term within read plain missing before = recor
   there = slice_get_read head (length head) place term refl within read ∙ ap Some plain;
   missing = missing;
   before = before;
+}
+
+-- ---- queries of the same parts are the same
+
+pub same_query : (one other : Query) → one.head ≡ other.head → one.body ≡ other.body → one.names ≡ other.names → one ≡ other
+same_query one other head body names = λ i. record {
+  head = head i;
+  body = body i;
+  names = names i;
+  sound = to_path_p (λ j. ∥ IsSound (head j) (body j) (names j) ∥₁) {a = one.sound} {b = other.sound} (∥∥₁_prop _ other.sound) i;
 }
