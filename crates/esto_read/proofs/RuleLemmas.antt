@@ -225,7 +225,8 @@ module _ (schema : List ℕ) (names : List Name) where
 module _ (words : List Word) (schema bytes : List ℕ) (tree : ConstraintTree) where
   pub tuple_said : (head_items : List ItemTree) (rule : Constraint) (body head : List (Fact Term)) (names : List Name)
       → MakesTuple schema body head names (Ok rule)
-      → tree.head ≡ Items head_items → IsTupleRead words schema bytes tree.body head_items body head names → IsRuleOf words schema bytes tree.body tree.head rule
+      → tree.head ≡ Items head_items → IsTupleRead words schema bytes tree.body head_items body head names
+      → IsRuleOf words schema bytes tree.body tree.head rule
   tuple_said head_items (Tuple rule) body head names made is h =
       let bodies = subst (λ (l : List (Fact Term)). IsTupleRead words schema bytes tree.body head_items l head names) (sym made.3) h in
       let heads = subst (λ (l : List (Fact Term)). IsTupleRead words schema bytes tree.body head_items rule.body l names) (sym made.4) bodies in

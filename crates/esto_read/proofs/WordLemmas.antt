@@ -4,7 +4,7 @@ use Rattle.std.specs.Prelude.{Contains, All, AllPairs, MatchOption, codes, map, 
 use Rattle.std.proofs.Math.ListN.{get_or-map}
 use Rattle.std.proofs.lemmas.Bool.{cases_lt}
 use Rattle.std.proofs.lemmas.List.{length-map}
-use Rattle.std.proofs.lemmas.Option.{slice_get_within, slice_get-get_or, get_or_from_slice_get}
+use Rattle.std.proofs.lemmas.Option.{same_Some, none-some, slice_get_within, slice_get-get_or, get_or_from_slice_get}
 use Rattle.esto_query.specs.Schemas.{arities_of, IsSchema}
 use Rattle.esto_query.specs.declared.schema.Relation.{Relation}
 use Rattle.esto_query.specs.declared.schema.TheConstants.{MAX_RELATIONS}
@@ -32,6 +32,16 @@ document_place part (suc (suc zero)) e = begins (codes "item") part e
 document_place part (suc (suc (suc zero))) e = begins (codes "value") part e
 document_place part (suc (suc (suc (suc zero)))) e = begins (codes "below") part e
 document_place part (suc (suc (suc (suc (suc place))))) e = absurd cc
+
+-- what is none of their names names no part
+pub no_document_part : (part : List ℕ) → part ≢ codes "root" → part ≢ codes "field" → part ≢ codes "item" → part ≢ codes "value" → part ≢ codes "below"
+    → (place : ℕ) → ¬ (IsPart Documents part place)
+no_document_part part root field item value below zero is = root (sym (same_Some _ _ is))
+no_document_part part root field item value below (suc zero) is = field (sym (same_Some _ _ is))
+no_document_part part root field item value below (suc (suc zero)) is = item (sym (same_Some _ _ is))
+no_document_part part root field item value below (suc (suc (suc zero))) is = value (sym (same_Some _ _ is))
+no_document_part part root field item value below (suc (suc (suc (suc zero)))) is = below (sym (same_Some _ _ is))
+no_document_part part root field item value below (suc (suc (suc (suc (suc place))))) is = none-some part is
 
 pub part_place : (model : DataModel) (part : List ℕ) (place other : ℕ) → IsPart model part place → IsPart model part other → place ≡ other
 part_place Table part place other h g = absurd h

@@ -1,6 +1,7 @@
 //! Groups as patterns, and patterns as atoms.
 ghost use Rattle.std.specs.Prelude.{◌≡◌, [], ◌∷◌, ◌≤◌, ◌+◌, ◌<◌, ◌++◌, ◌-◌, length, replicate, IfOk, OnOk, IsUtf8, MatchOption};
 ghost use Rattle.std.specs.List.{AllZip};
+ghost use Rattle.esto_docmodel.specs.Encodings.{atoms_of, used};
 ghost use Rattle.esto_docmodel.specs.Shapes.{entry_shape, entries_of as pattern_of};
 ghost use Rattle.esto_query.specs.declared.query.Name.TheVariants.{Hidden};
 ghost use Rattle.esto_text.specs.Faults.{IsFieldIn, IsTermIn};
@@ -121,6 +122,24 @@ fn hide(names: &mut Names, count: u64) -> Result<(), OutOfMemory>
     Ok(())
 }
 
+/// The atoms of a pattern under that root, over the five relations from the base on. The variables of its nodes have no
+/// name, and the next numbers.
+fn pattern_atoms(
+    alloc: Global,
+    pattern: &Pattern,
+    base: usize,
+    root: u64,
+    names: &mut Names,
+) -> Result<Atoms, OutOfMemory>
+    ensures { IfOk result (λ atoms.
+        (atoms ≡ atoms_of base (pattern_of pattern.now.entries) root (length names.old))
+        × (names.new ≡ names.old ++ replicate (used (pattern_of pattern.now.entries)) Hidden)) }
+{
+    let encoded = encode_pattern(alloc, base, pattern, root, names.len() as u64)?;
+    hide(names, encoded.next)?;
+    Ok(encoded.atoms)
+}
+
 /// The atoms of the pattern that a group writes, over the five relations from the base on.
 pub fn pattern(
     alloc: Global,
@@ -140,9 +159,7 @@ pub fn pattern(
     let pattern = Pattern {
         entries: entries(alloc, bytes, group, names)?,
     };
-    let encoded = encode_pattern(alloc, base, &pattern, root, names.len() as u64)?;
-    hide(names, encoded.next)?;
-    Ok(encoded.atoms)
+    pattern_atoms(alloc, &pattern, base, root, names)
 }
 
 /// What is left of the room for atoms after those of the entry. None comes exactly where they are too many.

@@ -137,8 +137,7 @@ fn read(
         form words.now (arities_of schema.now) bytes.now e) }
 {
     let tree = read_query_tree(alloc, bytes)?;
-    let query = said(alloc, bytes, &tree, words, schema, form)?;
-    Ok(query)
+    said(alloc, bytes, &tree, words, schema, form)
 }
 
 /// The query that a text is, over the datasets that the words name, with its name; or the text's first fault:

@@ -128,8 +128,7 @@ fn read_rule(
         version words.now (arities_of schema.now) bytes.now) }
 {
     let tree = read_constraint_tree(alloc, bytes, version)?;
-    let rule = said_rule(alloc, bytes, &tree, words.items(), schema)?;
-    Ok(rule)
+    said_rule(alloc, bytes, &tree, words.items(), schema)
 }
 
 /// The constraint that a text of version 1 is, over the datasets that the words name; or the text's first fault: Utf8,

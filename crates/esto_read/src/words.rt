@@ -48,19 +48,34 @@ pub fn base_of(words: &[Word], name: &[u8], model: DataModel) -> Option<usize>
     None
 }
 
+/// Whether that is the part's name.
+fn is_named(part: &[u8], name: &str) -> bool
+    ensures { IsTrue result ↔ (part.now ≡ name.now) }
+{
+    part == name.as_bytes()
+}
+
 /// The place of the part of that name among the relations of documents. None comes exactly where there is none.
 fn document_part(part: &[u8]) -> Option<usize>
     ensures { MatchOption result ((place : ℕ) → ¬ IsPart DataModel.Documents part.now place)
         (IsPart DataModel.Documents part.now) }
 {
-    match part {
-        b"root" => Some(0),
-        b"field" => Some(1),
-        b"item" => Some(2),
-        b"value" => Some(3),
-        b"below" => Some(4),
-        _ => None,
+    if is_named(part, "root") {
+        return Some(0);
     }
+    if is_named(part, "field") {
+        return Some(1);
+    }
+    if is_named(part, "item") {
+        return Some(2);
+    }
+    if is_named(part, "value") {
+        return Some(3);
+    }
+    if is_named(part, "below") {
+        return Some(4);
+    }
+    None
 }
 
 /// The place of the part of that name among the relations of a key-value set. None comes exactly where there is none.

@@ -1,9 +1,14 @@
-use Rattle.std.proofs.Common.{inl, refl}
+use Rattle.std.proofs.Common.{inl, refl, arith}
+use Rattle.std.proofs.lemmas.Option.{slice_get_within}
 use Rattle.esto_read.proofs.HeadLemmas.{missing_fault}
 use Rattle.esto_read.proofs.read.head_fault.Goals as goal
 
 pub returns-in-Some : goal.returns-in-Some
 returns-in-Some c = inl (refl, c.in-Some.ensures)
+
+pub bounds-variables-place : goal.bounds-variables-place
+bounds-variables-place c =
+    let within = slice_get_within c.args.head.now c.in_ok-place.place _ c.in_ok-place.ensures.1 in omega (arith, within, c.requires.lengths)
 
 pub returns : goal.returns
 returns c =

@@ -1,4 +1,4 @@
-use Rattle.std.proofs.lemmas.Result.{err_from_is_err_and}
+use Rattle.std.proofs.lemmas.Result.{IfOk-weaker, IfErr-weaker}
 use Rattle.esto_query.specs.Schemas.{arities_of}
 use Rattle.esto_text.specs.View.{tree_of}
 use Rattle.esto_read.proofs.ReadLemmas.{query_parts, read_error}
@@ -10,11 +10,17 @@ said-requires-clause-utf8 c = c.in_ok-tree.ensures.tree.1.0
 pub said-requires-clause-parts : goal.said-requires-clause-parts
 said-requires-clause-parts c = query_parts (tree_of c.in_ok-tree.tree) _ c.in_ok-tree.ensures.tree.2
 
-pub returns-in_err-query-clause-error : goal.returns-in_err-query-clause-error
-returns-in_err-query-clause-error c =
-    let p = err_from_is_err_and c.from_residual-in_err-query.result c.from_residual-in_err-query.ensures.1 in
-    rw (p.1, p.2) (read_error c.args.form c.args.words.now (arities_of c.args.schema.now) c.args.bytes.now (tree_of c.in_ok-tree.tree) _
-    c.in_ok-tree.ensures.tree c.in_err-query.ensures.error)
-
 pub returns-clause-reading : goal.returns-clause-reading
-returns-clause-reading c = (tree_of c.in_ok-tree.tree, record { text = c.in_ok-tree.ensures.tree; said = c.in_ok-query.ensures.said })
+returns-clause-reading c =
+    IfOk-weaker c.said.result _ _ (λ query said. (tree_of c.in_ok-tree.tree, record { text = c.in_ok-tree.ensures.tree; said = said })) c.said.ensures.said
+
+pub returns-clause-over : goal.returns-clause-over
+returns-clause-over c = c.said.ensures.over
+
+pub returns-clause-head : goal.returns-clause-head
+returns-clause-head c = c.said.ensures.head
+
+pub returns-clause-error : goal.returns-clause-error
+returns-clause-error c =
+    IfErr-weaker c.said.result _ _ (λ error is. read_error c.args.form c.args.words.now (arities_of c.args.schema.now) c.args.bytes.now
+    (tree_of c.in_ok-tree.tree) error c.in_ok-tree.ensures.tree is) c.said.ensures.error

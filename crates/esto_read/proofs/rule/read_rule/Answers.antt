@@ -1,5 +1,5 @@
 use Rattle.esto_query.specs.Schemas.{arities_of}
-use Rattle.std.proofs.lemmas.Result.{err_from_is_err_and}
+use Rattle.std.proofs.lemmas.Result.{IfOk-weaker, IfErr-weaker}
 use Rattle.esto_text.specs.View.{constraint_of}
 use Rattle.esto_read.proofs.RuleLemmas.{rule_error}
 use Rattle.esto_read.proofs.rule.read_rule.Goals as goal
@@ -7,15 +7,15 @@ use Rattle.esto_read.proofs.rule.read_rule.Goals as goal
 pub said_rule-requires-clause-text : goal.said_rule-requires-clause-text
 said_rule-requires-clause-text c = (c.args.version, c.in_ok-tree.ensures.tree)
 
-pub returns-in_err-rule-clause-error : goal.returns-in_err-rule-clause-error
-returns-in_err-rule-clause-error c =
-    let p = err_from_is_err_and c.from_residual-in_err-rule.result c.from_residual-in_err-rule.ensures.1 in
-    rw (p.1, p.2) (rule_error c.args.version c.args.words.now (arities_of c.args.schema.now) c.args.bytes.now (constraint_of c.in_ok-tree.tree)
-    c.in_ok-tree.ensures.tree _ (rw c.items.ensures at c.in_err-rule.ensures.error))
-
 pub returns-clause-reading : goal.returns-clause-reading
-returns-clause-reading c = (
-  constraint_of c.in_ok-tree.tree,
-  c.in_ok-tree.ensures.tree,
-  rw c.items.ensures at c.in_ok-rule.ensures.said,
-)
+returns-clause-reading c =
+    IfOk-weaker c.said_rule.result _ _ (λ rule said. (constraint_of c.in_ok-tree.tree, c.in_ok-tree.ensures.tree, said))
+    (rw c.items.ensures at c.said_rule.ensures.said)
+
+pub returns-clause-over : goal.returns-clause-over
+returns-clause-over c = c.said_rule.ensures.over
+
+pub returns-clause-error : goal.returns-clause-error
+returns-clause-error c =
+    IfErr-weaker c.said_rule.result _ _ (λ error is. rule_error c.args.version c.args.words.now (arities_of c.args.schema.now) c.args.bytes.now
+    (constraint_of c.in_ok-tree.tree) c.in_ok-tree.ensures.tree error is) (rw c.items.ensures at c.said_rule.ensures.error)

@@ -12,13 +12,15 @@ pub returns-in_err-atoms-clause-error : goal.returns-in_err-atoms-clause-error
 returns-in_err-atoms-clause-error c =
     let p = err_from_is_err_and c.from_residual.result c.from_residual.ensures.1 in
     rw (p.1, p.2)
-    (body_error c.args.words.now (arities_of c.args.schema.now) c.args.bytes.now (constraint_of c.args.tree.now) _ (rw c.items.ensures at c.in_err-atoms.ensures.err))
+    (body_error c.args.words.now (arities_of c.args.schema.now) c.args.bytes.now (constraint_of c.args.tree.now) _
+    (rw c.items.ensures at c.in_err-atoms.ensures.err))
 
 pub returns-in_err-head-in-Items-clause-error : goal.returns-in_err-head-in-Items-clause-error
 returns-in_err-head-in-Items-clause-error c =
     let p = err_from_is_err_and c.from_residual-in_err-head-in-Items.result c.from_residual-in_err-head-in-Items.ensures.1 in
     rw (p.1, p.2)
-    (head_error c.args.words.now (arities_of c.args.schema.now) c.args.bytes.now (constraint_of c.args.tree.now) (rw c.items.ensures at c.in_ok-atoms.ensures.fits)
+    (head_error c.args.words.now (arities_of c.args.schema.now) c.args.bytes.now (constraint_of c.args.tree.now)
+    (rw c.items.ensures at c.in_ok-atoms.ensures.fits)
     (map item_of c.in-Items.items) (ap head_of c.in-Items.is) _ (rw c.items-in-Items.ensures at c.in_err-head-in-Items.ensures.err))
 
 -- ---- a tuple rule
@@ -37,7 +39,8 @@ tuple_rule-requires c =
 
 pub returns-in_ok-head-in-Items-clause-said : goal.returns-in_ok-head-in-Items-clause-said
 returns-in_ok-head-in-Items-clause-said c =
-    tuple_said c.args.words.now (arities_of c.args.schema.now) c.args.bytes.now (constraint_of c.args.tree.now) (map item_of c.in-Items.items) c.tuple_rule.result
+    tuple_said c.args.words.now (arities_of c.args.schema.now) c.args.bytes.now (constraint_of c.args.tree.now)
+    (map item_of c.in-Items.items) c.tuple_rule.result
     c.in_ok-atoms.atoms c.in_ok-head-in-Items.head c.body-in-Items.new.names c.tuple_rule.ensures.made (ap head_of c.in-Items.is) (record {
       between = c.body.new.names;
       body_atoms = rw (c.new-names.ensures, c.items.ensures) at c.in_ok-atoms.ensures.ok;
@@ -50,7 +53,8 @@ returns-in_ok-head-in-Items-clause-said c =
 
 pub returns-in-Some-clause-error : goal.returns-in-Some-clause-error
 returns-in-Some-clause-error c =
-    side_error c.args.words.now (arities_of c.args.schema.now) c.args.bytes.now (constraint_of c.args.tree.now) (rw c.items.ensures at c.in_ok-atoms.ensures.fits)
+    side_error c.args.words.now (arities_of c.args.schema.now) c.args.bytes.now (constraint_of c.args.tree.now)
+    (rw c.items.ensures at c.in_ok-atoms.ensures.fits)
     c.in-Equality.left c.in-Equality.right _ _ _ _ _ (ap head_of c.in-Equality.is) (record {
       between = c.body.new.names;
       body_atoms = rw (c.new-names.ensures, c.items.ensures) at c.in_ok-atoms.ensures.ok;
@@ -72,7 +76,8 @@ equal_rule-requires c =
 
 pub returns-in-None-clause-said : goal.returns-in-None-clause-said
 returns-in-None-clause-said c =
-    equality_said c.args.words.now (arities_of c.args.schema.now) c.args.bytes.now (constraint_of c.args.tree.now) c.in-Equality.left c.in-Equality.right c.equal_rule.result
+    equality_said c.args.words.now (arities_of c.args.schema.now) c.args.bytes.now (constraint_of c.args.tree.now)
+    c.in-Equality.left c.in-Equality.right c.equal_rule.result
     c.in_ok-atoms.atoms c.in_ok-left_term-in-Equality.left_term c.in_ok-left_term-in-Equality.right_term c.sides.new.names
     c.equal_rule.ensures.made (ap head_of c.in-Equality.is) (record {
       between = c.body.new.names;
@@ -93,7 +98,8 @@ denial-requires c =
 
 pub returns-in-Never-clause-said : goal.returns-in-Never-clause-said
 returns-in-Never-clause-said c =
-    denial_said c.args.words.now (arities_of c.args.schema.now) c.args.bytes.now (constraint_of c.args.tree.now) c.denial.result c.in_ok-atoms.atoms c.body.new.names c.denial.ensures.made (ap head_of c.in-Never.is) (record {
+    denial_said c.args.words.now (arities_of c.args.schema.now) c.args.bytes.now (constraint_of c.args.tree.now)
+    c.denial.result c.in_ok-atoms.atoms c.body.new.names c.denial.ensures.made (ap head_of c.in-Never.is) (record {
       body_atoms = rw (c.new-names.ensures, c.items.ensures) at c.in_ok-atoms.ensures.ok;
       body_fits = rw c.items.ensures at c.in_ok-atoms.ensures.fits;
     })

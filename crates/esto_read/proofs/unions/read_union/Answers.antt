@@ -12,11 +12,13 @@ item-requires c = some_tree c.args.bytes.now c.in_ok-trees.trees c.in_ok-trees.e
 
 pub trees-init : goal.trees-init
 trees-init c =
-    rw c.new-queries.ensures (said_start c.len-count.result c.args.words.now (arities_of c.args.schema.now) c.args.bytes.now (map tree_of c.items-tree-items.result.now))
+    rw c.new-queries.ensures
+    (said_start c.len-count.result c.args.words.now (arities_of c.args.schema.now) c.args.bytes.now (map tree_of c.items-tree-items.result.now))
 
 pub said_with-requires-clause-parts : goal.said_with-requires-clause-parts
 said_with-requires-clause-parts c =
-    all_at HasParts c.in_ok-trees.trees c.trees.tree-index c.tree-item.result (rw c.items-tree-items.ensures at c.trees-test.true) (rw c.items-tree-items.ensures at c.tree-item.is)
+    all_at HasParts c.in_ok-trees.trees c.trees.tree-index c.tree-item.result (rw c.items-tree-items.ensures at c.trees-test.true)
+    (rw c.items-tree-items.ensures at c.tree-item.is)
     (union_parts c.args.bytes.now (map tree_of c.in_ok-trees.trees) c.in_ok-trees.ensures.trees)
 
 pub said_with-requires-clause-stands : goal.said_with-requires-clause-stands
