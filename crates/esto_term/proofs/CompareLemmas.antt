@@ -75,6 +75,10 @@ pub ruleset compare_rules = (
   term_cmp-Made-Made,
 )
 
+-- two terms of known kinds compare as those kinds do
+pub kinds_answer : (left right one other : Term) (order : Ordering) → left ≡ one → right ≡ other → term_cmp one other ≡ order → order ≡ term_cmp left right
+kinds_answer left right one other order is_one is_other is = sym ((λ i. term_cmp (is_one i) (is_other i)) ∙ is)
+
 -- ---- equal terms
 
 term_cmp-same : (left right : Term) → left ≡ right → term_cmp left right ≡ Equal

@@ -102,8 +102,8 @@ impl Term {
                 Term::Plain(_) => false,
                 Term::Made(rule_b, variable_b, frontier_b) => {
                     rule == rule_b
-                        && variable == variable_b
-                        && equal_terms(frontier.items(), frontier_b.items())
+                        && (variable == variable_b
+                            && equal_terms(frontier.items(), frontier_b.items()))
                 }
             },
         }

@@ -1,9 +1,7 @@
 use Rattle.std.proofs.Common.{refl, sym, ◌∙◌, arith}
-use Rattle.std.proofs.lemmas.Bool.{false≢true}
 use Rattle.std.proofs.lemmas.Bool.Decides.{Decides-eqb}
 use Rattle.std.proofs.lemmas.List.{take_all}
 use Rattle.esto_term.proofs.EqualLemmas.{apart_Const_Plain, apart_Const_Made, apart_Plain_Made, apart_turned, tested, same_Const, same_Plain, same_Made, apart_variables, apart_rules}
-use Rattle.esto_term.proofs.term.+equal.Goals.{Term::equal-then-rule-rule_b, Term::equal-else-rule-rule_b}
 use Rattle.esto_term.proofs.term.+equal.Goals as goal
 
 pub Term::equal-returns-in-Const-other : goal.Term::equal-returns-in-Const-other
@@ -32,21 +30,21 @@ pub Term::equal-returns-in-Plain-other-3 : goal.Term::equal-returns-in-Plain-oth
 Term::equal-returns-in-Plain-other-3 t c = apart_turned _ _ (apart_Plain_Made _ _ _ _ _ _ c.in-Plain-other-3.is c.in-Made.is)
 
 pub Term::equal-returns-then-variable-variable_b : goal.Term::equal-returns-then-variable-variable_b
-Term::equal-returns-then-variable-variable_b t c = elim c.if-rule-rule_b.branch [
-  | Term::equal-then-rule-rule_b w ↦ same_Made _ _ _ _ _ _ _ _ c.in-Made.is c.in-Made-other-3.is c.equal_terms.result c.items.result.now
-      c.items-then-variable-variable_b.result.now w.if-rule-rule_b.true
-      ((Decides-eqb _ _).0 (sym w.value-is ∙ c.if-variable-variable_b.true)) c.items.ensures c.items-then-variable-variable_b.ensures c.equal_terms.ensures
-  | Term::equal-else-rule-rule_b w ↦ absurd (w.if-rule-rule_b.false ((Decides-eqb _ _).0 (sym w.value-is ∙ c.if-variable-variable_b.true)))
-]
+Term::equal-returns-then-variable-variable_b t c =
+    same_Made _ _ _ _ _ _ _ _ c.in-Made.is c.in-Made-other-3.is c.equal_terms.result c.items.result.now
+    c.items-then-variable-variable_b.result.now c.if-rule-rule_b.true c.if-variable-variable_b.true c.items.ensures
+    c.items-then-variable-variable_b.ensures c.equal_terms.ensures
 
 pub Term::equal-returns-else-variable-variable_b : goal.Term::equal-returns-else-variable-variable_b
 Term::equal-returns-else-variable-variable_b t c = (
-  λ holds. absurd (false≢true (sym c.if-variable-variable_b.false ∙ holds)),
-  λ same. absurd (elim c.if-rule-rule_b.branch [
-    | Term::equal-then-rule-rule_b w ↦ apart_variables _ _ _ _ _ _ _ _ c.in-Made.is c.in-Made-other-3.is
-        (λ variables. false≢true (sym c.if-variable-variable_b.false ∙ w.value-is ∙ (Decides-eqb _ _).1 variables)) same
-    | Term::equal-else-rule-rule_b w ↦ apart_rules _ _ _ _ _ _ _ _ c.in-Made.is c.in-Made-other-3.is w.if-rule-rule_b.false same
-  ]),
+  λ holds. absurd (c.if-variable-variable_b.false ((Decides-eqb _ _).0 holds)),
+  λ same. absurd (apart_variables _ _ _ _ _ _ _ _ c.in-Made.is c.in-Made-other-3.is c.if-variable-variable_b.false same),
+)
+
+pub Term::equal-returns-else-rule-rule_b : goal.Term::equal-returns-else-rule-rule_b
+Term::equal-returns-else-rule-rule_b t c = (
+  λ holds. absurd (c.if-rule-rule_b.false ((Decides-eqb _ _).0 holds)),
+  λ same. absurd (apart_rules _ _ _ _ _ _ _ _ c.in-Made.is c.in-Made-other-3.is c.if-rule-rule_b.false same),
 )
 
 pub equal_terms-returns : goal.equal_terms-returns
