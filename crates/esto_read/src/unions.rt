@@ -1,5 +1,5 @@
 //! Unions of queries, from their texts.
-ghost use Rattle.std.specs.Prelude.{◌≡◌, ◌≢◌, ℕ, length, map, Contains, IfOk, IfErr, IsUtf8};
+ghost use Rattle.std.specs.Prelude.{◌≡◌, ◌≢◌, ℕ, [], ◌∷◌, ◌++◌, length, map, Contains, IfOk, IfErr, OnOk, IsUtf8};
 ghost use Rattle.esto_query.specs.Making.{query_of};
 ghost use Rattle.esto_query.specs.Schemas.{arities_of};
 ghost use Rattle.esto_semantics.specs.WellFormed.{IsQueryOver};
@@ -22,23 +22,24 @@ use std::alloc::Global;
 /// The queries of a union, with the names of their heads, in order.
 pub type NamedQueries = List<NamedQuery>;
 
-/// The query that a tree of the text says, whose head is to have so many names.
-fn said_with(
+/// Adds the query that a tree of the text says, whose head is to have so many names.
+fn add_said_with(
     alloc: Global,
     bytes: &[u8],
     tree: &QuerySyntax,
     words: &Vocabulary,
     schema: &Schema,
     count: usize,
-) -> Result<NamedQuery, ReadError>
+    queries: &mut NamedQueries,
+) -> Result<(), ReadError>
     requires words { IsVocabulary (arities_of schema.now) words.now }
     requires utf8 { IsUtf8 bytes.now }
     requires parts { HasParts (tree_of tree.now) }
     requires stands { StandsAt bytes.now (tree_of tree.now) }
-    ensures said { IfOk result (IsSaidWith
-        count words.now (arities_of schema.now) bytes.now (tree_of tree.now)) }
-    ensures over { IfOk result (λ query. IsQueryOver
-        (arities_of schema.now) (query_of query.query)) }
+    ensures added { OnOk result ((query : NamedQuery)
+        × IsSaidWith count words.now (arities_of schema.now) bytes.now (tree_of tree.now) query
+        × IsQueryOver (arities_of schema.now) (query_of query.query)
+        × (queries.new ≡ queries.old ++ query ∷ [])) }
     ensures error { IfErr result (IsErrorWith
         count words.now (arities_of schema.now) bytes.now (tree_of tree.now)) }
 {
@@ -49,7 +50,8 @@ fn said_with(
         }));
     }
     let query = said(alloc, bytes, tree, words, schema, Form::Query)?;
-    Ok(query)
+    queries.push(query)?;
+    Ok(())
 }
 
 /// The queries that a text is, parted by `;`, over the datasets that the words name, with their names; or the text's first
@@ -77,8 +79,7 @@ pub fn read_union(
     let count = trees.item(0).variables.len();
     let mut queries = List::new(alloc);
     'trees: for tree in trees.items() {
-        let query = said_with(alloc, bytes, tree, words, schema, count)?;
-        queries.push(query)?;
+        add_said_with(alloc, bytes, tree, words, schema, count, &mut queries)?;
     }
     Ok(queries)
 }

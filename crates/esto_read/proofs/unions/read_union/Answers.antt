@@ -15,33 +15,34 @@ trees-init c =
     rw c.new-queries.ensures
     (said_start c.len-count.result c.args.words.now (arities_of c.args.schema.now) c.args.bytes.now (map tree_of c.items-tree-items.result.now))
 
-pub said_with-requires-clause-parts : goal.said_with-requires-clause-parts
-said_with-requires-clause-parts c =
+pub add_said_with-requires-clause-parts : goal.add_said_with-requires-clause-parts
+add_said_with-requires-clause-parts c =
     all_at HasParts c.in_ok-trees.trees c.trees.tree-index c.tree-item.result (rw c.items-tree-items.ensures at c.trees-test.true)
     (rw c.items-tree-items.ensures at c.tree-item.is)
     (union_parts c.args.bytes.now (map tree_of c.in_ok-trees.trees) c.in_ok-trees.ensures.trees)
 
-pub said_with-requires-clause-stands : goal.said_with-requires-clause-stands
-said_with-requires-clause-stands c =
+pub add_said_with-requires-clause-stands : goal.add_said_with-requires-clause-stands
+add_said_with-requires-clause-stands c =
     all_at (StandsAt c.args.bytes.now) c.in_ok-trees.trees c.trees.tree-index c.tree-item.result (rw c.items-tree-items.ensures at c.trees-test.true)
     (rw c.items-tree-items.ensures at c.tree-item.is) c.in_ok-trees.ensures.tokens
 
-pub returns-in_err-query-clause-error : goal.returns-in_err-query-clause-error
-returns-in_err-query-clause-error c =
-    let p = err_from_is_err_and c.from_residual-in_err-query.result c.from_residual-in_err-query.ensures.1 in
+pub returns-in_err-add_said_with-clause-error : goal.returns-in_err-add_said_with-clause-error
+returns-in_err-add_said_with-clause-error c =
+    let p = err_from_is_err_and c.from_residual-in_err-add_said_with.result c.from_residual-in_err-add_said_with.ensures.1 in
     let trees = c.items-tree-items.result.now in
     rw (p.1, p.2) (union_error c.len-count.result c.args.words.now (arities_of c.args.schema.now) c.args.bytes.now (map tree_of c.in_ok-trees.trees)
     (tree_of c.tree-item.result) _ c.in_ok-trees.ensures.trees
     (c.len-count.ensures ∙ sym (first_length c.in_ok-trees.trees c.item.result.now (sym c.item.ensures)))
     (rw c.items-tree-items.ensures at (said_fault c.len-count.result c.args.words.now (arities_of c.args.schema.now) c.args.bytes.now (map tree_of trees) trees
-    c.trees.tree-index c.trees.queries c.trees.invariant c.tree-item.result c.trees-test.true c.tree-item.is)) c.in_err-query.ensures.error)
+    c.trees.tree-index c.trees.queries c.trees.invariant c.tree-item.result c.trees-test.true c.tree-item.is)) c.in_err-add_said_with.ensures.error)
 
 pub trees-preserved : goal.trees-preserved
 trees-preserved c =
     let trees = c.items-tree-items.result.now in
-    rw c.in_ok-push.ensures.ok
+    let added = c.in_ok-add_said_with.ensures.added in
+    rw added.3
     (said_next c.len-count.result c.args.words.now (arities_of c.args.schema.now) c.args.bytes.now (map tree_of trees) trees c.trees.tree-index c.trees.queries
-    c.trees.invariant c.tree-item.result c.trees-test.true c.tree-item.is c.in_ok-query.query c.in_ok-query.ensures.said c.in_ok-query.ensures.over)
+    c.trees.invariant c.tree-item.result c.trees-test.true c.tree-item.is added.0 added.1 added.2)
 
 pub returns-clause-reading : goal.returns-clause-reading
 returns-clause-reading c =
