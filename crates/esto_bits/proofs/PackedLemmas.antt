@@ -55,7 +55,8 @@ module _ (words : List ℕ) (count many : ℕ) where
   sets_of-from set has =
       let below : has.0 < many = subst (λ n. has.0 < n) length-sets_of has.1 in (has.0, below, sym (sets_of-at has.0 set below) ∙ has.2)
 
-fits_in_part : (words : List ℕ) (from to : ℕ) → ((place : ℕ) → get_or words place 0 < 2 ^ 64) → (place : ℕ) → get_or (slice_range words from to) place 0 < 2 ^ 64
+fits_in_part : (words : List ℕ) (from to : ℕ) → ((place : ℕ) → get_or words place 0 < 2 ^ 64) → (place : ℕ) → get_or (slice_range words from to) place 0 < 2 ^
+    64
 fits_in_part words from to fits place = elim (cases_lt place (to - from)) [
   | inl below ↦ subst (λ n. n < 2 ^ 64) (sym (get_or-take (to - from) (drop from words) place 0 below ∙ get_or-drop from words place 0)) (fits (from + place))
   | inr past ↦
@@ -83,7 +84,8 @@ module _ (words : List ℕ) (count many : ℕ) (packed : ArePacked words count m
   alike place = length-set_of (words_at words count place) count ∙ sym (length-set_of row count)
 
   inside_of : (group : ℕ) → group * words_for count + words_for count ≤ length words → group < many
-  inside_of group room = group_below group many (words_for count) (width_some count) (subst (λ n. group * words_for count + words_for count ≤ n) packed.whole room)
+  inside_of group room = group_below group many (words_for count) (width_some count)
+      (subst (λ n. group * words_for count + words_for count ≤ n) packed.whole room)
 
   room_of : (place : ℕ) → place < many → place * words_for count + words_for count ≤ length words
   room_of place inside = subst (λ n. place * words_for count + words_for count ≤ n) (sym packed.whole) (room_at place many (words_for count) inside)

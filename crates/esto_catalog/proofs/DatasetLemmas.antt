@@ -72,7 +72,8 @@ module _ (place : Place) (earlier : List Dataset) (entry : List Field) (unit : U
     ),
   )
 
-  pub dataset_stops : (error : CatalogueError) → Stops IsWant IsAny (described_row place entry) error → Stops IsWant IsAny (reads_dataset place earlier entry) error
+  pub dataset_stops : (error : CatalogueError) → Stops IsWant IsAny (described_row place entry) error → Stops IsWant IsAny (reads_dataset place earlier entry)
+      error
   dataset_stops error stops = stops_more (described_row place entry) (reads_dataset place earlier entry) described_stops error stops
 
 -- ---- relations of more datasets

@@ -45,7 +45,8 @@ module _ (place : Place) (datasets : List Dataset) (earlier : List FragmentDef) 
         | inr (model, m, inl e) ↦ inr (model, m, inl e)
         | inr (model, m, inr (file, f, inl (inl e))) ↦ inr (model, m, inr (file, f, inl e))
         | inr (model, m, inr (file, f, inl (inr (shape, s, inl (inl e))))) ↦ inr (model, m, inr (file, f, inr (shape, s, inl e)))
-        | inr (model, m, inr (file, f, inl (inr (shape, s, inl (inr (access, a, inl e)))))) ↦ inr (model, m, inr (file, f, inr (shape, s, inr (access, a, inl e))))
+        | inr (model, m, inr (file, f, inl (inr (shape, s, inl (inr (access, a, inl e)))))) ↦ inr
+            (model, m, inr (file, f, inr (shape, s, inr (access, a, inl e))))
         | inr (model, m, inr (file, f, inl (inr (shape, s, inl (inr (access, a, inr (weight, w, never))))))) ↦ absurd never
         | inr (model, m, inr (file, f, inl (inr (shape, s, inr (ways, w, never))))) ↦ absurd never
         | inr (model, m, inr (file, f, inr (form, g, never))) ↦ absurd never

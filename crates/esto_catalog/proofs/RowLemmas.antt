@@ -100,14 +100,16 @@ module _ (answer test : Bool) (fault : CatalogueError) where
   not_stops error stops is = same_stops _ _ fault (by_not answer test is) error stops
 
 -- a value that a condition lets pass
-module _ {A : Type 0} (value : A) (checked : Result (Unit {0}) CatalogueError) (result : Result A CatalogueError) (is : result ≡ result_and checked (Ok value)) where
+module _ {A : Type 0} (value : A) (checked : Result (Unit {0}) CatalogueError) (result : Result A CatalogueError)
+    (is : result ≡ result_and checked (Ok value)) where
   pub checked_walks : (condition : Type 0) (fault : CatalogueError) → Walks (demands condition fault) checked
       → Walks (and_then (demands condition fault) (λ _. gives value)) result
-  checked_walks condition fault walks = subst (Walks (and_then (demands condition fault) (λ _. gives value))) (sym is) (passes condition fault checked walks) where
-    passes : (condition : Type 0) (fault : CatalogueError) (checked : Result (Unit {0}) CatalogueError) → Walks (demands condition fault) checked
-        → Walks (and_then (demands condition fault) (λ _. gives value)) (result_and checked (Ok value))
-    passes condition fault (Ok unit) goes = then_goes (demands condition fault) (λ _. gives value) unit value goes (gives_goes CatalogueError value value refl)
-    passes condition fault (Err error) stops = first_stops (demands condition fault) (λ _. gives value) stops
+  checked_walks condition fault walks = subst (Walks (and_then (demands condition fault) (λ _. gives value))) (sym is) (passes condition fault checked walks)
+    where
+      passes : (condition : Type 0) (fault : CatalogueError) (checked : Result (Unit {0}) CatalogueError) → Walks (demands condition fault) checked
+          → Walks (and_then (demands condition fault) (λ _. gives value)) (result_and checked (Ok value))
+      passes condition fault (Ok unit) goes = then_goes (demands condition fault) (λ _. gives value) unit value goes (gives_goes CatalogueError value value refl)
+      passes condition fault (Err error) stops = first_stops (demands condition fault) (λ _. gives value) stops
 
   pub checked_holds : (P : A → Type 0) → P value → IfOk result P
   checked_holds P holds = subst (λ (it : Result A CatalogueError). IfOk it P) (sym is) (keeps checked) where
@@ -145,7 +147,8 @@ section_stops key section entries error is many fault =
     (first_stops (demands (length entries ≤ MAX_ENTRIES) (fault_at TooMany top key)) (λ _. gives entries)
     (demands_stops (length entries ≤ MAX_ENTRIES) (fault_at TooMany top key) error (λ few. absurd (omega arith)) fault))
 
-pub section_absent : (key : List ℕ) (section : Option (List (List Field))) (error : CatalogueError) → section ≡ None → IsFault (fault_at WrongType top key) error
+pub section_absent : (key : List ℕ) (section : Option (List (List Field))) (error : CatalogueError) → section ≡ None → IsFault (fault_at WrongType top key)
+    error
     → Stops IsWant IsAny (reads_section key section) error
 section_absent key section error is fault =
     subst (λ (s : Option (List (List Field))). Stops IsWant IsAny (reads_section key s) error) (sym is) (refuses_stops _ _ error fault)

@@ -44,7 +44,8 @@ module _ (atom : Fact Term) (rest facts : List (Fact Term)) (known : Assignment)
     no_fact : Excludes known (λ m. slice_get facts here ≡ Some (image m atom)) → NoneAt atom rest facts known from here
     no_fact none m places keeps extends match after = none m keeps extends match.0
 
-    no_rest : (mid : Assignment) → Narrows known mid (λ m. slice_get facts here ≡ Some (image m atom)) → HasNoMatch rest facts mid (IsAtMost (rest_from from here))
+    no_rest : (mid : Assignment) → Narrows known mid (λ m. slice_get facts here ≡ Some (image m atom)) → HasNoMatch rest facts mid
+        (IsAtMost (rest_from from here))
         → NoneAt atom rest facts known from here
     no_rest mid step none m places keeps extends match after =
         none m places keeps ((step m keeps).1 (extends, match.0)) match.1 (rest_is_at_most from here places after)

@@ -53,7 +53,8 @@ UnionRunsWhereTold words (Some files) rose sink_rose old new result =
 
 -- ---- agreement
 
--- Where the files say a catalogue and a union of two or more queries over it, and over them `audit` and `run` are Done, each outcome of `answer` is Done with the
+-- Where the files say a catalogue and a union of two or more queries over it, and over them `audit` and `run` are Done, each outcome of `answer` is Done with
+-- the
 -- text of `run`.
 abbrev pub UnionOutcomesAgree : Type 0
 UnionOutcomesAgree =

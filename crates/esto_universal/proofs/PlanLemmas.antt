@@ -109,7 +109,8 @@ module _ (names : List Name) (old new : ConjunctiveQuery) (new_names : List Name
   pub atoms_distinct : AllPairs ◌≢◌ old.body → AllPairs ◌≢◌ new.body
   atoms_distinct distinct = subst (AllPairs ◌≢◌) (sym renamed.atoms) mapped
     where
-      same_row : (row other : Fact Term) → Contains old.body row → Contains old.body other → image renamed.renaming row ≡ image renamed.renaming other → row ≡ other
+      same_row : (row other : Fact Term) → Contains old.body row → Contains old.body other → image renamed.renaming row ≡ image renamed.renaming other → row ≡
+          other
       same_row row other inside other_inside same = sym (row_undone row inside) ∙ ap (image (back renamed.seen)) same ∙ row_undone other other_inside
 
       mapped : AllPairs ◌≢◌ (map (image renamed.renaming) old.body)

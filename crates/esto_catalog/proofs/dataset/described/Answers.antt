@@ -20,4 +20,5 @@ returns-in_err-layout c =
     (then_stops _ _ _ c.in_ok-model.ensures (then_stops _ _ _ c.in_ok-columns.ensures (first_stops _ _ c.in_err-layout.ensures)))
 
 pub returns : goal.returns
-returns c = then_goes _ _ _ _ c.in_ok-model.ensures (then_goes _ _ _ _ c.in_ok-columns.ensures (then_goes _ _ _ _ c.in_ok-layout.ensures (gives_goes _ _ _ refl)))
+returns c = then_goes _ _ _ _ c.in_ok-model.ensures (then_goes _ _ _ _ c.in_ok-columns.ensures
+    (then_goes _ _ _ _ c.in_ok-layout.ensures (gives_goes _ _ _ refl)))

@@ -6,7 +6,8 @@ use Rattle.esto_catalog.specs.Datasets.{reads_dataset}
 use Rattle.esto_catalog.proofs.dataset.read_dataset.Goals as goal
 
 pub returns-in_err-knows_keys : goal.returns-in_err-knows_keys
-returns-in_err-knows_keys c = row_exit (reads_dataset c.args.place c.args.earlier.now c.args.entry.now) _ _ c.from_residual.ensures.1 (first_stops _ _ c.in_err-knows_keys.ensures)
+returns-in_err-knows_keys c = row_exit (reads_dataset c.args.place c.args.earlier.now c.args.entry.now) _ _ c.from_residual.ensures.1
+    (first_stops _ _ c.in_err-knows_keys.ensures)
 
 pub returns-in_err-said : goal.returns-in_err-said
 returns-in_err-said c =
@@ -14,7 +15,8 @@ returns-in_err-said c =
     (then_stops _ _ _ c.in_ok-knows_keys.ensures (first_stops _ _ c.in_err-said.ensures.error))
 
 pub returns-in_err-name : goal.returns-in_err-name
-returns-in_err-name c = row_exit (reads_dataset c.args.place c.args.earlier.now c.args.entry.now) _ _ c.from_residual-in_err-name.ensures.1 (memory_stops _ _ refl)
+returns-in_err-name c = row_exit (reads_dataset c.args.place c.args.earlier.now c.args.entry.now) _ _ c.from_residual-in_err-name.ensures.1
+    (memory_stops _ _ refl)
 
 pub returns-in_err-model : goal.returns-in_err-model
 returns-in_err-model c =

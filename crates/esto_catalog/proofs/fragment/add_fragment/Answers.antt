@@ -20,5 +20,6 @@ returns-clause-goes c =
 
 pub returns-clause-sound : goal.returns-clause-sound
 returns-clause-sound c = λ sound.
-    fragments_grown _ c.args.fragments.now _ c.in_ok-stored.stored (λ i. record { definitions = c.in_ok-push.ensures.ok i; stores = c.in_ok-push-2.ensures.ok i })
+    fragments_grown _ c.args.fragments.now _ c.in_ok-stored.stored (λ i. record
+    { definitions = c.in_ok-push.ensures.ok i; stores = c.in_ok-push-2.ensures.ok i })
     sound c.in_ok-stored.ensures.sound

@@ -20,4 +20,5 @@ returns-in_err-pattern c =
     (then_stops _ _ _ (c.in_ok-unfit.ensures) (then_stops _ _ _ (c.in_ok-layout.ensures) (first_stops _ _ (c.in_err-pattern.ensures))))
 
 pub returns : goal.returns
-returns c = then_goes _ _ _ _ c.in_ok-unfit.ensures (then_goes _ _ _ _ c.in_ok-layout.ensures (then_goes _ _ _ _ c.in_ok-pattern.ensures (gives_goes _ _ _ refl)))
+returns c = then_goes _ _ _ _ c.in_ok-unfit.ensures (then_goes _ _ _ _ c.in_ok-layout.ensures
+    (then_goes _ _ _ _ c.in_ok-pattern.ensures (gives_goes _ _ _ refl)))

@@ -20,4 +20,5 @@ returns-in_err-unfit-3 c =
     (then_stops _ _ _ (c.in_ok-unfit.ensures) (then_stops _ _ _ (c.in_ok-unfit-2.ensures) (first_stops _ _ (c.in_err-unfit-3.ensures))))
 
 pub returns : goal.returns
-returns c = then_goes _ _ _ _ c.in_ok-unfit.ensures (then_goes _ _ _ _ c.in_ok-unfit-2.ensures (then_goes _ _ _ _ c.in_ok-unfit-3.ensures (gives_goes _ _ _ refl)))
+returns c = then_goes _ _ _ _ c.in_ok-unfit.ensures (then_goes _ _ _ _ c.in_ok-unfit-2.ensures
+    (then_goes _ _ _ _ c.in_ok-unfit-3.ensures (gives_goes _ _ _ refl)))

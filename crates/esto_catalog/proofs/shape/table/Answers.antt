@@ -20,4 +20,5 @@ returns-in_err-unfit-2 c =
     (then_stops _ _ _ (c.in_ok-columns.ensures) (then_stops _ _ _ (c.in_ok-unfit.ensures) (first_stops _ _ (c.in_err-unfit-2.ensures))))
 
 pub returns : goal.returns
-returns c = then_goes _ _ _ _ c.in_ok-columns.ensures (then_goes _ _ _ _ c.in_ok-unfit.ensures (then_goes _ _ _ _ c.in_ok-unfit-2.ensures (gives_goes _ _ _ refl)))
+returns c = then_goes _ _ _ _ c.in_ok-columns.ensures (then_goes _ _ _ _ c.in_ok-unfit.ensures
+    (then_goes _ _ _ _ c.in_ok-unfit-2.ensures (gives_goes _ _ _ refl)))

@@ -19,7 +19,8 @@ pub returns-in-Some : goal.returns-in-Some
 returns-in-Some c =
     tuple_refused (arities_of c.args.schema.now) c.args.body c.args.head c.args.names c.in-Some.fault
     (subst (λ (head : List (Fact Term)). MakesTuple (arities_of c.args.schema.now) c.args.body head [] (Err c.in-Some.fault)) c.items-2.ensures
-    (subst (λ (body : List (Fact Term)). MakesTuple (arities_of c.args.schema.now) body c.items-2.result.now [] (Err c.in-Some.fault)) c.items.ensures c.in-Some.ensures))
+    (subst (λ (body : List (Fact Term)). MakesTuple (arities_of c.args.schema.now) body c.items-2.result.now [] (Err c.in-Some.fault)) c.items.ensures
+    c.in-Some.ensures))
 
 pub returns-in-None : goal.returns-in-None
 returns-in-None c =

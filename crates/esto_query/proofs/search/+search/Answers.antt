@@ -32,7 +32,11 @@ pub bind_place-requires : goal.bind_place-requires
 bind_place-requires t c = flat_first _ c.in-Some.rest.now (subst AreFlat c.loop-entry.invariant.split c.requires)
 
 pub search-requires : goal.search-requires
-search-requires t c = (omega (arith, ap length c.loop-entry.invariant.split), flat_rest c.in-Some.atom.now _ (subst AreFlat c.loop-entry.invariant.split c.requires))
+search-requires t c = (
+  omega (arith, ap length c.loop-entry.invariant.split),
+  flat_rest c.in-Some.atom.now _
+      (subst AreFlat c.loop-entry.invariant.split c.requires),
+)
 
 pub returns-then-branch-2 : goal.returns-then-branch-2
 returns-then-branch-2 t c =

@@ -12,7 +12,8 @@ returns-in_err-queries-clause-asked g c = handed_asks _ _ _ c.from_residual.ensu
 
 pub returns-clause-answer : goal.returns-clause-answer
 returns-clause-answer g c =
-    let answer = queries_answer (g.S.Shelf.files c.args.shelf.now) _ c.in_ok-queries.ensures.files c.args.catalogue.now c.in_ok-queries.queries c.items.result.now
+    let answer = queries_answer (g.S.Shelf.files c.args.shelf.now) _ c.in_ok-queries.ensures.files c.args.catalogue.now c.in_ok-queries.queries
+    c.items.result.now
     c.items.ensures c.args.number _ _ c.run_queries.ensures.answer in
     then_answers _ _ _ _ _ c.in_ok-queries.queries c.run_queries.result c.in_ok-queries.ensures.answer c.in_ok-queries.ensures.later
     c.run_queries.ensures.later answer

@@ -9,7 +9,8 @@ part-requires c =
 
 pub returns-clause-below : goal.returns-clause-below
 returns-clause-below c =
-    subst (λ them. AreWordsBelow them c.args.self.now.count) (sym (c.part.ensures ∙ part_is c.self.inside.count c.args.at c.as_slice.ensures.value c.words_for.ensures))
+    subst (λ them. AreWordsBelow them c.args.self.now.count) (sym (c.part.ensures ∙ part_is c.self.inside.count c.args.at c.as_slice.ensures.value
+    c.words_for.ensures))
     (words_below _ _ _ c.self.invariant _ c.self.view_is c.args.at c.requires)
 
 pub returns-clause-set : goal.returns-clause-set

@@ -33,7 +33,8 @@ pub invariant_of-self-2 : goal.invariant_of-self-2
 invariant_of-self-2 c =
     (added c.args.row.now c.self.inside.packed c.words-words.result.now (c.requires ∙ sym (ap (λ (it : Kept). it.count) c.self.view_is))
     c.words-words.ensures.below c.words-words.ensures.set
-    c.self.invariant (λ covered. false≢true (sym c.if-covers.false ∙ (covers_row c.args.row.now c.self.inside.packed c.words-words.result.now (c.requires ∙ sym (ap (λ (it : Kept). it.count) c.self.view_is))
+    c.self.invariant (λ covered. false≢true (sym c.if-covers.false ∙ (covers_row c.args.row.now c.self.inside.packed c.words-words.result.now
+    (c.requires ∙ sym (ap (λ (it : Kept). it.count) c.self.view_is))
     c.words-words.ensures.below c.words-words.ensures.set
     c.covers.result c.covers.ensures).1 covered))
     c.put_for_supersets.new.self c.in_ok-put_for_supersets.ensures.ok).2
@@ -43,7 +44,8 @@ returns-clause-ok c =
     subst (λ (it : Kept). c.put_for_supersets.new.self.sets ≡ with_set it.sets c.args.row.now) c.self.view_is
     (added c.args.row.now c.self.inside.packed c.words-words.result.now (c.requires ∙ sym (ap (λ (it : Kept). it.count) c.self.view_is))
     c.words-words.ensures.below c.words-words.ensures.set
-    c.self.invariant (λ covered. false≢true (sym c.if-covers.false ∙ (covers_row c.args.row.now c.self.inside.packed c.words-words.result.now (c.requires ∙ sym (ap (λ (it : Kept). it.count) c.self.view_is))
+    c.self.invariant (λ covered. false≢true (sym c.if-covers.false ∙ (covers_row c.args.row.now c.self.inside.packed c.words-words.result.now
+    (c.requires ∙ sym (ap (λ (it : Kept). it.count) c.self.view_is))
     c.words-words.ensures.below c.words-words.ensures.set
     c.covers.result c.covers.ensures).1 covered))
     c.put_for_supersets.new.self c.in_ok-put_for_supersets.ensures.ok).0

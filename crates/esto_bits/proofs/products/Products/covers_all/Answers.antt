@@ -7,7 +7,8 @@ pub returns-then-not-covers_one : goal.returns-then-not-covers_one
 returns-then-not-covers_one c = (
   λ never. absurd (false≢true never),
   λ all. absurd (false≢true (sym c.if-not-covers_one.true
-      ∙ covers_there c.args.self.now.sets c.args.others.now.sets c.sets.at (omega (arith, c.sets-test.true, c.len-at-end.ensures)) c.covers_one.result c.covers_one.ensures all)),
+      ∙ covers_there c.args.self.now.sets c.args.others.now.sets c.sets.at (omega (arith, c.sets-test.true, c.len-at-end.ensures)) c.covers_one.result
+      c.covers_one.ensures all)),
 )
 
 pub sets-preserved : goal.sets-preserved
