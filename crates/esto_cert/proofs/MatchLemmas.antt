@@ -7,12 +7,12 @@ use Rattle.esto_term.specs.declared.term.Term.{Term}
 use Rattle.esto_semantics.specs.Facts.{terms_of}
 use Rattle.esto_semantics.specs.declared.fact.Fact.{Fact}
 use Rattle.esto_world_laws.specs.Worlds.{Linked}
-use Rattle.esto_world_laws.specs.Matches.{taken, AreChosen, IsMatch}
+use Rattle.esto_world_laws.specs.Matches.{IsLike, taken, AreChosen, IsMatch}
 use Rattle.esto_world_laws.specs.declared.entry.Claim.{Claim}
 use Rattle.esto_world_laws.specs.declared.entry.Claim.TheVariants.{Fact as Stated}
 use Rattle.esto_cert.specs.Certificates.{facts_at, equalities_at, Matches}
 use Rattle.esto_cert.specs.Linking.{IsAmong, Tells, StandsAsOne}
-use Rattle.esto_cert.specs.Matching.{IsLike, Fits, IsFound}
+use Rattle.esto_cert.specs.Matching.{Fits, IsFound}
 use Rattle.esto_cert.specs.declared.linking.Equality.{Equality}
 use Rattle.esto_cert.specs.declared.matching.Found.{Found}
 

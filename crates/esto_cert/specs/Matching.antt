@@ -4,16 +4,12 @@ use Rattle.std.specs.List.{AllZip}
 use Rattle.esto_term.specs.declared.term.Term.{Term}
 use Rattle.esto_semantics.specs.Facts.{terms_of}
 use Rattle.esto_semantics.specs.declared.fact.Fact.{Fact}
-use Rattle.esto_world_laws.specs.Matches.{taken}
+use Rattle.esto_world_laws.specs.Matches.{IsLike, taken}
 use Rattle.esto_world_laws.specs.declared.entry.Claim.{Claim}
 use Rattle.esto_cert.specs.Certificates.{Matches}
 use Rattle.esto_cert.specs.Linking.{IsAmong, Tells}
 use Rattle.esto_cert.specs.declared.linking.Equality.{Equality}
 use Rattle.esto_cert.specs.declared.matching.Found.{Found}
-
--- The fact has the atom's relation and length.
-abbrev pub IsLike : Fact Term → Fact Term → Type 0
-IsLike atom fact = (fact.relation ≡ atom.relation) × (length fact.terms ≡ length atom.terms)
 
 -- The facts are like the atoms, and each of their terms is one with what the body's term at its place meets first.
 abbrev pub Fits : (Term → Term → Type 0) → List (Fact Term) → List (Fact Term) → List Term → List Term → Type 0

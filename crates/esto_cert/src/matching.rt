@@ -1,11 +1,12 @@
 //! Matches of a body in what lines claim.
 ghost use Rattle.std.specs.Prelude.{◌≡◌, ◌↔◌, List, IsTrue, IfOk, MatchOption};
 ghost use Rattle.std.specs.List.{AllZip};
+ghost use Rattle.esto_world_laws.specs.Matches.{IsLike};
 ghost use Rattle.esto_term.specs.declared.term.Term.{Term};
 ghost use Rattle.esto_semantics.specs.Facts.{terms_of};
 ghost use Rattle.esto_semantics.specs.declared.fact.Fact.{Fact};
 ghost use Rattle.esto_cert.specs.Linking.{StandsAsOne, Tells, IsAmong};
-ghost use Rattle.esto_cert.specs.Matching.{IsLike, IsFound, Fits};
+ghost use Rattle.esto_cert.specs.Matching.{IsFound, Fits};
 
 use crate::linking::{Equalities, Equality, renamings_of, stand_as_one};
 use crate::naming::{equalities_at, facts_at};

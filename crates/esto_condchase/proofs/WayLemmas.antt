@@ -13,14 +13,14 @@ use Rattle.esto_term.proofs.ListLemmas.{place-from_Contains}
 use Rattle.esto_semantics.proofs.SetLemmas.{has_united, length-united}
 use Rattle.esto_world_laws.specs.Worlds.{InWorld}
 use Rattle.esto_semantics.specs.Facts.{terms_of}
-use Rattle.esto_world_laws.specs.Matches.{taken, Touching, Fits, AreChosen, IsDirectMatch}
+use Rattle.esto_world_laws.specs.Matches.{IsLike, taken, Touching, Fits, AreChosen, IsDirectMatch}
 use Rattle.esto_world_laws.specs.Derived.{Claims, IsNamed, IsUnion, IsEquality}
 use Rattle.esto_world_laws.specs.declared.entry.Claim.{Claim}
 use Rattle.esto_world_laws.specs.declared.entry.Claim.TheVariants.{Fact as Stated, Same}
 use Rattle.esto_world_laws.specs.declared.entry.Entry.{Entry}
 use Rattle.esto_world_laws.proofs.LinkLemmas.{Touching-more, zip_weaker, zip_append, zip_split}
 use Rattle.esto_world_laws.proofs.TakenLemmas.{Fits-push, Fits-pop, Fits-split, Fits-join}
-use Rattle.esto_condchase.specs.Ways.{AreCounted, Links, met, met_by, begun, IsWay, AreLonger, AreRows, IsAlike, AreThrough, AreMatched, IsFound, AreFound}
+use Rattle.esto_condchase.specs.Ways.{AreCounted, Links, met, met_by, begun, IsWay, AreLonger, AreRows, AreThrough, AreMatched, IsFound, AreFound}
 use Rattle.esto_condchase.specs.declared.ways.Way.{Way}
 use Rattle.esto_condchase.proofs.MeetLemmas.{take-item}
 
@@ -445,7 +445,7 @@ module _ (entries : List Entry) (from : List Term) (atom : Fact Term) where
           by (Stated fact) is (inr (unfit, none)) = subst (MatchedSoFar (place + 1)) (sym (unchanged none)) (matched_skip (λ its states fitting.
               let claims : Stated fact ≡ Stated its = sym is ∙ states in
               let same : fact ≡ its = cc in
-              unfit (subst (λ (it : Fact Term). IsAlike atom it) (sym same) fitting)))
+              unfit (subst (λ (it : Fact Term). IsLike atom it) (sym same) fitting)))
 
     pub matched_all : (place : ℕ) (ways : List Way) → length entries ≤ place → MatchedSoFar place ways → AreMatched entries from atom (before ∷ []) ways
     matched_all place ways past so_far = record {

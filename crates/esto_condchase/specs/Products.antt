@@ -7,7 +7,7 @@ use Rattle.esto_semantics.specs.Sets.{Within, Covers}
 use Rattle.esto_semantics.specs.declared.fact.Fact.{Fact}
 use Rattle.esto_world_laws.specs.Derived.{Claims}
 use Rattle.esto_world_laws.specs.Laws.{HasMatch}
-use Rattle.esto_world_laws.specs.Matches.{taken, Touching, AreChosen}
+use Rattle.esto_world_laws.specs.Matches.{IsLike, taken, Touching, AreChosen}
 use Rattle.esto_world_laws.specs.Worlds.{InWorld, AreOfCount}
 use Rattle.esto_world_laws.specs.declared.entry.Claim.{Claim}
 use Rattle.esto_world_laws.specs.declared.entry.Claim.TheVariants.{Fact as Stated}
@@ -56,7 +56,7 @@ SomeEntryGoesOn entries some from body way free set =
 pub record IsBegun (entries : List Entry) (head : List Term) (atoms : List (Fact Term)) (targets : List Term) (way : Way) : Type 0 where
   pub chosen : List (Fact Term)
   pub stated : AllZip (λ (place : ℕ) (fact : Fact Term). Claims entries place (Stated fact)) way.facts chosen
-  pub alike : AllZip (λ (atom : Fact Term) (fact : Fact Term). (fact.relation ≡ atom.relation) × (length fact.terms ≡ length atom.terms)) atoms chosen
+  pub alike : AllZip IsLike atoms chosen
   pub is_way : IsWay entries way.facts (head ++ terms_of atoms) (targets ++ terms_of chosen) way
 
 -- A search has come to a way, which has matched the first atoms of the body, so many of them.

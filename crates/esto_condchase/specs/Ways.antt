@@ -6,7 +6,7 @@ use Rattle.esto_semantics.specs.Sets.{Within, united}
 use Rattle.esto_semantics.specs.declared.fact.Fact.{Fact}
 use Rattle.esto_world_laws.specs.Worlds.{InWorld}
 use Rattle.esto_semantics.specs.Facts.{terms_of}
-use Rattle.esto_world_laws.specs.Matches.{taken, Touching, Fits, IsDirectMatch}
+use Rattle.esto_world_laws.specs.Matches.{IsLike, taken, Touching, Fits, IsDirectMatch}
 use Rattle.esto_world_laws.specs.Derived.{Claims, IsNamed, IsUnion, IsEquality}
 use Rattle.esto_world_laws.specs.declared.entry.Claim.{Claim}
 use Rattle.esto_world_laws.specs.declared.entry.Claim.TheVariants.{Fact as Stated, Same}
@@ -64,14 +64,10 @@ pub record AreRows (entries : List Entry) (from terms owns : List Term) (start :
       → AllZip (Touching (InWorld entries atoms)) owns (map (taken (from ++ terms) (start.to ++ owns)) terms)
       → (way : Way) × Contains ways way × (way.to ≡ start.to ++ owns) × Within way.product atoms
 
--- The fact has the atom's relation and as many terms.
-abbrev pub IsAlike : Fact Term → Fact Term → Type 0
-IsAlike atom fact = (fact.relation ≡ atom.relation) × (length fact.terms ≡ length atom.terms)
-
 -- The ways are those that go on from one, where the claim of the entry at a place, with that product, is a fact alike to the atom; else there is none.
 abbrev pub AreThrough : List Entry → List Term → Fact Term → Way → ℕ → List Bool → Claim → List Way → Type 0
 AreThrough entries from atom before place product (Stated fact) ways =
-    (IsAlike atom fact × AreRows entries from atom.terms fact.terms (begun before place product) ways) ⊎ ((IsAlike atom fact → ⊥) × (ways ≡ []))
+    (IsLike atom fact × AreRows entries from atom.terms fact.terms (begun before place product) ways) ⊎ ((IsLike atom fact → ⊥) × (ways ≡ []))
 AreThrough entries from atom before place product (Same left right) ways = ways ≡ []
 
 -- The ways are the given ones with a fact for one atom more.
@@ -89,7 +85,7 @@ pub record AreMatched (entries : List Entry) (from : List Term) (atom : Fact Ter
 pub record IsFound (entries : List Entry) (body : List (Fact Term)) (way : Way) : Type 0 where
   pub chosen : List (Fact Term)
   pub stated : AllZip (λ (place : ℕ) (fact : Fact Term). Claims entries place (Stated fact)) way.facts chosen
-  pub alike : AllZip (λ (atom : Fact Term) (fact : Fact Term). (fact.relation ≡ atom.relation) × (length fact.terms ≡ length atom.terms)) body chosen
+  pub alike : AllZip IsLike body chosen
   pub is_way : IsWay entries way.facts (terms_of body) (terms_of chosen) way
 
 -- The ways are direct matches of the body, and in each world each direct match is one of them.

@@ -10,7 +10,7 @@ use Rattle.esto_semantics.specs.Facts.{terms_of}
 use Rattle.esto_semantics.specs.declared.fact.Fact.{Fact}
 use Rattle.esto_world_laws.proofs.LinkLemmas.{zip_weaker, zip_left, Linked-then, Linked-back, one_link}
 use Rattle.esto_world_laws.specs.Derived.{Claims, IsNamed, IsEquality}
-use Rattle.esto_world_laws.specs.Matches.{Fits, AreChosen}
+use Rattle.esto_world_laws.specs.Matches.{IsLike, Fits, AreChosen}
 use Rattle.esto_world_laws.specs.Worlds.{Linked, here, along, back}
 use Rattle.esto_world_laws.specs.declared.entry.Claim.{Claim}
 use Rattle.esto_world_laws.specs.declared.entry.Claim.TheVariants.{Fact as Stated, Same}
@@ -18,7 +18,6 @@ use Rattle.esto_world_laws.specs.declared.entry.Entry.{Entry}
 use Rattle.esto_cert.specs.Certificates.{numbered, fact_of, equality_of, facts_at, equalities_at, Matches}
 use Rattle.esto_cert.specs.Lines.{with_item}
 use Rattle.esto_cert.specs.Linking.{IsAmong}
-use Rattle.esto_cert.specs.Matching.{IsLike}
 use Rattle.esto_cert.specs.declared.linking.Equality.{Equality}
 use Rattle.esto_derive.specs.Printing.{Fit}
 use Rattle.esto_derive.specs.Writing.{AtLines, AreEqualities, StandFor, own_lines, lines_at, AddsNew}

@@ -14,7 +14,7 @@ use Rattle.esto_views.specs.declared.expansion.ExpandedFact.{ExpandedFact}
 use Rattle.esto_world_laws.proofs.InductionLemmas.{taken_at}
 use Rattle.esto_world_laws.proofs.LinkLemmas.{zip_weaker, zip_left, zip_length, Linked-then, Linked-back}
 use Rattle.esto_world_laws.specs.Derived.{Claims, IsNamed, IsUnion, IsEquality, IsChain, FollowsBy, Follows, AreDerived}
-use Rattle.esto_world_laws.specs.Matches.{Fits, AreChosen, match_map}
+use Rattle.esto_world_laws.specs.Matches.{IsLike, Fits, AreChosen, match_map}
 use Rattle.esto_world_laws.specs.Worlds.{Linked, here}
 use Rattle.esto_world_laws.specs.declared.entry.Claim.{Claim}
 use Rattle.esto_world_laws.specs.declared.entry.Claim.TheVariants.{Fact as Stated, Same}
@@ -22,7 +22,6 @@ use Rattle.esto_world_laws.specs.declared.entry.Entry.{Entry}
 use Rattle.esto_world_laws.specs.declared.entry.Reason.{Reason}
 use Rattle.esto_world_laws.specs.declared.entry.Reason.TheVariants.{Expanded, Step, Equal}
 use Rattle.esto_cert.specs.Certificates.{Case, MayClaim, made_at}
-use Rattle.esto_cert.specs.Matching.{IsLike}
 use Rattle.esto_cert.specs.declared.line.Line.{Line}
 use Rattle.esto_cert.specs.declared.line.Line.TheVariants as line
 use Rattle.esto_derive.specs.Marking.{named_by}

@@ -8,7 +8,7 @@ use Rattle.esto_semantics.specs.Facts.{terms_of}
 use Rattle.esto_semantics.specs.Sets.{Has}
 use Rattle.esto_semantics.specs.declared.fact.Fact.{Fact}
 use Rattle.esto_world_laws.specs.Derived.{AreDerived, Claims, IsEquality, IsNamed}
-use Rattle.esto_world_laws.specs.Matches.{Fits, match_map}
+use Rattle.esto_world_laws.specs.Matches.{IsLike, Fits, match_map}
 use Rattle.esto_world_laws.specs.Worlds.{Linked}
 use Rattle.esto_world_laws.specs.declared.entry.Claim.{Claim}
 use Rattle.esto_world_laws.specs.declared.entry.Claim.TheVariants.{Fact as Stated, Same}
@@ -20,7 +20,6 @@ use Rattle.esto_views.specs.declared.expansion.ExpandedFact.{ExpandedFact}
 use Rattle.esto_views.specs.declared.plan.Plan.{Plan}
 use Rattle.esto_cert.specs.Certificates.{Case, MayEnd}
 use Rattle.esto_cert.specs.Judging.{case_for}
-use Rattle.esto_cert.specs.Matching.{IsLike}
 use Rattle.esto_cert.specs.Showing.{AreLinesOf}
 use Rattle.esto_cert.specs.declared.line.Line.{Line}
 use Rattle.esto_cert.specs.declared.line.Line.TheVariants.{Match}

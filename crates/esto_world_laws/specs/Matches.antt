@@ -28,6 +28,10 @@ Touching Holds term other = (term ≡ other) ⊎ (Holds (Same term other) ⊎ Ho
 abbrev pub Fits : (Term → Term → Type 0) → List Term → List Term → Type 0
 Fits One from to = AllZip One to (map (taken from to) from)
 
+-- The fact has the atom's relation and length.
+abbrev pub IsLike : Fact Term → Fact Term → Type 0
+IsLike atom fact = (fact.relation ≡ atom.relation) × (length fact.terms ≡ length atom.terms)
+
 -- For each atom of the body a fact that holds is chosen, of its relation and length.
 abbrev pub AreChosen : (Claim → Type 0) → List (Fact Term) → List (Fact Term) → Type 0
 AreChosen Holds body chosen =
