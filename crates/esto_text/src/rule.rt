@@ -9,7 +9,7 @@ ghost use Rattle.esto_text.specs.Trees.{Never};
 ghost use Rattle.esto_text.specs.View.{item_of, head_of, constraint_of};
 
 use crate::parts::{class_at, separator, sign, term};
-use crate::reader::{item, items};
+use crate::reader::{add_item, items};
 use crate::stop::Stop;
 use crate::token::{Token, TokenKind};
 use crate::tree::{ConstraintSyntax, HeadSyntax, ItemSyntax};
@@ -29,8 +29,7 @@ fn body(alloc: Global, tokens: &[Token]) -> Result<(List<ItemSyntax>, &[Token]),
     let mut rest = tokens;
     let mut more = true;
     'items: while more {
-        let (item, after) = item(alloc, rest)?;
-        items.push(item)?;
+        let after = add_item(alloc, rest, &mut items)?;
         (more, rest) = separator(after, TokenKind::Arrow)?;
     }
     Ok((items, rest))
