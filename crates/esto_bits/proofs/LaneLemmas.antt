@@ -1,11 +1,12 @@
 -- Words compared by lanes.
-use Rattle.std.proofs.Common.{◌≡◌, ◌↔◌, ℕ, zero, suc, ◌+◌, ◌-◌, ◌*◌, ◌%◌, ◌^◌, ◌<◌, ◌≤◌, Bool, true, false, cond, eqb, not, List, [], ◌∷◌, length, get_or, map, replicate, take, drop, slice_range, IsTrue, bit_and, refl, sym, subst, ap, ◌∙◌, arith, w64, inl, inr}
+use Rattle.std.proofs.Common.{◌≡◌, ◌↔◌, ℕ, zero, suc, ◌+◌, ◌-◌, ◌*◌, ◌/◌, ◌%◌, ◌^◌, ◌<◌, ◌≤◌, Bool, true, false, cond, eqb, not, List, [], ◌∷◌, length, get_or, map, replicate, take, drop, slice_range, IsTrue, bit_and, refl, sym, subst, ap, ◌∙◌, arith, w64, inl, inr}
+use Rattle.std.proofs.Math.Nat.{le-div_iff_mul-le}
 use Rattle.std.proofs.lemmas.Bool.{cases_lt, false≢true}
 use Rattle.std.proofs.lemmas.Bool.Decides.{Decides-eqb}
 use Rattle.std.proofs.lemmas.List.{get_or_past, get_or-drop, get_or-replicate, get_or-take, length-replicate, length-take}
 use Rattle.std.proofs.lemmas.Simd.{get_or-chunk, get_or-zip2, length-chunk, length-zip2, mask_l-mod, tops_compared}
 use lib.Lanes.{chunk, mask_l, top, zip2}
-use Rattle.esto_bits.specs.Words.{IsWordAround, IsWordWithin, LacksNone, LackNoBit, OneOfEight, SomeAround, SomePlaceFrom, SomeWithin}
+use Rattle.esto_bits.specs.Words.{IsWordAround, IsWordWithin, LacksNone, LackNoneFrom, LackNoBit, OneOfEight, SomeAround, SomePlaceFrom, SomeWithin}
 
 -- a mask is 0 exactly where no answer is yes
 mask_none : (answers : List Bool) → mask_l answers ≡ 0 → (lane : ℕ) → get_or answers lane false ≡ false
@@ -82,6 +83,24 @@ module _ (small large : List ℕ) (at : ℕ) (room : at + 8 ≤ length small) (l
 
 abbrev pub NoneBelow : List ℕ → List ℕ → ℕ → Type 0
 NoneBelow small large at = (place : ℕ) → place < at → LacksNone small large place
+
+module _ (small large : List ℕ) (at : ℕ) where
+  pub block_lacks : ¬ ((lane : ℕ) → lane < 8 → LacksNone small large (at + lane)) → IsTrue false ↔ LackNoBit small large
+  block_lacks some = (λ no. absurd (false≢true no), λ none. absurd (some (λ lane _. none (at + lane))))
+
+  pub block_lacks_none : ((lane : ℕ) → lane < 8 → LacksNone small large (at + lane)) → NoneBelow small large at → NoneBelow small large (at + 8)
+  block_lacks_none none before place below = elim (cases_lt place at) [
+    | inl early ↦ before place early
+    | inr late ↦
+        let here : at + (place - at) ≡ place = omega (arith, late) in
+        subst (LacksNone small large) here (none (place - at) (omega (arith, below, late)))
+  ]
+
+  pub rest_lacks_none : (answer : Bool) → NoneBelow small large at → IsTrue answer ↔ LackNoneFrom small large at → IsTrue answer ↔ LackNoBit small large
+  rest_lacks_none answer before says = (
+    λ holds place. elim (cases_lt place at) [ inl early ↦ before place early | inr late ↦ says.0 holds place late ],
+    λ none. says.1 (λ place _. none place),
+  )
 
 -- ---- one word in each lane
 
@@ -265,4 +284,41 @@ module _ (words row : List ℕ) (width : ℕ) (one : width ≡ 1) (long : length
   one_word_around says = subst (λ wide. IsTrue answer ↔ SomeAround words wide row) (sym one) (
     λ holds. let found = says.0 holds in (found.0, omega (arith, found.2), (word_around_is words row (long ∙ one) found.0).0 found.3),
     λ (group, room, lack). says.1 (group, omega arith, omega (arith, room), (word_around_is words row (long ∙ one) group).1 lack),
+  )
+
+-- ---- a walk over groups of words
+
+-- P holds of no group of so many words before this one
+abbrev pub NoGroupBelow : List ℕ → ℕ → (List ℕ → Type 0) → ℕ → Type 0
+NoGroupBelow words width P group = (earlier : ℕ) → earlier < group → ¬ (P (slice_range words (earlier * width) (earlier * width + width)))
+
+-- P holds of some group of so many words
+abbrev pub SomeGroup : List ℕ → ℕ → (List ℕ → Type 0) → Type 0
+SomeGroup words width P = (group : ℕ) × (group * width + width ≤ length words) × P (slice_range words (group * width) (group * width + width))
+
+module _ (words : List ℕ) (width : ℕ) (some : 1 ≤ width) (P : List ℕ → Type 0) where
+  -- a group stands within the words exactly where its number is below how many there are
+  pub group_fits : (group : ℕ) → group < length words / width → group * width + width ≤ length words
+  group_fits group below = let fits = (le-div_iff_mul-le {x = group + 1} {y = length words} some).0 (omega (arith, below)) in omega (arith, fits)
+
+  group_below : (group : ℕ) → group * width + width ≤ length words → group < length words / width
+  group_below group room = let below = (le-div_iff_mul-le {x = group + 1} {y = length words} some).1 (omega (arith, room)) in omega (arith, below)
+
+  pub group_found : (group : ℕ) → group < length words / width → P (slice_range words (group * width) (group * width + width))
+      → IsTrue true ↔ SomeGroup words width P
+  group_found group below holds = (λ _. (group, group_fits group below, holds), λ _. refl)
+
+  pub group_passed : (group : ℕ) → ¬ (P (slice_range words (group * width) (group * width + width))) → NoGroupBelow words width P group
+      → NoGroupBelow words width P (group + 1)
+  group_passed group none before earlier below = elim (cases_lt earlier group) [
+    | inl early ↦ before earlier early
+    | inr late ↦ λ holds.
+        let here : earlier ≡ group = omega (arith, below, late) in
+        none (subst (λ it. P (slice_range words (it * width) (it * width + width))) here holds)
+  ]
+
+  pub no_group : (groups : ℕ) → length words / width ≤ groups → NoGroupBelow words width P groups → IsTrue false ↔ SomeGroup words width P
+  no_group groups all none = (
+    λ no. absurd (false≢true no),
+    λ (group, room, holds). absurd (none group (let below = group_below group room in omega (arith, below, all)) holds),
   )
