@@ -6,7 +6,7 @@ ghost use Rattle.esto_docmodel.specs.Valuations.{HaveFlatTerms};
 use crate::printing::{put, put_counted, put_number, put_numbers, put_row};
 use crate::reading::{Refused, each, text};
 use esto_columns::{Codes, Column, Picks, select};
-use esto_docmodel::{Entry, Pattern, Step, match_pattern};
+use esto_docmodel::{Entry, Pattern, Step, Tree, match_pattern};
 use esto_docs::{Layout, read_trees};
 use esto_keymodel::key_row_fault;
 use esto_query::Valuation;
@@ -103,24 +103,43 @@ fn anything_inside(alloc: Global) -> Result<Pattern, Refused>
     Ok(Pattern { entries })
 }
 
-// The terms that stand for the pattern's variable, a line each.
+// The terms that stand for the pattern's variable, a line each, or that a match has none.
 fn put_found<R: Print>(rt: &R, found: &[Valuation]) {
     'matches: for valuation in found {
-        if let Some(term) = valuation.value(0) {
-            put_row(rt, from_ref(term));
+        match valuation.value(0) {
+            Some(term) => put_row(rt, from_ref(term)),
+            None => put(rt, "no value\n"),
         }
     }
 }
 
-/// The texts that stand strictly inside a document, by a pattern.
-pub fn put_inside<R: Print>(rt: &R, alloc: Global, line: &str) -> Result<(), Refused> {
-    let Ok(trees) = read_trees(alloc, line.as_bytes(), &Layout::Lines) else {
-        return Err(Refused);
-    };
+// The terms that stand for the pattern's variable in a document, a line each.
+fn put_matches<R: Print>(
+    rt: &R,
+    alloc: Global,
+    pattern: &Pattern,
+    tree: &Tree,
+) -> Result<(), Refused>
+    requires { HaveFlatTerms (entries_of pattern.now.entries) }
+{
+    let found = match_pattern(alloc, pattern, tree)?;
+    put_found(rt, found.items());
+    Ok(())
+}
+
+// The texts that stand strictly inside each of the documents.
+fn put_all_inside<R: Print>(rt: &R, alloc: Global, trees: &[Tree]) -> Result<(), Refused> {
     let pattern = anything_inside(alloc)?;
-    'trees: for tree in trees.items() {
-        let found = match_pattern(alloc, &pattern, tree)?;
-        put_found(rt, found.items());
+    'trees: for tree in trees {
+        put_matches(rt, alloc, &pattern, tree)?;
     }
     Ok(())
+}
+
+/// The texts that stand strictly inside a document, by a pattern.
+pub fn put_inside<R: Print>(rt: &R, alloc: Global, line: &str) -> Result<(), Refused> {
+    match read_trees(alloc, line.as_bytes(), &Layout::Lines) {
+        Ok(trees) => put_all_inside(rt, alloc, trees.items()),
+        Err(_) => Err(Refused),
+    }
 }

@@ -24,6 +24,9 @@ impl From<OutOfMemory> for Refused {
     }
 }
 
+/// Lets a value go.
+pub fn let_go<T: Drop>(_value: T) {}
+
 /// A number in decimal; 0 where the word is none.
 pub fn number(word: &str) -> u64 {
     word.parse::<u64>().unwrap_or(0)
@@ -42,20 +45,30 @@ pub fn parts(line: &str, sign: char) -> (&str, &str) {
     line.split_once(sign).unwrap_or((line, ""))
 }
 
+/// What stands after the sign, where the line begins with it.
+pub fn after(line: &str, sign: char) -> Option<&str> {
+    line.strip_prefix(sign)
+}
+
 /// The text of a word.
 pub fn text(alloc: Global, word: &str) -> Result<Text, Refused> {
     let text = Text::from_str(alloc, word)?;
     Ok(text)
 }
 
+// The plain term that a word writes.
+fn plain(word: &str) -> Result<Term, Refused> {
+    match word.parse::<u64>() {
+        Ok(number) => Ok(Term::Plain(number)),
+        Err(_) => Err(Refused),
+    }
+}
+
 /// The term that a word writes: a constant after a quote, else a plain term by its number.
 pub fn term(alloc: Global, word: &str) -> Result<Term, Refused> {
-    match word.strip_prefix('\'') {
+    match after(word, '\'') {
         Some(constant) => Ok(Term::Const(text(alloc, constant)?)),
-        None => match word.parse::<u64>() {
-            Ok(number) => Ok(Term::Plain(number)),
-            Err(_) => Err(Refused),
-        },
+        None => plain(word),
     }
 }
 
@@ -82,24 +95,33 @@ fn fact(alloc: Global, line: &str) -> Result<Atom, Refused> {
     Ok(Atom { relation, terms })
 }
 
-// Puts a fact at the end, unless it has no sign.
+// Puts a fact at the end.
 fn add_fact(alloc: Global, facts: &mut Facts, line: &str) -> Result<(), Refused> {
-    if !line.is_empty() {
-        facts.push(fact(alloc, line)?)?;
-    }
+    facts.push(fact(alloc, line)?)?;
     Ok(())
 }
 
-// Puts a fact at the end, or after `*` and a number one so many times.
-fn add_facts(alloc: Global, facts: &mut Facts, line: &str) -> Result<(), Refused> {
-    let Some(rest) = line.strip_prefix('*') else {
-        return add_fact(alloc, facts, line);
-    };
-    let (count, part) = parts(rest, ' ');
+// Puts the fact that stands after a number at the end, so many times.
+fn repeat_fact(alloc: Global, facts: &mut Facts, line: &str) -> Result<(), Refused> {
+    let (count, part) = parts(line, ' ');
+    if part.is_empty() {
+        return Err(Refused);
+    }
     'turns: for _turn in 0..number(count) {
         add_fact(alloc, facts, part)?;
     }
     Ok(())
+}
+
+// Puts a fact at the end, or after `*` and a number one so many times. A part with no sign has none.
+fn add_facts(alloc: Global, facts: &mut Facts, line: &str) -> Result<(), Refused> {
+    if line.is_empty() {
+        return Ok(());
+    }
+    match after(line, '*') {
+        Some(rest) => repeat_fact(alloc, facts, rest),
+        None => add_fact(alloc, facts, line),
+    }
 }
 
 /// Facts, between semicolons; after `*` and a number one that comes so many times.
