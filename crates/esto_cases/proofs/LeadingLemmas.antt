@@ -24,3 +24,7 @@ leads-within relations rules each from to (body, head, inside, leaves, arrives) 
 module _ (rules : List Rule) (count : ℕ) (ranks : List ℕ) (are_ranks : AreRanks (IsEdge rules) count ranks) where
   pub ranks-within : IsWithin count (IsEdge rules) → IsWithin (length ranks) (IsEdge rules)
   ranks-within within = subst (λ it. IsWithin it (IsEdge rules)) (sym are_ranks.for_each) within
+
+  -- the list has the rank of each relation below its own length
+  pub ranks-themselves : AreRanks (IsEdge rules) (length ranks) ranks
+  ranks-themselves = subst (λ it. AreRanks (IsEdge rules) it ranks) (sym are_ranks.for_each) are_ranks

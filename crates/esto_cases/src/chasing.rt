@@ -9,7 +9,7 @@ use crate::printing::{put, put_counted, put_number, put_row};
 use crate::reading::Refused;
 use either::{Left, Right};
 use esto_acyclic::{Ranks, judge};
-use esto_chase::{Chased, Clash, chase};
+use esto_chase::{Clash, chase};
 use esto_chase_laws::queries_have_starts;
 use esto_constraint::{Constraint, Rules};
 use esto_instance::Instance;
@@ -54,13 +54,17 @@ fn lead_below(rules: &[Constraint], relations: usize) -> bool
     true
 }
 
-// The facts, the head, and how many steps there were.
-fn put_chased<R: Print>(rt: &R, chased: &Chased) {
-    let instance = &chased.instance;
-    'facts: for fact in instance.facts().items() {
+// The facts, one a line.
+fn put_facts<R: Print>(rt: &R, facts: &[Atom]) {
+    'facts: for fact in facts {
         put_number(rt, fact.relation as u64);
         put_row(rt, fact.terms.items());
     }
+}
+
+// The facts, the head, and how many steps there were.
+fn put_chased<R: Print>(rt: &R, instance: &Instance) {
+    put_facts(rt, instance.facts().items());
     put(rt, "head ");
     put_row(rt, instance.head().items());
     put_counted(rt, "steps ", instance.trace().len() as u64);
@@ -94,7 +98,7 @@ fn put_end<R: Print>(
     queries_have_starts();
     let start = Instance::of_query(alloc, query)?;
     match chase(alloc, start, rules, ranks)? {
-        Left(chased) => put_chased(rt, &chased),
+        Left(chased) => put_chased(rt, &chased.instance),
         Right(clash) => put_clash(rt, &clash),
     }
     Ok(())

@@ -1,6 +1,6 @@
 //! What the lines of a script put into a file.
 
-use crate::reading::{Refused, number, parts};
+use crate::reading::{Refused, after, number, parts};
 use esto_term::Bytes;
 
 // Puts texts at the end, one after the other.
@@ -11,11 +11,22 @@ fn put_all(content: &mut Bytes, texts: &[&str]) -> Result<(), Refused> {
     Ok(())
 }
 
+// Puts a line at the end.
+fn put_whole(content: &mut Bytes, line: &str) -> Result<(), Refused> {
+    put_all(content, &[line, "\n"])
+}
+
+// Puts a part of a line at the end.
+fn put_part(content: &mut Bytes, part: &str) -> Result<(), Refused> {
+    content.append_str(part)?;
+    Ok(())
+}
+
 // Puts so many copies of a part at the end.
 fn repeat(content: &mut Bytes, line: &str) -> Result<(), Refused> {
     let (count, part) = parts(line, ' ');
     'turns: for _turn in 0..number(count) {
-        content.append_str(part)?;
+        put_part(content, part)?;
     }
     Ok(())
 }
@@ -38,16 +49,16 @@ fn put_numbers(content: &mut Bytes, line: &str) -> Result<(), Refused> {
 /// Puts a line that begins with a sign at the end of a file: after `|` a line, after `+` a part of a line, after `*` so
 /// many copies of a part, and after `!` bytes by their numbers. Answers None where the line has none of these signs.
 pub fn put_line(content: &mut Bytes, line: &str) -> Option<Result<(), Refused>> {
-    if let Some(rest) = line.strip_prefix('|') {
-        return Some(put_all(content, &[rest, "\n"]));
+    if let Some(rest) = after(line, '|') {
+        return Some(put_whole(content, rest));
     }
-    if let Some(rest) = line.strip_prefix('+') {
-        return Some(put_all(content, &[rest]));
+    if let Some(rest) = after(line, '+') {
+        return Some(put_part(content, rest));
     }
-    if let Some(rest) = line.strip_prefix('*') {
+    if let Some(rest) = after(line, '*') {
         return Some(repeat(content, rest));
     }
-    let rest = line.strip_prefix('!')?;
+    let rest = after(line, '!')?;
     Some(put_numbers(content, rest))
 }
 

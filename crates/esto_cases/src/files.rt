@@ -1,7 +1,7 @@
 //! Files in memory, and the program run over them or over the machine's.
 
 use crate::printing::{put, put_bytes, put_counted, put_digits};
-use crate::reading::{Refused, each, number, parts, text};
+use crate::reading::{Refused, each, let_go, number, parts, text};
 use esto_ports::{FolderShelf, MemoryShelf, MemorySink, OutSink, Shelf, Sink};
 use esto_term::{Bytes, List, OutOfMemory, Replicate, Text};
 use esto_top::mediate;
@@ -61,7 +61,10 @@ pub fn words_of(alloc: Global, line: &str) -> Result<List<Text>, Refused> {
 
 // The code of the status that a command line over a shelf and a sink ends with.
 fn code_of<S: Shelf, O: Sink>(alloc: Global, words: &[Text], shelf: &mut S, out: &mut O) -> u8 {
-    mediate(alloc, words, shelf, out).code()
+    let status = mediate(alloc, words, shelf, out);
+    let code = status.code();
+    let_go(status);
+    code
 }
 
 // Keeps a copy of a file.

@@ -19,46 +19,68 @@ mod sweep;
 mod terms;
 mod worlds;
 
-use crate::reading::{Refused, text};
+use crate::reading::{Refused, let_go, text};
 use crate::script::Script;
 use esto_ports::{FolderShelf, Shelf};
-use esto_term::Text;
+use esto_term::{Bytes, Text};
 use std::alloc::Global;
 use std::env;
 use std::process::ExitCode;
 use std::rt::Files;
 
-// The text of the file of that name.
-fn script_of<R: Files>(rt: &R, alloc: Global, name: &str) -> Result<Text, Refused> {
-    let name = text(alloc, name)?;
-    let mut shelf = FolderShelf::new(rt);
-    match shelf.fetch(alloc, &name, 1_000_000) {
-        Ok(bytes) => match Text::from_bytes(alloc, bytes.bytes()) {
-            Ok(script) => Ok(script),
-            Err(_) => Err(Refused),
-        },
+// The bytes of the file of that name.
+fn bytes_of<R: Files>(rt: &R, alloc: Global, name: &Text) -> Result<Bytes, Refused> {
+    match FolderShelf::new(rt).fetch(alloc, name, 1_000_000) {
+        Ok(bytes) => Ok(bytes),
         Err(_) => Err(Refused),
     }
 }
 
-// Does what the lines of the file of that name say, one after the other.
-fn obey_lines<R: Files + Print>(
+// The text that the bytes are.
+fn text_of(alloc: Global, bytes: &[u8]) -> Result<Text, Refused> {
+    match Text::from_bytes(alloc, bytes) {
+        Ok(text) => Ok(text),
+        Err(_) => Err(Refused),
+    }
+}
+
+// The text of the file of that name.
+fn script_of<R: Files>(rt: &R, alloc: Global, name: &str) -> Result<Text, Refused> {
+    let name = text(alloc, name)?;
+    let bytes = bytes_of(rt, alloc, &name)?;
+    text_of(alloc, bytes.bytes())
+}
+
+// Does what the lines of a text say, one after the other.
+fn obey_lines<R: Files + Print>(rt: &R, alloc: Global, script: &mut Script, text: &str) {
+    'lines: for line in text.split('\n') {
+        script.obey(rt, alloc, line);
+    }
+}
+
+// Does what the file of that name says.
+fn obey_file<R: Files + Print>(
     rt: &R,
     alloc: Global,
     script: &mut Script,
     name: &str,
 ) -> Result<(), Refused> {
-    let lines = script_of(rt, alloc, name)?;
-    'lines: for line in lines.as_str().split('\n') {
-        script.obey(rt, alloc, line);
-    }
+    let text = script_of(rt, alloc, name)?;
+    obey_lines(rt, alloc, script, text.as_str());
     Ok(())
 }
 
 // Does what the lines of a script say.
 fn obey_all<R: Files + Print>(rt: &R, alloc: Global, name: &str) -> Result<(), Refused> {
     let mut script = Script::new(alloc)?;
-    obey_lines(rt, alloc, &mut script, name)
+    let outcome = obey_file(rt, alloc, &mut script, name);
+    let_go(script);
+    outcome
+}
+
+// Whether what the lines of the script of that name say could be done.
+fn is_obeyed<R: Files + Print>(rt: &R, alloc: Global, name: String) -> bool {
+    obey_all(rt, alloc, name.as_str()).is_ok()
 }
 
 fn main(rt: HostRuntime) -> ExitCode {
@@ -67,7 +89,7 @@ fn main(rt: HostRuntime) -> ExitCode {
         return ExitCode::from(1);
     };
     'names: for name in names.skip(1) {
-        if obey_all(&rt, alloc, name.as_str()).is_err() {
+        if !is_obeyed(&rt, alloc, name) {
             return ExitCode::from(1);
         }
     }

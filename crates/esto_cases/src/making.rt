@@ -115,8 +115,8 @@ pub fn query_made(
     Ok(make_query(alloc, schema, head, body, names))
 }
 
-/// What comes of making a tuple rule: the atoms of its body, and after `|` those of its head.
-pub fn tuple_rule_made(alloc: Global, schema: &Schema, line: &str) -> Result<RuleMade, Refused> {
+// What comes of making a tuple rule: the atoms of its body, and after `|` those of its head.
+fn tuple_rule_made(alloc: Global, schema: &Schema, line: &str) -> Result<RuleMade, Refused> {
     let (atoms, others) = parts(line, '|');
     let relations = schema.len();
     let left = body(alloc, atoms, relations)?;
@@ -125,8 +125,8 @@ pub fn tuple_rule_made(alloc: Global, schema: &Schema, line: &str) -> Result<Rul
     Ok(make_tuple_rule(alloc, schema, left, right, names))
 }
 
-/// What comes of making an equality rule: the atoms of its body, and after `|` its two sides, with `=` between them.
-pub fn equal_rule_made(alloc: Global, schema: &Schema, line: &str) -> Result<RuleMade, Refused> {
+// What comes of making an equality rule: the atoms of its body, and after `|` its two sides, with `=` between them.
+fn equal_rule_made(alloc: Global, schema: &Schema, line: &str) -> Result<RuleMade, Refused> {
     let (atoms, sides) = parts(line, '|');
     let (first, second) = parts(sides, '=');
     let body = body(alloc, atoms, schema.len())?;
@@ -136,11 +136,26 @@ pub fn equal_rule_made(alloc: Global, schema: &Schema, line: &str) -> Result<Rul
     Ok(make_equal_rule(alloc, schema, body, left, right, names))
 }
 
-/// What comes of making a denial: the atoms of its body.
-pub fn denial_made(alloc: Global, schema: &Schema, line: &str) -> Result<RuleMade, Refused> {
+// What comes of making a denial: the atoms of its body.
+fn denial_made(alloc: Global, schema: &Schema, line: &str) -> Result<RuleMade, Refused> {
     let body = body(alloc, line, schema.len())?;
     let names = names(alloc)?;
     Ok(make_denial(alloc, schema, body, names))
+}
+
+/// What comes of making the rule that the word names, of what the line writes.
+pub fn rule_made(
+    alloc: Global,
+    schema: &Schema,
+    word: &str,
+    line: &str,
+) -> Result<RuleMade, Refused> {
+    match word {
+        "make_tuple_rule" => tuple_rule_made(alloc, schema, line),
+        "make_equal_rule" => equal_rule_made(alloc, schema, line),
+        "make_denial" => denial_made(alloc, schema, line),
+        _ => Err(Refused),
+    }
 }
 
 /// Why something is refused.

@@ -54,6 +54,24 @@ fn next(
     Ok(found)
 }
 
+// The places of a match, where there is one, which then makes room for the match after it.
+fn put_match<R: Print>(
+    rt: &R,
+    alloc: Global,
+    query: &Query,
+    facts: &Facts,
+    start: &Valuation,
+    found: &mut Option<Found>,
+) -> Result<(), Refused> {
+    let Some(here) = &*found else {
+        return Ok(());
+    };
+    put_numbers(rt, here.places.items());
+    let after = next(alloc, query, facts, start, Some(here))?;
+    *found = after;
+    Ok(())
+}
+
 /// The places of the matches of a query's body, at most nine.
 pub fn put_matches<R: Print>(
     rt: &R,
@@ -64,11 +82,7 @@ pub fn put_matches<R: Print>(
 ) -> Result<(), Refused> {
     let mut found = next(alloc, query, facts, start, None)?;
     'turns: for _turn in 0..9 {
-        let Some(here) = found else {
-            break;
-        };
-        put_numbers(rt, here.places.items());
-        found = next(alloc, query, facts, start, Some(&here))?;
+        put_match(rt, alloc, query, facts, start, &mut found)?;
     }
     Ok(())
 }

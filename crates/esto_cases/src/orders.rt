@@ -7,7 +7,7 @@ use esto_access::{access_products, is_order, order_of, reached};
 use esto_bits::{Products, RowBits};
 use esto_catalog::Catalogue;
 use esto_query::Query;
-use esto_term::{List, OutOfMemory, Replicate};
+use esto_term::{List, OutOfMemory, Places, Replicate};
 use esto_universal::universal;
 use esto_views::{AccessList, FragmentDef, FragmentDefs, Plan};
 use std::alloc::Global;
@@ -100,9 +100,43 @@ fn put_reached<R: Print>(
     Ok(())
 }
 
-/// Answers what is asked about a set of the plan's atoms: its stated order, what is reached in it, and whether the numbers, as
-/// they are written, are an order of it.
-pub fn ask_set<R: Print>(
+// Whether the numbers, as they are written, are an order of the set.
+fn put_is_order<R: Print>(
+    rt: &R,
+    numbers: &Places,
+    set: &RowBits,
+    plan: &Plan,
+    fragments: &FragmentDefs,
+) -> Result<(), Refused> {
+    if is_order(numbers, set, plan, fragments) {
+        put(rt, "an order\n");
+    } else {
+        put(rt, "no order\n");
+    }
+    Ok(())
+}
+
+// Answers what the word asks about a set of the plan's atoms, whose numbers were written so.
+fn put_about<R: Print>(
+    rt: &R,
+    alloc: Global,
+    plan: &Plan,
+    fragments: &FragmentDefs,
+    word: &str,
+    numbers: &Places,
+) -> Result<(), Refused> {
+    let set = set_of(alloc, numbers.items(), plan.atoms.len())?;
+    match word {
+        "order" => put_order(rt, alloc, &set, plan, fragments),
+        "reached" => put_reached(rt, alloc, &set, plan, fragments),
+        "is_order" => put_is_order(rt, numbers, &set, plan, fragments),
+        _ => Err(Refused),
+    }
+}
+
+// Answers what is asked about a set of the plan's atoms: its stated order, what is reached in it, and whether the numbers, as
+// they are written, are an order of it.
+fn ask_set<R: Print>(
     rt: &R,
     alloc: Global,
     plan: &Plan,
@@ -111,15 +145,7 @@ pub fn ask_set<R: Print>(
     rest: &str,
 ) -> Result<(), Refused> {
     let numbers = numbers(alloc, rest)?;
-    let set = set_of(alloc, numbers.items(), plan.atoms.len())?;
-    match word {
-        "order" => return put_order(rt, alloc, &set, plan, fragments),
-        "reached" => return put_reached(rt, alloc, &set, plan, fragments),
-        "is_order" if is_order(&numbers, &set, plan, fragments) => put(rt, "an order\n"),
-        "is_order" => put(rt, "no order\n"),
-        _ => return Err(Refused),
-    }
-    Ok(())
+    put_about(rt, alloc, plan, fragments, word, &numbers)
 }
 
 // The products of an atom, sorted, or that it has none.
@@ -130,8 +156,8 @@ fn put_own<R: Print>(rt: &R, alloc: Global, own: &Products) -> Result<(), Refuse
     put_sorted(rt, alloc, own)
 }
 
-/// The access products of the atom of a number.
-pub fn put_access<R: Print>(
+// The access products of the atom of a number.
+fn put_access<R: Print>(
     rt: &R,
     alloc: Global,
     plan: &Plan,
@@ -143,5 +169,20 @@ pub fn put_access<R: Print>(
     match products.items().get(number) {
         Some(own) => put_own(rt, alloc, own),
         None => Err(Refused),
+    }
+}
+
+/// Answers what is asked about an atom of the plan, or a set of them, under the patterns of these fragments.
+pub fn ask_under<R: Print>(
+    rt: &R,
+    alloc: Global,
+    plan: &Plan,
+    fragments: &FragmentDefs,
+    word: &str,
+    rest: &str,
+) -> Result<(), Refused> {
+    match word {
+        "access" => put_access(rt, alloc, plan, fragments, rest),
+        _ => ask_set(rt, alloc, plan, fragments, word, rest),
     }
 }

@@ -33,9 +33,10 @@ fn ask_model<R: Print>(rt: &R, alloc: Global, word: &str, rest: &str) -> Result<
 impl Script {
     /// Nothing is set.
     pub fn new(alloc: Global) -> Result<Script, Refused> {
+        let stage = Stage::new(alloc)?;
         Ok(Script {
             files: FileSet::new(alloc),
-            stage: Stage::new(alloc)?,
+            stage,
         })
     }
 

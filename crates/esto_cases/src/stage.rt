@@ -1,18 +1,16 @@
 //! What matches, rules, plans and orders are asked about, and what is answered.
 
 use crate::chasing::put_chase;
-use crate::making::{
-    RuleMade, denial_made, equal_rule_made, put_fault, query_made, tuple_rule_made,
-};
+use crate::making::{RuleMade, put_fault, query_made, rule_made};
 use crate::matching::{put_active, put_answers, put_broken, put_matches, query, rule, start_of};
-use crate::orders::{ask_set, fragments_with, plan_of, put_access, put_plan};
+use crate::orders::{ask_under, fragments_with, plan_of, put_plan};
 use crate::printing::put;
-use crate::reading::{Refused, facts, patterns, place};
+use crate::reading::{Refused, facts, let_go, patterns, place};
 use crate::worlds::{put_derivation, put_entries, put_listed, put_products_of};
 use esto_catalog::{Catalogue, read_catalogue};
 use esto_constraint::Rules;
 use esto_prov::Entries;
-use esto_query::{Facts, Valuation};
+use esto_query::{Facts, Query, Valuation};
 use esto_term::List;
 use esto_views::{AccessList, Plan};
 use std::alloc::Global;
@@ -31,10 +29,7 @@ pub struct Stage {
 }
 
 fn catalogue_of(alloc: Global, bytes: &[u8]) -> Result<Catalogue, Refused> {
-    match read_catalogue(alloc, bytes) {
-        Ok(catalogue) => Ok(catalogue),
-        Err(_) => Err(Refused),
-    }
+    read_catalogue(alloc, bytes).ok().ok_or(Refused)
 }
 
 impl Stage {
@@ -88,7 +83,22 @@ impl Stage {
         self.rules = List::new(alloc);
     }
 
-    // Answers what is asked about a query.
+    // Answers what the word asks about a query.
+    fn put_asked<R: Print>(
+        &self,
+        rt: &R,
+        alloc: Global,
+        word: &str,
+        query: &Query,
+    ) -> Result<(), Refused> {
+        match word {
+            "matches" => put_matches(rt, alloc, query, &self.facts, &self.start),
+            "answers" => put_answers(rt, alloc, query, &self.facts),
+            _ => put_chase(rt, alloc, &self.catalogue.schema, &self.rules, query),
+        }
+    }
+
+    // Answers what is asked about the query that a text is.
     fn ask_query<R: Print>(
         &self,
         rt: &R,
@@ -97,17 +107,15 @@ impl Stage {
         text: &str,
     ) -> Result<(), Refused> {
         let query = query(alloc, &self.catalogue, text)?;
-        match word {
-            "matches" => put_matches(rt, alloc, &query, &self.facts, &self.start),
-            "answers" => put_answers(rt, alloc, &query, &self.facts),
-            _ => put_chase(rt, alloc, &self.catalogue.schema, &self.rules, &query),
-        }
+        self.put_asked(rt, alloc, word, &query)
     }
 
     // The least active match of a rule.
     fn active<R: Print>(&self, rt: &R, alloc: Global, text: &str) -> Result<(), Refused> {
         let rule = rule(alloc, &self.catalogue, text)?;
-        put_active(rt, alloc, &rule, &self.facts)
+        let outcome = put_active(rt, alloc, &rule, &self.facts);
+        let_go(rule);
+        outcome
     }
 
     // The least active match of the rule of this number.
@@ -147,23 +155,31 @@ impl Stage {
         word: &str,
         rest: &str,
     ) -> Result<(), Refused> {
-        let made = match word {
-            "make_query" => return self.make_query(rt, alloc, rest),
-            "make_tuple_rule" => tuple_rule_made(alloc, &self.catalogue.schema, rest),
-            "make_equal_rule" => equal_rule_made(alloc, &self.catalogue.schema, rest),
-            "make_denial" => denial_made(alloc, &self.catalogue.schema, rest),
-            _ => return Err(Refused),
-        };
-        self.keep_made(rt, made?)
+        if word == "make_query" {
+            return self.make_query(rt, alloc, rest);
+        }
+        let made = rule_made(alloc, &self.catalogue.schema, word, rest)?;
+        self.keep_made(rt, made)
+    }
+
+    // The plan of the query that a text is.
+    fn plan_for(&self, alloc: Global, text: &str) -> Result<Plan, Refused> {
+        let query = query(alloc, &self.catalogue, text)?;
+        plan_of(alloc, &self.catalogue, &query)
     }
 
     /// Makes the plan of a query, and prints it.
     pub fn set_plan<R: Print>(&mut self, rt: &R, alloc: Global, text: &str) -> Result<(), Refused> {
-        let query = query(alloc, &self.catalogue, text)?;
-        let plan = plan_of(alloc, &self.catalogue, &query)?;
+        let plan = self.plan_for(alloc, text)?;
         put_plan(rt, &plan, &self.catalogue.fragments);
         self.plan = Some(plan);
         Ok(())
+    }
+
+    // Prints the list of the query that a text is. The answer has the entries that it comes from.
+    fn listed<R: Print>(&self, rt: &R, alloc: Global, text: &str) -> Result<Entries, Refused> {
+        let query = query(alloc, &self.catalogue, text)?;
+        put_listed(rt, alloc, &self.catalogue, &query)
     }
 
     /// Makes the list of a query, and prints it.
@@ -173,8 +189,7 @@ impl Stage {
         alloc: Global,
         text: &str,
     ) -> Result<(), Refused> {
-        let query = query(alloc, &self.catalogue, text)?;
-        self.entries = put_listed(rt, alloc, &self.catalogue, &query)?;
+        self.entries = self.listed(rt, alloc, text)?;
         Ok(())
     }
 
@@ -206,10 +221,7 @@ impl Stage {
             return Err(Refused);
         };
         let fragments = fragments_with(alloc, &self.catalogue, self.patterns.items())?;
-        match word {
-            "access" => put_access(rt, alloc, plan, &fragments, rest),
-            _ => ask_set(rt, alloc, plan, &fragments, word, rest),
-        }
+        ask_under(rt, alloc, plan, &fragments, word, rest)
     }
 
     /// Answers what is asked about the facts, the rules and the plan.

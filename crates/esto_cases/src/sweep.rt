@@ -93,9 +93,7 @@ impl Sweep<'_> {
     fn fail_puts<R: Print>(&self, rt: &R, alloc: Global, text: &[u8]) -> Result<(), Refused> {
         let mut right = 0u64;
         'counts: for kept in 0..=text.len() {
-            if self.leaves(alloc, &text[..kept])? {
-                right = right.saturating_add(1);
-            }
+            right = right.saturating_add(u64::from(self.leaves(alloc, &text[..kept])?));
         }
         put(rt, "put fails after 0 to ");
         put_digits(rt, text.len() as u64);

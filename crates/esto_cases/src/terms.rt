@@ -2,25 +2,31 @@
 
 use crate::printing::{put, put_digits};
 use crate::reading::{Refused, text};
-use esto_term::{List, Replicate, Term, Text, TextError};
+use esto_term::{List, Replicate, Term, Terms, Text, TextError};
 use std::alloc::Global;
 use std::cmp::Ordering;
 
+// One term that is plain.
+fn one_plain(alloc: Global) -> Result<Terms, Refused> {
+    let mut terms = List::new(alloc);
+    terms.push(Term::Plain(0))?;
+    Ok(terms)
+}
+
+// Puts terms that rise in their order at the end.
+fn add_rising(alloc: Global, terms: &mut Terms) -> Result<(), Refused> {
+    terms.push(Term::Const(text(alloc, "b")?))?;
+    terms.push(Term::Plain(0))?;
+    terms.push(Term::Made(1, 0, List::new(alloc)))?;
+    terms.push(Term::Made(0, 0, one_plain(alloc)?))?;
+    Ok(())
+}
+
 // Terms that rise in their order.
-fn rising(alloc: Global) -> Result<List<Term>, Refused> {
-    let mut frontier = List::new(alloc);
-    frontier.push(Term::Plain(0))?;
-    let constant = Term::Const(text(alloc, "b")?);
-    let unlike = Term::Made(1, 0, List::new(alloc));
-    match vec![in alloc;
-        constant,
-        Term::Plain(0),
-        unlike,
-        Term::Made(0, 0, frontier),
-    ] {
-        Ok(terms) => Ok(List::from_vec(terms)),
-        Err(_) => Err(Refused),
-    }
+fn rising(alloc: Global) -> Result<Terms, Refused> {
+    let mut terms = List::new(alloc);
+    add_rising(alloc, &mut terms)?;
+    Ok(terms)
 }
 
 fn word(order: Ordering) -> &'static str {

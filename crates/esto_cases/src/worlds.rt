@@ -36,6 +36,17 @@ fn are_same(sets: &[RowBits], others: &[RowBits]) -> bool {
     true
 }
 
+// The sets, and whether the others are the same.
+fn put_alike<R: Print>(rt: &R, sets: &[RowBits], others: &[RowBits]) {
+    put_sets(rt, sets);
+    put(rt, "the plain search finds ");
+    if are_same(sets, others) {
+        put(rt, "the same\n");
+    } else {
+        put(rt, "others\n");
+    }
+}
+
 // The sets, sorted, and whether the others are the same.
 fn put_compared<R: Print>(
     rt: &R,
@@ -45,13 +56,7 @@ fn put_compared<R: Print>(
 ) -> Result<(), OutOfMemory> {
     let sets = sets.sorted(alloc)?;
     let others = others.sorted(alloc)?;
-    put_sets(rt, sets.items());
-    put(rt, "the plain search finds ");
-    if are_same(sets.items(), others.items()) {
-        put(rt, "the same\n");
-    } else {
-        put(rt, "others\n");
-    }
+    put_alike(rt, sets.items(), others.items());
     Ok(())
 }
 
