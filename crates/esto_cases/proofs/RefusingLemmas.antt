@@ -30,12 +30,14 @@ none_allowed shape way =
       way = ([], way, λ column. (λ among. among, λ among. among));
     }
 
-pub runnable : (count : ℕ) (fragments : List Flagged) (gets : List Get) → AreOpen count fragments → AskAll count gets → AreRunnable (map shape_of fragments) gets
+pub runnable : (count : ℕ) (fragments : List Flagged) (gets : List Get) → AreOpen count fragments → AskAll count gets → AreRunnable (map shape_of fragments)
+    gets
 runnable count fragments gets may all get there =
     let asked = all get there in
     let found = thing_at fragments get.fragment (omega (arith, asked.0, may.number)) in
     let shape = shape_of found.0 in (
       shape,
       slice_get-map shape_of fragments get.fragment ∙ ap (option_map shape_of) found.1,
-      subst (λ inputs. IsAllowed shape (map (λ link. link.column) inputs)) (sym asked.1) (none_allowed shape (may.asked found.0 (Contains-at fragments get.fragment found.0 found.1))),
+      subst (λ inputs. IsAllowed shape (map (λ link. link.column) inputs)) (sym asked.1)
+          (none_allowed shape (may.asked found.0 (Contains-at fragments get.fragment found.0 found.1))),
     )

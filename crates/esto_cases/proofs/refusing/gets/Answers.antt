@@ -5,7 +5,8 @@ use Rattle.esto_cases.proofs.RefusingLemmas.{one_more}
 
 pub fragments-preserved : goal.fragments-preserved
 fragments-preserved c =
-    subst (λ gets. AskAll (c.fragments.fragment + 1) gets) (sym c.in_ok-push.ensures.ok) (one_more c.fragments.fragment _ _ c.fragments.invariant refl c.new.ensures)
+    subst (λ gets. AskAll (c.fragments.fragment + 1) gets) (sym c.in_ok-push.ensures.ok)
+    (one_more c.fragments.fragment _ _ c.fragments.invariant refl c.new.ensures)
 
 pub returns : goal.returns
 returns c = λ get there.
