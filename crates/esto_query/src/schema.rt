@@ -1,5 +1,5 @@
 //! Schemas.
-ghost use Rattle.std.specs.Prelude.{◌≡◌, [], ◌∷◌, ◌++◌, ◌<◌, Contains, length, slice_get, Some, Err, MatchOption, OnOk, OnErr, IsTrue, ◌↔◌};
+ghost use Rattle.std.specs.Prelude.{◌≡◌, ◌≢◌, [], ◌∷◌, ◌++◌, ◌<◌, Contains, length, slice_get, Some, Err, MatchOption, OnOk, OnErr, IsTrue, ◌↔◌};
 ghost use Rattle.esto_query.specs.Schemas.{names_of, arities_of, IsArity, IsSchema, AddsRelation};
 
 use esto_term::{List, OutOfMemory, Text};
@@ -84,11 +84,13 @@ impl Schema {
         }
     }
 
-    /// Why no relation of that name and number of columns is added, where memory is not wanting.
+    /// Why no relation of that name and number of columns can be added, whatever memory there is.
+    /// None comes exactly where one can.
     fn refusal(&self, name: &[u8], arity: usize) -> Option<SchemaError>
         ensures { MatchOption result (¬ (Contains (names_of self.now) name.now)
             × IsArity arity × (length self.now < MAX_RELATIONS))
-            (λ error. AddsRelation self.now name.now arity (Err error)) }
+            (λ error. (error ≢ SchemaError.OutOfMemory)
+            × AddsRelation self.now name.now arity (Err error)) }
     {
         if self.find(name).is_some() {
             return Some(SchemaError::SameName);

@@ -7,4 +7,4 @@ use Rattle.esto_term.proofs.ListLemmas.{Contains-at}
 pub returns-then-is_some : goal.returns-then-is_some
 returns-then-is_some c =
     let there = some_found c.find.result _ _ (sym c.is_some.ensures ∙ c.if-is_some.true) c.find.ensures in
-    Contains-at (names_of c.args.self.now) there.0 _ there.1
+    (λ same. cc, Contains-at (names_of c.args.self.now) there.0 _ there.1)
