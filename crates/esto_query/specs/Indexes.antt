@@ -37,7 +37,7 @@ abbrev pub IsInOrder : List (Fact Term) → List Entry → Type 0
 IsInOrder facts index =
     (i j : ℕ) (d : Entry) → i ≤ j → j < length index → entry_cmp facts (slice_index_or index j d) (slice_index_or index i d) ≢ Less
 
--- The entries of all facts, in order.
+-- The entries of all facts are there, in order.
 pub record IsIndex (facts : List (Fact Term)) (index : List Entry) : Type 0 where
   pub listed : AreListed facts (length facts) index
   pub in_order : IsInOrder facts index
@@ -56,7 +56,7 @@ pub record AreCandidates (facts : List (Fact Term)) (atom : Fact Term) (known : 
   pub complete : (m : Term → Term) (place : ℕ) → Keeps Const m → Extends m known → slice_get facts place ≡ Some (image m atom) → HasPlace entries place
   pub rising : IsNonDecreasingBy (λ (entry : Entry). entry.place) entries
 
--- Exactly the entries with a place at or after the given one are left, and their places rise.
+-- Each entry with a place at or after the given one is left; what is left has such places, and they rise.
 pub record AreFrom (least : ℕ) (entries left : List Entry) : Type 0 where
   pub complete : (entry : Entry) → Contains entries entry → least ≤ entry.place → Contains left entry
   pub within : (entry : Entry) → Contains left entry → least ≤ entry.place

@@ -119,7 +119,7 @@ fn entries_of(alloc: Global, facts: &[Atom]) -> Result<Vec<Entry>, OutOfMemory>
     Ok(entries)
 }
 
-/// The entries of a key.
+/// A range of the index with each entry of a key, by rising place.
 fn range_of<'b>(facts: &[Atom], index: &'b [Entry], key: &Key) -> &'b [Entry]
     requires { IsInOrder facts.now index.now }
     ensures { IsRangeOf facts.now index.now (key_of key.now) result.now }

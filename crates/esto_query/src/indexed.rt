@@ -69,7 +69,8 @@ pub fn candidates<'b>(
     places_for(start, facts.facts, &facts.index, trail, atom)
 }
 
-/// Gives variables terms, if need be, so that the atom becomes the fact at that place.
+/// Gives variables terms, if need be, so that the atom becomes the fact at that place; where it
+/// cannot, or there is no such place, the trail stays.
 pub fn bind_place<'a>(
     start: &Valuation,
     facts: &IndexedFacts<'a>,

@@ -67,8 +67,9 @@ fn least_match(
     }
 }
 
-/// The least list of places that is after the given one, among those of this many facts below that bound. The given
-/// list may be of any length: what it has beyond the number of facts counts for nothing.
+/// Places such that, of the lists of this many places below the bound, exactly those from them on
+/// come after the given list. It may be of any length: what it has beyond that many places counts
+/// for nothing.
 fn places_after(
     alloc: Global,
     after: &[usize],

@@ -30,7 +30,8 @@ fn from_after(from: &[usize], place: usize) -> &[usize]
     }
 }
 
-/// Finds the least match from the given places on, and appends its places.
+/// Finds the least match from the given places on, and appends its places. Where there is none,
+/// trail and places stay.
 pub fn search<'a>(
     start: &Valuation,
     body: &[Atom],

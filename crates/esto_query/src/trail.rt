@@ -35,7 +35,8 @@ pub fn value<'b, 'a: 'b>(
     start.value(variable)
 }
 
-/// Gives the term's variable a term, if need be, so that the term becomes the target.
+/// Gives the term's variable a term, if need be, so that the term becomes the target; where it
+/// cannot, the trail stays.
 pub fn bind_term<'a>(
     start: &Valuation,
     trail: &mut Vec<Binding<'a>>,
