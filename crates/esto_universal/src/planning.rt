@@ -34,7 +34,7 @@ use esto_views::{FragmentDefs, Plan};
 use std::alloc::Global;
 
 /// The plan of the rows and the head, where the terms seen are renamed, with their names.
-fn plan_by_places(
+fn plan_of_seen(
     alloc: Global,
     seen: &IndexedTerms,
     rows: &Facts,
@@ -69,7 +69,7 @@ pub fn renamed_plan(
 {
     let seen = first_occurrences(alloc, rows, head)?;
     let indexed = IndexedTerms::of(alloc, &seen)?;
-    plan_by_places(alloc, &indexed, rows, head, names)
+    plan_of_seen(alloc, &indexed, rows, head, names)
 }
 
 /// The plan whose atoms are the rows of all views over the facts, and whose head is the given one, renamed.
@@ -88,7 +88,7 @@ fn stated_plan(
     renamed_plan(alloc, &rows, head, names)
 }
 
-/// The plan that is stated for the end of the query's run.
+/// The plan that is stated for an end, with the query's names; never a clash.
 fn plan_of_end(
     alloc: Global,
     query: &Query,

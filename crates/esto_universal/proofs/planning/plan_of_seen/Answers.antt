@@ -1,7 +1,7 @@
 use Rattle.std.proofs.Common.{map, ◌∙◌, ap}
 use Rattle.esto_universal.specs.Renamings.{name_of, numbered}
 use Rattle.esto_universal.proofs.PlanLemmas.{keeps, renamed_is}
-use Rattle.esto_universal.proofs.planning.plan_by_places.Goals as goal
+use Rattle.esto_universal.proofs.planning.plan_of_seen.Goals as goal
 
 pub invariant_of-result : goal.invariant_of-result
 invariant_of-result c = record {
