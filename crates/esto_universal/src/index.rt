@@ -49,7 +49,7 @@ pub fn index_of<'a>(alloc: Global, terms: &'a [Term]) -> Result<Vec<Entry<'a>>, 
     Ok(entries)
 }
 
-/// How many entries have lesser terms.
+/// How many entries have lesser terms than this one: they come first.
 fn lesser_entries(index: &[Entry], term: &Term) -> usize
     requires { IsInOrder index.now }
     ensures { IsPartitionPoint (λ entry. is_lt (term_cmp entry.term.now term.now) ≡ true)

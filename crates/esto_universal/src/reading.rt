@@ -42,7 +42,8 @@ fn is_new(terms: &IndexedTerms, place: usize, term: &Term) -> bool
     }
 }
 
-/// Reads the term at that place.
+/// Reads the term at that place: where those seen are the first occurrences before it, they then
+/// are those up to it.
 fn read_term(
     alloc: Global,
     terms: &IndexedTerms,

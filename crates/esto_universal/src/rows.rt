@@ -1,14 +1,9 @@
 //! The rows of all views.
-ghost use Rattle.std.specs.Prelude.{◌≡◌, ◌↔◌, ◌++◌, List, map, Contains, AllPairs, IfOk, OnOk};
-ghost use Rattle.std.specs.Cmp.Lexicographic.{slice_cmp};
-ghost use Rattle.std.specs.declared.cmp.Ordering.TheVariants.{Less};
-ghost use Rattle.esto_term.specs.Order.{term_cmp};
+ghost use Rattle.std.specs.Prelude.{◌≡◌, ◌++◌, List, map, IfOk, OnOk};
 ghost use Rattle.esto_term.specs.declared.term.Term.{Term};
-ghost use Rattle.esto_term.specs.declared.term.Term.TheVariants.{Const};
-ghost use Rattle.esto_semantics.specs.Queries.{IsAnswerInto};
 ghost use Rattle.esto_query.specs.Making.{query_of};
 ghost use Rattle.esto_views.specs.Fragments.{views_of};
-ghost use Rattle.esto_universal.specs.Rows.{AreRows, over};
+ghost use Rattle.esto_universal.specs.Rows.{AreRows, AreRowsOf, over};
 
 use esto_query::{Atom, Facts};
 use esto_term::{List, OutOfMemory, Replicate, TermRows};
@@ -42,9 +37,8 @@ fn push_view_rows(
     facts: &Facts,
     all: &mut Facts,
 ) -> Result<(), OutOfMemory>
-    ensures { OnOk result ((rows : List (List Term)) × ((row : List Term) → Contains rows row
-        ↔ IsAnswerInto Const (query_of fragment.now.view) (Contains facts.now) row)
-        × AllPairs (λ row other. slice_cmp term_cmp row other ≡ Less) rows
+    ensures { OnOk result ((rows : List (List Term))
+        × AreRowsOf (query_of fragment.now.view) facts.now rows
         × (all.new ≡ all.old ++ map (over number) rows)) }
 {
     let rows = rows_of_view(alloc, fragment, facts)?;

@@ -9,11 +9,11 @@ use Rattle.esto_term.proofs.ListLemmas.{map_at}
 
 pub fragments-preserved : goal.fragments-preserved
 fragments-preserved c =
-    let (own, are_own, ascending, more) = c.in_ok-push_view_rows.ensures in
+    let (own, are_own, more) = c.in_ok-push_view_rows.ensures in
     rows_joined (views_of c.args.fragments.now) c.args.facts.now c.fragments.number (query_of c.fragment-item.result.view) c.fragments.all _ own
     (map_at (λ it. query_of it.view) c.args.fragments.now c.fragments.number c.fragment-item.result
     (rw c.items-fragment-items.ensures at (slice_get_read _ _ c.fragments.number c.fragment-item.result refl c.fragments-test.true c.fragment-item.is)))
-    are_own ascending more c.fragments.invariant
+    are_own more c.fragments.invariant
 
 pub returns : goal.returns
 returns c =
