@@ -17,7 +17,7 @@ use Rattle.esto_query.specs.Soundness.{IsSound}
 use Rattle.esto_query.specs.declared.query.Query.{Query}
 use Rattle.esto_views.specs.Expanded.{placed, AreExpanded, facts_of, Expands}
 use Rattle.esto_views.specs.Fragments.{views_of, IsFragment}
-use Rattle.esto_views.specs.Plans.{fact_of, plan_query, HasFragment, IsPlanOver}
+use Rattle.esto_views.specs.Plans.{fact_of, plan_query, IsAtomOver, IsPlanOver}
 use Rattle.esto_views.specs.Soundness.{IsSoundPlan}
 use Rattle.esto_views.specs.Spreads.{IsSpread}
 use Rattle.esto_views.specs.declared.expansion.ExpandedFact.{ExpandedFact}
@@ -29,13 +29,13 @@ use Rattle.esto_term.proofs.ListLemmas.{Contains-at, Contains-cases, Contains-he
 
 -- ---- the fragment of an atom
 
-pub has_fragment : (plan : Plan) (fragments : List FragmentDef) (items : List PlanAtom) (number : ℕ) (atom : PlanAtom) → IsPlanOver plan fragments
+pub is_atom_over : (plan : Plan) (fragments : List FragmentDef) (items : List PlanAtom) (number : ℕ) (atom : PlanAtom) → IsPlanOver plan fragments
     → items ≡ plan.atoms
-    → number < length items → atom ≡ get_or items number atom → HasFragment fragments atom
-has_fragment plan fragments items number atom over same within read = over atom
+    → number < length items → atom ≡ get_or items number atom → IsAtomOver atom fragments
+is_atom_over plan fragments items number atom over same within read = over atom
     (subst (λ it. Contains it atom) same (Contains-read items number atom within read))
 
-pub fragment_is : (fragments : List FragmentDef) (atom : PlanAtom) (found : FragmentDef) → HasFragment fragments atom
+pub fragment_is : (fragments : List FragmentDef) (atom : PlanAtom) (found : FragmentDef) → IsAtomOver atom fragments
     → slice_get fragments atom.fragment ≡ Some found
     → IsFragment found × (length atom.terms ≡ length found.view.head)
 fragment_is fragments atom found (fragment, at, is_fragment, lengths) there =

@@ -16,13 +16,13 @@ fact_of atom = record { relation = atom.fragment; terms = atom.terms }
 abbrev pub plan_query : Plan → ConjunctiveQuery
 plan_query plan = record { head = plan.head; body = map fact_of plan.atoms }
 
--- The atom names one of the fragments, which is well made and has as many columns as the atom has terms.
-abbrev pub HasFragment : List FragmentDef → PlanAtom → Type 0
-HasFragment fragments atom =
+-- The atom is over the fragments: it names one of them, which is well made and has as many columns as the atom has terms.
+abbrev pub IsAtomOver : PlanAtom → List FragmentDef → Type 0
+IsAtomOver atom fragments =
     (fragment : FragmentDef) × (slice_get fragments atom.fragment ≡ Some fragment)
     × IsFragment fragment × (length atom.terms ≡ length fragment.view.head)
 
--- The plan is over the fragments: each of its atoms names one, which is well made and has as many columns as the atom has terms.
+-- Each atom of the plan is over the fragments.
 abbrev pub IsPlanOver : Plan → List FragmentDef → Type 0
 IsPlanOver plan fragments =
-    (atom : PlanAtom) → Contains plan.atoms atom → HasFragment fragments atom
+    (atom : PlanAtom) → Contains plan.atoms atom → IsAtomOver atom fragments

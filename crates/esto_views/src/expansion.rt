@@ -7,7 +7,7 @@ ghost use Rattle.esto_semantics.specs.Maps.{AreFlat};
 ghost use Rattle.esto_query.specs.Making.{query_of};
 ghost use Rattle.esto_views.specs.Expanded.{placed, facts_of, AreExpanded, Expands};
 ghost use Rattle.esto_views.specs.Fragments.{views_of};
-ghost use Rattle.esto_views.specs.Plans.{plan_query, HasFragment, IsPlanOver};
+ghost use Rattle.esto_views.specs.Plans.{plan_query, IsAtomOver, IsPlanOver};
 ghost use Rattle.esto_views.specs.Spreads.{IsSpread, substituted};
 ghost use Rattle.esto_views.specs.declared.fragments.FragmentDef.{FragmentDef};
 ghost use Rattle.esto_views.specs.declared.plan.Plan.{Plan};
@@ -74,7 +74,7 @@ fn expand_atom(
     first: u64,
     expanded: &mut ExpandedFacts,
 ) -> Result<u64, OutOfMemory>
-    requires { HasFragment fragments.now atom.now }
+    requires { IsAtomOver atom.now fragments.now }
     ensures { IfOk result (λ next. (fragment : FragmentDef)
         × (slice_get fragments.now atom.now.fragment ≡ Some fragment) × (m : Term → Term)
         × IsSpread (query_of fragment.view) atom.now.terms first next m

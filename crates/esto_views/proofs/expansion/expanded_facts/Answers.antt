@@ -1,9 +1,9 @@
-use Rattle.esto_views.proofs.ExpandedLemmas.{has_fragment, expanded_more, expanded_all}
+use Rattle.esto_views.proofs.ExpandedLemmas.{is_atom_over, expanded_more, expanded_all}
 use Rattle.esto_views.proofs.expansion.expanded_facts.Goals as goal
 
 pub expand_atom-requires : goal.expand_atom-requires
 expand_atom-requires c =
-    has_fragment c.args.plan.now c.args.fragments.now _ c.atoms.number c.atom-item.result c.requires c.items-atom-items.ensures c.atoms-test.true c.atom-item.is
+    is_atom_over c.args.plan.now c.args.fragments.now _ c.atoms.number c.atom-item.result c.requires c.items-atom-items.ensures c.atoms-test.true c.atom-item.is
 
 pub atoms-preserved : goal.atoms-preserved
 atoms-preserved c =
