@@ -22,7 +22,8 @@ pub struct Spread {
     pub next: u64,
 }
 
-/// The terms of a head for those of an atom, and no new variables, which are to be numbered from `first` on.
+/// A head's terms and, for them, an atom's; new variables, of which there are none yet, are
+/// numbered from `first` on.
 fn spread_of_head(
     alloc: Global,
     head: &Terms,
@@ -62,7 +63,8 @@ fn push_variable(spread: &mut Spread, variable: u64) -> Result<(), OutOfMemory>
 fn push_inner(alloc: Global, view: &Query, spread: &mut Spread) -> Result<(), OutOfMemory>
     ensures { OnOk result ((inner : List ℕ) × AreInner (query_of view.now) inner
         × (spread.new.from ≡ spread.old.from ++ map Plain inner)
-        × (spread.new.to ≡ spread.old.to ++ map Plain (range_with_len spread.old.next (length inner)))
+        × (spread.new.to
+        ≡ spread.old.to ++ map Plain (range_with_len spread.old.next (length inner)))
         × (spread.new.next ≡ spread.old.next + length inner)) }
 {
     let inner = inner_variables(alloc, view)?;
