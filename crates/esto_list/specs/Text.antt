@@ -69,11 +69,15 @@ atom_line fragments names nameless place atom =
 abbrev pub count_line : List ℕ → ℕ → List ℕ
 count_line word count = word ++ decimal count ++ codes "\n"
 
+-- The lines of a plan, whose variables without a name are numbered by their places in a list.
+abbrev pub plan_lines_with : List FragmentDef → Plan → List ℕ → List ℕ
+plan_lines_with fragments plan nameless =
+    count_line (codes "plan ") (length plan.atoms) ++ each_from (atom_line fragments plan.names nameless) 0 plan.atoms
+    ++ codes "head " ++ terms_text plan.names nameless plan.head ++ codes "\n"
+
 -- The lines of a plan.
 abbrev pub plan_lines : List FragmentDef → Plan → List ℕ
-plan_lines fragments plan =
-    count_line (codes "plan ") (length plan.atoms) ++ each_from (atom_line fragments plan.names (nameless_of plan)) 0 plan.atoms
-    ++ codes "head " ++ terms_text plan.names (nameless_of plan) plan.head ++ codes "\n"
+plan_lines fragments plan = plan_lines_with fragments plan (nameless_of plan)
 
 -- The line of an item: its number, its set, its order and its weight.
 abbrev pub item_line : ℕ → Listed → List ℕ

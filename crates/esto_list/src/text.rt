@@ -1,8 +1,8 @@
 //! The text that is printed of a list.
-ghost use Rattle.std.specs.Prelude.{◌≡◌, ◌++◌, ◌↔◌, [], slice_get, length, IsTrue, IfOk, OnOk, codes};
+ghost use Rattle.std.specs.Prelude.{◌≡◌, ◌++◌, ◌↔◌, [], slice_get, IsTrue, IfOk, OnOk};
 ghost use Rattle.esto_term.specs.declared.term.Term.{out-Term};
 ghost use Rattle.esto_list.specs.Names.{has_number, is_given, met_atoms, met_level, met_terms, met_variable, nameless_of};
-ghost use Rattle.esto_list.specs.Text.{atom_line, count_line, each_from, fragment_name, item_line, list_text, numbers_text, pick_line, plan_lines, terms_text};
+ghost use Rattle.esto_list.specs.Text.{atom_line, count_line, each_from, fragment_name, item_line, list_text, numbers_text, pick_line, plan_lines, plan_lines_with};
 ghost use Rattle.esto_semantics.specs.Sets.{numbers};
 
 use crate::listing::Listed;
@@ -149,7 +149,8 @@ fn put_atoms(
     Ok(())
 }
 
-/// Puts the lines of the plan at the end, where these are the numbers of its variables without a name.
+/// Puts the lines of the plan at the end. Its variables without a name are numbered by their places
+/// in the list.
 fn put_plan_lines(
     alloc: Global,
     text: &mut Bytes,
@@ -157,9 +158,8 @@ fn put_plan_lines(
     plan: &Plan,
     nameless: &[u64],
 ) -> Result<(), OutOfMemory>
-    ensures { OnOk result (text.new ≡ text.old ++ (count_line (codes "plan ") (length plan.now.atoms)
-        ++ each_from (atom_line fragments.now plan.now.names nameless.now) 0 plan.now.atoms
-        ++ codes "head " ++ terms_text plan.now.names nameless.now plan.now.head ++ codes "\n")) }
+    ensures { OnOk result (text.new ≡ text.old
+        ++ plan_lines_with fragments.now plan.now nameless.now) }
 {
     put_count(alloc, text, b"plan ", plan.atoms.len() as u128)?;
     put_atoms(
