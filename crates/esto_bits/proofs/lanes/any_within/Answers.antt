@@ -10,7 +10,8 @@ returns-then-width-eq1-clause-within c =
 
 pub returns-then-row_within-clause-within : goal.returns-then-row_within-clause-within
 returns-then-row_within-clause-within c =
-    group_found c.args.rows.now c.args.width c.requires.width (λ part. LackNoBit part c.args.row.now) c.groups.group c.groups-test.true (c.row_within.ensures.within.0 c.if-row_within.true)
+    group_found c.args.rows.now c.args.width c.requires.width (λ part. LackNoBit part c.args.row.now) c.groups.group c.groups-test.true
+    (c.row_within.ensures.within.0 c.if-row_within.true)
 
 pub groups-preserved : goal.groups-preserved
 groups-preserved c =
