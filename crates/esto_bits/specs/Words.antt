@@ -40,11 +40,11 @@ LackNoBit words others = (place : ℕ) → bit_and (slice_index_or words place 0
 abbrev pub LacksNone : List ℕ → List ℕ → ℕ → Type 0
 LacksNone words others place = bit_and (slice_index_or words place 0) (slice_index_or others place 0) ≡ slice_index_or words place 0
 
--- No word from a place on does.
+-- No word from a place on has a bit that the other word at its place lacks.
 abbrev pub LackNoneFrom : List ℕ → List ℕ → ℕ → Type 0
 LackNoneFrom words others from = (place : ℕ) → from ≤ place → LacksNone words others place
 
--- Some group of so many words, from a multiple of this number on, lacks no bit of the row.
+-- Some group of so many words, from a multiple of this number on, has no bit that the row lacks.
 abbrev pub SomeWithin : List ℕ → ℕ → List ℕ → Type 0
 SomeWithin rows width row =
     (group : ℕ) × (group * width + width ≤ length rows) × LackNoBit (slice_range rows (group * width) (group * width + width)) row
