@@ -53,13 +53,14 @@ pub fn item(alloc: Global, tokens: &[Token]) -> Result<(ItemSyntax, &[Token]), S
     }
 }
 
-/// Adds the item at the front, and gives what comes after it.
+/// Adds the item with which the tokens begin to the end of the items; gives what comes after it.
 pub fn add_item<'a>(
     alloc: Global,
     tokens: &'a [Token],
     items: &mut List<ItemSyntax>,
 ) -> Result<&'a [Token], Stop>
-    ensures ok { IfOk result (λ after. (item : ItemSyntax) × Takes (IsItem (item_of item)) tokens.now after.now
+    ensures ok { IfOk result (λ after. (item : ItemSyntax)
+        × Takes (IsItem (item_of item)) tokens.now after.now
         × (items.new ≡ items.old ++ item ∷ [])) }
     ensures shorter { IfOk result (λ after. length after.now < length tokens.now) }
     ensures err { IfErr result (λ e. Fails (AnItem ∷ []) tokens.now e) }
