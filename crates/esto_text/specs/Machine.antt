@@ -83,7 +83,7 @@ abbrev pub advance : List Symbol → TokenKind → Option (List Symbol)
 advance [] kind = None
 advance (x ∷ xs) kind = elim (step x kind) [ Some new ↦ Some (new ++ xs) | None ↦ None ]
 
--- The rest from the first token on that does not fit, and none where all do.
+-- The rest from the first token on that does not fit, or the empty rest where more need come; none where there is neither.
 abbrev pub first_fault : List Symbol → List Token → Option (List Token)
 first_fault xs [] = if is_done xs then None else Some []
 first_fault xs (t ∷ ts) = elim (advance xs (class_of t)) [ Some new ↦ first_fault new ts | None ↦ Some (t ∷ ts) ]

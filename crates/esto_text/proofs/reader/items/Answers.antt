@@ -17,10 +17,11 @@ returns-in_err-rest-clause-err c =
 pub items-preserved : goal.items-preserved
 items-preserved c =
     rw c.in_ok-after.ensures.ok.2
-    (items_more c.args.tokens.now c.items.items c.items.rest.now c.items.invariant c.in_ok-after.ensures.ok.0 c.in_ok-after.after.now _ _ c.in_ok-after.ensures.ok.1
-    c.in_ok-rest.ensures.ok)
+    (items_more c.args.tokens.now c.items.items c.items.rest.now c.items.invariant c.in_ok-after.ensures.ok.0 c.in_ok-after.after.now _ _
+    c.in_ok-after.ensures.ok.1 c.in_ok-rest.ensures.ok)
 
 pub returns-then-is_empty-clause-ok : goal.returns-then-is_empty-clause-ok
 returns-then-is_empty-clause-ok c =
-    rw c.in_ok-after.ensures.ok.2 (items_done c.args.tokens.now c.items.items c.items.rest.now c.items.invariant c.in_ok-after.ensures.ok.0 c.in_ok-after.after.now
+    rw c.in_ok-after.ensures.ok.2
+    (items_done c.args.tokens.now c.items.items c.items.rest.now c.items.invariant c.in_ok-after.ensures.ok.0 c.in_ok-after.after.now
     c.in_ok-after.ensures.ok.1 (true-eqb (length c.in_ok-after.after.now) 0 c.if-is_empty.ensures))

@@ -19,8 +19,8 @@ returns-in_err-more-clause-err c =
 pub items-preserved : goal.items-preserved
 items-preserved c =
     rw c.in_ok-after.ensures.ok.2
-    (item_more c.args.tokens.now c.items.items c.items.rest.now c.items.more c.items-test.true c.items.invariant c.in_ok-after.ensures.ok.0 c.in_ok-after.after.now _ _
-    c.in_ok-after.ensures.ok.1 c.in_ok-more.ensures.ok)
+    (item_more c.args.tokens.now c.items.items c.items.rest.now c.items.more c.items-test.true c.items.invariant c.in_ok-after.ensures.ok.0
+    c.in_ok-after.after.now _ _ c.in_ok-after.ensures.ok.1 c.in_ok-more.ensures.ok)
 
 pub returns-clause-ok : goal.returns-clause-ok
 returns-clause-ok c = goes_done AreRuleItems body_part [] c.args.tokens.now c.items.items c.items.rest.now c.items.more c.items-test.false
