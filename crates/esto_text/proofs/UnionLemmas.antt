@@ -1,13 +1,13 @@
 -- Unions: queries that are parted by semicolons, and the place at which their texts leave the grammar.
-use Rattle.std.proofs.Common.{◌≡◌, ◌≢◌, ◌<◌, ◌≤◌, ◌+◌, ◌-◌, ℕ, zero, suc, Bool, true, false, cond, List, [], ◌∷◌, ◌++◌, length, Option, Some, None, inl, inr, refl, sym, ap, subst, ◌∙◌, append_assoc, arith}
-use Rattle.std.proofs.lemmas.List.{append-nil, length-append}
+use Rattle.std.proofs.Common.{◌≡◌, ◌≢◌, ◌<◌, ◌≤◌, ◌+◌, ◌-◌, ℕ, zero, suc, Bool, true, false, cond, List, [], ◌∷◌, ◌++◌, length, Option, Some, None, refl, sym, ap, subst, ◌∙◌, append_assoc, arith}
+use Rattle.std.proofs.lemmas.List.{append-nil}
 use Rattle.esto_text.specs.declared.token.Token.{Token}
 use Rattle.esto_text.specs.declared.token.TokenKind.{TokenKind}
 use Rattle.esto_text.specs.declared.token.TokenKind.TheVariants.{Semicolon, Stray}
 use Rattle.esto_text.specs.declared.unions.TheConstants.{MAX_QUERIES}
-use Rattle.esto_text.specs.Faults.{IsViable, Leaves, StopsAt}
+use Rattle.esto_text.specs.Faults.{Leaves, StopsAt}
 use Rattle.esto_text.specs.Grammar.{class_of, IsQuery, IsUnionEnd, IsUnionFrom, IsUnion}
-use Rattle.esto_text.specs.Limits.{is_close, is_name, is_semicolon, in_room, unfit, limited_row, limited, Reached, Nothing, Part, Head, reached_then, limited_token, limited_after, limited_union}
+use Rattle.esto_text.specs.Limits.{is_close, is_name, is_semicolon, in_room, limited_row, limited, Reached, Nothing, Part, Head, reached_then, limited_token, limited_after, limited_union}
 use Rattle.esto_text.specs.Machine.{Symbol, AName, ATerm, ANext, AParen, ABracket, ATurnstile, MoreNames, MoreTerms, AnItem, ItemRest, MoreItems, MoreBody, AHead, HeadRest, AGroup, AnEntry, PathRest, MoreEntries, start, step, advance, first_fault, HasNoSemicolon, EndsQuery, IsCut}
 use Rattle.esto_text.specs.Trees.{QueryTree}
 use Rattle.esto_text.proofs.Runs.{query_runs}

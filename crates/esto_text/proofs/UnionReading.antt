@@ -1,6 +1,6 @@
 -- The queries of a union that were read so far.
 use Rattle.std.proofs.Common.{◌≡◌, ◌≢◌, ◌<◌, ◌≤◌, ◌+◌, ℕ, suc, true, false, List, [], ◌∷◌, ◌++◌, length, map, take, drop, get_or, refl, sym, ap, subst, ◌∙◌, append_assoc, arith}
-use Rattle.std.proofs.lemmas.List.{append-nil, length-append, map-append, take-append-drop, take_more, take_all}
+use Rattle.std.proofs.lemmas.List.{append-nil, length-append, map-append, take_more}
 use Rattle.esto_text.specs.declared.stop.Stop.{Stop}
 use Rattle.esto_text.specs.declared.stop.Stop.TheVariants.{Syntax, OutOfMemory}
 use Rattle.esto_text.specs.declared.token.Token.{Token}
@@ -8,9 +8,9 @@ use Rattle.esto_text.specs.declared.token.TokenKind.TheVariants.{Semicolon}
 use Rattle.esto_text.specs.declared.tree.QuerySyntax.{QuerySyntax}
 use Rattle.esto_text.specs.declared.unions.TheConstants.{MAX_QUERIES}
 use Rattle.esto_text.specs.Faults.{StopsAt}
-use Rattle.esto_text.specs.Grammar.{class_of, IsQuery, IsUnionFrom, IsUnion}
+use Rattle.esto_text.specs.Grammar.{class_of, IsUnionFrom, IsUnion}
 use Rattle.esto_text.specs.Limits.{is_semicolon, limited, limited_union}
-use Rattle.esto_text.specs.Machine.{HasNoSemicolon, EndsQuery, IsCut, TakesQuery, StopsQuery, QueryFails, UnionFails}
+use Rattle.esto_text.specs.Machine.{HasNoSemicolon, EndsQuery, TakesQuery, StopsQuery, QueryFails, UnionFails}
 use Rattle.esto_text.specs.Trees.{QueryTree}
 use Rattle.esto_text.specs.View.{tree_of}
 use Rattle.esto_text.proofs.UnionLemmas.{one_query, more_queries, more_stop, full_stop, part_stop, later, limited_cut, limited_none, later_ends, length_after, length_later}
