@@ -32,12 +32,9 @@ pub record AddsMade (letter : List ℕ) (relation weight : ℕ) (old new : List 
   pub made : IsMadeFragment letter relation weight fragment
 
 -- Both fragments of the relation have come at the end.
-pub record AddsBoth (relation : ℕ) (old new : List FragmentDef) : Type 0 where
-  pub first : FragmentDef
-  pub second : FragmentDef
-  pub added : new ≡ old ++ first ∷ second ∷ []
-  pub is_first : IsMadeFragment (codes "A") relation 1 first
-  pub is_second : IsMadeFragment (codes "B") relation 2 second
+abbrev pub AddsBoth : ℕ → List FragmentDef → List FragmentDef → Type 0
+AddsBoth relation old new =
+    (between : List FragmentDef) × AddsMade (codes "A") relation 1 old between × AddsMade (codes "B") relation 2 between new
 
 -- The fragments are those over so many relations.
 pub record AreMadeFragments (size : ℕ) (fragments : List FragmentDef) : Type 0 where
