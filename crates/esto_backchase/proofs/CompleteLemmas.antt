@@ -1,11 +1,11 @@
 -- Turns of the loops that complete products.
-use Rattle.std.proofs.Common.{◌≡◌, ◌↔◌, ℕ, ◌+◌, ◌<◌, ◌≤◌, Bool, List, [], length, Some, slice_get, sym, subst, inl, inr, arith}
+use Rattle.std.proofs.Common.{◌≡◌, ◌↔◌, ◌⊎◌, ℕ, ◌+◌, ◌<◌, ◌≤◌, Bool, List, [], length, Some, slice_get, sym, subst, inl, inr, arith}
 use Rattle.std.proofs.lemmas.Bool.{cases_order}
 use Rattle.std.proofs.lemmas.List.Elements.{All-contains}
 use Rattle.esto_term.proofs.ListLemmas.{SomeBelow, Contains-at, some_none, some_step, some_contained}
 use Rattle.esto_semantics.specs.Sets.{Has, Within, Covers}
 use Rattle.esto_semantics.proofs.SetLemmas.{beyond, within_trans}
-use Rattle.esto_bits.specs.Kept.{AreOver, Kept, CoversBoth, CoversEither}
+use Rattle.esto_bits.specs.Kept.{AreOver, Kept, CoversBoth}
 use Rattle.esto_bits.proofs.JoinLemmas.{covers_none}
 use Rattle.esto_access.specs.Supplies.{CoversWhere, IsSupplied}
 use Rattle.esto_access.proofs.NeedLemmas.{sets_there, supplied_from}
@@ -82,13 +82,13 @@ module _ (supplies : List Kept) (lows : List (List Bool)) where
   all_completed_start none is set =
       (λ h. absurd (covers_none set (subst (λ it. Covers it set) is h)), λ h. absurd (some_none (λ _ low. IsCompletedIn supplies low set) lows h))
 
-  pub all_completed_grows : (count : ℕ) (low : List Bool) → slice_get lows count ≡ Some low → (found completed after : List (List Bool))
-      → CoversWhere (IsCompletedIn supplies low) completed → CoversEither found completed after → AreAllCompletedBelow count found
+  pub all_completed_grows : (count : ℕ) (low : List Bool) → slice_get lows count ≡ Some low → (found after : List (List Bool))
+      → ((set : List Bool) → Covers after set ↔ (Covers found set ⊎ IsCompletedIn supplies low set)) → AreAllCompletedBelow count found
       → AreAllCompletedBelow (count + 1) after
-  all_completed_grows count low at found completed after completes also so_far set =
+  all_completed_grows count low at found after grows so_far set =
       let step = some_step (λ _ it. IsCompletedIn supplies it set) lows count low at in (
-        λ h. step.1 (elim ((also set).0 h) [ inl before ↦ inl ((so_far set).0 before) | inr now ↦ inr ((completes set).0 now) ]),
-        λ h. (also set).1 (elim (step.0 h) [ inl before ↦ inl ((so_far set).1 before) | inr now ↦ inr ((completes set).1 now) ]),
+        λ h. step.1 (elim ((grows set).0 h) [ inl before ↦ inl ((so_far set).0 before) | inr now ↦ inr now ]),
+        λ h. (grows set).1 (elim (step.0 h) [ inl before ↦ inl ((so_far set).1 before) | inr now ↦ inr now ]),
       )
 
   pub all_completed_end : (count : ℕ) (found : List (List Bool)) → length lows ≤ count → AreAllCompletedBelow count found

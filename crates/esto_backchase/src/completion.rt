@@ -1,11 +1,10 @@
 //! Completion: sets of a plan's atoms in which something holds, made executable.
-ghost use Rattle.std.specs.Prelude.{◌≡◌, ◌↔◌, ◌<◌, List, Bool, Some, length, slice_get, IfOk, OnOk, IsTrue, Contains};
+ghost use Rattle.std.specs.Prelude.{◌≡◌, ◌↔◌, ◌⊎◌, ◌<◌, List, Bool, Some, length, slice_get, IfOk, OnOk, IsTrue, Contains};
 ghost use Rattle.esto_semantics.specs.Access.{HoldsExecutably};
 ghost use Rattle.esto_semantics.specs.Sets.{Covers, Has, IsMinimal};
 ghost use Rattle.esto_views.specs.Fragments.{patterns_of};
 ghost use Rattle.esto_views.specs.Plans.{plan_query};
 ghost use Rattle.esto_access.specs.Supplies.{CoversWhere, IsSupplied};
-ghost use Rattle.esto_bits.specs.Kept.{CoversEither};
 ghost use Rattle.esto_backchase.specs.Completion.{AreComplete, AreSuppliesOf, HaveOwn, IsCompletedIn, IsOneCompletedIn, completions};
 
 use esto_access::{Supplies, access_products};
@@ -15,8 +14,8 @@ use esto_term::{OutOfMemory, Replicate};
 use esto_views::{FragmentDefs, Plan};
 use std::alloc::Global;
 
-/// The completions of a set: for each of its numbers, in every combination, one of the sets that supply it. A number
-/// that is supplied in the set itself asks for nothing.
+/// The minimal completions of a set: for each of its numbers, in every combination, one of the sets
+/// that supply it. A number that is supplied in the set itself asks for nothing.
 fn completions_of(
     alloc: Global,
     low: &RowBits,
@@ -96,8 +95,8 @@ fn add_completions(
     requires count { found.old.count ≡ products.now.count }
     ensures count { found.new.count ≡ found.old.count }
     ensures covers { OnOk result ((low : List Bool) × (slice_get products.now.sets at ≡ Some low)
-        × (completed : List (List Bool)) × CoversWhere (IsCompletedIn supplies.now low) completed
-        × CoversEither found.old.sets completed found.new.sets) }
+        × ((set : List Bool) → Covers found.new.sets set
+        ↔ (Covers found.old.sets set ⊎ IsCompletedIn supplies.now low set))) }
 {
     products_are_antichains(products);
     let low = products.copy_of(alloc, at)?;

@@ -1,6 +1,7 @@
 use Rattle.std.proofs.Common.{◌∙◌, subst, sym}
 use Rattle.std.proofs.lemmas.Result.{on_ok_weaker}
-use Rattle.esto_backchase.specs.Completion.{AreSuppliesOf}
+use Rattle.esto_access.proofs.NeedLemmas.{covers_also}
+use Rattle.esto_backchase.specs.Completion.{AreSuppliesOf, IsCompletedIn}
 use Rattle.esto_backchase.proofs.CompleteLemmas.{same_count}
 use Rattle.esto_backchase.proofs.completion.add_completions.Goals as goal
 
@@ -17,4 +18,9 @@ add_all-requires c =
 
 pub returns-clause-covers : goal.returns-clause-covers
 returns-clause-covers c = on_ok_weaker c.add_all.result
-    (λ also. (c.in_ok-low.low, c.in_ok-low.ensures, c.in_ok-completed.completed.sets, c.in_ok-completed.ensures.covers, also)) c.add_all.ensures.covers
+    (λ also. (
+      c.in_ok-low.low,
+      c.in_ok-low.ensures,
+      covers_also c.args.found.now.sets c.in_ok-completed.completed.sets c.add_all.new.self.sets
+          (IsCompletedIn c.args.supplies.now c.in_ok-low.low) c.in_ok-completed.ensures.covers also,
+    )) c.add_all.ensures.covers

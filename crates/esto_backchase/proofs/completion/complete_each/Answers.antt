@@ -6,10 +6,10 @@ use Rattle.esto_backchase.proofs.completion.complete_each.Goals as goal
 
 pub sets-preserved : goal.sets-preserved
 sets-preserved c =
-    let (low, at, completed, completes, also) = c.in_ok-add_completions.ensures.covers in (
+    let (low, at, grows) = c.in_ok-add_completions.ensures.covers in (
       c.add_completions.ensures.count ∙ c.sets.invariant.0,
-      all_completed_grows c.args.supplies.now c.args.products.now.sets c.sets.at low at c.sets.found.sets completed c.add_completions.new.found.sets completes
-          also c.sets.invariant.1,
+      all_completed_grows c.args.supplies.now c.args.products.now.sets c.sets.at low at c.sets.found.sets c.add_completions.new.found.sets grows
+          c.sets.invariant.1,
     )
 
 pub returns-clause-covers : goal.returns-clause-covers
