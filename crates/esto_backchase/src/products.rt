@@ -5,8 +5,7 @@ ghost use Rattle.esto_semantics.specs.Listed.{IsListed, IsExecutableRewriting};
 ghost use Rattle.esto_semantics.specs.Plans.{IsUniversalPlan};
 ghost use Rattle.esto_semantics.specs.Queries.{ConjunctiveQuery};
 ghost use Rattle.esto_bits.specs.Kept.{CoversEither};
-ghost use Rattle.esto_semantics.specs.Access.{HoldsExecutably};
-ghost use Rattle.esto_semantics.specs.Sets.{Covers, IsMinimal, TellHolds};
+ghost use Rattle.esto_semantics.specs.Sets.{Covers, TellHolds};
 ghost use Rattle.esto_query.specs.declared.query.Query.{Query};
 ghost use Rattle.esto_semantics.specs.Unions.{ReceivesUnions};
 ghost use Rattle.esto_constraint.specs.Constraints.{rules_of};
@@ -56,7 +55,8 @@ pub fn entries_of(alloc: Global, plan: &Plan, catalogue: &Catalogue) -> Result<E
     Ok(entries)
 }
 
-/// Adds each set of the others to the products. Where there are none, the others are taken as they are.
+/// Adds each set of the others to the products. Where there are no products, the others are taken as
+/// they are.
 fn add_others(alloc: Global, products: &mut Products, others: Products) -> Result<(), OutOfMemory>
     requires { others.count ≡ products.old.count }
     ensures count { products.new.count ≡ products.old.count }
@@ -123,7 +123,7 @@ fn answering_products(
     matching_products(alloc, plan, slice::from_ref(query), catalogue, entries)
 }
 
-/// The minimal executable sets of the plan's atoms that have a set as a subset which answers the query.
+/// The listed sets of the plan: the minimal executable sets of its atoms that answer the query.
 fn listed_products(
     alloc: Global,
     plan: &Plan,
@@ -138,12 +138,11 @@ fn listed_products(
     requires entries { AreEntriesOf catalogue.now plan.now entries.now }
     requires joined { AreJoined entries.now entries.now }
     ensures count { IfOk result (λ it. it.count ≡ length plan.now.atoms) }
-    ensures minimal { IfOk result (λ it. (answering : List (List Bool))
-        × TellHolds (length plan.now.atoms) (Answers catalogue.now query.now plan.now) answering
-        × ((set : List Bool) → Contains it.sets set ↔ IsMinimal
-        (HoldsExecutably (patterns_of catalogue.now.fragments) (plan_query plan.now).body
-        (Covers answering)) set)) }
+    ensures listed { IfOk result (λ it. (set : List Bool) → Contains it.sets set
+        ↔ IsListed (rules_of catalogue.now.rules) (views_of catalogue.now.fragments)
+        (patterns_of catalogue.now.fragments) (query_of query.now) (plan_query plan.now) set) }
 {
+    listed_sets_are_executable();
     let answering = answering_products(alloc, plan, query, catalogue, entries)?;
     let sets = executable_products(alloc, plan, &catalogue.fragments, &answering)?;
     Ok(sets)

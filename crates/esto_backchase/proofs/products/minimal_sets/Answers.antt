@@ -1,7 +1,6 @@
-use Rattle.std.proofs.Common.{◌≡◌, ◌↔◌, ◌∙◌, Bool, List, length, subst, sym}
+use Rattle.std.proofs.Common.{◌≡◌, ◌↔◌, ◌∙◌, Bool, List, length}
 use Rattle.std.proofs.lemmas.List.{length-map}
-use Rattle.esto_semantics.specs.Listed.{IsRewriting, AnswersQuery}
-use Rattle.esto_semantics.specs.Sets.{TellHolds}
+use Rattle.esto_semantics.specs.Listed.{IsRewriting}
 use Rattle.esto_semantics.proofs.CoverLemmas.{minimal-cover}
 use Rattle.esto_constraint.specs.Constraints.{rules_of}
 use Rattle.esto_query.specs.Making.{query_of}
@@ -14,18 +13,7 @@ use Rattle.esto_backchase.specs.Evidence.{MatchesIn}
 use Rattle.esto_backchase.proofs.products.minimal_sets.Goals as goal
 
 pub returns-clause-listed : goal.returns-clause-listed
-returns-clause-listed c set =
-    let query = query_of c.args.query.now in
-    let plan = plan_query c.args.plan.now in
-    let rules = rules_of c.args.catalogue.now.rules in
-    let views = views_of c.args.catalogue.now.fragments in
-    let (answering, tell, minimal) = c.in_ok-sets.ensures.minimal in
-    let told : TellHolds (length plan.body) (AnswersQuery rules views query plan) answering =
-    subst (λ count. TellHolds count (AnswersQuery rules views query plan) answering) (sym (length-map c.args.plan.now.atoms fact_of)) tell in
-    let listed = c.listed_sets_are_executable.ensures.executable rules views (patterns_of c.args.catalogue.now.fragments) query plan
-    answering told set in
-    let found = minimal set in
-    (λ inside. listed.1 (found.0 inside), λ is_listed. found.1 (listed.0 is_listed))
+returns-clause-listed c = c.in_ok-sets.ensures.listed
 
 pub returns-clause-complete : goal.returns-clause-complete
 returns-clause-complete c other rewriting =
@@ -39,7 +27,7 @@ returns-clause-complete c other rewriting =
       onto.0,
       onto.2,
       minimal-cover (IsRewriting rules views patterns query plan) (length plan.body) (λ set is. is.has_candidate.over) c.in_ok-sets.sets.sets
-          (returns-clause-listed c) onto.0 onto.1,
+          c.in_ok-sets.ensures.listed onto.0 onto.1,
     )
 
 pub returns-clause-decided : goal.returns-clause-decided
@@ -58,7 +46,7 @@ returns-clause-of_parts c set =
     let Matching = MatchesIn c.args.query.now c.args.plan.now c.in_ok-entries.entries in
     let same : (it : List Bool) → length it ≡ length plan.body → Answering it ↔ Matching it =
     λ it over. returns-clause-decided c it (over ∙ length-map c.args.plan.now.atoms fact_of) in
-    let listed = returns-clause-listed c set in
+    let listed = c.in_ok-sets.ensures.listed set in
     let parts = c.listed_sets_are_executable.ensures.parts rules views patterns query plan set in (
       λ inside. of_parts_as patterns plan.body Answering Matching same set (parts.0 (listed.0 inside)),
       λ least. listed.1 (parts.1 (of_parts_as patterns plan.body Matching Answering (λ it over. ((same it over).1, (same it over).0)) set least)),
