@@ -1,5 +1,5 @@
 -- What a visit of sets leaves, and that at the end the kept sets are the minimal ones of those that pass.
-use Rattle.std.proofs.Common.{◌≡◌, ◌↔◌, ◌⊎◌, inl, inr, ℕ, zero, suc, ◌+◌, ◌<◌, ◌≤◌, Bool, true, false, cond, not, List, [], ◌∷◌, ◌++◌, length, filter, take, get_or, Contains, Option, Some, None, MatchOption, refl, sym, ap, subst, ◌∙◌, arith}
+use Rattle.std.proofs.Common.{◌≡◌, ◌↔◌, ◌⊎◌, inl, inr, ℕ, zero, suc, ◌+◌, ◌<◌, ◌≤◌, Bool, true, false, cond, not, List, [], ◌∷◌, ◌++◌, length, filter, take, get_or, Contains, Option, Some, None, IfSome, MatchOption, refl, sym, ap, subst, ◌∙◌, arith}
 use Rattle.std.proofs.lemmas.Bool.{cases_order, false≢true}
 use Rattle.std.proofs.lemmas.List.{take_more, take_all}
 use Rattle.std.proofs.lemmas.List.Elements.{Contains-append_left, Contains-push, Contains-push_cases}
@@ -9,7 +9,7 @@ use Rattle.esto_semantics.specs.Sets.{Has, Within, Covers, IsMinimal, Rises}
 use Rattle.esto_semantics.proofs.SetLemmas.{beyond, decided_has, within_trans, within_same}
 use Rattle.esto_bits.specs.Kept.{IsAntichain, CoversAlso, is_covered, is_within, with_set}
 use Rattle.esto_bits.proofs.FamilyLemmas.{antichain-same}
-use Rattle.esto_backchase.specs.Searching.{AreFailing, FailsWith, HasOneOf, IsBetween, Visited}
+use Rattle.esto_backchase.specs.Searching.{AreFailing, FailsWith, HasOneOf, IsBetween, IsWithRange, Visited}
 
 -- ---- how many numbers a set lacks
 
@@ -91,6 +91,47 @@ decided_one (first ∷ rest) other = elim (decided_has other first) [
     ])
   ]
 ]
+
+-- ---- a set with a range
+
+module _ (set : List Bool) (from to : ℕ) where
+  -- the set has the set's own numbers, and those of the range below a number
+  abbrev pub IsFilledBelow : ℕ → List Bool → Type 0
+  IsFilledBelow count more = (k : ℕ) → Has more k ↔ (Has set k ⊎ ((from ≤ k) × (k < count) × (k < to)))
+
+  pub filled-none : (more : List Bool) → more ≡ set → IsFilledBelow from more
+  filled-none more same k = (
+    λ has. inl (subst (λ row. Has row k) same has),
+    λ either. elim either [ inl own ↦ subst (λ row. Has row k) (sym same) own | inr (above, below, _) ↦ absurd (omega (arith, above, below)) ],
+  )
+
+  pub filled-more : (count : ℕ) (more after : List Bool) → from ≤ count → count < to → ((k : ℕ) → Has after k ↔ ((k ≡ count) ⊎ Has more k))
+      → IsFilledBelow count more → IsFilledBelow (count + 1) after
+  filled-more count more after above below has filled k = (
+    λ h. elim ((has k).0 h) [
+      | inl is ↦ inr (omega (arith, above, is), omega (arith, is), omega (arith, below, is))
+      | inr old ↦ elim ((filled k).0 old) [ inl own ↦ inl own | inr (after_from, before, inside) ↦ inr (after_from, omega (arith, before), inside) ]
+    ],
+    λ either. (has k).1 (elim either [
+      | inl own ↦ inr ((filled k).1 (inl own))
+      | inr (after_from, before, inside) ↦ elim (cases_order k count) [
+        | inl is ↦ inl is
+        | inr apart ↦ elim apart [
+          | inl less ↦ inr ((filled k).1 (inr (after_from, less, inside)))
+          | inr more_than ↦ absurd (omega (arith, before, more_than))
+        ]
+      ]
+    ]),
+  )
+
+  pub filled-all : (count : ℕ) (more : List Bool) → to ≤ count → length more ≡ length set → IsFilledBelow count more → IsWithRange set from to more
+  filled-all count more all same filled = record {
+    same_length = same;
+    has = λ k. (
+      λ h. elim ((filled k).0 h) [ inl own ↦ inl own | inr (above, _, below) ↦ inr (above, below) ],
+      λ either. (filled k).1 (elim either [ inl own ↦ inl own | inr (above, below) ↦ inr (above, omega (arith, all, below), below) ]),
+    );
+  }
 
 -- ---- the numbers that a set lacks
 
@@ -249,6 +290,36 @@ module _ (count : ℕ) (Pass : List Bool → Type 0) where
   pub fails-further : (set failed after : List Bool) → FailsWith count Pass set failed → FailsWith count Pass failed after → FailsWith count Pass set after
   fails-further set failed after first second = record
       { same_length = second.same_length; within = within_trans set failed after first.within second.within; fails = second.fails }
+
+  -- the set with a range, where it does not pass
+  pub fails-with_range : (from to : ℕ) (outcome : Option (List Bool)) (set more : List Bool) → length set ≡ count
+      → MatchOption outcome ((other : List Bool) × IsWithRange set from to other × Pass other) (λ other. IsWithRange set from to other × ¬ (Pass other))
+      → outcome ≡ Some more → FailsWith count Pass set more
+  fails-with_range from to outcome set more same says is =
+      let (range, fails) = subst (λ it. MatchOption it ((other : List Bool) × IsWithRange set from to other × Pass other)
+      (λ other. IsWithRange set from to other × ¬ (Pass other))) is says in
+      record { same_length = range.same_length ∙ same; within = λ number has. (range.has number).1 (inl has); fails = fails }
+
+  -- a set that fails has come to the known ones, or the set passes
+  abbrev pub IsNewFailing : List Bool → List (List Bool) → List (List Bool) → Option (List Bool) → Type 0
+  IsNewFailing set failing after outcome =
+      MatchOption outcome (Pass set × (after ≡ failing)) (λ failed. FailsWith count Pass set failed × ¬ (Pass set) × (after ≡ failing ++ failed ∷ []))
+
+  pub new-failing : (set : List Bool) (failing after : List (List Bool)) (outcome : Option (List Bool)) → IsNewFailing set failing after outcome
+      → AreFailing count Pass failing → AreFailing count Pass after
+  new-failing set failing after None says are = subst (AreFailing count Pass) (sym says.1) are
+  new-failing set failing after (Some failed) says are =
+      subst (AreFailing count Pass) (sym says.2) (failing-pushed failing failed are (says.0).same_length (says.0).fails)
+
+  pub new-failed : (set : List Bool) (failing after : List (List Bool)) (outcome : Option (List Bool)) → IsNewFailing set failing after outcome
+      → MatchOption outcome (Pass set) (FailsWith count Pass set)
+  new-failed set failing after None says = says.0
+  new-failed set failing after (Some failed) says = says.0
+
+  pub new-known : (set : List Bool) (failing after : List (List Bool)) (outcome : Option (List Bool)) → IsNewFailing set failing after outcome
+      → IfSome outcome (Contains after)
+  new-known set failing after None says = tt
+  new-known set failing after (Some failed) says = subst (λ sets. Contains sets failed) (sym says.2) (Contains-push failing failed)
 
   pub some-fails : (outcome : Option (List Bool)) (set failed : List Bool) → MatchOption outcome (Pass set) (FailsWith count Pass set) → outcome ≡ Some failed
       → FailsWith count Pass set failed

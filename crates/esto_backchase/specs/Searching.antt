@@ -1,5 +1,5 @@
 -- What a search among the sets of a plan's atoms looks for, and what it leaves.
-use Rattle.std.specs.Prelude.{◌≡◌, ◌⊎◌, ℕ, Bool, List, length, Contains}
+use Rattle.std.specs.Prelude.{◌≡◌, ◌↔◌, ◌⊎◌, ℕ, ◌<◌, ◌≤◌, Bool, List, length, Contains}
 use Rattle.esto_semantics.specs.Sets.{Has, Covers, Within}
 
 -- The other set has each number of the set, and none of those that are left out.
@@ -7,6 +7,11 @@ pub record IsBetween (set left_out other : List Bool) : Type 0 where
   pub same_length : length other ≡ length set
   pub has : Within set other
   pub lacks : (number : ℕ) → Has left_out number → ¬ (Has other number)
+
+-- The other set has the set's numbers and those of the range, and no others.
+pub record IsWithRange (set : List Bool) (from to : ℕ) (other : List Bool) : Type 0 where
+  pub same_length : length other ≡ length set
+  pub has : (number : ℕ) → Has other number ↔ (Has set number ⊎ ((from ≤ number) × (number < to)))
 
 -- The other set has one of the numbers.
 abbrev pub HasOneOf : List ℕ → List Bool → Type 0

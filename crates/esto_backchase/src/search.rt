@@ -1,8 +1,8 @@
 //! The search for the minimal sets of a plan's atoms that answer the query.
-ghost use Rattle.std.specs.Prelude.{◌≡◌, ◌↔◌, ◌⊎◌, ◌<◌, ◌≤◌, ℕ, List, Bool, Contains, IfOk, IfSome, OnOk, MatchOption, length};
+ghost use Rattle.std.specs.Prelude.{◌≡◌, ◌↔◌, ◌⊎◌, ◌<◌, ◌≤◌, ◌∷◌, ◌++◌, [], ℕ, List, Bool, Contains, IfOk, IfSome, OnOk, MatchOption, length};
 ghost use Rattle.esto_semantics.specs.Sets.{Has, Rises, Within};
 ghost use Rattle.esto_backchase.specs.Candidates.{IsSearch, Answers};
-ghost use Rattle.esto_backchase.specs.Searching.{AreFailing, FailsWith, HasOneOf, IsBetween, Visited};
+ghost use Rattle.esto_backchase.specs.Searching.{AreFailing, FailsWith, HasOneOf, IsBetween, IsWithRange, Visited};
 
 use crate::candidates::Search;
 use esto_bits::{Products, RowBits, SetList};
@@ -24,8 +24,7 @@ fn with_number(alloc: Global, set: &RowBits, number: usize) -> Result<RowBits, O
 /// The set with all numbers of a range.
 fn with_range(alloc: Global, set: &RowBits, from: usize, to: usize) -> Result<RowBits, OutOfMemory>
     requires { to ≤ length set.now }
-    ensures count { IfOk result (λ it. length it ≡ length set.now) }
-    ensures within { IfOk result (Within set.now) }
+    ensures { IfOk result (IsWithRange set.now from to) }
 {
     let mut more = set.copy(alloc)?;
     'numbers: for number in from..to {
@@ -34,7 +33,7 @@ fn with_range(alloc: Global, set: &RowBits, from: usize, to: usize) -> Result<Ro
     Ok(more)
 }
 
-/// A copy of the first of the sets that has the set's numbers, if there is one.
+/// A copy of one of the sets that has the set's numbers, if one is found.
 fn superset_in(
     alloc: Global,
     sets: &[RowBits],
@@ -53,7 +52,7 @@ fn superset_in(
     Ok(None)
 }
 
-/// The numbers that the set lacks, rising.
+/// The numbers that the set lacks.
 fn absent(alloc: Global, set: &RowBits) -> Result<Places, OutOfMemory>
     ensures { IfOk result (λ it. (number : ℕ) → Contains it number
         ↔ ((number < length set.now) × ¬ (Has set.now number))) }
@@ -67,7 +66,7 @@ fn absent(alloc: Global, set: &RowBits) -> Result<Places, OutOfMemory>
     Ok(numbers)
 }
 
-/// The numbers that both sets lack, rising.
+/// The numbers that both sets lack.
 fn absent_in_both(alloc: Global, set: &RowBits, other: &RowBits) -> Result<Places, OutOfMemory>
     requires { length other.now ≡ length set.now }
     ensures { IfOk result (λ it. (number : ℕ) → Contains it number
@@ -79,7 +78,8 @@ fn absent_in_both(alloc: Global, set: &RowBits, other: &RowBits) -> Result<Place
 }
 
 impl Search<'_> {
-    /// The set with all numbers of a range, where it does not answer the query.
+    /// The set with all numbers of a range, where it does not answer the query. None comes where it
+    /// does.
     fn whole(
         &self,
         alloc: Global,
@@ -91,9 +91,11 @@ impl Search<'_> {
             self.now.expanded.now }
         requires count { length set.now ≡ length self.now.plan.now.atoms }
         requires in_range { to ≤ length set.now }
-        ensures { IfOk result (λ outcome. IfSome outcome (FailsWith
-            (length self.now.plan.now.atoms)
-            (Answers self.now.catalogue.now self.now.query.now self.now.plan.now) set.now)) }
+        ensures { IfOk result (λ outcome. MatchOption outcome
+            ((more : List Bool) × IsWithRange set.now from to more
+            × Answers self.now.catalogue.now self.now.query.now self.now.plan.now more)
+            (λ more. IsWithRange set.now from to more
+            × ¬ (Answers self.now.catalogue.now self.now.query.now self.now.plan.now more))) }
     {
         let more = with_range(alloc, set, from, to)?;
         if self.answers(alloc, &more)? {
@@ -102,8 +104,8 @@ impl Search<'_> {
         Ok(Some(more))
     }
 
-    /// The set grown by numbers from a range, as far as it does not answer the query: by the whole range, or else by its
-    /// first half and then by its second.
+    /// A set that has the set's numbers and does not answer the query. It is the set grown by numbers
+    /// from a range: by the whole of it, or else by its first half and then by its second.
     fn grown(
         &self,
         alloc: Global,
@@ -133,8 +135,9 @@ impl Search<'_> {
         Ok(both)
     }
 
-    /// The set grown, as far as it does not answer the query, which is known then. None comes exactly where the set
-    /// answers the query.
+    /// A set that has the set's numbers and does not answer the query, put at the end of the known
+    /// ones. None comes exactly where the set answers the query, and the known ones stay as they are
+    /// then.
     fn new_failing(
         &self,
         alloc: Global,
@@ -144,14 +147,13 @@ impl Search<'_> {
         requires search { IsSearch self.now.catalogue.now self.now.query.now self.now.plan.now
             self.now.expanded.now }
         requires count { length set.now ≡ length self.now.plan.now.atoms }
-        requires failing { AreFailing (length self.now.plan.now.atoms)
-            (Answers self.now.catalogue.now self.now.query.now self.now.plan.now) failing.old }
-        ensures failing { OnOk result (AreFailing (length self.now.plan.now.atoms)
-            (Answers self.now.catalogue.now self.now.query.now self.now.plan.now) failing.new) }
-        ensures failed { IfOk result (λ outcome. MatchOption outcome
-            (Answers self.now.catalogue.now self.now.query.now self.now.plan.now set.now)
-            (FailsWith (length self.now.plan.now.atoms)
-            (Answers self.now.catalogue.now self.now.query.now self.now.plan.now) set.now)) }
+        ensures { IfOk result (λ outcome. MatchOption outcome
+            (Answers self.now.catalogue.now self.now.query.now self.now.plan.now set.now
+            × (failing.new ≡ failing.old))
+            (λ failed. FailsWith (length self.now.plan.now.atoms)
+            (Answers self.now.catalogue.now self.now.query.now self.now.plan.now) set.now failed
+            × ¬ (Answers self.now.catalogue.now self.now.query.now self.now.plan.now set.now)
+            × (failing.new ≡ failing.old ++ failed ∷ []))) }
     {
         if self.answers(alloc, set)? {
             return Ok(None);
@@ -161,8 +163,8 @@ impl Search<'_> {
         Ok(Some(failed))
     }
 
-    /// A set that has the set's numbers and does not answer the query: a known one, or the set grown, which is known
-    /// then. None comes exactly where the set answers the query.
+    /// A set that has the set's numbers and does not answer the query, and is a known one then. None
+    /// comes only where the set answers the query.
     fn failing_with(
         &self,
         alloc: Global,
@@ -180,6 +182,7 @@ impl Search<'_> {
             (Answers self.now.catalogue.now self.now.query.now self.now.plan.now set.now)
             (FailsWith (length self.now.plan.now.atoms)
             (Answers self.now.catalogue.now self.now.query.now self.now.plan.now) set.now)) }
+        ensures known { IfOk result (λ outcome. IfSome outcome (Contains failing.new)) }
     {
         let known = superset_in(alloc, failing.items(), set)?;
         if let Some(failed) = known {
@@ -188,7 +191,7 @@ impl Search<'_> {
         self.new_failing(alloc, set, failing)
     }
 
-    /// Tries every set, from the one that has no number on.
+    /// Tries every set of the plan's atoms.
     pub fn visit_all(&self, alloc: Global, found: &mut Products) -> Result<(), OutOfMemory>
         requires search { IsSearch self.now.catalogue.now self.now.query.now self.now.plan.now
             self.now.expanded.now }
@@ -196,20 +199,20 @@ impl Search<'_> {
             (Answers self.now.catalogue.now self.now.query.now self.now.plan.now) }
         requires same_count { found.old.count ≡ length self.now.plan.now.atoms }
         ensures count { OnOk result (found.new.count ≡ found.old.count) }
-        ensures visited { OnOk result ((none : List Bool)
-            × (length none ≡ length self.now.plan.now.atoms)
-            × ((number : ℕ) → ¬ (Has none number))
-            × Visited (Answers self.now.catalogue.now self.now.query.now self.now.plan.now)
-            (IsBetween none none) found.old.sets found.new.sets) }
+        ensures visited { OnOk result (Visited
+            (Answers self.now.catalogue.now self.now.query.now self.now.plan.now)
+            (λ other. length other ≡ length self.now.plan.now.atoms)
+            found.old.sets found.new.sets) }
     {
         let mut failing = List::new(alloc);
         let none = RowBits::new(alloc, self.plan.atoms.len())?;
         self.visit(alloc, &none, &none, found, &mut failing)
     }
 
-    /// Tries each set that has the set's numbers and none of those left out. Where the set does not answer the query,
-    /// neither does some greatest set that has its numbers, so each set that answers has a number that this one lacks.
-    /// Source: the tree of hitting sets (Reiter 1987).
+    /// Tries each set that has the set's numbers and none of those left out. Where the set does not
+    /// answer the query, a set is found that has its numbers and does not answer it either, and each
+    /// set that answers has a number which that one lacks. Source: the tree of hitting sets (Reiter
+    /// 1987).
     #[cycle(visit)]
     pub fn visit(
         &self,

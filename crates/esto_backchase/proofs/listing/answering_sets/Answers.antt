@@ -1,4 +1,4 @@
-use Rattle.std.proofs.Common.{◌≡◌, length, sym, subst, ◌∙◌}
+use Rattle.std.proofs.Common.{◌≡◌, List, Bool, length, subst, ◌∙◌}
 use Rattle.std.proofs.lemmas.List.{length-map}
 use Rattle.esto_constraint.specs.Constraints.{rules_of}
 use Rattle.esto_query.specs.Making.{query_of}
@@ -7,9 +7,9 @@ use Rattle.esto_semantics.specs.Sets.{Rises}
 use Rattle.esto_views.specs.Fragments.{views_of}
 use Rattle.esto_views.specs.Plans.{fact_of, plan_query}
 use Rattle.esto_backchase.specs.Candidates.{Answers}
-use Rattle.esto_backchase.specs.Searching.{IsBetween, Visited}
+use Rattle.esto_backchase.specs.Searching.{Visited}
 use Rattle.esto_backchase.proofs.CandidateLemmas.{plan-flat}
-use Rattle.esto_backchase.proofs.VisitLemmas.{all-between, visited-minimal}
+use Rattle.esto_backchase.proofs.VisitLemmas.{visited-minimal}
 use Rattle.esto_backchase.proofs.listing.answering_sets.Goals as goal
 
 pub visit_all-requires-clause-search : goal.visit_all-requires-clause-search
@@ -33,11 +33,9 @@ visit_all-requires-clause-rises c =
 pub returns-clause-minimal : goal.returns-clause-minimal
 returns-clause-minimal c =
     let Pass = Answers c.args.catalogue.now c.args.query.now c.args.plan.now in
-    let count = length (plan_query c.args.plan.now).body in
-    let (none, over, empty, visited) = c.in_ok-visit_all.ensures.visited in
-    let counted : length none ≡ count = over ∙ sym (length-map c.args.plan.now.atoms fact_of) in
-    visited-minimal Pass count (IsBetween none none) c.visit_all.new.found.sets
-    (λ other passes. passes.has_candidate.over)
-    (λ other passes. all-between none other empty (passes.has_candidate.over ∙ sym counted))
-    c.products_are_antichains.ensures.antichain
-    (subst (λ sets. Visited Pass (IsBetween none none) sets c.visit_all.new.found.sets) c.new-found.ensures.empty visited)
+    let count = length c.args.plan.now.atoms in
+    let counted : (other : List Bool) → Pass other → length other ≡ count =
+    λ other passes. passes.has_candidate.over ∙ length-map c.args.plan.now.atoms fact_of in
+    visited-minimal Pass count (λ other. length other ≡ count) c.visit_all.new.found.sets counted counted c.products_are_antichains.ensures.antichain
+    (subst (λ sets. Visited Pass (λ other. length other ≡ count) sets c.visit_all.new.found.sets) c.new-found.ensures.empty
+    c.in_ok-visit_all.ensures.visited)

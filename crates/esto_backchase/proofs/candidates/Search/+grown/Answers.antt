@@ -1,14 +1,15 @@
-use Rattle.std.proofs.Common.{IfSome, length, sym, subst}
+use Rattle.std.proofs.Common.{length, sym, subst}
 use Rattle.std.proofs.lemmas.Result.{IfOk-weaker}
 use Rattle.esto_backchase.specs.Candidates.{Answers}
 use Rattle.esto_backchase.specs.Searching.{FailsWith}
-use Rattle.esto_backchase.proofs.VisitLemmas.{fails-further, fails-own}
+use Rattle.esto_backchase.proofs.VisitLemmas.{fails-further, fails-own, fails-with_range}
 use Rattle.esto_backchase.proofs.candidates.Search.+grown.Goals as goal
 
 pub returns-in-Some : goal.returns-in-Some
 returns-in-Some t c =
     let Pass = Answers c.args.self.now.catalogue.now c.args.self.now.query.now c.args.self.now.plan.now in
-    subst (λ outcome. IfSome outcome (FailsWith (length c.args.self.now.plan.now.atoms) Pass c.args.set.now)) c.in-Some.is c.in_ok-whole.ensures
+    fails-with_range (length c.args.self.now.plan.now.atoms) Pass c.args.from c.args.to c.in_ok-whole.whole c.args.set.now c.in-Some.more c.requires.count
+    c.in_ok-whole.ensures c.in-Some.is
 
 pub returns-then-to-from : goal.returns-then-to-from
 returns-then-to-from t c =
