@@ -36,7 +36,7 @@ fn completions_of(
     Ok(found)
 }
 
-/// Whether the number is not in the set, or is supplied in it.
+/// Whether the number is seen to be outside the set or supplied in it: true comes only where it is.
 fn is_supplied(low: &RowBits, supplies: &Supplies, number: usize) -> bool
     requires supplies { AreSuppliesOf (length low.now) supplies.now }
     requires number { number < length low.now }
@@ -48,7 +48,8 @@ fn is_supplied(low: &RowBits, supplies: &Supplies, number: usize) -> bool
     supplies.item(number).covered(low)
 }
 
-/// Whether each number of the set is supplied in the set itself, so that the set is its own completion.
+/// Whether the set is seen to be its own completion: true comes only where each number of the set
+/// is supplied in the set itself.
 fn is_complete(low: &RowBits, supplies: &Supplies) -> bool
     requires { AreSuppliesOf (length low.now) supplies.now }
     ensures { IsTrue result → IsCompletedIn supplies.now low.now low.now }
@@ -61,7 +62,7 @@ fn is_complete(low: &RowBits, supplies: &Supplies) -> bool
     true
 }
 
-/// Whether each of the products is its own completion.
+/// Whether each of the products is seen to be its own completion: true comes only where it is so.
 fn are_complete(
     alloc: Global,
     products: &Products,

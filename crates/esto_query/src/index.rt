@@ -164,7 +164,7 @@ pub fn index_of(alloc: Global, facts: &[Atom]) -> Result<Vec<Entry>, OutOfMemory
     Ok(entries)
 }
 
-/// The shorter list, where there are two.
+/// One of the lists, where there are two: the shorter one, which is gone through sooner.
 fn shorter<'b>(best: Option<&'b [Entry]>, found: &'b [Entry]) -> &'b [Entry]
     ensures { MatchOption best.entry (result.now ≡ found.now) (λ entries.
         (result.now ≡ entries.now) ⊎ (result.now ≡ found.now)) }
