@@ -54,17 +54,12 @@ fn lead_below(rules: &[Constraint], relations: usize) -> bool
     true
 }
 
-// The facts, one a line.
-fn put_facts<R: Print>(rt: &R, facts: &[Atom]) {
-    'facts: for fact in facts {
+// The facts, one a line, the head, and how many steps there were.
+fn put_chased<R: Print>(rt: &R, instance: &Instance) {
+    'facts: for fact in instance.facts().items() {
         put_number(rt, fact.relation as u64);
         put_row(rt, fact.terms.items());
     }
-}
-
-// The facts, the head, and how many steps there were.
-fn put_chased<R: Print>(rt: &R, instance: &Instance) {
-    put_facts(rt, instance.facts().items());
     put(rt, "head ");
     put_row(rt, instance.head().items());
     put_counted(rt, "steps ", instance.trace().len() as u64);

@@ -11,11 +11,6 @@ fn put_all(content: &mut Bytes, texts: &[&str]) -> Result<(), Refused> {
     Ok(())
 }
 
-// Puts a line at the end.
-fn put_whole(content: &mut Bytes, line: &str) -> Result<(), Refused> {
-    put_all(content, &[line, "\n"])
-}
-
 // Puts a part of a line at the end.
 fn put_part(content: &mut Bytes, part: &str) -> Result<(), Refused> {
     content.append_str(part)?;
@@ -50,7 +45,7 @@ fn put_numbers(content: &mut Bytes, line: &str) -> Result<(), Refused> {
 /// many copies of a part, and after `!` bytes by their numbers. Answers None where the line has none of these signs.
 pub fn put_line(content: &mut Bytes, line: &str) -> Option<Result<(), Refused>> {
     if let Some(rest) = after(line, '|') {
-        return Some(put_whole(content, rest));
+        return Some(put_all(content, &[rest, "\n"]));
     }
     if let Some(rest) = after(line, '+') {
         return Some(put_part(content, rest));

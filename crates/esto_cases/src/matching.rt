@@ -108,13 +108,9 @@ pub fn put_active<R: Print>(
 ) -> Result<(), Refused> {
     match active(alloc, rule, facts)? {
         Some(found) => put_numbers(rt, found.places.items()),
-        None => put_met(rt),
+        None => put(rt, "met\n"),
     }
     Ok(())
-}
-
-fn put_met<R: Print>(rt: &R) {
-    put(rt, "met\n");
 }
 
 /// The number of the first rule that the facts break, with the places of its least active match, or that all are met.
@@ -131,7 +127,7 @@ pub fn put_broken<R: Print>(
             put(rt, ": ");
             put_numbers(rt, broken.found.places.items());
         }
-        None => put_met(rt),
+        None => put(rt, "met\n"),
     }
     Ok(())
 }

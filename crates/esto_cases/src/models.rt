@@ -43,19 +43,13 @@ pub fn put_key_row<R: Print>(rt: &R, alloc: Global, line: &str) -> Result<(), Re
     Ok(())
 }
 
-// Puts the code of a word at the end of the column.
-fn add_code(codes: &mut Codes, column: &mut Column, word: &str) -> Result<(), Refused> {
-    let Ok(code) = codes.intern(word.as_bytes()) else {
-        return Err(Refused);
-    };
-    column.push(code)?;
-    Ok(())
-}
-
 // Puts the codes of the words at the end of the column, in order.
 fn add_codes(codes: &mut Codes, column: &mut Column, line: &str) -> Result<(), Refused> {
     'words: for word in line.split(' ') {
-        add_code(codes, column, word)?;
+        let Ok(code) = codes.intern(word.as_bytes()) else {
+            return Err(Refused);
+        };
+        column.push(code)?;
     }
     Ok(())
 }

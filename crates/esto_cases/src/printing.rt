@@ -71,33 +71,25 @@ pub fn put_sorted<R: Print>(rt: &R, alloc: Global, products: &Products) -> Resul
     Ok(())
 }
 
-// A made term: its rule, its variable, the length of its frontier and its nesting.
-fn put_made<R: Print>(rt: &R, rule: u64, variable: u64, count: u64, nesting: u64) {
-    put(rt, "made(");
-    put_digits(rt, rule);
-    put(rt, ",");
-    put_digits(rt, variable);
-    put(rt, ",");
-    put_digits(rt, count);
-    put(rt, "):");
-    put_number(rt, nesting);
-}
-
-/// A constant after a quote.
-pub fn put_constant<R: Print>(rt: &R, constant: &str) {
-    put(rt, "'");
-    put(rt, constant);
-    put(rt, " ");
-}
-
 /// A term: a constant after a quote, a plain term by its number, and a made one by its rule, its variable, the length of its
 /// frontier and its nesting.
 pub fn put_term<R: Print>(rt: &R, term: &Term) {
     match term {
-        Term::Const(constant) => put_constant(rt, constant.as_str()),
+        Term::Const(constant) => {
+            put(rt, "'");
+            put(rt, constant.as_str());
+            put(rt, " ");
+        }
         Term::Plain(number) => put_number(rt, *number),
         Term::Made(rule, variable, frontier) => {
-            put_made(rt, *rule, *variable, frontier.len() as u64, term.nesting());
+            put(rt, "made(");
+            put_digits(rt, *rule);
+            put(rt, ",");
+            put_digits(rt, *variable);
+            put(rt, ",");
+            put_digits(rt, frontier.len() as u64);
+            put(rt, "):");
+            put_number(rt, term.nesting());
         }
     }
 }

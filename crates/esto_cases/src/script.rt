@@ -20,16 +20,6 @@ pub struct Script {
     stage: Stage,
 }
 
-// Answers what the words ask of rows, documents and codes.
-fn ask_model<R: Print>(rt: &R, alloc: Global, word: &str, rest: &str) -> Result<(), Refused> {
-    match word {
-        "table" => put_table(rt, alloc, rest),
-        "key_row" => put_key_row(rt, alloc, rest),
-        "codes" => put_codes(rt, alloc, rest),
-        _ => put_inside(rt, alloc, rest),
-    }
-}
-
 impl Script {
     /// Nothing is set.
     pub fn new(alloc: Global) -> Result<Script, Refused> {
@@ -118,7 +108,10 @@ impl Script {
             }
             "machine" => run_on_machine(rt, alloc, rest),
             "terms" => put_terms(rt, alloc),
-            "table" | "key_row" | "codes" | "inside" => ask_model(rt, alloc, word, rest),
+            "table" => put_table(rt, alloc, rest),
+            "key_row" => put_key_row(rt, alloc, rest),
+            "codes" => put_codes(rt, alloc, rest),
+            "inside" => put_inside(rt, alloc, rest),
             "products" | "union" | "joined" => ask_sets(rt, alloc, word, rest),
             _ => self.ask_stage(rt, alloc, word, rest),
         }

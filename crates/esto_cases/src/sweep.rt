@@ -103,8 +103,14 @@ impl Sweep<'_> {
         Ok(())
     }
 
-    // Memory is wanting at the put.
-    fn refuse_put<R: Print>(&self, rt: &R, alloc: Global) -> Result<(), Refused> {
+    // What the run with nothing wrong asks for, and what comes of it where each fetch fails and is refused, and the put.
+    fn put_troubles<R: Print>(&self, rt: &R, alloc: Global, whole: &Ran) -> Result<(), Refused> {
+        let names = whole.shelf.asked().items();
+        put_asked(rt, names);
+        let count = names.len() as u64;
+        self.fail_fetches(rt, alloc, count)?;
+        self.refuse_fetches(rt, alloc, count)?;
+        self.fail_puts(rt, alloc, whole.out.written())?;
         put(rt, "put is refused\n");
         self.put_run(
             rt,
@@ -114,17 +120,6 @@ impl Sweep<'_> {
                 ..NONE
             },
         )
-    }
-
-    // What the run with nothing wrong asks for, and what comes of it where each fetch fails and is refused, and the put.
-    fn put_troubles<R: Print>(&self, rt: &R, alloc: Global, whole: &Ran) -> Result<(), Refused> {
-        let names = whole.shelf.asked().items();
-        put_asked(rt, names);
-        let count = names.len() as u64;
-        self.fail_fetches(rt, alloc, count)?;
-        self.refuse_fetches(rt, alloc, count)?;
-        self.fail_puts(rt, alloc, whole.out.written())?;
-        self.refuse_put(rt, alloc)
     }
 
     // Runs the command line with nothing wrong, and then with each trouble.

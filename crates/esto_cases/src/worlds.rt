@@ -17,7 +17,7 @@ use esto_backchase::{minimal_sets, minimal_sets_plain};
 use esto_bits::{Products, RowBits};
 use esto_catalog::Catalogue;
 use esto_core::printed_plan;
-use esto_prov::{Claim, Entries, Entry, Reason, Why};
+use esto_prov::{Claim, Entries, Reason, Why};
 use esto_query::Query;
 use esto_term::OutOfMemory;
 use esto_views::Plan;
@@ -137,19 +137,15 @@ fn put_reason<R: Print>(rt: &R, reason: &Reason) {
     }
 }
 
-fn put_entry<R: Print>(rt: &R, number: usize, entry: &Entry) {
-    put_number(rt, number as u64);
-    put_claim(rt, &entry.claim);
-    put(rt, ": ");
-    put_members(rt, &entry.product);
-    put(rt, ": ");
-    put_reason(rt, &entry.reason);
-}
-
 /// The entries, one a line: the number, the claim, the numbers of the product, and the reason.
 pub fn put_entries<R: Print>(rt: &R, entries: &Entries) {
     'entries: for (number, entry) in entries.items().iter().enumerate() {
-        put_entry(rt, number, entry);
+        put_number(rt, number as u64);
+        put_claim(rt, &entry.claim);
+        put(rt, ": ");
+        put_members(rt, &entry.product);
+        put(rt, ": ");
+        put_reason(rt, &entry.reason);
     }
 }
 
