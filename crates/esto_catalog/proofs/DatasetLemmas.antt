@@ -6,7 +6,7 @@ use Rattle.std.proofs.lemmas.Cmp.{nat_list_eq_equiv}
 use Rattle.std.proofs.lemmas.List.{append-nil, append_assoc, map-append}
 use Rattle.std.proofs.lemmas.List.Elements.{Contains-push_cases, Contains-get_or}
 use Rattle.std.proofs.lemmas.List.Quantifiers.{all_pairs_push}
-use Rattle.esto_course.proofs.Steps.{Leads, first_stops, stops_more, then_goes, gives_goes, turn_next, turn_stops}
+use Rattle.esto_course.proofs.Steps.{Leads, first_stops, then_goes, gives_goes, turn_next, turn_stops}
 use Rattle.esto_course.specs.Course.{Course, Stops, and_then, gives, demands, each}
 use Rattle.esto_docs.specs.declared.layout.Layout.{Layout}
 use Rattle.esto_docs.specs.declared.layout.Layout.TheVariants.{Lines}
@@ -15,66 +15,16 @@ use Rattle.esto_read.specs.declared.words.DataModel.{DataModel}
 use Rattle.esto_read.specs.declared.words.DataModel.TheVariants.{Table, Documents, Keys}
 use Rattle.esto_term.proofs.ListLemmas.{at_left, at_right, Contains-map_from, Contains-nil}
 use Rattle.esto_catalog.proofs.NameLemmas.{any_free, name_of}
-use Rattle.esto_catalog.specs.Datasets.{AreBased, AreDatasets, FitModel, IsDataset, StandFrom, adds_dataset, columns_row, described_row, has_dataset, is_name, model_relations, name_row, reads_dataset, reads_datasets, relation_count, relations_of, schema_of}
+use Rattle.esto_catalog.specs.Datasets.{AreBased, AreDatasets, FitModel, IsDataset, StandFrom, adds_dataset, columns_row, dataset_of, has_dataset, is_name, model_relations, reads_dataset, reads_datasets, relation_count, relations_of, schema_of}
 use Rattle.esto_catalog.specs.Models.{layout_row}
-use Rattle.esto_catalog.specs.Rows.{IsWant, IsAny, knows_keys}
+use Rattle.esto_catalog.specs.Rows.{IsWant, IsAny}
 use Rattle.esto_settings.specs.Settings.{is_same}
 use Rattle.esto_catalog.specs.declared.dataset.Dataset.{Dataset}
 use Rattle.esto_catalog.specs.declared.fault.CatalogueError.{CatalogueError}
 use Rattle.esto_catalog.specs.declared.fault.Place.{Place}
 use Rattle.esto_catalog.specs.declared.fault.Section.TheVariants as section
-use Rattle.esto_catalog.specs.declared.row.Keys.TheVariants as keys
 use Rattle.esto_settings.specs.declared.setting.Field.{Field}
 use Rattle.esto_catalog.specs.declared.whole.TheConstants.{MAX_ENTRIES}
-
--- a dataset by other words of its name and its base
-pub same_dataset : (name other : List ℕ) (model : DataModel) (base from : ℕ) (columns : List (List ℕ)) (layout : Layout) (file : Option (List ℕ)) → other ≡ name
-    → from ≡ base
-    → ◌≡◌ {A = Dataset} (record { name = other; model = model; base = from; columns = columns; layout = layout; file = file })
-    (record { name = name; model = model; base = base; columns = columns; layout = layout; file = file })
-same_dataset name other model base from columns layout file named based =
-    λ i. record { name = named i; model = model; base = based i; columns = columns; layout = layout; file = file }
-
--- a dataset of this name and base with what the rows after the name gave
-abbrev dataset_with : List ℕ → ℕ → DataModel × List (List ℕ) × Layout × Option (List ℕ) → Dataset
-dataset_with name base rows = record { name = name; model = rows.0; base = base; columns = rows.1; layout = rows.2; file = rows.3 }
-
--- what the rows after the name give is what the rows of the dataset give
-module _ (place : Place) (earlier : List Dataset) (entry : List Field) (unit : Unit {0}) (known : (knows_keys place keys.Dataset entry).goes unit)
-    (name : List ℕ) (named : (name_row place earlier entry).goes name) where
-  pub dataset_goes : (model : DataModel) (columns : List (List ℕ)) (layout : Layout) (file : Option (List ℕ)) (dataset : Dataset)
-      → (described_row place entry).goes (model, columns, layout, file)
-      → dataset ≡ dataset_with name (length (schema_of earlier)) (model, columns, layout, file) → (reads_dataset place earlier entry).goes dataset
-  unfolding and_then gives
-  dataset_goes model columns layout file dataset (model', m, (columns', c, (stand, (layout', l, (file', f, is)), all))) made =
-      let rows : (model, columns, layout, file) ≡ (model', columns', layout', file') =
-      all ∙ ap (λ (it : Layout × Option (List ℕ)). (model', columns', it.0, it.1)) is in
-      let whole : dataset ≡ dataset_with name (length (schema_of earlier)) (model', columns', layout', file') =
-      made ∙ ap (dataset_with name (length (schema_of earlier))) rows in
-      (unit, known, (name, named, (model', m, (columns', c, (layout', l, (file', f, whole))))))
-
-  described_stops : (error : CatalogueError) → (described_row place entry).stops error → (reads_dataset place earlier entry).stops error
-  unfolding and_then gives
-  described_stops error stops = inr (
-    unit,
-    known,
-    inr (
-      name,
-      named,
-      elim stops [
-        | inl e ↦ inl e
-        | inr (model, m, inl e) ↦ inr (model, m, inl e)
-        | inr (model, m, inr (columns, c, inl (inl e))) ↦ inr (model, m, inr (columns, c, inl e))
-        | inr (model, m, inr (columns, c, inl (inr (layout, l, inl e)))) ↦ inr (model, m, inr (columns, c, inr (layout, l, inl e)))
-        | inr (model, m, inr (columns, c, inl (inr (layout, l, inr (file, f, never))))) ↦ absurd never
-        | inr (model, m, inr (columns, c, inr (stand, s, never))) ↦ absurd never
-      ],
-    ),
-  )
-
-  pub dataset_stops : (error : CatalogueError) → Stops IsWant IsAny (described_row place entry) error → Stops IsWant IsAny (reads_dataset place earlier entry)
-      error
-  dataset_stops error stops = stops_more (described_row place entry) (reads_dataset place earlier entry) described_stops error stops
 
 -- ---- relations of more datasets
 
@@ -191,8 +141,15 @@ unfolding and_then gives demands
 read_next place earlier entry dataset (
   unit,
   known,
-  (name, (raw, needed, (u, is_own, (v, new, same_name))), (model, model_goes, (columns, columns_goes, (layout, layout_goes, (file, file_goes, is))))),
+  (
+    name,
+    (raw, needed, (u, is_own, (v, new, same_name))),
+    (rest, (model, model_goes, (columns, columns_goes, (last, (layout, layout_goes, (file, file_goes, last_is)), rest_is))), made),
+  ),
 ) =
+    let rows : rest ≡ (model, columns, layout, file) = rest_is ∙ ap (λ (it : Layout × Option (List ℕ)). (model, columns, it.0, it.1)) last_is in
+    let is : dataset ≡ dataset_of name (length (schema_of earlier)) (model, columns, layout, file) =
+    made ∙ ap (dataset_of name (length (schema_of earlier))) rows in
     let named : dataset.name ≡ raw = ap name_of is ∙ same_name in
     let modelled : dataset.model ≡ model = ap (λ (d : Dataset). d.model) is in
     let laid : dataset.layout ≡ layout = ap (λ (d : Dataset). d.layout) is in

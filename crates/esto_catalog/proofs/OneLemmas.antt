@@ -10,6 +10,8 @@ use Rattle.std.proofs.lemmas.Option.{same_Some}
 use Rattle.esto_acyclic.specs.Graphs.{AreRanks, IsLeastCycle}
 use Rattle.esto_acyclic.specs.Relations.{IsEdge}
 use Rattle.esto_acyclic.specs.declared.relations.Cycle.{Cycle}
+use Rattle.esto_constraint.specs.Constraints.{rules_of}
+use Rattle.esto_constraint.specs.EncodingRules.{written}
 use Rattle.esto_constraint.specs.Soundness.{IsSoundTuple, IsSoundEquality, IsSoundDenial}
 use Rattle.esto_constraint.specs.declared.rule.Constraint.{Constraint}
 use Rattle.esto_constraint.specs.declared.rule.Constraint.TheVariants.{Tuple, Equal as Equality, Never}
@@ -47,7 +49,7 @@ use Rattle.esto_text.specs.declared.version.Version.TheVariants.{One, Two}
 use Rattle.esto_catalog.proofs.AccessLemmas.{patterns_one, weight_one}
 use Rattle.esto_catalog.specs.Access.{reads_patterns, allows_access, allows_weight}
 use Rattle.esto_catalog.specs.Constraints.{reads_rule, reads_constraint, adds_constraint, reads_constraints}
-use Rattle.esto_catalog.specs.Datasets.{name_row, columns_row, reads_dataset, adds_dataset, reads_datasets, schema_of, words_of}
+use Rattle.esto_catalog.specs.Datasets.{name_row, columns_row, layout_and_file_rows, rows_after_name, reads_dataset, adds_dataset, reads_datasets, schema_of, words_of}
 use Rattle.esto_catalog.proofs.DatasetLemmas.{read_set}
 use Rattle.esto_catalog.proofs.SchemaLemmas.{set_words}
 use Rattle.esto_catalog.proofs.ShapeLemmas.{head_fit, names_are, view_reading}
@@ -55,14 +57,15 @@ use Rattle.esto_catalog.specs.Determined.{HaveOneCatalogue, HaveNoError, HaveOne
 use Rattle.esto_catalog.specs.Models.{allows_layout, layout_row, layout_word, model_word, needs_model, unfit_row}
 use Rattle.esto_catalog.specs.Rules.{all_rules}
 use Rattle.esto_catalog.specs.Shapes.{AreDistinctNames, documents_row, head_columns, keys_row, pattern_row, reads_pattern, shape_row, store_columns, table_row}
-use Rattle.esto_catalog.specs.Fragments.{reads_view, view_row, stored_fragment, reads_fragment, adds_fragment, reads_fragments, no_fragments, with_fragment}
-use Rattle.esto_catalog.specs.Reading.{IsCatalogueError, IsCycleOf, IsMadeOf, is_acyclic, reads_catalogue}
+use Rattle.esto_catalog.specs.Fragments.{reads_view, view_row, access_and_weight_rows, rows_after_file, rows_after_view, stored_fragment, reads_fragment, adds_fragment, reads_fragments, no_fragments, with_fragment}
+use Rattle.esto_catalog.specs.Reading.{IsCatalogueError, IsCycleOf, IsMadeOf, IsRankedOf, is_ranked, makes_catalogue, reads_catalogue, reads_fragments_and_rules, reads_ranked, reads_sections}
 use Rattle.esto_catalog.specs.Rows.{IsWant, IsAny, fault_at, text_fault_at, IsLeastUnknown, knows_keys, needs_text, needs_texts, allows_text, top}
 use Rattle.esto_settings.specs.Settings.{document_of, setting_at}
-use Rattle.esto_catalog.specs.Whole.{number_of, top_keys, reads_toml, reads_version, reads_core, reads_section, reads_whole}
+use Rattle.esto_catalog.specs.Whole.{number_of, top_keys, reads_toml, reads_version, reads_core, fits_section, reads_top, reads_whole}
 use Rattle.esto_catalog.specs.declared.catalogue.Catalogue.{Catalogue}
 use Rattle.esto_catalog.specs.declared.catalogue.Shape.{Shape}
 use Rattle.esto_catalog.specs.declared.catalogue.Shape.TheVariants.{Documents as FromDocuments}
+use Rattle.esto_catalog.specs.declared.catalogue.Store.{Store}
 use Rattle.esto_catalog.specs.declared.dataset.Dataset.{Dataset}
 use Rattle.esto_catalog.specs.declared.fault.CatalogueError.{CatalogueError}
 use Rattle.esto_catalog.specs.declared.fault.CatalogueError.TheVariants.{Fault, NotAcyclic, OutOfMemory}
@@ -74,6 +77,9 @@ use Rattle.esto_catalog.specs.declared.row.Keys.{Keys as KeySet}
 use Rattle.esto_catalog.specs.declared.row.Keys.TheVariants as keys
 use Rattle.esto_catalog.specs.declared.fragment.Fragments.{Fragments}
 use Rattle.esto_catalog.specs.declared.fragment.Stored.{Stored}
+use Rattle.esto_catalog.specs.declared.walk.Ranked.{Ranked}
+use Rattle.esto_catalog.specs.declared.whole.Sections.{Sections}
+use Rattle.esto_settings.specs.declared.setting.Document.{Document}
 use Rattle.esto_settings.specs.declared.setting.Field.{Field}
 use Rattle.esto_settings.specs.declared.setting.Setting.{Setting}
 use Rattle.esto_settings.specs.declared.setting.Setting.TheVariants.{Text, Integer, Texts, Other}
@@ -165,9 +171,9 @@ toml_determined bytes = judges_determined ◌≡◌ _ _
     (λ error other (none, is) (none', is'). is ∙ sym is')
     (λ document error (pairs, table, is) (none, is'). none pairs table)
 
-section_determined : (key : List ℕ) (section : Option (List (List Field))) → IsDetermined (reads_section key section)
+section_determined : (key : List ℕ) (section : Option (List (List Field))) → IsDetermined (fits_section key section)
 section_determined key None = refuses_determined _ _
-section_determined key (Some entries) = then_determined ◌≡◌ _ _ (demands_determined _ _) (λ unit few. gives_determined _ _)
+section_determined key (Some tables) = demands_determined _ _
 
 version_one : (version other : Version) → number_of version ≡ number_of other → version ≡ other
 version_one One One same = refl
@@ -186,15 +192,19 @@ core_determined : (core : Option Bool) → IsDetermined (reads_core core)
 core_determined None = refuses_determined _ _
 core_determined (Some core) = gives_determined _ _
 
+top_determined : (document : Document) → IsDetermined (reads_top document)
+top_determined document =
+    then_determined ◌≡◌ _ _ (keys_determined top (top_keys (setting_at (codes "version") document.fields)) document.fields) (λ unit known.
+    then_determined ◌≡◌ _ _ (version_determined _) (λ version goes.
+    then_determined ◌≡◌ _ _ (core_determined document.core) (λ core goes1.
+    then_determined ◌≡◌ _ _ (section_determined _ document.datasets) (λ u goes2.
+    then_determined ◌≡◌ _ _ (section_determined _ document.fragments) (λ v goes3.
+    then_determined ◌≡◌ _ _ (section_determined _ document.constraints) (λ w goes4. gives_determined _ _))))))
+
 whole_determined : (bytes : List ℕ) → IsDetermined (reads_whole bytes)
 whole_determined bytes =
     then_determined ◌≡◌ _ _ (toml_determined bytes) (λ document goes.
-    then_determined ◌≡◌ _ _ (keys_determined top (top_keys (setting_at (codes "version") document.fields)) document.fields) (λ unit known.
-    then_determined ◌≡◌ _ _ (version_determined _) (λ version goes0.
-    then_determined ◌≡◌ _ _ (core_determined document.core) (λ core goes4.
-    then_determined ◌≡◌ _ _ (section_determined _ document.datasets) (λ datasets goes1.
-    then_determined ◌≡◌ _ _ (section_determined _ document.fragments) (λ fragments goes2.
-    then_determined ◌≡◌ _ _ (section_determined _ document.constraints) (λ constraints goes3. gives_determined _ _)))))))
+    then_determined ◌≡◌ _ _ (top_determined document) (λ found goes1. gives_determined _ _))
 
 -- ---- models and layouts
 
@@ -247,17 +257,27 @@ columns_determined place Table entry = then_determined ◌≡◌ _ _ (texts_dete
 columns_determined place Documents entry = then_determined ◌≡◌ _ _ (free_determined _ place entry) (λ unit free. gives_determined _ _)
 columns_determined place Keys entry = then_determined ◌≡◌ _ _ (free_determined _ place entry) (λ unit free. gives_determined _ _)
 
+name_determined : (place : Place) (earlier : List Dataset) (entry : List Field) → IsDetermined (name_row place earlier entry)
+name_determined place earlier entry =
+    then_determined ◌≡◌ _ _ (text_determined place _ _) (λ name goes. then_determined ◌≡◌ _ _ (demands_determined _ _)
+    (λ u g. then_determined ◌≡◌ _ _ (demands_determined _ _) (λ v h. gives_determined _ _)))
+
+last_determined : (place : Place) (model : DataModel) (entry : List Field) → IsDetermined (layout_and_file_rows place model entry)
+last_determined place model entry =
+    then_determined ◌≡◌ _ _ (layout_determined place model entry) (λ layout goes.
+    then_determined ◌≡◌ _ _ (allowed_determined place _ _) (λ file goes1. gives_determined _ _))
+
+rows_determined : (place : Place) (entry : List Field) → IsDetermined (rows_after_name place entry)
+rows_determined place entry =
+    then_determined ◌≡◌ _ _ (model_determined _ place _ entry) (λ model goes.
+    then_determined ◌≡◌ _ _ (columns_determined place model entry) (λ columns goes1.
+    then_determined ◌≡◌ _ _ (last_determined place model entry) (λ last goes2. gives_determined _ _)))
+
 dataset_determined : (place : Place) (earlier : List Dataset) (entry : List Field) → IsDetermined (reads_dataset place earlier entry)
 dataset_determined place earlier entry =
     then_determined ◌≡◌ _ _ (keys_determined place keys.Dataset entry) (λ unit known.
-    then_determined ◌≡◌ _ _ name (λ name goes.
-    then_determined ◌≡◌ _ _ (model_determined _ place _ entry) (λ model goes1.
-    then_determined ◌≡◌ _ _ (columns_determined place model entry) (λ columns goes2.
-    then_determined ◌≡◌ _ _ (layout_determined place model entry) (λ layout goes3.
-    then_determined ◌≡◌ _ _ (allowed_determined place _ _) (λ file goes4. gives_determined _ _)))))) where
-      name : IsDetermined (name_row place earlier entry)
-      name = then_determined ◌≡◌ _ _ (text_determined place _ _) (λ name goes. then_determined ◌≡◌ _ _ (demands_determined _ _)
-          (λ u g. then_determined ◌≡◌ _ _ (demands_determined _ _) (λ v h. gives_determined _ _)))
+    then_determined ◌≡◌ _ _ (name_determined place earlier entry) (λ name goes.
+    then_determined ◌≡◌ _ _ (rows_determined place entry) (λ rest goes1. gives_determined _ _)))
 
 pub datasets_determined : (entries : List (List Field)) → IsDetermined (reads_datasets entries)
 datasets_determined entries = each_determined adds_dataset (λ number earlier entry. then_determined ◌≡◌
@@ -273,6 +293,14 @@ AreSameEntries pattern other = entries_of pattern.entries ≡ entries_of other.e
 
 abbrev AreSameShape : Shape → Shape → Type 0
 AreSameShape shape other = (file : List ℕ) → shape_as shape file ≡ shape_as other file
+
+-- the shape, the patterns and the weight
+abbrev AreSameParts : Shape × List (List Bool) × ℕ → Shape × List (List Bool) × ℕ → Type 0
+AreSameParts parts others = AreSameShape parts.0 others.0 × (parts.1 ≡ others.1) × (parts.2 ≡ others.2)
+
+-- the store, the patterns and the weight
+abbrev AreSameRest : Store × List (List Bool) × ℕ → Store × List (List Bool) × ℕ → Type 0
+AreSameRest rest others = (stored_as rest.0 ≡ stored_as others.0) × (rest.1 ≡ others.1) × (rest.2 ≡ others.2)
 
 abbrev AreSameStored : Stored → Stored → Type 0
 AreSameStored stored other = (stored.definition ≡ other.definition) × (stored_as stored.store ≡ stored_as other.store)
@@ -332,13 +360,11 @@ shape_agree shape other alike = gives_alike (λ _. Unit {0}) AreSameShape shape 
 shape_itself : (shape : Shape) → IsDeterminedUpTo AreSameShape (gives {E = CatalogueError} shape)
 shape_itself shape = shape_agree shape shape (λ file. refl)
 
-stored_agree : (view : NamedQuery) (file : List ℕ) (shape other : Shape) (access access' : List (List Bool)) (weight weight' : ℕ) → AreSameShape shape other
-    → access ≡ access' → weight ≡ weight'
-    → Agree (λ _. Unit {0}) AreSameStored (gives {E = CatalogueError} (stored_fragment view file shape access weight))
-    (gives (stored_fragment view file other access' weight'))
-stored_agree view file shape other access access' weight weight' alike same same' =
-    gives_alike (λ _. Unit {0}) AreSameStored _ _
-    ((λ i. record { name = view.name; view = view.query; access = same i; weight = same' i }), alike file)
+stored_agree : (view : NamedQuery) (rest others : Store × List (List Bool) × ℕ) → AreSameRest rest others
+    → Agree (λ _. Unit {0}) AreSameStored (gives {E = CatalogueError} (stored_fragment view rest.0 rest.1 rest.2))
+    (gives (stored_fragment view others.0 others.1 others.2))
+stored_agree view rest others (stores, access, weights) =
+    gives_alike (λ _. Unit {0}) AreSameStored _ _ ((λ i. record { name = view.name; view = view.query; access = access i; weight = weights i }), stores)
 
 fragments_agree : (earlier others : Fragments) (stored other : Stored) → AreSameFragments earlier others → AreSameStored stored other
     → Agree (λ _. Unit {0}) AreSameFragments (gives {E = CatalogueError} (with_fragment earlier stored)) (gives (with_fragment others other))
@@ -433,18 +459,32 @@ module _ (one : HaveOneReading) (no_fault : HaveNoFault) (one_fault : HaveOneFau
     shape_determined Documents = documents_determined
     shape_determined Keys = keys_determined_as
 
+    last_rows_determined : (model : DataModel) → IsDetermined (access_and_weight_rows place model view entry)
+    last_rows_determined model =
+        then_determined ◌≡◌ _ _ (access_determined place model _ _) (λ access goes.
+        then_determined ◌≡◌ _ _ (weight_determined place _) (λ weight goes1. gives_determined _ _))
+
+    after_file_determined : (model : DataModel) → IsDeterminedUpTo AreSameParts (rows_after_file place model view entry)
+    after_file_determined model =
+        then_agree (λ _. Unit {0}) AreSameShape AreSameParts _ _ _ _ (shape_determined model) (λ shape other goes alike.
+        then_agree (λ _. Unit {0}) ◌≡◌ AreSameParts _ _ _ _ (last_rows_determined model) (λ last last' goes1 same.
+        gives_alike (λ _. Unit {0}) AreSameParts _ _
+        (alike, ap (λ (it : List (List Bool) × ℕ). it.0) same, ap (λ (it : List (List Bool) × ℕ). it.1) same)))
+
+    after_view_determined : IsDeterminedUpTo AreSameRest (rows_after_view place view entry)
+    after_view_determined =
+        then_determined AreSameRest _ _ (model_determined _ place _ entry) (λ model goes.
+        then_determined AreSameRest _ _ (text_determined place _ _) (λ file goes1.
+        then_agree (λ _. Unit {0}) AreSameParts AreSameRest _ _ _ _ (after_file_determined model) (λ parts others goes2 (alike, access, weights).
+        gives_alike (λ _. Unit {0}) AreSameRest _ _ (alike file, access, weights))))
+
   fragment_determined : (place : Place) (earlier : List FragmentDef) (entry : List Field)
       → IsDeterminedUpTo AreSameStored (reads_fragment place datasets earlier entry)
   fragment_determined place earlier entry =
       then_determined AreSameStored _ _ (keys_determined place keys.Fragment entry) (λ unit known.
       then_determined AreSameStored _ _ (view_row_determined place earlier entry) (λ view goes.
-      then_determined AreSameStored _ _ (model_determined _ place _ entry) (λ model goes1.
-      then_determined AreSameStored _ _ (text_determined place _ _) (λ file goes2.
-      then_agree (λ _. Unit {0}) AreSameShape AreSameStored _ _ _ _ (shape_determined place view.query entry (distinct view goes) model)
-      (λ shape other goes3 alike.
-      then_agree (λ _. Unit {0}) ◌≡◌ AreSameStored _ _ _ _ (access_determined place model _ _) (λ access access' goes4 same.
-      then_agree (λ _. Unit {0}) ◌≡◌ AreSameStored _ _ _ _ (weight_determined place _) (λ weight weight' goes5 same'.
-      stored_agree view file shape other access access' weight weight' alike same same'))))))) where
+      then_agree (λ _. Unit {0}) AreSameRest AreSameStored _ _ _ _ (after_view_determined place view.query entry (distinct view goes))
+      (λ rest others goes1 alike. stored_agree view rest others alike))) where
         distinct : (view : NamedQuery) → (view_row place datasets earlier entry).goes view → AreDistinctNames view.query
         distinct view goes =
             let reading = view_reading place datasets earlier entry view goes in
@@ -523,62 +563,89 @@ HaveOneRanks = (rules : List Rule) (count : ℕ) (ranks others : List ℕ) → A
 abbrev pub HaveOneCycle : Type 0
 HaveOneCycle = (rules : List Rule) (relations others : List ℕ) → IsLeastCycle (IsEdge rules) relations → IsLeastCycle (IsEdge rules) others → relations ≡ others
 
-module _ (one_ranks : HaveOneRanks) (one_cycle : HaveOneCycle) (version : Version) (core : Bool) (datasets : List Dataset) (given : List Constraint) where
-  same_catalogue : (fragments others : Fragments) (catalogue other : Catalogue) → AreSameFragments fragments others
-      → IsMadeOf version core datasets fragments given catalogue → IsMadeOf version core datasets others given other
+-- the same rules, up to what they mean, with the same ranks
+record AreSameRanked (ranked other : Ranked) : Type 0 where
+  rules : rules_of ranked.rules ≡ rules_of other.rules
+  names : map written ranked.rules ≡ map written other.rules
+  given : ranked.given ≡ other.given
+  ranks : ranked.ranks ≡ other.ranks
+
+module _ (one_ranks : HaveOneRanks) (one_cycle : HaveOneCycle) (version : Version) (datasets : List Dataset) (own : List Constraint) where
+  same_ranked : (ranked other : Ranked) → IsRankedOf version datasets own ranked → IsRankedOf version datasets own other → AreSameRanked ranked other
+  same_ranked ranked other are are' = record {
+    rules = are.rules.all ∙ sym are'.rules.all;
+    names = are.rules.names ∙ sym are'.rules.names;
+    given = are.given_are ∙ sym are'.given_are;
+    ranks = one_ranks (all_rules version datasets own) _ _ _ are.ranks are'.ranks;
+  }
+
+  same_cycle : (cycle other : Cycle) → IsCycleOf datasets (all_rules version datasets own) cycle → IsCycleOf datasets (all_rules version datasets own) other
+      → cycle ≡ other
+  same_cycle cycle other (least, names) (least', names') =
+      let relations : cycle.relations ≡ other.relations = one_cycle (all_rules version datasets own) _ _ least least' in
+      let all : cycle.names ≡ other.names = some_names _ _ (names ∙ (ap (map (slice_get (names_of (schema_of datasets)))) relations ∙ sym names')) in
+      λ i. record { relations = relations i; names = all i }
+
+  ranked_determined : IsDeterminedUpTo AreSameRanked (is_ranked version datasets own)
+  ranked_determined = judges_determined AreSameRanked _ _ (λ ranked other are are'. same_ranked ranked other are are')
+      (λ error other (cycle, is_cycle, is) (cycle', is_cycle', is'). is ∙ (ap NotAcyclic (same_cycle cycle cycle' is_cycle is_cycle') ∙ sym is'))
+      (λ ranked error are (cycle, is_cycle, is). are.acyclic is_cycle.0.start cycle.relations is_cycle.0.here.cycle)
+
+abbrev AreSameFound : Fragments × Ranked → Fragments × Ranked → Type 0
+AreSameFound found others = AreSameFragments found.0 others.0 × AreSameRanked found.1 others.1
+
+module _ (core : Bool) (datasets : List Dataset) (found others : Fragments × Ranked) (same : AreSameFound found others) where
+  same_catalogue : (catalogue other : Catalogue) → IsMadeOf core datasets found.0 found.1 catalogue → IsMadeOf core datasets others.0 others.1 other
       → AreSameCatalogue catalogue other
-  same_catalogue fragments others catalogue other (definitions, alike) made made' =
-      let same : catalogue.fragments ≡ other.fragments = made.definitions ∙ definitions ∙ sym made'.definitions in
+  same_catalogue catalogue other made made' =
+      let fragments : catalogue.fragments ≡ other.fragments = made.definitions ∙ same.0.0 ∙ sym made'.definitions in
       record {
         schema = made.schema ∙ sym made'.schema;
         words = made.words ∙ sym made'.words;
         datasets = made.same_datasets ∙ sym made'.same_datasets;
-        names = ap (map (λ (fragment : FragmentDef). fragment.name)) same;
-        views = ap views_of same;
-        patterns = ap patterns_of same;
-        weights = ap weights_of same;
-        stores = ap (map stored_as) made.stores ∙ alike ∙ sym (ap (map stored_as) made'.stores);
-        rules = made.rules.all ∙ sym made'.rules.all;
-        rule_names = made.rules.names ∙ sym made'.rules.names;
-        given = made.given_are ∙ sym made'.given_are;
-        ranks = one_ranks (all_rules version datasets given) _ _ _ made.ranks made'.ranks;
+        names = ap (map (λ (fragment : FragmentDef). fragment.name)) fragments;
+        views = ap views_of fragments;
+        patterns = ap patterns_of fragments;
+        weights = ap weights_of fragments;
+        stores = ap (map stored_as) made.stores ∙ same.0.1 ∙ sym (ap (map stored_as) made'.stores);
+        rules = ap rules_of made.rules ∙ same.1.rules ∙ sym (ap rules_of made'.rules);
+        rule_names = ap (map written) made.rules ∙ same.1.names ∙ sym (ap (map written) made'.rules);
+        given = made.given ∙ same.1.given ∙ sym made'.given;
+        ranks = made.ranks ∙ same.1.ranks ∙ sym made'.ranks;
         core = made.core_is ∙ sym made'.core_is;
       }
 
-  same_cycle : (cycle other : Cycle) → IsCycleOf datasets (all_rules version datasets given) cycle → IsCycleOf datasets (all_rules version datasets given) other
-      → cycle ≡ other
-  same_cycle cycle other (least, names) (least', names') =
-      let relations : cycle.relations ≡ other.relations = one_cycle (all_rules version datasets given) _ _ least least' in
-      let all : cycle.names ≡ other.names = some_names _ _ (names ∙ (ap (map (slice_get (names_of (schema_of datasets)))) relations ∙ sym names')) in
-      λ i. record { relations = relations i; names = all i }
-
-  acyclic_agree : (fragments others : Fragments) → AreSameFragments fragments others
-      → Agree (λ _. Unit {0}) AreSameCatalogue (is_acyclic version core datasets fragments given) (is_acyclic version core datasets others given)
-  acyclic_agree fragments others alike = judges_agree (λ _. Unit {0}) AreSameCatalogue _ _ _ _
-      (λ catalogue other made made'. same_catalogue fragments others catalogue other alike made made')
-      (λ error other because because' (cycle, is_cycle, is) (cycle', is_cycle', is').
-      is ∙ (ap NotAcyclic (same_cycle cycle cycle' is_cycle is_cycle') ∙ sym is'))
-      (λ catalogue error because made (cycle, is_cycle, is). made.acyclic is_cycle.0.start cycle.relations is_cycle.0.here.cycle)
-      (λ catalogue error because made (cycle, is_cycle, is). made.acyclic is_cycle.0.start cycle.relations is_cycle.0.here.cycle)
+  catalogue_agree : Agree (λ _. Unit {0}) AreSameCatalogue (makes_catalogue core datasets found.0 found.1) (makes_catalogue core datasets others.0 others.1)
+  catalogue_agree = judges_agree (λ _. Unit {0}) AreSameCatalogue _ _ _ _ (λ catalogue other made made'. same_catalogue catalogue other made made')
+      (λ error other because because' never never'. absurd never)
+      (λ catalogue error because made never. never) (λ catalogue error because made never. never)
 
 module _ (one : HaveOneReading) (no_fault : HaveNoFault) (one_fault : HaveOneFault) (name_columns : ViewsNameTheirColumns) (one_layout : HaveOneLayout)
     (no_layout_fault : HaveNoLayoutFault) (one_layout_fault : HaveOneLayoutFault) (one_rule : HaveOneRule) (no_rule_fault : HaveNoRuleFault)
     (one_rule_fault : HaveOneRuleFault) (one_ranks : HaveOneRanks) (one_cycle : HaveOneCycle) where
-  walk_determined : (bytes : List ℕ) → IsDeterminedUpTo AreSameCatalogue (reads_catalogue bytes)
-  walk_determined bytes =
-      then_determined AreSameCatalogue _ _ (whole_determined bytes) (λ sections goes.
+  found_determined : (sections : Sections) (datasets : List Dataset) → IsVocabulary (arities_of (schema_of datasets)) (words_of datasets)
+      → IsDeterminedUpTo AreSameFound (reads_fragments_and_rules sections datasets)
+  found_determined sections datasets words =
+      then_agree (λ _. Unit {0}) AreSameFragments AreSameFound _ _ _ _
+      (fragments_determined one no_fault one_fault name_columns one_layout no_layout_fault one_layout_fault datasets words sections.fragments)
+      (λ fragments others goes alike.
+      then_agree (λ _. Unit {0}) AreSameRanked AreSameFound _ _ _ _ rules (λ ranked other goes1 same.
+      gives_alike (λ _. Unit {0}) AreSameFound _ _ (alike, same))) where
+        rules : IsDeterminedUpTo AreSameRanked (reads_ranked sections datasets)
+        rules =
+            then_determined AreSameRanked _ _
+            (constraints_determined one_rule no_rule_fault one_rule_fault datasets words sections.version sections.constraints)
+            (λ own goes. ranked_determined one_ranks one_cycle sections.version datasets own)
+
+  sections_determined : (sections : Sections) → IsDeterminedUpTo AreSameCatalogue (reads_sections sections)
+  sections_determined sections =
       then_determined AreSameCatalogue _ _ (datasets_determined sections.datasets) (λ datasets read.
-      then_agree (λ _. Unit {0}) AreSameFragments AreSameCatalogue _ _ _ _
-      (fragments_determined one no_fault one_fault name_columns one_layout no_layout_fault one_layout_fault datasets (named sections.datasets datasets read)
-      sections.fragments) (λ fragments others goes1 alike.
-      then_agree (λ _. Unit {0}) ◌≡◌ AreSameCatalogue _ _ _ _ (constraints_determined one_rule no_rule_fault one_rule_fault datasets
-      (named sections.datasets datasets read) sections.version sections.constraints) (λ given given' goes2 same.
-      subst (λ (g : List Constraint). Agree (λ _. Unit {0}) AreSameCatalogue (is_acyclic sections.version sections.core datasets fragments
-      given) (is_acyclic sections.version sections.core datasets others g)) same
-      (acyclic_agree one_ranks one_cycle sections.version sections.core datasets given fragments others alike))))) where
-        named : (entries : List (List Field)) (datasets : List Dataset) → (reads_datasets entries).goes datasets
-            → IsVocabulary (arities_of (schema_of datasets)) (words_of datasets)
-        named entries datasets read = set_words datasets (read_set entries datasets read).0
+      then_agree (λ _. Unit {0}) AreSameFound AreSameCatalogue _ _ _ _
+      (found_determined sections datasets (set_words datasets (read_set sections.datasets datasets read).0))
+      (λ found others goes same. catalogue_agree sections.core datasets found others same))
+
+  walk_determined : (bytes : List ℕ) → IsDeterminedUpTo AreSameCatalogue (reads_catalogue bytes)
+  walk_determined bytes = then_determined AreSameCatalogue _ _ (whole_determined bytes) (λ sections goes. sections_determined sections)
 
   pub have_one_catalogue : HaveOneCatalogue
   have_one_catalogue bytes catalogue other reads reads' = (walk_determined bytes).one catalogue other reads reads'

@@ -1,19 +1,15 @@
 -- How the answer of a row follows from what it found.
-use Rattle.std.proofs.Common.{◌≡◌, ◌<◌, ◌≤◌, ℕ, List, length, Bor, Option, Some, None, option_copied, subst, arith, Bool, true, false, not, Result, Ok, Err, inl, inr, refl, sym, ◌∙◌}
+use Rattle.std.proofs.Common.{◌≡◌, Bor, Option, Some, None, option_copied, subst, Bool, true, false, not, Result, Ok, Err, inl, inr, refl, sym, ◌∙◌}
 use Rattle.std.proofs.lemmas.Bool.{false≢true}
 use Rattle.std.specs.Prelude.{◌↔◌, MatchOption}
 use Rattle.std.specs.Result.{IfOk, IfErr, IsErrAnd, result_and}
 use Rattle.esto_course.proofs.Steps.{at_exit, first_stops, then_stops, then_goes, gives_goes}
 use Rattle.esto_course.specs.Course.{Course, judges, gives, refuses, demands, and_then, Stops}
 use Rattle.esto_course.specs.Course.Stops.{is_free, refused}
-use Rattle.esto_catalog.specs.Rows.{IsWant, IsAny, IsFault, Walks, fault_at, top}
-use Rattle.esto_catalog.specs.Whole.{entries_of, reads_section}
-use Rattle.esto_catalog.specs.declared.fault.CatalogueKind.TheVariants.{TooMany, WrongType}
-use Rattle.esto_settings.specs.declared.setting.Field.{Field}
+use Rattle.esto_catalog.specs.Rows.{IsWant, IsAny, IsFault, Walks}
 use Rattle.esto_settings.specs.declared.setting.Setting.{Setting}
 use Rattle.esto_catalog.specs.declared.fault.CatalogueError.{CatalogueError}
 use Rattle.esto_catalog.specs.declared.fault.CatalogueError.TheVariants.{OutOfMemory}
-use Rattle.esto_catalog.specs.declared.whole.TheConstants.{MAX_ENTRIES}
 
 -- an error that `?` hands on
 pub row_exit : {A : Type 0} (course : Course CatalogueError A) (error : CatalogueError) (result : Result A CatalogueError)
@@ -108,7 +104,8 @@ module _ {A : Type 0} (value : A) (checked : Result (Unit {0}) CatalogueError) (
     where
       passes : (condition : Type 0) (fault : CatalogueError) (checked : Result (Unit {0}) CatalogueError) → Walks (demands condition fault) checked
           → Walks (and_then (demands condition fault) (λ _. gives value)) (result_and checked (Ok value))
-      passes condition fault (Ok unit) goes = then_goes (demands condition fault) (λ _. gives value) unit value goes (gives_goes CatalogueError value value refl)
+      passes condition fault (Ok unit) goes =
+          then_goes (demands condition fault) (λ _. gives value) unit value goes (gives_goes CatalogueError value value refl)
       passes condition fault (Err error) stops = first_stops (demands condition fault) (λ _. gives value) stops
 
   pub checked_holds : (P : A → Type 0) → P value → IfOk result P
@@ -129,29 +126,6 @@ pub judges_stops : {A : Type 0} (accepts : A → Type 0) (refuses : CatalogueErr
 unfolding judges
 judges_stops accepts refuses fault error refused_so (inl is) = refused tt (refused_so error is)
 judges_stops accepts refuses fault error refused_so (inr want) = is_free want
-
--- ---- a section
-
-pub section_goes : (key : List ℕ) (section : Option (List (List Field))) (entries : List (List Field)) → section ≡ Some entries
-    → length entries ≤ MAX_ENTRIES → (reads_section key section).goes (entries_of section)
-section_goes key section entries is few =
-    subst (λ (s : Option (List (List Field))). (reads_section key s).goes (entries_of s)) (sym is)
-    (then_goes (demands (length entries ≤ MAX_ENTRIES) (fault_at TooMany top key)) (λ _. gives entries) tt entries
-    (demands_goes (length entries ≤ MAX_ENTRIES) (fault_at TooMany top key) tt few) (gives_goes CatalogueError entries entries refl))
-
-pub section_stops : (key : List ℕ) (section : Option (List (List Field))) (entries : List (List Field)) (error : CatalogueError) → section ≡ Some entries
-    → 256 < length entries → IsFault (fault_at TooMany top key) error
-    → Stops IsWant IsAny (reads_section key section) error
-section_stops key section entries error is many fault =
-    subst (λ (s : Option (List (List Field))). Stops IsWant IsAny (reads_section key s) error) (sym is)
-    (first_stops (demands (length entries ≤ MAX_ENTRIES) (fault_at TooMany top key)) (λ _. gives entries)
-    (demands_stops (length entries ≤ MAX_ENTRIES) (fault_at TooMany top key) error (λ few. absurd (omega arith)) fault))
-
-pub section_absent : (key : List ℕ) (section : Option (List (List Field))) (error : CatalogueError) → section ≡ None → IsFault (fault_at WrongType top key)
-    error
-    → Stops IsWant IsAny (reads_section key section) error
-section_absent key section error is fault =
-    subst (λ (s : Option (List (List Field))). Stops IsWant IsAny (reads_section key s) error) (sym is) (refuses_stops _ _ error fault)
 
 -- a setting by reference
 pub copied_setting : (found : Option (Bor Setting)) (setting : Option Setting) → MatchOption found (setting ≡ None) (λ it. setting ≡ Some it.now)

@@ -9,7 +9,7 @@ use Rattle.esto_acyclic.specs.Relations.{AreNamesOf, HasRelation, IsEdge}
 use Rattle.esto_acyclic.specs.declared.relations.Cycle.{Cycle}
 use Rattle.esto_constraint.specs.Constraints.{rule_of, rules_of}
 use Rattle.esto_constraint.specs.declared.rule.Constraint.{Constraint}
-use Rattle.esto_course.proofs.Steps.{Leads, first_stops, stops_more, then_goes, gives_goes, turn_next, turn_stops}
+use Rattle.esto_course.proofs.Steps.{Leads, first_stops, then_goes, gives_goes, turn_next, turn_stops}
 use Rattle.esto_course.specs.Course.{Course, Stops, and_then, judges, gives, each}
 use Rattle.esto_query.specs.Schemas.{IsSchema, arities_of}
 use Rattle.esto_query.specs.declared.schema.Relation.{Relation}
@@ -19,16 +19,14 @@ use Rattle.esto_semantics.specs.declared.fact.Fact.{Fact}
 use Rattle.esto_term.specs.declared.term.Term.{Term}
 use Rattle.esto_catalog.proofs.EncodingLemmas.{given_most}
 use Rattle.esto_catalog.proofs.SchemaLemmas.{datasets_schema}
-use Rattle.esto_catalog.specs.Datasets.{IsDataset, reads_datasets, schema_of, words_of}
+use Rattle.esto_catalog.specs.Datasets.{IsDataset, schema_of, words_of}
 use Rattle.esto_catalog.specs.Scope.{IsScope}
 use Rattle.esto_catalog.specs.declared.scope.Scope.{Scope}
 use Rattle.esto_catalog.specs.Constraints.{adds_constraint, reads_constraint}
-use Rattle.esto_catalog.specs.Fragments.{adds_fragment, reads_fragment, reads_fragments, with_fragment, no_fragments, stored_fragment}
-use Rattle.esto_catalog.specs.Reading.{AreRankedOf, IsCycleOf, IsMadeOf, reads_parts, reads_sections}
+use Rattle.esto_catalog.specs.Fragments.{adds_fragment, reads_fragment, with_fragment, no_fragments, stored_fragment}
+use Rattle.esto_catalog.specs.Reading.{IsRankedOf, IsCycleOf, reads_fragments_and_rules}
 use Rattle.esto_catalog.specs.Rows.{IsWant, IsAny}
-use Rattle.esto_catalog.specs.declared.catalogue.Catalogue.{Catalogue}
 use Rattle.esto_catalog.specs.Soundness.{AreSoundRules, AreSoundFragments, IsShapeFor, IsSoundCatalogue, IsSoundFragment, IsSoundStored, IsSoundView}
-use Rattle.esto_catalog.specs.declared.catalogue.Shape.{Shape}
 use Rattle.esto_catalog.specs.declared.catalogue.Store.{Store}
 use Rattle.esto_catalog.specs.declared.dataset.Dataset.{Dataset}
 use Rattle.esto_catalog.specs.declared.fault.CatalogueError.{CatalogueError}
@@ -165,10 +163,10 @@ no_fragments_sound arities = record {
 }
 
 -- the fragment of a view over the schema, stored in a shape for the view, with patterns as wide as the view
-pub stored_sound : (arities : List ℕ) (view : NamedQuery) (file : List ℕ) (shape : Shape) (access : List (List Bool)) (weight : ℕ) (stored : Stored)
-    → stored ≡ stored_fragment view file shape access weight → IsSoundView arities view → IsShapeFor shape view.query
+pub stored_sound : (arities : List ℕ) (view : NamedQuery) (store : Store) (access : List (List Bool)) (weight : ℕ) (stored : Stored)
+    → stored ≡ stored_fragment view store access weight → IsSoundView arities view → IsShapeFor store.shape view.query
     → AreSoundPatterns (length view.query.head) access → weight ≤ MAX_WEIGHT → IsSoundStored arities stored
-stored_sound arities view file shape access weight stored is (over, variables) fit patterns light = subst (IsSoundStored arities) (sym is) (record {
+stored_sound arities view store access weight stored is (over, variables) fit patterns light = subst (IsSoundStored arities) (sym is) (record {
   definition = record {
     made = record { has_pattern = patterns.some; variables = variables.0; distinct = variables.1; columns = patterns.wide };
     view = over;
@@ -189,7 +187,7 @@ ranks_as rules others schema relations ranks same is exact =
 -- what a catalogue keeps, where its graph has ranks
 pub sound_catalogue : (version : Version) (scope : Scope) (fragments : Fragments) (own : List Constraint) (ranked : Ranked) → IsScope scope
     → AreSoundFragments (arities_of scope.schema) fragments → AreSoundRules (arities_of scope.schema) ranked.rules
-    → AreRankedOf version scope.datasets own ranked
+    → IsRankedOf version scope.datasets own ranked
     → IsSoundCatalogue scope.schema scope.words scope.datasets fragments.definitions fragments.stores ranked.rules ranked.given ranked.ranks
 sound_catalogue version scope fragments own ranked are sound over exact =
     let most : length own ≤ length ranked.rules = given_most version scope.datasets own ranked.rules exact.rules in
@@ -242,32 +240,9 @@ module _ (scope : Scope) (are : IsScope scope) (text : List ℕ) where
       → IsConstraintFault version (words_of scope.datasets) (arities_of (schema_of scope.datasets)) text fault
   rule_fault_over version fault first = over_datasets (λ words arities. IsConstraintFault version words arities text fault) first
 
--- the walk after the rows of the whole file
-module _ (sections : Sections) (datasets : List Dataset) (reads : (reads_datasets sections.datasets).goes datasets) where
-  pub sections_go : (fragments : Fragments) (ranked : Ranked) (catalogue : Catalogue) → (reads_parts sections datasets).goes (fragments, ranked)
-      → ((version : Version) (own : List Constraint) → AreRankedOf version datasets own ranked
-      → IsMadeOf version sections.core datasets fragments own catalogue)
-      → (reads_sections sections).goes catalogue
-  unfolding and_then judges gives
-  sections_go fragments ranked catalogue (found, f, (found_ranked, (own, o, are), same)) made =
-      let fragments_are : found ≡ fragments = sym (ap (λ (it : Fragments × Ranked). it.0) same) in
-      let ranked_are : found_ranked ≡ ranked = sym (ap (λ (it : Fragments × Ranked). it.1) same) in
-      let all = made sections.version own (subst (AreRankedOf sections.version datasets own) ranked_are are) in
-      (datasets, reads, (fragments, subst (reads_fragments datasets sections.fragments).goes fragments_are f, (own, o, all)))
-
-  parts_stop : (error : CatalogueError) → (reads_parts sections datasets).stops error → (reads_sections sections).stops error
-  unfolding and_then judges gives
-  parts_stop error (inl stops) = inr (datasets, reads, inl stops)
-  parts_stop error (inr (fragments, f, inl stops)) = inr (datasets, reads, inr (fragments, f, stops))
-  parts_stop error (inr (fragments, f, inr (ranked, r, never))) = absurd never
-
-  pub sections_stop : (error : CatalogueError) → Stops IsWant IsAny (reads_parts sections datasets) error → Stops IsWant IsAny (reads_sections sections) error
-  sections_stop error stops = stops_more (reads_parts sections datasets) (reads_sections sections) parts_stop error stops
-
 -- the rules that are read are ranked
-pub parts_ranked : (sections : Sections) (datasets : List Dataset) (fragments : Fragments) (ranked : Ranked)
-    → (reads_parts sections datasets).goes (fragments, ranked)
-    → (version : Version) × (own : List Constraint) × AreRankedOf version datasets own ranked
+pub found_ranked : (sections : Sections) (datasets : List Dataset) (found : Fragments × Ranked) → (reads_fragments_and_rules sections datasets).goes found
+    → (version : Version) × (own : List Constraint) × IsRankedOf version datasets own found.1
 unfolding and_then judges gives
-parts_ranked sections datasets fragments ranked (found, f, (found_ranked, (own, o, are), same)) =
-    (sections.version, own, subst (AreRankedOf sections.version datasets own) (sym (ap (λ (it : Fragments × Ranked). it.1) same)) are)
+found_ranked sections datasets found (fragments, f, (ranked, (own, o, are), same)) =
+    (sections.version, own, subst (IsRankedOf sections.version datasets own) (sym (ap (λ (it : Fragments × Ranked). it.1) same)) are)

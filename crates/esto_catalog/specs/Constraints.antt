@@ -23,14 +23,12 @@ reads_rule version place datasets text =
     (λ error. (fault : TextFault) × IsConstraintFault version (words_of datasets) (arities_of (schema_of datasets)) text fault
     × (error ≡ text_fault_at fault place (codes "rule")))
 
--- The rule is needed: a constraint's text.
-abbrev pub rule_row : Version → Place → List Dataset → List Field → Course CatalogueError Constraint
-rule_row version place datasets entry =
-    and_then (needs_text place (codes "rule") (setting_at (codes "rule") entry)) (λ text. reads_rule version place datasets text)
-
--- The rows of a constraint, in order: unknown keys, rule.
+-- The rows of a constraint, in order: unknown keys, rule. The rule is needed: a constraint's text.
 abbrev pub reads_constraint : Version → Place → List Dataset → List Field → Course CatalogueError Constraint
-reads_constraint version place datasets entry = and_then (knows_keys place keys.Constraint entry) (λ _. rule_row version place datasets entry)
+reads_constraint version place datasets entry =
+    and_then (knows_keys place keys.Constraint entry) (λ _.
+    and_then (needs_text place (codes "rule") (setting_at (codes "rule") entry)) (λ text.
+    reads_rule version place datasets text))
 
 -- One constraint more.
 abbrev pub adds_constraint : Version → List Dataset → ℕ → List Constraint → List Field → Course CatalogueError (List Constraint)

@@ -115,31 +115,32 @@ abbrev pub AreBased : ℕ → List Dataset → Type 0
 AreBased base [] = Unit {0}
 AreBased base (dataset ∷ datasets) = (dataset.base ≡ base) × AreBased (base + length (relations_of dataset)) datasets
 
--- The rows of a dataset, in order: unknown keys, name, model, columns, layout, file. Its first relation comes after those of the datasets before.
-abbrev pub reads_dataset : Place → List Dataset → List Field → Course CatalogueError Dataset
-reads_dataset place earlier entry =
-    and_then (knows_keys place keys.Dataset entry) (λ _.
-    and_then (name_row place earlier entry) (λ name.
-    and_then (needs_model BadModel place (codes "model") entry) (λ model.
-    and_then (columns_row place model entry) (λ columns.
-    and_then (layout_row place model entry) (λ layout.
-    and_then (dataset_file_row place entry) (λ file.
-    gives (record { name = name; model = model; base = length (schema_of earlier); columns = columns; layout = layout; file = file })))))))
-
 -- The rows of how a dataset's documents stand and of its file, in order: layout, file.
-abbrev pub stand_row : Place → DataModel → List Field → Course CatalogueError (Layout × Option (List ℕ))
-stand_row place model entry =
+abbrev pub layout_and_file_rows : Place → DataModel → List Field → Course CatalogueError (Layout × Option (List ℕ))
+layout_and_file_rows place model entry =
     and_then (layout_row place model entry) (λ layout.
     and_then (dataset_file_row place entry) (λ file.
     gives (layout, file)))
 
 -- The rows after the name, in order: model, columns, layout, file.
-abbrev pub described_row : Place → List Field → Course CatalogueError (DataModel × List (List ℕ) × Layout × Option (List ℕ))
-described_row place entry =
+abbrev pub rows_after_name : Place → List Field → Course CatalogueError (DataModel × List (List ℕ) × Layout × Option (List ℕ))
+rows_after_name place entry =
     and_then (needs_model BadModel place (codes "model") entry) (λ model.
     and_then (columns_row place model entry) (λ columns.
-    and_then (stand_row place model entry) (λ stand.
-    gives (model, columns, stand.0, stand.1))))
+    and_then (layout_and_file_rows place model entry) (λ last.
+    gives (model, columns, last.0, last.1))))
+
+-- The dataset of this name whose first relation is that of the base, with what the rows after its name gave.
+abbrev pub dataset_of : List ℕ → ℕ → DataModel × List (List ℕ) × Layout × Option (List ℕ) → Dataset
+dataset_of name base rest = record { name = name; model = rest.0; base = base; columns = rest.1; layout = rest.2; file = rest.3 }
+
+-- The rows of a dataset, in order: unknown keys, name, model, columns, layout, file. Its first relation comes after those of the datasets before.
+abbrev pub reads_dataset : Place → List Dataset → List Field → Course CatalogueError Dataset
+reads_dataset place earlier entry =
+    and_then (knows_keys place keys.Dataset entry) (λ _.
+    and_then (name_row place earlier entry) (λ name.
+    and_then (rows_after_name place entry) (λ rest.
+    gives (dataset_of name (length (schema_of earlier)) rest))))
 
 -- One dataset more.
 abbrev pub adds_dataset : ℕ → List Dataset → List Field → Course CatalogueError (List Dataset)

@@ -51,33 +51,33 @@ view_row place datasets earlier entry =
 abbrev pub file_row : Place → List Field → Course CatalogueError (List ℕ)
 file_row place entry = needs_text place (codes "file") (setting_at (codes "file") entry)
 
--- The rows of how a fragment may be read, in order: access, weight.
-abbrev pub ways_row : Place → DataModel → Query → List Field → Course CatalogueError (List (List Bool) × ℕ)
-ways_row place model view entry =
+-- The rows of a fragment's binding patterns and of its weight, in order: access, weight.
+abbrev pub access_and_weight_rows : Place → DataModel → Query → List Field → Course CatalogueError (List (List Bool) × ℕ)
+access_and_weight_rows place model view entry =
     and_then (access_row place model view entry) (λ access.
     and_then (weight_row place entry) (λ weight.
     gives (access, weight)))
 
--- The rows of a store's shape and of how a fragment may be read, in order: columns, layout, pattern, access, weight.
-abbrev pub form_row : Place → DataModel → Query → List Field → Course CatalogueError (Shape × List (List Bool) × ℕ)
-form_row place model view entry =
+-- The rows after the file, in order: columns, layout, pattern, access, weight.
+abbrev pub rows_after_file : Place → DataModel → Query → List Field → Course CatalogueError (Shape × List (List Bool) × ℕ)
+rows_after_file place model view entry =
     and_then (shape_row place model view entry) (λ shape.
-    and_then (ways_row place model view entry) (λ ways.
-    gives (shape, ways.0, ways.1)))
+    and_then (access_and_weight_rows place model view entry) (λ last.
+    gives (shape, last.0, last.1)))
 
 -- The rows after the view, in order: store, file, columns, layout, pattern, access, weight.
-abbrev pub kept_row : Place → Query → List Field → Course CatalogueError (Store × List (List Bool) × ℕ)
-kept_row place view entry =
+abbrev pub rows_after_view : Place → Query → List Field → Course CatalogueError (Store × List (List Bool) × ℕ)
+rows_after_view place view entry =
     and_then (needs_model BadStore place (codes "store") entry) (λ model.
     and_then (file_row place entry) (λ file.
-    and_then (form_row place model view entry) (λ form.
-    gives (record { shape = form.0; file = file }, form.1, form.2))))
+    and_then (rows_after_file place model view entry) (λ rest.
+    gives (record { shape = rest.0; file = file }, rest.1, rest.2))))
 
 -- The fragment of a view, its store, its binding patterns and its weight.
-abbrev pub stored_fragment : NamedQuery → List ℕ → Shape → List (List Bool) → ℕ → Stored
-stored_fragment view file shape access weight = record {
+abbrev pub stored_fragment : NamedQuery → Store → List (List Bool) → ℕ → Stored
+stored_fragment view store access weight = record {
   definition = record { name = view.name; view = view.query; access = access; weight = weight };
-  store = record { shape = shape; file = file };
+  store = store;
 }
 
 -- The rows of a fragment, in order: unknown keys, view, store, file, columns, layout, pattern, access, weight.
@@ -85,12 +85,8 @@ abbrev pub reads_fragment : Place → List Dataset → List FragmentDef → List
 reads_fragment place datasets earlier entry =
     and_then (knows_keys place keys.Fragment entry) (λ _.
     and_then (view_row place datasets earlier entry) (λ view.
-    and_then (needs_model BadStore place (codes "store") entry) (λ model.
-    and_then (file_row place entry) (λ file.
-    and_then (shape_row place model view.query entry) (λ shape.
-    and_then (access_row place model view.query entry) (λ access.
-    and_then (weight_row place entry) (λ weight.
-    gives (stored_fragment view file shape access weight))))))))
+    and_then (rows_after_view place view.query entry) (λ rest.
+    gives (stored_fragment view rest.0 rest.1 rest.2))))
 
 -- No fragment.
 abbrev pub no_fragments : Fragments

@@ -20,40 +20,62 @@ use Rattle.esto_catalog.specs.declared.fragment.Fragments.{Fragments}
 use Rattle.esto_catalog.specs.declared.walk.Ranked.{Ranked}
 use Rattle.esto_catalog.specs.declared.whole.Sections.{Sections}
 
--- The catalogue of this version, that asks for the core of the plan or not, of these datasets, fragments and constraints: its relations and words are the
--- datasets', its rules are the constraints and then those of the encodings, no relation leads back to itself by them, and its ranks are those of the relations
--- by them.
-pub record IsMadeOf (version : Version) (core : Bool) (datasets : List Dataset) (fragments : Fragments) (given : List Constraint) (catalogue : Catalogue)
-    : Type 0 where
-  pub schema : catalogue.schema ≡ schema_of datasets
-  pub words : catalogue.words ≡ words_of datasets
-  pub same_datasets : catalogue.datasets ≡ datasets
-  pub definitions : catalogue.fragments ≡ fragments.definitions
-  pub stores : catalogue.stores ≡ fragments.stores
-  pub rules : AreAllRules version datasets given catalogue.rules
-  pub given_are : catalogue.given ≡ length given
+-- The rules are the constraints, which are counted, and then those of the encodings; no relation leads back to itself by them, and the ranks are those of the
+-- relations by them.
+pub record IsRankedOf (version : Version) (datasets : List Dataset) (given : List Constraint) (ranked : Ranked) : Type 0 where
+  pub rules : AreAllRules version datasets given ranked.rules
+  pub given_are : ranked.given ≡ length given
   pub acyclic : IsAcyclic (IsEdge (all_rules version datasets given))
-  pub ranks : AreRanks (IsEdge (all_rules version datasets given)) (length (schema_of datasets)) catalogue.ranks
-  pub core_is : catalogue.core ≡ core
+  pub ranks : AreRanks (IsEdge (all_rules version datasets given)) (length (schema_of datasets)) ranked.ranks
 
 -- It is the least cycle of the graph of the rules, with the names of its relations.
 abbrev pub IsCycleOf : List Dataset → List Rule → Cycle → Type 0
 IsCycleOf datasets rules cycle = IsLeastCycle (IsEdge rules) cycle.relations × AreNamesOf (schema_of datasets) cycle.relations cycle.names
 
--- No relation leads back to itself by the rules; else NotAcyclic with the least cycle.
-abbrev pub is_acyclic : Version → Bool → List Dataset → Fragments → List Constraint → Course CatalogueError Catalogue
-is_acyclic version core datasets fragments given =
-    judges (IsMadeOf version core datasets fragments given)
+-- All the rules with their ranks, where no relation leads back to itself by them; else NotAcyclic with the least cycle.
+abbrev pub is_ranked : Version → List Dataset → List Constraint → Course CatalogueError Ranked
+is_ranked version datasets given =
+    judges (IsRankedOf version datasets given)
     (λ error. (cycle : Cycle) × IsCycleOf datasets (all_rules version datasets given) cycle × (error ≡ NotAcyclic cycle))
 
--- The walk over the rows: the whole file, the datasets, the fragments and the constraints; then the graph of the rules.
-abbrev pub reads_catalogue : List ℕ → Course CatalogueError Catalogue
-reads_catalogue bytes =
-    and_then (reads_whole bytes) (λ sections.
-    and_then (reads_datasets sections.datasets) (λ datasets.
+-- The rows of the rules, in order: constraints; then the graph of the rules.
+abbrev pub reads_ranked : Sections → List Dataset → Course CatalogueError Ranked
+reads_ranked sections datasets =
+    and_then (reads_constraints sections.version datasets sections.constraints) (λ given. is_ranked sections.version datasets given)
+
+-- The rows after those of the datasets, in order: fragments, constraints; then the graph of the rules.
+abbrev pub reads_fragments_and_rules : Sections → List Dataset → Course CatalogueError (Fragments × Ranked)
+reads_fragments_and_rules sections datasets =
     and_then (reads_fragments datasets sections.fragments) (λ fragments.
-    and_then (reads_constraints sections.version datasets sections.constraints) (λ given.
-    is_acyclic sections.version sections.core datasets fragments given))))
+    and_then (reads_ranked sections datasets) (λ ranked.
+    gives (fragments, ranked)))
+
+-- The catalogue of these datasets, fragments and ranked rules, that asks for the core of the plan or not: its relations and words are the datasets'.
+pub record IsMadeOf (core : Bool) (datasets : List Dataset) (fragments : Fragments) (ranked : Ranked) (catalogue : Catalogue) : Type 0 where
+  pub schema : catalogue.schema ≡ schema_of datasets
+  pub words : catalogue.words ≡ words_of datasets
+  pub same_datasets : catalogue.datasets ≡ datasets
+  pub definitions : catalogue.fragments ≡ fragments.definitions
+  pub stores : catalogue.stores ≡ fragments.stores
+  pub rules : catalogue.rules ≡ ranked.rules
+  pub given : catalogue.given ≡ ranked.given
+  pub ranks : catalogue.ranks ≡ ranked.ranks
+  pub core_is : catalogue.core ≡ core
+
+-- The catalogue that is made of these. It is never refused.
+abbrev pub makes_catalogue : Bool → List Dataset → Fragments → Ranked → Course CatalogueError Catalogue
+makes_catalogue core datasets fragments ranked = judges (IsMadeOf core datasets fragments ranked) (λ _. ⊥)
+
+-- The rows of the sections, in order: datasets, fragments, constraints; then the graph of the rules.
+abbrev pub reads_sections : Sections → Course CatalogueError Catalogue
+reads_sections sections =
+    and_then (reads_datasets sections.datasets) (λ datasets.
+    and_then (reads_fragments_and_rules sections datasets) (λ found.
+    makes_catalogue sections.core datasets found.0 found.1))
+
+-- The walk over the rows, in order: the whole file, datasets, fragments, constraints; then the graph of the rules.
+abbrev pub reads_catalogue : List ℕ → Course CatalogueError Catalogue
+reads_catalogue bytes = and_then (reads_whole bytes) reads_sections
 
 -- The bytes say this catalogue: with it the walk ends.
 abbrev pub IsCatalogueOf : List ℕ → Catalogue → Type 0
@@ -63,36 +85,3 @@ IsCatalogueOf bytes catalogue = (reads_catalogue bytes).goes catalogue
 abbrev pub IsCatalogueError : List ℕ → CatalogueError → Type 0
 IsCatalogueError bytes OutOfMemory = Unit {0}
 IsCatalogueError bytes error = (reads_catalogue bytes).stops error
-
--- The rules are all the rules, the given ones of which are counted; no relation leads back to itself by them, and the ranks are those of the relations by them.
-pub record AreRankedOf (version : Version) (datasets : List Dataset) (given : List Constraint) (ranked : Ranked) : Type 0 where
-  pub rules : AreAllRules version datasets given ranked.rules
-  pub given_are : ranked.given ≡ length given
-  pub acyclic : IsAcyclic (IsEdge (all_rules version datasets given))
-  pub ranks : AreRanks (IsEdge (all_rules version datasets given)) (length (schema_of datasets)) ranked.ranks
-
--- No relation leads back to itself by the rules, which have these ranks; else NotAcyclic with the least cycle.
-abbrev pub is_ranked : Version → List Dataset → List Constraint → Course CatalogueError Ranked
-is_ranked version datasets given =
-    judges (AreRankedOf version datasets given)
-    (λ error. (cycle : Cycle) × IsCycleOf datasets (all_rules version datasets given) cycle × (error ≡ NotAcyclic cycle))
-
--- The constraints, and the graph of the rules.
-abbrev pub reads_rules : Sections → List Dataset → Course CatalogueError Ranked
-reads_rules sections datasets =
-    and_then (reads_constraints sections.version datasets sections.constraints) (λ given. is_ranked sections.version datasets given)
-
--- The fragments and the constraints, and the graph of the rules.
-abbrev pub reads_parts : Sections → List Dataset → Course CatalogueError (Fragments × Ranked)
-reads_parts sections datasets =
-    and_then (reads_fragments datasets sections.fragments) (λ fragments.
-    and_then (reads_rules sections datasets) (λ ranked.
-    gives (fragments, ranked)))
-
--- The walk over the rows after those of the whole file.
-abbrev pub reads_sections : Sections → Course CatalogueError Catalogue
-reads_sections sections =
-    and_then (reads_datasets sections.datasets) (λ datasets.
-    and_then (reads_fragments datasets sections.fragments) (λ fragments.
-    and_then (reads_constraints sections.version datasets sections.constraints) (λ given.
-    is_acyclic sections.version sections.core datasets fragments given)))

@@ -47,45 +47,41 @@ reads_core None = refuses (fault_at WrongType top (codes "core"))
 reads_core (Some core) = gives core
 
 -- A section is an array of tables; else WrongType. It has no more entries than a section may have; else TooMany.
-abbrev pub reads_section : List ℕ → Option (List (List Field)) → Course CatalogueError (List (List Field))
-reads_section key None = refuses (fault_at WrongType top key)
-reads_section key (Some entries) = and_then (demands (length entries ≤ MAX_ENTRIES) (fault_at TooMany top key)) (λ _. gives entries)
+abbrev pub fits_section : List ℕ → Option (List (List Field)) → Course CatalogueError (Unit {0})
+fits_section key None = refuses (fault_at WrongType top key)
+fits_section key (Some tables) = demands (length tables ≤ MAX_ENTRIES) (fault_at TooMany top key)
 
--- The rows of the whole file, in order: TOML, unknown keys, the version, whether the core is asked for, each section.
-abbrev pub reads_whole : List ℕ → Course CatalogueError Sections
-reads_whole bytes =
-    and_then (reads_toml bytes) (λ document.
+-- The rows of the top, in order: unknown keys, the version, whether the core is asked for, the sections of datasets, of fragments and of constraints. They give
+-- the version and whether the core is asked for.
+abbrev pub reads_top : Document → Course CatalogueError (Version × Bool)
+reads_top document =
     and_then (knows_keys top (top_keys (setting_at (codes "version") document.fields)) document.fields) (λ _.
     and_then (reads_version (setting_at (codes "version") document.fields)) (λ version.
     and_then (reads_core document.core) (λ core.
-    and_then (reads_section (codes "dataset") document.datasets) (λ datasets.
-    and_then (reads_section (codes "fragment") document.fragments) (λ fragments.
-    and_then (reads_section (codes "constraint") document.constraints) (λ constraints.
-    gives (record { version = version; core = core; datasets = datasets; fragments = fragments; constraints = constraints }))))))))
+    and_then (fits_section (codes "dataset") document.datasets) (λ _.
+    and_then (fits_section (codes "fragment") document.fragments) (λ _.
+    and_then (fits_section (codes "constraint") document.constraints) (λ _.
+    gives (version, core)))))))
 
--- The entries of a section, or none where it is no array of tables.
-abbrev pub entries_of : Option (List (List Field)) → List (List Field)
-entries_of None = []
-entries_of (Some entries) = entries
+-- The tables of a section, or none where it is no array of tables.
+abbrev pub tables_of : Option (List (List Field)) → List (List Field)
+tables_of None = []
+tables_of (Some tables) = tables
 
--- The document's entries, with the version and whether the core is asked for.
+-- The entries of the document's sections, with the version and whether the core is asked for.
 abbrev pub sections_of : Version → Bool → Document → Sections
 sections_of version core document = record {
   version = version;
   core = core;
-  datasets = entries_of document.datasets;
-  fragments = entries_of document.fragments;
-  constraints = entries_of document.constraints;
+  datasets = tables_of document.datasets;
+  fragments = tables_of document.fragments;
+  constraints = tables_of document.constraints;
 }
 
--- The rows of a document, in order: unknown keys, the version, whether the core is asked for, each section. They give the version and whether the core is asked
--- for.
-abbrev pub reads_rows : Document → Course CatalogueError (Version × Bool)
-reads_rows document =
-    and_then (knows_keys top (top_keys (setting_at (codes "version") document.fields)) document.fields) (λ _.
-    and_then (reads_version (setting_at (codes "version") document.fields)) (λ version.
-    and_then (reads_core document.core) (λ core.
-    and_then (reads_section (codes "dataset") document.datasets) (λ _.
-    and_then (reads_section (codes "fragment") document.fragments) (λ _.
-    and_then (reads_section (codes "constraint") document.constraints) (λ _.
-    gives (version, core)))))))
+-- The rows of the whole file before its entries, in order: TOML, unknown keys, the version, whether the core is asked for, the sections of datasets, of
+-- fragments and of constraints.
+abbrev pub reads_whole : List ℕ → Course CatalogueError Sections
+reads_whole bytes =
+    and_then (reads_toml bytes) (λ document.
+    and_then (reads_top document) (λ found.
+    gives (sections_of found.0 found.1 document)))

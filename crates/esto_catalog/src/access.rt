@@ -123,8 +123,8 @@ fn usual_access(alloc: Global, model: DataModel, view: &Query) -> Result<AccessL
     Ok(access)
 }
 
-/// The binding patterns of the view's fragment: those that are written, or the one by which no column is an input, but
-/// for the first column of keys.
+/// The binding patterns of the view's fragment: those that are written, or the one by which no
+/// column is an input, but for the first column of keys.
 #[tactic(auto, using(crate::proofs::RowLemmas::rows))]
 pub fn access(
     alloc: Global,

@@ -34,7 +34,8 @@ fn are_name_bytes(bytes: &[u8]) -> bool
     bytes.iter().all(|byte| is_name_byte(*byte))
 }
 
-/// Whether the text is a name: a letter, then letters, digits and `_`, at most `MAX_NAME` bytes in all.
+/// Whether the text is a name: a letter, then letters, digits and `_`, at most `MAX_NAME` bytes in
+/// all.
 pub fn is_name(text: &[u8]) -> bool
     ensures { result ≡ is_name text.now }
 {
@@ -75,8 +76,8 @@ fn begins_plain(texts: &[Text]) -> bool
     }
 }
 
-/// Whether the texts are the columns of a table: 1 to `MAX_COLUMNS` of them, no two the same, no byte-order mark before
-/// the first.
+/// Whether the texts are the columns of a table: 1 to `MAX_COLUMNS` of them, no two the same, no
+/// byte-order mark before the first.
 pub fn are_columns(texts: &[Text]) -> bool
     ensures { IsTrue result ↔ AreColumns texts.now }
 {

@@ -4,7 +4,7 @@ ghost use Rattle.esto_constraint.specs.Constraints.{rule_of};
 ghost use Rattle.esto_query.specs.Schemas.{arities_of};
 ghost use Rattle.esto_read.specs.Constraints.{IsConstraintReading, IsConstraintError};
 ghost use Rattle.esto_semantics.specs.WellFormed.{IsRuleOver};
-ghost use Rattle.esto_catalog.specs.Constraints.{reads_rule, rule_row, reads_constraint, reads_constraints};
+ghost use Rattle.esto_catalog.specs.Constraints.{reads_rule, reads_constraint, reads_constraints};
 ghost use Rattle.esto_catalog.specs.Rows.{Walks};
 ghost use Rattle.esto_catalog.specs.Soundness.{AreSoundRules};
 ghost use Rattle.esto_catalog.specs.Scope.{IsScope};
@@ -64,22 +64,6 @@ fn rule_of_text(
     }
 }
 
-// The rule.
-fn rule(
-    alloc: Global,
-    version: Version,
-    place: Place,
-    scope: &Scope,
-    entry: &[Field],
-) -> Result<Constraint, CatalogueError>
-    requires { IsScope scope.now }
-    ensures rule { Walks (rule_row version place scope.now.datasets entry.now) result }
-    ensures over { IfOk result (λ rule. IsRuleOver (arities_of scope.now.schema) (rule_of rule)) }
-{
-    let text = needs_text(alloc, place, "rule", entry)?;
-    rule_of_text(alloc, version, place, scope, text)
-}
-
 // The rows of a constraint, in order: unknown keys, rule.
 fn read_entry(
     alloc: Global,
@@ -94,7 +78,8 @@ fn read_entry(
     ensures over { IfOk result (λ rule. IsRuleOver (arities_of scope.now.schema) (rule_of rule)) }
 {
     knows_keys(alloc, place, Keys::Constraint, entry)?;
-    rule(alloc, version, place, scope, entry)
+    let text = needs_text(alloc, place, "rule", entry)?;
+    rule_of_text(alloc, version, place, scope, text)
 }
 
 /// The constraints of the entries by this version's grammar, in order, counted from 1.

@@ -1,7 +1,7 @@
 //! Datasets, and the rows of one.
 ghost use Rattle.std.specs.Prelude.{◌≡◌, ◌≤◌, length, IfOk, IfErr};
 ghost use Rattle.esto_course.specs.Course.{Stops};
-ghost use Rattle.esto_catalog.specs.Datasets.{AreDatasets, has_dataset, name_row, needs_columns, no_columns, columns_row, relation_count, schema_of, stand_row, described_row, reads_dataset, reads_datasets};
+ghost use Rattle.esto_catalog.specs.Datasets.{AreDatasets, has_dataset, name_row, needs_columns, no_columns, columns_row, relation_count, schema_of, layout_and_file_rows, rows_after_name, reads_dataset, reads_datasets};
 ghost use Rattle.esto_catalog.specs.Rows.{IsAny, IsWant, Walks};
 ghost use Rattle.esto_catalog.specs.declared.whole.TheConstants.{MAX_ENTRIES};
 
@@ -15,8 +15,9 @@ use esto_settings::{Field, KeyList, is_same};
 use esto_term::{List, Replicate, Text, TextRow};
 use std::alloc::Global;
 
-/// A dataset: its name, what it is, the number of its first relation, the names of its columns, which a table alone has,
-/// how its documents stand in their file, which is in lines where nothing else is written, and its file where it has one.
+/// A dataset: its name, what it is, the number of its first relation, the names of its columns,
+/// which a table alone has, how its documents stand in their file, which is in lines where nothing
+/// else is written, and its file where it has one.
 #[derive(Drop)]
 pub struct Dataset {
     pub name: Text,
@@ -113,13 +114,13 @@ fn relation_count(model: DataModel) -> usize
 }
 
 // The rows of how a dataset's documents stand and of its file, in order: layout, file.
-fn stand(
+fn layout_and_file(
     alloc: Global,
     place: Place,
     model: DataModel,
     entry: &[Field],
 ) -> Result<(Layout, Option<Text>), CatalogueError>
-    ensures { Walks (stand_row place model entry.now) result }
+    ensures { Walks (layout_and_file_rows place model entry.now) result }
 {
     let layout = layout(alloc, place, model, entry)?;
     let file = allows_text(alloc, place, "file", entry)?;
@@ -127,21 +128,21 @@ fn stand(
 }
 
 // The rows after the name, in order: model, columns, layout, file.
-fn described(
+fn rows_after_name(
     alloc: Global,
     place: Place,
     entry: &[Field],
 ) -> Result<(DataModel, TextRow, Layout, Option<Text>), CatalogueError>
-    ensures { Walks (described_row place entry.now) result }
+    ensures { Walks (rows_after_name place entry.now) result }
 {
     let model = needs_model(alloc, CatalogueKind::BadModel, place, "model", entry)?;
     let columns = columns(alloc, place, model, entry)?;
-    let (layout, file) = stand(alloc, place, model, entry)?;
+    let (layout, file) = layout_and_file(alloc, place, model, entry)?;
     Ok((model, columns, layout, file))
 }
 
-// The rows of a dataset whose first relation is that of the base, in order: unknown keys, name, model, columns, layout,
-// file.
+// The rows of a dataset whose first relation is that of the base, in order: unknown keys, name,
+// model, columns, layout, file.
 fn read_dataset(
     alloc: Global,
     place: Place,
@@ -155,7 +156,7 @@ fn read_dataset(
     knows_keys(alloc, place, Keys::Dataset, entry)?;
     let said = name(alloc, place, earlier, entry)?;
     let name = said.copy(alloc)?;
-    let (model, columns, layout, file) = described(alloc, place, entry)?;
+    let (model, columns, layout, file) = rows_after_name(alloc, place, entry)?;
     Ok(Dataset {
         name,
         model,

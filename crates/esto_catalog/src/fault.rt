@@ -68,7 +68,8 @@ pub enum CatalogueKind {
     BadModel,
     /// The store is none of the stores.
     BadStore,
-    /// The columns are too few, too many or not distinct, or the first begins with a byte-order mark.
+    /// The columns are too few, too many or not distinct, or the first begins with a byte-order
+    /// mark.
     BadColumns,
     /// The layout is none of the layouts.
     BadLayout,
@@ -76,15 +77,16 @@ pub enum CatalogueKind {
     BadText,
     /// The pattern is no layout.
     BadPattern,
-    /// The access has no text, more than `MAX_PATTERNS` or two equal ones, or one with a wrong length or something else
-    /// than `i` and `o`.
+    /// The access has no text, more than `MAX_PATTERNS` or two equal ones, or one with a wrong
+    /// length or something else than `i` and `o`.
     BadAccess,
     /// The weight is out of range.
     BadWeight,
 }
 
-/// The first fault of a catalogue: what is wrong, in which section, at which entry counted from 1 (0 for the top), and
-/// at which key (`-` where the bytes are no TOML). There is a text's fault exactly where the kind is BadText.
+/// The first fault of a catalogue: what is wrong, in which section, at which entry counted from 1
+/// (0 for the top), and at which key (`-` where the bytes are no TOML). There is a text's fault
+/// exactly where the kind is BadText.
 #[derive(Drop)]
 pub struct CatalogueFault {
     pub kind: CatalogueKind,

@@ -3,7 +3,7 @@ ghost use Rattle.std.specs.Prelude.{◌≡◌, ◌<◌, ◌+◌, ◌||◌, IfOk,
 ghost use Rattle.esto_course.specs.Course.{Stops};
 ghost use Rattle.esto_query.specs.Schemas.{arities_of};
 ghost use Rattle.esto_catalog.specs.Datasets.{has_dataset};
-ghost use Rattle.esto_catalog.specs.Fragments.{has_fragment, reads_view, view_row, ways_row, form_row, kept_row, stored_fragment, reads_fragment, adds_fragment, reads_fragments};
+ghost use Rattle.esto_catalog.specs.Fragments.{has_fragment, reads_view, view_row, access_and_weight_rows, rows_after_file, rows_after_view, stored_fragment, reads_fragment, adds_fragment, reads_fragments};
 ghost use Rattle.esto_catalog.specs.Rows.{IsAny, IsWant, Walks};
 ghost use Rattle.esto_catalog.specs.Scope.{IsScope};
 ghost use Rattle.esto_catalog.specs.Shapes.{AreDistinctNames};
@@ -98,23 +98,23 @@ fn view(
     demand(alloc, !is_taken, CatalogueKind::SameName, place, "view").and(Ok(view))
 }
 
-// The rows of how a fragment may be read, in order: access, weight.
-fn ways(
+// The rows of a fragment's binding patterns and of its weight, in order: access, weight.
+fn access_and_weight(
     alloc: Global,
     place: Place,
     model: DataModel,
     view: &Query,
     entry: &[Field],
 ) -> Result<(AccessList, u64), CatalogueError>
-    ensures { Walks (ways_row place model view.now entry.now) result }
+    ensures { Walks (access_and_weight_rows place model view.now entry.now) result }
 {
     let access = access(alloc, place, model, view, entry)?;
     let weight = weight(alloc, place, entry)?;
     Ok((access, weight))
 }
 
-// The rows of a store's shape and of how a fragment may be read, in order: columns, layout, pattern, access, weight.
-fn form(
+// The rows after the file, in order: columns, layout, pattern, access, weight.
+fn rows_after_file(
     alloc: Global,
     place: Place,
     model: DataModel,
@@ -122,32 +122,32 @@ fn form(
     entry: &[Field],
 ) -> Result<(Shape, AccessList, u64), CatalogueError>
     requires { AreDistinctNames view.now }
-    ensures { Walks (form_row place model view.now entry.now) result }
+    ensures { Walks (rows_after_file place model view.now entry.now) result }
 {
     let shape = shape(alloc, place, model, view, entry)?;
-    let (access, weight) = ways(alloc, place, model, view, entry)?;
+    let (access, weight) = access_and_weight(alloc, place, model, view, entry)?;
     Ok((shape, access, weight))
 }
 
 // The rows after the view, in order: store, file, columns, layout, pattern, access, weight.
-fn kept(
+fn rows_after_view(
     alloc: Global,
     place: Place,
     view: &Query,
     entry: &[Field],
 ) -> Result<(Store, AccessList, u64), CatalogueError>
     requires { AreDistinctNames view.now }
-    ensures { Walks (kept_row place view.now entry.now) result }
+    ensures { Walks (rows_after_view place view.now entry.now) result }
 {
     let model = needs_model(alloc, CatalogueKind::BadStore, place, "store", entry)?;
     let file = needs_text(alloc, place, "file", entry)?.copy(alloc)?;
-    let (shape, access, weight) = form(alloc, place, model, view, entry)?;
+    let (shape, access, weight) = rows_after_file(alloc, place, model, view, entry)?;
     Ok((Store { shape, file }, access, weight))
 }
 
 // The fragment of a view, its store, its binding patterns and its weight.
 fn stored_fragment(view: NamedQuery, store: Store, access: AccessList, weight: u64) -> Stored
-    ensures { result ≡ stored_fragment view store.file store.shape access weight }
+    ensures { result ≡ stored_fragment view store access weight }
 {
     let NamedQuery { name, query } = view;
     Stored {
@@ -161,7 +161,8 @@ fn stored_fragment(view: NamedQuery, store: Store, access: AccessList, weight: u
     }
 }
 
-// The rows of a fragment, in order: unknown keys, view, store, file, columns, layout, pattern, access, weight.
+// The rows of a fragment, in order: unknown keys, view, store, file, columns, layout, pattern,
+// access, weight.
 fn read_fragment(
     alloc: Global,
     place: Place,
@@ -177,7 +178,7 @@ fn read_fragment(
     views_name_their_columns();
     knows_keys(alloc, place, Keys::Fragment, entry)?;
     let view = view(alloc, place, scope, earlier, entry)?;
-    let (store, access, weight) = kept(alloc, place, &view.query, entry)?;
+    let (store, access, weight) = rows_after_view(alloc, place, &view.query, entry)?;
     Ok(stored_fragment(view, store, access, weight))
 }
 

@@ -1,4 +1,5 @@
-//! The catalogue: which datasets, fragments and constraints there are, read from the bytes of its file.
+//! The catalogue: which datasets, fragments and constraints there are, read from the bytes of its
+//! file.
 #![tactic(auto)]
 
 mod access;

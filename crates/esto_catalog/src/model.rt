@@ -62,7 +62,8 @@ fn written_model(
     }
 }
 
-/// The model of which the text at the key is the word; a fault of this kind where it is the word for none.
+/// The model of which the text at the key is the word; a fault of this kind where it is the word
+/// for none.
 pub fn needs_model(
     alloc: Global,
     kind: CatalogueKind,
@@ -122,7 +123,8 @@ fn no_layout(alloc: Global, place: Place, entry: &[Field]) -> Result<Layout, Cat
     Ok(Layout::Lines)
 }
 
-/// The layout of documents; for another model Unfit where one is written, and else the layout of lines.
+/// The layout of documents; for another model Unfit where one is written, and else the layout of
+/// lines.
 #[tactic(auto, using(crate::proofs::RowLemmas::rows))]
 pub fn layout(
     alloc: Global,

@@ -1,9 +1,9 @@
-//! The rules of a catalogue: its own constraints, and then those that the encodings of its datasets bring.
+//! The rules of a catalogue: its own constraints, and then those that the encodings of its datasets
+//! bring.
 ghost use Rattle.std.specs.Prelude.{◌≡◌, map, IfOk};
 ghost use Rattle.esto_constraint.specs.Constraints.{rules_of};
 ghost use Rattle.esto_constraint.specs.EncodingRules.{written};
 ghost use Rattle.esto_query.specs.Schemas.{arities_of};
-ghost use Rattle.esto_read.specs.declared.words.DataModel.{DataModel};
 ghost use Rattle.esto_catalog.specs.Rules.{encoding_rules, encoding_names, AreAllRules};
 ghost use Rattle.esto_catalog.specs.Scope.{IsScope};
 ghost use Rattle.esto_catalog.specs.Soundness.{AreSoundRules};
@@ -16,19 +16,6 @@ use esto_term::{List, OutOfMemory};
 use esto_text::Version;
 use std::alloc::Global;
 
-// The rules of the encoding of documents.
-fn document_encoding(alloc: Global, version: Version, base: usize) -> Result<Rules, OutOfMemory>
-    ensures rules { IfOk result (λ it. rules_of it
-        ≡ encoding_rules version DataModel.Documents base) }
-    ensures names { IfOk result (λ it. map written it
-        ≡ encoding_names version DataModel.Documents) }
-{
-    match version {
-        Version::One => document_rules(alloc, base),
-        Version::Two => document_rules_2(alloc, base),
-    }
-}
-
 // The rules of the encoding of a dataset.
 fn encoding(alloc: Global, version: Version, dataset: &Dataset) -> Result<Rules, OutOfMemory>
     ensures rules { IfOk result (λ it. rules_of it
@@ -38,7 +25,10 @@ fn encoding(alloc: Global, version: Version, dataset: &Dataset) -> Result<Rules,
 {
     match dataset.model {
         DataModel::Table => Ok(List::new(alloc)),
-        DataModel::Documents => document_encoding(alloc, version, dataset.base),
+        DataModel::Documents => match version {
+            Version::One => document_rules(alloc, dataset.base),
+            Version::Two => document_rules_2(alloc, dataset.base),
+        },
         DataModel::Keys => key_rules(alloc, dataset.base),
     }
 }

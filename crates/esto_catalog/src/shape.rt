@@ -191,7 +191,8 @@ fn keys(alloc: Global, place: Place, entry: &[Field]) -> Result<Shape, Catalogue
     Ok(Shape::Keys)
 }
 
-/// The shape of a store of this model: the columns of a table, the layout and the pattern of documents.
+/// The shape of a store of this model: the columns of a table, the layout and the pattern of
+/// documents.
 pub fn shape(
     alloc: Global,
     place: Place,

@@ -7,7 +7,7 @@ ghost use Rattle.esto_constraint.specs.declared.rule.Constraint.{Constraint};
 ghost use Rattle.esto_query.specs.Schemas.{arities_of};
 ghost use Rattle.esto_catalog.specs.Determined.{CataloguesAreSound, HaveOneCatalogue, HaveNoError, HaveOneError};
 ghost use Rattle.esto_catalog.specs.Kept.{ReadingsHaveRelations, ReadingsHaveEncodings};
-ghost use Rattle.esto_catalog.specs.Reading.{AreRankedOf, IsCatalogueOf, IsCatalogueError, IsMadeOf, is_ranked, reads_rules, reads_parts, reads_sections, reads_catalogue};
+ghost use Rattle.esto_catalog.specs.Reading.{IsRankedOf, IsCatalogueOf, IsCatalogueError, IsMadeOf, is_ranked, reads_ranked, reads_fragments_and_rules, reads_sections, reads_catalogue};
 ghost use Rattle.esto_catalog.specs.Rows.{Walks};
 ghost use Rattle.esto_catalog.specs.Rules.{AreAllRules};
 ghost use Rattle.esto_catalog.specs.Soundness.{AreSoundFragments, AreSoundRules};
@@ -32,7 +32,8 @@ use esto_read::{
 };
 use std::alloc::Global;
 
-/// All rules, of which so many come first as they are given, and the ranks of the relations by them.
+/// All rules, of which so many come first as they are given, and the ranks of the relations by
+/// them.
 #[derive(Drop)]
 pub struct Ranked {
     pub rules: Rules,
@@ -40,7 +41,8 @@ pub struct Ranked {
     pub ranks: Ranks,
 }
 
-// The rules with the ranks of the relations by them; or the least cycle of their graph of relations.
+// Where these are all the rules, so many of them given: the rules with the ranks of the relations
+// by them; or the least cycle of their graph of relations.
 fn rank_rules(
     alloc: Global,
     scope: &Scope,
@@ -52,7 +54,7 @@ fn rank_rules(
     ensures course { (version : Version) (own : List Constraint)
         → AreAllRules version scope.now.datasets own rules → given ≡ length own
         → Walks (is_ranked version scope.now.datasets own) result }
-    ensures over { IfOk result (λ ranked. AreSoundRules (arities_of scope.now.schema) ranked.rules) }
+    ensures over { IfOk result (λ it. AreSoundRules (arities_of scope.now.schema) it.rules) }
 {
     match judge(alloc, &scope.schema, &rules)? {
         Left(ranks) => Ok(Ranked {
@@ -64,12 +66,12 @@ fn rank_rules(
     }
 }
 
-// The constraints and then the rules of the encodings, with the ranks of the relations by them; or the least cycle of
-// their graph of relations.
-fn read_rules(alloc: Global, sections: &Sections, scope: &Scope) -> Result<Ranked, CatalogueError>
+// The constraints and then the rules of the encodings, with the ranks of the relations by them; or
+// the least cycle of their graph of relations.
+fn read_ranked(alloc: Global, sections: &Sections, scope: &Scope) -> Result<Ranked, CatalogueError>
     requires { IsScope scope.now }
-    ensures rules { Walks (reads_rules sections.now scope.now.datasets) result }
-    ensures over { IfOk result (λ ranked. AreSoundRules (arities_of scope.now.schema) ranked.rules) }
+    ensures rules { Walks (reads_ranked sections.now scope.now.datasets) result }
+    ensures over { IfOk result (λ it. AreSoundRules (arities_of scope.now.schema) it.rules) }
 {
     let entries = sections.constraints.items();
     let own = read_constraints(alloc, sections.version, scope, entries)?;
@@ -78,32 +80,31 @@ fn read_rules(alloc: Global, sections: &Sections, scope: &Scope) -> Result<Ranke
     rank_rules(alloc, scope, rules, given)
 }
 
-// The fragments, and the rules.
-fn read_parts(
+// The rows after those of the datasets, in order: fragments, constraints; then the graph of the
+// rules.
+fn read_fragments_and_rules(
     alloc: Global,
     sections: &Sections,
     scope: &Scope,
 ) -> Result<(Fragments, Ranked), CatalogueError>
     requires { IsScope scope.now }
-    ensures parts { Walks (reads_parts sections.now scope.now.datasets) result }
+    ensures both { Walks (reads_fragments_and_rules sections.now scope.now.datasets) result }
     ensures fragments { IfOk result (λ it. AreSoundFragments (arities_of scope.now.schema) it.0) }
     ensures rules { IfOk result (λ it. AreSoundRules (arities_of scope.now.schema) it.1.rules) }
 {
     let fragments = read_fragments(alloc, scope, sections.fragments.items())?;
-    let ranked = read_rules(alloc, sections, scope)?;
+    let ranked = read_ranked(alloc, sections, scope)?;
     Ok((fragments, ranked))
 }
 
-// The catalogue of datasets, fragments and rules, that asks for the core of the plan or not.
+// The catalogue of datasets, fragments and ranked rules, that asks for the core of the plan or not.
 fn catalogue_of(scope: Scope, core: bool, fragments: Fragments, ranked: Ranked) -> Catalogue
     requires scope { IsScope scope }
     requires fragments { AreSoundFragments (arities_of scope.schema) fragments }
     requires rules { AreSoundRules (arities_of scope.schema) ranked.rules }
     requires ranked { (version : Version) × (own : List Constraint)
-        × AreRankedOf version scope.datasets own ranked }
-    ensures { (version : Version) (own : List Constraint)
-        → AreRankedOf version scope.datasets own ranked
-        → IsMadeOf version core scope.datasets fragments own result }
+        × IsRankedOf version scope.datasets own ranked }
+    ensures { IsMadeOf core scope.datasets fragments ranked result }
 {
     let Scope {
         datasets,
@@ -132,18 +133,20 @@ fn catalogue_of(scope: Scope, core: bool, fragments: Fragments, ranked: Ranked) 
     }
 }
 
-// The catalogue of the sections.
+// The rows of the sections, in order: datasets, fragments, constraints; then the graph of the
+// rules.
 fn read_sections(alloc: Global, sections: &Sections) -> Result<Catalogue, CatalogueError>
     requires { length sections.now.datasets ≤ MAX_ENTRIES }
     ensures { Walks (reads_sections sections.now) result }
 {
     let datasets = read_datasets(alloc, sections.datasets.items())?;
     let scope = scope_of(alloc, datasets)?;
-    let (fragments, ranked) = read_parts(alloc, sections, &scope)?;
+    let (fragments, ranked) = read_fragments_and_rules(alloc, sections, &scope)?;
     Ok(catalogue_of(scope, sections.core, fragments, ranked))
 }
 
-// The walk over the rows.
+// The walk over the rows, in order: the whole file, datasets, fragments, constraints; then the
+// graph of the rules.
 fn walk(alloc: Global, bytes: &[u8]) -> Result<Catalogue, CatalogueError>
     ensures { Walks (reads_catalogue bytes.now) result }
 {
@@ -151,8 +154,8 @@ fn walk(alloc: Global, bytes: &[u8]) -> Result<Catalogue, CatalogueError>
     read_sections(alloc, &sections)
 }
 
-/// The catalogue that the bytes say; or its first fault; or, where there is none, the least cycle by which a relation
-/// leads back to itself.
+/// The catalogue that the bytes say; or its first fault; or, where there is none, the least cycle
+/// by which a relation leads back to itself.
 pub fn read_catalogue(alloc: Global, bytes: &[u8]) -> Result<Catalogue, CatalogueError>
     // The answer is the reading of the bytes.
     ensures reading { IfOk result (IsCatalogueOf bytes.now) }
@@ -167,23 +170,24 @@ pub fn catalogues_are_sound()
     ensures { CataloguesAreSound }
 {}
 
-/// A law: a catalogue's rules go between the relations that it ranks, and its ranks are theirs, as a chase by them asks.
+/// A law: a catalogue's rules go between the relations that it ranks, and its ranks are theirs, as
+/// a chase by them asks.
 pub fn catalogues_rank_their_rules()
     ensures within { (it : Catalogue) → IsWithin (length it.ranks) (IsEdge (rules_of it.rules)) }
     ensures ranks { (it : Catalogue) →
         AreRanks (IsEdge (rules_of it.rules)) (length it.ranks) it.ranks }
 {}
 
-/// A law: a catalogue that is read has the relations of its datasets, one dataset after another; and it keeps its own
-/// constraints first, as many as it counts, and then the rules of the encodings of its datasets, with the names of their
-/// variables.
+/// A law: a catalogue that is read has the relations of its datasets, one dataset after another;
+/// and it keeps its own constraints first, as many as it counts, and then the rules of the
+/// encodings of its datasets, with the names of their variables.
 pub fn catalogues_keep_their_datasets()
     ensures relations { ReadingsHaveRelations }
     ensures encodings { ReadingsHaveEncodings }
 {}
 
-/// A law: bytes say at most one catalogue, up to what its views, patterns and rules mean, or have at most one first fault,
-/// and never both. Want of memory is excepted.
+/// A law: bytes say at most one catalogue, up to what its views, patterns and rules mean, or have
+/// at most one first fault, and never both. Want of memory is excepted.
 pub fn catalogues_are_determined()
     ensures catalogue { HaveOneCatalogue }
     ensures apart { HaveNoError }

@@ -1,10 +1,9 @@
 //! The rows of the whole file, before its entries.
-ghost use Rattle.std.specs.Prelude.{◌≡◌, ◌≢◌, ◌≤◌, Some, codes, pos, option_copied, length, IfOk, IfErr, MatchOption};
-ghost use Rattle.esto_course.specs.Course.{Stops};
-ghost use Rattle.esto_catalog.specs.Rows.{IsAny, IsWant, Walks};
+ghost use Rattle.std.specs.Prelude.{◌≡◌, ◌≢◌, ◌≤◌, Some, codes, pos, option_copied, length, IfOk, MatchOption};
+ghost use Rattle.esto_catalog.specs.Rows.{Walks};
 ghost use Rattle.esto_settings.specs.Settings.{setting_at};
 ghost use Rattle.esto_settings.specs.declared.setting.Setting.TheVariants.{Integer};
-ghost use Rattle.esto_catalog.specs.Whole.{is_two, top_keys, number_of, reads_toml, reads_version, reads_core, reads_section, reads_rows, reads_whole, entries_of, sections_of};
+ghost use Rattle.esto_catalog.specs.Whole.{is_two, top_keys, number_of, reads_toml, reads_version, reads_core, fits_section, reads_top, reads_whole, tables_of, sections_of};
 
 use crate::fault::{CatalogueError, CatalogueKind, TOP, fault};
 use crate::row::{Keys, knows_keys};
@@ -117,22 +116,21 @@ fn fits_section(
     key: &str,
     section: &Option<SectionTables>,
 ) -> Result<(), CatalogueError>
-    ensures goes { IfOk result (λ _. (reads_section key.now section.now).goes
-        (entries_of section.now)) }
-    ensures error { IfErr result (Stops IsWant IsAny (reads_section key.now section.now)) }
+    ensures { Walks (fits_section key.now section.now) result }
 {
-    let Some(entries) = section else {
+    let Some(tables) = section else {
         return Err(fault(alloc, CatalogueKind::WrongType, TOP, key, None));
     };
-    if entries.len() > MAX_ENTRIES {
+    if tables.len() > MAX_ENTRIES {
         return Err(fault(alloc, CatalogueKind::TooMany, TOP, key, None));
     }
     Ok(())
 }
 
-// The rows of the document, in order: unknown keys, the version, whether the core is asked for, each section.
-fn read_rows(alloc: Global, document: &Document) -> Result<(Version, bool), CatalogueError>
-    ensures { Walks (reads_rows document.now) result }
+// The rows of the top, in order: unknown keys, the version, whether the core is asked for, the
+// sections of datasets, of fragments and of constraints.
+fn read_top(alloc: Global, document: &Document) -> Result<(Version, bool), CatalogueError>
+    ensures { Walks (reads_top document.now) result }
 {
     let entry = document.fields.items();
     let keys = top_keys(entry);
@@ -145,35 +143,36 @@ fn read_rows(alloc: Global, document: &Document) -> Result<(Version, bool), Cata
     Ok((version, core))
 }
 
-// The entries of a section, or none where it is no array of tables.
-fn entries_of(alloc: Global, section: Option<SectionTables>) -> SectionTables
-    ensures { result ≡ entries_of section }
+// The tables of a section, or none where it is no array of tables.
+fn tables_of(alloc: Global, section: Option<SectionTables>) -> SectionTables
+    ensures { result ≡ tables_of section }
 {
     match section {
-        Some(entries) => entries,
+        Some(tables) => tables,
         None => List::new(alloc),
     }
 }
 
-// The document's entries, with its version and whether the core is asked for.
+// The entries of the document's sections, with the version and whether the core is asked for.
 fn sections_of(alloc: Global, version: Version, core: bool, document: Document) -> Sections
     ensures { result ≡ sections_of version core document }
 {
     Sections {
         version,
         core,
-        datasets: entries_of(alloc, document.datasets),
-        fragments: entries_of(alloc, document.fragments),
-        constraints: entries_of(alloc, document.constraints),
+        datasets: tables_of(alloc, document.datasets),
+        fragments: tables_of(alloc, document.fragments),
+        constraints: tables_of(alloc, document.constraints),
     }
 }
 
-/// The rows of the whole file, in order: TOML, unknown keys, the version, whether the core is asked for, each section.
+/// The rows of the whole file before its entries, in order: TOML, unknown keys, the version,
+/// whether the core is asked for, the sections of datasets, of fragments and of constraints.
 pub fn read_whole(alloc: Global, bytes: &[u8]) -> Result<Sections, CatalogueError>
     ensures whole { Walks (reads_whole bytes.now) result }
     ensures few { IfOk result (λ sections. length sections.datasets ≤ MAX_ENTRIES) }
 {
     let document = document_of(alloc, bytes)?;
-    let (version, core) = read_rows(alloc, &document)?;
+    let (version, core) = read_top(alloc, &document)?;
     Ok(sections_of(alloc, version, core, document))
 }

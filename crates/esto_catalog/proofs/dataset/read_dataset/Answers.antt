@@ -1,6 +1,5 @@
 use Rattle.std.proofs.Common.{refl}
-use Rattle.esto_course.proofs.Steps.{first_stops, then_stops}
-use Rattle.esto_catalog.proofs.DatasetLemmas.{dataset_goes, dataset_stops, same_dataset}
+use Rattle.esto_course.proofs.Steps.{first_stops, then_stops, then_goes, gives_goes}
 use Rattle.esto_catalog.proofs.RowLemmas.{memory_stops, row_exit}
 use Rattle.esto_catalog.specs.Datasets.{reads_dataset}
 use Rattle.esto_catalog.proofs.dataset.read_dataset.Goals as goal
@@ -21,10 +20,16 @@ returns-in_err-name c = row_exit (reads_dataset c.args.place c.args.earlier.now 
 pub returns-in_err-model : goal.returns-in_err-model
 returns-in_err-model c =
     row_exit (reads_dataset c.args.place c.args.earlier.now c.args.entry.now) _ _ c.from_residual-in_err-model.ensures.1
-    (dataset_stops c.args.place c.args.earlier.now c.args.entry.now tt c.in_ok-knows_keys.ensures _ c.in_ok-said.ensures.goes _ c.in_err-model.ensures)
+    (then_stops _ _ _ c.in_ok-knows_keys.ensures (then_stops _ _ _ c.in_ok-said.ensures.goes (first_stops _ _ c.in_err-model.ensures)))
 
 pub returns : goal.returns
 returns c =
-    dataset_goes c.args.place c.args.earlier.now c.args.entry.now tt c.in_ok-knows_keys.ensures _ c.in_ok-said.ensures.goes c.in_ok-model.model
-    c.in_ok-model.columns c.in_ok-model.layout c.in_ok-model.file _ c.in_ok-model.ensures
-    (same_dataset _ _ _ _ _ _ _ _ c.in_ok-name.ensures c.requires)
+    then_goes _ _ _ _ c.in_ok-knows_keys.ensures (then_goes _ _ _ _ c.in_ok-said.ensures.goes
+    (then_goes _ _ _ _ c.in_ok-model.ensures (gives_goes _ _ _ (λ i. record {
+      name = c.in_ok-name.ensures i;
+      model = c.in_ok-model.model;
+      base = c.requires i;
+      columns = c.in_ok-model.columns;
+      layout = c.in_ok-model.layout;
+      file = c.in_ok-model.file;
+    }))))

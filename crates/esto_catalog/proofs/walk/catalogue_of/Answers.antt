@@ -10,15 +10,14 @@ invariant_of-result c =
     }
 
 pub returns : goal.returns
-returns c = λ version own are. record {
+returns c = record {
   schema = c.requires.scope.schema;
   words = c.requires.scope.words;
   same_datasets = refl;
   definitions = refl;
   stores = refl;
-  rules = are.rules;
-  given_are = are.given_are;
-  acyclic = are.acyclic;
-  ranks = are.ranks;
+  rules = refl;
+  given = refl;
+  ranks = refl;
   core_is = refl;
 }

@@ -1,7 +1,6 @@
-use Rattle.std.proofs.Common.{subst, sym}
-use Rattle.esto_course.proofs.Steps.{first_stops}
+use Rattle.esto_course.proofs.Steps.{first_stops, then_stops, then_goes, gives_goes}
 use Rattle.esto_catalog.proofs.RowLemmas.{row_exit}
-use Rattle.esto_catalog.proofs.WholeLemmas.{datasets_few, whole_goes, whole_stops}
+use Rattle.esto_catalog.proofs.WholeLemmas.{datasets_few}
 use Rattle.esto_catalog.specs.Whole.{reads_whole}
 use Rattle.esto_catalog.proofs.whole.read_whole.Goals as goal
 
@@ -12,12 +11,11 @@ returns-in_err-document-clause-whole c =
 pub returns-in_err-version-clause-whole : goal.returns-in_err-version-clause-whole
 returns-in_err-version-clause-whole c =
     row_exit (reads_whole c.args.bytes.now) _ _ c.from_residual-in_err-version.ensures.1
-    (whole_stops _ c.in_ok-document.document c.in_ok-document.ensures _ c.in_err-version.ensures)
+    (then_stops _ _ _ c.in_ok-document.ensures (first_stops _ _ c.in_err-version.ensures))
 
 pub returns-clause-whole : goal.returns-clause-whole
 returns-clause-whole c =
-    subst (reads_whole c.args.bytes.now).goes (sym c.sections_of.ensures)
-    (whole_goes _ c.in_ok-document.document c.in_ok-document.ensures c.in_ok-version.version c.in_ok-version.core c.in_ok-version.ensures)
+    then_goes _ _ _ _ c.in_ok-document.ensures (then_goes _ _ _ _ c.in_ok-version.ensures (gives_goes _ _ _ c.sections_of.ensures))
 
 pub returns-clause-few : goal.returns-clause-few
 returns-clause-few c =

@@ -1,17 +1,17 @@
 use Rattle.std.proofs.Common.{refl}
 use Rattle.esto_course.proofs.Steps.{first_stops, then_stops, then_goes, gives_goes}
 use Rattle.esto_catalog.proofs.RowLemmas.{row_exit}
-use Rattle.esto_catalog.specs.Fragments.{form_row}
-use Rattle.esto_catalog.proofs.fragment.form.Goals as goal
+use Rattle.esto_catalog.specs.Fragments.{rows_after_file}
+use Rattle.esto_catalog.proofs.fragment.rows_after_file.Goals as goal
 
 pub returns-in_err-shape : goal.returns-in_err-shape
 returns-in_err-shape c =
-    row_exit (form_row c.args.place c.args.model c.args.view.now c.args.entry.now) _ _ c.from_residual.ensures.1
+    row_exit (rows_after_file c.args.place c.args.model c.args.view.now c.args.entry.now) _ _ c.from_residual.ensures.1
     (first_stops _ _ c.in_err-shape.ensures)
 
 pub returns-in_err-access : goal.returns-in_err-access
 returns-in_err-access c =
-    row_exit (form_row c.args.place c.args.model c.args.view.now c.args.entry.now) _ _ c.from_residual-in_err-access.ensures.1
+    row_exit (rows_after_file c.args.place c.args.model c.args.view.now c.args.entry.now) _ _ c.from_residual-in_err-access.ensures.1
     (then_stops _ _ _ c.in_ok-shape.ensures (first_stops _ _ c.in_err-access.ensures))
 
 pub returns : goal.returns
