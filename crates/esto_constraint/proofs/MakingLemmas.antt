@@ -11,7 +11,7 @@ use Rattle.esto_query.specs.Making.{IsFirstMisfit}
 use Rattle.esto_query.specs.declared.query.Name.{Name}
 use Rattle.esto_query.specs.declared.make.QueryFault.{QueryFault}
 use Rattle.esto_query.specs.declared.make.QueryFault.TheVariants.{Unsafe, Arity, TooLarge, OutOfMemory}
-use Rattle.esto_constraint.specs.Making.{MakesTuple, MakesEquality, MakesDenial}
+use Rattle.esto_constraint.specs.Making.{MakesTuple, MakesEquality, IsBodyFault}
 
 module _ (schema : List ℕ) where
   pub AreOver-append : (body head : List (Fact Term)) → AreOver schema body → AreOver schema head → AreOver schema (body ++ head)
@@ -47,14 +47,7 @@ module _ (schema : List ℕ) where
 
 -- ---- what is wrong, whatever the names are
 
-pub denial_refused : (schema : List ℕ) (body : List (Fact Term)) (names : List Name) (fault : QueryFault) → MakesDenial schema body [] (Err fault)
-    → MakesDenial schema body names (Err fault)
-denial_refused schema body names (Arity place) is = is
-denial_refused schema body names (TooLarge atoms) is = is
-denial_refused schema body names (Unsafe variable) is = is
-denial_refused schema body names OutOfMemory is = is
-
-pub body_refused : (schema : List ℕ) (body : List (Fact Term)) (left right : Term) (fault : QueryFault) → MakesDenial schema body [] (Err fault)
+pub body_refused : (schema : List ℕ) (body : List (Fact Term)) (left right : Term) (fault : QueryFault) → IsBodyFault schema body fault
     → MakesEquality schema body left right [] (Err fault)
 body_refused schema body left right (Arity place) is = is
 body_refused schema body left right (TooLarge atoms) is = is

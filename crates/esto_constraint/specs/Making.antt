@@ -36,6 +36,13 @@ abbrev pub IsFirstUnsafe : Term → Term → List (Fact Term) → ℕ → Type 0
 IsFirstUnsafe left right body variable =
     ¬ (Mentions body (Plain variable)) × ((left ≡ Plain variable) ⊎ (IsFixedBy body left × (right ≡ Plain variable)))
 
+-- The fault is the body's first: the first atom with a wrong number of terms, else the number of atoms, which are too many.
+abbrev pub IsBodyFault : List ℕ → List (Fact Term) → QueryFault → Type 0
+IsBodyFault schema body (Arity place) = IsFirstMisfit schema body place
+IsBodyFault schema body (TooLarge atoms) = AreOver schema body × (atoms ≡ length body) × (MAX_ATOMS < atoms)
+IsBodyFault schema body (Unsafe variable) = ⊥
+IsBodyFault schema body OutOfMemory = ⊥
+
 -- What comes of making an equality rule: the rule, where each atom has the right number of terms, there are not too many atoms and each side is a constant or
 -- in the body; else the first of these that fails. Memory is never wanting.
 abbrev pub MakesEquality : List ℕ → List (Fact Term) → Term → Term → List Name → Result Constraint QueryFault → Type 0
@@ -44,8 +51,8 @@ MakesEquality schema body left right names (Ok (Equal rule)) =
     AreOver schema body × (length body ≤ MAX_ATOMS) × IsFixedBy body left × IsFixedBy body right
     × (rule.body ≡ body) × (rule.left ≡ left) × (rule.right ≡ right) × (rule.names ≡ names)
 MakesEquality schema body left right names (Ok (Never rule)) = ⊥
-MakesEquality schema body left right names (Err (Arity place)) = IsFirstMisfit schema body place
-MakesEquality schema body left right names (Err (TooLarge atoms)) = AreOver schema body × (atoms ≡ length body) × (MAX_ATOMS < atoms)
+MakesEquality schema body left right names (Err (Arity place)) = IsBodyFault schema body (Arity place)
+MakesEquality schema body left right names (Err (TooLarge atoms)) = IsBodyFault schema body (TooLarge atoms)
 MakesEquality schema body left right names (Err (Unsafe variable)) =
     AreOver schema body × (length body ≤ MAX_ATOMS) × IsFirstUnsafe left right body variable
 MakesEquality schema body left right names (Err OutOfMemory) = ⊥
@@ -57,7 +64,4 @@ MakesDenial schema body names (Ok (Tuple rule)) = ⊥
 MakesDenial schema body names (Ok (Equal rule)) = ⊥
 MakesDenial schema body names (Ok (Never rule)) =
     AreOver schema body × (length body ≤ MAX_ATOMS) × (rule.body ≡ body) × (rule.names ≡ names)
-MakesDenial schema body names (Err (Arity place)) = IsFirstMisfit schema body place
-MakesDenial schema body names (Err (TooLarge atoms)) = AreOver schema body × (atoms ≡ length body) × (MAX_ATOMS < atoms)
-MakesDenial schema body names (Err (Unsafe variable)) = ⊥
-MakesDenial schema body names (Err OutOfMemory) = ⊥
+MakesDenial schema body names (Err fault) = IsBodyFault schema body fault

@@ -7,7 +7,7 @@ ghost use Rattle.esto_query.specs.Soundness.{AreNamed};
 ghost use Rattle.esto_query.specs.Schemas.{arities_of};
 ghost use Rattle.esto_constraint.specs.Soundness.{IsSoundTuple, IsSoundEquality, IsSoundDenial};
 ghost use Rattle.esto_constraint.specs.Constraints.{rule_of};
-ghost use Rattle.esto_constraint.specs.Making.{MakesTuple, MakesEquality, MakesDenial, IsFirstUnsafe};
+ghost use Rattle.esto_constraint.specs.Making.{MakesTuple, MakesEquality, MakesDenial, IsBodyFault, IsFirstUnsafe};
 
 use crate::rule::{Constraint, Denial, Egd, Tgd};
 use esto_query::{MAX_ATOMS, Names, QueryFault, Schema, first_misfit, missing_variable};
@@ -28,12 +28,13 @@ fn first_unsafe(left: &Term, right: &Term, body: &[Atom]) -> Option<u64>
     }
 }
 
-/// What is wrong with a body: its first atom with a wrong number of terms, or else its number of atoms.
+/// What is wrong with a body: its first atom with a wrong number of terms, or else its number of
+/// atoms, which are too many. None comes exactly where nothing is wrong.
 fn body_fault(schema: &Schema, body: &[Atom]) -> Option<QueryFault>
     requires { All (λ atom. atom.relation < length schema.now) body.now }
     ensures { MatchOption result
         (AreOver (arities_of schema.now) body.now × (length body.now ≤ MAX_ATOMS))
-        (λ fault. MakesDenial (arities_of schema.now) body.now [] (Err fault)) }
+        (IsBodyFault (arities_of schema.now) body.now) }
 {
     if let Some(place) = first_misfit(schema, body) {
         return Some(QueryFault::Arity(place));
@@ -44,7 +45,8 @@ fn body_fault(schema: &Schema, body: &[Atom]) -> Option<QueryFault>
     None
 }
 
-/// What is wrong with a body and the sides of an equality rule: what is wrong with the body, or else the first unsafe side.
+/// What is wrong with a body and the sides of an equality rule: what is wrong with the body, or
+/// else the first unsafe side. None comes exactly where nothing is wrong.
 fn equality_fault(schema: &Schema, body: &[Atom], left: &Term, right: &Term) -> Option<QueryFault>
     requires relations { All (λ atom. atom.relation < length schema.now) body.now }
     requires flat_left { IsFlat left.now }
@@ -62,8 +64,10 @@ fn equality_fault(schema: &Schema, body: &[Atom], left: &Term, right: &Term) -> 
     Some(QueryFault::Unsafe(variable))
 }
 
-/// What is wrong with the body and the head of a tuple rule: the first atom with a wrong number of terms, or else the
-/// number of atoms.
+/// What is wrong with the body and the head of a tuple rule: the first atom with a wrong number of
+/// terms, where the body's atoms are counted before the head's; or else the number of the body's
+/// atoms, or else of the head's, where they are too many. OutOfMemory comes only where body and
+/// head together have 2^64 atoms or more. None comes exactly where nothing is wrong.
 fn tuple_fault(schema: &Schema, body: &[Atom], head: &[Atom]) -> Option<QueryFault>
     requires body_relations { All (λ atom. atom.relation < length schema.now) body.now }
     requires head_relations { All (λ atom. atom.relation < length schema.now) head.now }

@@ -1,10 +1,9 @@
-use Rattle.std.proofs.Common.{◌<◌, List, [], length, Err, refl, sym, subst}
+use Rattle.std.proofs.Common.{◌<◌, List, length, refl, sym, subst}
 use Rattle.std.specs.List.{All}
 use Rattle.esto_term.specs.declared.term.Term.{Term}
 use Rattle.esto_semantics.specs.declared.fact.Fact.{Fact}
 use Rattle.esto_query.specs.Schemas.{arities_of}
-use Rattle.esto_constraint.specs.Making.{MakesDenial}
-use Rattle.esto_constraint.proofs.MakingLemmas.{denial_refused}
+use Rattle.esto_constraint.specs.Making.{IsBodyFault}
 use Rattle.esto_constraint.proofs.make.make_denial.Goals as goal
 
 pub body_fault-requires : goal.body_fault-requires
@@ -21,8 +20,7 @@ invariant_of-result c = record {
 
 pub returns-in-Some : goal.returns-in-Some
 returns-in-Some c =
-    denial_refused (arities_of c.args.schema.now) c.args.body c.args.names c.in-Some.fault
-    (subst (λ (body : List (Fact Term)). MakesDenial (arities_of c.args.schema.now) body [] (Err c.in-Some.fault)) c.items.ensures c.in-Some.ensures)
+    subst (λ (body : List (Fact Term)). IsBodyFault (arities_of c.args.schema.now) body c.in-Some.fault) c.items.ensures c.in-Some.ensures
 
 pub returns-in-None : goal.returns-in-None
 returns-in-None c = let fits = rw c.items.ensures at c.in-None.ensures in (fits.0, fits.1, refl, refl)
