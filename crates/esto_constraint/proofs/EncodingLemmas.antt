@@ -2,7 +2,7 @@
 use Rattle.std.proofs.Common.{◌≡◌, ◌≢◌, ℕ, zero, suc, ◌<◌, List, [], ◌∷◌, ◌++◌, map, length, slice_index_or, Contains, Result, refl, sym, ◌∙◌, ap, subst, inl, inr, arith}
 use Rattle.std.specs.List.{AllByRecursion}
 use Rattle.std.specs.Result.{OnOk}
-use Rattle.std.proofs.lemmas.List.{length-map, map_push}
+use Rattle.std.proofs.lemmas.List.{append_assoc, length-map, map_push}
 use Rattle.std.proofs.lemmas.Result.{on_ok_weaker}
 use Rattle.esto_term.proofs.ListLemmas.{Contains-cases, Contains-head, Contains-map, Contains-map_from, Contains-nil, Contains-rest}
 use Rattle.esto_term.specs.declared.term.Term.{Term}
@@ -135,13 +135,17 @@ module _ {T : Type 0} (named_as : T → Name) (texts : List T) (names : List Nam
       let it = two_atoms names (length texts) relation other first second body are many below lower in
       record { rule = record { has_body = it.some; flat_body = it.flat }; named = it.named }
 
--- a list that got one more
-pub grown : {Y : Type 0} (old new all : List Y) (last : Y) → old ≡ all → new ≡ old ++ last ∷ [] → new ≡ all ++ last ∷ []
-grown old new all last before is = is ∙ ap (λ those. those ++ last ∷ []) before
+-- a list that got more, and then one more
+pub grown : {Y : Type 0} (first old new more : List Y) (last : Y) → old ≡ first ++ more → new ≡ old ++ last ∷ [] → new ≡ first ++ (more ++ last ∷ [])
+grown first old new more last before is = is ∙ ap (λ those. those ++ last ∷ []) before ∙ append_assoc first more (last ∷ [])
 
-pub after : {T E Y : Type 0} (old new all : List Y) (last : Y) (result : Result T E) → old ≡ all → OnOk result (new ≡ old ++ last ∷ [])
-    → OnOk result (new ≡ all ++ last ∷ [])
-after old new all last result before = on_ok_weaker result (grown old new all last before)
+pub after : {T E Y : Type 0} (first old new more : List Y) (last : Y) (result : Result T E) → old ≡ first ++ more → OnOk result (new ≡ old ++ last ∷ [])
+    → OnOk result (new ≡ first ++ (more ++ last ∷ []))
+after first old new more last result before = on_ok_weaker result (grown first old new more last before)
+
+-- a list that was empty, and got more
+pub begun : {Y : Type 0} (old new more : List Y) → old ≡ [] → new ≡ old ++ more → new ≡ more
+begun old new more none is = is ∙ ap (λ those. those ++ more) none
 
 -- what is said of the items of a list that got one more
 pub put_last : {T E X Y : Type 0} (f : X → Y) (old new : List X) (last : X) (other : Y) (result : Result T E) → OnOk result (new ≡ old ++ last ∷ [])

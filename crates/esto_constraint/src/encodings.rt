@@ -77,8 +77,8 @@ fn two_atoms(
     Ok(atoms)
 }
 
-/// Adds the rule that two atoms of one relation agree at a place.
-fn add_agreement(
+/// Adds the equality rule that two atoms of one relation agree at a place.
+fn add_equality_rule(
     alloc: Global,
     relation: usize,
     first: &[u64],
@@ -108,8 +108,8 @@ fn add_agreement(
     }))
 }
 
-/// Adds the rule that an atom of one relation asks for one of another.
-fn add_demand(
+/// Adds the tuple rule that an atom of one relation asks for one of another.
+fn add_tuple_rule(
     alloc: Global,
     relation: usize,
     from: &[u64],
@@ -131,7 +131,7 @@ fn add_demand(
     rules.push(Constraint::Tuple(Tgd { body, head, names }))
 }
 
-/// Adds the rule that two atoms never match together.
+/// Adds the denial by which two atoms never match together.
 fn add_denial(
     alloc: Global,
     relation: usize,
@@ -153,45 +153,49 @@ fn add_denial(
     rules.push(Constraint::Never(Denial { body, names }))
 }
 
-/// Puts the first three rules of documents, whose five relations stand from the base on, into an empty list: a node has
+/// Adds the first three rules of documents, whose five relations stand from the base on: a node has
 /// one field of a name, and a field has one node and one name.
 fn add_rules_of_fields(alloc: Global, base: usize, rules: &mut Rules) -> Result<(), OutOfMemory>
     requires base { base + 4 ≤ 18446744073709551615 }
-    requires none { rules.old ≡ [] }
-    ensures rules { OnOk result (rules_of rules.new ≡ take 3 (document_rules base)) }
-    ensures names { OnOk result (map written rules.new ≡ take 3 document_names) }
+    ensures rules { OnOk result (rules_of rules.new
+        ≡ rules_of rules.old ++ take 3 (document_rules base)) }
+    ensures names { OnOk result (map written rules.new
+        ≡ map written rules.old ++ take 3 document_names) }
 {
     let names = ["n", "k", "m", "p"];
-    add_agreement(alloc, base + 1, &[0, 1, 2], &[0, 1, 3], 2, &names, rules)?;
+    add_equality_rule(alloc, base + 1, &[0, 1, 2], &[0, 1, 3], 2, &names, rules)?;
     let names = ["n", "k", "m", "p", "l"];
-    add_agreement(alloc, base + 1, &[0, 1, 2], &[3, 4, 2], 0, &names, rules)?;
-    add_agreement(alloc, base + 1, &[0, 1, 2], &[3, 4, 2], 1, &names, rules)
+    add_equality_rule(alloc, base + 1, &[0, 1, 2], &[3, 4, 2], 0, &names, rules)?;
+    add_equality_rule(alloc, base + 1, &[0, 1, 2], &[3, 4, 2], 1, &names, rules)
 }
 
-/// The same for the first five rules of documents: those of fields, and then those of items and of values.
+/// Adds the first five rules of documents: those of fields, and then that an item has one node and
+/// a node holds one value.
 fn add_rules_of_values(alloc: Global, base: usize, rules: &mut Rules) -> Result<(), OutOfMemory>
     requires base { base + 4 ≤ 18446744073709551615 }
-    requires none { rules.old ≡ [] }
-    ensures rules { OnOk result (rules_of rules.new ≡ take 5 (document_rules base)) }
-    ensures names { OnOk result (map written rules.new ≡ take 5 document_names) }
+    ensures rules { OnOk result (rules_of rules.new
+        ≡ rules_of rules.old ++ take 5 (document_rules base)) }
+    ensures names { OnOk result (map written rules.new
+        ≡ map written rules.old ++ take 5 document_names) }
 {
     add_rules_of_fields(alloc, base, rules)?;
     let names = ["n", "m", "p"];
-    add_agreement(alloc, base + 2, &[0, 1], &[2, 1], 0, &names, rules)?;
+    add_equality_rule(alloc, base + 2, &[0, 1], &[2, 1], 0, &names, rules)?;
     let names = ["n", "v", "w"];
-    add_agreement(alloc, base + 3, &[0, 1], &[0, 2], 1, &names, rules)
+    add_equality_rule(alloc, base + 3, &[0, 1], &[0, 2], 1, &names, rules)
 }
 
-/// The same for the seven rules of documents: those, and then that fields and items stand below.
+/// Adds the seven rules of documents of version 1: the first five, and then that fields and items
+/// stand below.
 fn add_rules_of_documents(alloc: Global, base: usize, rules: &mut Rules) -> Result<(), OutOfMemory>
     requires base { base + 4 ≤ 18446744073709551615 }
-    requires none { rules.old ≡ [] }
-    ensures rules { OnOk result (rules_of rules.new ≡ document_rules base) }
-    ensures names { OnOk result (map written rules.new ≡ document_names) }
+    ensures rules { OnOk result (rules_of rules.new ≡ rules_of rules.old ++ document_rules base) }
+    ensures names { OnOk result (map written rules.new
+        ≡ map written rules.old ++ document_names) }
 {
     add_rules_of_values(alloc, base, rules)?;
     let names = ["n", "k", "m"];
-    add_demand(
+    add_tuple_rule(
         alloc,
         base + 1,
         &[0, 1, 2],
@@ -201,19 +205,21 @@ fn add_rules_of_documents(alloc: Global, base: usize, rules: &mut Rules) -> Resu
         rules,
     )?;
     let names = ["n", "m"];
-    add_demand(alloc, base + 2, &[0, 1], base + 4, &[0, 1], &names, rules)
+    add_tuple_rule(alloc, base + 2, &[0, 1], base + 4, &[0, 1], &names, rules)
 }
 
-/// The same for the eight rules of documents.
+/// Adds the eight rules of documents of version 2: those of version 1, and then that no document
+/// stands below a node.
 fn add_rules_of_documents_2(
     alloc: Global,
     base: usize,
     rules: &mut Rules,
 ) -> Result<(), OutOfMemory>
     requires base { base + 4 ≤ 18446744073709551615 }
-    requires none { rules.old ≡ [] }
-    ensures rules { OnOk result (rules_of rules.new ≡ document_rules_2 base) }
-    ensures names { OnOk result (map written rules.new ≡ document_names_2) }
+    ensures rules { OnOk result (rules_of rules.new
+        ≡ rules_of rules.old ++ document_rules_2 base) }
+    ensures names { OnOk result (map written rules.new
+        ≡ map written rules.old ++ document_names_2) }
 {
     add_rules_of_documents(alloc, base, rules)?;
     add_denial(alloc, base, &[0], base + 4, &[1, 0], &["n", "m"], rules)
@@ -258,6 +264,6 @@ pub fn key_rules(alloc: Global, relation: usize) -> Result<Rules, OutOfMemory>
     let first = [0, 1, 2];
     let second = [0, 1, 3];
     let mut rules = List::new(alloc);
-    add_agreement(alloc, relation, &first, &second, 2, &names, &mut rules)?;
+    add_equality_rule(alloc, relation, &first, &second, 2, &names, &mut rules)?;
     Ok(rules)
 }

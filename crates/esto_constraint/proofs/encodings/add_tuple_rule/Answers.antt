@@ -2,7 +2,7 @@ use Rattle.esto_semantics.specs.Rules.{tuple}
 use Rattle.esto_constraint.specs.Constraints.{rule_of}
 use Rattle.esto_constraint.specs.EncodingRules.{written}
 use Rattle.esto_constraint.proofs.EncodingLemmas.{put_last, sound_tuple}
-use Rattle.esto_constraint.proofs.encodings.add_demand.Goals as goal
+use Rattle.esto_constraint.proofs.encodings.add_tuple_rule.Goals as goal
 
 pub invariant_of-push : goal.invariant_of-push
 invariant_of-push c = record {

@@ -4,7 +4,7 @@ use Rattle.esto_semantics.specs.Rules.{equality}
 use Rattle.esto_constraint.specs.Constraints.{rule_of}
 use Rattle.esto_constraint.specs.EncodingRules.{written}
 use Rattle.esto_constraint.proofs.EncodingLemmas.{put_last, sound_equality}
-use Rattle.esto_constraint.proofs.encodings.add_agreement.Goals as goal
+use Rattle.esto_constraint.proofs.encodings.add_equality_rule.Goals as goal
 
 pub invariant_of-push : goal.invariant_of-push
 invariant_of-push c = record {
