@@ -48,7 +48,7 @@ document_rules base =
     ∷ tuple (item base (0 ∷ 1 ∷ []) ∷ []) (below base (0 ∷ 1 ∷ []) ∷ [])
     ∷ []
 
--- Those, and one more that no node below another is a document: root(n), below(m,n) -> false.
+-- The rules of documents, and one more that no node below another is a document: root(n), below(m,n) -> false.
 abbrev pub document_rules_2 : ℕ → List Rule
 document_rules_2 base = document_rules base ++ denial (root base (0 ∷ []) ∷ below base (1 ∷ 0 ∷ []) ∷ []) ∷ []
 
@@ -66,14 +66,16 @@ written (Never rule) = rule.names
 abbrev pub letters : List ℕ → List Name
 letters text = map (λ letter. Given (letter ∷ [])) text
 
--- The names of the variables of those rules, as they stand above.
+-- The names of the variables of each of the rules of documents, as they stand above.
 abbrev pub document_names : List (List Name)
 document_names =
     letters (codes "nkmp") ∷ letters (codes "nkmpl") ∷ letters (codes "nkmpl") ∷ letters (codes "nmp") ∷ letters (codes "nvw")
     ∷ letters (codes "nkm") ∷ letters (codes "nm") ∷ []
 
+-- The names of the variables of each of those rules and of the one more.
 abbrev pub document_names_2 : List (List Name)
 document_names_2 = document_names ++ letters (codes "nm") ∷ []
 
+-- The names of the variables of the rule of keys.
 abbrev pub key_names : List (List Name)
 key_names = letters (codes "kfvw") ∷ []

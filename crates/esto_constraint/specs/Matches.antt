@@ -22,17 +22,17 @@ HasExtension body head facts m = Holds facts (tuple body head) m
 abbrev pub IsMet : List (Fact Term) → Rule → Type 0
 IsMet facts rule = MeetsInto Const ◌≡◌ (Contains facts) rule
 
--- They meet each of the rules.
+-- The facts, read over terms, meet each of the rules.
 abbrev pub AreMet : List (Fact Term) → List Rule → Type 0
 AreMet facts rules = (rule : Rule) → Contains rules rule → IsMet facts rule
 
--- It is a match of the rule's body under which the rule does not hold, and no such match comes before it.
+-- The valuation and the places are those of a match of the rule's body under which the rule does not hold, and no such match comes before it.
 pub record IsLeastActive (rule : Rule) (facts : List (Fact Term)) (valuation : Assignment) (places : List ℕ) : Type 0 where
   pub is_found : IsFound (body_of rule) facts empty valuation places
   pub active : (m : Term → Term) → Keeps Const m → Extends m valuation → ¬ (Holds facts rule m)
   pub least : (m : Term → Term) (others : List ℕ) → Keeps Const m → IsMatch m (body_of rule) facts others → ¬ (Holds facts rule m) → IsAtMost places others
 
--- The map of such a match's valuation is an active match at its places, and no active match comes before it.
+-- The map of a least active match's valuation is an active match at its places, and no active match comes before it.
 abbrev pub LeastActiveIsLeast : Type 0
 LeastActiveIsLeast =
     (rule : Rule) (facts : List (Fact Term)) (valuation : Assignment) (places : List ℕ) → IsLeastActive rule facts valuation places
