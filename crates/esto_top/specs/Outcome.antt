@@ -42,11 +42,10 @@ pub data Finishes (answer : Result Reply Status) (old new : Option (List ℕ)) (
       → Finishes answer old new sink_rose result
   memory : Keeps old new → result ≡ status.OutOfMemory → Finishes answer old new sink_rose result
 
--- The status of a put that is at a fault, or for which memory is refused.
-abbrev pub fault_of : Result (Unit {0}) SinkError → Option Status
-fault_of (Ok _) = None
-fault_of (Err sink.Failed) = Some status.WriteFault
-fault_of (Err sink.OutOfMemory) = Some status.OutOfMemory
+-- The status of an error of the sink: a write fault, or want of memory.
+abbrev pub status_of_error : SinkError → Status
+status_of_error sink.Failed = status.WriteFault
+status_of_error sink.OutOfMemory = status.OutOfMemory
 
 -- One put was counted, where puts are told; where memory is wanting it may be none.
 abbrev pub PutsOnce : Option ℕ → Option ℕ → Status → Type 0
@@ -57,7 +56,8 @@ abbrev pub IsComplete : List (List ℕ) → Files → Option (List ℕ) → Opti
 IsComplete words files old new result =
     ((text : List ℕ) × Outcome words files result text × Appends old new text) ⊎ ((result ≡ status.OutOfMemory) × Keeps old new)
 
--- The same where the shelf tells its files, and neither count rose.
+-- Where the shelf tells its files, and neither count rose, the answer is an outcome of the words and the files with its whole text, or want of memory and
+-- nothing.
 abbrev pub CompleteWhereTold : List (List ℕ) → Option Files → Type 0 → Type 0 → Option (List ℕ) → Option (List ℕ) → Status → Type 0
 CompleteWhereTold words None rose sink_rose old new result = Unit {0}
 CompleteWhereTold words (Some files) rose sink_rose old new result = ¬ rose → ¬ sink_rose → IsComplete words files old new result

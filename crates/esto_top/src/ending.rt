@@ -1,7 +1,7 @@
 //! The one put of a command's answer.
-ghost use Rattle.std.specs.Prelude.{◌≡◌, ◌≤◌, IfSome, Err};
+ghost use Rattle.std.specs.Prelude.{◌≡◌, ◌≤◌, IfSome, Some, None, Err, MatchResult};
 ghost use Rattle.esto_ports.specs.Faults.{Rises};
-ghost use Rattle.esto_top.specs.Outcome.{IsSaid, Finishes, PutsOnce, fault_of};
+ghost use Rattle.esto_top.specs.Outcome.{IsSaid, Finishes, PutsOnce, status_of_error};
 
 use esto_opening::{Reply, Status, status_line};
 use esto_ports::{Sink, SinkError};
@@ -40,9 +40,10 @@ fn said(alloc: Global, answer: Result<Reply, Status>) -> Option<(Status, Bytes)>
     }
 }
 
-// The status of a put that was at a fault, or where memory was refused; nothing where all was put.
-fn fault_of(put: Result<(), SinkError>) -> Option<Status>
-    ensures { result ≡ fault_of put }
+// The status of a put's error; nothing where all was put.
+fn status_of_put(put: Result<(), SinkError>) -> Option<Status>
+    ensures { MatchResult put (λ _. result ≡ None)
+        (λ error. result ≡ Some (status_of_error error)) }
 {
     match put {
         Ok(()) => None,
@@ -60,6 +61,6 @@ pub fn finish<O: Sink>(alloc: Global, answer: Result<Reply, Status>, out: &mut O
 {
     match said(alloc, answer) {
         None => Status::OutOfMemory,
-        Some((status, text)) => fault_of(out.put(text.bytes())).unwrap_or(status),
+        Some((status, text)) => status_of_put(out.put(text.bytes())).unwrap_or(status),
     }
 }
