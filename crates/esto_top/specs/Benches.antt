@@ -11,7 +11,8 @@ use Rattle.esto_opening.specs.declared.status.Status.TheVariants as status
 abbrev pub IsExactBench : ℕ → Status → List ℕ → Type 0
 IsExactBench size said text = (said ≡ status.Done) × (summary : Summary) × IsSummaryOfCase size summary × (text ≡ summary_text summary)
 
--- So it is over every shelf, where the sink's count did not rise.
+-- What `bench N` puts is the summary of the made case of that size, or memory was refused and nothing put, over every shelf, where the sink's count did not
+-- rise.
 abbrev pub BenchesAlways : List (List ℕ) → Type 0 → Option (List ℕ) → Option (List ℕ) → Status → Type 0
 BenchesAlways words sink_rose old new result =
     ¬ sink_rose → (word : List ℕ) → is_made_size word ≡ true → words ≡ codes "bench" ∷ word ∷ [] → HoldsOfPut (IsExactBench (value_of word)) old new result

@@ -82,7 +82,7 @@ abbrev pub AsksVerify : List (List ℕ) → List ℕ → List ℕ → List ℕ �
 AsksVerify words catalogue_name query_name numbers file =
     (atoms : List ℕ) × (atom_numbers atoms ≡ Some numbers) × (words ≡ codes "verify" ∷ catalogue_name ∷ query_name ∷ atoms ∷ file ∷ [])
 
--- So is each outcome of `verify C Q A FILE`.
+-- Each outcome of `verify C Q A FILE` is exact, where the files say a catalogue and a query over it.
 abbrev pub OutcomesAreVerified : Type 0
 OutcomesAreVerified =
     (words : List (List ℕ)) (files : Files) (catalogue_name query_name numbers file : List ℕ) (catalogue : Catalogue) (query : Query) (said : Status)
@@ -104,7 +104,8 @@ OutcomesOfExplainAreAccepted =
 
 -- ---- what the top call says
 
--- So it is where the files are told and neither count rose.
+-- What `explain C Q N` puts is exact, or memory was refused and nothing put, where the files are told and say a catalogue and a query over it, and neither
+-- count rose.
 abbrev pub ExplainsWhereTold : List (List ℕ) → Option Files → Type 0 → Type 0 → Option (List ℕ) → Option (List ℕ) → Status → Type 0
 ExplainsWhereTold words None rose sink_rose old new result = Unit {0}
 ExplainsWhereTold words (Some files) rose sink_rose old new result =
@@ -112,6 +113,8 @@ ExplainsWhereTold words (Some files) rose sink_rose old new result =
     → AsksExplain words catalogue_name query_name number → FilesSay files catalogue_name query_name catalogue query
     → HoldsOfPut (IsExactExplain catalogue query number) old new result
 
+-- What `verify C Q A FILE` puts is exact, or memory was refused and nothing put, where the files are told and say a catalogue and a query over it, and neither
+-- count rose.
 abbrev pub VerifiesWhereTold : List (List ℕ) → Option Files → Type 0 → Type 0 → Option (List ℕ) → Option (List ℕ) → Status → Type 0
 VerifiesWhereTold words None rose sink_rose old new result = Unit {0}
 VerifiesWhereTold words (Some files) rose sink_rose old new result =

@@ -20,21 +20,21 @@ OutcomesAreAnswers =
     → words ≡ codes "answer" ∷ catalogue_name ∷ query_name ∷ [] → FilesSay files catalogue_name query_name catalogue query → Outcome words files said text
     → IsExactAnswer files catalogue query said text
 
--- So it is where they say a union of queries over it, of any length.
+-- Each outcome of `answer C Q` is exact, where the files say a catalogue and a union of queries over it, of any length.
 abbrev pub OutcomesAreUnionAnswers : Type 0
 OutcomesAreUnionAnswers =
     (words : List (List ℕ)) (files : Files) (catalogue_name query_name : List ℕ) (catalogue : Catalogue) (queries : List Query) (said : Status)
     (text : List ℕ) → words ≡ codes "answer" ∷ catalogue_name ∷ query_name ∷ [] → FilesSayCatalogue files catalogue_name catalogue
     → FilesSayUnion files query_name catalogue queries → Outcome words files said text → IsExactUnionAnswer files catalogue queries said text
 
--- Each outcome of `fill C F` is, where they say a catalogue.
+-- Each outcome of `fill C F` is exact, where the files say a catalogue.
 abbrev pub OutcomesAreFills : Type 0
 OutcomesAreFills =
     (words : List (List ℕ)) (files : Files) (catalogue_name name : List ℕ) (catalogue : Catalogue) (said : Status) (text : List ℕ)
     → words ≡ codes "fill" ∷ catalogue_name ∷ name ∷ [] → FilesSayCatalogue files catalogue_name catalogue → Outcome words files said text
     → IsExactFill files catalogue name said text
 
--- So is each outcome of `audit C`.
+-- Each outcome of `audit C` is exact, where the files say a catalogue.
 abbrev pub OutcomesAreAudits : Type 0
 OutcomesAreAudits =
     (words : List (List ℕ)) (files : Files) (name : List ℕ) (catalogue : Catalogue) (said : Status) (text : List ℕ)
@@ -43,7 +43,8 @@ OutcomesAreAudits =
 
 -- ---- what the top call says
 
--- So it is where the files are told and neither count rose.
+-- What `answer C Q` puts is exact, or memory was refused and nothing put, where the files are told and say a catalogue and a query over it, and neither count
+-- rose.
 abbrev pub AnswersWhereTold : List (List ℕ) → Option Files → Type 0 → Type 0 → Option (List ℕ) → Option (List ℕ) → Status → Type 0
 AnswersWhereTold words None rose sink_rose old new result = Unit {0}
 AnswersWhereTold words (Some files) rose sink_rose old new result =
@@ -51,6 +52,8 @@ AnswersWhereTold words (Some files) rose sink_rose old new result =
     → words ≡ codes "answer" ∷ catalogue_name ∷ query_name ∷ [] → FilesSay files catalogue_name query_name catalogue query
     → HoldsOfPut (IsExactAnswer files catalogue query) old new result
 
+-- What `answer C Q` puts is exact, or memory was refused and nothing put, where the files are told and say a catalogue and a union of queries over it, of any
+-- length, and neither count rose.
 abbrev pub UnionAnswersWhereTold : List (List ℕ) → Option Files → Type 0 → Type 0 → Option (List ℕ) → Option (List ℕ) → Status → Type 0
 UnionAnswersWhereTold words None rose sink_rose old new result = Unit {0}
 UnionAnswersWhereTold words (Some files) rose sink_rose old new result =
@@ -58,6 +61,7 @@ UnionAnswersWhereTold words (Some files) rose sink_rose old new result =
     → words ≡ codes "answer" ∷ catalogue_name ∷ query_name ∷ [] → FilesSayCatalogue files catalogue_name catalogue
     → FilesSayUnion files query_name catalogue queries → HoldsOfPut (IsExactUnionAnswer files catalogue queries) old new result
 
+-- What `fill C F` puts is exact, or memory was refused and nothing put, where the files are told and say a catalogue, and neither count rose.
 abbrev pub FillsWhereTold : List (List ℕ) → Option Files → Type 0 → Type 0 → Option (List ℕ) → Option (List ℕ) → Status → Type 0
 FillsWhereTold words None rose sink_rose old new result = Unit {0}
 FillsWhereTold words (Some files) rose sink_rose old new result =
@@ -65,6 +69,7 @@ FillsWhereTold words (Some files) rose sink_rose old new result =
     → words ≡ codes "fill" ∷ catalogue_name ∷ name ∷ [] → FilesSayCatalogue files catalogue_name catalogue
     → HoldsOfPut (IsExactFill files catalogue name) old new result
 
+-- What `audit C` puts is exact, or memory was refused and nothing put, where the files are told and say a catalogue, and neither count rose.
 abbrev pub AuditsWhereTold : List (List ℕ) → Option Files → Type 0 → Type 0 → Option (List ℕ) → Option (List ℕ) → Status → Type 0
 AuditsWhereTold words None rose sink_rose old new result = Unit {0}
 AuditsWhereTold words (Some files) rose sink_rose old new result =

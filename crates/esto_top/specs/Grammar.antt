@@ -76,6 +76,7 @@ abbrev pub before_all : ℕ → Option (List ℕ) → Option (List ℕ)
 before_all number None = None
 before_all number (Some numbers) = Some (number ∷ numbers)
 
+-- The number, where it is there, before the rest that it gives, where that is there.
 abbrev pub with_rest : Option ℕ → (ℕ → Option (List ℕ)) → Option (List ℕ)
 with_rest None rest = None
 with_rest (Some number) rest = before_all number (rest number)

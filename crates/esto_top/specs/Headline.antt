@@ -98,11 +98,11 @@ SaidOfLists Fact =
     → words ≡ codes "list" ∷ catalogue_name ∷ query_name ∷ [] → FilesSay files catalogue_name query_name catalogue query → Outcome words files said text
     → Fact catalogue query said text
 
--- It is the list of the query over the catalogue, where the query is satisfiable.
+-- Each outcome of `list C Q` is the list of the query over the catalogue, where the files say both and the query is satisfiable.
 abbrev pub OutcomesAreLists : Type 0
 OutcomesAreLists = SaidOfLists (λ catalogue query said text. HasAnswers catalogue query → IsExactList catalogue query said text)
 
--- It is the refusal of the query exactly where the query is unsatisfiable.
+-- Each outcome of `list C Q`, where the files say a catalogue and a query over it, is the refusal of the query exactly where the query is unsatisfiable.
 abbrev pub OutcomesAreRefusals : Type 0
 OutcomesAreRefusals = SaidOfLists (λ catalogue query said text. ¬ (HasAnswers catalogue query) ↔ IsExactRefusal catalogue query said text)
 
@@ -110,7 +110,8 @@ OutcomesAreRefusals = SaidOfLists (λ catalogue query said text. ¬ (HasAnswers 
 abbrev pub HoldsOfPut : (Status → List ℕ → Type 0) → Option (List ℕ) → Option (List ℕ) → Status → Type 0
 HoldsOfPut Fact old new result = ((text : List ℕ) × Fact result text × Appends old new text) ⊎ ((result ≡ status.OutOfMemory) × Keeps old new)
 
--- It does where the words are `list C Q`, the files are told and say a catalogue and a query over it, and neither count rose.
+-- The fact holds of what `list C Q` puts, or memory was refused and nothing put, where the files are told and say a catalogue and a query over it, and neither
+-- count rose.
 abbrev pub HoldsOfLists : (Catalogue → Query → Status → List ℕ → Type 0) → List (List ℕ) → Option Files → Type 0 → Type 0 → Option (List ℕ) → Option (List ℕ)
     → Status → Type 0
 HoldsOfLists Fact words None rose sink_rose old new result = Unit {0}
@@ -119,12 +120,12 @@ HoldsOfLists Fact words (Some files) rose sink_rose old new result =
     → words ≡ codes "list" ∷ catalogue_name ∷ query_name ∷ [] → FilesSay files catalogue_name query_name catalogue query
     → HoldsOfPut (Fact catalogue query) old new result
 
--- The headline: there `list` prints exactly the list of the query over the catalogue, where the query is satisfiable.
+-- The headline: so `list C Q` prints exactly the list of the query over the catalogue, where the query is satisfiable.
 abbrev pub ListsWhereTold : List (List ℕ) → Option Files → Type 0 → Type 0 → Option (List ℕ) → Option (List ℕ) → Status → Type 0
 ListsWhereTold words files rose sink_rose old new result =
     HoldsOfLists (λ catalogue query said text. HasAnswers catalogue query → IsExactList catalogue query said text) words files rose sink_rose old new result
 
--- There `list` refuses the query, with the clash of its run, exactly where the query is unsatisfiable.
+-- And so `list C Q` refuses the query, with the clash of its run, exactly where the query is unsatisfiable.
 abbrev pub RefusesWhereTold : List (List ℕ) → Option Files → Type 0 → Type 0 → Option (List ℕ) → Option (List ℕ) → Status → Type 0
 RefusesWhereTold words files rose sink_rose old new result =
     HoldsOfLists (λ catalogue query said text. ¬ (HasAnswers catalogue query) ↔ IsExactRefusal catalogue query said text) words files rose sink_rose old new

@@ -28,7 +28,7 @@ pub record PlanningLaws : Type 0 where
   pub text : ListingIsOne
   pub choice : ChoiceIsOne
 
--- And printed plans and listed sets are what the headline says of them.
+-- Plans, clashes and lists are one, and printed plans and listed sets are what the headline says of them.
 pub record ListingLaws : Type 0 where
   pub planning : PlanningLaws
   pub form : PlanHasForm

@@ -19,7 +19,7 @@ OutcomesAreContainments =
     → FilesSayQuery files right_name catalogue right → Outcome words files said text
     → IsExactContains catalogue left right said text
 
--- So is each outcome of `minimise C Q`, where they say a catalogue and a query over it.
+-- Each outcome of `minimise C Q` is exact, where the files say a catalogue and a query over it.
 abbrev pub OutcomesAreMinimised : Type 0
 OutcomesAreMinimised =
     (words : List (List ℕ)) (files : Files) (catalogue_name query_name : List ℕ) (catalogue : Catalogue) (query : Query) (said : Status) (text : List ℕ)
@@ -28,7 +28,8 @@ OutcomesAreMinimised =
 
 -- ---- what the top call says
 
--- So it is where the files are told and neither count rose.
+-- What `contains C L R` puts is exact, or memory was refused and nothing put, where the files are told and say a catalogue and two queries over it, and neither
+-- count rose.
 abbrev pub ContainsWhereTold : List (List ℕ) → Option Files → Type 0 → Type 0 → Option (List ℕ) → Option (List ℕ) → Status → Type 0
 ContainsWhereTold words None rose sink_rose old new result = Unit {0}
 ContainsWhereTold words (Some files) rose sink_rose old new result =
@@ -37,6 +38,8 @@ ContainsWhereTold words (Some files) rose sink_rose old new result =
     → FilesSayQuery files right_name catalogue right
     → HoldsOfPut (IsExactContains catalogue left right) old new result
 
+-- What `minimise C Q` puts is exact, or memory was refused and nothing put, where the files are told and say a catalogue and a query over it, and neither count
+-- rose.
 abbrev pub MinimisesWhereTold : List (List ℕ) → Option Files → Type 0 → Type 0 → Option (List ℕ) → Option (List ℕ) → Status → Type 0
 MinimisesWhereTold words None rose sink_rose old new result = Unit {0}
 MinimisesWhereTold words (Some files) rose sink_rose old new result =

@@ -124,10 +124,12 @@ pub record IsExactRun (files : Files) (number : Option ℕ) (catalogue : Catalog
   pub no_number : NeedsNumber files number catalogue query said text
   pub line : HasAnswers catalogue query → said ≢ status.Done → text ≡ line_of said
 
+-- Each outcome of `run` is exact, where the files say a catalogue and a query over it.
 abbrev pub OutcomesAreRuns : Type 0
 OutcomesAreRuns = SaidOfRuns IsExactRun
 
--- The headline of `run`: so it is where the words ask for a run, the files are told and say a catalogue and a query over it, and neither count rose.
+-- The headline of `run`: what it puts is exact, or memory was refused and nothing put, where the words ask for a run, the files are told and say a catalogue
+-- and a query over it, and neither count rose.
 abbrev pub RunsWhereTold : List (List ℕ) → Option Files → Type 0 → Type 0 → Option (List ℕ) → Option (List ℕ) → Status → Type 0
 RunsWhereTold words None rose sink_rose old new result = Unit {0}
 RunsWhereTold words (Some files) rose sink_rose old new result =

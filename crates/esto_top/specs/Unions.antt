@@ -27,7 +27,7 @@ OutcomesAreUnionLists =
     (text : List ℕ) → words ≡ codes "list" ∷ catalogue_name ∷ query_name ∷ [] → FilesSayQueries files catalogue_name query_name catalogue queries
     → Outcome words files said text → ListsUnionExactly catalogue queries said text
 
--- So is each outcome of `run C Q` and `run C Q N`.
+-- Each outcome of `run C Q` and `run C Q N` is exact, where the files say a catalogue and a union of two or more queries over it.
 abbrev pub OutcomesAreUnionRuns : Type 0
 OutcomesAreUnionRuns =
     (words : List (List ℕ)) (files : Files) (catalogue_name query_name : List ℕ) (number : Option ℕ) (catalogue : Catalogue) (queries : List Query)
@@ -36,7 +36,8 @@ OutcomesAreUnionRuns =
 
 -- ---- what the top call says
 
--- So it is where the files are told and neither count rose.
+-- What `list C Q` puts is exact, or memory was refused and nothing put, where the files are told and say a catalogue and a union of two or more queries over
+-- it, and neither count rose.
 abbrev pub UnionListsWhereTold : List (List ℕ) → Option Files → Type 0 → Type 0 → Option (List ℕ) → Option (List ℕ) → Status → Type 0
 UnionListsWhereTold words None rose sink_rose old new result = Unit {0}
 UnionListsWhereTold words (Some files) rose sink_rose old new result =
@@ -44,6 +45,8 @@ UnionListsWhereTold words (Some files) rose sink_rose old new result =
     → words ≡ codes "list" ∷ catalogue_name ∷ query_name ∷ [] → FilesSayQueries files catalogue_name query_name catalogue queries
     → HoldsOfPut (ListsUnionExactly catalogue queries) old new result
 
+-- What `run C Q` or `run C Q N` puts is exact, or memory was refused and nothing put, where the files are told and say a catalogue and a union of two or more
+-- queries over it, and neither count rose.
 abbrev pub UnionRunsWhereTold : List (List ℕ) → Option Files → Type 0 → Type 0 → Option (List ℕ) → Option (List ℕ) → Status → Type 0
 UnionRunsWhereTold words None rose sink_rose old new result = Unit {0}
 UnionRunsWhereTold words (Some files) rose sink_rose old new result =
@@ -54,8 +57,7 @@ UnionRunsWhereTold words (Some files) rose sink_rose old new result =
 -- ---- agreement
 
 -- Where the files say a catalogue and a union of two or more queries over it, and over them `audit` and `run` are Done, each outcome of `answer` is Done with
--- the
--- text of `run`.
+-- the text of `run`.
 abbrev pub UnionOutcomesAgree : Type 0
 UnionOutcomesAgree =
     (words : List (List ℕ)) (files : Files) (catalogue_name query_name : List ℕ) (number : Option ℕ) (catalogue : Catalogue) (queries : List Query)

@@ -50,7 +50,7 @@ fn plannings_hold()
     plans_and_lists_are_one();
 }
 
-// And those of printed plans and listed sets.
+// The laws of plans and lists, and of printed plans and listed sets, together.
 fn listings_hold()
     ensures { ListingLaws }
 {
