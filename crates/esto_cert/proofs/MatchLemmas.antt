@@ -1,5 +1,5 @@
 -- Matches that are found are those that there are.
-use Rattle.std.proofs.Common.{◌≡◌, ℕ, List, [], ◌∷◌, map, Some, None, Ok, Err, Option, Result, IfOk, Contains, refl, subst, sym, ap, ◌∙◌}
+use Rattle.std.proofs.Common.{◌≡◌, ℕ, List, [], ◌∷◌, Some, None, Ok, Err, Option, Result, IfOk, Contains, refl, subst, sym, ap, ◌∙◌}
 use Rattle.std.specs.List.{AllZip}
 use Rattle.std.specs.Option.{MatchOption}
 use Rattle.esto_term.proofs.ListLemmas.{Contains-head, Contains-rest}
@@ -7,12 +7,12 @@ use Rattle.esto_term.specs.declared.term.Term.{Term}
 use Rattle.esto_semantics.specs.Facts.{terms_of}
 use Rattle.esto_semantics.specs.declared.fact.Fact.{Fact}
 use Rattle.esto_world_laws.specs.Worlds.{Linked}
-use Rattle.esto_world_laws.specs.Matches.{IsLike, taken, AreChosen, IsMatch}
+use Rattle.esto_world_laws.specs.Matches.{IsLike, Fits, AreChosen, IsMatch}
 use Rattle.esto_world_laws.specs.declared.entry.Claim.{Claim}
 use Rattle.esto_world_laws.specs.declared.entry.Claim.TheVariants.{Fact as Stated}
 use Rattle.esto_cert.specs.Certificates.{facts_at, equalities_at, Matches}
 use Rattle.esto_cert.specs.Linking.{IsAmong, Tells, StandsAsOne}
-use Rattle.esto_cert.specs.Matching.{Fits, IsFound}
+use Rattle.esto_cert.specs.Matching.{FactsFit, IsFound}
 use Rattle.esto_cert.specs.declared.linking.Equality.{Equality}
 use Rattle.esto_cert.specs.declared.matching.Found.{Found}
 
@@ -50,27 +50,25 @@ module _ (claims : List Claim) (body : List (Fact Term)) (facts links : List ℕ
   of_one : (term other : Term) → Linked (IsAmong chosen equalities) term other → StandsAsOne renamings term other
   of_one term other linked = (tells chosen term other).0 linked
 
-  at_terms : AllZip (StandsAsOne renamings) to (map (taken from to) from)
-      → AllZip (StandsAsOne renamings) (terms_of chosen) (map (taken (terms_of body) (terms_of chosen)) (terms_of body))
-  at_terms all = subst (λ (it : List Term). AllZip (StandsAsOne renamings) it (map (taken (terms_of body) it) (terms_of body))) to_is
-      (subst (λ (it : List Term). AllZip (StandsAsOne renamings) to (map (taken it to) it)) from_is all)
+  at_terms : Fits (StandsAsOne renamings) from to → Fits (StandsAsOne renamings) (terms_of body) (terms_of chosen)
+  at_terms all = subst (λ (it : List Term). Fits (StandsAsOne renamings) (terms_of body) it) to_is
+      (subst (λ (it : List Term). Fits (StandsAsOne renamings) it to) from_is all)
 
-  of_terms : AllZip (StandsAsOne renamings) (terms_of chosen) (map (taken (terms_of body) (terms_of chosen)) (terms_of body))
-      → AllZip (StandsAsOne renamings) to (map (taken from to) from)
-  of_terms all = subst (λ (it : List Term). AllZip (StandsAsOne renamings) to (map (taken it to) it)) (sym from_is)
-      (subst (λ (it : List Term). AllZip (StandsAsOne renamings) it (map (taken (terms_of body) it) (terms_of body))) (sym to_is) all)
+  of_terms : Fits (StandsAsOne renamings) (terms_of body) (terms_of chosen) → Fits (StandsAsOne renamings) from to
+  of_terms all = subst (λ (it : List Term). Fits (StandsAsOne renamings) it to) (sym from_is)
+      (subst (λ (it : List Term). Fits (StandsAsOne renamings) (terms_of body) it) (sym to_is) all)
 
-  pub match_there : Fits (StandsAsOne renamings) body chosen from to → Matches claims body facts links chosen equalities
+  pub match_there : FactsFit (StandsAsOne renamings) body chosen from to → Matches claims body facts links chosen equalities
   match_there fits = record {
     stated = stated;
     named = named;
     fits = (are_chosen (IsAmong chosen equalities) body chosen (λ fact inside. inside) fits.0, zip_weaker one_of _ _ (at_terms fits.1));
   }
 
-  fits_of : IsMatch (IsAmong chosen equalities) body chosen → Fits (StandsAsOne renamings) body chosen from to
+  fits_of : IsMatch (IsAmong chosen equalities) body chosen → FactsFit (StandsAsOne renamings) body chosen from to
   fits_of is = (are_like (IsAmong chosen equalities) body chosen is.0, of_terms (zip_weaker of_one _ _ is.1))
 
-  pub no_match : ¬ (Fits (StandsAsOne renamings) body chosen from to) → (other : List (Fact Term)) (others : List Equality)
+  pub no_match : ¬ (FactsFit (StandsAsOne renamings) body chosen from to) → (other : List (Fact Term)) (others : List Equality)
       → ¬ (Matches claims body facts links other others)
   no_match wrong other others it =
       let same : other ≡ chosen = some_one (sym it.stated ∙ stated) in
@@ -90,7 +88,7 @@ module _ (claims : List Claim) (body : List (Fact Term)) (facts links : List ℕ
   to_chosen : to ≡ terms_of chosen
   to_chosen = to_is ∙ ap terms_of shown_is
 
-  pub found_there : Fits (StandsAsOne renamings) body chosen from to
+  pub found_there : FactsFit (StandsAsOne renamings) body chosen from to
       → (its : List Equality) × Matches claims body facts links chosen its × Tells renamings (IsAmong chosen its) × (from ≡ terms_of body)
       × (to ≡ terms_of chosen)
   found_there fits = (
@@ -101,7 +99,7 @@ module _ (claims : List Claim) (body : List (Fact Term)) (facts links : List ℕ
     to_chosen,
   )
 
-  pub none_there : ¬ (Fits (StandsAsOne renamings) body chosen from to) → (other : List (Fact Term)) (others : List Equality)
+  pub none_there : ¬ (FactsFit (StandsAsOne renamings) body chosen from to) → (other : List (Fact Term)) (others : List Equality)
       → ¬ (Matches claims body facts links other others)
   none_there = no_match claims body facts links chosen equalities renamings from to stated named all_told from_is to_chosen
 
@@ -111,8 +109,8 @@ pub judged_there : {E : Type 0} (claims : List Claim) (body : List (Fact Term)) 
     → facts_at claims facts ≡ Some chosen → equalities_at claims links ≡ Some equalities → them ≡ equalities
     → (it : Found) → it.chosen ≡ chosen → ((others : List (Fact Term)) → Tells it.renamings (IsAmong others them)) → it.from ≡ terms_of body
     → it.to ≡ terms_of chosen → (result : Result (Option Found) E)
-    → IfOk result (λ found. MatchOption found (¬ (Fits (StandsAsOne it.renamings) body it.chosen it.from it.to))
-    (λ same. (same ≡ it) × Fits (StandsAsOne it.renamings) body it.chosen it.from it.to))
+    → IfOk result (λ found. MatchOption found (¬ (FactsFit (StandsAsOne it.renamings) body it.chosen it.from it.to))
+    (λ same. (same ≡ it) × FactsFit (StandsAsOne it.renamings) body it.chosen it.from it.to))
     → IfOk result (IsFound claims body facts links)
 judged_there claims body facts links chosen equalities them stated named them_is it chosen_is tells from_is to_is (Ok None) wrong =
     none_there claims body facts links it.chosen it.chosen equalities them it.renamings it.from it.to (stated ∙ ap Some (sym chosen_is)) named refl them_is

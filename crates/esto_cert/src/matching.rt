@@ -6,7 +6,7 @@ ghost use Rattle.esto_term.specs.declared.term.Term.{Term};
 ghost use Rattle.esto_semantics.specs.Facts.{terms_of};
 ghost use Rattle.esto_semantics.specs.declared.fact.Fact.{Fact};
 ghost use Rattle.esto_cert.specs.Linking.{StandsAsOne, Tells, IsAmong};
-ghost use Rattle.esto_cert.specs.Matching.{IsFound, Fits};
+ghost use Rattle.esto_cert.specs.Matching.{IsFound, FactsFit};
 
 use crate::linking::{Equalities, Equality, renamings_of, stand_as_one};
 use crate::naming::{equalities_at, facts_at};
@@ -50,7 +50,7 @@ fn are_like(body: &[Atom], chosen: &[Atom]) -> bool
 /// Whether the facts match the body, where linked terms count as one.
 fn fits(alloc: Global, body: &[Atom], it: &Found) -> Result<bool, OutOfMemory>
     ensures { IfOk result (λ answer. IsTrue answer
-        ↔ Fits (StandsAsOne it.now.renamings) body.now it.now.chosen it.now.from it.now.to) }
+        ↔ FactsFit (StandsAsOne it.now.renamings) body.now it.now.chosen it.now.from it.now.to) }
 {
     if !are_like(body, it.chosen.items()) {
         return Ok(false);
@@ -86,9 +86,9 @@ fn found_by(
 /// The facts as they are, where they match the body.
 fn if_fits(alloc: Global, body: &[Atom], it: Found) -> Result<Option<Found>, OutOfMemory>
     ensures { IfOk result (λ found. MatchOption found
-        (¬ (Fits (StandsAsOne it.renamings) body.now it.chosen it.from it.to))
+        (¬ (FactsFit (StandsAsOne it.renamings) body.now it.chosen it.from it.to))
         (λ same. (same ≡ it)
-        × Fits (StandsAsOne it.renamings) body.now it.chosen it.from it.to)) }
+        × FactsFit (StandsAsOne it.renamings) body.now it.chosen it.from it.to)) }
 {
     if fits(alloc, body, &it)? {
         return Ok(Some(it));
