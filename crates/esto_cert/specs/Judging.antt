@@ -41,7 +41,7 @@ IsJudged case claims line (Claims claim) = MayClaim case claims line claim
 IsJudged case claims line Ends = MayEnd case claims line
 IsJudged case claims line Refused = ((claim : Claim) → ¬ (MayClaim case claims line claim)) × ¬ (MayEnd case claims line)
 
--- The same of a line's bytes, where bytes that say nothing are refused.
+-- The judgement of what a line's bytes say is right, where bytes that say nothing are refused.
 abbrev pub IsJudgedText : Case → List Claim → Option Line → Judged → Type 0
 IsJudgedText case claims None judged = judged ≡ Refused
 IsJudgedText case claims (Some line) judged = IsJudged case claims line judged
@@ -69,7 +69,7 @@ abbrev pub case_for : Plan → List Bool → List Constraint → Query → List 
 case_for plan set rules query expanded =
     record { expanded = expanded; set = set; rules = rules_of rules; query = query_of query; targets = plan.head }
 
--- The same of a certificate for a set of a plan's atoms, by the plan's expansion over the fragments.
+-- The bytes have this verdict as a certificate for a set of a plan's atoms, by the plan's expansion over the fragments.
 abbrev pub DecidesFor : Plan → List FragmentDef → List Bool → List Constraint → Query → List ℕ → Option ℕ → Type 0
 DecidesFor plan fragments set rules query bytes verdict =
     (expanded : List ExpandedFact) × AreExpanded fragments 0 (length plan.names) plan.atoms expanded × Expands plan fragments expanded

@@ -41,17 +41,19 @@ is_word word name = pointwise nat_eq word name
 abbrev pub links_of : List ℕ → Option (List ℕ)
 links_of word = if is_word word (codes "-") then Some [] else list_of word
 
--- A line with these numbers and lists, where all are there.
+-- A fact's line with these numbers, where both are there.
 abbrev pub expanded_of : Option ℕ → Option ℕ → Option Line
 expanded_of (Some atom) (Some place) = Some (Expanded atom place)
 expanded_of (Some atom) None = None
 expanded_of None place = None
 
+-- A match's line with these lists, where both are there.
 abbrev pub match_of : Option (List ℕ) → Option (List ℕ) → Option Line
 match_of (Some facts) (Some links) = Some (Match facts links)
 match_of (Some facts) None = None
 match_of None links = None
 
+-- A step's line with these numbers and lists, where all are there.
 abbrev pub step_of : Option ℕ → Option ℕ → Option (List ℕ) → Option (List ℕ) → Option Line
 step_of (Some number) (Some place) (Some facts) (Some links) = Some (Step number place facts links)
 step_of (Some number) (Some place) (Some facts) None = None

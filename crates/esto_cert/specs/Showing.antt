@@ -73,7 +73,7 @@ pub record HoldsDerivations (case : Case) (bytes : List ℕ) : Type 0 where
   pub linked : AllZip (Linked (IsAmong chosen equalities)) case.targets (map (match_map case.query.body chosen) case.query.head)
   pub heads : AllZip (AreDerivedAsOne case.expanded case.rules case.set) case.targets (map (match_map case.query.body chosen) case.query.head)
 
--- The same of a certificate for a set of a plan's atoms, by the plan's expansion over the fragments.
+-- The file holds such derivations as a certificate for a set of a plan's atoms, by the plan's expansion over the fragments.
 abbrev pub HoldsDerivationsFor : Plan → List FragmentDef → List Bool → List Constraint → Query → List ℕ → Type 0
 HoldsDerivationsFor plan fragments set rules query bytes =
     (expanded : List ExpandedFact) × AreExpanded fragments 0 (length plan.names) plan.atoms expanded
