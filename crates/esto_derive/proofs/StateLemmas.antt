@@ -247,7 +247,7 @@ used_goes rules entries used lines shown more entry old new own shown_is at writ
     subst (λ (it : List (List ℕ)). IsState case entries used it new) (sym more_is)
     (elim (subst (λ (it : List (List ℕ)). WritesIfUsed rules entries used it old new own) shown_is writes) [
       | inl (has, goes) ↦ goes case rules_is basis has state
-      | inr (unused, same) ↦ subst (λ (it : Written). IsState case entries used (lines ++ own ∷ []) it) (sym same)
+      | inr (unused, same, _) ↦ subst (λ (it : Written). IsState case entries used (lines ++ own ∷ []) it) (sym same)
           (state_push case entries used lines old state entry at own (λ has has_line. unused has) (λ has. absurd (unused has)))
     ])
 

@@ -37,7 +37,8 @@ IsFound entries set from to body (Some places) =
     (chosen : List (Fact Term)) × AllZip (λ (place : ℕ) (fact : Fact Term). ClaimsIn entries set place (Stated fact)) places chosen
     × GoesOn (InWorld entries set) from to body chosen
 
--- The same of a body whose first atom is to match this fact, where the places are those for the rest of the body.
+-- The entries at the places state facts that go on with the rest of the body behind this fact, if it is in the world of the set; where there are no places,
+-- no facts do.
 abbrev pub IsFoundAfter : List Entry → List Bool → List Term → List Term → Fact Term → List (Fact Term) → Fact Term → Option (List ℕ) → Type 0
 IsFoundAfter entries set from to atom rest fact None =
     (chosen : List (Fact Term)) → ¬ (GoesOn (InWorld entries set) from to (atom ∷ rest) (fact ∷ chosen))
@@ -45,7 +46,8 @@ IsFoundAfter entries set from to atom rest fact (Some places) =
     (chosen : List (Fact Term)) × AllZip (λ (place : ℕ) (other : Fact Term). ClaimsIn entries set place (Stated other)) places chosen
     × (InWorld entries set (Stated fact) → GoesOn (InWorld entries set) from to (atom ∷ rest) (fact ∷ chosen))
 
--- The same of a body whose first atom is to match the fact of this entry, where the places are those for the whole body.
+-- The entries at the places state facts that go on with the body in the world of the set; where there are no places, none do of which the first is this
+-- entry's.
 abbrev pub IsFoundBy : List Entry → List Bool → List Term → List Term → Fact Term → List (Fact Term) → Entry → Option (List ℕ) → Type 0
 IsFoundBy entries set from to atom rest entry None =
     (fact : Fact Term) (chosen : List (Fact Term)) → Within entry.product set → entry.claim ≡ Stated fact

@@ -41,7 +41,7 @@ pub record IsWritten (case : Case) (entries : List Entry) (bytes : List ℕ) : T
   pub ends : MayEnd case claims (Match facts links)
   pub named : (place : ℕ) → place < length lines → IsNamedLater (lines ++ Match facts links ∷ []) place
 
--- The same of a certificate for a set of a plan's atoms, by the plan's expansion over the catalogue's fragments.
+-- The bytes are such a certificate for a set of a plan's atoms, by the plan's expansion over the catalogue's fragments.
 abbrev pub IsWrittenFor : Catalogue → Query → Plan → List Bool → List Entry → List ℕ → Type 0
 IsWrittenFor catalogue query plan set entries bytes =
     (expanded : List ExpandedFact) × AreExpanded catalogue.fragments 0 (length plan.names) plan.atoms expanded
@@ -107,10 +107,10 @@ Writes rules entries used lines old new own =
     (case : Case) → case.rules ≡ rules_of rules → IsBasis case entries used → Has used (length lines) → IsState case entries used lines old
     → IsState case entries used (lines ++ own ∷ []) new
 
--- The same where the next entry is used; for any other entry all stays, and no line stands.
+-- What is written goes on so where the next entry is used; for any other entry all stays, and no line stands for it.
 abbrev pub WritesIfUsed : List Constraint → List Entry → List Bool → List (List ℕ) → Written → Written → List ℕ → Type 0
 WritesIfUsed rules entries used lines old new own =
-    (Has used (length lines) × Writes rules entries used lines old new own) ⊎ (¬ (Has used (length lines)) × (new ≡ old))
+    (Has used (length lines) × Writes rules entries used lines old new own) ⊎ (¬ (Has used (length lines)) × (new ≡ old) × (own ≡ []))
 
 -- The lines of all used entries are written, and these are the lines that stand for each.
 abbrev pub WritesAll : List Constraint → List Entry → List Bool → Written → List (List ℕ) → Type 0

@@ -128,7 +128,8 @@ impl World<'_> {
         Ok(None)
     }
 
-    /// The same, where the first atom matches the fact of this entry.
+    /// Entries of facts in the world that match the body, if there are any of which the first is
+    /// this entry's.
     #[cycle(find)]
     fn find_by(
         &self,

@@ -250,7 +250,8 @@ impl Writer<'_> {
         }
     }
 
-    /// The same where the entry is used; for any other no line stands.
+    /// Writes the line of an entry that is used, and answers the lines that stand for it; for any
+    /// other entry nothing is written, and no line stands.
     fn write_if_used(
         &self,
         alloc: Global,
