@@ -21,7 +21,7 @@ GoesOn Holds from to body =
     (chosen : List (Fact Term)) × AreChosen Holds body chosen
     × AllZip (Touching Holds) (terms_of chosen) (map (taken (from ++ terms_of body) (to ++ terms_of chosen)) (terms_of body))
 
--- It goes on with this fact for the body's first atom.
+-- What holds goes on with a body, with this fact for its first atom.
 abbrev pub GoesOnBy : (Claim → Type 0) → List Term → List Term → List (Fact Term) → Fact Term → Type 0
 GoesOnBy Holds from to [] fact = ⊥
 GoesOnBy Holds from to (atom ∷ body) fact =
@@ -33,11 +33,11 @@ GoesOnBy Holds from to (atom ∷ body) fact =
 abbrev pub WayGoesOn : List Entry → List Term → List (Fact Term) → Way → List Bool → Type 0
 WayGoesOn entries from body way set = Within way.product set × GoesOn (InWorld entries set) from way.to body
 
--- It goes on from one of the ways.
+-- The set has the product of one of the ways, and its world goes on with the body from that way.
 abbrev pub SomeWayGoesOn : List Entry → List Term → List (Fact Term) → List Way → List Bool → Type 0
 SomeWayGoesOn entries from body ways set = (way : Way) × Contains ways way × WayGoesOn entries from body way set
 
--- It goes on with the fact of this entry.
+-- The set has the products of the way and of the entry, and its world goes on with the body, with the entry's fact for its first atom.
 abbrev pub EntryGoesOn : List Entry → List Term → List (Fact Term) → Way → Entry → List Bool → Type 0
 EntryGoesOn entries from body way entry set =
     Within way.product set × Within entry.product set
@@ -47,7 +47,7 @@ EntryGoesOn entries from body way entry set =
 abbrev pub IsFree : Way → Entry → Type 0
 IsFree way entry = Within entry.product way.product
 
--- It goes on with the fact of one of these entries that is free, or is not.
+-- The set has the products of the way and of one of these entries, which is free or is not, as is told, and its world goes on with the body by its fact.
 abbrev pub SomeEntryGoesOn : List Entry → List Entry → List Term → List (Fact Term) → Way → Bool → List Bool → Type 0
 SomeEntryGoesOn entries some from body way free set =
     (entry : Entry) × Contains some entry × ((free ≡ true) ↔ IsFree way entry) × EntryGoesOn entries from body way entry set

@@ -29,11 +29,11 @@ empty_way count = record { to = []; facts = []; links = []; product = replicate 
 abbrev pub met : Way → Term → Way
 met way own = record { to = way.to ++ own ∷ []; facts = way.facts; links = way.links; product = way.product }
 
--- The same, by an equality.
+-- The way with one more term met, by the equality of an entry at a place with that product.
 abbrev pub met_by : Way → Term → ℕ → List Bool → Way
 met_by way own place product = record { to = way.to ++ own ∷ []; facts = way.facts; links = way.links ++ place ∷ []; product = united way.product product }
 
--- The way with one more fact.
+-- The way with one more fact, of an entry at a place with that product.
 abbrev pub begun : Way → ℕ → List Bool → Way
 begun way place product = record { to = way.to; facts = way.facts ++ place ∷ []; links = way.links; product = united way.product product }
 

@@ -34,7 +34,8 @@ fn has_relation(body: &[Atom], relation: usize) -> bool
     false
 }
 
-/// Whether a match of the body can use the claim: it is an equality, or a fact of a relation of the body.
+/// Whether a match of the body may use the claim: false comes only where it is a fact of a relation
+/// that no atom of the body has.
 fn concerns(claim: &Claim, body: &[Atom]) -> bool
     ensures { result ≡ false → IsApart claim.now body.now }
 {
@@ -44,8 +45,8 @@ fn concerns(claim: &Claim, body: &[Atom]) -> bool
     }
 }
 
-/// Whether a match of the body can use an entry from a place on. Where none can, each match is one among the entries before
-/// that place.
+/// Whether a match of the body may use an entry from a place on. Where false comes, each match is one
+/// among the entries before that place.
 pub fn has_news(entries: &[Entry], since: usize, body: &[Atom]) -> bool
     ensures { result ≡ false → IsSettled entries.now since body.now }
 {

@@ -55,7 +55,7 @@ fn met(alloc: Global, way: &Way, own: &Term) -> Result<Way, OutOfMemory>
     Ok(longer)
 }
 
-/// The same, by the equality of an entry.
+/// The way with one more term met, by the equality of an entry.
 fn met_by(
     alloc: Global,
     way: &Way,
