@@ -72,7 +72,7 @@ document_names =
     letters (codes "nkmp") ∷ letters (codes "nkmpl") ∷ letters (codes "nkmpl") ∷ letters (codes "nmp") ∷ letters (codes "nvw")
     ∷ letters (codes "nkm") ∷ letters (codes "nm") ∷ []
 
--- The names of the variables of each of those rules and of the one more.
+-- The names of the variables of each of the rules of documents and of the one more.
 abbrev pub document_names_2 : List (List Name)
 document_names_2 = document_names ++ letters (codes "nm") ∷ []
 
