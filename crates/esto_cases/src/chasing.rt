@@ -55,7 +55,7 @@ fn lead_below(rules: &[Constraint], relations: usize) -> bool
 }
 
 // The facts, one a line, the head, and how many steps there were.
-fn put_chased<R: Print>(rt: &R, instance: &Instance) {
+fn put_chased(rt: &HostRuntime, instance: &Instance) {
     'facts: for fact in instance.facts().items() {
         put_number(rt, fact.relation as u64);
         put_row(rt, fact.terms.items());
@@ -65,7 +65,7 @@ fn put_chased<R: Print>(rt: &R, instance: &Instance) {
     put_counted(rt, "steps ", instance.trace().len() as u64);
 }
 
-fn put_clash<R: Print>(rt: &R, clash: &Clash) {
+fn put_clash(rt: &HostRuntime, clash: &Clash) {
     match clash {
         Clash::Equal(one, other) => {
             put(rt, "clash '");
@@ -79,8 +79,8 @@ fn put_clash<R: Print>(rt: &R, clash: &Clash) {
 }
 
 // What the chase of the query under the rules ends with, where these are the ranks.
-fn put_end<R: Print>(
-    rt: &R,
+fn put_end(
+    rt: &HostRuntime,
     alloc: Global,
     rules: &Rules,
     ranks: &Ranks,
@@ -101,8 +101,8 @@ fn put_end<R: Print>(
 
 /// What the chase of a query's body ends with. It is refused where the tuple rules make a cycle, or are over a relation
 /// that is not there.
-pub fn put_chase<R: Print>(
-    rt: &R,
+pub fn put_chase(
+    rt: &HostRuntime,
     alloc: Global,
     schema: &Schema,
     rules: &Rules,

@@ -7,7 +7,6 @@ use esto_term::{Bytes, List, OutOfMemory, Replicate, Text};
 use esto_top::mediate;
 use std::alloc::Global;
 use std::mem;
-use std::rt::Files;
 
 /// A file in memory.
 #[derive(Drop)]
@@ -147,7 +146,7 @@ impl FileSet {
     }
 
     /// Runs a command line over the files, and prints what was put and the status. Nothing is to go wrong after it.
-    pub fn run<R: Print>(&mut self, rt: &R, alloc: Global, line: &str) -> Result<(), Refused> {
+    pub fn run(&mut self, rt: &HostRuntime, alloc: Global, line: &str) -> Result<(), Refused> {
         let ran = self.outcome(alloc, line)?;
         put_bytes(rt, ran.out.written());
         put_status(rt, ran.code);
@@ -156,9 +155,9 @@ impl FileSet {
 
     /// The same, but of what was put it prints how many lines there are, so many first ones and so many last ones. The first
     /// two words are these numbers.
-    pub fn run_for_ends<R: Print>(
+    pub fn run_for_ends(
         &mut self,
-        rt: &R,
+        rt: &HostRuntime,
         alloc: Global,
         line: &str,
     ) -> Result<(), Refused> {
@@ -172,12 +171,12 @@ impl FileSet {
 }
 
 // The code of the status.
-fn put_status<R: Print>(rt: &R, code: u8) {
+fn put_status(rt: &HostRuntime, code: u8) {
     put_counted(rt, "status ", code as u64);
 }
 
 // How many lines the text has, so many first ones and so many last ones.
-fn put_ends<R: Print>(rt: &R, text: &[u8], first: u64, last: u64) {
+fn put_ends(rt: &HostRuntime, text: &[u8], first: u64, last: u64) {
     let count = text.iter().filter(|byte| **byte == 10).count();
     put_digits(rt, count as u64);
     put(rt, " lines\n");
@@ -192,7 +191,7 @@ fn put_ends<R: Print>(rt: &R, text: &[u8], first: u64, last: u64) {
 }
 
 /// Runs a command line over the machine's files and standard output, and prints the status.
-pub fn run_on_machine<R: Files + Print>(rt: &R, alloc: Global, line: &str) -> Result<(), Refused> {
+pub fn run_on_machine(rt: &HostRuntime, alloc: Global, line: &str) -> Result<(), Refused> {
     let words = words_of(alloc, line)?;
     let mut shelf = FolderShelf::new(rt);
     let mut out = OutSink::new(rt);

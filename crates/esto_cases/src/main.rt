@@ -26,10 +26,9 @@ use esto_term::{Bytes, Text};
 use std::alloc::Global;
 use std::env;
 use std::process::ExitCode;
-use std::rt::Files;
 
 // The bytes of the file of that name.
-fn bytes_of<R: Files>(rt: &R, alloc: Global, name: &Text) -> Result<Bytes, Refused> {
+fn bytes_of(rt: &HostRuntime, alloc: Global, name: &Text) -> Result<Bytes, Refused> {
     match FolderShelf::new(rt).fetch(alloc, name, 1_000_000) {
         Ok(bytes) => Ok(bytes),
         Err(_) => Err(Refused),
@@ -45,22 +44,22 @@ fn text_of(alloc: Global, bytes: &[u8]) -> Result<Text, Refused> {
 }
 
 // The text of the file of that name.
-fn script_of<R: Files>(rt: &R, alloc: Global, name: &str) -> Result<Text, Refused> {
+fn script_of(rt: &HostRuntime, alloc: Global, name: &str) -> Result<Text, Refused> {
     let name = text(alloc, name)?;
     let bytes = bytes_of(rt, alloc, &name)?;
     text_of(alloc, bytes.bytes())
 }
 
 // Does what the lines of a text say, one after the other.
-fn obey_lines<R: Files + Print>(rt: &R, alloc: Global, script: &mut Script, text: &str) {
+fn obey_lines(rt: &HostRuntime, alloc: Global, script: &mut Script, text: &str) {
     'lines: for line in text.split('\n') {
         script.obey(rt, alloc, line);
     }
 }
 
 // Does what the file of that name says.
-fn obey_file<R: Files + Print>(
-    rt: &R,
+fn obey_file(
+    rt: &HostRuntime,
     alloc: Global,
     script: &mut Script,
     name: &str,
@@ -71,7 +70,7 @@ fn obey_file<R: Files + Print>(
 }
 
 // Does what the lines of a script say.
-fn obey_all<R: Files + Print>(rt: &R, alloc: Global, name: &str) -> Result<(), Refused> {
+fn obey_all(rt: &HostRuntime, alloc: Global, name: &str) -> Result<(), Refused> {
     let mut script = Script::new(alloc)?;
     let outcome = obey_file(rt, alloc, &mut script, name);
     let_go(script);
@@ -79,7 +78,7 @@ fn obey_all<R: Files + Print>(rt: &R, alloc: Global, name: &str) -> Result<(), R
 }
 
 // Whether what the lines of the script of that name say could be done.
-fn is_obeyed<R: Files + Print>(rt: &R, alloc: Global, name: String) -> bool {
+fn is_obeyed(rt: &HostRuntime, alloc: Global, name: String) -> bool {
     obey_all(rt, alloc, name.as_str()).is_ok()
 }
 

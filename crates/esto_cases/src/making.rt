@@ -159,7 +159,7 @@ pub fn rule_made(
 }
 
 /// Why something is refused.
-pub fn put_fault<R: Print>(rt: &R, fault: QueryFault) {
+pub fn put_fault(rt: &HostRuntime, fault: QueryFault) {
     match fault {
         QueryFault::Unsafe(variable) => put_counted(rt, "Unsafe ", variable),
         QueryFault::Arity(place) => put_counted(rt, "Arity ", place as u64),

@@ -55,8 +55,8 @@ fn next(
 }
 
 // The places of a match, where there is one, which then makes room for the match after it.
-fn put_match<R: Print>(
-    rt: &R,
+fn put_match(
+    rt: &HostRuntime,
     alloc: Global,
     query: &Query,
     facts: &Facts,
@@ -73,8 +73,8 @@ fn put_match<R: Print>(
 }
 
 /// The places of the matches of a query's body, at most nine.
-pub fn put_matches<R: Print>(
-    rt: &R,
+pub fn put_matches(
+    rt: &HostRuntime,
     alloc: Global,
     query: &Query,
     facts: &Facts,
@@ -88,8 +88,8 @@ pub fn put_matches<R: Print>(
 }
 
 /// The answers of a query, a row a line.
-pub fn put_answers<R: Print>(
-    rt: &R,
+pub fn put_answers(
+    rt: &HostRuntime,
     alloc: Global,
     query: &Query,
     facts: &Facts,
@@ -100,8 +100,8 @@ pub fn put_answers<R: Print>(
 }
 
 /// The places of a rule's least active match, or that it is met.
-pub fn put_active<R: Print>(
-    rt: &R,
+pub fn put_active(
+    rt: &HostRuntime,
     alloc: Global,
     rule: &Constraint,
     facts: &Facts,
@@ -114,8 +114,8 @@ pub fn put_active<R: Print>(
 }
 
 /// The number of the first rule that the facts break, with the places of its least active match, or that all are met.
-pub fn put_broken<R: Print>(
-    rt: &R,
+pub fn put_broken(
+    rt: &HostRuntime,
     alloc: Global,
     rules: &Rules,
     facts: &Facts,

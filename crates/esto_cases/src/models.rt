@@ -26,7 +26,7 @@ fn rows(alloc: Global, line: &str) -> Result<TextRows, Refused> {
 }
 
 /// The facts of the rows of a table, a line each.
-pub fn put_table<R: Print>(rt: &R, alloc: Global, line: &str) -> Result<(), Refused> {
+pub fn put_table(rt: &HostRuntime, alloc: Global, line: &str) -> Result<(), Refused> {
     let facts = table_facts(alloc, 0, &rows(alloc, line)?)?;
     'facts: for fact in facts.items() {
         put_row(rt, fact.terms.items());
@@ -35,7 +35,7 @@ pub fn put_table<R: Print>(rt: &R, alloc: Global, line: &str) -> Result<(), Refu
 }
 
 /// The first cell that no line of a key file can hold, or that there is none. Cells stand between bars.
-pub fn put_key_row<R: Print>(rt: &R, alloc: Global, line: &str) -> Result<(), Refused> {
+pub fn put_key_row(rt: &HostRuntime, alloc: Global, line: &str) -> Result<(), Refused> {
     match key_row_fault(&cells(alloc, line, '|')?) {
         Some(cell) => put_counted(rt, "cell ", cell as u64),
         None => put(rt, "no fault\n"),
@@ -70,7 +70,7 @@ fn firsts(alloc: Global, column: &Column) -> Result<Picks, Refused> {
 }
 
 // A line of codes.
-fn put_column<R: Print>(rt: &R, codes: &[u64]) {
+fn put_column(rt: &HostRuntime, codes: &[u64]) {
     'codes: for code in codes {
         put_number(rt, *code);
     }
@@ -78,7 +78,7 @@ fn put_column<R: Print>(rt: &R, codes: &[u64]) {
 }
 
 /// The codes of the words, and then the places at which the first word's code stands.
-pub fn put_codes<R: Print>(rt: &R, alloc: Global, line: &str) -> Result<(), Refused> {
+pub fn put_codes(rt: &HostRuntime, alloc: Global, line: &str) -> Result<(), Refused> {
     let column = codes_of(alloc, line)?;
     put_column(rt, column.items());
     let picks = firsts(alloc, &column)?;
@@ -98,7 +98,7 @@ fn anything_inside(alloc: Global) -> Result<Pattern, Refused>
 }
 
 // The terms that stand for the pattern's variable, a line each, or that a match has none.
-fn put_found<R: Print>(rt: &R, found: &[Valuation]) {
+fn put_found(rt: &HostRuntime, found: &[Valuation]) {
     'matches: for valuation in found {
         match valuation.value(0) {
             Some(term) => put_row(rt, from_ref(term)),
@@ -108,8 +108,8 @@ fn put_found<R: Print>(rt: &R, found: &[Valuation]) {
 }
 
 // The terms that stand for the pattern's variable in a document, a line each.
-fn put_matches<R: Print>(
-    rt: &R,
+fn put_matches(
+    rt: &HostRuntime,
     alloc: Global,
     pattern: &Pattern,
     tree: &Tree,
@@ -122,7 +122,7 @@ fn put_matches<R: Print>(
 }
 
 // The texts that stand strictly inside each of the documents.
-fn put_all_inside<R: Print>(rt: &R, alloc: Global, trees: &[Tree]) -> Result<(), Refused> {
+fn put_all_inside(rt: &HostRuntime, alloc: Global, trees: &[Tree]) -> Result<(), Refused> {
     let pattern = anything_inside(alloc)?;
     'trees: for tree in trees {
         put_matches(rt, alloc, &pattern, tree)?;
@@ -131,7 +131,7 @@ fn put_all_inside<R: Print>(rt: &R, alloc: Global, trees: &[Tree]) -> Result<(),
 }
 
 /// The texts that stand strictly inside a document, by a pattern.
-pub fn put_inside<R: Print>(rt: &R, alloc: Global, line: &str) -> Result<(), Refused> {
+pub fn put_inside(rt: &HostRuntime, alloc: Global, line: &str) -> Result<(), Refused> {
     match read_trees(alloc, line.as_bytes(), &Layout::Lines) {
         Ok(trees) => put_all_inside(rt, alloc, trees.items()),
         Err(_) => Err(Refused),

@@ -59,7 +59,7 @@ pub fn plan_of(alloc: Global, catalogue: &Catalogue, query: &Query) -> Result<Pl
 }
 
 /// The plan's atoms, one a line: the number, the name of the fragment, and the terms.
-pub fn put_plan<R: Print>(rt: &R, plan: &Plan, fragments: &FragmentDefs) {
+pub fn put_plan(rt: &HostRuntime, plan: &Plan, fragments: &FragmentDefs) {
     'atoms: for (number, atom) in plan.atoms.items().iter().enumerate() {
         let name = match fragments.items().get(atom.fragment) {
             Some(fragment) => fragment.name.as_str(),
@@ -73,8 +73,8 @@ pub fn put_plan<R: Print>(rt: &R, plan: &Plan, fragments: &FragmentDefs) {
 }
 
 // The stated order of a set of the plan's atoms.
-fn put_order<R: Print>(
-    rt: &R,
+fn put_order(
+    rt: &HostRuntime,
     alloc: Global,
     set: &RowBits,
     plan: &Plan,
@@ -88,8 +88,8 @@ fn put_order<R: Print>(
 }
 
 // What is reached in a set of the plan's atoms.
-fn put_reached<R: Print>(
-    rt: &R,
+fn put_reached(
+    rt: &HostRuntime,
     alloc: Global,
     set: &RowBits,
     plan: &Plan,
@@ -101,8 +101,8 @@ fn put_reached<R: Print>(
 }
 
 // Whether the numbers, as they are written, are an order of the set.
-fn put_is_order<R: Print>(
-    rt: &R,
+fn put_is_order(
+    rt: &HostRuntime,
     numbers: &Places,
     set: &RowBits,
     plan: &Plan,
@@ -117,8 +117,8 @@ fn put_is_order<R: Print>(
 }
 
 // Answers what the word asks about a set of the plan's atoms, whose numbers were written so.
-fn put_about<R: Print>(
-    rt: &R,
+fn put_about(
+    rt: &HostRuntime,
     alloc: Global,
     plan: &Plan,
     fragments: &FragmentDefs,
@@ -136,8 +136,8 @@ fn put_about<R: Print>(
 
 // Answers what is asked about a set of the plan's atoms: its stated order, what is reached in it, and whether the numbers, as
 // they are written, are an order of it.
-fn ask_set<R: Print>(
-    rt: &R,
+fn ask_set(
+    rt: &HostRuntime,
     alloc: Global,
     plan: &Plan,
     fragments: &FragmentDefs,
@@ -149,7 +149,7 @@ fn ask_set<R: Print>(
 }
 
 // The products of an atom, sorted, or that it has none.
-fn put_own<R: Print>(rt: &R, alloc: Global, own: &Products) -> Result<(), Refused> {
+fn put_own(rt: &HostRuntime, alloc: Global, own: &Products) -> Result<(), Refused> {
     if own.is_empty() {
         put(rt, "none\n");
     }
@@ -157,8 +157,8 @@ fn put_own<R: Print>(rt: &R, alloc: Global, own: &Products) -> Result<(), Refuse
 }
 
 // The access products of the atom of a number.
-fn put_access<R: Print>(
-    rt: &R,
+fn put_access(
+    rt: &HostRuntime,
     alloc: Global,
     plan: &Plan,
     fragments: &FragmentDefs,
@@ -173,8 +173,8 @@ fn put_access<R: Print>(
 }
 
 /// Answers what is asked about an atom of the plan, or a set of them, under the patterns of these fragments.
-pub fn ask_under<R: Print>(
-    rt: &R,
+pub fn ask_under(
+    rt: &HostRuntime,
     alloc: Global,
     plan: &Plan,
     fragments: &FragmentDefs,

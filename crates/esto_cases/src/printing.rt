@@ -7,35 +7,35 @@ use esto_term::{Term, TermRows};
 use std::alloc::Global;
 
 /// The bytes as they are.
-pub fn put_bytes<R: Print>(rt: &R, bytes: &[u8]) {
+pub fn put_bytes(rt: &HostRuntime, bytes: &[u8]) {
     let _ = OutSink::new(rt).put(bytes);
 }
 
 /// The text as it is.
-pub fn put<R: Print>(rt: &R, text: &str) {
+pub fn put(rt: &HostRuntime, text: &str) {
     put_bytes(rt, text.as_bytes());
 }
 
 /// The digits of a number.
-pub fn put_digits<R: Print>(rt: &R, number: u64) {
+pub fn put_digits(rt: &HostRuntime, number: u64) {
     let _ = print!(rt; "{number}");
 }
 
 /// A number, and a blank.
-pub fn put_number<R: Print>(rt: &R, number: u64) {
+pub fn put_number(rt: &HostRuntime, number: u64) {
     put_digits(rt, number);
     put(rt, " ");
 }
 
 /// A line of a text and a number.
-pub fn put_counted<R: Print>(rt: &R, text: &str, number: u64) {
+pub fn put_counted(rt: &HostRuntime, text: &str, number: u64) {
     put(rt, text);
     put_digits(rt, number);
     put(rt, "\n");
 }
 
 /// A line of numbers.
-pub fn put_numbers<R: Print>(rt: &R, numbers: &[usize]) {
+pub fn put_numbers(rt: &HostRuntime, numbers: &[usize]) {
     'numbers: for number in numbers {
         put_number(rt, *number as u64);
     }
@@ -43,7 +43,7 @@ pub fn put_numbers<R: Print>(rt: &R, numbers: &[usize]) {
 }
 
 /// The numbers of a set.
-pub fn put_members<R: Print>(rt: &R, set: &RowBits) {
+pub fn put_members(rt: &HostRuntime, set: &RowBits) {
     'numbers: for number in 0..set.count() {
         if set.has(number) {
             put_number(rt, number as u64);
@@ -52,20 +52,20 @@ pub fn put_members<R: Print>(rt: &R, set: &RowBits) {
 }
 
 /// A line of the numbers of a set.
-pub fn put_set<R: Print>(rt: &R, set: &RowBits) {
+pub fn put_set(rt: &HostRuntime, set: &RowBits) {
     put_members(rt, set);
     put(rt, "\n");
 }
 
 /// Sets, one a line.
-pub fn put_sets<R: Print>(rt: &R, sets: &[RowBits]) {
+pub fn put_sets(rt: &HostRuntime, sets: &[RowBits]) {
     'sets: for set in sets {
         put_set(rt, set);
     }
 }
 
 /// The sets of a collection, sorted, one a line.
-pub fn put_sorted<R: Print>(rt: &R, alloc: Global, products: &Products) -> Result<(), Refused> {
+pub fn put_sorted(rt: &HostRuntime, alloc: Global, products: &Products) -> Result<(), Refused> {
     let sorted = products.sorted(alloc)?;
     put_sets(rt, sorted.items());
     Ok(())
@@ -73,7 +73,7 @@ pub fn put_sorted<R: Print>(rt: &R, alloc: Global, products: &Products) -> Resul
 
 /// A term: a constant after a quote, a plain term by its number, and a made one by its rule, its variable, the length of its
 /// frontier and its nesting.
-pub fn put_term<R: Print>(rt: &R, term: &Term) {
+pub fn put_term(rt: &HostRuntime, term: &Term) {
     match term {
         Term::Const(constant) => {
             put(rt, "'");
@@ -95,20 +95,20 @@ pub fn put_term<R: Print>(rt: &R, term: &Term) {
 }
 
 /// The terms of a row.
-pub fn put_terms<R: Print>(rt: &R, row: &[Term]) {
+pub fn put_terms(rt: &HostRuntime, row: &[Term]) {
     'terms: for term in row {
         put_term(rt, term);
     }
 }
 
 /// A line of terms.
-pub fn put_row<R: Print>(rt: &R, row: &[Term]) {
+pub fn put_row(rt: &HostRuntime, row: &[Term]) {
     put_terms(rt, row);
     put(rt, "\n");
 }
 
 /// Rows, one a line.
-pub fn put_rows<R: Print>(rt: &R, rows: &TermRows) {
+pub fn put_rows(rt: &HostRuntime, rows: &TermRows) {
     'rows: for row in rows.items() {
         put_row(rt, row.items());
     }

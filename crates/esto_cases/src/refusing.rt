@@ -4,6 +4,7 @@ ghost use Rattle.esto_exec.specs.Runnable.{AreRunnable};
 ghost use Rattle.esto_cases.specs.Refusing.{AreOpen, AskAll};
 
 use crate::printing::{put, put_digits};
+use crate::reading::{Refused, place};
 use esto_columns::{Fragment, Inputs, Rows, StoredRows, Ways};
 use esto_exec::run_plan;
 use esto_plan::{Get, Gets, Steps};
@@ -101,7 +102,7 @@ fn joined(alloc: Global, count: usize, refused: usize) -> Result<Rows, OutOfMemo
 }
 
 // How many rows there are, or that memory is wanting.
-fn put_joined<R: Print>(rt: &R, alloc: Global, count: usize, refused: usize) {
+fn put_joined(rt: &HostRuntime, alloc: Global, count: usize, refused: usize) {
     put_digits(rt, refused as u64);
     match joined(alloc, count, refused) {
         Ok(rows) => {
@@ -114,8 +115,10 @@ fn put_joined<R: Print>(rt: &R, alloc: Global, count: usize, refused: usize) {
 }
 
 /// Runs steps over so many fragments, with no get refused, and then with that of each fragment in turn.
-pub fn put_refused_gets<R: Print>(rt: &R, alloc: Global, count: u64) {
+pub fn put_refused_gets(rt: &HostRuntime, alloc: Global, word: &str) -> Result<(), Refused> {
+    let count = place(word)?;
     'numbers: for refused in 0..=count {
-        put_joined(rt, alloc, count as usize, refused as usize);
+        put_joined(rt, alloc, count, refused);
     }
+    Ok(())
 }

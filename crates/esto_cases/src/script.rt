@@ -4,14 +4,13 @@ use crate::contents::{put_constraint, put_dataset, put_fragment, put_line};
 use crate::files::{FileSet, run_on_machine};
 use crate::models::{put_codes, put_inside, put_key_row, put_table};
 use crate::printing::put;
-use crate::reading::{Refused, number, parts};
+use crate::reading::{Refused, parts};
 use crate::refusing::put_refused_gets;
 use crate::sets::ask_sets;
 use crate::stage::Stage;
 use crate::sweep::put_sweep;
 use crate::terms::put_terms;
 use std::alloc::Global;
-use std::rt::Files;
 
 /// What lines have set: the files in memory, and what else is asked about.
 #[derive(Drop)]
@@ -35,24 +34,6 @@ impl Script {
         self.stage.open(alloc, bytes.bytes())
     }
 
-    // Sets what the words say: a file and what is to fail, the catalogue, facts, the start of matches, and rules. Answers None
-    // where the word sets nothing.
-    fn set(&mut self, alloc: Global, word: &str, rest: &str) -> Option<Result<(), Refused>> {
-        let outcome = match word {
-            "keep" => self.files.keep(alloc, rest),
-            "dataset" => put_dataset(&mut self.files.content, rest),
-            "fragment" => put_fragment(&mut self.files.content, rest),
-            "constraint" => put_constraint(&mut self.files.content, rest),
-            "catalogue" => self.open(alloc),
-            "patterns" => self.stage.add_patterns(alloc, rest),
-            "facts" => self.stage.set_facts(alloc, rest),
-            "start" => self.stage.set_start(alloc, rest),
-            "rule" => self.stage.add_rule(alloc, rest),
-            _ => return self.set_plainly(alloc, word, rest),
-        };
-        Some(outcome)
-    }
-
     // Sets what takes no memory: what is to fail, and that there is no rule.
     fn set_plainly(
         &mut self,
@@ -69,10 +50,37 @@ impl Script {
         Some(Ok(()))
     }
 
+    // Sets what the words say of the catalogue, facts, the start of matches, and rules. Answers
+    // None where the word sets nothing.
+    fn set_stage(&mut self, alloc: Global, word: &str, rest: &str) -> Option<Result<(), Refused>> {
+        let outcome = match word {
+            "catalogue" => self.open(alloc),
+            "patterns" => self.stage.add_patterns(alloc, rest),
+            "facts" => self.stage.set_facts(alloc, rest),
+            "start" => self.stage.set_start(alloc, rest),
+            "rule" => self.stage.add_rule(alloc, rest),
+            _ => return self.set_plainly(alloc, word, rest),
+        };
+        Some(outcome)
+    }
+
+    // Sets what the words say: a file, its content, and what else is asked about. Answers None
+    // where the word sets nothing.
+    fn set(&mut self, alloc: Global, word: &str, rest: &str) -> Option<Result<(), Refused>> {
+        let outcome = match word {
+            "keep" => self.files.keep(alloc, rest),
+            "dataset" => put_dataset(&mut self.files.content, rest),
+            "fragment" => put_fragment(&mut self.files.content, rest),
+            "constraint" => put_constraint(&mut self.files.content, rest),
+            _ => return self.set_stage(alloc, word, rest),
+        };
+        Some(outcome)
+    }
+
     // Answers what the words ask of what lines have set.
-    fn ask_stage<R: Print>(
+    fn ask_stage(
         &mut self,
-        rt: &R,
+        rt: &HostRuntime,
         alloc: Global,
         word: &str,
         rest: &str,
@@ -90,23 +98,15 @@ impl Script {
         }
     }
 
-    // Answers what the words ask.
-    fn ask<R: Files + Print>(
+    // Answers what the words ask of terms, rows, documents, codes and sets, or of what lines have set.
+    fn ask_apart(
         &mut self,
-        rt: &R,
+        rt: &HostRuntime,
         alloc: Global,
         word: &str,
         rest: &str,
     ) -> Result<(), Refused> {
         match word {
-            "run" => self.files.run(rt, alloc, rest),
-            "ends" => self.files.run_for_ends(rt, alloc, rest),
-            "sweep" => put_sweep(rt, alloc, &self.files, rest),
-            "refused_gets" => {
-                put_refused_gets(rt, alloc, number(rest));
-                Ok(())
-            }
-            "machine" => run_on_machine(rt, alloc, rest),
             "terms" => put_terms(rt, alloc),
             "table" => put_table(rt, alloc, rest),
             "key_row" => put_key_row(rt, alloc, rest),
@@ -117,12 +117,25 @@ impl Script {
         }
     }
 
-    fn obey_words<R: Files + Print>(
+    // Answers what the words ask: what comes of a command line, or what else is asked.
+    fn ask(
         &mut self,
-        rt: &R,
+        rt: &HostRuntime,
         alloc: Global,
-        line: &str,
+        word: &str,
+        rest: &str,
     ) -> Result<(), Refused> {
+        match word {
+            "run" => self.files.run(rt, alloc, rest),
+            "ends" => self.files.run_for_ends(rt, alloc, rest),
+            "sweep" => put_sweep(rt, alloc, &self.files, rest),
+            "machine" => run_on_machine(rt, alloc, rest),
+            "refused_gets" => put_refused_gets(rt, alloc, rest),
+            _ => self.ask_apart(rt, alloc, word, rest),
+        }
+    }
+
+    fn obey_words(&mut self, rt: &HostRuntime, alloc: Global, line: &str) -> Result<(), Refused> {
         let (word, rest) = parts(line, ' ');
         if let Some(outcome) = self.set(alloc, word, rest) {
             return outcome;
@@ -134,7 +147,7 @@ impl Script {
     }
 
     /// Does what a line says. A line that can't be obeyed is `refused`.
-    pub fn obey<R: Files + Print>(&mut self, rt: &R, alloc: Global, line: &str) {
+    pub fn obey(&mut self, rt: &HostRuntime, alloc: Global, line: &str) {
         if line.is_empty() {
             return;
         }

@@ -24,7 +24,7 @@ fn add(alloc: Global, products: &mut Products, word: &str) -> Result<Added, Refu
 }
 
 // What came of a set, and how many are kept.
-fn put_added<R: Print>(rt: &R, added: Added, kept: usize) {
+fn put_added(rt: &HostRuntime, added: Added, kept: usize) {
     put(rt, if added.was_covered { "" } else { "not " });
     put(rt, "covered, ");
     put(rt, if added.is_added { "" } else { "not " });
@@ -34,8 +34,8 @@ fn put_added<R: Print>(rt: &R, added: Added, kept: usize) {
 }
 
 // The products of the sets, in the order of the words. Where it tells, there is a line of each.
-fn products_of<R: Print>(
-    rt: &R,
+fn products_of(
+    rt: &HostRuntime,
     alloc: Global,
     count: usize,
     words: &str,
@@ -52,7 +52,7 @@ fn products_of<R: Print>(
 }
 
 // A line of each set, in the order of the words, and then the kept ones, sorted.
-fn put_products<R: Print>(rt: &R, alloc: Global, count: usize, words: &str) -> Result<(), Refused> {
+fn put_products(rt: &HostRuntime, alloc: Global, count: usize, words: &str) -> Result<(), Refused> {
     let products = products_of(rt, alloc, count, words, true)?;
     put_sorted(rt, alloc, &products)
 }
@@ -67,7 +67,7 @@ fn unite(products: &Products, union: &mut RowBits) {
 }
 
 // The first set with the numbers of each kept one of the others.
-fn put_union<R: Print>(rt: &R, alloc: Global, count: usize, words: &str) -> Result<(), Refused> {
+fn put_union(rt: &HostRuntime, alloc: Global, count: usize, words: &str) -> Result<(), Refused> {
     let (first, others) = parts(words, ' ');
     let products = products_of(rt, alloc, count, others, false)?;
     let mut union = set(alloc, first, count)?;
@@ -77,8 +77,8 @@ fn put_union<R: Print>(rt: &R, alloc: Global, count: usize, words: &str) -> Resu
 }
 
 // The sorted kept ones of the unions of a set of the one side and one of the other.
-fn put_unions<R: Print>(
-    rt: &R,
+fn put_unions(
+    rt: &HostRuntime,
     alloc: Global,
     left: &Products,
     right: &Products,
@@ -91,7 +91,7 @@ fn put_unions<R: Print>(
 }
 
 // The minimal unions of a set before `|` and one after it.
-fn put_joined<R: Print>(rt: &R, alloc: Global, count: usize, words: &str) -> Result<(), Refused> {
+fn put_joined(rt: &HostRuntime, alloc: Global, count: usize, words: &str) -> Result<(), Refused> {
     let (left, right) = words.split_once(" | ").unwrap_or((words, "-"));
     let left = products_of(rt, alloc, count, left, false)?;
     let right = products_of(rt, alloc, count, right, false)?;
@@ -99,7 +99,7 @@ fn put_joined<R: Print>(rt: &R, alloc: Global, count: usize, words: &str) -> Res
 }
 
 /// Answers what the words ask of sets. The first word of the line is what the numbers are below.
-pub fn ask_sets<R: Print>(rt: &R, alloc: Global, word: &str, line: &str) -> Result<(), Refused> {
+pub fn ask_sets(rt: &HostRuntime, alloc: Global, word: &str, line: &str) -> Result<(), Refused> {
     let (count, words) = parts(line, ' ');
     let count = place(count)?;
     match word {

@@ -84,9 +84,9 @@ impl Stage {
     }
 
     // Answers what the word asks about a query.
-    fn put_asked<R: Print>(
+    fn put_asked(
         &self,
-        rt: &R,
+        rt: &HostRuntime,
         alloc: Global,
         word: &str,
         query: &Query,
@@ -99,9 +99,9 @@ impl Stage {
     }
 
     // Answers what is asked about the query that a text is.
-    fn ask_query<R: Print>(
+    fn ask_query(
         &self,
-        rt: &R,
+        rt: &HostRuntime,
         alloc: Global,
         word: &str,
         text: &str,
@@ -111,7 +111,7 @@ impl Stage {
     }
 
     // The least active match of a rule.
-    fn active<R: Print>(&self, rt: &R, alloc: Global, text: &str) -> Result<(), Refused> {
+    fn active(&self, rt: &HostRuntime, alloc: Global, text: &str) -> Result<(), Refused> {
         let rule = rule(alloc, &self.catalogue, text)?;
         let outcome = put_active(rt, alloc, &rule, &self.facts);
         let_go(rule);
@@ -119,7 +119,7 @@ impl Stage {
     }
 
     // The least active match of the rule of this number.
-    fn active_of<R: Print>(&self, rt: &R, alloc: Global, word: &str) -> Result<(), Refused> {
+    fn active_of(&self, rt: &HostRuntime, alloc: Global, word: &str) -> Result<(), Refused> {
         let number = place(word)?;
         match self.rules.items().get(number) {
             Some(rule) => put_active(rt, alloc, rule, &self.facts),
@@ -127,7 +127,7 @@ impl Stage {
         }
     }
 
-    fn make_query<R: Print>(&self, rt: &R, alloc: Global, line: &str) -> Result<(), Refused> {
+    fn make_query(&self, rt: &HostRuntime, alloc: Global, line: &str) -> Result<(), Refused> {
         match query_made(alloc, &self.catalogue.schema, line)? {
             Ok(_) => put(rt, "made\n"),
             Err(fault) => put_fault(rt, fault),
@@ -136,7 +136,7 @@ impl Stage {
     }
 
     // Keeps the rule, where one was made.
-    fn keep_made<R: Print>(&mut self, rt: &R, made: RuleMade) -> Result<(), Refused> {
+    fn keep_made(&mut self, rt: &HostRuntime, made: RuleMade) -> Result<(), Refused> {
         match made {
             Ok(rule) => {
                 self.rules.push(rule)?;
@@ -148,9 +148,9 @@ impl Stage {
     }
 
     /// Makes a query or a rule. A rule is one more of the rules.
-    pub fn make<R: Print>(
+    pub fn make(
         &mut self,
-        rt: &R,
+        rt: &HostRuntime,
         alloc: Global,
         word: &str,
         rest: &str,
@@ -169,7 +169,7 @@ impl Stage {
     }
 
     /// Makes the plan of a query, and prints it.
-    pub fn set_plan<R: Print>(&mut self, rt: &R, alloc: Global, text: &str) -> Result<(), Refused> {
+    pub fn set_plan(&mut self, rt: &HostRuntime, alloc: Global, text: &str) -> Result<(), Refused> {
         let plan = self.plan_for(alloc, text)?;
         put_plan(rt, &plan, &self.catalogue.fragments);
         self.plan = Some(plan);
@@ -177,15 +177,15 @@ impl Stage {
     }
 
     // Prints the list of the query that a text is. The answer has the entries that it comes from.
-    fn listed<R: Print>(&self, rt: &R, alloc: Global, text: &str) -> Result<Entries, Refused> {
+    fn listed(&self, rt: &HostRuntime, alloc: Global, text: &str) -> Result<Entries, Refused> {
         let query = query(alloc, &self.catalogue, text)?;
         put_listed(rt, alloc, &self.catalogue, &query)
     }
 
     /// Makes the list of a query, and prints it.
-    pub fn set_listed<R: Print>(
+    pub fn set_listed(
         &mut self,
-        rt: &R,
+        rt: &HostRuntime,
         alloc: Global,
         text: &str,
     ) -> Result<(), Refused> {
@@ -194,9 +194,9 @@ impl Stage {
     }
 
     // Answers what is asked about the entries of the last list.
-    fn ask_entries<R: Print>(
+    fn ask_entries(
         &self,
-        rt: &R,
+        rt: &HostRuntime,
         alloc: Global,
         word: &str,
         rest: &str,
@@ -210,9 +210,9 @@ impl Stage {
     }
 
     // Answers what is asked about an atom of the plan, or a set of them.
-    fn ask_plan<R: Print>(
+    fn ask_plan(
         &self,
-        rt: &R,
+        rt: &HostRuntime,
         alloc: Global,
         word: &str,
         rest: &str,
@@ -225,9 +225,9 @@ impl Stage {
     }
 
     /// Answers what is asked about the facts, the rules and the plan.
-    pub fn ask<R: Print>(
+    pub fn ask(
         &self,
-        rt: &R,
+        rt: &HostRuntime,
         alloc: Global,
         word: &str,
         rest: &str,

@@ -14,7 +14,7 @@ struct Sweep<'a> {
 }
 
 // The names of the files that were asked for, in order.
-fn put_asked<R: Print>(rt: &R, names: &[Text]) {
+fn put_asked(rt: &HostRuntime, names: &[Text]) {
     put(rt, "asked");
     'names: for name in names {
         put(rt, " ");
@@ -24,7 +24,7 @@ fn put_asked<R: Print>(rt: &R, names: &[Text]) {
 }
 
 // What was put, the status, and how many files were asked for and how many puts there were.
-fn put_outcome<R: Print>(rt: &R, ran: &Ran) {
+fn put_outcome(rt: &HostRuntime, ran: &Ran) {
     put_bytes(rt, ran.out.written());
     put(rt, "status ");
     put_digits(rt, ran.code as u64);
@@ -39,14 +39,14 @@ impl Sweep<'_> {
     }
 
     // What comes of it where this goes wrong.
-    fn put_run<R: Print>(&self, rt: &R, alloc: Global, trouble: Trouble) -> Result<(), Refused> {
+    fn put_run(&self, rt: &HostRuntime, alloc: Global, trouble: Trouble) -> Result<(), Refused> {
         let ran = self.run(alloc, trouble)?;
         put_outcome(rt, &ran);
         Ok(())
     }
 
     // Each fetch fails.
-    fn fail_fetches<R: Print>(&self, rt: &R, alloc: Global, count: u64) -> Result<(), Refused> {
+    fn fail_fetches(&self, rt: &HostRuntime, alloc: Global, count: u64) -> Result<(), Refused> {
         'fetches: for fetch in 1..=count {
             put(rt, "fetch ");
             put_digits(rt, fetch);
@@ -57,7 +57,7 @@ impl Sweep<'_> {
     }
 
     // Memory is wanting at each fetch.
-    fn refuse_fetches<R: Print>(&self, rt: &R, alloc: Global, count: u64) -> Result<(), Refused> {
+    fn refuse_fetches(&self, rt: &HostRuntime, alloc: Global, count: u64) -> Result<(), Refused> {
         'fetches: for refused_fetch in 1..=count {
             put(rt, "fetch ");
             put_digits(rt, refused_fetch);
@@ -90,7 +90,7 @@ impl Sweep<'_> {
 
     // The put fails after each number of bytes of the text, and how often that left these bytes alone and the status of a
     // write fault.
-    fn fail_puts<R: Print>(&self, rt: &R, alloc: Global, text: &[u8]) -> Result<(), Refused> {
+    fn fail_puts(&self, rt: &HostRuntime, alloc: Global, text: &[u8]) -> Result<(), Refused> {
         let mut right = 0u64;
         'counts: for kept in 0..=text.len() {
             right = right.saturating_add(u64::from(self.leaves(alloc, &text[..kept])?));
@@ -104,7 +104,7 @@ impl Sweep<'_> {
     }
 
     // What the run with nothing wrong asks for, and what comes of it where each fetch fails and is refused, and the put.
-    fn put_troubles<R: Print>(&self, rt: &R, alloc: Global, whole: &Ran) -> Result<(), Refused> {
+    fn put_troubles(&self, rt: &HostRuntime, alloc: Global, whole: &Ran) -> Result<(), Refused> {
         let names = whole.shelf.asked().items();
         put_asked(rt, names);
         let count = names.len() as u64;
@@ -123,7 +123,7 @@ impl Sweep<'_> {
     }
 
     // Runs the command line with nothing wrong, and then with each trouble.
-    fn put_all<R: Print>(&self, rt: &R, alloc: Global) -> Result<(), Refused> {
+    fn put_all(&self, rt: &HostRuntime, alloc: Global) -> Result<(), Refused> {
         let whole = self.run(alloc, NONE)?;
         self.put_troubles(rt, alloc, &whole)
     }
@@ -131,8 +131,8 @@ impl Sweep<'_> {
 
 /// Runs a command line over the files: what it asks for, and what comes of it where each fetch fails and is refused, and
 /// the put.
-pub fn put_sweep<R: Print>(
-    rt: &R,
+pub fn put_sweep(
+    rt: &HostRuntime,
     alloc: Global,
     files: &FileSet,
     line: &str,

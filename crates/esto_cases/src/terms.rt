@@ -38,7 +38,7 @@ fn word(order: Ordering) -> &'static str {
 }
 
 // A line of a term: its nesting, and how it compares with each of the terms.
-fn put_term<R: Print>(rt: &R, term: &Term, others: &[Term]) {
+fn put_term(rt: &HostRuntime, term: &Term, others: &[Term]) {
     put(rt, "nesting ");
     put_digits(rt, term.nesting());
     put(rt, ":");
@@ -50,7 +50,7 @@ fn put_term<R: Print>(rt: &R, term: &Term, others: &[Term]) {
 }
 
 /// A line of each of four terms that rise, and one of bytes that are no text.
-pub fn put_terms<R: Print>(rt: &R, alloc: Global) -> Result<(), Refused> {
+pub fn put_terms(rt: &HostRuntime, alloc: Global) -> Result<(), Refused> {
     let terms = rising(alloc)?;
     'terms: for term in terms.items() {
         put_term(rt, term, terms.items());

@@ -19,7 +19,6 @@ use esto_catalog::Catalogue;
 use esto_core::printed_plan;
 use esto_prov::{Claim, Entries, Reason, Why};
 use esto_query::Query;
-use esto_term::OutOfMemory;
 use esto_views::Plan;
 use std::alloc::Global;
 
@@ -37,7 +36,7 @@ fn are_same(sets: &[RowBits], others: &[RowBits]) -> bool {
 }
 
 // The sets, and whether the others are the same.
-fn put_alike<R: Print>(rt: &R, sets: &[RowBits], others: &[RowBits]) {
+fn put_alike(rt: &HostRuntime, sets: &[RowBits], others: &[RowBits]) {
     put_sets(rt, sets);
     put(rt, "the plain search finds ");
     if are_same(sets, others) {
@@ -48,22 +47,41 @@ fn put_alike<R: Print>(rt: &R, sets: &[RowBits], others: &[RowBits]) {
 }
 
 // The sets, sorted, and whether the others are the same.
-fn put_compared<R: Print>(
-    rt: &R,
+fn put_compared(
+    rt: &HostRuntime,
     alloc: Global,
     sets: &Products,
     others: &Products,
-) -> Result<(), OutOfMemory> {
+) -> Result<(), Refused> {
     let sets = sets.sorted(alloc)?;
     let others = others.sorted(alloc)?;
     put_alike(rt, sets.items(), others.items());
     Ok(())
 }
 
+// The sets, sorted, and whether the plain search over the plan finds the same ones.
+fn put_searched(
+    rt: &HostRuntime,
+    alloc: Global,
+    catalogue: &Catalogue,
+    query: &Query,
+    plan: &Plan,
+    sets: &Products,
+) -> Result<(), Refused>
+    requires over { IsPlanOver plan.now catalogue.now.fragments }
+    requires same_length { length plan.now.head ≡ length query.now.head }
+    requires universal { IsUniversalPlan (rules_of catalogue.now.rules)
+        (views_of catalogue.now.fragments) (query_of query.now) (plan_query plan.now) }
+    requires satisfiable { IsSatisfiable (rules_of catalogue.now.rules) (query_of query.now) }
+{
+    let plain = minimal_sets_plain(alloc, plan, query, catalogue)?;
+    put_compared(rt, alloc, sets, &plain)
+}
+
 // The sets of the query's list over the plan, sorted, and whether the plain search finds the same ones. The answer has the
 // entries that the list comes from.
-fn put_list<R: Print>(
-    rt: &R,
+fn put_list(
+    rt: &HostRuntime,
     alloc: Global,
     catalogue: &Catalogue,
     query: &Query,
@@ -75,16 +93,15 @@ fn put_list<R: Print>(
         (views_of catalogue.now.fragments) (query_of query.now) (plan_query plan.now) }
     requires satisfiable { IsSatisfiable (rules_of catalogue.now.rules) (query_of query.now) }
 {
-    let plain = minimal_sets_plain(alloc, plan, query, catalogue)?;
     let list = minimal_sets(alloc, plan, query, catalogue)?;
-    put_compared(rt, alloc, &list.sets, &plain)?;
+    put_searched(rt, alloc, catalogue, query, plan, &list.sets)?;
     Ok(list.entries)
 }
 
 /// The sets of the query's list over its printed plan, sorted, and whether the plain search finds the same ones. The answer
 /// has the entries that the list comes from. A query that is not satisfiable has none.
-pub fn put_listed<R: Print>(
-    rt: &R,
+pub fn put_listed(
+    rt: &HostRuntime,
     alloc: Global,
     catalogue: &Catalogue,
     query: &Query,
@@ -100,7 +117,7 @@ pub fn put_listed<R: Print>(
     }
 }
 
-fn put_claim<R: Print>(rt: &R, claim: &Claim) {
+fn put_claim(rt: &HostRuntime, claim: &Claim) {
     match claim {
         Claim::Fact(fact) => {
             put(rt, "fact ");
@@ -116,7 +133,7 @@ fn put_claim<R: Print>(rt: &R, claim: &Claim) {
     }
 }
 
-fn put_reason<R: Print>(rt: &R, reason: &Reason) {
+fn put_reason(rt: &HostRuntime, reason: &Reason) {
     match reason {
         Reason::Expanded(atom, place) => {
             put(rt, "expanded ");
@@ -138,7 +155,7 @@ fn put_reason<R: Print>(rt: &R, reason: &Reason) {
 }
 
 /// The entries, one a line: the number, the claim, the numbers of the product, and the reason.
-pub fn put_entries<R: Print>(rt: &R, entries: &Entries) {
+pub fn put_entries(rt: &HostRuntime, entries: &Entries) {
     'entries: for (number, entry) in entries.items().iter().enumerate() {
         put_number(rt, number as u64);
         put_claim(rt, &entry.claim);
@@ -160,7 +177,7 @@ fn place_of(entries: &Entries, word: &str) -> Option<usize>
 }
 
 #[cycle(why)]
-fn put_why<R: Print>(rt: &R, why: &Why) {
+fn put_why(rt: &HostRuntime, why: &Why) {
     match why {
         Why::Expanded(atom, place) => {
             put(rt, "expanded ");
@@ -181,7 +198,7 @@ fn put_why<R: Print>(rt: &R, why: &Why) {
 }
 
 #[cycle(why)]
-fn put_whys<R: Print>(rt: &R, parts: &[Why]) {
+fn put_whys(rt: &HostRuntime, parts: &[Why]) {
     'parts: for part in parts {
         put_why(rt, part);
     }
@@ -189,8 +206,8 @@ fn put_whys<R: Print>(rt: &R, parts: &[Why]) {
 }
 
 /// The derivation of the entry of that number.
-pub fn put_derivation<R: Print>(
-    rt: &R,
+pub fn put_derivation(
+    rt: &HostRuntime,
     alloc: Global,
     entries: &Entries,
     word: &str,
@@ -204,8 +221,8 @@ pub fn put_derivation<R: Print>(
 }
 
 /// The minimal products of the claim of the entry of that number.
-pub fn put_products_of<R: Print>(
-    rt: &R,
+pub fn put_products_of(
+    rt: &HostRuntime,
     alloc: Global,
     entries: &Entries,
     word: &str,
