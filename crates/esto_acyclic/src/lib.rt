@@ -1,4 +1,5 @@
 //! Whether the graph of relations of some rules is acyclic, with the evidence: ranks, or a cycle.
+//! Start from `judge`, `Ranks` and `Cycle`.
 #![tactic(auto)]
 
 mod graph;

@@ -1,4 +1,5 @@
-//! Sets of atom numbers, kept as 64-bit words, and products: families of such sets of which none is a subset of another.
+//! Sets of atom numbers, kept as 64-bit words, and products: families of such sets of which none is
+//! a subset of another. Start from `RowBits` and `Products`.
 #![tactic(auto)]
 
 mod joins;

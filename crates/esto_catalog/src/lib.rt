@@ -1,5 +1,5 @@
 //! The catalogue: which datasets, fragments and constraints there are, read from the bytes of its
-//! file.
+//! file. Start from `read_catalogue`, `Catalogue` and `CatalogueError`.
 #![tactic(auto)]
 
 mod access;

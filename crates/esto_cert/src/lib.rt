@@ -1,5 +1,6 @@
-//! Certificates: lines that derive, from the expanded facts of some of a plan's atoms, a match of a query whose head is
-//! the plan's. A checker decides exactly which line is the first that does not follow.
+//! Certificates: lines that derive, from the expanded facts of some of a plan's atoms, a match of a
+//! query whose head is the plan's. A checker decides exactly which line is the first that does not
+//! follow. Start from `check_certificate`, `Line` and `CertError`.
 #![tactic(auto)]
 
 mod check;

@@ -1,4 +1,5 @@
 //! The standard chase: a run of steps from a start to facts that meet the rules, or to a clash.
+//! Start from `chase` and `Chased`.
 #![tactic(auto)]
 
 mod chasing;

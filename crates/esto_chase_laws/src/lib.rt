@@ -1,6 +1,7 @@
-//! The standard chase: its run as a list of steps, and laws about it. A run has one end, says exactly what every database
-//! that meets the rules receives, and is no longer than a bound. The definitions stand in `specs/`; the laws are the
-//! contracts of public functions here.
+//! The standard chase: its run as a list of steps, and laws about it. A run has one end, says
+//! exactly what every database that meets the rules receives, and is no longer than a bound. The
+//! definitions stand in `specs/`; the laws are the contracts of public functions here. Begin with
+//! `states_are_universal`, `finished_runs_decide` and `runs_reach_an_end`.
 #![tactic(auto)]
 
 mod bounds;

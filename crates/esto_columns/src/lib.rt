@@ -1,4 +1,5 @@
-//! Codes of texts, rows of codes by columns, and what fragments give.
+//! Codes of texts, rows of codes by columns, and what fragments give. Start from `Codes`, `Rows`
+//! and `Fragment`.
 #![tactic(auto)]
 
 mod codes;

@@ -1,5 +1,6 @@
-//! The conditional chase: one chase of a plan's expanded facts for the worlds of all sets of its atoms, and the products
-//! of a query's matches in these worlds.
+//! The conditional chase: one chase of a plan's expanded facts for the worlds of all sets of its
+//! atoms, and the products of a query's matches in these worlds. Start from `chase_with_products`
+//! and `products_of_matches`.
 #![tactic(auto)]
 
 mod chase;

@@ -1,4 +1,5 @@
-//! Rules, their active matches, and whether facts meet them.
+//! Rules, their active matches, and whether facts meet them. Start from `Constraint`,
+//! `make_tuple_rule` and `meets`.
 #![tactic(auto)]
 
 mod encodings;

@@ -1,4 +1,4 @@
-//! The core of a plan, and the plan that is printed.
+//! The core of a plan, and the plan that is printed. Start from `core_of` and `printed_plan`.
 #![tactic(auto)]
 
 mod cored;

@@ -1,5 +1,6 @@
-//! Documents and patterns of them: the facts of documents, the atoms of a pattern, and a pattern's own meaning. Contracts
-//! see a tree by its shape and a pattern by its entries, as the definitions in `specs/` have them.
+//! Documents and patterns of them: the facts of documents, the atoms of a pattern, and a pattern's
+//! own meaning. Contracts see a tree by its shape and a pattern by its entries, as the definitions
+//! in `specs/` have them. Start from `encode_documents`, `encode_pattern` and `match_pattern`.
 #![tactic(auto)]
 
 mod encode;

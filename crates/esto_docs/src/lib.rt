@@ -1,4 +1,5 @@
-//! JSON files of documents: read as trees, opened as rows of texts by a layout, and written.
+//! JSON files of documents: read as trees, opened as rows of texts by a layout, and written. Start
+//! from `read_trees`, `open_documents` and `write_documents`.
 #![tactic(auto)]
 
 mod document;

@@ -1,4 +1,5 @@
-//! Instances of the standard chase: facts over terms with a head, and the trace of the steps that made them.
+//! Instances of the standard chase: facts over terms with a head, and the trace of the steps that
+//! made them. Start from `Instance` and `ChaseStep`.
 #![tactic(auto)]
 
 mod fresh;

@@ -1,4 +1,5 @@
-//! Key-value sets as facts: the facts of rows of a key, a field and a value, and which rows a key file can hold.
+//! Key-value sets as facts: the facts of rows of a key, a field and a value, and which rows a key
+//! file can hold. Start from `pair_facts` and `key_row_fault`.
 #![tactic(auto)]
 
 mod facts;

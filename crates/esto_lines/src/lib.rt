@@ -1,4 +1,5 @@
-//! Files as lines, and what every reader of a file gives: its value, or the first fault.
+//! Files as lines, and what every reader of a file gives: its value, or the first fault. Start from
+//! `cut_line` and `fault`.
 #![tactic(auto)]
 
 mod faults;

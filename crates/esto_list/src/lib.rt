@@ -1,5 +1,5 @@
-//! The list of the executable sets of a plan's atoms that are kept: in order, with weights, the pick, and the text that
-//! is printed.
+//! The list of the executable sets of a plan's atoms that are kept: in order, with weights, the
+//! pick, and the text that is printed. Start from `Listing` and `Listed`.
 #![tactic(auto)]
 
 mod listing;

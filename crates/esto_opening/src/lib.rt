@@ -1,5 +1,6 @@
-//! What all commands share: how a command line may end and the line that says so, the fetch of a file, and the opening of
-//! the catalogue, of the query and of the files of fragments, as steps of a command's course.
+//! What all commands share: how a command line may end and the line that says so, the fetch of a
+//! file, and the opening of the catalogue, of the query and of the files of fragments, as steps of
+//! a command's course. Start from `open_catalogue`, `open_union` and `status_line`.
 #![tactic(auto)]
 
 mod cell;

@@ -1,5 +1,6 @@
-//! Cores of plans, and plans and listed sets of unions: definitions and laws. The definitions stand in `specs/`; the laws
-//! are the contracts of public functions here.
+//! Cores of plans, and plans and listed sets of unions: definitions and laws. The definitions stand
+//! in `specs/`; the laws are the contracts of public functions here. Begin with `cores_are_one`,
+//! `executable_unions_map_onto_sets` and `sets_listed_in_unions_are_executable`.
 #![tactic(auto)]
 
 mod cores;

@@ -1,5 +1,6 @@
-//! The outside: where files are fetched from, where text is put, and what is wrong with a file's content. In memory
-//! shelf and sink are exact; over the machine only the count of faults is known.
+//! The outside: where files are fetched from, where text is put, and what is wrong with a file's
+//! content. In memory shelf and sink are exact; over the machine only the count of faults is known.
+//! Start from `Shelf`, `Sink` and `FileFault`.
 #![tactic(auto)]
 
 mod calls;

@@ -1,4 +1,5 @@
-//! Entries that keep their reasons: derivations of their claims, and the products of a claim.
+//! Entries that keep their reasons: derivations of their claims, and the products of a claim. Start
+//! from `Entries` and `Why`.
 #![tactic(auto)]
 
 mod entries;

@@ -1,4 +1,5 @@
-//! Schemas, queries, valuations, matches and answers.
+//! Schemas, queries, valuations, matches and answers. Start from `Schema`, `make_query` and
+//! `answers`.
 #![tactic(auto)]
 
 mod answer;

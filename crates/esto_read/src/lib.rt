@@ -1,4 +1,5 @@
-//! The texts of queries, views, constraints and layouts, read.
+//! The texts of queries, views, constraints and layouts, read. Start from `Vocabulary`,
+//! `read_query` and `read_constraint`.
 #![tactic(auto)]
 
 mod body;

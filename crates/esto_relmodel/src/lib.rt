@@ -1,4 +1,4 @@
-//! Tables as facts: the facts of rows, each row once.
+//! Tables as facts: the facts of rows, each row once. Start from `table_facts` and `constants`.
 #![tactic(auto)]
 
 mod facts;

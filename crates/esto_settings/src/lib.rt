@@ -1,4 +1,5 @@
-//! What is written in a catalogue's file, in plain data: above this crate nothing knows TOML.
+//! What is written in a catalogue's file, in plain data: above this crate nothing knows TOML. Start
+//! from `read_toml`, `Document` and `setting_at`.
 #![tactic(auto)]
 
 mod setting;

@@ -1,4 +1,5 @@
-//! CSV files and key files as rows of texts.
+//! CSV files and key files as rows of texts. Start from `open_table`, `open_keys` and
+//! `write_table`.
 #![tactic(auto)]
 
 mod cells;

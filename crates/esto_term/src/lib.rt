@@ -1,5 +1,6 @@
-//! Texts, bytes, terms, and the lists that every other crate uses. Contracts see a list as the plain list of
-//! its items, a text and bytes as the list of their bytes, and a term as a tree.
+//! Texts, bytes, terms, and the lists that every other crate uses. Contracts see a list as the
+//! plain list of its items, a text and bytes as the list of their bytes, and a term as a tree.
+//! Start from `List`, `Text` and `Term`.
 #![tactic(auto)]
 
 mod list;

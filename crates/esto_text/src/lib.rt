@@ -1,4 +1,5 @@
-//! The texts of queries, views, constraints and layouts: their tokens, and the trees of the grammar.
+//! The texts of queries, views, constraints and layouts: their tokens, and the trees of the
+//! grammar. Start from `read_tokens`, `read_query_tree` and `read_constraint_tree`.
 #![tactic(auto)]
 
 mod fault;

@@ -1,4 +1,5 @@
-//! The top call: from the words of a command line, over a shelf and a sink, to a status and one text.
+//! The top call: from the words of a command line, over a shelf and a sink, to a status and one
+//! text. Start from `mediate` and `outcomes_are_determined`.
 #![tactic(auto)]
 
 mod bench;

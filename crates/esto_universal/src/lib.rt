@@ -1,4 +1,4 @@
-//! The universal plan of a query.
+//! The universal plan of a query. Start from `universal` and `renamed_plan`.
 #![tactic(auto)]
 
 mod atoms;

@@ -1,4 +1,5 @@
-//! Fragments, plans over them, and what a plan asks of the datasets.
+//! Fragments, plans over them, and what a plan asks of the datasets. Start from `FragmentDef`,
+//! `Plan` and `expand`.
 #![tactic(auto)]
 
 mod expansion;
