@@ -11,7 +11,7 @@ use esto_query::{Atom, Names, Schema};
 use esto_term::{Bytes, OutOfMemory, Term, Values};
 use std::alloc::Global;
 
-/// Notes the variables of facts that have no name and weren't met.
+// Notes the variables of facts that have no name and weren't met.
 fn meet_facts(names: &Names, met: &mut Values<u64>, facts: &[Atom]) -> Result<(), OutOfMemory>
     ensures { OnOk result (met.new ≡ met_facts names.now met.old facts.now) }
 {
@@ -21,7 +21,7 @@ fn meet_facts(names: &Names, met: &mut Values<u64>, facts: &[Atom]) -> Result<()
     Ok(())
 }
 
-/// Puts the name of a relation at the end, where there is one.
+// Puts the name of a relation at the end, where there is one.
 fn put_relation(text: &mut Bytes, schema: &Schema, relation: usize) -> Result<(), OutOfMemory>
     ensures { OnOk result (text.new ≡ text.old
         ++ relation_name (slice_get (names_of schema.now) relation)) }
@@ -32,7 +32,7 @@ fn put_relation(text: &mut Bytes, schema: &Schema, relation: usize) -> Result<()
     text.append(schema.name(relation).bytes())
 }
 
-/// Puts a fact at the end.
+// Puts a fact at the end.
 fn put_fact(
     alloc: Global,
     text: &mut Bytes,
@@ -48,7 +48,7 @@ fn put_fact(
     put_terms(alloc, text, names, nameless, fact.terms.items())
 }
 
-/// Puts the line of a fact at the end.
+// Puts the line of a fact at the end.
 fn put_line(
     alloc: Global,
     text: &mut Bytes,
@@ -64,7 +64,7 @@ fn put_line(
     text.append(b"\n")
 }
 
-/// Puts the lines of facts at the end.
+// Puts the lines of facts at the end.
 fn put_lines(
     alloc: Global,
     text: &mut Bytes,
@@ -82,7 +82,7 @@ fn put_lines(
     Ok(())
 }
 
-/// Puts the line of a fact and of its number at the end.
+// Puts the line of a fact and of its number at the end.
 fn put_numbered(
     alloc: Global,
     text: &mut Bytes,
@@ -100,7 +100,7 @@ fn put_numbered(
     put_line(alloc, text, schema, names, nameless, fact)
 }
 
-/// Puts the lines of facts and of their numbers at the end.
+// Puts the lines of facts and of their numbers at the end.
 fn put_numbered_lines(
     alloc: Global,
     text: &mut Bytes,
@@ -118,7 +118,7 @@ fn put_numbered_lines(
     Ok(())
 }
 
-/// Puts the line of a word and of terms at the end.
+// Puts the line of a word and of terms at the end.
 fn put_head(
     alloc: Global,
     text: &mut Bytes,
@@ -135,7 +135,7 @@ fn put_head(
     text.append(b"\n")
 }
 
-/// Puts the line of a set of numbers at the end.
+// Puts the line of a set of numbers at the end.
 fn put_set(alloc: Global, text: &mut Bytes, place: usize, set: &RowBits) -> Result<(), OutOfMemory>
     ensures { OnOk result (text.new ≡ text.old ++ set_line place set.now) }
 {
@@ -146,7 +146,7 @@ fn put_set(alloc: Global, text: &mut Bytes, place: usize, set: &RowBits) -> Resu
     text.append(b"}\n")
 }
 
-/// Puts the lines of sets of numbers at the end.
+// Puts the lines of sets of numbers at the end.
 fn put_sets(alloc: Global, text: &mut Bytes, sets: &[RowBits]) -> Result<(), OutOfMemory>
     ensures { OnOk result (text.new ≡ text.old ++ each_from set_line 0 sets.now) }
 {
@@ -156,7 +156,8 @@ fn put_sets(alloc: Global, text: &mut Bytes, sets: &[RowBits]) -> Result<(), Out
     Ok(())
 }
 
-/// The variables without a name, in the order in which they first occur in the row and then in the facts.
+// The variables without a name, in the order in which they first occur in the row and then in the
+// facts.
 fn nameless_from_row(
     alloc: Global,
     names: &Names,
@@ -172,7 +173,8 @@ fn nameless_from_row(
     Ok(met)
 }
 
-/// The variables without a name, in the order in which they first occur in the facts and then in the head.
+// The variables without a name, in the order in which they first occur in the facts and then in the
+// head.
 fn nameless_from_facts(
     alloc: Global,
     names: &Names,

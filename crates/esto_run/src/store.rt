@@ -12,7 +12,7 @@ use esto_term::TextRows;
 use esto_views::FragmentDef;
 use std::alloc::Global;
 
-// The rows of a fragment's file, in the shape of its store, or the file's first fault.
+/// The rows of a fragment's file, in the shape of its store, or the file's first fault.
 fn rows_in(
     alloc: Global,
     shape: &Shape,

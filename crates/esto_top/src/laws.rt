@@ -110,7 +110,8 @@ pub(crate) fn union_runs_hold()
     union_runs_are_exact();
 }
 
-/// A law: the course of each command line over the same files is one, whichever certificate is written.
+// A law: the course of each command line over the same files is one, whichever certificate is
+// written.
 fn courses_are_one()
     ensures { CoursesAreOne }
 {
