@@ -55,8 +55,8 @@ pub fn entries_of(alloc: Global, plan: &Plan, catalogue: &Catalogue) -> Result<E
     Ok(entries)
 }
 
-/// Adds each set of the others to the products. Where there are no products, the others are taken as
-/// they are.
+/// Adds each set of the others to the products. Where there are no products, the others are taken
+/// as they are.
 fn add_others(alloc: Global, products: &mut Products, others: Products) -> Result<(), OutOfMemory>
     requires { others.count ≡ products.old.count }
     ensures count { products.new.count ≡ products.old.count }
@@ -101,7 +101,8 @@ pub fn matching_products(
     Ok(found)
 }
 
-/// Sets of the plan's atoms that tell which of them answer the query: the products of the query's matches.
+/// Sets of the plan's atoms that tell which of them answer the query: the products of the query's
+/// matches.
 fn answering_products(
     alloc: Global,
     plan: &Plan,

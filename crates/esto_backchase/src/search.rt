@@ -104,8 +104,8 @@ impl Search<'_> {
         Ok(Some(more))
     }
 
-    /// A set that has the set's numbers and does not answer the query. It is the set grown by numbers
-    /// from a range: by the whole of it, or else by its first half and then by its second.
+    /// A set that has the set's numbers and does not answer the query. It is the set grown by
+    /// numbers from a range: by the whole of it, or else by its first half and then by its second.
     fn grown(
         &self,
         alloc: Global,
@@ -136,8 +136,8 @@ impl Search<'_> {
     }
 
     /// A set that has the set's numbers and does not answer the query, put at the end of the known
-    /// ones. None comes exactly where the set answers the query, and the known ones stay as they are
-    /// then.
+    /// ones. None comes exactly where the set answers the query, and the known ones stay as they
+    /// are then.
     fn new_failing(
         &self,
         alloc: Global,
@@ -163,8 +163,8 @@ impl Search<'_> {
         Ok(Some(failed))
     }
 
-    /// A set that has the set's numbers and does not answer the query, and is a known one then. None
-    /// comes only where the set answers the query.
+    /// A set that has the set's numbers and does not answer the query, and is a known one then.
+    /// None comes only where the set answers the query.
     fn failing_with(
         &self,
         alloc: Global,
@@ -210,9 +210,9 @@ impl Search<'_> {
     }
 
     /// Tries each set that has the set's numbers and none of those left out. Where the set does not
-    /// answer the query, a set is found that has its numbers and does not answer it either, and each
-    /// set that answers has a number which that one lacks. Source: the tree of hitting sets (Reiter
-    /// 1987).
+    /// answer the query, a set is found that has its numbers and does not answer it either, and
+    /// each set that answers has a number which that one lacks. Source: the tree of hitting sets
+    /// (Reiter 1987).
     #[cycle(visit)]
     pub fn visit(
         &self,
@@ -255,7 +255,8 @@ impl Search<'_> {
         }
     }
 
-    /// Tries each set that has the set's numbers, none of those left out, and one of the further numbers.
+    /// Tries each set that has the set's numbers, none of those left out, and one of the further
+    /// numbers.
     #[cycle(visit)]
     fn visit_by(
         &self,

@@ -98,7 +98,8 @@ impl Script {
         }
     }
 
-    // Answers what the words ask of terms, rows, documents, codes and sets, or of what lines have set.
+    // Answers what the words ask of terms, rows, documents, codes and sets, or of what lines have
+    // set.
     fn ask_apart(
         &mut self,
         rt: &HostRuntime,

@@ -74,7 +74,8 @@ impl Sweep<'_> {
         Ok(())
     }
 
-    // Whether the put, where it fails after so many bytes, leaves these bytes alone and the status of a write fault.
+    // Whether the put, where it fails after so many bytes, leaves these bytes alone and the status
+    // of a write fault.
     fn leaves(&self, alloc: Global, bytes: &[u8]) -> Result<bool, Refused> {
         let kept = bytes.len() as u64;
         let ran = self.run(
@@ -88,8 +89,8 @@ impl Sweep<'_> {
         Ok(ran.code == 4 && ran.out.written() == bytes)
     }
 
-    // The put fails after each number of bytes of the text, and how often that left these bytes alone and the status of a
-    // write fault.
+    // The put fails after each number of bytes of the text, and how often that left these bytes
+    // alone and the status of a write fault.
     fn fail_puts(&self, rt: &HostRuntime, alloc: Global, text: &[u8]) -> Result<(), Refused> {
         let mut right = 0u64;
         'counts: for kept in 0..=text.len() {
@@ -103,7 +104,8 @@ impl Sweep<'_> {
         Ok(())
     }
 
-    // What the run with nothing wrong asks for, and what comes of it where each fetch fails and is refused, and the put.
+    // What the run with nothing wrong asks for, and what comes of it where each fetch fails and is
+    // refused, and the put.
     fn put_troubles(&self, rt: &HostRuntime, alloc: Global, whole: &Ran) -> Result<(), Refused> {
         let names = whole.shelf.asked().items();
         put_asked(rt, names);

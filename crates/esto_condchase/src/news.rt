@@ -45,8 +45,8 @@ fn concerns(claim: &Claim, body: &[Atom]) -> bool
     }
 }
 
-/// Whether a match of the body may use an entry from a place on. Where false comes, each match is one
-/// among the entries before that place.
+/// Whether a match of the body may use an entry from a place on. Where false comes, each match is
+/// one among the entries before that place.
 pub fn has_news(entries: &[Entry], since: usize, body: &[Atom]) -> bool
     ensures { result ≡ false → IsSettled entries.now since body.now }
 {
