@@ -25,7 +25,8 @@ pub struct Word {
     pub base: usize,
 }
 
-/// The names that a text may use.
+/// The names that a text may use. Where a `Schema` has each relation by its own name, with its number
+/// of columns, a vocabulary has each dataset by its name, with its model and its first relation.
 pub type Vocabulary = List<Word>;
 
 /// Whether it is the word of the dataset of that name and model.
