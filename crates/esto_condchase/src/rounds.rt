@@ -236,7 +236,8 @@ fn answer_anew(
     more: &mut List<Entry>,
 ) -> Result<(), OutOfMemory>
     requires at { slice_get (rules_of rules.now) number ≡ Some (rule_of rule.now) }
-    requires before { IsRuleAnswered (take since entries.now) entries.now number (rule_of rule.now) }
+    requires before { IsRuleAnswered (take since entries.now) entries.now number
+        (rule_of rule.now) }
     requires counts { AreOfCount count entries.now }
     requires more_counts { AreOfCount count more.old }
     ensures grows { OnOk result (Grows (rules_of rules.now) count entries.now more.old more.new) }
