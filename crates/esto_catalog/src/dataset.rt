@@ -102,8 +102,8 @@ fn columns(
     }
 }
 
-// The number of relations of a dataset of this model.
-fn relation_count(model: DataModel) -> usize
+/// The number of relations of a dataset of this model.
+pub fn relation_count(model: DataModel) -> usize
     ensures { result ≡ relation_count model }
 {
     match model {

@@ -20,7 +20,7 @@ mod whole;
 pub use access::{MAX_PATTERNS, MAX_WEIGHT};
 pub use catalogue::{Catalogue, Shape, Store, Stores};
 pub use columns::{MARK, MAX_NAME};
-pub use dataset::{Dataset, Datasets};
+pub use dataset::{Dataset, Datasets, relation_count};
 pub use fault::{CatalogueError, CatalogueFault, CatalogueKind, Section};
 pub use walk::{
     catalogues_are_determined, catalogues_are_sound, catalogues_keep_their_datasets,

@@ -1,34 +1,21 @@
 //! The files of the datasets that a command needs: each has to have a file; then each is fetched, and its content read,
 //! before the next is fetched.
 ghost use Rattle.std.specs.Prelude.{◌≡◌, ◌↔◌, ◌<◌, ◌≤◌, ℕ, IsTrue, length, slice_get, Some, Contains, AllPairs, IfOk, OnOk};
-ghost use Rattle.esto_catalog.specs.Datasets.{relation_count};
 ghost use Rattle.esto_catalog.specs.declared.dataset.Dataset.{Dataset};
 ghost use Rattle.esto_ports.specs.Faults.{Rises};
 ghost use Rattle.esto_opening.specs.Answers.{Answers};
 ghost use Rattle.esto_data.specs.Datasets.{AddsNeeded, AreNeeded, IsAny, HasRelation, IsSourceAt, Loads, LoadsAsking, LoadsFiles, LoadsNext, Names, ReadsData, Source, demands_file, demands_files, loads};
 
-use esto_catalog::{Catalogue, Dataset, Datasets};
+use esto_catalog::{Catalogue, Dataset, Datasets, relation_count};
 use esto_fill::{Loaded, load_dataset, loaded_facts_are_flat, nothing_loaded};
 use esto_opening::{Status, fetch};
 use esto_ports::{FileError, Shelf};
-use esto_read::DataModel;
 use esto_semantics::{Atom, Atoms};
 use esto_term::{Bytes, OutOfMemory, Places, Replicate, Values};
 use std::alloc::Global;
 
 /// The greatest length of a dataset's file, in bytes.
 pub const DATASET_LIMIT: u64 = 8_388_608;
-
-// The number of relations of a dataset of this model.
-fn relation_count(model: DataModel) -> usize
-    ensures { result ≡ relation_count model }
-{
-    match model {
-        DataModel::Table => 1,
-        DataModel::Documents => 5,
-        DataModel::Keys => 1,
-    }
-}
 
 // Whether the relation is one of the dataset's.
 fn has_relation(dataset: &Dataset, relation: usize) -> bool
