@@ -18,3 +18,4 @@ pub use laws::{
     accepted_certificates_derive, accepted_certificates_show, verdicts_are_moved, verdicts_are_one,
 };
 pub use line::{Line, Numbers};
+pub use reading::parts_by_comma;

@@ -48,7 +48,7 @@ fn number_of(bytes: &[u8]) -> Option<u64>
 }
 
 /// The parts between commas.
-fn parts_by_comma<'a>(alloc: Global, word: &'a [u8]) -> Result<Vec<&'a [u8]>, AllocError>
+pub fn parts_by_comma<'a>(alloc: Global, word: &'a [u8]) -> Result<Vec<&'a [u8]>, AllocError>
     ensures { IfOk result (λ parts.
         map (λ part. part.now) parts.items ≡ slice_split (λ byte. byte == 44) word.now) }
 {

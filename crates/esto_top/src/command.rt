@@ -1,6 +1,6 @@
 //! The words of the command line.
-ghost use Rattle.std.specs.Prelude.{◌≡◌, ◌==◌, ◌≤◌, ◌<◌, ◌+◌, length, map, true, None, Some, IfOk, IfSome, MatchOption};
-ghost use Rattle.std.specs.List.{list_all, slice_split};
+ghost use Rattle.std.specs.Prelude.{◌≡◌, ◌≤◌, ◌<◌, ◌+◌, length, map, true, None, Some, IfOk, IfSome, MatchOption};
+ghost use Rattle.std.specs.List.{list_all};
 ghost use Rattle.esto_ports.specs.Faults.{Rises};
 ghost use Rattle.esto_opening.specs.Answers.{Answers};
 ghost use Rattle.esto_opening.specs.Asked.{AsksIn};
@@ -11,13 +11,14 @@ use crate::check::check;
 use crate::list::list;
 use crate::run::run;
 use esto_bench::MAX_SIZE;
+use esto_cert::parts_by_comma;
 use esto_certify::{explain, verify};
 use esto_data::{answer, audit, fill};
 use esto_opening::{Reply, Status};
 use esto_ports::Shelf;
 use esto_reasoning::{contains, minimise};
 use esto_term::{OutOfMemory, Text, Values};
-use std::alloc::{AllocError, Global};
+use std::alloc::Global;
 
 /// The greatest number of digits of the number of a list.
 const MAX_DIGITS: usize = 9;
@@ -125,14 +126,6 @@ fn numbers_of(alloc: Global, words: &[&[u8]]) -> Result<Option<Values<u64>>, Out
         before = number;
     }
     Ok(Some(numbers))
-}
-
-// The parts between commas.
-fn parts_by_comma<'a>(alloc: Global, word: &'a [u8]) -> Result<Vec<&'a [u8]>, AllocError>
-    ensures { IfOk result (λ parts.
-        map (λ part. part.now) parts.items ≡ slice_split (λ byte. byte == 44) word.now) }
-{
-    word.split(|byte| *byte == b',').collect(alloc)
 }
 
 // The numbers of atoms that the word names.
