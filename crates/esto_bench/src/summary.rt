@@ -31,5 +31,5 @@ pub fn summary_text(alloc: Global, summary: &Summary) -> Result<Bytes, OutOfMemo
     let text = format!(in alloc;
         "plan {plan}\nrewritings {rewritings}\nweight {weight}\nrows {rows}\n"
     )?;
-    Bytes::from_slice(alloc, text.as_str().as_bytes())
+    Ok(Bytes::from_string(text))
 }

@@ -123,7 +123,7 @@ fn audit_text(alloc: Global, catalogue: &Catalogue) -> Result<Bytes, OutOfMemory
     let constraints = catalogue.given;
     let fragments = catalogue.fragments.len();
     let text = format!(in alloc; "constraints {constraints}\nfragments {fragments}\nagree\n")?;
-    Bytes::from_slice(alloc, text.as_str().as_bytes())
+    Ok(Bytes::from_string(text))
 }
 
 // Judges the views over the facts, opens the files of all fragments, and compares both.

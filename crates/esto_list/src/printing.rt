@@ -13,7 +13,7 @@ pub fn put_number(alloc: Global, text: &mut Bytes, number: u128) -> Result<(), O
     ensures { OnOk result (text.new ≡ text.old ++ decimal number) }
 {
     let digits = format!(in alloc; "{number}")?;
-    text.append(digits.as_str().as_bytes())
+    text.append_str(digits.as_str())
 }
 
 /// Puts a comma at the end, unless the place is the first.

@@ -13,19 +13,11 @@ use esto_acyclic::Cycle;
 use esto_catalog::{CatalogueFault, CatalogueKind, Section};
 use esto_chase::Clash;
 use esto_fill::Difference;
-use esto_list::put_constant;
+use esto_list::{put_constant, put_number};
 use esto_ports::{FileFault, FileKind};
 use esto_term::{Bytes, OutOfMemory, Text, TextRow};
 use esto_text::{TextFault, TextKind};
 use std::alloc::Global;
-
-// Puts a number in decimal at the end.
-fn put_number(alloc: Global, line: &mut Bytes, number: u128) -> Result<(), OutOfMemory>
-    ensures { OnOk result (line.new ≡ line.old ++ decimal number) }
-{
-    let digits = format!(in alloc; "{number}")?;
-    line.append(digits.as_str().as_bytes())
-}
 
 // Puts a name, or another text, as one cell at the end.
 fn put_cell(alloc: Global, line: &mut Bytes, name: &Text) -> Result<(), OutOfMemory>

@@ -26,7 +26,7 @@ fn count_lines(
     let lines = format!(in alloc;
         "datasets {datasets}\nfragments {fragments}\nconstraints {constraints}\n"
     )?;
-    Bytes::from_slice(alloc, lines.as_str().as_bytes())
+    Ok(Bytes::from_string(lines))
 }
 
 // Puts the line of a relation and its rank at the end.
@@ -35,7 +35,7 @@ fn put_rank(alloc: Global, text: &mut Bytes, name: &Text, rank: u64) -> Result<(
 {
     let name = name.as_str();
     let line = format!(in alloc; "{name} {rank}\n")?;
-    text.append(line.as_str().as_bytes())
+    text.append_str(line.as_str())
 }
 
 // Puts the lines of the relations and their ranks at the end.
