@@ -69,11 +69,11 @@ impl Products {
     }
 
     /// Whether some kept set is a subset of this one.
-    pub fn covered(&self, row: &RowBits) -> bool
-        requires { length row.now ≡ self.now.count }
-        ensures { IsTrue result ↔ Covers self.now.sets row.now }
+    pub fn covered(&self, set: &RowBits) -> bool
+        requires { length set.now ≡ self.now.count }
+        ensures { IsTrue result ↔ Covers self.now.sets set.now }
     {
-        self.packed.covers(row.words())
+        self.packed.covers(set.words())
     }
 
     /// Whether each kept set of the others is covered here.
@@ -102,15 +102,15 @@ impl Products {
 
     /// Keeps a set that isn't covered, and drops the kept sets of which it is a subset. Answers false, and changes
     /// nothing, exactly where it is covered.
-    pub fn add(&mut self, alloc: Global, row: &RowBits) -> Result<bool, OutOfMemory>
-        requires { length row.now ≡ self.old.count }
-        ensures answer { IfOk result (λ added. (added ≡ false) ↔ Covers self.old.sets row.now) }
+    pub fn add(&mut self, alloc: Global, set: &RowBits) -> Result<bool, OutOfMemory>
+        requires { length set.now ≡ self.old.count }
+        ensures answer { IfOk result (λ added. (added ≡ false) ↔ Covers self.old.sets set.now) }
         ensures count { self.new.count ≡ self.old.count }
-        ensures ok { OnOk result (self.new.sets ≡ with_set self.old.sets row.now) }
-        ensures covers { OnOk result (CoversAlso self.old.sets row.now self.new.sets) }
+        ensures ok { OnOk result (self.new.sets ≡ with_set self.old.sets set.now) }
+        ensures covers { OnOk result (CoversAlso self.old.sets set.now self.new.sets) }
         ensures err { OnErr result (self.new ≡ self.old) }
     {
-        let words = row.words();
+        let words = set.words();
         if self.packed.covers(words) {
             return Ok(false);
         }
@@ -119,13 +119,13 @@ impl Products {
     }
 
     /// Puts the numbers of the kept set at a place, counted from 0, into a set.
-    pub fn union_into(&self, at: usize, row: &mut RowBits)
+    pub fn union_into(&self, at: usize, set: &mut RowBits)
         requires in_range { at < length self.now.sets }
-        requires same_count { length row.old ≡ self.now.count }
-        ensures value { IfSome (slice_get self.now.sets at) (λ set. row.new ≡ united row.old set) }
-        ensures count { length row.new ≡ length row.old }
+        requires same_count { length set.old ≡ self.now.count }
+        ensures value { IfSome (slice_get self.now.sets at) (λ it. set.new ≡ united set.old it) }
+        ensures count { length set.new ≡ length set.old }
     {
-        row.union_words(self.packed.words_at(at));
+        set.union_words(self.packed.words_at(at));
     }
 
     /// The kept sets by size, then by their rising lists of numbers, compared as lists.

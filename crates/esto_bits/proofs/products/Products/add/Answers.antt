@@ -8,16 +8,16 @@ use Rattle.esto_bits.proofs.products.Products.add.Goals as goal
 
 pub covers-requires : goal.covers-requires
 covers-requires c =
-    below_count c.args.row.now c.self.inside.packed c.words-words.result.now (c.requires ∙ sym (ap (λ (it : Kept). it.count) c.self.view_is))
+    below_count c.args.set.now c.self.inside.packed c.words-words.result.now (c.requires ∙ sym (ap (λ (it : Kept). it.count) c.self.view_is))
     c.words-words.ensures.below c.words-words.ensures.set
 
 -- ---- the set is covered
 
 pub returns-then-covers-clause-ok : goal.returns-then-covers-clause-ok
 returns-then-covers-clause-ok c =
-    with_set-covered c.args.self.now.sets c.args.row.now
-    (subst (λ (it : Kept). Covers it.sets c.args.row.now) c.self.view_is
-    ((covers_row c.args.row.now c.self.inside.packed c.words-words.result.now (c.requires ∙ sym (ap (λ (it : Kept). it.count) c.self.view_is))
+    with_set-covered c.args.self.now.sets c.args.set.now
+    (subst (λ (it : Kept). Covers it.sets c.args.set.now) c.self.view_is
+    ((covers_row c.args.set.now c.self.inside.packed c.words-words.result.now (c.requires ∙ sym (ap (λ (it : Kept). it.count) c.self.view_is))
     c.words-words.ensures.below c.words-words.ensures.set
     c.covers.result c.covers.ensures).0 c.if-covers.true))
 
@@ -31,9 +31,9 @@ invariant_of-self c =
 
 pub invariant_of-self-2 : goal.invariant_of-self-2
 invariant_of-self-2 c =
-    (added c.args.row.now c.self.inside.packed c.words-words.result.now (c.requires ∙ sym (ap (λ (it : Kept). it.count) c.self.view_is))
+    (added c.args.set.now c.self.inside.packed c.words-words.result.now (c.requires ∙ sym (ap (λ (it : Kept). it.count) c.self.view_is))
     c.words-words.ensures.below c.words-words.ensures.set
-    c.self.invariant (λ covered. false≢true (sym c.if-covers.false ∙ (covers_row c.args.row.now c.self.inside.packed c.words-words.result.now
+    c.self.invariant (λ covered. false≢true (sym c.if-covers.false ∙ (covers_row c.args.set.now c.self.inside.packed c.words-words.result.now
     (c.requires ∙ sym (ap (λ (it : Kept). it.count) c.self.view_is))
     c.words-words.ensures.below c.words-words.ensures.set
     c.covers.result c.covers.ensures).1 covered))
@@ -41,10 +41,10 @@ invariant_of-self-2 c =
 
 pub returns-clause-ok : goal.returns-clause-ok
 returns-clause-ok c =
-    subst (λ (it : Kept). c.put_for_supersets.new.self.sets ≡ with_set it.sets c.args.row.now) c.self.view_is
-    (added c.args.row.now c.self.inside.packed c.words-words.result.now (c.requires ∙ sym (ap (λ (it : Kept). it.count) c.self.view_is))
+    subst (λ (it : Kept). c.put_for_supersets.new.self.sets ≡ with_set it.sets c.args.set.now) c.self.view_is
+    (added c.args.set.now c.self.inside.packed c.words-words.result.now (c.requires ∙ sym (ap (λ (it : Kept). it.count) c.self.view_is))
     c.words-words.ensures.below c.words-words.ensures.set
-    c.self.invariant (λ covered. false≢true (sym c.if-covers.false ∙ (covers_row c.args.row.now c.self.inside.packed c.words-words.result.now
+    c.self.invariant (λ covered. false≢true (sym c.if-covers.false ∙ (covers_row c.args.set.now c.self.inside.packed c.words-words.result.now
     (c.requires ∙ sym (ap (λ (it : Kept). it.count) c.self.view_is))
     c.words-words.ensures.below c.words-words.ensures.set
     c.covers.result c.covers.ensures).1 covered))
@@ -52,4 +52,4 @@ returns-clause-ok c =
 
 pub returns-clause-covers : goal.returns-clause-covers
 returns-clause-covers c =
-    subst (CoversAlso c.args.self.now.sets c.args.row.now) (sym (returns-clause-ok c)) (covered-with_set c.args.self.now.sets c.args.row.now)
+    subst (CoversAlso c.args.self.now.sets c.args.set.now) (sym (returns-clause-ok c)) (covered-with_set c.args.self.now.sets c.args.set.now)

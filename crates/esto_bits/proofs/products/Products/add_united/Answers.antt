@@ -6,7 +6,7 @@ use Rattle.esto_bits.proofs.products.Products.add_united.Goals as goal
 
 pub sets-preserved : goal.sets-preserved
 sets-preserved c =
-    let here = united_there c.args.others.now.sets c.sets.at c.in_ok-row.row c.union_into.new.row (omega (arith, c.sets-test.true, c.len-at-end.ensures))
+    let here = united_there c.args.others.now.sets c.sets.at c.in_ok-row.row c.union_into.new.set (omega (arith, c.sets-test.true, c.len-at-end.ensures))
     c.union_into.ensures.value in
     record {
       count = c.add.ensures.count ∙ c.sets.invariant.count;
