@@ -3,8 +3,10 @@ use Rattle.std.proofs.Common.{◌≡◌, ◌⊎◌, zero, suc, ℕ, ◌+◌, ◌
 use Rattle.std.specs.List.{flat_map}
 use Rattle.std.proofs.lemmas.List.{append_assoc, append-nil}
 use Rattle.std.proofs.lemmas.List.Elements.{Contains-append_left, Contains-append_right, Contains-append_cases}
+use Rattle.std.proofs.lemmas.Option.{same_Some}
 use Rattle.esto_term.specs.declared.term.Term.{Term}
 use Rattle.esto_term.proofs.ListLemmas.{Contains-cases, Contains-flat_from, Contains-head, Contains-map, Contains-map_from, Contains-nil, Contains-rest}
+use Rattle.esto_term.proofs.ZipLemmas.{zip_weaker}
 use Rattle.esto_semantics.specs.Rules.{Rule, body_of}
 use Rattle.esto_semantics.specs.Sets.{Has}
 use Rattle.esto_semantics.specs.declared.fact.Fact.{Fact}
@@ -28,7 +30,6 @@ use Rattle.esto_cert.specs.declared.judging.Judged.TheVariants.{Claims, Ends}
 use Rattle.esto_cert.specs.declared.line.Line.{Line}
 use Rattle.esto_cert.specs.declared.line.Line.TheVariants.{Expanded, Step, Match}
 use Rattle.esto_cert.specs.declared.linking.Equality.{Equality}
-use Rattle.esto_cert.proofs.MatchLemmas.{some_one, zip_weaker}
 use Rattle.esto_cert.proofs.ShowLemmas.{equal_in, stated_in}
 use Rattle.esto_cert.proofs.WorldLemmas.{made_asked, match_holds, numbered_there}
 
@@ -80,7 +81,7 @@ module _ (expanded : List ExpandedFact) (rules : List Rule) (set : List Bool) wh
   each_more : (one : Why) (whys : List Why) (claim : Claim) (claims : List Claim) → Derives expanded rules one claim → DeriveEach whys claims
       → DeriveEach (one ∷ whys) (claim ∷ claims)
   each_more one whys claim claims derives each zero it its at at_too =
-      subst (λ (known : Why). Derives expanded rules known its) (some_one at) (subst (Derives expanded rules one) (some_one at_too) derives)
+      subst (λ (known : Why). Derives expanded rules known its) (same_Some one it at) (subst (Derives expanded rules one) (same_Some claim its at_too) derives)
   each_more one whys claim claims derives each (suc part) it its at at_too = each part it its at at_too
 
   all_from : (claims : List Claim) → ((claim : Claim) → Contains claims claim → IsFrom claim) → AreFrom claims
@@ -253,7 +254,7 @@ module _ (case : Case) where
         → MayClaim case (claims ++ take place (claim ∷ rests.more)) other own
     each_on zero other own at at_too =
         subst (λ (it : List Claim). MayClaim case it other own) (sym (append-nil claims))
-        (subst (λ (it : Line). MayClaim case claims it own) (some_one at) (subst (MayClaim case claims line) (some_one at_too) may))
+        (subst (λ (it : Line). MayClaim case claims it own) (same_Some line other at) (subst (MayClaim case claims line) (same_Some claim own at_too) may))
     each_on (suc place) other own at at_too =
         subst (λ (it : List Claim). MayClaim case it other own) (later (take place rests.more)) (rests.each place other own at at_too)
 
@@ -311,7 +312,8 @@ module _ (case : Case) where
         derived = rests.derived;
         matches = fits;
         linked = heads_linked;
-        heads = zip_weaker (one_from case.expanded case.rules case.set among) case.targets _ heads_linked;
+        heads = zip_weaker (Linked (IsAmong found equal)) (AreDerivedAsOne case.expanded case.rules case.set) case.targets _
+            (λ term other _ linked. one_from case.expanded case.rules case.set among term other linked) heads_linked;
       }
     where
       among_from : (claims : List Claim) → AllFrom claims → (facts links : List ℕ) (found : List (Fact Term)) (equal : List Equality)

@@ -3,8 +3,9 @@ use Rattle.std.proofs.Common.{◌≡◌, inl, inr, ◌==◌, ℕ, ◌+◌, ◌-�
 use Rattle.std.specs.List.{AllZip}
 use Rattle.std.proofs.lemmas.List.{take_more, take_all}
 use Rattle.std.proofs.lemmas.List.Elements.{Contains-append_cases}
-use Rattle.std.proofs.lemmas.Option.{slice_get-map}
+use Rattle.std.proofs.lemmas.Option.{same_Some, slice_get-map}
 use Rattle.esto_term.proofs.ListLemmas.{Contains-nil, Contains-cases}
+use Rattle.esto_term.proofs.ZipLemmas.{zip_weaker}
 use Rattle.esto_term.specs.declared.term.Term.{Term}
 use Rattle.esto_constraint.specs.Constraints.{rule_of, rules_of}
 use Rattle.esto_constraint.specs.declared.rule.Constraint.{Constraint}
@@ -19,7 +20,6 @@ use Rattle.esto_cert.specs.Linking.{IsAmong, StandsAsOne}
 use Rattle.esto_cert.specs.Matching.{IsFound}
 use Rattle.esto_cert.specs.declared.linking.Equality.{Equality}
 use Rattle.esto_cert.specs.declared.matching.Found.{Found}
-use Rattle.esto_cert.proofs.MatchLemmas.{zip_weaker, some_one}
 
 -- ---- a walk that has met nothing
 
@@ -56,10 +56,10 @@ numbered_rule rules number rule is = numbered-map rule_of rules number ∙ ap (o
 module _ (claims : List Claim) (body : List (Fact Term)) (facts links : List ℕ) (found : Found) (is : IsFound claims body facts links (Some found))
     (chosen : List (Fact Term)) (equalities : List Equality) (matches : Matches claims body facts links chosen equalities) where
   pub same_facts : chosen ≡ found.chosen
-  same_facts = some_one (sym matches.stated ∙ is.1.stated)
+  same_facts = same_Some chosen found.chosen (sym matches.stated ∙ is.1.stated)
 
   pub same_links : equalities ≡ is.0
-  same_links = some_one (sym matches.named ∙ is.1.named)
+  same_links = same_Some equalities is.0 (sym matches.named ∙ is.1.named)
 
 pub maps_as : (claims : List Claim) (body : List (Fact Term)) (facts links : List ℕ) (found : Found) → IsFound claims body facts links (Some found)
     → taken found.from found.to ≡ match_map body found.chosen
@@ -76,7 +76,7 @@ module _ (rules : List Rule) (number place : ℕ) (rule : Rule) (claims : List C
   pub makes_nothing : (claim : Claim) (other : Rule) → numbered rules number ≡ Some other → (chosen : List (Fact Term)) (equalities : List Equality)
       → Matches claims (body_of other) facts links chosen equalities → made_at place (number - 1) other (match_map (body_of other) chosen) ≡ Some claim → ⊥
   makes_nothing claim other other_is chosen equalities matches makes =
-      let same : other ≡ rule = some_one (sym other_is ∙ numbered_is) in
+      let same : other ≡ rule = same_Some other rule (sym other_is ∙ numbered_is) in
       let theirs : Matches claims (body_of rule) facts links chosen equalities = subst
       (λ (it : Rule). Matches claims (body_of it) facts links chosen equalities)
       same matches in
@@ -119,7 +119,8 @@ module _ (claims : List Claim) (body shown : List (Fact Term)) (facts links : Li
       found.chosen,
       it_is.0,
       it_is.1,
-      subst (λ (it : List Term). AllZip (Linked (IsAmong found.chosen it_is.0)) targets it) met_as (zip_weaker one_of targets met all),
+      subst (λ (it : List Term). AllZip (Linked (IsAmong found.chosen it_is.0)) targets it) met_as
+          (zip_weaker (StandsAsOne renamings) (Linked (IsAmong found.chosen it_is.0)) targets met (λ term other _ same. one_of term other same) all),
     )
 
     pub may_not_end : ¬ (AllZip (StandsAsOne renamings) targets met) → (chosen : List (Fact Term)) (equalities : List Equality)
@@ -130,4 +131,5 @@ module _ (claims : List Claim) (body shown : List (Fact Term)) (facts links : Li
         let here : AllZip (Linked (IsAmong found.chosen it_is.0)) targets (map (match_map body found.chosen) head) =
         subst (λ (it : List (Fact Term)). AllZip (Linked (IsAmong it it_is.0)) targets (map (match_map body it) head)) facts_are
         (subst (λ (it : List Equality). AllZip (Linked (IsAmong chosen it)) targets (map (match_map body chosen) head)) links_are all) in
-        wrong (subst (λ (it : List Term). AllZip (StandsAsOne renamings) targets it) (sym met_as) (zip_weaker of_one targets _ here))
+        wrong (subst (λ (it : List Term). AllZip (StandsAsOne renamings) targets it) (sym met_as)
+        (zip_weaker (Linked (IsAmong found.chosen it_is.0)) (StandsAsOne renamings) targets _ (λ term other _ linked. of_one term other linked) here))

@@ -2,7 +2,9 @@
 use Rattle.std.proofs.Common.{◌≡◌, ℕ, List, [], ◌∷◌, Some, None, Ok, Err, Option, Result, IfOk, Contains, refl, subst, sym, ap, ◌∙◌}
 use Rattle.std.specs.List.{AllZip}
 use Rattle.std.specs.Option.{MatchOption}
+use Rattle.std.proofs.lemmas.Option.{same_Some}
 use Rattle.esto_term.proofs.ListLemmas.{Contains-head, Contains-rest}
+use Rattle.esto_term.proofs.ZipLemmas.{zip_weaker}
 use Rattle.esto_term.specs.declared.term.Term.{Term}
 use Rattle.esto_semantics.specs.Facts.{terms_of}
 use Rattle.esto_semantics.specs.declared.fact.Fact.{Fact}
@@ -15,15 +17,6 @@ use Rattle.esto_cert.specs.Linking.{IsAmong, Tells, StandsAsOne}
 use Rattle.esto_cert.specs.Matching.{FactsFit, IsFound}
 use Rattle.esto_cert.specs.declared.linking.Equality.{Equality}
 use Rattle.esto_cert.specs.declared.matching.Found.{Found}
-
-pub zip_weaker : {A B : Type 0} {P Q : A → B → Type 0} → ((x : A) (y : B) → P x y → Q x y) → (xs : List A) (ys : List B) → AllZip P xs ys → AllZip Q xs ys
-zip_weaker weaker [] [] all = all
-zip_weaker weaker [] (y ∷ ys) all = absurd all
-zip_weaker weaker (x ∷ xs) [] all = absurd all
-zip_weaker weaker (x ∷ xs) (y ∷ ys) all = (weaker x y all.0, zip_weaker weaker xs ys all.1)
-
-pub some_one : {A : Type 0} {one other : A} → Some one ≡ Some other → one ≡ other
-some_one same = cc
 
 pub are_chosen : (Holds : Claim → Type 0) (body chosen : List (Fact Term)) → ((fact : Fact Term) → Contains chosen fact → Holds (Stated fact))
     → AllZip IsLike body chosen → AreChosen Holds body chosen
@@ -62,17 +55,23 @@ module _ (claims : List Claim) (body : List (Fact Term)) (facts links : List ℕ
   match_there fits = record {
     stated = stated;
     named = named;
-    fits = (are_chosen (IsAmong chosen equalities) body chosen (λ fact inside. inside) fits.0, zip_weaker one_of _ _ (at_terms fits.1));
+    fits = (
+      are_chosen (IsAmong chosen equalities) body chosen (λ fact inside. inside) fits.0,
+      zip_weaker (StandsAsOne renamings) (Linked (IsAmong chosen equalities)) _ _ (λ term other _ same. one_of term other same) (at_terms fits.1),
+    );
   }
 
   fits_of : IsMatch (IsAmong chosen equalities) body chosen → FactsFit (StandsAsOne renamings) body chosen from to
-  fits_of is = (are_like (IsAmong chosen equalities) body chosen is.0, of_terms (zip_weaker of_one _ _ is.1))
+  fits_of is = (
+    are_like (IsAmong chosen equalities) body chosen is.0,
+    of_terms (zip_weaker (Linked (IsAmong chosen equalities)) (StandsAsOne renamings) _ _ (λ term other _ linked. of_one term other linked) is.1),
+  )
 
   pub no_match : ¬ (FactsFit (StandsAsOne renamings) body chosen from to) → (other : List (Fact Term)) (others : List Equality)
       → ¬ (Matches claims body facts links other others)
   no_match wrong other others it =
-      let same : other ≡ chosen = some_one (sym it.stated ∙ stated) in
-      let same_too : others ≡ equalities = some_one (sym it.named ∙ named) in
+      let same : other ≡ chosen = same_Some other chosen (sym it.stated ∙ stated) in
+      let same_too : others ≡ equalities = same_Some others equalities (sym it.named ∙ named) in
       wrong (fits_of (subst (λ (facts_too : List (Fact Term)). IsMatch (IsAmong facts_too equalities) body facts_too) same
       (subst (λ (them : List Equality). IsMatch (IsAmong other them) body other) same_too it.fits)))
 

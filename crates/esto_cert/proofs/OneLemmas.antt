@@ -4,6 +4,7 @@ use Rattle.std.specs.Cmp.{nat_cmp_is}
 use Rattle.std.specs.Ordering.{nat_cmp}
 use Rattle.std.specs.declared.cmp.Ordering.TheVariants.{Less}
 use Rattle.std.proofs.lemmas.Cmp.{nat_cmp_total}
+use Rattle.std.proofs.lemmas.Option.{same_Some}
 use Rattle.esto_term.specs.declared.term.Term.{Term}
 use Rattle.esto_term.specs.declared.term.Term.TheVariants.{Plain}
 use Rattle.esto_term.proofs.ChoiceLemmas.{one_list}
@@ -36,7 +37,6 @@ use Rattle.esto_cert.specs.Showing.{VerdictsAreOne}
 use Rattle.esto_cert.specs.declared.judging.Judged.TheVariants.{Claims, Ends, Refused}
 use Rattle.esto_cert.specs.declared.line.Line.{Line}
 use Rattle.esto_cert.specs.declared.line.Line.TheVariants.{Expanded, Step, Match}
-use Rattle.esto_cert.proofs.MatchLemmas.{some_one}
 
 -- ---- what a view's terms stand for in an atom is one
 
@@ -82,7 +82,7 @@ module _ (are_queries : (query : Query) → IsQuery (query_of query)) (fragments
       → query_of fragment.view ≡ query_of other.view
   same_view number fragment other at at_other =
       let viewed : FragmentDef → ConjunctiveQuery = (λ it. query_of it.view) in
-      some_one (sym (map_at viewed fragments number fragment at) ∙ ap (λ (it : List ConjunctiveQuery). slice_get it number) views
+      same_Some _ _ (sym (map_at viewed fragments number fragment at) ∙ ap (λ (it : List ConjunctiveQuery). slice_get it number) views
       ∙ map_at viewed others number other at_other)
 
   first_one : {A : Type 0} (one other : A) (rest more : List A) → one ∷ rest ≡ other ∷ more → one ≡ other
@@ -125,9 +125,9 @@ module _ (case : Case)
       is ∙ ap Stated (placed_once fact again inside there (omega (arith, named.0, named_too.0)) (omega (arith, named.1, named_too.1))) ∙ sym is_too
   claim_one (Step number place facts links) claim other (rule, at, (chosen, equalities, matches, made))
       (again, at_too, (chosen_too, equalities_too, matches_too, made_too)) =
-      let rules : rule ≡ again = some_one (sym at ∙ at_too) in
-      let same : chosen ≡ chosen_too = some_one (sym matches.stated ∙ matches_too.stated) in
-      some_one (sym made ∙ (λ i. made_at place (number - 1) (rules i) (match_map (body_of (rules i)) (same i))) ∙ made_too)
+      let rules : rule ≡ again = same_Some rule again (sym at ∙ at_too) in
+      let same : chosen ≡ chosen_too = same_Some chosen chosen_too (sym matches.stated ∙ matches_too.stated) in
+      same_Some claim other (sym made ∙ (λ i. made_at place (number - 1) (rules i) (match_map (body_of (rules i)) (same i))) ∙ made_too)
   claim_one (Match facts links) claim other wrong wrong_too = absurd wrong
 
   claim_no_end : (line : Line) (claim : Claim) → MayClaim case claims line claim → MayEnd case claims line → ⊥
@@ -187,7 +187,7 @@ expands_once plan fragments expanded expands fact other inside there atoms place
     let told = (expands.exact fact).0 inside in
     let told_too = (expands.exact other).0 there in
     let parts : told.1.0 ≡ told_too.1.0 =
-    some_one (sym told.1.1 ∙ (λ i. slice_get (expands.of.view (atoms i)).body (places i)) ∙ told_too.1.1) in
+    same_Some told.1.0 told_too.1.0 (sym told.1.1 ∙ (λ i. slice_get (expands.of.view (atoms i)).body (places i)) ∙ told_too.1.1) in
     sym told.1.2 ∙ (λ i. image (expands.of.spread (atoms i)) (parts i)) ∙ told_too.1.2
 
 pub verdicts_one : ((query : Query) → IsQuery (query_of query)) → VerdictsAreOne

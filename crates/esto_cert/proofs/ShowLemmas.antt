@@ -2,8 +2,10 @@
 use Rattle.std.proofs.Common.{◌≡◌, ◌⊎◌, inl, inr, ℕ, ◌+◌, ◌-◌, List, [], ◌∷◌, ◌++◌, map, Option, Some, None, Contains, refl, sym, ap, subst}
 use Rattle.std.specs.List.{AllZip}
 use Rattle.std.proofs.lemmas.List.Elements.{Contains-append_cases}
+use Rattle.std.proofs.lemmas.Option.{same_Some}
 use Rattle.esto_term.specs.declared.term.Term.{Term}
 use Rattle.esto_term.proofs.ListLemmas.{Contains-cases, Contains-nil}
+use Rattle.esto_term.proofs.ZipLemmas.{zip_weaker}
 use Rattle.esto_semantics.specs.Facts.{terms_of}
 use Rattle.esto_semantics.specs.declared.fact.Fact.{Fact}
 use Rattle.esto_world_laws.specs.Worlds.{InWorld, Linked}
@@ -20,11 +22,11 @@ use Rattle.esto_world_laws.proofs.TakenLemmas.{taken-Const}
 use Rattle.esto_cert.specs.Certificates.{Case, numbered, fact_of, equality_of, facts_at, equalities_at, Matches, MayClaim, MayEnd}
 use Rattle.esto_cert.specs.Judging.{IsJudgedText, Verdict}
 use Rattle.esto_cert.specs.Lines.{line_of, with_item}
+use Rattle.esto_cert.specs.Linking.{IsAmong}
 use Rattle.esto_cert.specs.declared.judging.Judged.TheVariants.{Claims, Ends}
 use Rattle.esto_cert.specs.declared.line.Line.{Line}
 use Rattle.esto_cert.specs.declared.line.Line.TheVariants.{Expanded, Step, Match}
 use Rattle.esto_cert.specs.declared.linking.Equality.{Equality}
-use Rattle.esto_cert.proofs.MatchLemmas.{some_one, zip_weaker}
 use Rattle.esto_cert.proofs.WorldLemmas.{AreOfSet, Grown, given, links_hold, match_holds, numbered_in, numbered_there, stepped}
 
 -- ---- what numbers name is claimed
@@ -34,7 +36,7 @@ with_in : {A : Type 0} (first : Option A) (rest : Option (List A)) (all : List A
 with_in None rest all is item inside = absurd (cc)
 with_in (Some first) None all is item inside = absurd (cc)
 with_in {A} (Some first) (Some others) all is item inside =
-    elim (Contains-cases first others item (subst (λ (it : List A). Contains it item) (sym (some_one is)) inside)) [
+    elim (Contains-cases first others item (subst (λ (it : List A). Contains it item) (sym (same_Some _ all is)) inside)) [
       | inl same ↦ inl (ap Some same)
       | inr later ↦ inr (others, refl, later)
     ]
@@ -42,7 +44,7 @@ with_in {A} (Some first) (Some others) all is item inside =
 module _ (claims : List Claim) where
   pub stated_in : (numbers : List ℕ) (facts : List (Fact Term)) → facts_at claims numbers ≡ Some facts → (fact : Fact Term) → Contains facts fact
       → Contains claims (Stated fact)
-  stated_in [] facts is fact inside = absurd (Contains-nil fact (subst (λ (it : List (Fact Term)). Contains it fact) (sym (some_one is)) inside))
+  stated_in [] facts is fact inside = absurd (Contains-nil fact (subst (λ (it : List (Fact Term)). Contains it fact) (sym (same_Some _ facts is)) inside))
   stated_in (number ∷ numbers) facts is fact inside =
       elim (with_in (fact_of (numbered claims number)) (facts_at claims numbers) facts is fact inside) [
         | inl first ↦ by (numbered claims number) refl first
@@ -51,12 +53,12 @@ module _ (claims : List Claim) where
     where
       by : (found : Option Claim) → numbered claims number ≡ found → fact_of found ≡ Some fact → Contains claims (Stated fact)
       by None at own = absurd (cc)
-      by (Some (Stated it)) at own = subst (λ (its : Fact Term). Contains claims (Stated its)) (some_one own) (numbered_in claims number (Stated it) at)
+      by (Some (Stated it)) at own = subst (λ (its : Fact Term). Contains claims (Stated its)) (same_Some it fact own) (numbered_in claims number (Stated it) at)
       by (Some (Same left right)) at own = absurd (cc)
 
   pub equal_in : (numbers : List ℕ) (equalities : List Equality) → equalities_at claims numbers ≡ Some equalities → (it : Equality) → Contains equalities it
       → Contains claims (Same it.left it.right)
-  equal_in [] equalities is it inside = absurd (Contains-nil it (subst (λ (its : List Equality). Contains its it) (sym (some_one is)) inside))
+  equal_in [] equalities is it inside = absurd (Contains-nil it (subst (λ (its : List Equality). Contains its it) (sym (same_Some _ equalities is)) inside))
   equal_in (number ∷ numbers) equalities is it inside =
       elim (with_in (equality_of (numbered claims number)) (equalities_at claims numbers) equalities is it inside) [
         | inl first ↦ by (numbered claims number) refl first
@@ -67,7 +69,7 @@ module _ (claims : List Claim) where
       by None at own = absurd (cc)
       by (Some (Stated fact)) at own = absurd (cc)
       by (Some (Same left right)) at own =
-          subst (λ (its : Equality). Contains claims (Same its.left its.right)) (some_one own) (numbered_in claims number (Same left right) at)
+          subst (λ (its : Equality). Contains claims (Same its.left its.right)) (same_Some _ it own) (numbered_in claims number (Same left right) at)
 
 -- ---- line by line
 
@@ -122,8 +124,9 @@ module _ (case : Case) where
     ended (Step number place facts links) wrong = absurd wrong
     ended (Match facts links) (found, equalities, matches, heads) =
         matched case.query.body facts links found equalities matches case.query.head case.targets
-        (zip_weaker (links_hold (World entries) found equalities (facts_there _ facts links found equalities matches)
-        (linked_there _ facts links found equalities matches)) case.targets _ heads)
+        (zip_weaker (Linked (IsAmong found equalities)) (Linked (World entries)) case.targets _ (λ s t _ linked.
+        links_hold (World entries) found equalities (facts_there _ facts links found equalities matches)
+        (linked_there _ facts links found equalities matches) s t linked) heads)
 
     one_more : (claim : Claim) → (grown : Grown case.expanded case.rules case.set entries claim) → AreCovered grown.later (claims ++ claim ∷ [])
     one_more claim grown = record {

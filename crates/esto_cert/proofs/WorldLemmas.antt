@@ -8,6 +8,7 @@ use Rattle.esto_term.specs.declared.term.Term.{Term}
 use Rattle.esto_term.proofs.ChoiceLemmas.{Decided, decided_as, decided_both, decided_either}
 use Rattle.esto_term.proofs.DistinctLemmas.{decided_contains}
 use Rattle.esto_term.proofs.ListLemmas.{Contains-at, Contains-cases, Contains-head, Contains-map, Contains-map_from, Contains-nil, Contains-rest, place-from_Contains}
+use Rattle.esto_term.proofs.ZipLemmas.{zip_weaker}
 use Rattle.esto_semantics.specs.Facts.{image}
 use Rattle.esto_semantics.specs.Rules.{Rule, tuple, equality, denial, body_of}
 use Rattle.esto_semantics.specs.Sets.{Has, Within, united}
@@ -32,7 +33,7 @@ use Rattle.esto_world_laws.proofs.LinkLemmas.{Linked-back, Linked-then, Linked-t
 use Rattle.esto_cert.specs.Certificates.{numbered, made_at}
 use Rattle.esto_cert.specs.Linking.{IsAmong}
 use Rattle.esto_cert.specs.declared.linking.Equality.{Equality}
-use Rattle.esto_cert.proofs.MatchLemmas.{are_chosen, are_like, zip_weaker}
+use Rattle.esto_cert.proofs.MatchLemmas.{are_chosen, are_like}
 
 -- ---- which claims there are is decided
 
@@ -132,8 +133,10 @@ module _ (Holds : Claim → Type 0) (chosen : List (Fact Term)) (equalities : Li
   links_hold s t linked = links_as links s t linked
 
   pub match_holds : (body : List (Fact Term)) → IsMatch (IsAmong chosen equalities) body chosen → IsMatch Holds body chosen
-  match_holds body matches =
-      (are_chosen Holds body chosen facts (are_like (IsAmong chosen equalities) body chosen matches.0), zip_weaker links_hold _ _ matches.1)
+  match_holds body matches = (
+    are_chosen Holds body chosen facts (are_like (IsAmong chosen equalities) body chosen matches.0),
+    zip_weaker (Linked (IsAmong chosen equalities)) (Linked Holds) _ _ (λ s t _ linked. links_hold s t linked) matches.1,
+  )
 
 -- ---- what a rule makes, it asks for
 

@@ -1,6 +1,7 @@
 -- Over catalogues that say the same, a certificate is verified in one way.
 use Rattle.std.proofs.Common.{◌≡◌, ℕ, Bool, List, length, Option, Some, None, refl, sym, ap, subst, ◌∙◌}
 use Rattle.std.proofs.lemmas.List.{length-map}
+use Rattle.std.proofs.lemmas.Option.{same_Some}
 use Rattle.esto_catalog.specs.Determined.{AreSame}
 use Rattle.esto_catalog.specs.declared.catalogue.Catalogue.{Catalogue}
 use Rattle.esto_cert.specs.Showing.{VerdictsAreMoved, VerdictsAreOne}
@@ -26,9 +27,6 @@ pub same_length : (plan other : Plan) → IsSamePlan plan other → length plan.
 same_length plan other same =
     sym (length-map plan.atoms fact_of) ∙ ap (λ (it : ConjunctiveQuery). length it.body) same.0 ∙ length-map other.atoms fact_of
 
-pub some_one : {A : Type 0} (one other : A) → Some one ≡ Some other → one ≡ other
-some_one one other same = cc
-
 pub none_some : {A : Type 0} (one : A) → None ≡ Some one → ⊥
 none_some one same = cc
 
@@ -42,7 +40,7 @@ module _ (tell : NumbersTellSets) (count : ℕ) (numbers : List ℕ) where
 
   above_one : (said other : Status) → IsAbove count numbers said → IsAbove count numbers other → said ≡ other
   above_one said other here there =
-      here.2 ∙ ap (λ (it : ℕ). NoSuchNumber it count) (some_one here.0 there.0 (sym here.1 ∙ there.1)) ∙ sym there.2
+      here.2 ∙ ap (λ (it : ℕ). NoSuchNumber it count) (same_Some here.0 there.0 (sym here.1 ∙ there.1)) ∙ sym there.2
 
   pub set_not_above : (set : List Bool) (said : Status) → IsSetOf count numbers set → IsAbove count numbers said → ⊥
   set_not_above set said here there = none_some there.0 (sym here.none_above ∙ there.1)
@@ -73,7 +71,7 @@ module _ (verdicts : VerdictsAreOne) (catalogue other : Catalogue) (query other_
   judged_one = judges_agree _ _ _ _ _ _
       (λ text its here there. here.1 ∙ sym there.1)
       (λ said its caused caused_too here there.
-      here.2 ∙ ap Rejected (some_one here.0 there.0 (verdict_one (Some here.0) (Some there.0) here.1 there.1)) ∙ sym there.2)
+      here.2 ∙ ap Rejected (same_Some here.0 there.0 (verdict_one (Some here.0) (Some there.0) here.1 there.1)) ∙ sym there.2)
       (λ text said caused here there. none_some there.0 (verdict_one None (Some there.0) here.0 there.1))
       (λ text said caused here there. none_some there.0 (sym (verdict_one (Some there.0) None there.1 here.0)))
 

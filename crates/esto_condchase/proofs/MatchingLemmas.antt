@@ -5,6 +5,7 @@ use Rattle.std.proofs.lemmas.List.{append-nil, length-map, map-append, take_all}
 use Rattle.std.proofs.lemmas.List.Elements.{Contains-append_left, Contains-append_right}
 use Rattle.esto_term.specs.declared.term.Term.{Term}
 use Rattle.esto_term.proofs.ListLemmas.{Contains-at, Contains-head, Contains-nil, Contains-rest}
+use Rattle.esto_term.proofs.ZipLemmas.{zip_append, zip_split, zip_weaker}
 use Rattle.esto_semantics.specs.Facts.{terms_of}
 use Rattle.esto_semantics.specs.Sets.{Has, Within, Covers}
 use Rattle.esto_semantics.specs.declared.fact.Fact.{Fact}
@@ -18,7 +19,7 @@ use Rattle.esto_world_laws.specs.declared.entry.Claim.{Claim}
 use Rattle.esto_world_laws.specs.declared.entry.Claim.TheVariants.{Fact as Stated}
 use Rattle.esto_world_laws.specs.declared.entry.Entry.{Entry}
 use Rattle.esto_world_laws.proofs.ClosedLemmas.{choose, touching, Fits-linked}
-use Rattle.esto_world_laws.proofs.LinkLemmas.{Linked-touching, Touching-more, zip_append, zip_split, zip_weaker}
+use Rattle.esto_world_laws.proofs.LinkLemmas.{Linked-touching, Touching-more}
 use Rattle.esto_world_laws.proofs.SoundLemmas.{rows_split}
 use Rattle.esto_world_laws.proofs.TakenLemmas.{taken-Const}
 use Rattle.esto_condchase.specs.Products.{EntryGoesOn, GoesOn, GoesOnBy, IsBegun, IsVisit, SomeWayGoesOn, Visited, WayGoesOn}

@@ -5,6 +5,7 @@ use Rattle.std.proofs.lemmas.List.{get_or-take, get_or_default, length-take, tak
 use Rattle.std.proofs.lemmas.List.Elements.{Contains-append_left}
 use Rattle.esto_term.specs.declared.term.Term.{Term}
 use Rattle.esto_term.proofs.ListLemmas.{Contains-at, Contains-nil}
+use Rattle.esto_term.proofs.ZipLemmas.{zip_weaker}
 use Rattle.esto_semantics.specs.Facts.{terms_of}
 use Rattle.esto_semantics.specs.Rules.{Rule, IsRule, AreRules, tuple, equality, denial, body_of}
 use Rattle.esto_semantics.specs.declared.fact.Fact.{Fact}
@@ -14,7 +15,6 @@ use Rattle.esto_world_laws.specs.Steps.{AreAnswered}
 use Rattle.esto_world_laws.specs.declared.entry.Claim.TheVariants.{Fact as Stated, Same}
 use Rattle.esto_world_laws.specs.declared.entry.Entry.{Entry}
 use Rattle.esto_world_laws.proofs.GrowLemmas.{InWorld-more, IsCovered-more}
-use Rattle.esto_world_laws.proofs.LinkLemmas.{zip_weaker}
 use Rattle.esto_condchase.specs.News.{IsApart, IsSettled}
 use Rattle.esto_condchase.specs.Rounds.{IsRuleAnswered}
 

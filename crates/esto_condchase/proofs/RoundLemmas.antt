@@ -12,6 +12,7 @@ use Rattle.esto_semantics.specs.Sets.{Has, Within, united}
 use Rattle.esto_semantics.specs.declared.fact.Fact.{Fact}
 use Rattle.esto_term.proofs.ListLemmas.{Contains-nil, Contains-head, Contains-rest, Contains-cases, Contains-at}
 use Rattle.esto_term.proofs.ListLemmas.{map_at}
+use Rattle.esto_term.proofs.ZipLemmas.{zip_weaker}
 use Rattle.esto_semantics.proofs.SetLemmas.{has_united, length-united}
 use Rattle.esto_constraint.specs.Constraints.{rule_of, rules_of}
 use Rattle.esto_constraint.specs.declared.rule.Constraint.{Constraint}
@@ -25,7 +26,7 @@ use Rattle.esto_world_laws.specs.declared.entry.Claim.{Claim}
 use Rattle.esto_world_laws.specs.declared.entry.Claim.TheVariants.{Fact as Stated, Same}
 use Rattle.esto_world_laws.specs.declared.entry.Reason.TheVariants.{Step, Equal}
 use Rattle.esto_world_laws.specs.declared.entry.Entry.{Entry}
-use Rattle.esto_world_laws.proofs.LinkLemmas.{Linked-touching, Touching-more, zip_weaker}
+use Rattle.esto_world_laws.proofs.LinkLemmas.{Linked-touching, Touching-more}
 use Rattle.esto_world_laws.proofs.GrowLemmas.{InWorld-more, IsCovered-more, Follows-append}
 use Rattle.esto_world_laws.specs.Worlds.{AreOfCount}
 use Rattle.esto_prov.specs.Taking.{made_of}

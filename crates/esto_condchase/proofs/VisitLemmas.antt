@@ -6,6 +6,7 @@ use Rattle.std.proofs.lemmas.List.{length-append, length-map, map-append}
 use Rattle.std.proofs.lemmas.List.Elements.{Contains-append_right, Contains-push_cases}
 use Rattle.esto_term.specs.declared.term.Term.{Term}
 use Rattle.esto_term.proofs.ListLemmas.{Contains-cases, Contains-head, Contains-nil, map_agree}
+use Rattle.esto_term.proofs.ZipLemmas.{zip_split}
 use Rattle.esto_semantics.specs.Facts.{terms_of}
 use Rattle.esto_semantics.specs.Sets.{Within, Covers}
 use Rattle.esto_semantics.specs.declared.fact.Fact.{Fact}
@@ -15,7 +16,6 @@ use Rattle.esto_world_laws.specs.Worlds.{InWorld}
 use Rattle.esto_world_laws.specs.declared.entry.Claim.{Claim}
 use Rattle.esto_world_laws.specs.declared.entry.Claim.TheVariants.{Fact as Stated, Same}
 use Rattle.esto_world_laws.specs.declared.entry.Entry.{Entry}
-use Rattle.esto_world_laws.proofs.LinkLemmas.{zip_split}
 use Rattle.esto_world_laws.proofs.TakenLemmas.{taken-stays}
 use Rattle.esto_condchase.specs.Products.{GoesOn, GoesOnBy, WayGoesOn, SomeWayGoesOn, EntryGoesOn, IsFree, SomeEntryGoesOn, Visited}
 use Rattle.esto_condchase.specs.declared.ways.Way.{Way}

@@ -10,6 +10,7 @@ use Rattle.esto_semantics.specs.Sets.{Has, Within, united}
 use Rattle.esto_semantics.specs.declared.fact.Fact.{Fact}
 use Rattle.esto_term.proofs.ListLemmas.{Contains-nil, Contains-head, Contains-cases}
 use Rattle.esto_term.proofs.ListLemmas.{place-from_Contains}
+use Rattle.esto_term.proofs.ZipLemmas.{zip_append, zip_split, zip_weaker}
 use Rattle.esto_semantics.proofs.SetLemmas.{has_united, length-united}
 use Rattle.esto_world_laws.specs.Worlds.{InWorld}
 use Rattle.esto_semantics.specs.Facts.{terms_of}
@@ -18,7 +19,7 @@ use Rattle.esto_world_laws.specs.Derived.{Claims, IsNamed, IsUnion, IsEquality}
 use Rattle.esto_world_laws.specs.declared.entry.Claim.{Claim}
 use Rattle.esto_world_laws.specs.declared.entry.Claim.TheVariants.{Fact as Stated, Same}
 use Rattle.esto_world_laws.specs.declared.entry.Entry.{Entry}
-use Rattle.esto_world_laws.proofs.LinkLemmas.{Touching-more, zip_weaker, zip_append, zip_split}
+use Rattle.esto_world_laws.proofs.LinkLemmas.{Touching-more}
 use Rattle.esto_world_laws.proofs.TakenLemmas.{Fits-push, Fits-split}
 use Rattle.esto_condchase.specs.Ways.{AreCounted, Links, met, met_by, begun, IsWay, AreLonger, AreRows, AreThrough, AreMatched, IsFound, AreFound}
 use Rattle.esto_condchase.specs.declared.ways.Way.{Way}

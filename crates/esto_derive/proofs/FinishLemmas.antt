@@ -1,13 +1,13 @@
 -- The match of a world that is found, and the entries that it uses.
 use Rattle.std.proofs.Common.{◌≡◌, ◌≢◌, inl, inr, ℕ, ◌<◌, List, [], ◌++◌, length, map, slice_get, Option, Some, None, Contains, Bool, subst, refl, sym, ap, ◌∙◌}
 use Rattle.std.proofs.lemmas.List.{length-map}
-use Rattle.std.proofs.lemmas.Option.{slice_get_within}
+use Rattle.std.proofs.lemmas.Option.{same_Some, slice_get_within}
 use Rattle.esto_term.specs.declared.term.Term.{Term}
+use Rattle.esto_term.proofs.ZipLemmas.{zip_left, zip_length, zip_weaker}
 use Rattle.esto_semantics.specs.Facts.{terms_of}
 use Rattle.esto_semantics.specs.Maps.{IsFixedBy}
 use Rattle.esto_semantics.specs.Sets.{Within}
 use Rattle.esto_semantics.specs.declared.fact.Fact.{Fact}
-use Rattle.esto_world_laws.proofs.LinkLemmas.{zip_weaker, zip_left, zip_length}
 use Rattle.esto_world_laws.specs.Derived.{Claims, IsNamed, AreDerived}
 use Rattle.esto_world_laws.specs.Laws.{HasMatch}
 use Rattle.esto_world_laws.specs.Matches.{Fits}
@@ -23,12 +23,11 @@ use Rattle.esto_constraint.specs.declared.rule.Constraint.{Constraint}
 use Rattle.esto_views.specs.declared.expansion.ExpandedFact.{ExpandedFact}
 use Rattle.esto_derive.proofs.LoopLemmas.{terms_stated}
 use Rattle.esto_derive.proofs.MatchLemmas.{match_at, some_go_on}
-use Rattle.esto_derive.proofs.TextLemmas.{some_one}
 
 -- what is claimed in a world is of an entry within the set
 claims_within : (entries : List Entry) (set : List Bool) (place : ℕ) (entry : Entry) → slice_get entries place ≡ Some entry
     → (its : Entry) → slice_get entries place ≡ Some its → Within its.product set → Within entry.product set
-claims_within entries set place entry at its its_at within = subst (λ (it : Entry). Within it.product set) (some_one (sym its_at ∙ at)) within
+claims_within entries set place entry at its its_at within = subst (λ (it : Entry). Within it.product set) (same_Some its entry (sym its_at ∙ at)) within
 
 module _ (entries : List Entry) (set : List Bool) (head targets : List Term) (body : List (Fact Term)) where
   pub head_lengths : HasMatch (InWorld entries set) head body targets → length targets ≡ length head

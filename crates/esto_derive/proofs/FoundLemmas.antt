@@ -4,12 +4,13 @@ use Rattle.std.specs.List.{AllZip}
 use Rattle.std.proofs.lemmas.List.Elements.{Contains-append_left, Contains-append_right, Contains-append_cases}
 use Rattle.std.proofs.lemmas.List.{append-nil, append_assoc, length-append, length-map}
 use Rattle.esto_term.proofs.ListLemmas.{Contains-nil, Contains-at, Contains-cases, Contains-head}
+use Rattle.esto_term.proofs.ZipLemmas.{zip_both, zip_by_places, zip_length}
 use Rattle.esto_term.specs.declared.term.Term.{Term}
 use Rattle.esto_semantics.specs.Facts.{terms_of}
 use Rattle.esto_semantics.specs.Sets.{Within}
 use Rattle.esto_semantics.specs.declared.fact.Fact.{Fact}
 use Rattle.esto_world_laws.proofs.ClosedLemmas.{touching}
-use Rattle.esto_world_laws.proofs.LinkLemmas.{Linked-more, Linked-touching, zip_length}
+use Rattle.esto_world_laws.proofs.LinkLemmas.{Linked-more, Linked-touching}
 use Rattle.esto_world_laws.proofs.TakenLemmas.{Fits-split, Fits-join}
 use Rattle.esto_world_laws.specs.Derived.{IsNamed}
 use Rattle.esto_world_laws.specs.Matches.{taken, Fits, Touching}
@@ -18,9 +19,8 @@ use Rattle.esto_world_laws.specs.Worlds.{InWorld, Linked, here}
 use Rattle.esto_world_laws.specs.declared.entry.Claim.{Claim}
 use Rattle.esto_world_laws.specs.declared.entry.Claim.TheVariants.{Fact as Stated, Same}
 use Rattle.esto_world_laws.specs.declared.entry.Entry.{Entry}
-use Rattle.std.proofs.lemmas.Option.{slice_get_within}
+use Rattle.std.proofs.lemmas.Option.{same_Some, slice_get_within}
 use Rattle.esto_derive.proofs.MarkLemmas.{same_or_later}
-use Rattle.esto_derive.proofs.TextLemmas.{some_one}
 use Rattle.esto_derive.specs.Searching.{SaysOne, ClaimsIn, IsLink, GoesOn, IsFound, IsFoundAfter, IsFoundBy, AddsLink}
 
 -- ---- going on
@@ -176,25 +176,6 @@ told entries set term other joined apart (Some place) link answer is = ((λ yes.
 
 -- ---- places one by one
 
--- places at which two lists are related
-pub zip_at : {X Y : Type 0} (R : X → Y → Type 0) (xs : List X) (ys : List Y) → AllZip R xs ys → (place : ℕ) (x : X) (y : Y) → slice_get xs place ≡ Some x
-    → slice_get ys place ≡ Some y → R x y
-zip_at R [] ys all place x y at at_y = absurd (let wrong = at in cc)
-zip_at R (first ∷ xs) [] all place x y at at_y = absurd all
-zip_at {X} {Y} R (first ∷ xs) (own ∷ ys) all zero x y at at_y =
-    subst (λ (it : X). R it y) (some_one at) (subst (λ (it : Y). R first it) (some_one at_y) all.0)
-zip_at R (first ∷ xs) (own ∷ ys) all (suc place) x y at at_y = zip_at R xs ys all.1 place x y at at_y
-
-pub zip_by_places : {X Y : Type 0} (R : X → Y → Type 0) (xs : List X) (ys : List Y) → length xs ≡ length ys
-    → ((place : ℕ) (x : X) (y : Y) → slice_get xs place ≡ Some x → slice_get ys place ≡ Some y → R x y) → AllZip R xs ys
-zip_by_places R [] [] lengths each = tt
-zip_by_places R [] (own ∷ ys) lengths each = absurd (omega (arith, lengths))
-zip_by_places R (first ∷ xs) [] lengths each = absurd (omega (arith, lengths))
-zip_by_places R (first ∷ xs) (own ∷ ys) lengths each = (
-  each 0 first own refl refl,
-  zip_by_places R xs ys (omega (arith, lengths)) (λ place x y at at_y. each (suc place) x y at at_y),
-)
-
 module _ {X Y : Type 0} (R : X → Y → Type 0) (xs : List X) (ys : List Y) where
   -- the first few are related
   abbrev pub RelatedBelow : ℕ → Type 0
@@ -210,10 +191,10 @@ module _ {X Y : Type 0} (R : X → Y → Type 0) (xs : List X) (ys : List Y) whe
       where
         same_item : {Z : Type 0} (items : List Z) (item : Z) → slice_get items place ≡ Some item → (other : Z) → slice_get items place ≡ Some other
             → other ≡ item
-        same_item items item is other other_is = let both : Some other ≡ Some item = sym other_is ∙ is in some_one both
+        same_item items item is other other_is = same_Some other item (sym other_is ∙ is)
 
     pub related_not : ¬ (R x y) → ¬ (AllZip R xs ys)
-    related_not wrong all = wrong (zip_at R xs ys all count x y at at_y)
+    related_not wrong all = wrong (zip_both R xs ys all count x y at at_y)
 
   pub related_all : (count : ℕ) → length xs ≡ length ys → length xs ≤ count → RelatedBelow count → AllZip R xs ys
   related_all count lengths past below =

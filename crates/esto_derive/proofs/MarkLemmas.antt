@@ -2,6 +2,7 @@
 use Rattle.std.proofs.Common.{◌≡◌, ◌⊎◌, inl, inr, ℕ, ◌+◌, ◌<◌, ◌≤◌, Bool, List, [], ◌∷◌, take, slice_get, Some, Contains, All, subst, refl, sym, ap, ◌∙◌, arith, zero, suc}
 use Rattle.std.proofs.lemmas.List.{length-take}
 use Rattle.std.proofs.lemmas.List.Elements.{All-weaker, All-contains_itself}
+use Rattle.std.proofs.lemmas.Option.{same_Some}
 use Rattle.esto_term.proofs.ListLemmas.{Contains-nil}
 use Rattle.esto_semantics.specs.Sets.{Has, Within}
 use Rattle.esto_world_laws.specs.Derived.{IsUnion}
@@ -9,7 +10,6 @@ use Rattle.esto_world_laws.specs.Laws.{AreReasoned, IsReasoned}
 use Rattle.esto_world_laws.specs.declared.entry.Entry.{Entry}
 use Rattle.esto_world_laws.specs.declared.entry.Reason.{Reason}
 use Rattle.esto_world_laws.specs.declared.entry.Reason.TheVariants.{Expanded, Step, Equal}
-use Rattle.esto_derive.proofs.TextLemmas.{some_one}
 use Rattle.esto_derive.specs.Marking.{named_by, AddsNamed, AreUsedWithin, IsNamedByUsed}
 
 pub all_below : (count : ℕ) (places : List ℕ) → ((place : ℕ) → Contains places place → place < count) → All (λ place. place < count) places
@@ -63,7 +63,7 @@ module _ (entries : List Entry) (reasoned : AreReasoned entries) (place : ℕ) (
       | inl had ↦ elim (is_later at_place from) [
         | inl same ↦ (adds named).1 (inr (
           subst (λ (it : ℕ). Has old it) same had,
-          subst (λ (it : Entry). Contains (named_by it.reason) named) (some_one (sym its_at ∙ ap (λ (it : ℕ). slice_get entries it) same ∙ at)) inside,
+          subst (λ (it : Entry). Contains (named_by it.reason) named) (same_Some its entry (sym its_at ∙ ap (λ (it : ℕ). slice_get entries it) same ∙ at)) inside,
         ))
         | inr later ↦ keeps named (closed at_place its later its_at had named inside)
       ]

@@ -4,6 +4,7 @@ use Rattle.std.specs.List.{AllZip}
 use Rattle.std.proofs.lemmas.List.{length-append, length-map, map-append}
 use Rattle.std.proofs.lemmas.List.Elements.{Contains-append_cases, Contains-append_left, Contains-append_right}
 use Rattle.esto_term.proofs.ListLemmas.{map_agree}
+use Rattle.esto_term.proofs.ZipLemmas.{zip_append, zip_length, zip_split, zip_weaker}
 use Rattle.esto_term.specs.Nesting.{greatest_u64}
 use Rattle.esto_term.specs.declared.term.Term.{Term}
 use Rattle.esto_term.specs.declared.term.Term.TheVariants.{Const}
@@ -13,7 +14,6 @@ use Rattle.esto_semantics.specs.Maps.{Keeps, IsFixedBy}
 use Rattle.esto_semantics.specs.Sets.{Has}
 use Rattle.esto_semantics.specs.declared.fact.Fact.{Fact}
 use Rattle.esto_world_laws.proofs.ClosedLemmas.{choose, Fits-linked}
-use Rattle.esto_world_laws.proofs.LinkLemmas.{zip_weaker, zip_append, zip_split, zip_length}
 use Rattle.esto_world_laws.proofs.TakenLemmas.{taken-Const, taken-stays, Fits-split}
 use Rattle.esto_world_laws.specs.Derived.{Claims, IsNamed}
 use Rattle.esto_world_laws.specs.Laws.{HasMatch}

@@ -2,12 +2,12 @@
 use Rattle.std.proofs.Common.{◌≡◌, ◌⊎◌, inl, inr, ℕ, ◌+◌, ◌<◌, ◌≤◌, zero, suc, Bool, List, [], ◌∷◌, ◌++◌, length, map, slice_get, Some, Contains, subst, refl, sym, ap, ◌∙◌, arith}
 use Rattle.std.specs.List.{AllZip}
 use Rattle.std.proofs.lemmas.List.Elements.{Contains-append_cases, Contains-append_left, Contains-append_right}
-use Rattle.std.proofs.lemmas.Option.{slice_get_within}
+use Rattle.std.proofs.lemmas.Option.{same_Some, slice_get_within}
 use Rattle.esto_term.proofs.ListLemmas.{Contains-at, Contains-flat, Contains-flat_from, Contains-head, Contains-map, Contains-map_from, Contains-nil, Contains-rest, at_end, at_left, place-from_Contains, thing_at}
+use Rattle.esto_term.proofs.ZipLemmas.{zip_at, zip_left}
 use Rattle.esto_term.specs.declared.term.Term.{Term}
 use Rattle.esto_semantics.specs.Sets.{Has}
 use Rattle.esto_semantics.specs.declared.fact.Fact.{Fact}
-use Rattle.esto_world_laws.proofs.LinkLemmas.{zip_left}
 use Rattle.esto_world_laws.specs.Derived.{Claims, IsEquality}
 use Rattle.esto_world_laws.specs.declared.entry.Claim.{Claim}
 use Rattle.esto_world_laws.specs.declared.entry.Claim.TheVariants.{Fact as Stated, Same}
@@ -23,7 +23,6 @@ use Rattle.esto_derive.specs.Writing.{AddsNew, AreOwn, IsBasis, IsState, StandFo
 use Rattle.esto_derive.specs.declared.writing.Written.{Written}
 use Rattle.esto_derive.proofs.ReasonLemmas.{as_many_lines, behind_below, behind_own, named_below, numbered_at, stands_before, stands_once}
 use Rattle.esto_derive.proofs.StepLemmas.{numbered_next}
-use Rattle.esto_derive.proofs.TextLemmas.{some_one}
 
 -- ---- what a line names
 
@@ -88,13 +87,6 @@ module _ (claims : List Claim) (written : List ℕ) (lines : List (List ℕ)) (e
         from_links line inside = elim ((adds line).0 inside) [ inl none ↦ absurd (Contains-nil line none) | inr is ↦ is ]
 
 -- ---- a later line names each
-
-zip_at : {X Y : Type 0} (R : X → Y → Type 0) (xs : List X) (ys : List Y) → AllZip R xs ys → (place : ℕ) (x : X) → slice_get xs place ≡ Some x
-    → (y : Y) × (slice_get ys place ≡ Some y) × R x y
-zip_at R [] ys zip place x at = absurd (cc)
-zip_at R (first ∷ xs) [] zip place x at = absurd zip
-zip_at R (first ∷ xs) (other ∷ ys) zip zero x at = (other, refl, subst (λ it. R it other) (some_one at) zip.0)
-zip_at R (first ∷ xs) (other ∷ ys) zip (suc place) x at = zip_at R xs ys zip.1 place x at
 
 -- a reason that a line says is no chain of equalities
 line_said : (entries : List Entry) (written : List ℕ) (its : Reason) (line : Line) → SaysReason entries written its line → HasLine its
@@ -171,7 +163,7 @@ module _ (case : Case) (entries : List Entry) (used : List Bool) (basis : IsBasi
         (subst HasLine (sym is) tt) in
         let (later, up_at) = place-from_Contains state.places up written in
         let (line, its_line, (its, its_at, within, says)) = line_at later up up_at in
-        let said = step_said entries state.places its.reason line number places (ap (λ (it : Entry). it.reason) (some_one (sym its_at ∙ entry_at)) ∙ is) says
+        let said = step_said entries state.places its.reason line number places (ap (λ (it : Entry). it.reason) (same_Some its entry (sym its_at ∙ entry_at)) ∙ is) says
         in (
           later,
           line,

@@ -4,13 +4,13 @@ use Rattle.std.proofs.lemmas.Bool.{cases_order}
 use Rattle.std.proofs.lemmas.List.{length-append, length-take, take_all}
 use Rattle.std.proofs.lemmas.List.Elements.{Contains-get_or}
 use Rattle.std.proofs.lemmas.List.Quantifiers.{all_pairs_push}
-use Rattle.std.proofs.lemmas.Option.{get_or_from_slice_get, slice_get_within}
+use Rattle.std.proofs.lemmas.Option.{get_or_from_slice_get, same_Some, slice_get_within}
 use Rattle.esto_term.proofs.ListLemmas.{Contains-nil, at_left, at_pushed}
+use Rattle.esto_term.proofs.ZipLemmas.{zip_append, zip_length, zip_weaker}
 use Rattle.esto_term.specs.declared.term.Term.{Term}
 use Rattle.esto_semantics.specs.Rules.{Rule}
 use Rattle.esto_semantics.specs.declared.fact.Fact.{Fact}
 use Rattle.esto_views.specs.declared.expansion.ExpandedFact.{ExpandedFact}
-use Rattle.esto_world_laws.proofs.LinkLemmas.{zip_append, zip_length, zip_weaker}
 use Rattle.esto_world_laws.specs.Derived.{AreDerived, Claims, Follows}
 use Rattle.esto_world_laws.specs.declared.entry.Claim.{Claim}
 use Rattle.esto_world_laws.specs.declared.entry.Claim.TheVariants.{Fact as Stated, Same}
@@ -23,7 +23,6 @@ use Rattle.esto_cert.specs.declared.line.Line.{Line}
 use Rattle.esto_derive.specs.Marking.{named_by}
 use Rattle.esto_derive.specs.Reasons.{HasLine, IsBehind, itself, through, AreNamedBy, SaysReason, IsLineOf, AreOfEntries}
 use Rattle.esto_derive.proofs.StepLemmas.{numbered_next}
-use Rattle.esto_derive.proofs.TextLemmas.{some_one}
 
 -- ---- numbers from 1
 
@@ -47,17 +46,17 @@ pub behind_own : (entries : List Entry) (place other : ℕ) (entry : Entry) → 
     → IsBehind entries place other → other ≡ place
 behind_own entries place other entry at has (itself its_at its_has) = refl
 behind_own entries place other entry at has (through {entry = its} {places = places} its_at is inside behind) =
-    absurd (subst HasLine is (subst (λ (it : Entry). HasLine it.reason) (some_one (sym at ∙ its_at)) has))
+    absurd (subst HasLine is (subst (λ (it : Entry). HasLine it.reason) (same_Some entry its (sym at ∙ its_at)) has))
 
 -- what stands for an entry that equalities make one stands for one of them
 pub behind_equal : (entries : List Entry) (place other : ℕ) (entry : Entry) (places : List ℕ) → slice_get entries place ≡ Some entry
     → entry.reason ≡ reason.Equal places → IsBehind entries place other → (named : ℕ) × Contains places named × IsBehind entries named other
 behind_equal entries place other entry places at is (itself its_at its_has) =
-    absurd (subst HasLine is (subst (λ (it : Entry). HasLine it.reason) (some_one (sym its_at ∙ at)) its_has))
+    absurd (subst HasLine is (subst (λ (it : Entry). HasLine it.reason) (same_Some _ entry (sym its_at ∙ at)) its_has))
 behind_equal entries place other entry places at is (through {named = named} {entry = its} {places = its_places} its_at its_is inside behind) = (
   named,
   subst (λ (it : List ℕ). Contains it named) (same its_places places (sym its_is
-      ∙ ap (λ (it : Entry). it.reason) (some_one (sym its_at ∙ at)) ∙ is)) inside,
+      ∙ ap (λ (it : Entry). it.reason) (same_Some its entry (sym its_at ∙ at)) ∙ is)) inside,
   behind,
 )
   where
@@ -111,7 +110,7 @@ module _ (places : List ℕ) (rising : AllPairs ◌<◌ places) where
   -- an earlier place stands earlier
   pub stands_before : (line later one other : ℕ) → slice_get places line ≡ Some one → slice_get places later ≡ Some other → one < other → line < later
   stands_before line later one other at later_at below = elim (cases_order line later) [
-    | inl same ↦ (let equal : one ≡ other = some_one (sym at ∙ ap (slice_get places) same ∙ later_at) in absurd (omega (arith, below, equal)))
+    | inl same ↦ (let equal : one ≡ other = same_Some one other (sym at ∙ ap (slice_get places) same ∙ later_at) in absurd (omega (arith, below, equal)))
     | inr (inl before) ↦ before
     | inr (inr after) ↦ absurd (omega (arith, below, in_order later line other one later_at at after))
   ]

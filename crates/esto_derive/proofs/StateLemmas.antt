@@ -5,6 +5,7 @@ use Rattle.std.proofs.lemmas.List.{append_assoc, append-nil, length-append}
 use Rattle.std.proofs.lemmas.List.Concat.{flat_map-append}
 use Rattle.std.proofs.lemmas.List.Elements.{Contains-append_cases, Contains-append_left, Contains-append_right}
 use Rattle.std.proofs.lemmas.List.Splits.{slice_split_at}
+use Rattle.std.proofs.lemmas.Option.{same_Some}
 use Rattle.esto_term.proofs.ListLemmas.{Contains-nil, Contains-cases, Contains-head, Contains-rest, at_left, at_end, at_pushed, map_agree, map_then}
 use Rattle.esto_semantics.specs.Sets.{Has, Within}
 use Rattle.esto_world_laws.proofs.LinkLemmas.{Linked-more, one_link}
@@ -24,7 +25,7 @@ use Rattle.esto_derive.specs.Writing.{AreOwn, AtLines, StandFor, IsBasis, IsStat
 use Rattle.esto_derive.specs.declared.writing.Written.{Written}
 use Rattle.esto_derive.proofs.MarkLemmas.{same_or_later}
 use Rattle.esto_derive.proofs.ReasonLemmas.{as_many_claims, behind_own, of_entries_more}
-use Rattle.esto_derive.proofs.TextLemmas.{read_back, no_feed, some_one}
+use Rattle.esto_derive.proofs.TextLemmas.{read_back, no_feed}
 
 -- ---- what stands for a claim still does after more lines
 
@@ -158,7 +159,7 @@ module _ (case : Case) (entries : List Entry) (used : List Bool) (lines : List (
     are_written = record {
       all = λ place its below its_at has has_line. elim (same_or_later place (length lines) (next_place place below)) [
         | inl same ↦ absurd (none (subst (Has used) (sym same) has)
-            (subst (λ (it : Entry). HasLine it.reason) (some_one (sym its_at ∙ ap (slice_get entries) (sym same) ∙ at)) has_line))
+            (subst (λ (it : Entry). HasLine it.reason) (same_Some its entry (sym its_at ∙ ap (slice_get entries) (sym same) ∙ at)) has_line))
         | inr later ↦ state.are_written.all place its (omega (arith, later)) its_at has has_line
       ];
       only = λ place inside.
@@ -173,7 +174,7 @@ module _ (case : Case) (entries : List Entry) (used : List Bool) (lines : List (
       pushed : (place : ℕ) (its : Entry) (its_own : List ℕ) → slice_get entries place ≡ Some its → Has used place → place ≡ length lines → its_own ≡ own
           → StandFor state.claims its_own its.claim × AreOwn entries state.places place its_own
       pushed place its its_own its_at has place_is own_is =
-          let same : its ≡ entry = some_one (sym its_at ∙ ap (slice_get entries) place_is ∙ at) in
+          let same : its ≡ entry = same_Some its entry (sym its_at ∙ ap (slice_get entries) place_is ∙ at) in
           let both = stands (subst (Has used) place_is has) in (
             subst (λ (it : List ℕ). StandFor state.claims it its.claim) (sym own_is)
                 (subst (λ (it : Entry). StandFor state.claims own it.claim) (sym same) both.0),
@@ -231,7 +232,7 @@ module _ (case : Case) (entries : List Entry) (used : List Bool) (lines : List (
         pushed : (place : ℕ) (its : Entry) (its_own : List ℕ) → slice_get entries place ≡ Some its → place ≡ length lines → its_own ≡ own
             → StandFor (state.claims ++ entry.claim ∷ []) its_own its.claim × AreOwn entries (state.places ++ length lines ∷ []) place its_own
         pushed place its its_own its_at place_is own_same =
-            let same : its ≡ entry = some_one (sym its_at ∙ ap (slice_get entries) place_is ∙ at) in (
+            let same : its ≡ entry = same_Some its entry (sym its_at ∙ ap (slice_get entries) place_is ∙ at) in (
               subst (λ (it : List ℕ). StandFor (state.claims ++ entry.claim ∷ []) it its.claim) (sym own_same)
                   (subst (λ (it : Entry). StandFor (state.claims ++ entry.claim ∷ []) own it.claim) (sym same) own_stands.0),
               subst (λ (it : List ℕ). AreOwn entries (state.places ++ length lines ∷ []) place it) (sym own_same)

@@ -4,11 +4,12 @@ use Rattle.std.specs.List.{AllZip}
 use Rattle.std.proofs.lemmas.Bool.Decides.{nat_tests}
 use Rattle.std.proofs.lemmas.Option.{slice_get_within}
 use Rattle.esto_term.proofs.ListLemmas.{Contains-nil, Contains-cases, Contains-head, Contains-rest, Contains-flat, Contains-flat_from, Contains-map_from}
+use Rattle.esto_term.proofs.ZipLemmas.{zip_left, zip_weaker}
 use Rattle.esto_term.specs.Nesting.{greatest_u64}
 use Rattle.esto_term.specs.declared.term.Term.{Term}
 use Rattle.esto_semantics.specs.Facts.{terms_of}
 use Rattle.esto_semantics.specs.declared.fact.Fact.{Fact}
-use Rattle.esto_world_laws.proofs.LinkLemmas.{zip_weaker, zip_left, Linked-then, Linked-back, one_link}
+use Rattle.esto_world_laws.proofs.LinkLemmas.{Linked-then, Linked-back, one_link}
 use Rattle.esto_world_laws.specs.Derived.{Claims, IsNamed, IsEquality}
 use Rattle.esto_world_laws.specs.Matches.{IsLike, Fits, AreChosen}
 use Rattle.esto_world_laws.specs.Worlds.{Linked, here, along, back}

@@ -7,6 +7,7 @@ use Rattle.std.proofs.lemmas.Fmt.{decimal_by_steps, decimal_nonempty, decimal_di
 use Rattle.std.proofs.lemmas.List.{append_assoc, append-nil}
 use Rattle.std.proofs.lemmas.List.Elements.{All-nil, All-cons, All-head, All-append, All-push, All-weaker, All-from_recursion}
 use Rattle.std.proofs.lemmas.List.Splits.{slice_split_at, slice_split_none}
+use Rattle.std.proofs.lemmas.Option.{same_Some}
 use Rattle.esto_term.proofs.ListLemmas.{Contains-head, Contains-rest}
 use Rattle.esto_term.specs.Nesting.{greatest_u64}
 use Rattle.esto_list.specs.Text.{each_from, comma_before, numbers_text}
@@ -14,9 +15,6 @@ use Rattle.esto_cert.specs.Lines.{number_after, number_of, numbers_of, list_of, 
 use Rattle.esto_cert.specs.declared.line.Line.{Line}
 use Rattle.esto_cert.specs.declared.line.Line.TheVariants.{Expanded, Step, Match}
 use Rattle.esto_derive.specs.Printing.{after_commas, list_text, line_text, Fit, IsReadable, LinesAreReadBack}
-
-pub some_one : {A : Type 0} {one other : A} → Some one ≡ Some other → one ≡ other
-some_one same = cc
 
 -- ---- numbers
 
@@ -34,7 +32,7 @@ one_more value digit is fits =
 digit_more : (digits : List ℕ) (value number digit : ℕ) → number_after value digits ≡ Some number → digit < 10 → number * 10 + digit ≤ greatest_u64
     → number_after value (digits ++ (48 + digit) ∷ []) ≡ Some (number * 10 + digit)
 digit_more [] value number digit is small fits =
-    let same : value ≡ number = some_one is in
+    let same : value ≡ number = same_Some value number is in
     ap (λ (it : ℕ). number_after it ((48 + digit) ∷ [])) same ∙ one_more number digit small fits
 digit_more (byte ∷ digits) value number digit is small fits =
     by (nat_le 48 byte && (nat_le byte 57 && nat_le (value * 10 + (byte - 48)) greatest_u64)) is

@@ -2,7 +2,7 @@
 use Rattle.std.proofs.Common.{◌≡◌, ◌≢◌, inl, inr, ℕ, ◌<◌, ◌≤◌, List, length, take, drop, slice_get, Some, Contains, subst, sym, ap, ◌∙◌, arith, zero, suc, [], ◌∷◌}
 use Rattle.std.specs.List.{AllZip}
 use Rattle.std.proofs.lemmas.List.{length-map, length-take}
-use Rattle.std.proofs.lemmas.Option.{slice_get_within}
+use Rattle.std.proofs.lemmas.Option.{same_Some, slice_get_within}
 use Rattle.esto_term.proofs.ListLemmas.{Contains-nil, Contains-cases, Contains-head, Contains-rest, map_at}
 use Rattle.esto_term.specs.declared.term.Term.{Term}
 use Rattle.esto_constraint.specs.Constraints.{rule_of, rules_of}
@@ -21,7 +21,6 @@ use Rattle.esto_world_laws.specs.declared.entry.Reason.TheVariants.{Step, Equal}
 use Rattle.esto_cert.specs.Certificates.{made_at}
 use Rattle.esto_derive.specs.Writing.{terms_at}
 use Rattle.esto_derive.proofs.LoopLemmas.{terms_stated}
-use Rattle.esto_derive.proofs.TextLemmas.{some_one}
 use Rattle.esto_derive.proofs.WriteLemmas.{IsStep, step_of, long_enough, facts_are, named_before, stated_in_all}
 
 pub has_body : (rule : Rule) → IsRule rule → body_of rule ≢ []
@@ -62,7 +61,7 @@ module _ (entries : List Entry) (rules : List Constraint) (lines : List (List �
       rule_there = map_at rule_of rules number rule rule_at
 
       same : step.0 ≡ rule_of rule
-      same = some_one (sym step.1 ∙ rule_there)
+      same = same_Some step.0 (rule_of rule) (sym step.1 ∙ rule_there)
 
       same_body : body_of step.0 ≡ body
       same_body = ap body_of same ∙ sym body_is

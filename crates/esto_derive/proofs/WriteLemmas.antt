@@ -3,7 +3,9 @@ use Rattle.std.proofs.Common.{◌≡◌, ◌≢◌, inl, inr, ℕ, ◌+◌, ◌-
 use Rattle.std.specs.List.{AllZip}
 use Rattle.std.proofs.lemmas.List.{length-take, length-append}
 use Rattle.std.proofs.lemmas.List.Elements.{Contains-append_left, Contains-append_right, Contains-append_cases}
+use Rattle.std.proofs.lemmas.Option.{same_Some}
 use Rattle.esto_term.proofs.ListLemmas.{Contains-cases, Contains-flat, Contains-flat_from, Contains-head, Contains-rest, Contains-nil, thing_at}
+use Rattle.esto_term.proofs.ZipLemmas.{zip_left, zip_length, zip_weaker}
 use Rattle.esto_term.specs.Nesting.{greatest_u64}
 use Rattle.esto_term.specs.declared.term.Term.{Term}
 use Rattle.esto_semantics.specs.Facts.{terms_of}
@@ -12,7 +14,7 @@ use Rattle.esto_semantics.specs.Sets.{Has}
 use Rattle.esto_semantics.specs.declared.fact.Fact.{Fact}
 use Rattle.esto_views.specs.declared.expansion.ExpandedFact.{ExpandedFact}
 use Rattle.esto_world_laws.proofs.InductionLemmas.{taken_at}
-use Rattle.esto_world_laws.proofs.LinkLemmas.{zip_weaker, zip_left, zip_length, Linked-then, Linked-back}
+use Rattle.esto_world_laws.proofs.LinkLemmas.{Linked-then, Linked-back}
 use Rattle.esto_world_laws.specs.Derived.{Claims, IsNamed, IsUnion, IsEquality, IsChain, FollowsBy, Follows, AreDerived}
 use Rattle.esto_world_laws.specs.Matches.{IsLike, Fits, AreChosen, match_map}
 use Rattle.esto_world_laws.specs.Worlds.{Linked, here}
@@ -32,7 +34,6 @@ use Rattle.esto_derive.specs.declared.writing.Written.{Written}
 use Rattle.esto_derive.proofs.NamingLemmas.{are_named}
 use Rattle.esto_derive.proofs.ReasonLemmas.{behind_equal, fact_has_line}
 use Rattle.esto_derive.proofs.StateLemmas.{line_more, state_push}
-use Rattle.esto_derive.proofs.TextLemmas.{some_one}
 use Rattle.esto_derive.proofs.StepLemmas.{numbered_next, Linked-said, are_equalities, lines_link, matches, eqs, facts_fit, links_fit, facts_some}
 
 -- ---- what a step names
@@ -118,7 +119,7 @@ module _ (entries : List Entry) (rules : List Rule) (count number : ℕ) (places
     where
       apart : (place : ℕ) (fact : Fact Term) (s t : Term) → Claims (take count entries) place (Stated fact) → Claims (take count entries) place (Same s t) → ⊥
       apart place fact s t (entry, at, is) (other, other_at, other_is) =
-          let same : entry ≡ other = some_one (sym at ∙ other_at) in
+          let same : entry ≡ other = same_Some entry other (sym at ∙ other_at) in
           let wrong : Stated fact ≡ Same s t = sym is ∙ ap (λ (it : Entry). it.claim) same ∙ other_is in cc
 
   pub fits_by_links : Fits (Linked (IsNamed entries by.links)) (terms_of (body_of step.0)) (terms_of by.chosen)
@@ -276,7 +277,7 @@ module _ (case : Case) (entries : List Entry) (used : List Bool) (basis : IsBasi
               readable may (subst (λ (it : Reason). SaysReason entries state.places it its) (sym is) (at_place, _, _, refl, named)) new text count own_is
 
       pub step_goes : (rule : Rule) → slice_get case.rules number ≡ Some rule → StepGoes rule
-      step_goes rule rule_at = subst StepGoes (some_one (sym step.1 ∙ rule_at)) step_goes_on
+      step_goes rule rule_at = subst StepGoes (same_Some step.0 rule (sym step.1 ∙ rule_at)) step_goes_on
 
     module _ (places : List ℕ) (is : entry.reason ≡ Equal places) where
       chain_both : (place : ℕ) → Contains places place → (claim : Claim) → Claims entries place claim

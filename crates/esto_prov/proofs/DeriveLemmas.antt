@@ -3,6 +3,7 @@ use Rattle.std.proofs.Common.{◌≡◌, ◌≢◌, ◌⊎◌, ◌<◌, zero, su
 use Rattle.std.specs.List.{AllZip}
 use Rattle.esto_term.specs.declared.term.Term.{Term}
 use Rattle.esto_term.proofs.ListLemmas.{Contains-head, Contains-rest, thing_at}
+use Rattle.esto_term.proofs.ZipLemmas.{zip_left, zip_length, zip_right, zip_weaker}
 use Rattle.esto_semantics.specs.Facts.{terms_of}
 use Rattle.esto_semantics.specs.Rules.{Rule, body_of}
 use Rattle.esto_semantics.specs.declared.fact.Fact.{Fact}
@@ -16,7 +17,7 @@ use Rattle.esto_world_laws.specs.declared.entry.Entry.{Entry}
 use Rattle.esto_world_laws.specs.declared.entry.Reason.{Reason}
 use Rattle.esto_world_laws.specs.declared.entry.Reason.TheVariants as reason
 use Rattle.esto_world_laws.proofs.InductionLemmas.{taken_at}
-use Rattle.esto_world_laws.proofs.LinkLemmas.{Linked-more, zip_left, zip_length, zip_right, zip_weaker}
+use Rattle.esto_world_laws.proofs.LinkLemmas.{Linked-more}
 use Rattle.esto_prov.specs.Derivations.{AreChain, Derives, DerivationsDerive, FollowsFrom, HasReason, IsWhy}
 use Rattle.esto_prov.specs.Derivations.Derives.{given, by_rule, by_chain}
 use Rattle.esto_prov.specs.Derivations.IsWhy.{expanded, step, same}

@@ -1,5 +1,6 @@
 -- What `verify` answers where nothing is wrong with the catalogue's and the query's files.
 use Rattle.std.proofs.Common.{◌≡◌, ◌↔◌, ℕ, Bool, List, length, Option, Some, None, sym, ap, subst, ◌∙◌, inl, inr}
+use Rattle.std.proofs.lemmas.Option.{same_Some}
 use Rattle.esto_catalog.specs.declared.catalogue.Catalogue.{Catalogue}
 use Rattle.esto_certify.specs.Laws.{Certifies, IsChecked, IsVerified, SaysVerdict, VerifyChecksCertificates, VerifyIsOne, VerifySaysVerdicts}
 use Rattle.esto_certify.specs.Laws.IsChecked.{is_above, not_fetched, accepts, rejects}
@@ -28,16 +29,13 @@ use Rattle.esto_top.proofs.SayLemmas.{catalogue_opens, query_opens}
 
 -- ---- one outcome
 
-some_one : {A : Type 0} (one other : A) → Some one ≡ Some other → one ≡ other
-some_one one other is = cc
-
 some_none : {A : Type 0} (one : A) → None ≡ Some one → ⊥
 some_none one is = cc
 
 -- a word names one list of numbers, or none
 named_agree : (atoms : List ℕ) → AgreeCalmly ◌≡◌ (names_atoms atoms) (names_atoms atoms)
 named_agree atoms = judges_agree _ _ _ _ _ _
-    (λ numbers others here there. some_one numbers others (sym here ∙ there))
+    (λ numbers others here there. same_Some numbers others (sym here ∙ there))
     (λ said other_said caused other_caused here there. here.1 ∙ sym there.1)
     (λ numbers said caused here there. some_none numbers (sym there.0 ∙ here))
     (λ numbers said caused here there. some_none numbers (sym there.0 ∙ here))
@@ -59,12 +57,12 @@ module _ (files : Files) (catalogue_name query_name atoms numbers file : List �
   named_says Fact always = record {
     goes = λ reply goes.
         always.goes reply (subst (λ (it : List ℕ). (verify_course (Some files) catalogue_name query_name it file).goes reply)
-        (some_one _ _ (sym goes.1 ∙ named)) goes.2);
+        (same_Some _ _ (sym goes.1 ∙ named)) goes.2);
     stops = λ said caused stops. elim stops [
       | inl early ↦ absurd (some_none numbers (sym early.0 ∙ named))
       | inr late ↦
           always.stops said caused (subst (λ (it : List ℕ). (verify_course (Some files) catalogue_name query_name it file).stops said)
-          (some_one _ _ (sym late.1 ∙ named)) late.2)
+          (same_Some _ _ (sym late.1 ∙ named)) late.2)
     ];
   }
 
@@ -134,7 +132,7 @@ module _ (files : Files) (catalogue : Catalogue) (query : Query) (plan : Plan) (
   number_told : IsChecked files catalogue query plan numbers file said text → TellsNumber
   number_told (is_above asked above is line) number count = (
     λ tells. let one = above_one asked (length plan.atoms) number count (sym is ∙ tells) in (above ∙ ap Some one.0, sym one.1),
-    λ (other, counted). is ∙ (λ i. status.NoSuchNumber (some_one asked number (sym above ∙ other) i) (sym counted i)),
+    λ (other, counted). is ∙ (λ i. status.NoSuchNumber (same_Some asked number (sym above ∙ other) i) (sym counted i)),
   )
   number_told (not_fetched set is_set caused stop line) number count =
       none_above set is_set number count (unread_apart files file CERTIFICATE_LIMIT said number count 0 stop).0

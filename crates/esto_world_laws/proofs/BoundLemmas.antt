@@ -11,6 +11,7 @@ use Rattle.esto_term.specs.declared.term.Term.{Term, out-Term}
 use Rattle.esto_term.specs.declared.term.Term.TheVariants.{Const, Plain, Made, outs-Const}
 use Rattle.esto_term.proofs.ListLemmas.{Contains-head, Contains-rest, Contains-map, Contains-map_from, Contains-flat, Contains-at}
 use Rattle.esto_term.proofs.NestingLemmas.{nesting-Const, nesting-Plain, nesting-Made}
+use Rattle.esto_term.proofs.ZipLemmas.{zip_right}
 use Rattle.esto_semantics.specs.Facts.{Mentions, terms_of}
 use Rattle.esto_semantics.specs.Maps.{AreFlat, IsConstant, IsFixedBy}
 use Rattle.esto_semantics.specs.Queries.{ConjunctiveQuery}
@@ -33,7 +34,6 @@ use Rattle.esto_world_laws.specs.declared.entry.Claim.TheVariants.{Fact as State
 use Rattle.esto_world_laws.specs.declared.entry.Reason.{Reason}
 use Rattle.esto_world_laws.specs.declared.entry.Reason.TheVariants.{Expanded, Step, Equal}
 use Rattle.esto_world_laws.specs.declared.entry.Entry.{Entry}
-use Rattle.esto_world_laws.proofs.LinkLemmas.{zip_right}
 use Rattle.esto_world_laws.proofs.TakenLemmas.{taken-Const, taken_in}
 use Rattle.esto_world_laws.proofs.InductionLemmas.{all_derived}
 

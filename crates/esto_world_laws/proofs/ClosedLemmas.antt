@@ -9,6 +9,7 @@ use Rattle.esto_semantics.specs.Maps.{IsFixedBy, Keeps, SendsInto}
 use Rattle.esto_semantics.specs.Rules.{Rule, tuple, equality, denial, IsRule}
 use Rattle.esto_semantics.specs.declared.fact.Fact.{Fact}
 use Rattle.esto_term.proofs.ListLemmas.{place-from_Contains, Contains-head, Contains-rest}
+use Rattle.esto_term.proofs.ZipLemmas.{zip_append, zip_length, zip_weaker}
 use Rattle.esto_semantics.specs.Rules.{body_of}
 use Rattle.esto_world_laws.specs.Worlds.{InWorld, Linked, here, along, back, Reaches, IsMetBy, IsNoDenial}
 use Rattle.esto_world_laws.specs.Laws.{CompleteEntriesAreClosed}
@@ -17,7 +18,7 @@ use Rattle.esto_chase_laws.specs.Making.{extended}
 use Rattle.esto_world_laws.specs.Steps.{IsAsked, IsCovered}
 use Rattle.esto_world_laws.specs.declared.entry.Claim.{Claim}
 use Rattle.esto_world_laws.specs.declared.entry.Claim.TheVariants.{Fact as Stated, Same}
-use Rattle.esto_world_laws.proofs.LinkLemmas.{Linked-then, Linked-back, Linked-is, Linked-touching, rows_themselves, zip_append, zip_length, zip_weaker}
+use Rattle.esto_world_laws.proofs.LinkLemmas.{Linked-then, Linked-back, Linked-is, Linked-touching, rows_themselves}
 use Rattle.esto_semantics.proofs.CanonicalLemmas.{Mentions-terms_of}
 use Rattle.esto_world_laws.proofs.TakenLemmas.{taken-Const, taken_cases, substituted_has}
 use Rattle.esto_chase_laws.proofs.MakingLemmas.{extended-body, extended-keeps}

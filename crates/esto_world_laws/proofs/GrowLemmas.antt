@@ -9,6 +9,7 @@ use Rattle.esto_term.proofs.ListLemmas.{thing_at}
 use Rattle.esto_semantics.specs.Rules.{body_of}
 use Rattle.esto_views.specs.declared.expansion.ExpandedFact.{ExpandedFact}
 use Rattle.esto_term.proofs.ListLemmas.{at_left}
+use Rattle.esto_term.proofs.ZipLemmas.{zip_weaker}
 use Rattle.esto_world_laws.specs.Worlds.{InWorld, Linked}
 use Rattle.esto_world_laws.specs.Matches.{Touching, match_map, IsMatch, IsDirectMatch}
 use Rattle.esto_world_laws.specs.Steps.{IsCovered}
@@ -18,7 +19,7 @@ use Rattle.esto_world_laws.specs.declared.entry.Claim.TheVariants.{Fact as State
 use Rattle.esto_world_laws.specs.declared.entry.Reason.{Reason}
 use Rattle.esto_world_laws.specs.declared.entry.Reason.TheVariants.{Expanded, Step, Equal}
 use Rattle.esto_world_laws.specs.declared.entry.Entry.{Entry}
-use Rattle.esto_world_laws.proofs.LinkLemmas.{Linked-more, Linked-touching, Touching-more, zip_weaker}
+use Rattle.esto_world_laws.proofs.LinkLemmas.{Linked-more, Linked-touching, Touching-more}
 
 pub InWorld-more : (entries more : List Entry) (atoms : List Bool) → ((entry : Entry) → Contains entries entry → Contains more entry) → (claim : Claim)
     → InWorld entries atoms claim → InWorld more atoms claim

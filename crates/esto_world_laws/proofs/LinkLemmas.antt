@@ -1,10 +1,9 @@
 -- Links, and rows and facts that are one.
-use Rattle.std.proofs.Common.{◌≡◌, ◌++◌, List, [], ◌∷◌, map, length, refl, sym, ◌∙◌, inl, inr, Contains, subst, arith}
+use Rattle.std.proofs.Common.{◌≡◌, List, [], ◌∷◌, map, refl, sym, ◌∙◌, inl, inr, subst}
 use Rattle.std.specs.List.{AllZip}
 use Rattle.esto_term.specs.declared.term.Term.{Term}
 use Rattle.esto_semantics.specs.Facts.{image}
 use Rattle.esto_semantics.specs.declared.fact.Fact.{Fact}
-use Rattle.esto_term.proofs.ListLemmas.{Contains-nil, Contains-head, Contains-rest, Contains-cases}
 use Rattle.esto_world_laws.specs.Worlds.{Linked, here, along, back, AreOne}
 use Rattle.esto_world_laws.specs.Matches.{Touching}
 use Rattle.esto_world_laws.specs.declared.entry.Claim.{Claim}
@@ -71,49 +70,3 @@ pub Touching-back : (P : Claim → Type 0) → (s t : Term) → Touching P s t �
 Touching-back P s t (inl e) = inl (sym e)
 Touching-back P s t (inr (inl h)) = inr (inr h)
 Touching-back P s t (inr (inr h)) = inr (inl h)
-
--- ---- lists zipped
-
-pub zip_weaker : {X Y : Type 0} (R S : X → Y → Type 0) (xs : List X) (ys : List Y) → ((x : X) (y : Y) → Contains xs x → R x y → S x y) → AllZip R xs ys
-    → AllZip S xs ys
-zip_weaker R S [] [] f z = z
-zip_weaker R S [] (y ∷ ys) f z = absurd z
-zip_weaker R S (x ∷ xs) [] f z = absurd z
-zip_weaker R S (x ∷ xs) (y ∷ ys) f z = (f x y (Contains-head x xs) z.0, zip_weaker R S xs ys (λ a b c r. f a b (Contains-rest x xs a c) r) z.1)
-
-pub zip_append : {X Y : Type 0} (R : X → Y → Type 0) (xs more : List X) (ys others : List Y) → AllZip R xs ys → AllZip R more others
-    → AllZip R (xs ++ more) (ys ++ others)
-zip_append R [] more [] others a b = b
-zip_append R [] more (y ∷ ys) others a b = absurd a
-zip_append R (x ∷ xs) more [] others a b = absurd a
-zip_append R (x ∷ xs) more (y ∷ ys) others a b = (a.0, zip_append R xs more ys others a.1 b)
-
-pub zip_split : {X Y : Type 0} (R : X → Y → Type 0) (xs more : List X) (ys others : List Y) → length xs ≡ length ys → AllZip R (xs ++ more) (ys ++ others)
-    → AllZip R xs ys × AllZip R more others
-zip_split R [] more [] others l a = (tt, a)
-zip_split R [] more (y ∷ ys) others l a = absurd (omega (arith, l))
-zip_split R (x ∷ xs) more [] others l a = absurd (omega (arith, l))
-zip_split R (x ∷ xs) more (y ∷ ys) others l a = let rest = zip_split R xs more ys others (omega (arith, l)) a.1 in ((a.0, rest.0), rest.1)
-
-pub zip_length : {X Y : Type 0} (R : X → Y → Type 0) (xs : List X) (ys : List Y) → AllZip R xs ys → length xs ≡ length ys
-zip_length R [] [] z = refl
-zip_length R [] (y ∷ ys) z = absurd z
-zip_length R (x ∷ xs) [] z = absurd z
-zip_length R (x ∷ xs) (y ∷ ys) z = let rest = zip_length R xs ys z.1 in omega (arith, rest)
-
-pub zip_left : {X Y : Type 0} (R : X → Y → Type 0) (xs : List X) (ys : List Y) → AllZip R xs ys → (x : X) → Contains xs x → (y : Y) × Contains ys y × R x y
-zip_left R [] ys z x c = absurd (Contains-nil x c)
-zip_left R (x' ∷ xs) [] z x c = absurd z
-zip_left {X} {Y} R (x' ∷ xs) (y ∷ ys) z x c = elim (Contains-cases x' xs x c) [
-  | inl e ↦ (y, Contains-head y ys, subst (λ (w : X). R w y) e z.0)
-  | inr t ↦ let r = zip_left R xs ys z.1 x t in (r.0, Contains-rest y ys r.0 r.1, r.2)
-]
-
-pub zip_right : {X Y : Type 0} (R : X → Y → Type 0) (xs : List X) (ys : List Y) → AllZip R xs ys → (y : Y) → Contains ys y → (x : X) × Contains xs x × R x y
-zip_right R [] [] z y c = absurd (Contains-nil y c)
-zip_right R [] (y' ∷ ys) z y c = absurd z
-zip_right R (x ∷ xs) [] z y c = absurd z
-zip_right {X} {Y} R (x ∷ xs) (y' ∷ ys) z y c = elim (Contains-cases y' ys y c) [
-  | inl e ↦ (x, Contains-head x xs, subst (λ (w : Y). R x w) e z.0)
-  | inr t ↦ let r = zip_right R xs ys z.1 y t in (r.0, Contains-rest x xs r.0 r.1, r.2)
-]

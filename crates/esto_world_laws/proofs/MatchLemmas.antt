@@ -7,6 +7,7 @@ use Rattle.esto_semantics.specs.Maps.{IsFixedBy}
 use Rattle.esto_semantics.specs.Rules.{Rule}
 use Rattle.esto_semantics.specs.declared.fact.Fact.{Fact}
 use Rattle.esto_term.proofs.ListLemmas.{Contains-head, Contains-rest}
+use Rattle.esto_term.proofs.ZipLemmas.{zip_weaker}
 use Rattle.esto_views.specs.declared.expansion.ExpandedFact.{ExpandedFact}
 use Rattle.esto_world_laws.specs.Worlds.{InWorld, Linked}
 use Rattle.esto_world_laws.specs.Matches.{Touching, match_map}
@@ -16,7 +17,7 @@ use Rattle.esto_world_laws.specs.declared.entry.Claim.{Claim}
 use Rattle.esto_world_laws.specs.declared.entry.Reason.{Reason}
 use Rattle.esto_world_laws.specs.declared.entry.Reason.TheVariants.{Expanded, Step, Equal}
 use Rattle.esto_world_laws.specs.declared.entry.Entry.{Entry}
-use Rattle.esto_world_laws.proofs.LinkLemmas.{Linked-then, Linked-touching, zip_weaker}
+use Rattle.esto_world_laws.proofs.LinkLemmas.{Linked-then, Linked-touching}
 use Rattle.esto_world_laws.proofs.TakenLemmas.{taken-Const}
 use Rattle.esto_world_laws.proofs.GrowLemmas.{match-from_direct}
 use Rattle.esto_world_laws.proofs.ClosedLemmas.{touching, choose, direct, at_body}

@@ -3,6 +3,7 @@ use Rattle.std.proofs.Common.{◌≡◌, ◌≢◌, ◌⊎◌, inl, inr, ℕ, Bo
 use Rattle.esto_term.specs.declared.term.Term.{Term}
 use Rattle.esto_term.specs.declared.term.Term.TheVariants.{Const, Plain}
 use Rattle.esto_term.proofs.ListLemmas.{Contains-head, Contains-map, Contains-map_from}
+use Rattle.esto_term.proofs.ZipLemmas.{zip_left, zip_right}
 use Rattle.esto_semantics.specs.Maps.{IsFixedBy, Keeps, SendsInto}
 use Rattle.esto_semantics.specs.Rules.{Rule, AreRules}
 use Rattle.esto_semantics.specs.declared.fact.Fact.{Fact}
@@ -14,7 +15,7 @@ use Rattle.esto_world_laws.specs.Worlds.{InWorld, Linked, here, along, back, Rea
 use Rattle.esto_world_laws.specs.declared.entry.Claim.{Claim}
 use Rattle.esto_world_laws.specs.declared.entry.Claim.TheVariants.{Fact as Stated, Same}
 use Rattle.esto_world_laws.specs.declared.entry.Entry.{Entry}
-use Rattle.esto_world_laws.proofs.LinkLemmas.{Linked-back, Linked-then, zip_left, zip_right}
+use Rattle.esto_world_laws.proofs.LinkLemmas.{Linked-back, Linked-then}
 use Rattle.esto_world_laws.proofs.RestLemmas.{claims_rest}
 
 -- a term that is linked with another is it, or some claim is about it

@@ -5,6 +5,7 @@ use Rattle.std.proofs.lemmas.List.Elements.{Contains-append_left}
 use Rattle.esto_term.specs.declared.term.Term.{Term}
 use Rattle.esto_term.specs.declared.term.Term.TheVariants.{Const, Plain, Made}
 use Rattle.esto_term.proofs.ListLemmas.{Contains-at, Contains-head, Contains-map_from, Contains-rest}
+use Rattle.esto_term.proofs.ZipLemmas.{zip_right}
 use Rattle.esto_semantics.specs.Facts.{Mentions, terms_of}
 use Rattle.esto_semantics.specs.Maps.{IsConstant, IsFixedBy}
 use Rattle.esto_semantics.specs.Rules.{Rule, tuple, equality, denial, body_of, IsRule, AreRules}
@@ -26,7 +27,6 @@ use Rattle.esto_world_laws.specs.declared.entry.Reason.{Reason}
 use Rattle.esto_world_laws.specs.declared.entry.Reason.TheVariants.{Expanded, Step, Equal}
 use Rattle.esto_world_laws.proofs.BoundLemmas.{lengths}
 use Rattle.esto_world_laws.proofs.InductionLemmas.{all_derived}
-use Rattle.esto_world_laws.proofs.LinkLemmas.{zip_right}
 use Rattle.esto_world_laws.proofs.TakenLemmas.{taken-Const, taken_in}
 
 module _ (expanded : List ExpandedFact) (rules : List Rule) (are_rules : AreRules rules) where

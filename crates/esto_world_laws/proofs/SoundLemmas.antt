@@ -7,6 +7,7 @@ use Rattle.esto_term.specs.declared.term.Term.{Term}
 use Rattle.esto_term.specs.declared.term.Term.TheVariants.{Const, Plain, Made}
 use Rattle.esto_term.proofs.ListLemmas.{Contains-nil, Contains-head, Contains-rest, Contains-cases, Contains-map, Contains-at}
 use Rattle.esto_term.proofs.ListLemmas.{map_agree, map_then, agree-from_map}
+use Rattle.esto_term.proofs.ZipLemmas.{zip_split}
 use Rattle.esto_semantics.specs.Facts.{Database, image, Mentions, terms_of}
 use Rattle.esto_semantics.specs.Followed.{IsGiven, IsFollowedInto}
 use Rattle.esto_semantics.specs.Maps.{AreFlat, IsFlat, Keeps, Sends}
@@ -30,7 +31,7 @@ use Rattle.esto_world_laws.specs.declared.entry.Claim.TheVariants.{Fact as State
 use Rattle.esto_world_laws.specs.declared.entry.Reason.{Reason}
 use Rattle.esto_world_laws.specs.declared.entry.Reason.TheVariants.{Expanded, Step, Equal}
 use Rattle.esto_world_laws.specs.declared.entry.Entry.{Entry}
-use Rattle.esto_world_laws.proofs.LinkLemmas.{Linked-respects, facts_one, zip_split}
+use Rattle.esto_world_laws.proofs.LinkLemmas.{Linked-respects, facts_one}
 use Rattle.esto_world_laws.proofs.TakenLemmas.{taken-Const}
 use Rattle.esto_world_laws.proofs.InductionLemmas.{all_derived}
 use Rattle.esto_world_laws.proofs.ExtensionLemmas.{frontier_head, chosen_extension, chosen_extension-is, choice_of, choice-tuple, assigned, assigned-Const, assigned-Plain, assigned-Made}

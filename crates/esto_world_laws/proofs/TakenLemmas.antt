@@ -6,11 +6,11 @@ use Rattle.esto_term.specs.declared.term.Term.{Term, out-Term}
 use Rattle.esto_term.specs.declared.term.Term.TheVariants.{Const, Plain, Made, outs-Const, outs-Plain, outs-Made}
 use Rattle.esto_semantics.specs.Maps.{IsConstant}
 use Rattle.esto_term.proofs.ListLemmas.{Contains-nil, Contains-head, Contains-rest, Contains-cases, map_agree}
+use Rattle.esto_term.proofs.ZipLemmas.{zip_append, zip_split}
 use Rattle.esto_term.specs.Order.{same_term}
 use Rattle.esto_semantics.proofs.TermLemmas.{term_cases, same_term-Decides}
 use Rattle.esto_views.specs.Spreads.{substituted}
 use Rattle.esto_world_laws.specs.Matches.{unless_constant, taken, Fits}
-use Rattle.esto_world_laws.proofs.LinkLemmas.{zip_append, zip_split}
 
 -- a constant meets itself first; of every other term the first place tells
 pub taken-Const : (from to : List Term) (text : List ℕ) → taken from to (Const text) ≡ Const text

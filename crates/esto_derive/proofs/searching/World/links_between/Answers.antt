@@ -1,7 +1,7 @@
 use Rattle.std.proofs.Common.{length, Contains, refl, subst, arith}
 use Rattle.std.proofs.lemmas.Option.{slice_get_read}
 use Rattle.esto_term.proofs.ListLemmas.{Contains-nil}
-use Rattle.esto_world_laws.proofs.LinkLemmas.{zip_length}
+use Rattle.esto_term.proofs.ZipLemmas.{zip_length}
 use Rattle.esto_world_laws.specs.Derived.{IsNamed}
 use Rattle.esto_world_laws.specs.Worlds.{InWorld, Linked}
 use Rattle.esto_derive.proofs.FoundLemmas.{related_more, related_all, named_more}
