@@ -12,6 +12,7 @@ use Rattle.esto_run.specs.Laws.{UnionsAnswerOverFiles}
 use Rattle.esto_semantics.specs.Containment.{IsSatisfiable}
 use Rattle.esto_semantics.specs.Queries.{ConjunctiveQuery}
 use Rattle.esto_term.proofs.ListLemmas.{Contains-at, Contains-filter, Contains-filter_from, Contains-map}
+use Rattle.esto_term.proofs.ZipLemmas.{zip_left, zip_right}
 use Rattle.esto_union.specs.Laws.{ArePicks, IsPickOf, PicksAnswerUnion, PicksAreRewriting}
 use Rattle.esto_views.specs.Fragments.{views_of}
 use Rattle.esto_disjuncts.specs.Members.{AreMembersOf, IsMemberOf, has_plan}
@@ -19,7 +20,6 @@ use Rattle.esto_disjuncts.specs.Run.{AreChosen, IsChosenOf}
 use Rattle.esto_disjuncts.specs.RunLaws.{ChosenAreRewriting, RunsAnswerUnions}
 use Rattle.esto_disjuncts.specs.declared.members.Member.{Member}
 use Rattle.esto_disjuncts.specs.declared.members.Member.TheVariants.{Planned, Clashed}
-use Rattle.esto_disjuncts.proofs.ZipLemmas.{zip_left, zip_right}
 
 module _ (form : PlanHasForm) (receives : PlanReceivesUnions) (satisfiable : PlanTellsAnswers) (unsatisfiable : ClashExcludesAnswers)
     (catalogue : Catalogue) (queries : List Query) (number : Option ℕ) where
@@ -58,9 +58,9 @@ module _ (form : PlanHasForm) (receives : PlanReceivesUnions) (satisfiable : Pla
     of_member : (other : ConjunctiveQuery) → Contains others other
         → (query : Query) × (member : Member) × Contains queries query × IsMemberOf catalogue queries query member × IsChosenOf number member other
     of_member other inside =
-        let (member, kept, from) = zip_left (IsChosenOf number) (filter has_plan members) others chosen other inside in
+        let (member, kept, from) = zip_right (IsChosenOf number) (filter has_plan members) others chosen other inside in
         let found = Contains-filter_from has_plan members member kept in
-        let (query, in_union, is) = zip_left (IsMemberOf catalogue queries) queries members are member found.0 in
+        let (query, in_union, is) = zip_right (IsMemberOf catalogue queries) queries members are member found.0 in
         (query, member, in_union, is, from)
 
     pub are_picks : ArePicks catalogue queries others
@@ -68,8 +68,8 @@ module _ (form : PlanHasForm) (receives : PlanReceivesUnions) (satisfiable : Pla
       picked = λ other inside.
           let (query, member, in_union, is, from) = of_member other inside in (query, in_union, pick_of query member other is from);
       each = λ query in_union answers.
-          let (member, among, is) = zip_right (IsMemberOf catalogue queries) queries members are query in_union in
-          let (other, inside, from) = zip_right (IsChosenOf number) (filter has_plan members) others chosen member
+          let (member, among, is) = zip_left (IsMemberOf catalogue queries) queries members are query in_union in
+          let (other, inside, from) = zip_left (IsChosenOf number) (filter has_plan members) others chosen member
           (Contains-filter has_plan members member among (plan_of query member is answers)) in
           (other, inside, pick_of query member other is from);
     }

@@ -17,6 +17,7 @@ use Rattle.esto_run.specs.Picks.{candidate_of}
 use Rattle.esto_run.specs.declared.picks.Pick.{Pick}
 use Rattle.esto_semantics.specs.Listed.{candidate}
 use Rattle.esto_term.proofs.ListLemmas.{Contains-cases, Contains-nil}
+use Rattle.esto_term.proofs.ZipLemmas.{zip_append}
 use Rattle.esto_views.specs.Plans.{plan_query}
 use Rattle.esto_views.specs.declared.plan.Plan.{Plan}
 use Rattle.esto_disjuncts.specs.Members.{OneIsEmpty, has_plan}
@@ -158,13 +159,6 @@ only_wants items number refusal has (is_free want) = want
 only_wants items number refusal has (refused because (list_is_empty none is)) = let some = has.some in absurd (omega (arith, some, ap length none))
 only_wants items number refusal has (refused because (number_is_above asked asks some less is)) =
     let le = has.within asked asks in absurd (omega (arith, le, less))
-
-zip_append : {A B : Type 0} (R : A → B → Type 0) (xs more : List A) (ys others : List B) → AllZip R xs ys → AllZip R more others
-    → AllZip R (xs ++ more) (ys ++ others)
-zip_append R [] more [] others zip too = too
-zip_append R [] more (y ∷ ys) others zip too = absurd zip
-zip_append R (x ∷ xs) more [] others zip too = absurd zip
-zip_append R (x ∷ xs) more (y ∷ ys) others (here, zip) too = (here, zip_append R xs more ys others zip too)
 
 pub picks_next : (members : List Member) (number : Option ℕ) (index : ℕ) (member : Member) (old new : List Pick) → index < length members
     → member ≡ get_or members index member → AddsPick number member old new → ArePicksOf number (take index members) old

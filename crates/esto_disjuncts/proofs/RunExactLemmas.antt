@@ -36,6 +36,7 @@ use Rattle.esto_semantics.specs.declared.fact.Value.{Value}
 use Rattle.esto_semantics.specs.declared.fact.Value.TheVariants.{Text, Node}
 use Rattle.esto_stores.specs.Rows.{Row}
 use Rattle.esto_term.proofs.ListLemmas.{Contains-filter, Contains-flat, Contains-flat_from, Contains-map, Contains-map_from}
+use Rattle.esto_term.proofs.ZipLemmas.{zip_left}
 use Rattle.esto_term.specs.declared.term.Term.{Term}
 use Rattle.esto_union.specs.Unions.{queries_of}
 use Rattle.esto_views.specs.Fragments.{views_of}
@@ -52,7 +53,6 @@ use Rattle.esto_disjuncts.specs.declared.members.Member.{Member}
 use Rattle.esto_disjuncts.specs.declared.members.Member.TheVariants.{Planned}
 use Rattle.esto_disjuncts.proofs.ExactLemmas.{first_clash, have_answers, have_plan, one_plan}
 use Rattle.esto_disjuncts.proofs.RunOneLemmas.{all_one, never_refused, refusal_one, refusal_there}
-use Rattle.esto_disjuncts.proofs.ZipLemmas.{zip_right}
 
 -- ---- the text
 
@@ -217,7 +217,7 @@ themselves (query ∷ queries) = (record { head = refl; body = refl; names = ref
 -- where sets are chosen, no list is empty
 none_empty : (number : Option ℕ) (members : List Member) (others : List ConjunctiveQuery) → AreChosen number members others → ¬ (OneIsEmpty members)
 none_empty number members others chosen (plan, inside) =
-    let (other, among, (item, (place, is_place, there), same)) = zip_right (IsChosenOf number) (filter has_plan members) others chosen (Planned plan [])
+    let (other, among, (item, (place, is_place, there), same)) = zip_left (IsChosenOf number) (filter has_plan members) others chosen (Planned plan [])
     (Contains-filter has_plan members (Planned plan []) inside refl) in
     none-some item there
 

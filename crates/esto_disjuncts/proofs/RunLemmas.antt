@@ -31,6 +31,7 @@ use Rattle.esto_semantics.specs.declared.fact.Fact.{Fact}
 use Rattle.esto_stores.specs.Rows.{Row}
 use Rattle.esto_term.specs.declared.term.Term.{Term}
 use Rattle.esto_term.proofs.ListLemmas.{Contains-at, Contains-filter_from, Contains-flat, Contains-flat_from, Contains-map, Contains-map_from}
+use Rattle.esto_term.proofs.ZipLemmas.{zip_right}
 use Rattle.esto_union.specs.Unions.{IsListedIn}
 use Rattle.esto_views.specs.Fragments.{patterns_of}
 use Rattle.esto_views.specs.Plans.{IsPlanOver, fact_of, plan_query}
@@ -42,7 +43,6 @@ use Rattle.esto_disjuncts.specs.Picking.{ArePicksOf, IsPickFrom, IsPickOf}
 use Rattle.esto_disjuncts.specs.Run.{AreChosen, IsNoRows, IsUnionRunText, chooses_each, ends_members, runs_chosen, runs_end, runs_members, runs_union}
 use Rattle.esto_disjuncts.specs.declared.members.Member.{Member}
 use Rattle.esto_disjuncts.specs.declared.members.Member.TheVariants.{Planned, Clashed}
-use Rattle.esto_disjuncts.proofs.ZipLemmas.{zip_left}
 
 -- ---- picks can be run
 
@@ -82,9 +82,9 @@ module _ (form : PlanHasForm) (over : PlanIsOver) (catalogue : Catalogue) (queri
       → ArePicksOf number members picks → (pick : Pick) → Contains picks pick
       → (query : Query) × Contains queries query × IsRunnable catalogue.fragments pick × (length pick.plan.now.head ≡ length query.head)
   of_member members number picks are picked pick inside =
-      let (member, kept, from) = zip_left (IsPickOf number) (filter has_plan members) picks picked pick inside in
+      let (member, kept, from) = zip_right (IsPickOf number) (filter has_plan members) picks picked pick inside in
       let found = Contains-filter_from has_plan members member kept in
-      let (query, in_union, is) = zip_left (IsMemberOf catalogue queries) queries members are member found.0 in
+      let (query, in_union, is) = zip_right (IsMemberOf catalogue queries) queries members are member found.0 in
       let both = pick_of_member query member is number pick from in
       (query, in_union, both.0, both.1)
 

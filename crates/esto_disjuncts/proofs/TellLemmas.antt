@@ -13,6 +13,7 @@ use Rattle.esto_semantics.specs.Access.{Patterns}
 use Rattle.esto_semantics.specs.Queries.{ConjunctiveQuery}
 use Rattle.esto_semantics.specs.Rules.{Rule}
 use Rattle.esto_term.proofs.ListLemmas.{Contains-cases, Contains-head, Contains-map, Contains-map_from, Contains-nil, Contains-rest}
+use Rattle.esto_term.proofs.ZipLemmas.{zip_right, zip_weaker}
 use Rattle.esto_union.specs.Unions.{queries_of}
 use Rattle.esto_views.specs.Fragments.{patterns_of, views_of}
 use Rattle.esto_views.specs.Plans.{plan_query}
@@ -22,7 +23,6 @@ use Rattle.esto_disjuncts.specs.Laws.{EmptyListsAreTold, MembersAreCores, Member
 use Rattle.esto_disjuncts.specs.Members.{AreMembersOf, IsMemberOf, OneIsEmpty}
 use Rattle.esto_disjuncts.specs.declared.members.Member.{Member}
 use Rattle.esto_disjuncts.specs.declared.members.Member.TheVariants.{Planned, Clashed}
-use Rattle.esto_disjuncts.proofs.ZipLemmas.{zip_left, zip_more}
 
 -- the laws by which members tell of queries and rewritings
 pub record TellLaws : Type 0 where
@@ -120,7 +120,7 @@ module _ (laws : TellLaws) (catalogue : Catalogue) (queries : List Query) where
   empty : (members : List Member) → AreMembersOf catalogue queries members → OneIsEmpty members ↔ HasNoRewriting catalogue queries
   empty members are = (
     λ (plan, inside).
-        let (query, in_union, is) = zip_left (IsMemberOf catalogue queries) queries members are (Planned plan []) inside in
+        let (query, in_union, is) = zip_right (IsMemberOf catalogue queries) queries members are (Planned plan []) inside in
         laws.excludes rules views patterns (queries_of queries) (empty_list query plan in_union is),
     λ none. elim (all_answered queries members are) [
       | inl all ↦ (let choice = laws.exists rules views patterns (queries_of queries) (λ other inside.
@@ -134,19 +134,22 @@ module _ (laws : TellLaws) (catalogue : Catalogue) (queries : List Query) where
 module _ (laws : TellLaws) where
   pub members_tell : MembersTellSatisfiable
   members_tell catalogue queries members are =
-      zip_more (IsMemberOf catalogue queries) (TellsSatisfiable catalogue) (tells laws catalogue queries) queries members are
+      zip_weaker (IsMemberOf catalogue queries) (TellsSatisfiable catalogue) queries members
+          (λ query member _ is. tells laws catalogue queries query member is) are
 
   pub members_universal : MembersAreUniversal
   members_universal catalogue queries members are =
-      zip_more (IsMemberOf catalogue queries) (HasUniversalPlan catalogue) (universal laws catalogue queries) queries members are
+      zip_weaker (IsMemberOf catalogue queries) (HasUniversalPlan catalogue) queries members
+          (λ query member _ is. universal laws catalogue queries query member is) are
 
   pub members_cored : MembersAreCores
   members_cored catalogue queries members are =
-      zip_more (IsMemberOf catalogue queries) (HasOnlyCore catalogue) (cored laws catalogue queries) queries members are
+      zip_weaker (IsMemberOf catalogue queries) (HasOnlyCore catalogue) queries members
+          (λ query member _ is. cored laws catalogue queries query member is) are
 
   pub members_cover : MembersCoverUnions
   members_cover catalogue queries members are member inside =
-      let (query, in_union, is) = zip_left (IsMemberOf catalogue queries) queries members are member inside in
+      let (query, in_union, is) = zip_right (IsMemberOf catalogue queries) queries members are member inside in
       covers laws catalogue queries member query in_union is
 
   pub empty_told : EmptyListsAreTold

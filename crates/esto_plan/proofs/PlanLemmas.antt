@@ -5,6 +5,7 @@ use Rattle.std.proofs.lemmas.Bool.{cases_lt}
 use Rattle.std.proofs.lemmas.List.{append_assoc, append-nil, length-take, take_more, take_all, drop_more, drop_all, map_push, get_or_past}
 use Rattle.std.proofs.lemmas.List.Elements.{Contains-append_left, Contains-append_right, Contains-push, Contains-push_cases}
 use Rattle.std.proofs.lemmas.Option.{same_Some, slice_get_within, get_or_from_slice_get}
+use Rattle.std.proofs.lemmas.Slice.Zip.{all_zipped_more}
 use Rattle.esto_term.specs.declared.term.Term.{Term}
 use Rattle.esto_term.specs.declared.term.Term.TheVariants.{Const}
 use Rattle.esto_semantics.specs.Maps.{IsFixedBy}
@@ -234,14 +235,6 @@ pub known_not_new : (bound : List Term) (term : Term) → IsKnown bound term →
 known_not_new bound term (inl constant) new = new.variable constant
 known_not_new bound term (inr among) new = new.absent (Contains-append_left bound [] term among)
 
-zip_push : (texts : List (List ℕ)) (bound terms : List Term) (sources : List Source) (term : Term) (source : Source)
-    → AllZip (IsSource texts bound) terms sources → IsSource texts bound term source
-    → AllZip (IsSource texts bound) (terms ++ term ∷ []) (sources ++ source ∷ [])
-zip_push texts bound [] [] term source all last = (last, tt)
-zip_push texts bound [] (_ ∷ sources) term source all last = absurd all
-zip_push texts bound (_ ∷ terms) [] term source all last = absurd all
-zip_push texts bound (first ∷ terms) (own ∷ sources) term source all last = (all.0, zip_push texts bound terms sources term source all.1 last)
-
 pub head_more : (old texts : List (List ℕ)) (bound items : List Term) (sources new : List Source) (count : ℕ) (term : Term) (source : Source) → Grows old texts
     → count < length items → term ≡ get_or items count term
     → AllZip (IsSource old bound) (take count items) sources → IsSource texts (bound ++ []) term source → new ≡ sources ++ source ∷ []
@@ -249,7 +242,7 @@ pub head_more : (old texts : List (List ℕ)) (bound items : List Term) (sources
 head_more old texts bound items sources new count term source grown below is all last more =
     subst (λ them. AllZip (IsSource texts bound) them new) (sym (take_more items count term below ∙ ap (λ it. take count items ++ it ∷ []) (sym is)))
     (subst (AllZip (IsSource texts bound) (take count items ++ term ∷ [])) (sym more)
-    (zip_push texts bound (take count items) sources term source (head_grows old texts bound (take count items) sources grown all)
+    (all_zipped_more (IsSource texts bound) (take count items) sources term source (head_grows old texts bound (take count items) sources grown all)
     (subst (λ them. IsSource texts them term source) (append-nil bound) last)))
 
 -- ---- atoms

@@ -3,6 +3,7 @@ use Rattle.std.proofs.Common.{◌≡◌, ℕ, suc, ◌+◌, ◌<◌, ◌≤◌, 
 use Rattle.std.specs.Prelude.{IsUtf8, Contains, slice_get, replicate}
 use Rattle.std.specs.List.{AllByRecursion, AllZip}
 use Rattle.std.proofs.lemmas.List.{length-append, length-map, length-replicate}
+use Rattle.std.proofs.lemmas.Slice.Zip.{AllZip-long}
 use Rattle.esto_term.proofs.ListLemmas.{Contains-map_from}
 use Rattle.esto_docmodel.specs.DocumentFacts.{DocFact, root, field, item, value, below, kind, row_of, flat}
 use Rattle.esto_docmodel.specs.Encodings.{end, step_atoms, used, atoms, pattern_atoms}
@@ -32,12 +33,6 @@ use Rattle.esto_read.proofs.Utf8Lemmas.{said_utf8, text_inside_utf8, name_token,
 
 -- ---- so many atoms
 
-zip_length : {A B : Type 0} → (R : A → B → Type 0) (xs : List A) (ys : List B) → AllZip R xs ys → length ys ≡ length xs
-zip_length R [] [] h = refl
-zip_length R [] (y ∷ ys) h = absurd h
-zip_length R (x ∷ xs) [] h = absurd h
-zip_length R (x ∷ xs) (y ∷ ys) h = ap suc (zip_length R xs ys h.1)
-
 step_count : (steps : List Step) (v next : ℕ) → length (step_atoms steps v next) ≡ length steps
 step_count [] v next = refl
 step_count (s ∷ steps) v next = ap suc (step_count steps next (suc next))
@@ -49,14 +44,14 @@ module _ (bytes : List ℕ) where
   atoms_count before (AndEntry (Value path token) others) (holds steps term rest) after (between, z, t, more) v next =
       let later = atoms_count between others rest after more v (next + length steps) in
       let whole = length-append (step_atoms steps v next) (value (Plain (end steps v next)) term ∷ atoms rest v (next + length steps)) in
-      omega (arith, whole, later, step_count steps v next, zip_length (IsStepOf bytes) path steps z)
+      omega (arith, whole, later, step_count steps v next, AllZip-long (IsStepOf bytes) path steps z)
   atoms_count before (AndEntry (Nested path entries) others) (group steps inner rest) after (between, z, g, more) v next =
       let inside = atoms_count before entries inner between g (end steps v next) (next + length steps) in
       let later = atoms_count between others rest after more v ((next + length steps) + used inner) in
       let whole = length-append (step_atoms steps v next)
       (atoms inner (end steps v next) (next + length steps) ++ atoms rest v ((next + length steps) + used inner)) in
       let behind = length-append (atoms inner (end steps v next) (next + length steps)) (atoms rest v ((next + length steps) + used inner)) in
-      omega (arith, whole, behind, inside, later, step_count steps v next, zip_length (IsStepOf bytes) path steps z)
+      omega (arith, whole, behind, inside, later, step_count steps v next, AllZip-long (IsStepOf bytes) path steps z)
   atoms_count before _ _ after h v next = absurd h
 
   pub pattern_count : (before : List Name) (base : ℕ) (es : EntryTrees) (own : List (Fact Term)) (after : List Name)

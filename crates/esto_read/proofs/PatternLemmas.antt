@@ -4,6 +4,7 @@ use Rattle.std.specs.Prelude.{replicate}
 use Rattle.std.specs.List.{AllZip}
 use Rattle.std.proofs.Math.Seq.{drop-cons}
 use Rattle.std.proofs.lemmas.List.{take_more, map-append, drop_all, append-nil, length-append, length-replicate, replicate_more}
+use Rattle.std.proofs.lemmas.Slice.Zip.{all_zipped_more}
 use Rattle.esto_docmodel.specs.Patterns.{Entries, done}
 use Rattle.esto_docmodel.specs.Shapes.{More, chain, entry_shape, entries_of as pattern_of}
 use Rattle.esto_docmodel.specs.declared.pattern.Entry.{Entry}
@@ -128,17 +129,10 @@ step_stands F (Field token ∷ steps) (suc n) d lt h = step_stands F steps n d (
 step_stands F (Item ∷ steps) (suc n) d lt h = step_stands F steps n d (omega arith) h
 step_stands F (Below ∷ steps) (suc n) d lt h = step_stands F steps n d (omega arith) h
 
-pub zip_push : {A B : Type 0} → (R : A → B → Type 0) (xs : List A) (ys : List B) (x : A) (y : B) → AllZip R xs ys → R x y
-    → AllZip R (xs ++ x ∷ []) (ys ++ y ∷ [])
-zip_push R [] [] x y h r = (r, tt)
-zip_push R [] (b ∷ ys) x y h r = absurd h
-zip_push R (a ∷ xs) [] x y h r = absurd h
-zip_push R (a ∷ xs) (b ∷ ys) x y h r = (h.0, zip_push R xs ys x y h.1 r)
-
 pub path_more : {A B : Type 0} → (R : A → B → Type 0) (steps : List A) (n : ℕ) (path : List B) (d : A) (y : B) → n < length steps
     → AllZip R (take n steps) path → R (get_or steps n d) y → AllZip R (take (n + 1) steps) (path ++ y ∷ [])
 path_more {A} {B} R steps n path d y lt h r =
-    subst (λ (l : List A). AllZip R l (path ++ y ∷ [])) (sym (take_more steps n d lt)) (zip_push R (take n steps) path (get_or steps n d) y h r)
+    subst (λ (l : List A). AllZip R l (path ++ y ∷ [])) (sym (take_more steps n d lt)) (all_zipped_more R (take n steps) path (get_or steps n d) y h r)
 
 -- ---- variables without a name
 

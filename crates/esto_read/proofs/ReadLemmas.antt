@@ -1,5 +1,5 @@
 -- Queries from their parts.
-use Rattle.std.proofs.Common.{IsUtf8, zero, suc, take, get_or, ◌≡◌, ◌≢◌, ℕ, ◌<◌, ◌≤◌, inl, inr, List, [], ◌∷◌, length, Some, refl, sym, ap, subst, ◌∙◌, arith}
+use Rattle.std.proofs.Common.{IsUtf8, take, get_or, ◌≡◌, ◌≢◌, ℕ, ◌≤◌, inl, inr, List, [], ◌∷◌, length, Some, refl, sym, ap, subst, ◌∙◌, arith}
 use Rattle.std.specs.Prelude.{All, Contains, AllPairs, slice_get}
 use Rattle.std.specs.List.{AllByRecursion, AllZip}
 use Rattle.std.proofs.lemmas.List.{length-append, get_or-take, length-take-le}
@@ -11,6 +11,7 @@ use Rattle.esto_query.specs.Soundness.{IsSound}
 use Rattle.esto_semantics.specs.Maps.{IsVariable}
 use Rattle.esto_semantics.specs.WellFormed.{IsQueryOver}
 use Rattle.esto_semantics.specs.declared.fact.Fact.{Fact}
+use Rattle.esto_term.proofs.ZipLemmas.{zip_read, zip_right}
 use Rattle.esto_term.specs.declared.term.Term.{Term}
 use Rattle.esto_term.specs.declared.term.Term.TheVariants.{Const, Plain}
 use Rattle.esto_text.specs.Faults.{IsNameIn, IsFieldIn, IsTermIn, StandsAt, IsQueryText}
@@ -35,7 +36,7 @@ use Rattle.esto_read.proofs.SeenLemmas.{only_item}
 use Rattle.esto_read.proofs.ItemLemmas.{size_positive, item_count}
 use Rattle.esto_read.proofs.WordLemmas.{base_has}
 use Rattle.esto_read.proofs.EntryLemmas.{pattern_good}
-use Rattle.esto_read.proofs.BelowLemmas.{names_are_terms, terms_length, plain_one, Below, below_more, cons_cases, AllGrow, no_item, terms_grow, Keeps, keeps_more, new_is_last}
+use Rattle.esto_read.proofs.BelowLemmas.{names_are_terms, terms_length, plain_one, Below, below_more, AllGrow, no_item, terms_grow, Keeps, keeps_more, new_is_last}
 
 -- ---- the parts of a query
 
@@ -163,35 +164,21 @@ module _ (bytes : List ℕ) where
       let rest = head_numbered between ts xs after all.1 more in
       (λ k v f. rest.0 k v (first.0 k v f), ((first.1.0, first.1.1, rest.0 first.1.0 (Given (text_of bytes t)) first.1.2), rest.1))
 
--- what stands at one place of two lists
-zip_at : {A B : Type 0} → (R : A → B → Type 0) (xs : List A) (ys : List B) (i : ℕ) (d : A) (e : B) → AllZip R xs ys → i < length ys
-    → R (get_or xs i d) (get_or ys i e)
-zip_at R [] [] i d e h lt = absurd (omega arith)
-zip_at R [] (y ∷ ys) i d e h lt = absurd h
-zip_at R (x ∷ xs) [] i d e h lt = absurd h
-zip_at R (x ∷ xs) (y ∷ ys) zero d e h lt = h.0
-zip_at R (x ∷ xs) (y ∷ ys) (suc i) d e h lt = zip_at R xs ys i d e h.1 (omega arith)
-
-zip_each : {A B : Type 0} → (R : A → B → Type 0) (xs : List A) (ys : List B) (y : B) → AllZip R xs ys → Contains ys y → (x : A) × R x y
-zip_each R [] [] y h k = absurd (no_item y k)
-zip_each R [] (z ∷ ys) y h k = absurd h
-zip_each R (x ∷ xs) [] y h k = absurd h
-zip_each {A} R (x ∷ xs) (z ∷ ys) y h k = elim (cons_cases z y ys k) [ inl e ↦ (x, subst (R x) (sym e) h.0) | inr l ↦ zip_each R xs ys y h.1 l ]
-
 module _ (bytes : List ℕ) (variables : List Token) (head : List Term) (names : List Name) (all : AllByRecursion (IsNameIn bytes) variables)
     (h : AreTerms bytes [] variables head names) where
   numbered : AllZip (λ t x. IsNumbered names (text_of bytes t) x) variables head
   numbered = (head_numbered bytes [] variables head names all h).1
 
   each_variable : (x : Term) → Contains head x → IsVariable x
-  each_variable x k = let z = zip_each (λ t x. IsNumbered names (text_of bytes t) x) variables head x numbered k in (z.1.0, z.1.1)
+  each_variable x k =
+      let (token, inside, is) = zip_right (λ t x. IsNumbered names (text_of bytes t) x) variables head numbered x k in (is.0, is.1)
 
   all_different : AreDifferent bytes variables → AllPairs ◌≢◌ head
   all_different different i j d lt le same =
       let t : Token = record { kind = kind.Name; start = 0; end = 0 } in
       let n : length head ≡ length variables = terms_length bytes [] variables head names h in
-      let a = zip_at (λ t x. IsNumbered names (text_of bytes t) x) variables head i t d numbered (omega arith) in
-      let b = zip_at (λ t x. IsNumbered names (text_of bytes t) x) variables head j t d numbered le in
+      let a = zip_read (λ t x. IsNumbered names (text_of bytes t) x) variables head i t d numbered (omega arith) in
+      let b = zip_read (λ t x. IsNumbered names (text_of bytes t) x) variables head j t d numbered le in
       let number : a.0 ≡ b.0 = plain_one a.0 b.0 (sym a.1 ∙ same ∙ b.1) in
       let given : Some (Given (text_of bytes (get_or variables i t))) ≡ Some (Given (text_of bytes (get_or variables j t))) = sym a.2
       ∙ ap (slice_get names) number ∙ b.2 in

@@ -1,10 +1,10 @@
 -- The pick among the listed sets.
-use Rattle.std.proofs.Common.{◌≡◌, ℕ, zero, suc, ◌<◌, ◌≤◌, Bool, List, [], ◌∷◌, length, get_or, Some, slice_get, refl, ap, subst, arith, inl, inr}
+use Rattle.std.proofs.Common.{◌≡◌, ℕ, zero, suc, ◌<◌, ◌≤◌, Bool, List, [], ◌∷◌, length, get_or, refl, ap, arith, inl, inr}
 use Rattle.std.specs.Prelude.{◌⊎◌}
-use Rattle.std.specs.List.{AllZip}
 use Rattle.std.proofs.lemmas.Bool.{cases_order, cases_lt}
-use Rattle.std.proofs.lemmas.Option.{none-some, same_Some}
+use Rattle.std.proofs.lemmas.Option.{slice_get_within, get_or_from_slice_get}
 use Rattle.esto_term.proofs.ListLemmas.{place-from_Contains}
+use Rattle.esto_term.proofs.ZipLemmas.{zip_at}
 use Rattle.esto_semantics.specs.Listed.{chosen, candidate, IsWeight, IsPick}
 use Rattle.esto_semantics.specs.ListedLaws.{AreWeights, NoRewritingExists, PickExists, PickIsOne, PickWeighsLeast, PickWeighsLeastOfAll, WeightExists}
 use Rattle.esto_semantics.specs.Queries.{ConjunctiveQuery}
@@ -78,24 +78,17 @@ pick_is_one weights place other pick pick' = elim (cases_order place other) [
   ]
 ]
 
-zip_at : {A B : Type 0} (R : A → B → Type 0) (xs : List A) (ys : List B) → AllZip R xs ys → (place : ℕ) (x : A) (d : B) → slice_get xs place ≡ Some x
-    → (place < length ys) × R x (get_or ys place d)
-zip_at R [] ys all place x d e = absurd (none-some x e)
-zip_at R (a ∷ xs) [] all place x d e = absurd all
-zip_at R (a ∷ xs) (b ∷ ys) all zero x d e = (omega arith, subst (λ z. R z b) (same_Some a x e) all.0)
-zip_at R (a ∷ xs) (b ∷ ys) all (suc place) x d e = let rest = zip_at R xs ys all.1 place x d e in (omega (arith, rest.0), rest.1)
-
 -- the pick weighs no more than any set that has one of the weighed sets within it
 module _ (weights : List ℕ) (plan : ConjunctiveQuery) (sets : List (List Bool)) (totals : List ℕ) (are_weights : AreWeights weights plan sets totals)
     (place : ℕ) (pick : IsPick totals place) where
   pub pick_below : (set : List Bool) (weight : ℕ) → Covers sets set → IsWeight weights (chosen set plan.body) weight → get_or totals place 0 ≤ weight
   pick_below set weight (low, inside, within) is_weight =
       let at = place-from_Contains sets low inside in
-      let total = zip_at (λ it total. IsWeight weights (chosen it plan.body) total) sets totals are_weights at.0 low 0 at.1 in
+      let total = zip_at (λ it total. IsWeight weights (chosen it plan.body) total) sets totals are_weights at.0 low at.1 in
       let among = chosen_within low set plan.body within in
-      let below = weight_rises weights (chosen low plan.body) (chosen set plan.body) (get_or totals at.0 0) weight among total.1 is_weight in
-      let least = pick.least at.0 total.0 in
-      omega (arith, below, least)
+      let below = weight_rises weights (chosen low plan.body) (chosen set plan.body) total.0 weight among total.2 is_weight in
+      let least = pick.least at.0 (slice_get_within totals at.0 total.0 total.1) in
+      omega (arith, below, least, get_or_from_slice_get totals at.0 total.0 0 total.1)
 
 pub pick_weighs_least : PickWeighsLeast
 pick_weighs_least rules views patterns query plan sets weights totals listed are_weights place pick set weight rewriting =
