@@ -1,7 +1,7 @@
 -- What the entries say of minimal sets of parts, and that their worlds are consistent where the plan receives unions.
 use Rattle.std.proofs.Common.{◌≡◌, ◌⊎◌, ◌↔◌, inl, inr, ℕ, Bool, List, [], ◌∷◌, length, Contains, refl, sym, subst}
 use Rattle.esto_term.specs.declared.term.Term.{Term}
-use Rattle.esto_term.proofs.ListLemmas.{Contains-cases, Contains-head, Contains-map, Contains-nil, map_itself}
+use Rattle.esto_term.proofs.ListLemmas.{Contains-head, Contains-map, Contains-one, map_itself}
 use Rattle.esto_semantics.specs.Access.{Patterns, HoldsOfPart}
 use Rattle.esto_semantics.specs.Containment.{IsSatisfiable}
 use Rattle.esto_semantics.specs.ExpansionLaws.{ExpansionAnswers}
@@ -57,12 +57,6 @@ maps_itself query = (
   map_itself query.head,
 )
 
-only_one : (plan other : ConjunctiveQuery) → Contains (plan ∷ []) other → plan ≡ other
-only_one plan other inside = elim (Contains-cases plan [] other inside) [
-  | inl is ↦ is
-  | inr none ↦ absurd (Contains-nil other none)
-]
-
 module _ (rules : List Rule) (fragments : List FragmentDef) (rank : ℕ → ℕ) (query : ConjunctiveQuery) (plan : Plan) (expanded : List ExpandedFact)
     (expands : Expands plan fragments expanded) (entries : List Entry) (are : AreConditional rules rank (length plan.atoms) expanded entries)
     (means : ExpansionAnswers) where
@@ -82,7 +76,7 @@ module _ (rules : List Rule) (fragments : List FragmentDef) (rank : ℕ → ℕ)
   consistent (database, meets, (row, answer)) receives set =
       let contained = (receives (plan_query plan ∷ [])).1 (plan_query plan, Contains-head (plan_query plan) [], maps_itself (plan_query plan)) in
       let (member, inside, found) = contained database meets row answer in
-      let own = subst (λ it. IsFragmentAnswer (views_of fragments) it database row) (sym (only_one (plan_query plan) member inside)) found in
+      let own = subst (λ it. IsFragmentAnswer (views_of fragments) it database row) (sym (Contains-one (plan_query plan) member inside)) found in
       let given = (means (views_of fragments) (plan_query plan) (facts_of expanded) expands.of database row).0 own in
       let received : (IsBroken (InWorld entries set) ⊎ IsDenied rules (InWorld entries set)) → ⊥ =
       (λ which. are.nowhere set which (facts_chosen set expanded) (are_chosen set) database meets given.0 given.1

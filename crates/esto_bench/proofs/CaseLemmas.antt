@@ -12,7 +12,7 @@ use Rattle.esto_semantics.specs.Queries.{ConjunctiveQuery, IsQuery}
 use Rattle.esto_semantics.specs.declared.fact.Fact.{Fact}
 use Rattle.esto_term.specs.declared.term.Term.{Term}
 use Rattle.esto_term.specs.declared.term.Term.TheVariants.{Plain}
-use Rattle.esto_term.proofs.ListLemmas.{Contains-cases, Contains-head, Contains-map, Contains-nil, Contains-rest}
+use Rattle.esto_term.proofs.ListLemmas.{Contains-cases, Contains-head, Contains-map, Contains-nil, Contains-one, Contains-rest}
 use Rattle.std.proofs.lemmas.List.{length-map}
 use Rattle.std.proofs.lemmas.List.FromFn.{length-range_with_len}
 use Rattle.esto_bench.specs.Case.{below, numbered, made_name, made_names, made_view}
@@ -90,23 +90,20 @@ two_flat first second term inside = elim (two (Plain first) (Plain second) term 
 pub same_plain : (number other : ℕ) → Plain number ≡ Plain other → number ≡ other
 same_plain number other same = cc
 
-pub only : {A : Type 0} (one other : A) → Contains (one ∷ []) other → one ≡ other
-only one other inside = elim (Contains-cases one [] other inside) [ inl is ↦ is | inr later ↦ absurd (Contains-nil other later) ]
-
 module _ (relation : ℕ) where
   abbrev view_atom : Fact Term
   view_atom = record { relation = relation; terms = Plain 0 ∷ Plain 1 ∷ [] }
 
   view_flat : AreFlat (made_view relation).body
   view_flat term (fact, there, inside) =
-      two_flat 0 1 term (subst (λ (it : Fact Term). Contains it.terms term) (sym (only view_atom fact there)) inside)
+      two_flat 0 1 term (subst (λ (it : Fact Term). Contains it.terms term) (sym (Contains-one view_atom fact there)) inside)
 
   view_safe : IsSafe (made_view relation).head (made_view relation).body
   view_safe term inside = inr (view_atom, Contains-head view_atom [], inside)
 
   view_named : (names : List Name) → length names ≡ 2 → AreNamed names (made_view relation).body
   view_named names many variable (fact, there, inside) =
-      let here = subst (λ (it : Fact Term). Contains it.terms (Plain variable)) (sym (only view_atom fact there)) inside in
+      let here = subst (λ (it : Fact Term). Contains it.terms (Plain variable)) (sym (Contains-one view_atom fact there)) inside in
       elim (two (Plain 0) (Plain 1) (Plain variable) here) [
         | inl is ↦ let same = same_plain 0 variable is in omega (arith, many, same)
         | inr is ↦ let same = same_plain 1 variable is in omega (arith, many, same)

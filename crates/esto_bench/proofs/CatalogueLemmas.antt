@@ -22,7 +22,7 @@ use Rattle.esto_semantics.specs.Maps.{IsVariable}
 use Rattle.esto_semantics.specs.Queries.{ConjunctiveQuery}
 use Rattle.esto_semantics.specs.WellFormed.{IsQueryOver}
 use Rattle.esto_semantics.specs.declared.fact.Fact.{Fact}
-use Rattle.esto_term.proofs.ListLemmas.{Contains-at, Contains-cases, Contains-map, Contains-map_from, Contains-nil, map_at, map_then, range_at}
+use Rattle.esto_term.proofs.ListLemmas.{Contains-at, Contains-cases, Contains-map, Contains-map_from, Contains-nil, Contains-one, map_at, map_then, range_at}
 use Rattle.esto_term.proofs.DistinctLemmas.{distinct_cons, distinct_none}
 use Rattle.esto_term.specs.declared.term.Term.{Term}
 use Rattle.esto_term.specs.declared.term.Term.TheVariants.{Const, Plain}
@@ -32,7 +32,7 @@ use Rattle.esto_bench.specs.Case.{below, made_columns, made_dataset, made_datase
 use Rattle.esto_bench.specs.Made.{AreMadeFragments}
 use Rattle.esto_bench.specs.declared.case.TheConstants.{MAX_SIZE}
 use Rattle.esto_bench.proofs.BothLemmas.{both_from, both_long, mapped_from}
-use Rattle.esto_bench.proofs.CaseLemmas.{is_relation_name, numbered_apart, only, same_plain}
+use Rattle.esto_bench.proofs.CaseLemmas.{is_relation_name, numbered_apart, same_plain}
 
 -- ---- relations
 
@@ -61,7 +61,7 @@ name_is_new relation less inside =
 -- ---- datasets and words
 
 pub columns_apart : AllPairs ◌≢◌ made_columns
-columns_apart = distinct_cons (codes "x") (codes "y" ∷ []) (λ inside. apart (only (codes "y") (codes "x") inside))
+columns_apart = distinct_cons (codes "x") (codes "y" ∷ []) (λ inside. apart (Contains-one (codes "y") (codes "x") inside))
     (distinct_cons (codes "y") [] (Contains-nil (codes "y")) distinct_none)
   where
     same_byte : (one other : ℕ) → one ∷ [] ≡ other ∷ [] → one ≡ other
@@ -143,7 +143,7 @@ module _ (size : ℕ) (fragments : List FragmentDef) (are : AreMadeFragments siz
   head_made fragment inside = ap (λ (it : ConjunctiveQuery). it.head) (view_made fragment inside).2
 
   variables_apart : AllPairs ◌≢◌ (Plain 0 ∷ Plain 1 ∷ [])
-  variables_apart = distinct_cons (Plain 0) (Plain 1 ∷ []) (λ inside. apart (only (Plain 1) (Plain 0) inside))
+  variables_apart = distinct_cons (Plain 0) (Plain 1 ∷ []) (λ inside. apart (Contains-one (Plain 1) (Plain 0) inside))
       (distinct_cons (Plain 1) [] (Contains-nil (Plain 1)) distinct_none)
     where
       apart : Plain 1 ≡ Plain 0 → ⊥
@@ -152,7 +152,7 @@ module _ (size : ℕ) (fragments : List FragmentDef) (are : AreMadeFragments siz
   variable_of : (term : Term) → Contains (Plain 0 ∷ Plain 1 ∷ []) term → IsVariable term
   variable_of term inside = elim (Contains-cases (Plain 0) (Plain 1 ∷ []) term inside) [
     | inl is ↦ (0, sym is)
-    | inr later ↦ (1, sym (only (Plain 1) term later))
+    | inr later ↦ (1, sym (Contains-one (Plain 1) term later))
   ]
 
   fragment_is : AreFragments fragments
@@ -161,14 +161,14 @@ module _ (size : ℕ) (fragments : List FragmentDef) (are : AreMadeFragments siz
     variables = λ term there. variable_of term (subst (λ it. Contains it term) (head_made fragment inside) there);
     distinct = subst (AllPairs ◌≢◌) (sym (head_made fragment inside)) variables_apart;
     columns = λ pattern there.
-        ap length (sym (only (false ∷ false ∷ []) pattern (subst (λ it. Contains it pattern) (access_made fragment inside) there)))
+        ap length (sym (Contains-one (false ∷ false ∷ []) pattern (subst (λ it. Contains it pattern) (access_made fragment inside) there)))
         ∙ ap length (sym (head_made fragment inside));
   }
 
   no_constant : (text : List ℕ) (first second : ℕ) → Contains (Plain first ∷ Plain second ∷ []) (Const text) → ⊥
   no_constant text first second inside = elim (Contains-cases (Plain first) (Plain second ∷ []) (Const text) inside) [
     | inl is ↦ clash first is
-    | inr later ↦ clash second (only (Plain second) (Const text) later)
+    | inr later ↦ clash second (Contains-one (Plain second) (Const text) later)
   ]
     where
       clash : (number : ℕ) → Plain number ≡ Const text → ⊥
@@ -177,10 +177,10 @@ module _ (size : ℕ) (fragments : List FragmentDef) (are : AreMadeFragments siz
   made_over : (relation : ℕ) → relation < size → IsQueryOver (arities_of (made_schema size)) (made_view relation)
   made_over relation less = record {
     over = λ fact inside.
-        subst (λ (it : Fact Term). slice_get (arities_of (made_schema size)) it.relation ≡ Some (length it.terms)) (only _ fact inside)
+        subst (λ (it : Fact Term). slice_get (arities_of (made_schema size)) it.relation ≡ Some (length it.terms)) (Contains-one _ fact inside)
         (arity_at size relation less);
     body_texts = λ text mentioned. absurd (no_constant text 0 1
-        (subst (λ (it : Fact Term). Contains it.terms (Const text)) (sym (only _ mentioned.0 mentioned.1)) mentioned.2));
+        (subst (λ (it : Fact Term). Contains it.terms (Const text)) (sym (Contains-one _ mentioned.0 mentioned.1)) mentioned.2));
     head_texts = λ text inside. absurd (no_constant text 0 1 inside);
   }
 

@@ -18,10 +18,10 @@ use Rattle.esto_stores.specs.Rows.{Row}
 use Rattle.esto_term.specs.declared.term.Term.{Term, out-Term}
 use Rattle.esto_term.specs.declared.term.Term.TheOpen.{Term-F}
 use Rattle.esto_term.specs.declared.term.Term.TheVariants.{Plain, outs-Const, outs-Plain}
-use Rattle.esto_term.proofs.ListLemmas.{Contains-flat, Contains-flat_from, Contains-head, Contains-map, Contains-map_from, Contains-nil}
+use Rattle.esto_term.proofs.ListLemmas.{Contains-flat, Contains-flat_from, Contains-head, Contains-map, Contains-map_from, Contains-nil, Contains-one}
 use Rattle.esto_bench.specs.Case.{below, made_atom, made_database, made_fact, made_query, made_patterns, made_rows, made_row, made_view, made_views, without_inputs}
 use Rattle.esto_bench.proofs.BothLemmas.{below_bound, below_there, both_at, mapped_from}
-use Rattle.esto_bench.proofs.CaseLemmas.{chain, chain_atom, chain_is, only}
+use Rattle.esto_bench.proofs.CaseLemmas.{chain, chain_atom, chain_is}
 
 -- ---- a map of terms from values of variables
 
@@ -63,7 +63,7 @@ module _ (database : Database) (relation : ℕ) where
       let at_second : valued values (Plain 1) ≡ second = valued-plain values 1 in (
         valued values,
         valued-keeps values,
-        (λ fact inside. subst (λ (it : Fact Term). Contains database (image (valued values) it)) (only _ fact inside)
+        (λ fact inside. subst (λ (it : Fact Term). Contains database (image (valued values) it)) (Contains-one _ fact inside)
             (subst (Contains database) (λ i. pair_fact relation (sym at_first i) (sym at_second i)) there)),
         (λ i. sym at_first i ∷ sym at_second i ∷ []),
       )

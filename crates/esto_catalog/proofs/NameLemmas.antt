@@ -2,7 +2,7 @@
 use Rattle.std.proofs.Common.{◌≡◌, ◌≢◌, ◌&&◌, ◌||◌, ℕ, List, [], ◌∷◌, ◌++◌, length, map, Bool, true, false, not, inl, inr, refl, sym, ap, subst, ◌∙◌, arith, codes}
 use Rattle.std.specs.Prelude.{Contains, AllPairs, nat_eq, if◌then◌else◌}
 use Rattle.std.specs.List.{list_all, list_any}
-use Rattle.std.proofs.lemmas.Bool.{false≢true}
+use Rattle.std.proofs.lemmas.Bool.{and_parts, false≢true}
 use Rattle.std.proofs.lemmas.Bool.Decides.{nat_tests}
 use Rattle.std.proofs.lemmas.Cmp.{nat_list_eq_equiv}
 use Rattle.std.proofs.lemmas.List.{append_assoc, append_cancel_left, map-append}
@@ -20,10 +20,6 @@ use Rattle.esto_catalog.specs.declared.dataset.Dataset.{Dataset}
 pub or_false : (a b : Bool) → (a || b) ≡ false → (a ≡ false) × (b ≡ false)
 or_false false b is = (refl, is)
 or_false true b is = cc
-
-pub and_true : (a b : Bool) → (a && b) ≡ true → (a ≡ true) × (b ≡ true)
-and_true true b is = (refl, is)
-and_true false b is = absurd (false≢true is)
 
 -- where a test holds of none, it holds of no item
 pub any_free : {A : Type 0} (test : A → Bool) (items : List A) → list_any test items ≡ false → (item : A) → Contains items item → test item ≡ false
@@ -54,13 +50,13 @@ stem_cons byte rest free = by (nat_eq byte 46) free where
 stem_own : (text : List ℕ) → plain text ≡ true → stem text ≡ text
 stem_own [] free = refl
 stem_own (byte ∷ rest) free =
-    let both = and_true (not (nat_eq byte 46)) (plain rest) free in
+    let both = and_parts (not (nat_eq byte 46)) (plain rest) free in
     stem_cons byte rest both.0 ∙ ap (λ it. byte ∷ it) (stem_own rest both.1)
 
 stem_part : (text own : List ℕ) → plain text ≡ true → stem (text ++ 46 ∷ own) ≡ text
 stem_part [] own free = refl
 stem_part (byte ∷ rest) own free =
-    let both = and_true (not (nat_eq byte 46)) (plain rest) free in
+    let both = and_parts (not (nat_eq byte 46)) (plain rest) free in
     stem_cons byte (rest ++ 46 ∷ own) both.0 ∙ ap (λ it. byte ∷ it) (stem_part rest own both.1)
 
 byte_free : (byte : ℕ) → is_name_byte byte ≡ true → not (nat_eq byte 46) ≡ true
@@ -78,15 +74,15 @@ letter_free byte own = by (nat_eq byte 46) refl where
 bytes_free : (bytes : List ℕ) → list_all is_name_byte bytes ≡ true → plain bytes ≡ true
 bytes_free [] own = refl
 bytes_free (byte ∷ rest) own =
-    let both = and_true (is_name_byte byte) (list_all is_name_byte rest) own in
+    let both = and_parts (is_name_byte byte) (list_all is_name_byte rest) own in
     rw (byte_free byte both.0) (bytes_free rest both.1)
 
 -- a name has no dot
 name_free : (name : List ℕ) → is_name name ≡ true → plain name ≡ true
 name_free [] own = absurd (false≢true own)
 name_free (first ∷ rest) own =
-    let (letter, more) = and_true (is_letter first) _ own in
-    rw (letter_free first letter) (bytes_free rest (and_true (list_all is_name_byte rest) _ more).0)
+    let (letter, more) = and_parts (is_letter first) _ own in
+    rw (letter_free first letter) (bytes_free rest (and_parts (list_all is_name_byte rest) _ more).0)
 
 part_dotted : (name own : List ℕ) → part_name name own ≡ name ++ 46 ∷ own
 part_dotted name own = append_assoc name (codes ".") own
@@ -105,7 +101,7 @@ not_true false is = refl
 apart_pairs : (texts : List (List ℕ)) → apart texts ≡ true → AllPairs ◌≢◌ texts
 apart_pairs [] free = λ i j d before below. absurd (omega (arith, below))
 apart_pairs (text ∷ texts) free =
-    let (none, more) = and_true (not (list_any (is_same text) texts)) (apart texts) free in
+    let (none, more) = and_parts (not (list_any (is_same text) texts)) (apart texts) free in
     pairs_cons ◌≢◌ text texts
     (λ other inside same. false≢true (sym (any_free (is_same text) texts (not_true _ none) other inside) ∙ (ap (is_same text) (sym same)
     ∙ nat_list_eq_equiv.refl text)))

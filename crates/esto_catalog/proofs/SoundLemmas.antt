@@ -4,7 +4,7 @@ use Rattle.std.specs.Prelude.{Contains, All, slice_index, IsUtf8}
 use Rattle.std.specs.Coded.{Coded, Coded-set, code_by, coded×, coded_list, coded_option, coded_ℕ, coded_bool, le_prop}
 use Rattle.std.specs.List.{list_any}
 use Rattle.std.proofs.Math.Logic.{∥∥₁_elim, ∥∥₁_map}
-use Rattle.std.proofs.lemmas.Bool.{eqb-true, false≢true}
+use Rattle.std.proofs.lemmas.Bool.{and_parts, eqb-true, false≢true}
 use Rattle.std.proofs.lemmas.Str.{IsUtf8-from_is_utf8, is_utf8-from_IsUtf8}
 use Rattle.esto_acyclic.proofs.EdgeLemmas.{joins_edges}
 use Rattle.esto_acyclic.specs.Graphs.{AreRanks, Arrives, IsWalk, IsWithin, Joins}
@@ -97,10 +97,6 @@ abbrev arrives : List (ℕ × ℕ) → ℕ → ℕ → Bool
 arrives edges zero to = true
 arrives edges (suc count) to = list_any (λ (edge : ℕ × ℕ). reaches edges count edge.1 to) edges
 
-and_both : (a b : Bool) → (a && b) ≡ true → (a ≡ true) × (b ≡ true)
-and_both true b is = (refl, is)
-and_both false b is = absurd (false≢true is)
-
 or_true : (a b : Bool) → b ≡ true → (a || b) ≡ true
 or_true true b is = refl
 or_true false b is = is
@@ -128,7 +124,7 @@ walk_of : (edges : List (ℕ × ℕ)) (count from to : ℕ) → reaches edges co
 walk_of edges zero from to is = ([], eqb-true from to is, refl)
 walk_of edges (suc count) from to is =
     let (edge, there, both) = any_from (λ (edge : ℕ × ℕ). eqb edge.0 from && reaches edges count edge.1 to) edges is in
-    let (starts, rest) = and_both (eqb edge.0 from) (reaches edges count edge.1 to) both in
+    let (starts, rest) = and_parts (eqb edge.0 from) (reaches edges count edge.1 to) both in
     let same : edge.0 ≡ from = eqb-true edge.0 from starts in
     let (relations, walk, long) = walk_of edges count edge.1 to rest in
     (from ∷ relations, (edge.1, refl, subst (λ n. Contains edges (n, edge.1)) same there, walk), ap suc long)

@@ -11,7 +11,7 @@ use Rattle.esto_term.specs.Finite.{lists_within}
 use Rattle.esto_term.specs.Order.{same_term}
 use Rattle.esto_term.specs.declared.term.Term.{Term}
 use Rattle.esto_term.specs.declared.term.Term.TheVariants.{Const}
-use Rattle.esto_term.proofs.ChoiceLemmas.{Decided, decided_both, decided_not, in_order, kept, pairs_head, IsBelow, Rises}
+use Rattle.esto_term.proofs.ChoiceLemmas.{Decided, decided_both, decided_in, decided_not, in_order, kept, pairs_head, IsBelow, Rises}
 use Rattle.esto_term.proofs.DistinctLemmas.{decided_contains}
 use Rattle.esto_term.proofs.FiniteLemmas.{Contains-lists_within}
 use Rattle.esto_term.proofs.ListLemmas.{Contains-nil, Contains-head, Contains-rest, Contains-cases, Contains-map_from, place-from_Contains}
@@ -31,19 +31,6 @@ use Rattle.esto_chase_laws.proofs.ReplacementLemmas.{IsMatch-Sends}
 use Rattle.esto_chase_laws.proofs.StockLemmas.{in_below}
 
 -- ---- what is decided
-
--- whether a list has a thing with a property that is decided
-decided_in : {A : Type 0} (P : A → Type 0) → ((thing : A) → Decided (P thing)) → (things : List A) → Decided ((thing : A) × Contains things thing × P thing)
-decided_in P decide [] = inr (λ found. Contains-nil found.0 found.1)
-decided_in {A} P decide (first ∷ rest) = by (decide first) (decided_in P decide rest)
-  where
-    by : Decided (P first) → Decided ((thing : A) × Contains rest thing × P thing) → Decided ((thing : A) × Contains (first ∷ rest) thing × P thing)
-    by (inl has) later = inl (first, Contains-head first rest, has)
-    by (inr not) (inl (thing, inside, has)) = inl (thing, Contains-rest first rest thing inside, has)
-    by (inr not) (inr none) = inr (λ found. elim (Contains-cases first rest found.0 found.1) [
-      | inl is ↦ not (subst P (sym is) found.2)
-      | inr later ↦ none (found.0, later, found.2)
-    ])
 
 decided_variable : (term : Term) → Decided (IsVariable term)
 decided_variable = term_cases (λ term. Decided (IsVariable term))

@@ -1,5 +1,5 @@
 -- Rows that hold inputs.
-use Rattle.std.proofs.Common.{◌≡◌, ℕ, suc, ◌+◌, ◌<◌, Bool, true, false, cond, eqb, ◌&&◌, List, [], ◌∷◌, ◌++◌, map, length, get_or, take, Some, slice_get, Contains, refl, sym, ap, ◌∙◌, subst, arith, inl, inr}
+use Rattle.std.proofs.Common.{◌≡◌, ℕ, suc, ◌+◌, ◌<◌, Bool, true, false, cond, eqb, List, [], ◌∷◌, ◌++◌, map, length, get_or, take, Some, slice_get, Contains, refl, sym, ap, ◌∙◌, subst, arith, inl, inr}
 use Rattle.std.specs.List.{filter}
 use Rattle.std.proofs.lemmas.List.{append-nil, append_assoc, length-append, length-map, get_or_at, map_more}
 use Rattle.std.proofs.lemmas.List.Elements.{filter-append}
@@ -12,6 +12,7 @@ use Rattle.esto_columns.specs.Picked.{places_where, rows_at}
 use Rattle.esto_columns.specs.Indexed.{key_at, AreAmongPlaces}
 use Rattle.std.specs.Str.{bytes_eq}
 use Rattle.std.proofs.lemmas.Slice.Eq.{bytes_eq-Decides}
+use Rattle.std.proofs.lemmas.Bool.{and_parts}
 use Rattle.std.proofs.lemmas.Bool.Decides.{Decides-eqb}
 use Rattle.esto_term.proofs.ListLemmas.{Contains-nil, Contains-cases, Contains-at, Contains-head, Contains-rest}
 
@@ -108,13 +109,9 @@ pub holds_one : (inputs : List Input) (row : List ℕ) (input : Input) → Conta
     → eqb (get_or row input.column 0) input.code ≡ true
 holds_one [] row input inside holds = absurd (Contains-nil input inside)
 holds_one (first ∷ inputs) row input inside holds = elim (Contains-cases first inputs input inside) [
-  | inl is ↦ ap (λ it. eqb (get_or row it.column 0) it.code) (sym is) ∙ (both (eqb (get_or row first.column 0) first.code) (holds_all inputs row) holds).0
-  | inr later ↦ holds_one inputs row input later (both (eqb (get_or row first.column 0) first.code) (holds_all inputs row) holds).1
+  | inl is ↦ ap (λ it. eqb (get_or row it.column 0) it.code) (sym is) ∙ (and_parts (eqb (get_or row first.column 0) first.code) (holds_all inputs row) holds).0
+  | inr later ↦ holds_one inputs row input later (and_parts (eqb (get_or row first.column 0) first.code) (holds_all inputs row) holds).1
 ]
-  where
-    both : (a b : Bool) → (a && b) ≡ true → (a ≡ true) × (b ≡ true)
-    both true b e = (refl, e)
-    both false b e = absurd (cc)
 
 module _ {Y : Type 0} (test : Y → Bool) (seen : List ℕ → Y) (rows : List (List ℕ)) (inputs : List Input) (things : List Y) (places : List ℕ)
     (is_seen : things ≡ map seen rows) (are : places ≡ places_where test 0 things) where

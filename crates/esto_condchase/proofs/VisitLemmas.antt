@@ -5,7 +5,7 @@ use Rattle.std.proofs.lemmas.Bool.{false≢true}
 use Rattle.std.proofs.lemmas.List.{length-append, length-map, map-append}
 use Rattle.std.proofs.lemmas.List.Elements.{Contains-append_right, Contains-push_cases}
 use Rattle.esto_term.specs.declared.term.Term.{Term}
-use Rattle.esto_term.proofs.ListLemmas.{Contains-cases, Contains-head, Contains-nil, map_agree}
+use Rattle.esto_term.proofs.ListLemmas.{Contains-head, Contains-one, map_agree}
 use Rattle.esto_term.proofs.ZipLemmas.{zip_split}
 use Rattle.esto_semantics.specs.Facts.{terms_of}
 use Rattle.esto_semantics.specs.Sets.{Within, Covers}
@@ -102,9 +102,6 @@ module _ (entries : List Entry) (head : List Term) (body : List (Fact Term)) (ta
   same_answer false true both = both.1 refl
   same_answer false false both = refl
 
-  only : (entry its : Entry) → Contains (entry ∷ []) its → entry ≡ its
-  only entry its inside = elim (Contains-cases entry [] its inside) [ inl is ↦ is | inr more ↦ absurd (Contains-nil its more) ]
-
   -- its turn has not come
   pub no_turn : (from : List Term) (rest : List (Fact Term)) (way : Way) (free : Bool) (entry : Entry) (sets : List (List Bool)) (answer : Bool)
       → ((answer ≡ true) ↔ Within entry.product way.product) → (answer ≡ free → ⊥)
@@ -112,7 +109,7 @@ module _ (entries : List Entry) (head : List Term) (body : List (Fact Term)) (ta
   no_turn from rest way free entry sets answer told apart =
       visited_none (SomeEntryGoesOn entries (entry ∷ []) from rest way free) sets
       (λ set (its, inside, turn, goes).
-      let own : (free ≡ true) ↔ IsFree way entry = subst (λ (it : Entry). (free ≡ true) ↔ IsFree way it) (sym (only entry its inside)) turn in
+      let own : (free ≡ true) ↔ IsFree way entry = subst (λ (it : Entry). (free ≡ true) ↔ IsFree way it) (sym (Contains-one entry its inside)) turn in
       apart (same_answer answer free ((λ is. own.1 (told.0 is)), (λ is. told.1 (own.0 is)))))
 
   -- it is an equality
@@ -121,14 +118,14 @@ module _ (entries : List Entry) (head : List Term) (body : List (Fact Term)) (ta
   no_fact from rest way free entry sets left right is =
       visited_none (SomeEntryGoesOn entries (entry ∷ []) from rest way free) sets
       (λ set (its, inside, turn, (within, its_within, (fact, states, goes))).
-      let same : Same left right ≡ Stated fact = sym is ∙ ap (λ (it : Entry). it.claim) (only entry its inside) ∙ states in
+      let same : Same left right ≡ Stated fact = sym is ∙ ap (λ (it : Entry). it.claim) (Contains-one entry its inside) ∙ states in
       cc)
 
   pub one_entry : (from : List Term) (rest : List (Fact Term)) (way : Way) (free : Bool) (entry : Entry) (earlier later : List (List Bool))
       → Seen (EntryGoesOn entries from rest way entry) earlier later → Seen (SomeEntryGoesOn entries (entry ∷ []) from rest way free) earlier later
   one_entry from rest way free entry earlier later seen =
       visited_as (EntryGoesOn entries from rest way entry) (SomeEntryGoesOn entries (entry ∷ []) from rest way free) earlier later seen
-      (λ set (its, inside, turn, goes). subst (λ it. EntryGoesOn entries from rest way it set) (sym (only entry its inside)) goes)
+      (λ set (its, inside, turn, goes). subst (λ it. EntryGoesOn entries from rest way it set) (sym (Contains-one entry its inside)) goes)
 
 -- ---- going on
 

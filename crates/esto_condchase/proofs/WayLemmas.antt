@@ -8,7 +8,7 @@ use Rattle.std.proofs.lemmas.Grind.{flat_map-append}
 use Rattle.esto_term.specs.declared.term.Term.{Term}
 use Rattle.esto_semantics.specs.Sets.{Has, Within, united}
 use Rattle.esto_semantics.specs.declared.fact.Fact.{Fact}
-use Rattle.esto_term.proofs.ListLemmas.{Contains-nil, Contains-head, Contains-cases}
+use Rattle.esto_term.proofs.ListLemmas.{Contains-nil, Contains-head, Contains-one}
 use Rattle.esto_term.proofs.ListLemmas.{place-from_Contains}
 use Rattle.esto_term.proofs.ZipLemmas.{zip_append, zip_split, zip_weaker}
 use Rattle.esto_semantics.proofs.SetLemmas.{has_united, length-united}
@@ -26,7 +26,7 @@ use Rattle.esto_condchase.specs.declared.ways.Way.{Way}
 use Rattle.esto_condchase.proofs.MeetLemmas.{take-item}
 
 one_of : {X : Type 0} (P : X → Type 0) (only other : X) → Contains (only ∷ []) other → P only → P other
-one_of P only other inside it = elim (Contains-cases only [] other inside) [ inl is ↦ subst P is it | inr later ↦ absurd (Contains-nil other later) ]
+one_of P only other inside it = subst P (Contains-one only other inside) it
 
 -- ---- unions
 

@@ -4,7 +4,7 @@ use Rattle.std.proofs.lemmas.Bool.{false≢true}
 use Rattle.std.proofs.lemmas.List.{length-map}
 use Rattle.std.specs.Prelude.{AllPairs}
 use Rattle.esto_term.specs.declared.term.Term.{Term}
-use Rattle.esto_term.proofs.ListLemmas.{Contains-head}
+use Rattle.esto_term.proofs.ListLemmas.{Contains-head, Contains-one}
 use Rattle.esto_semantics.specs.Containment.{IsSatisfiable}
 use Rattle.esto_semantics.specs.Instances.{MapsTo}
 use Rattle.esto_semantics.specs.Queries.{ConjunctiveQuery}
@@ -17,7 +17,6 @@ use Rattle.esto_views.specs.Plans.{plan_query}
 use Rattle.esto_views.specs.declared.plan.Plan.{Plan}
 use Rattle.esto_universal.specs.PlannedLaws.{PlanOfRunIsOne}
 use Rattle.esto_universal.specs.Stated.{IsRenamedPlan}
-use Rattle.esto_views.proofs.FormLemmas.{only_one}
 use Rattle.esto_core.specs.Cored.{IsCoredPlan}
 use Rattle.esto_core.specs.CoredLaws.{CoredIsCore, CoredHasNoRetract, CoredIsOne}
 use Rattle.esto_core.specs.Printed.{IsPrintedOf}
@@ -76,5 +75,5 @@ pub same_length-received : (rules : List Rule) (views : List ConjunctiveQuery) (
 same_length-received rules views query plan own receives (database, meets, (row, answer)) =
     let contained = (receives (plan ∷ [])).1 (plan, Contains-head plan [], own) in
     let (other, inside, found) = contained database meets row answer in
-    ap (λ (it : ConjunctiveQuery). length it.head) (only_one plan other inside)
+    ap (λ (it : ConjunctiveQuery). length it.head) (Contains-one plan other inside)
     ∙ one_length found.0 answer.0 other.head query.head row found.3 answer.3

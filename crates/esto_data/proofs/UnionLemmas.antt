@@ -1,5 +1,5 @@
 -- Unions of queries: the same queries, one query alone, and rows that are the same.
-use Rattle.std.proofs.Common.{◌≡◌, ◌↔◌, inl, inr, ℕ, List, [], ◌∷◌, map, length, get_or, Contains, Option, refl, sym, ap, subst, ◌∙◌}
+use Rattle.std.proofs.Common.{◌≡◌, ◌↔◌, ℕ, List, [], ◌∷◌, map, length, get_or, Option, refl, sym, ap, subst, ◌∙◌}
 use Rattle.std.proofs.lemmas.List.{length-map}
 use Rattle.std.proofs.lemmas.List.Elements.{Contains-get_or}
 use Rattle.esto_catalog.specs.declared.dataset.Dataset.{Dataset}
@@ -14,7 +14,7 @@ use Rattle.esto_semantics.specs.declared.fact.Fact.{Fact}
 use Rattle.esto_semantics.specs.declared.fact.Value.{Value}
 use Rattle.esto_semantics.specs.declared.fact.Value.TheVariants.{Text}
 use Rattle.esto_stores.specs.Rows.{Row}
-use Rattle.esto_term.proofs.ListLemmas.{Contains-cases, Contains-head, Contains-map_from, Contains-nil}
+use Rattle.esto_term.proofs.ListLemmas.{Contains-head, Contains-map_from, Contains-one}
 use Rattle.esto_term.specs.declared.term.Term.{Term}
 use Rattle.esto_opening.specs.Alike.{AreSameQueries}
 use Rattle.esto_opening.specs.Unions.{FitHeads, FormUnion, union_rows_text}
@@ -85,23 +85,17 @@ same_union queries others same P values = (
 
 -- ---- one query
 
-only : (query other : ConjunctiveQuery) → Contains (query ∷ []) other → query ≡ other
-only query other inside = elim (Contains-cases query [] other inside) [
-  | inl is ↦ is
-  | inr none ↦ absurd (Contains-nil other none)
-]
-
 pub one_union : (query : Query) (facts : List (Fact Term)) (values : List Value)
     → IsUnionAnswerOfFacts (query ∷ []) facts values ↔ IsAnswerOfFacts query facts values
 one_union query facts values = (
   (λ (other, inside, answer).
-      subst (λ (it : ConjunctiveQuery). IsAnswer it (database_of facts) values) (sym (only (query_of query) other inside)) answer),
+      subst (λ (it : ConjunctiveQuery). IsAnswer it (database_of facts) values) (sym (Contains-one (query_of query) other inside)) answer),
   (λ answer. (query_of query, Contains-head (query_of query) [], answer)),
 )
 
 pub one_names : (query : ConjunctiveQuery) (dataset : Dataset) → OneNames (query ∷ []) dataset ↔ Names query.body dataset
 one_names query dataset = (
-  (λ (other, inside, names). subst (λ (it : ConjunctiveQuery). Names it.body dataset) (sym (only query other inside)) names),
+  (λ (other, inside, names). subst (λ (it : ConjunctiveQuery). Names it.body dataset) (sym (Contains-one query other inside)) names),
   (λ names. (query, Contains-head query [], names)),
 )
 

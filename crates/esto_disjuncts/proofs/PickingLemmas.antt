@@ -16,7 +16,6 @@ use Rattle.esto_planning.specs.Planning.{chooses}
 use Rattle.esto_run.specs.Picks.{candidate_of}
 use Rattle.esto_run.specs.declared.picks.Pick.{Pick}
 use Rattle.esto_semantics.specs.Listed.{candidate}
-use Rattle.esto_term.proofs.ListLemmas.{Contains-cases, Contains-nil}
 use Rattle.esto_term.proofs.ZipLemmas.{zip_append}
 use Rattle.esto_views.specs.Plans.{plan_query}
 use Rattle.esto_views.specs.declared.plan.Plan.{Plan}
@@ -186,6 +185,3 @@ zip_map R S f step (x ∷ xs) (y ∷ ys) (here, zip) = (step x y here, zip_map R
 pub are_chosen : (number : Option ℕ) (members : List Member) (picks : List Pick) → ArePicksOf number members picks
     → AreChosen number members (map candidate_of picks)
 are_chosen number members picks are = zip_map (IsPickOf number) (IsChosenOf number) candidate_of (chosen_of number) (filter has_plan members) picks are
-
-pub only_member : (member other : Member) → Contains (member ∷ []) other → member ≡ other
-only_member member other inside = elim (Contains-cases member [] other inside) [ inl is ↦ is | inr none ↦ absurd (Contains-nil other none) ]

@@ -1,7 +1,7 @@
 -- What terms the atoms of a pattern have.
 use Rattle.std.proofs.Common.{ℕ, suc, ◌+◌, ◌<◌, ◌≤◌, List, [], ◌∷◌, ◌++◌, length, Contains, refl, sym, subst, inl, inr, arith}
 use Rattle.std.proofs.lemmas.List.Elements.{Contains-append_cases, Contains-append_left, Contains-append_right}
-use Rattle.esto_term.proofs.ListLemmas.{Contains-nil, Contains-head, Contains-rest, Contains-cases, Contains-map, Contains-map_from}
+use Rattle.esto_term.proofs.ListLemmas.{Contains-nil, Contains-head, Contains-rest, Contains-cases, Contains-map, Contains-map_from, Contains-one}
 use Rattle.esto_term.specs.declared.term.Term.{Term}
 use Rattle.esto_term.specs.declared.term.Term.TheVariants.{Const, Plain}
 use Rattle.esto_semantics.specs.Facts as facts
@@ -21,7 +21,7 @@ HaveOnly P these = (fact : DocFact Term) → Contains these fact → HasOnly P f
 
 module _ (P : Term → Type 0) where
   only_one : (x : Term) → P x → (term : Term) → Contains (x ∷ []) term → P term
-  only_one x px term inside = elim (Contains-cases x [] term inside) [ inl is ↦ subst P is px | inr never ↦ absurd (Contains-nil term never) ]
+  only_one x px term inside = subst P (Contains-one x term inside) px
 
   only_two : (x y : Term) → P x → P y → (term : Term) → Contains (x ∷ y ∷ []) term → P term
   only_two x y px py term inside = elim (Contains-cases x (y ∷ []) term inside) [ inl is ↦ subst P is px | inr later ↦ only_one y py term later ]

@@ -1,6 +1,6 @@
 -- Plans that receive unions, and the rewritings of unions.
-use Rattle.std.proofs.Common.{◌≡◌, ◌↔◌, ◌⊎◌, inl, inr, Bool, List, [], ◌∷◌, length, map, Contains, sym, subst}
-use Rattle.esto_term.proofs.ListLemmas.{Contains-nil, Contains-head, Contains-rest, Contains-cases}
+use Rattle.std.proofs.Common.{◌↔◌, ◌⊎◌, inl, inr, Bool, List, [], ◌∷◌, length, map, Contains, sym, subst}
+use Rattle.esto_term.proofs.ListLemmas.{Contains-nil, Contains-head, Contains-rest, Contains-cases, Contains-one}
 use Rattle.esto_semantics.specs.Access.{Patterns, IsExecutableQuery, HoldsExecutably}
 use Rattle.esto_semantics.specs.Containment.{IsSatisfiable}
 use Rattle.esto_semantics.specs.Instances.{MapsTo}
@@ -21,10 +21,6 @@ use Rattle.esto_plan_laws.specs.UnionLaws.{RowsReceiveUnions, ReceiveUnionsAlike
 use Rattle.esto_plan_laws.specs.UnionLaws.{UnionAnsweringRises, UnionAnsweringIsTold, UnionListedAreExecutable, UnionListedAreOfParts}
 use Rattle.esto_plan_laws.specs.UnionSets.{AnswersUnion, IsUnionRewriting, IsUnionListed, IsOption, HasOption, IsOfOption, IsAnswered, HasEmptyList, HasList}
 use Rattle.esto_plan_laws.proofs.MapsToLemmas.{MapsTo-then}
-
--- what a list of one contains
-only : {X : Type 0} (own thing : X) → Contains (own ∷ []) thing → own ≡ thing
-only own thing inside = elim (Contains-cases own [] thing inside) [ inl is ↦ is | inr none ↦ absurd (Contains-nil thing none) ]
 
 -- ---- plans that receive unions
 
@@ -50,10 +46,10 @@ receiving_is_universal rules views query plan receives other shape lengths =
     let same = receives (other ∷ []) in (
       (λ contained.
           let one = same.0 (λ database meets row answer. (other, Contains-head other [], contained database meets row answer)) in
-          subst (λ it. MapsTo it plan) (sym (only other one.0 one.1)) one.2),
+          subst (λ it. MapsTo it plan) (sym (Contains-one other one.0 one.1)) one.2),
       (λ maps database meets row answer.
           let one = same.1 (other, Contains-head other [], maps) database meets row answer in
-          subst (λ it. IsFragmentAnswer views it database row) (sym (only other one.0 one.1)) one.2),
+          subst (λ it. IsFragmentAnswer views it database row) (sym (Contains-one other one.0 one.1)) one.2),
     )
 
 -- ---- rewritings in a union
@@ -265,7 +261,7 @@ module _ (rules : List Rule) (views : List ConjunctiveQuery) (patterns : Pattern
       equivalent = (candidate-equivalent plan set query form rewriting.has_candidate rewriting.safe rules views universal).1
           (λ database meets row answer.
           let one = rewriting.contained database meets row answer in
-          subst (λ it. IsAnswer it database row) (sym (only query one.0 one.1)) one.2);
+          subst (λ it. IsAnswer it database row) (sym (Contains-one query one.0 one.1)) one.2);
     }),
     (λ rewriting. record {
       has_candidate = rewriting.has_candidate;

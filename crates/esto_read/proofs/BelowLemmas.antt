@@ -8,6 +8,7 @@ use Rattle.std.proofs.lemmas.Option.{slice_get_within, slice_get-get_or, get_or_
 use Rattle.esto_query.specs.declared.query.Name.{Name}
 use Rattle.esto_query.specs.declared.query.Name.TheVariants.{Given, Hidden}
 use Rattle.esto_semantics.specs.Maps.{IsFlat}
+use Rattle.esto_term.proofs.ListLemmas.{Contains-one}
 use Rattle.esto_term.specs.declared.term.Term.{Term, out-Term}
 use Rattle.esto_term.specs.declared.term.Term.TheOpen.{Term-F}
 use Rattle.esto_term.specs.declared.term.Term.TheVariants.{Const, Plain, outs-Const, outs-Plain}
@@ -19,7 +20,6 @@ use Rattle.esto_text.specs.declared.token.TokenKind.{TokenKind}
 use Rattle.esto_text.specs.declared.token.TokenKind.TheVariants as kind
 use Rattle.esto_read.specs.Terms.{IsTermOf, AreTerms}
 use Rattle.esto_read.proofs.Utf8Lemmas.{said_utf8, text_inside_utf8, number_token, quoted_token}
-use Rattle.esto_read.proofs.SeenLemmas.{only_item}
 
 -- ---- tokens
 
@@ -84,7 +84,7 @@ term_grows bytes u t h kind.Number q before after x (e, p) = as_before before af
 term_grows bytes u t h _ q before after x g = absurd g
 
 pub cons_cases : {X : Type 0} → (x y : X) (xs : List X) → Contains (x ∷ xs) y → (y ≡ x) ⊎ Contains xs y
-cons_cases x y xs h = elim (Contains-append_cases (x ∷ []) xs y h) [ inl k ↦ inl (only_item x y k) | inr k ↦ inr k ]
+cons_cases x y xs h = elim (Contains-append_cases (x ∷ []) xs y h) [ inl k ↦ inl (sym (Contains-one x y k)) | inr k ↦ inr k ]
 
 abbrev pub AllGrow : List Name → List Name → List Term → Type 0
 AllGrow before after xs = (length before ≤ length after) × ((x : Term) → Contains xs x → Below (length after) x)

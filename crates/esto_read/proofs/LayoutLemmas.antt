@@ -4,7 +4,7 @@ use Rattle.std.specs.Prelude.{Contains}
 use Rattle.std.proofs.lemmas.Bool.{cases_lt}
 use Rattle.std.proofs.lemmas.List.Elements.{Contains-append_cases}
 use Rattle.std.proofs.lemmas.Option.{slice_get_within, get_or_from_slice_get}
-use Rattle.esto_term.proofs.ListLemmas.{Contains-head, Contains-nil, Contains-rest}
+use Rattle.esto_term.proofs.ListLemmas.{Contains-head, Contains-nil, Contains-one, Contains-rest}
 use Rattle.esto_docmodel.specs.Shapes.{entries_of as pattern_of}
 use Rattle.esto_docmodel.specs.declared.pattern.Pattern.{Pattern}
 use Rattle.esto_query.specs.declared.query.Name.{Name}
@@ -20,7 +20,6 @@ use Rattle.esto_read.specs.Layouts.{AreColumns, entry_terms, terms_of, IsStrange
 use Rattle.esto_read.specs.Patterns.{AreEntries}
 use Rattle.esto_read.proofs.OneLemmas.{Apart, entries_one}
 use Rattle.esto_read.proofs.PatternLemmas.{rest_at, rest_done}
-use Rattle.esto_read.proofs.SeenLemmas.{only_item}
 
 -- ---- the first name that is no column's
 
@@ -29,7 +28,7 @@ module _ (bytes : List ℕ) (columns : List Name) where
   known_both front more h g token k = elim (Contains-append_cases front more token k) [ inl l ↦ h token l | inr l ↦ g token l ]
 
   pub one_known : (token : Token) → ¬ IsStranger bytes columns token → AreKnown bytes columns (token ∷ [])
-  one_known token h other k = subst (λ (t : Token). ¬ IsStranger bytes columns t) (sym (only_item token other k)) h
+  one_known token h other k = subst (λ (t : Token). ¬ IsStranger bytes columns t) (Contains-one token other k) h
 
   pub one_stranger : (token : Token) → IsStranger bytes columns token
       → IsFirstStranger bytes columns (token ∷ []) (record { offset = token.start; kind = Unknown })

@@ -11,6 +11,7 @@ use Rattle.esto_query.specs.Soundness.{IsSound}
 use Rattle.esto_semantics.specs.Maps.{IsVariable}
 use Rattle.esto_semantics.specs.WellFormed.{IsQueryOver}
 use Rattle.esto_semantics.specs.declared.fact.Fact.{Fact}
+use Rattle.esto_term.proofs.ListLemmas.{Contains-one}
 use Rattle.esto_term.proofs.ZipLemmas.{zip_read, zip_right}
 use Rattle.esto_term.specs.declared.term.Term.{Term}
 use Rattle.esto_term.specs.declared.term.Term.TheVariants.{Const, Plain}
@@ -32,7 +33,6 @@ use Rattle.esto_read.specs.declared.read.Form.TheVariants.{Query, View}
 use Rattle.esto_read.specs.Words.{HasRelations}
 use Rattle.esto_read.specs.declared.words.DataModel.TheVariants.{Documents}
 use Rattle.esto_read.specs.declared.words.Word.{Word}
-use Rattle.esto_read.proofs.SeenLemmas.{only_item}
 use Rattle.esto_read.proofs.ItemLemmas.{size_positive, item_count}
 use Rattle.esto_read.proofs.WordLemmas.{base_has}
 use Rattle.esto_read.proofs.EntryLemmas.{pattern_good}
@@ -65,7 +65,7 @@ module _ (words : List Word) (schema bytes : List ℕ) (u : IsUtf8 bytes) where
       let n : length row ≡ length ts = terms_length bytes before ts row after h in (
         g.0,
         λ atom k.
-            let is : atom ≡ fact = only_item fact atom (subst (λ (l : List (Fact Term)). Contains l atom) e k) in
+            let is : atom ≡ fact = sym (Contains-one fact atom (subst (λ (l : List (Fact Term)). Contains l atom) e k)) in
             subst (Good (length after)) (sym is) (columns ∙ ap (λ (i : ℕ). Some i) (sym n), g.1),
       )
 

@@ -4,7 +4,7 @@ use Rattle.std.proofs.lemmas.List.{take_all, take_more}
 use Rattle.std.proofs.lemmas.List.Elements.{Contains-append_left, Contains-append_right, Contains-push_cases}
 use Rattle.esto_term.proofs.ChoiceLemmas.{pairs_append}
 use Rattle.std.proofs.lemmas.Option.{slice_get_within, same_Some}
-use Rattle.esto_term.proofs.ListLemmas.{Contains-at, Contains-cases, Contains-head, Contains-nil, at_end, at_left, at_pushed, place-from_Contains}
+use Rattle.esto_term.proofs.ListLemmas.{Contains-at, Contains-head, Contains-one, at_end, at_left, at_pushed, place-from_Contains}
 use Rattle.esto_relmodel.specs.Once.{StandsBefore, AreEachOnce, IsAdded}
 
 module _ {X : Type 0} where
@@ -66,11 +66,9 @@ module _ {X : Type 0} where
         (pairs_more (λ one other. StandsBefore things one other) (λ one other. StandsBefore (things ++ thing ∷ []) one other) kept
         (λ one other. before_more things thing one other) once.in_order)
         (λ i j d l m. absurd (omega (arith, l, m)))
-        (λ one last inside at_last. subst (StandsBefore (things ++ thing ∷ []) one) (only at_last)
+        (λ one last inside at_last. subst (StandsBefore (things ++ thing ∷ []) one) (Contains-one thing last at_last)
         (before_new things thing one (λ there. new ((once.same thing).1 there)) ((once.same one).0 inside)));
-  } where
-    only : {last : X} → Contains (thing ∷ []) last → thing ≡ last
-    only {last} inside = elim (Contains-cases thing [] last inside) [ inl is ↦ is | inr none ↦ absurd (Contains-nil last none) ]
+  }
 
   pub one_more : (is_new : Bool) (old new : List X) (thing : X) → IsAdded old new thing is_new → (things : List X) → AreEachOnce things old
       → AreEachOnce (things ++ thing ∷ []) new

@@ -1,6 +1,6 @@
 -- Rows found by a test that tells which rows are the same.
 use Rattle.std.proofs.Common.{inl, inr, ◌≡◌, ℕ, Bool, true, false, ◌&&◌, cond, not, List, [], ◌∷◌, ◌++◌, map, Contains, refl, sym, ap, ◌∙◌, subst}
-use Rattle.std.proofs.lemmas.Bool.{false≢true}
+use Rattle.std.proofs.lemmas.Bool.{and_parts, false≢true}
 use Rattle.std.proofs.lemmas.List.{map-append}
 use Rattle.std.proofs.lemmas.Slice.Eq.{bytes_eq-Decides}
 use Rattle.std.specs.Bool.{Decides}
@@ -13,10 +13,6 @@ use Rattle.esto_relmodel.specs.Once.{IsAdded}
 
 -- ---- the test of two rows
 
-both_true : (a b : Bool) → (a && b) ≡ true → (a ≡ true) × (b ≡ true)
-both_true true b e = (refl, e)
-both_true false b e = absurd (false≢true e)
-
 true_both : (a b : Bool) → a ≡ true → b ≡ true → (a && b) ≡ true
 true_both true b e f = f
 true_both false b e f = absurd (false≢true e)
@@ -27,7 +23,7 @@ module _ {C : Type 0} (bytes : C → List ℕ) where
   same_from [] (y ∷ ys) told = absurd (false≢true told)
   same_from (x ∷ xs) [] told = absurd (false≢true told)
   same_from (x ∷ xs) (y ∷ ys) told =
-      let parts = both_true (bytes_eq (bytes x) (bytes y)) (pointwise (λ a b. bytes_eq (bytes a) (bytes b)) xs ys) told in
+      let parts = and_parts (bytes_eq (bytes x) (bytes y)) (pointwise (λ a b. bytes_eq (bytes a) (bytes b)) xs ys) told in
       let first = (bytes_eq-Decides (bytes x) (bytes y)).0 parts.0 in
       let rest = same_from xs ys parts.1 in
       λ i. first i ∷ rest i

@@ -57,6 +57,19 @@ decided_below P bound decide = elim (least_below P bound decide) [
 
 -- ---- what a list contains
 
+-- whether a list has a thing with a property that is decided
+pub decided_in : {A : Type 0} (P : A → Type 0) → ((thing : A) → Decided (P thing)) → (things : List A) → Decided ((thing : A) × Contains things thing × P thing)
+decided_in P decide [] = inr (λ found. Contains-nil found.0 found.1)
+decided_in {A} P decide (first ∷ rest) = by (decide first) (decided_in P decide rest)
+  where
+    by : Decided (P first) → Decided ((thing : A) × Contains rest thing × P thing) → Decided ((thing : A) × Contains (first ∷ rest) thing × P thing)
+    by (inl has) later = inl (first, Contains-head first rest, has)
+    by (inr not) (inl (thing, inside, has)) = inl (thing, Contains-rest first rest thing inside, has)
+    by (inr not) (inr none) = inr (λ found. elim (Contains-cases first rest found.0 found.1) [
+      | inl is ↦ not (subst P (sym is) found.2)
+      | inr later ↦ none (found.0, later, found.2)
+    ])
+
 module _ {A : Type 0} where
   pub contains_more : (x : A) (xs ys : List A) → ((z : A) → Contains xs z ↔ Contains ys z) → (z : A) → Contains (x ∷ xs) z → Contains (x ∷ ys) z
   contains_more x xs ys same z h = elim (Contains-cases x xs z h) [

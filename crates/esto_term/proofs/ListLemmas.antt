@@ -30,6 +30,10 @@ Contains-cases first rest thing (suc place, within, is) = inr (place, omega arit
 pub Contains-at : {X : Type 0} (things : List X) (place : ℕ) (thing : X) → slice_get things place ≡ Some thing → Contains things thing
 Contains-at things place thing found = (place, slice_get_within things place thing found, get_or_from_slice_get things place thing thing found)
 
+-- what a list of one thing contains is that thing
+pub Contains-one : {X : Type 0} (one other : X) → Contains (one ∷ []) other → one ≡ other
+Contains-one one other inside = elim (Contains-cases one [] other inside) [ inl is ↦ is | inr none ↦ absurd (Contains-nil other none) ]
+
 -- ---- a map of a list
 
 pub Contains-map : {X Y : Type 0} (m : X → Y) (things : List X) (thing : X) → Contains things thing → Contains (map m things) (m thing)

@@ -1,5 +1,6 @@
 -- Which words ask for a certificate.
 use Rattle.std.proofs.Common.{◌≡◌, ◌&&◌, ℕ, true, false, Bool, List, [], ◌∷◌, Option, Some, None, refl, sym, ap, ◌∙◌}
+use Rattle.std.proofs.lemmas.Bool.{and_parts}
 use Rattle.std.specs.Prelude.{codes, if◌then◌else◌}
 use Rattle.std.specs.Cmp.Lexicographic.{same_text}
 use Rattle.esto_certify.specs.Explain.{explain_course}
@@ -24,10 +25,6 @@ explain_words words catalogue_name query_name number files (word, is_number, num
 
 false_true : false ≡ true → ⊥
 false_true is = cc
-
-both : (one other : Bool) → one && other ≡ true → (one ≡ true) × (other ≡ true)
-both true other is = (refl, is)
-both false other is = absurd (false_true is)
 
 one_apart : (check audit bench : Bool) (word : List ℕ) (size : ℕ)
     → writes_certificate (if check then Some (CheckOf word) else if audit then Some (AuditOf word) else if bench then Some (BenchOf size) else None) ≡ true
@@ -72,7 +69,7 @@ asks_certificate (verb ∷ first ∷ second ∷ []) is =
     absurd (two_apart (is_word verb (codes "list")) (is_word verb (codes "run")) (is_word verb (codes "fill")) (is_word verb (codes "answer"))
     (is_word verb (codes "minimise")) first second is)
 asks_certificate (verb ∷ first ∷ second ∷ third ∷ []) is =
-    let tells = both (is_word verb (codes "explain")) (is_list_number third)
+    let tells = and_parts (is_word verb (codes "explain")) (is_list_number third)
     (three_tells (is_word verb (codes "contains")) (is_word verb (codes "run") && is_list_number third)
     (is_word verb (codes "explain") && is_list_number third) first second third (value_of third) is) in (
       first,

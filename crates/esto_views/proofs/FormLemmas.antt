@@ -14,10 +14,7 @@ use Rattle.esto_semantics.specs.declared.fact.Value.{Value}
 use Rattle.esto_views.specs.Plans.{fact_of, plan_query}
 use Rattle.esto_views.specs.Soundness.{IsSoundPlan}
 use Rattle.esto_views.specs.declared.plan.Plan.{Plan}
-use Rattle.esto_term.proofs.ListLemmas.{Contains-cases, Contains-head, Contains-map_from, Contains-nil}
-
-pub only_one : {A : Type 0} (one other : A) → Contains (one ∷ []) other → one ≡ other
-only_one one other inside = elim (Contains-cases one [] other inside) [ inl is ↦ is | inr later ↦ absurd (Contains-nil other later) ]
+use Rattle.esto_term.proofs.ListLemmas.{Contains-head, Contains-map_from, Contains-one}
 
 -- two rows that one row is made of are of one length
 one_length : (one other : Term → Value) (head other_head : List Term) (row : List Value) → row ≡ map one head → row ≡ map other other_head
@@ -42,7 +39,7 @@ plan_form own rules views query plan sound receives (database, meets, (row, answ
     let contained = (receives (plan_query plan ∷ [])).1 (plan_query plan, Contains-head (plan_query plan) [], own (plan_query plan)) in
     let (other, inside, found) = contained database meets row answer in
     record {
-      same_length = ap (λ (it : ConjunctiveQuery). length it.head) (only_one (plan_query plan) other inside)
+      same_length = ap (λ (it : ConjunctiveQuery). length it.head) (Contains-one (plan_query plan) other inside)
           ∙ one_length found.0 answer.0 other.head query.head row found.3 answer.3;
       has_head = sound.has_head;
       flat_body = flat_atoms plan sound;

@@ -11,7 +11,7 @@ use Rattle.esto_term.specs.declared.term.Term.{Term, out-Term, fold-roll-Term}
 use Rattle.esto_term.specs.declared.term.Term.TheVariants.{Const, Plain, Made, rolls-Const, rolls-Plain, rolls-Made}
 use Rattle.esto_term.specs.declared.term.Term.TheOpen.{Term-F}
 use Rattle.esto_term.specs.declared.term.Term.TheFolds.{fold-Term}
-use Rattle.esto_term.proofs.ChoiceLemmas.{Decided, decided_both}
+use Rattle.esto_term.proofs.ChoiceLemmas.{Decided, decided_both, decided_in}
 use Rattle.esto_term.proofs.DistinctLemmas.{decided_contains}
 use Rattle.esto_term.proofs.FiniteLemmas.{Contains-lists_within}
 use Rattle.esto_term.proofs.ListLemmas.{Contains-nil, Contains-head, Contains-rest, Contains-cases, Contains-map, Contains-map_from, Contains-flat}
@@ -30,16 +30,6 @@ use Rattle.esto_chase_laws.proofs.JoinedLemmas.{joined_from}
 use Rattle.esto_chase_laws.proofs.MakingLemmas.{in_terms-Decides, terms_of-Mentions}
 
 -- ---- decisions
-
-any_of : {X : Type 0} (P : X → Type 0) → ((x : X) → Decided (P x)) → (xs : List X) → Decided ((x : X) × Contains xs x × P x)
-any_of P d [] = inr (λ h. Contains-nil h.0 h.1)
-any_of {X} P d (x ∷ xs) = elim (d x) [
-  | inl p ↦ inl (x, Contains-head x xs, p)
-  | inr n ↦ elim (any_of P d xs) [
-    | inl r ↦ inl (r.0, Contains-rest x xs r.0 r.1, r.2)
-    | inr m ↦ inr (λ h. elim (Contains-cases x xs h.0 h.1) [ inl e ↦ n (subst (λ (w : X). P w) (sym e) h.2) | inr t ↦ m (h.0, t, h.2) ])
-  ]
-]
 
 all_of : {X : Type 0} (P : X → Type 0) → ((x : X) → Decided (P x)) → (xs : List X) → Decided ((x : X) → Contains xs x → P x)
 all_of P d [] = inl (λ x c. absurd (Contains-nil x c))
@@ -122,7 +112,7 @@ module _ (database : Database) (body head : List (Fact Term)) (xs : List Value) 
   domain = terms_of database
 
   found : Decided ((ys : List Value) × Contains (lists_within domain (length (terms_of head))) ys × IsExtension (candidate ys))
-  found = any_of (λ ys. IsExtension (candidate ys)) (λ ys. extension_decided (candidate ys)) (lists_within domain (length (terms_of head)))
+  found = decided_in (λ ys. IsExtension (candidate ys)) (λ ys. extension_decided (candidate ys)) (lists_within domain (length (terms_of head)))
 
   pick : Decided ((ys : List Value) × Contains (lists_within domain (length (terms_of head))) ys × IsExtension (candidate ys)) → Term → Value
   pick (inl w) = candidate w.0
