@@ -1,7 +1,7 @@
 -- Over catalogues that say the same, a certificate is verified in one way.
 use Rattle.std.proofs.Common.{◌≡◌, ℕ, Bool, List, length, Option, Some, None, refl, sym, ap, subst, ◌∙◌}
 use Rattle.std.proofs.lemmas.List.{length-map}
-use Rattle.std.proofs.lemmas.Option.{same_Some}
+use Rattle.std.proofs.lemmas.Option.{none-some, same_Some}
 use Rattle.esto_catalog.specs.Determined.{AreSame}
 use Rattle.esto_catalog.specs.declared.catalogue.Catalogue.{Catalogue}
 use Rattle.esto_cert.specs.Showing.{VerdictsAreMoved, VerdictsAreOne}
@@ -27,9 +27,6 @@ pub same_length : (plan other : Plan) → IsSamePlan plan other → length plan.
 same_length plan other same =
     sym (length-map plan.atoms fact_of) ∙ ap (λ (it : ConjunctiveQuery). length it.body) same.0 ∙ length-map other.atoms fact_of
 
-pub none_some : {A : Type 0} (one : A) → None ≡ Some one → ⊥
-none_some one same = cc
-
 -- ---- the set
 
 module _ (tell : NumbersTellSets) (count : ℕ) (numbers : List ℕ) where
@@ -43,7 +40,7 @@ module _ (tell : NumbersTellSets) (count : ℕ) (numbers : List ℕ) where
       here.2 ∙ ap (λ (it : ℕ). NoSuchNumber it count) (same_Some here.0 there.0 (sym here.1 ∙ there.1)) ∙ sym there.2
 
   pub set_not_above : (set : List Bool) (said : Status) → IsSetOf count numbers set → IsAbove count numbers said → ⊥
-  set_not_above set said here there = none_some there.0 (sym here.none_above ∙ there.1)
+  set_not_above set said here there = none-some there.0 (sym here.none_above ∙ there.1)
 
   named_one : (plan other : Plan) → length plan.atoms ≡ count → length other.atoms ≡ count
       → AgreeCalmly ◌≡◌ (names_set plan numbers) (names_set other numbers)
@@ -72,8 +69,8 @@ module _ (verdicts : VerdictsAreOne) (catalogue other : Catalogue) (query other_
       (λ text its here there. here.1 ∙ sym there.1)
       (λ said its caused caused_too here there.
       here.2 ∙ ap Rejected (same_Some here.0 there.0 (verdict_one (Some here.0) (Some there.0) here.1 there.1)) ∙ sym there.2)
-      (λ text said caused here there. none_some there.0 (verdict_one None (Some there.0) here.0 there.1))
-      (λ text said caused here there. none_some there.0 (sym (verdict_one (Some there.0) None there.1 here.0)))
+      (λ text said caused here there. none-some there.0 (verdict_one None (Some there.0) here.0 there.1))
+      (λ text said caused here there. none-some there.0 (sym (verdict_one (Some there.0) None there.1 here.0)))
 
 -- a verdict over the other catalogue is one over this
 pub verdict_moved : VerdictsAreMoved → (catalogue other : Catalogue) (query other_query : Query) (plan other_plan : Plan) → AreSame catalogue other

@@ -1,6 +1,6 @@
 -- What `verify` answers where nothing is wrong with the catalogue's and the query's files.
 use Rattle.std.proofs.Common.{◌≡◌, ◌↔◌, ℕ, Bool, List, length, Option, Some, None, sym, ap, subst, ◌∙◌, inl, inr}
-use Rattle.std.proofs.lemmas.Option.{same_Some}
+use Rattle.std.proofs.lemmas.Option.{none-some, same_Some}
 use Rattle.esto_catalog.specs.declared.catalogue.Catalogue.{Catalogue}
 use Rattle.esto_certify.specs.Laws.{Certifies, IsChecked, IsVerified, SaysVerdict, VerifyChecksCertificates, VerifyIsOne, VerifySaysVerdicts}
 use Rattle.esto_certify.specs.Laws.IsChecked.{is_above, not_fetched, accepts, rejects}
@@ -29,16 +29,13 @@ use Rattle.esto_top.proofs.SayLemmas.{catalogue_opens, query_opens}
 
 -- ---- one outcome
 
-some_none : {A : Type 0} (one : A) → None ≡ Some one → ⊥
-some_none one is = cc
-
 -- a word names one list of numbers, or none
 named_agree : (atoms : List ℕ) → AgreeCalmly ◌≡◌ (names_atoms atoms) (names_atoms atoms)
 named_agree atoms = judges_agree _ _ _ _ _ _
     (λ numbers others here there. same_Some numbers others (sym here ∙ there))
     (λ said other_said caused other_caused here there. here.1 ∙ sym there.1)
-    (λ numbers said caused here there. some_none numbers (sym there.0 ∙ here))
-    (λ numbers said caused here there. some_none numbers (sym there.0 ∙ here))
+    (λ numbers said caused here there. none-some numbers (sym there.0 ∙ here))
+    (λ numbers said caused here there. none-some numbers (sym there.0 ∙ here))
 
 pub verify_agrees : VerifyIsOne → (files : Files) (catalogue_name query_name atoms file : List ℕ)
     → AgreeCalmly ◌≡◌ (verifies_named (Some files) catalogue_name query_name atoms file) (verifies_named (Some files) catalogue_name query_name atoms file)
@@ -59,7 +56,7 @@ module _ (files : Files) (catalogue_name query_name atoms numbers file : List �
         always.goes reply (subst (λ (it : List ℕ). (verify_course (Some files) catalogue_name query_name it file).goes reply)
         (same_Some _ _ (sym goes.1 ∙ named)) goes.2);
     stops = λ said caused stops. elim stops [
-      | inl early ↦ absurd (some_none numbers (sym early.0 ∙ named))
+      | inl early ↦ absurd (none-some numbers (sym early.0 ∙ named))
       | inr late ↦
           always.stops said caused (subst (λ (it : List ℕ). (verify_course (Some files) catalogue_name query_name it file).stops said)
           (same_Some _ _ (sym late.1 ∙ named)) late.2)
@@ -127,7 +124,7 @@ module _ (files : Files) (catalogue : Catalogue) (query : Query) (plan : Plan) (
   none_above : (set : List Bool) → IsSetOf (length plan.atoms) numbers set → (number count : ℕ) → (said ≡ status.NoSuchNumber number count → ⊥)
       → (said ≡ status.NoSuchNumber number count) ↔ ((first_above (length plan.atoms) numbers ≡ Some number) × (count ≡ length plan.atoms))
   none_above set is_set number count apart =
-      ((λ tells. absurd (apart tells)), (λ (above, counted). absurd (some_none number (sym is_set.none_above ∙ above))))
+      ((λ tells. absurd (apart tells)), (λ (above, counted). absurd (none-some number (sym is_set.none_above ∙ above))))
 
   number_told : IsChecked files catalogue query plan numbers file said text → TellsNumber
   number_told (is_above asked above is line) number count = (

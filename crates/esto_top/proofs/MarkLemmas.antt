@@ -4,15 +4,13 @@ use Rattle.std.specs.Prelude.{if◌then◌else◌, nat_eq}
 use Rattle.std.specs.Cmp.Lexicographic.{pointwise}
 use Rattle.std.specs.List.{onto_first, slice_split, starts_with}
 use Rattle.std.proofs.lemmas.Bool.{eqb-true}
+use Rattle.std.proofs.lemmas.Option.{none-some}
 use Rattle.esto_cert.specs.Lines.{line_of, line_of_words}
 use Rattle.esto_cert.specs.Showing.{AreLinesOf}
 use Rattle.esto_cert.specs.declared.line.Line.{Line}
 use Rattle.esto_fill.specs.Filled.{without_mark}
 use Rattle.esto_opening.specs.Fetch.{HasWithin}
 use Rattle.esto_ports.specs.Files.{Files, Holds}
-
-none_some : {A : Type 0} (one : A) → None ≡ Some one → ⊥
-none_some one same = cc
 
 first_one : {A : Type 0} (one other : A) (more others : List A) → one ∷ more ≡ other ∷ others → one ≡ other
 first_one one other more others same = cc
@@ -44,7 +42,7 @@ not_first rest [] line lines are say = no_first (Some line) (map Some lines) say
 not_first rest (part ∷ parts) line lines are say = by (slice_split (λ byte. byte == 10) rest) are
   where
     begins : (other : List ℕ) → 239 ∷ other ≡ part → ⊥
-    begins other is = none_some line
+    begins other is = none-some line
         (sym (part_apart other) ∙ ap line_of is ∙ first_one (line_of part) (Some line) (map line_of parts) (map Some lines) say)
 
     by : (others : List (List ℕ)) → onto_first 239 others ≡ (part ∷ parts) ++ [] ∷ [] → ⊥
