@@ -53,7 +53,8 @@ module _ (claims : List Claim) where
     where
       by : (found : Option Claim) → numbered claims number ≡ found → fact_of found ≡ Some fact → Contains claims (Stated fact)
       by None at own = absurd (cc)
-      by (Some (Stated it)) at own = subst (λ (its : Fact Term). Contains claims (Stated its)) (same_Some it fact own) (numbered_in claims number (Stated it) at)
+      by (Some (Stated it)) at own =
+          subst (λ (its : Fact Term). Contains claims (Stated its)) (same_Some it fact own) (numbered_in claims number (Stated it) at)
       by (Some (Same left right)) at own = absurd (cc)
 
   pub equal_in : (numbers : List ℕ) (equalities : List Equality) → equalities_at claims numbers ≡ Some equalities → (it : Equality) → Contains equalities it

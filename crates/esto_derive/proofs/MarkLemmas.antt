@@ -63,7 +63,8 @@ module _ (entries : List Entry) (reasoned : AreReasoned entries) (place : ℕ) (
       | inl had ↦ elim (is_later at_place from) [
         | inl same ↦ (adds named).1 (inr (
           subst (λ (it : ℕ). Has old it) same had,
-          subst (λ (it : Entry). Contains (named_by it.reason) named) (same_Some its entry (sym its_at ∙ ap (λ (it : ℕ). slice_get entries it) same ∙ at)) inside,
+          subst (λ (it : Entry). Contains (named_by it.reason) named)
+              (same_Some its entry (sym its_at ∙ ap (λ (it : ℕ). slice_get entries it) same ∙ at)) inside,
         ))
         | inr later ↦ keeps named (closed at_place its later its_at had named inside)
       ]

@@ -163,8 +163,8 @@ module _ (case : Case) (entries : List Entry) (used : List Bool) (basis : IsBasi
         (subst HasLine (sym is) tt) in
         let (later, up_at) = place-from_Contains state.places up written in
         let (line, its_line, (its, its_at, within, says)) = line_at later up up_at in
-        let said = step_said entries state.places its.reason line number places (ap (λ (it : Entry). it.reason) (same_Some its entry (sym its_at ∙ entry_at)) ∙ is) says
-        in (
+        let said = step_said entries state.places its.reason line number places
+        (ap (λ (it : Entry). it.reason) (same_Some its entry (sym its_at ∙ entry_at)) ∙ is) says in (
           later,
           line,
           stands_before state.places state.are_of.rising at later other up other_at up_at

@@ -135,17 +135,17 @@ module _ (laws : TellLaws) where
   pub members_tell : MembersTellSatisfiable
   members_tell catalogue queries members are =
       zip_weaker (IsMemberOf catalogue queries) (TellsSatisfiable catalogue) queries members
-          (λ query member _ is. tells laws catalogue queries query member is) are
+      (λ query member _ is. tells laws catalogue queries query member is) are
 
   pub members_universal : MembersAreUniversal
   members_universal catalogue queries members are =
       zip_weaker (IsMemberOf catalogue queries) (HasUniversalPlan catalogue) queries members
-          (λ query member _ is. universal laws catalogue queries query member is) are
+      (λ query member _ is. universal laws catalogue queries query member is) are
 
   pub members_cored : MembersAreCores
   members_cored catalogue queries members are =
       zip_weaker (IsMemberOf catalogue queries) (HasOnlyCore catalogue) queries members
-          (λ query member _ is. cored laws catalogue queries query member is) are
+      (λ query member _ is. cored laws catalogue queries query member is) are
 
   pub members_cover : MembersCoverUnions
   members_cover catalogue queries members are member inside =
