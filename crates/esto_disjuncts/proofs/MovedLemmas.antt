@@ -9,6 +9,7 @@ use Rattle.esto_opening.specs.Answers.{IsCaused}
 use Rattle.esto_opening.specs.declared.status.Status.{Status}
 use Rattle.esto_planning.specs.Alike.{ClashIsMoved, ListTextIsMoved, PlanIsMoved}
 use Rattle.esto_query.specs.declared.query.Query.{Query}
+use Rattle.esto_term.proofs.ZipLemmas.{zip_weaker}
 use Rattle.esto_disjuncts.specs.Laws.{MembersAreMoved, UnionListsAreMoved}
 use Rattle.esto_disjuncts.specs.List.{IsMemberText, IsUnionText, lists_union}
 use Rattle.esto_disjuncts.specs.Members.{AreMembersOf, IsMemberOf}
@@ -49,10 +50,8 @@ module _ (printed_moved : ListTextIsMoved) (catalogue other : Catalogue) (alike 
   text_moved (Clashed clash) text is = is
 
   texts_moved : (members : List Member) (texts : List (List ℕ)) → AllZip (IsMemberText other) members texts → AllZip (IsMemberText catalogue) members texts
-  texts_moved [] [] zip = tt
-  texts_moved [] (text ∷ texts) zip = absurd zip
-  texts_moved (member ∷ members) [] zip = absurd zip
-  texts_moved (member ∷ members) (text ∷ texts) (here, later) = (text_moved member text here, texts_moved members texts later)
+  texts_moved members texts =
+      zip_weaker (IsMemberText other) (IsMemberText catalogue) members texts (λ member text _ is. text_moved member text is)
 
   union_text_moved : (members : List Member) (text : List ℕ) → IsUnionText other members text → IsUnionText catalogue members text
   union_text_moved members text (texts, are, is) = (texts, texts_moved members texts are, is)

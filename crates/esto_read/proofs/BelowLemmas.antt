@@ -1,14 +1,13 @@
 -- Terms and the numbers of variables.
-use Rattle.std.proofs.Common.{IsUtf8, ◌≡◌, ℕ, ◌+◌, ◌<◌, ◌≤◌, ◌⊎◌, inl, inr, List, [], ◌∷◌, ◌++◌, length, Some, refl, sym, ap, subst, ◌∙◌, arith}
+use Rattle.std.proofs.Common.{IsUtf8, ◌≡◌, ℕ, ◌+◌, ◌<◌, ◌≤◌, inl, inr, List, [], ◌∷◌, ◌++◌, length, Some, refl, sym, ap, subst, ◌∙◌, arith}
 use Rattle.std.specs.Prelude.{Contains, slice_get}
 use Rattle.std.specs.List.{AllByRecursion}
 use Rattle.std.proofs.lemmas.List.{length-append, get_or_append_left, get_or_at}
-use Rattle.std.proofs.lemmas.List.Elements.{Contains-append_cases}
 use Rattle.std.proofs.lemmas.Option.{slice_get_within, slice_get-get_or, get_or_from_slice_get}
 use Rattle.esto_query.specs.declared.query.Name.{Name}
 use Rattle.esto_query.specs.declared.query.Name.TheVariants.{Given, Hidden}
 use Rattle.esto_semantics.specs.Maps.{IsFlat}
-use Rattle.esto_term.proofs.ListLemmas.{Contains-one}
+use Rattle.esto_term.proofs.ListLemmas.{Contains-cases, Contains-nil}
 use Rattle.esto_term.specs.declared.term.Term.{Term, out-Term}
 use Rattle.esto_term.specs.declared.term.Term.TheOpen.{Term-F}
 use Rattle.esto_term.specs.declared.term.Term.TheVariants.{Const, Plain, outs-Const, outs-Plain}
@@ -83,27 +82,21 @@ term_grows bytes u t h kind.Quoted q before after x (content, w, e, p) =
 term_grows bytes u t h kind.Number q before after x (e, p) = as_before before after (text_of bytes t) x e (number_token bytes u t h q) p
 term_grows bytes u t h _ q before after x g = absurd g
 
-pub cons_cases : {X : Type 0} → (x y : X) (xs : List X) → Contains (x ∷ xs) y → (y ≡ x) ⊎ Contains xs y
-cons_cases x y xs h = elim (Contains-append_cases (x ∷ []) xs y h) [ inl k ↦ inl (sym (Contains-one x y k)) | inr k ↦ inr k ]
-
 abbrev pub AllGrow : List Name → List Name → List Term → Type 0
 AllGrow before after xs = (length before ≤ length after) × ((x : Term) → Contains xs x → Below (length after) x)
-
-pub no_item : {X : Type 0} → (y : X) → ¬ Contains [] y
-no_item y (k, lt, e) = omega arith
 
 module _ (bytes : List ℕ) (u : IsUtf8 bytes) where
   pub terms_grow : (before : List Name) (ts : List Token) (xs : List Term) (after : List Name) → AllByRecursion (IsTermIn bytes) ts
       → AreTerms bytes before ts xs after → AllGrow before after xs
-  terms_grow before [] [] after all h = (omega (arith, ap length h), λ x k. absurd (no_item x k))
+  terms_grow before [] [] after all h = (omega (arith, ap length h), λ x k. absurd (Contains-nil x k))
   terms_grow before [] (x ∷ xs) after all h = absurd h
   terms_grow before (t ∷ ts) [] after all h = absurd h
   terms_grow before (t ∷ ts) (x ∷ xs) after all (between, h, more) =
       let first = term_grows bytes u t all.0.0 t.kind refl before between x h in
       let rest = terms_grow between ts xs after all.1 more in (
         omega (arith, first.0, rest.0),
-        λ y k. elim (cons_cases x y xs k) [
-          | inl e ↦ subst (Below (length after)) (sym e) (below_more (length between) (length after) x rest.0 first.1)
+        λ y k. elim (Contains-cases x xs y k) [
+          | inl e ↦ subst (Below (length after)) e (below_more (length between) (length after) x rest.0 first.1)
           | inr l ↦
               rest.1 y l
         ],

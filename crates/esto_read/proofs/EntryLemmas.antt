@@ -4,7 +4,7 @@ use Rattle.std.specs.Prelude.{IsUtf8, Contains, slice_get, replicate}
 use Rattle.std.specs.List.{AllByRecursion, AllZip}
 use Rattle.std.proofs.lemmas.List.{length-append, length-map, length-replicate}
 use Rattle.std.proofs.lemmas.Slice.Zip.{AllZip-long}
-use Rattle.esto_term.proofs.ListLemmas.{Contains-map_from}
+use Rattle.esto_term.proofs.ListLemmas.{Contains-cases, Contains-map_from, Contains-nil}
 use Rattle.esto_docmodel.specs.DocumentFacts.{DocFact, root, field, item, value, below, kind, row_of, flat}
 use Rattle.esto_docmodel.specs.Encodings.{end, step_atoms, used, atoms, pattern_atoms}
 use Rattle.esto_docmodel.specs.Patterns.{Entries, done, holds, group}
@@ -28,7 +28,7 @@ use Rattle.esto_read.specs.Patterns.{IsFieldOf, IsStepOf, AreEntries, IsPatternO
 use Rattle.esto_read.specs.Words.{HasRelations}
 use Rattle.esto_read.specs.declared.words.DataModel.TheVariants.{Documents}
 use Rattle.esto_read.proofs.BelowLemmas as terms
-use Rattle.esto_read.proofs.BelowLemmas.{below_more, plain_below, const_below, term_grows, cons_cases, no_item}
+use Rattle.esto_read.proofs.BelowLemmas.{below_more, plain_below, const_below, term_grows}
 use Rattle.esto_read.proofs.Utf8Lemmas.{said_utf8, text_inside_utf8, name_token, quoted_token}
 
 -- ---- so many atoms
@@ -156,13 +156,13 @@ module _ (bytes : List ℕ) (u : IsUtf8 bytes) where
 -- ---- atoms over a schema
 
 each_below : (n : ℕ) (xs : List Term) → AllByRecursion (terms.Below n) xs → (x : Term) → Contains xs x → terms.Below n x
-each_below n [] h x k = absurd (no_item x k)
-each_below n (y ∷ ys) h x k = elim (cons_cases y x ys k) [ inl e ↦ subst (terms.Below n) (sym e) h.0 | inr l ↦ each_below n ys h.1 x l ]
+each_below n [] h x k = absurd (Contains-nil x k)
+each_below n (y ∷ ys) h x k = elim (Contains-cases y ys x k) [ inl e ↦ subst (terms.Below n) e h.0 | inr l ↦ each_below n ys h.1 x l ]
 
 each_good : (n : ℕ) (facts : List (DocFact Term)) → AreGood n facts → (fact : DocFact Term) → Contains facts fact → GoodFact n fact
-each_good n [] h fact k = absurd (no_item fact k)
+each_good n [] h fact k = absurd (Contains-nil fact k)
 each_good n (first ∷ facts) h fact k =
-    elim (cons_cases first fact facts k) [ inl e ↦ subst (GoodFact n) (sym e) h.0 | inr l ↦ each_good n facts h.1 fact l ]
+    elim (Contains-cases first facts fact k) [ inl e ↦ subst (GoodFact n) e h.0 | inr l ↦ each_good n facts h.1 fact l ]
 
 columns : (schema : List ℕ) (base : ℕ) → HasRelations schema Documents base → (fact : DocFact Term)
     → slice_get schema (base + kind fact) ≡ Some (length (row_of fact))

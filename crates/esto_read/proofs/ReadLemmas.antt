@@ -11,7 +11,7 @@ use Rattle.esto_query.specs.Soundness.{IsSound}
 use Rattle.esto_semantics.specs.Maps.{IsVariable}
 use Rattle.esto_semantics.specs.WellFormed.{IsQueryOver}
 use Rattle.esto_semantics.specs.declared.fact.Fact.{Fact}
-use Rattle.esto_term.proofs.ListLemmas.{Contains-one}
+use Rattle.esto_term.proofs.ListLemmas.{Contains-nil, Contains-one}
 use Rattle.esto_term.proofs.ZipLemmas.{zip_read, zip_right}
 use Rattle.esto_term.specs.declared.term.Term.{Term}
 use Rattle.esto_term.specs.declared.term.Term.TheVariants.{Const, Plain}
@@ -36,7 +36,7 @@ use Rattle.esto_read.specs.declared.words.Word.{Word}
 use Rattle.esto_read.proofs.ItemLemmas.{size_positive, item_count}
 use Rattle.esto_read.proofs.WordLemmas.{base_has}
 use Rattle.esto_read.proofs.EntryLemmas.{pattern_good}
-use Rattle.esto_read.proofs.BelowLemmas.{names_are_terms, terms_length, plain_one, Below, below_more, AllGrow, no_item, terms_grow, Keeps, keeps_more, new_is_last}
+use Rattle.esto_read.proofs.BelowLemmas.{names_are_terms, terms_length, plain_one, Below, below_more, AllGrow, terms_grow, Keeps, keeps_more, new_is_last}
 
 -- ---- the parts of a query
 
@@ -82,7 +82,7 @@ module _ (words : List Word) (schema bytes : List ℕ) (u : IsUtf8 bytes) where
     items_good before [] atoms after in_text (e, f) = (
       omega (arith, ap length f),
       λ atom k. absurd
-          (no_item atom (subst (λ (l : List (Fact Term)). Contains l atom) e k)),
+          (Contains-nil atom (subst (λ (l : List (Fact Term)). Contains l atom) e k)),
     )
     items_good before (item ∷ items) atoms after in_text (own, rest, between, e, h, more) =
         let first = item_good item before between own in_text.0 h in

@@ -1,7 +1,6 @@
 -- The run of a set over stored rows.
-use Rattle.std.proofs.Common.{◌≡◌, ◌↔◌, ◌⊎◌, ◌++◌, inl, inr, ℕ, suc, ◌<◌, Bool, List, [], ◌∷◌, map, length, get_or, Some, slice_get, Contains, refl, sym, ap, ◌∙◌, subst, arith}
+use Rattle.std.proofs.Common.{◌≡◌, ◌↔◌, ◌⊎◌, ◌++◌, inl, inr, ℕ, ◌<◌, Bool, List, [], ◌∷◌, map, length, get_or, Some, slice_get, Contains, refl, sym, ap, ◌∙◌, subst, arith}
 use Rattle.std.specs.Prelude.{All, Option, None, option_to_list}
-use Rattle.std.specs.List.{AllZip}
 use Rattle.std.proofs.lemmas.List.{length-append, length-map}
 use Rattle.std.proofs.lemmas.List.Elements.{Contains-get_or, Contains-append_cases, Contains-append_left, Contains-append_right, Contains-push_cases}
 use Rattle.std.proofs.lemmas.Option.{get_or_from_slice_get}
@@ -21,6 +20,7 @@ use Rattle.esto_semantics.specs.Queries.{ConjunctiveQuery}
 use Rattle.esto_semantics.specs.declared.fact.Fact.{Fact}
 use Rattle.esto_stores.specs.Rows.{Row}
 use Rattle.esto_term.proofs.ListLemmas.{Contains-nil, Contains-at, Contains-cases, Contains-head, Contains-map_from, at_left, map_agree, map_at, map_then, thing_at}
+use Rattle.esto_term.proofs.ZipLemmas.{zip_length}
 use Rattle.esto_views.specs.Fragments.{patterns_of}
 use Rattle.esto_views.specs.Plans.{fact_of, plan_query, IsPlanOver}
 use Rattle.esto_views.specs.declared.fragments.FragmentDef.{FragmentDef}
@@ -130,13 +130,7 @@ atoms_among atoms (first ∷ rest) atom inside =
 -- the steps have a source for each term of the head
 pub sources_long : (texts : List (List ℕ)) (patterns : Patterns) (head : List Term) (sources : List Source) (bound : List Term) (atoms : List (Fact Term))
     (gets : List Get) → AreStepsAfter texts patterns head sources bound atoms gets → length head ≡ length sources
-sources_long texts patterns head sources bound [] [] are = zipped head sources are
-  where
-    zipped : (terms : List Term) (them : List Source) → AllZip (IsSource texts bound) terms them → length terms ≡ length them
-    zipped [] [] are = refl
-    zipped [] (source ∷ them) are = absurd are
-    zipped (term ∷ terms) [] are = absurd are
-    zipped (term ∷ terms) (source ∷ them) are = ap suc (zipped terms them are.1)
+sources_long texts patterns head sources bound [] [] are = zip_length (IsSource texts bound) head sources are
 sources_long texts patterns head sources bound [] (get ∷ gets) are = absurd are
 sources_long texts patterns head sources bound (atom ∷ atoms) [] are = absurd are
 sources_long texts patterns head sources bound (atom ∷ atoms) (get ∷ gets) are =
