@@ -1,8 +1,8 @@
 -- What an atom needs, by what products cover.
-use Rattle.std.proofs.Common.{◌≡◌, ◌↔◌, ◌⊎◌, ℕ, ◌+◌, ◌<◌, ◌≤◌, Bool, false, List, [], map, length, replicate, get_or, Some, slice_get, slice_index_or, Contains, refl, sym, ap, ◌∙◌, subst, inl, inr, arith}
+use Rattle.std.proofs.Common.{◌≡◌, ◌↔◌, ◌⊎◌, ℕ, ◌+◌, ◌≤◌, Bool, false, List, [], map, length, replicate, Some, slice_get, slice_index_or, Contains, refl, sym, ap, ◌∙◌, subst, inl, inr, arith}
 use Rattle.std.proofs.lemmas.Bool.{cases_lt}
 use Rattle.std.proofs.lemmas.List.{length-map, get_or_past}
-use Rattle.std.proofs.lemmas.Option.{same_Some, slice_get-get_or, get_or_from_slice_get}
+use Rattle.std.proofs.lemmas.Option.{same_Some, get_or_from_slice_get}
 use Rattle.esto_term.specs.declared.term.Term.{Term}
 use Rattle.esto_semantics.specs.declared.fact.Fact.{Fact}
 use Rattle.esto_semantics.specs.Access.{IsInput, IsBound, MeetsPattern, IsAccessible}
@@ -20,10 +20,6 @@ use Rattle.esto_access.proofs.AtomLemmas.{no_patterns}
 use Rattle.esto_access.specs.Rounds.{IsNextIn}
 use Rattle.esto_bits.proofs.JoinLemmas.{covers_none}
 use Rattle.esto_term.proofs.ListLemmas.{Contains-nil, HoldsBelow, SomeBelow, some_none, some_step, some_all, some_contained, each_none, each_step, each_all, map_at, thing_at}
-
--- the item that a loop reads
-pub read_at : {A : Type 0} (xs ys : List A) → ys ≡ xs → (place : ℕ) (x : A) → place < length ys → x ≡ get_or ys place x → slice_get xs place ≡ Some x
-read_at xs ys same place x l e = subst (λ zs. slice_get zs place ≡ Some x) same (slice_get-get_or ys place x l ∙ ap Some (sym e))
 
 -- the set of no number is a subset of every set
 pub none_within : (count : ℕ) (set : List Bool) → Within (replicate count false) set

@@ -1,62 +1,32 @@
 -- Runs that take the accessible atom of least number each time, and what they show of the set.
-use Rattle.std.proofs.Common.{◌≡◌, ◌↔◌, ℕ, zero, suc, ◌+◌, ◌-◌, ◌<◌, ◌≤◌, Bool, true, false, List, [], ◌∷◌, ◌++◌, length, get_or, take, slice_set, replicate, Some, slice_get, IsTrue, Contains, All, refl, sym, ap, ◌∙◌, subst, arith, inl, inr, length-take, length-append}
-use Rattle.std.proofs.lemmas.List.{get_or-take, length-replicate}
+use Rattle.std.proofs.Common.{◌≡◌, ◌↔◌, ℕ, zero, suc, ◌+◌, ◌-◌, ◌<◌, ◌≤◌, Bool, true, false, List, [], ◌∷◌, ◌++◌, length, get_or, take, slice_set, replicate, Some, slice_get, IsTrue, Contains, All, refl, sym, ap, ◌∙◌, subst, arith, inl, inr, length-append}
 use Rattle.std.proofs.lemmas.List.Elements.{Contains-get_or}
-use Rattle.std.proofs.lemmas.Option.{none-some, same_Some, slice_get_within, slice_get-get_or, get_or_from_slice_get}
+use Rattle.std.proofs.lemmas.Option.{none-some, same_Some, slice_get_within, slice_get-get_or}
 use Rattle.esto_term.specs.declared.term.Term.{Term}
 use Rattle.esto_semantics.specs.declared.fact.Fact.{Fact}
 use Rattle.esto_semantics.specs.Sets.{Has}
 use Rattle.esto_semantics.specs.Access.{Patterns, IsAccessible, IsEarlier, IsOrder, IsExecutable, IsAccessiblePart, IsStatedOrder}
 use Rattle.esto_semantics.specs.AccessSteps.{IsStuck}
-use Rattle.esto_semantics.proofs.AccessLemmas.{one_place, missing, missing-set, has_set, none_has, accessible_more, ready_more, order_grows, stuck_has}
+use Rattle.esto_semantics.proofs.AccessLemmas.{earlier_contains, earlier_push, push_earlier, missing, missing-set, has_set, none_has, accessible_more, ready_more, order_grows, none_is_order, stuck_has}
 use Rattle.esto_semantics.proofs.SetLemmas.{beyond, decided_has, within_refl, within_same}
 use Rattle.esto_access.specs.Runs.{CanFollow, NoneFollows, IsFirstFollower, IsRun}
-use Rattle.esto_term.proofs.ListLemmas.{Contains-at, Contains-nil, at_left, at_pushed, place-from_Contains}
+use Rattle.esto_term.proofs.ListLemmas.{Contains-at, at_pushed, place-from_Contains}
+use Rattle.esto_term.proofs.PlaceLemmas.{Contains-take, Contains-take_from, one_place}
 
 -- ---- earlier places
 
-pub take_earlier : (order : List ℕ) (place number : ℕ) → Contains (take place order) number → IsEarlier order place number
-take_earlier order place number h =
-    let short = length-take place order in
-    let below : h.0 < place = omega (arith, h.1, short) in
-    let within : h.0 < length order = omega (arith, h.1, short) in
-    (h.0, below, slice_get-get_or order h.0 number within ∙ ap Some (sym (get_or-take place order h.0 number below) ∙ h.2))
-
 pub earlier_take : (order : List ℕ) (place number : ℕ) → IsEarlier order place number → Contains (take place order) number
-earlier_take order place number h =
-    let short = length-take place order in
-    let within = slice_get_within order h.0 number h.2 in
-    (h.0, omega (arith, h.1, short, within), get_or-take place order h.0 number h.1 ∙ get_or_from_slice_get order h.0 number number h.2)
-
-pub earlier_anywhere : (order : List ℕ) (place number : ℕ) → IsEarlier order place number → Contains order number
-earlier_anywhere order place number h = Contains-at order h.0 number h.2
+earlier_take order place number h = Contains-take order place h.0 number h.1 h.2
 
 pub anywhere_earlier : (order : List ℕ) (place number : ℕ) → length order ≤ place → Contains order number → IsEarlier order place number
 anywhere_earlier order place number l h = let at = place-from_Contains order number h in let within = slice_get_within order at.0 number
     at.1 in (at.0, omega (arith, l, within), at.1)
-
-earlier_kept : (order : List ℕ) (more place number : ℕ) → IsEarlier order place number → IsEarlier (order ++ more ∷ []) place number
-earlier_kept order more place number h = (h.0, h.1, at_left order (more ∷ []) h.0 number h.2)
-
-earlier_before : (order : List ℕ) (more place number : ℕ) → place ≤ length order → IsEarlier (order ++ more ∷ []) place number → IsEarlier order place number
-earlier_before order more place number l h = elim (at_pushed order more h.0 number h.2) [
-  | inl there ↦ (h.0, h.1, there)
-  | inr last ↦ absurd (omega (arith, h.1, l, last.0))
-]
 
 -- ---- the run
 
 missing_all : (count : ℕ) → missing (replicate count false) ≡ count
 missing_all zero = refl
 missing_all (suc count) = ap suc (missing_all count)
-
-none_is_order : (patterns : Patterns) (atoms : List (Fact Term)) → IsOrder patterns atoms (replicate (length atoms) false) []
-none_is_order patterns atoms = record {
-  over = length-replicate (length atoms) false;
-  names = λ number. (λ h. absurd (Contains-nil number h), λ h. absurd (none_has (length atoms) number h));
-  once = λ i j d l m. absurd (omega (arith, m));
-  accessible = λ place number atom e. absurd (none-some number e);
-}
 
 module _ (patterns : Patterns) (atoms : List (Fact Term)) (set : List Bool) where
   -- a run so far: what it hasn't taken yet is what is left of the atoms
@@ -92,10 +62,10 @@ module _ (patterns : Patterns) (atoms : List (Fact Term)) (set : List Bool) wher
         is_order = order_grows patterns atoms part order number run.is_order (first.follows).there absent
             (ready_more patterns atoms (Contains order) (Has part) (λ other h. (named other).0 h) number (first.follows).ready);
         least = λ place at e lesser atom below has there accessible. elim (at_pushed order number place at e) [
-          | inl old ↦ earlier_kept order number place lesser (run.least place at old lesser atom below has there
-              (accessible_more patterns atoms _ _ (λ other h. earlier_before order number place other (omega (arith, slice_get_within order place at old)) h)
+          | inl old ↦ earlier_push order number place lesser (run.least place at old lesser atom below has there
+              (accessible_more patterns atoms _ _ (λ other h. push_earlier order number place other (omega (arith, slice_get_within order place at old)) h)
               atom accessible))
-          | inr last ↦ earlier_kept order number place lesser (anywhere_earlier order place lesser (omega (arith, last.0)) (elim (decided_has part lesser) [
+          | inr last ↦ earlier_push order number place lesser (anywhere_earlier order place lesser (omega (arith, last.0)) (elim (decided_has part lesser) [
             | inl chosen ↦ (named lesser).1 chosen
             | inr left ↦ absurd (first.least lesser (subst (λ n. lesser < n) (sym last.1) below) (record {
               there = slice_get_within atoms lesser atom there;
@@ -103,7 +73,7 @@ module _ (patterns : Patterns) (atoms : List (Fact Term)) (set : List Bool) wher
               absent = λ h. left ((named lesser).0 h);
               ready = λ other d. subst (IsAccessible patterns atoms (Contains order)) (same_Some atom other (sym there ∙ d))
                   (accessible_more patterns atoms _ _
-                  (λ earlier h. earlier_anywhere order place earlier (earlier_before order number place earlier (omega (arith, last.0)) h)) atom
+                  (λ earlier h. earlier_contains order place earlier (push_earlier order number place earlier (omega (arith, last.0)) h)) atom
                   accessible);
             }))
           ]))
@@ -188,15 +158,15 @@ module _ (patterns : Patterns) (atoms : List (Fact Term)) (set : List Bool) wher
     names = λ number. (λ h. let at = place-from_Contains order number h in (each at.0 number at.1).chosen, all number);
     once = λ i j d less within e. (each j (get_or order j d) (slice_get-get_or order j d within)).absent
         (earlier_take order j (get_or order j d) (i, less, slice_get-get_or order i d (omega (arith, less, within)) ∙ ap Some e));
-    accessible = λ place number atom at at_atom. accessible_more patterns atoms (Contains (take place order)) (IsEarlier order place) (take_earlier order place)
-        atom ((each place number at).ready atom at_atom);
+    accessible = λ place number atom at at_atom. accessible_more patterns atoms (Contains (take place order)) (IsEarlier order place)
+        (Contains-take_from order place) atom ((each place number at).ready atom at_atom);
   }
 
   pub places_from_order : (order : List ℕ) → IsOrder patterns atoms set order → EachFollows order
   places_from_order order is_order place number at = record {
     there = subst (λ n. number < n) is_order.over (beyond set number chosen);
     chosen = chosen;
-    absent = λ h. let before = take_earlier order place number h in let same = one_place order is_order.once before.0 place number before.2 at in omega
+    absent = λ h. let before = Contains-take_from order place number h in let same = one_place order is_order.once before.0 place number before.2 at in omega
         (arith, same, before.1);
     ready = λ atom at_atom. accessible_more patterns atoms (IsEarlier order place) (Contains (take place order)) (earlier_take order place) atom
         (is_order.accessible place number atom at at_atom);

@@ -8,7 +8,7 @@ use Rattle.esto_semantics.specs.declared.fact.Fact.{Fact}
 use Rattle.esto_semantics.specs.Access.{Patterns, HoldsExecutably, HoldsOfPart}
 use Rattle.esto_semantics.specs.AccessLaws.{PartExists}
 use Rattle.esto_semantics.specs.Sets.{Has, Covers, IsMinimal, TellHolds, numbers, united}
-use Rattle.esto_semantics.proofs.AccessLemmas.{minimal_of_parts, part_is_one}
+use Rattle.esto_semantics.proofs.AccessLawLemmas.{minimal_of_parts, part_is_one}
 use Rattle.esto_semantics.proofs.SetLemmas.{beyond, length-united, numbers_have}
 use Rattle.esto_bits.specs.Kept.{Kept, AreOver, IsAntichain, unions}
 use Rattle.esto_bits.proofs.FamilyLemmas.{antichain_is_minimal, told_are_minimal}

@@ -1,6 +1,5 @@
 -- What is found for the first few queries of a union, and for all of them.
-use Rattle.std.proofs.Common.{◌≡◌, ◌↔◌, ◌≤◌, ◌<◌, ℕ, ◌+◌, inl, inr, Bool, List, [], ◌∷◌, Some, length, get_or, slice_get, Contains, ap, subst, sym, ◌∙◌}
-use Rattle.std.proofs.lemmas.Option.{slice_get-get_or}
+use Rattle.std.proofs.Common.{◌≡◌, ◌↔◌, ◌≤◌, ℕ, ◌+◌, inl, inr, Bool, List, [], ◌∷◌, Some, length, slice_get, Contains, subst, sym}
 use Rattle.esto_term.specs.declared.term.Term.{Term}
 use Rattle.esto_term.proofs.ListLemmas.{Contains-cases, Contains-head, Contains-nil, SomeBelow, some_contained, some_step}
 use Rattle.esto_semantics.specs.Sets.{Covers}
@@ -29,11 +28,6 @@ module _ (Matches : Query → List Bool → Type 0) (queries : List Query) where
   found_all count all found before set =
       let whole = some_contained (λ (query : Query). Matches query set) queries count all in
       (λ covers. whole.0 ((before set).0 covers), λ some. (before set).1 (whole.1 some))
-
--- the item of a loop's turn stands at the turn's place
-pub at_turn : (queries : List Query) (count : ℕ) (query : Query) → count < length queries → query ≡ get_or queries count query
-    → slice_get queries count ≡ Some query
-at_turn queries count query below is = slice_get-get_or queries count query below ∙ ap Some (sym is)
 
 -- what is handed over are the entries, the body and the targets
 pub handed_over : (sets : List (List Bool)) (set : List Bool) (entries its : List Entry) (head : List Term) (body atoms : List (Fact Term))

@@ -2,7 +2,7 @@
 use Rattle.std.proofs.Common.{◌≡◌, ◌↔◌, inl, inr, ℕ, ◌<◌, Bool, List, length, map, get_or, slice_get, Some, Contains, sym, ap, subst, ◌∙◌}
 use Rattle.std.specs.Option.{option_map}
 use Rattle.std.proofs.lemmas.List.{length-map}
-use Rattle.std.proofs.lemmas.Option.{same_Some, slice_get-map, slice_get_within, slice_get-get_or}
+use Rattle.std.proofs.lemmas.Option.{same_Some, slice_get-map, slice_get_within}
 use Rattle.esto_term.specs.declared.term.Term.{Term}
 use Rattle.esto_semantics.specs.Access.{IsBound}
 use Rattle.esto_semantics.specs.Listed.{chosen}
@@ -13,6 +13,7 @@ use Rattle.esto_semantics.specs.declared.fact.Fact.{Fact}
 use Rattle.esto_views.specs.Plans.{fact_of}
 use Rattle.esto_views.specs.declared.plan.PlanAtom.{PlanAtom}
 use Rattle.esto_term.proofs.ListLemmas.{thing_at}
+use Rattle.esto_term.proofs.PlaceLemmas.{item_at}
 
 -- a term is bound by the chosen atoms exactly where they fix it
 pub bound-fixed : ChosenAreNamed → (set : List Bool) (atoms : List (Fact Term)) (term : Term) → IsBound atoms (Has set) term ↔ IsFixedBy (chosen set atoms) term
@@ -38,7 +39,7 @@ module _ (atoms : List PlanAtom) (set : List Bool) (term : Term) where
         (
           fact_of atom,
           slice_get-map fact_of atoms number
-              ∙ ap (option_map fact_of) (slice_get-get_or atoms number atom within ∙ ap Some (sym is)),
+              ∙ ap (option_map fact_of) (item_at atoms number atom within is),
           inside,
         ),
       )

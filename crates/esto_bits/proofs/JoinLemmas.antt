@@ -1,9 +1,10 @@
 -- What is kept after several sets, and what it covers.
 use Rattle.std.proofs.Common.{◌≡◌, ◌↔◌, ◌⊎◌, ℕ, ◌+◌, ◌<◌, Bool, List, [], ◌∷◌, ◌++◌, length, map, take, get_or, slice_get, Some, IfSome, Contains, refl, sym, ap, ◌∙◌, subst, inl, inr, append_assoc, append-nil}
-use Rattle.std.proofs.lemmas.List.{map-append, take_more}
-use Rattle.std.proofs.lemmas.Option.{get_or_from_slice_get, slice_get-get_or, slice_get_within}
+use Rattle.std.proofs.lemmas.List.{map-append}
+use Rattle.std.proofs.lemmas.Option.{slice_get-get_or}
 use Rattle.std.proofs.lemmas.List.Elements.{Contains-append_left, Contains-append_right, Contains-append_cases}
 use Rattle.esto_term.proofs.ListLemmas.{Contains-cases, Contains-head, Contains-map, Contains-map_from, Contains-nil, Contains-rest}
+use Rattle.esto_term.proofs.PlaceLemmas.{take-there}
 use Rattle.esto_semantics.specs.Sets.{Within, Covers, united}
 use Rattle.esto_semantics.proofs.SetLemmas.{has_united, within_refl}
 use Rattle.esto_bits.specs.Kept.{with_set, with_sets, unions, CoversBoth, CoversEither}
@@ -86,12 +87,6 @@ covers-with_sets sets (row ∷ rows) set =
 
 -- ---- turns of loops over the sets that are added
 
-pub take_there : {A : Type 0} (items : List A) (index : ℕ) (item : A) → slice_get items index ≡ Some item
-    → take (index + 1) items ≡ take index items ++ item ∷ []
-take_there items index item there =
-    take_more items index item (slice_get_within items index item there)
-    ∙ ap (λ here. take index items ++ here ∷ []) (get_or_from_slice_get items index item item there)
-
 -- the union with a set of the others
 pub united_there : (others : List (List Bool)) (index : ℕ) (one row : List Bool) → index < length others
     → IfSome (slice_get others index) (λ set. row ≡ united one set) → (set : List Bool) × (slice_get others index ≡ Some set) × (row ≡ united one set)
@@ -100,7 +95,7 @@ united_there others index one row below is =
 
 module _ (start sets after items : List (List Bool)) (index : ℕ) (set : List Bool) (there : slice_get items index ≡ Some set) where
   taken : take (index + 1) items ≡ take index items ++ set ∷ []
-  taken = take_there items index set there
+  taken = take-there items index set there
 
   pub added_next : after ≡ with_set sets set → sets ≡ with_sets start (take index items) → after ≡ with_sets start (take (index + 1) items)
   added_next now before =

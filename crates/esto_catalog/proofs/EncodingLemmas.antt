@@ -2,7 +2,7 @@
 use Rattle.std.proofs.Common.{◌≡◌, ◌<◌, ◌≤◌, ◌+◌, ℕ, List, [], ◌∷◌, ◌++◌, length, map, take, get_or, Some, inl, inr, refl, sym, ap, subst, ◌∙◌, arith, length-append}
 use Rattle.std.specs.Prelude.{Contains, slice_get, IsUtf8}
 use Rattle.std.proofs.Math.Seq.{take-length}
-use Rattle.std.proofs.lemmas.List.{append-nil, append_assoc, length-map, map-append, take-append-le, take_all, take_more}
+use Rattle.std.proofs.lemmas.List.{append-nil, append_assoc, length-map, map-append, take-append-le, take_all}
 use Rattle.std.proofs.lemmas.List.Elements.{Contains-append_cases}
 use Rattle.esto_constraint.specs.Constraints.{rule_of, rules_of}
 use Rattle.esto_constraint.specs.EncodingRules.{atom, document_rules, document_rules_2, key_rules, root, below, written}
@@ -17,6 +17,7 @@ use Rattle.esto_semantics.specs.Rules.{Rule, tuple, equality, denial}
 use Rattle.esto_semantics.specs.WellFormed.{AreOver, HaveUtf8, IsRuleOver}
 use Rattle.esto_semantics.specs.declared.fact.Fact.{Fact}
 use Rattle.esto_term.proofs.ListLemmas.{Contains-cases, Contains-map, Contains-map_from, Contains-nil, Contains-read}
+use Rattle.esto_term.proofs.PlaceLemmas.{take-item}
 use Rattle.esto_term.specs.declared.term.Term.{Term}
 use Rattle.esto_term.specs.declared.term.Term.TheVariants.{Const, Plain}
 use Rattle.esto_text.specs.declared.version.Version.{Version}
@@ -228,7 +229,7 @@ pub rules_goes : (version : Version) (scope : Scope) (datasets : List Dataset) (
     → AreRulesSoFar version (arities_of scope.schema) datasets given (rules ++ more) (index + 1)
 rules_goes version scope datasets given rules more index dataset is same so_far below at own names = record {
   are = subst (λ (l : List Dataset). AreAllRules version l given (rules ++ more))
-      (sym (take_more datasets index dataset below ∙ ap (λ d. take index datasets ++ d ∷ []) (sym at)))
+      (sym (take-item datasets index dataset below at))
       (rules_step version (take index datasets) dataset given rules more so_far.are own names);
   over = both_sound (arities_of scope.schema) rules more so_far.over
       (sound_of (arities_of scope.schema) more _ own (encoding_over (arities_of scope.schema) version dataset.model dataset.base has));

@@ -5,12 +5,13 @@ use Rattle.std.specs.Ordering.{nat_cmp, is_lt, is_gt, ordering_reverse}
 use Rattle.std.specs.Cmp.Lexicographic.{slice_cmp}
 use Rattle.std.proofs.lemmas.Cmp.{nat_list_cmp_total, tied_itself, upto}
 use Rattle.std.proofs.lemmas.Bool.{false≢true}
-use Rattle.std.proofs.lemmas.List.{take_more, take_all}
+use Rattle.std.proofs.lemmas.List.{take_all}
 use Rattle.std.proofs.lemmas.List.Elements.{Contains-append_left, Contains-push, Contains-push_cases}
 use Rattle.esto_catalog.specs.Rows.{is_known, IsUnknown, IsLeastUnknown, IsLesserOf}
 use Rattle.esto_catalog.specs.declared.row.Keys.{Keys}
 use Rattle.esto_settings.specs.declared.setting.Field.{Field}
 use Rattle.esto_term.proofs.ListLemmas.{Contains-nil}
+use Rattle.esto_term.proofs.PlaceLemmas.{take-item}
 
 -- the key comes at or before the other, by bytes
 abbrev IsUpTo : List ℕ → List ℕ → Type 0
@@ -103,11 +104,6 @@ module _ (keys : Keys) (fields : List Field) (field : Field) where
     ],
   )
 
--- the fields up to a place, and the one there
-pub fields_more : (fields : List Field) (place : ℕ) (field : Field) → place < length fields → field ≡ get_or fields place field
-    → take (place + 1) fields ≡ take place fields ++ field ∷ []
-fields_more fields place field below is = take_more fields place field below ∙ ap (λ (last : Field). take place fields ++ last ∷ []) (sym is)
-
 -- an answer by reference
 pub copied_match : {X : Type 0} (found : Option (Bor X)) (P : Type 0) (Q : X → Type 0) → MatchOption (option_copied found) P Q
     → MatchOption found P (λ it. Q it.now)
@@ -123,7 +119,7 @@ pub known_turn : (keys : Keys) (fields : List Field) (place : ℕ) (field : Fiel
     → field ≡ get_or fields place field → new ≡ old → is_known keys field.key ≡ true
     → IsLeastOf keys (take place fields) old → IsLeastOf keys (take (place + 1) fields) new
 known_turn keys fields place field old new below is same known seen =
-    subst (λ (f : List Field). IsLeastOf keys f new) (sym (fields_more fields place field below is))
+    subst (λ (f : List Field). IsLeastOf keys f new) (sym (take-item fields place field below is))
     (subst (IsLeastOf keys (take place fields ++ field ∷ [])) (sym same) (known_next keys (take place fields) field old known seen))
 
 pub unknown_turn : (keys : Keys) (fields : List Field) (place : ℕ) (field : Field) (old new : Option (List ℕ)) (lesser : List ℕ)
@@ -131,5 +127,5 @@ pub unknown_turn : (keys : Keys) (fields : List Field) (place : ℕ) (field : Fi
     → is_known keys field.key ≡ false → IsLesserOf old field.key lesser → IsLeastOf keys (take place fields) old
     → IsLeastOf keys (take (place + 1) fields) new
 unknown_turn keys fields place field old new lesser below is same unknown lesser_is seen =
-    subst (λ (f : List Field). IsLeastOf keys f new) (sym (fields_more fields place field below is))
+    subst (λ (f : List Field). IsLeastOf keys f new) (sym (take-item fields place field below is))
     (subst (IsLeastOf keys (take place fields ++ field ∷ [])) (sym same) (unknown_next keys (take place fields) field old lesser unknown lesser_is seen))

@@ -3,7 +3,7 @@ use Rattle.std.proofs.Common.{◌≡◌, ◌≢◌, ◌<◌, ◌+◌, ℕ, List,
 use Rattle.std.proofs.Math.ListN.{get_or-append}
 use Rattle.std.proofs.Math.Seq.{get_or-append_seam}
 use Rattle.std.specs.Prelude.{Contains, All, AllPairs, slice_get}
-use Rattle.std.proofs.lemmas.List.{append-nil, append_assoc, map-append, take-append-drop, take_more}
+use Rattle.std.proofs.lemmas.List.{append-nil, append_assoc, map-append, take-append-drop}
 use Rattle.std.proofs.lemmas.List.Elements.{Contains-append_cases, Contains-get_or, Contains-push}
 use Rattle.std.proofs.lemmas.Option.{slice_get_within}
 use Rattle.esto_query.specs.Schemas.{IsArity, IsSchema, arities_of, names_of}
@@ -14,6 +14,7 @@ use Rattle.esto_read.specs.declared.words.DataModel.TheVariants.{Table, Document
 use Rattle.esto_read.specs.declared.words.Word.{Word}
 use Rattle.esto_term.proofs.ChoiceLemmas.{pairs_head, pairs_tail}
 use Rattle.esto_term.proofs.ListLemmas.{Contains-cases, Contains-map, Contains-map_from, Contains-nil, Contains-rest, Contains-head, map_at, map_then}
+use Rattle.esto_term.proofs.PlaceLemmas.{take-item}
 use Rattle.esto_catalog.proofs.DatasetLemmas.{AreSet, datasets_set, schema_append, schema_more, schema_most}
 use Rattle.esto_catalog.proofs.NameLemmas.{names_apart}
 use Rattle.esto_catalog.specs.Datasets.{AreDatasets, FitModel, StandFrom, model_relations, part, relations_of, schema_of, words_of}
@@ -93,7 +94,7 @@ first_schema schema more is = record {
 pub schema_step : (datasets : List Dataset) (index : ℕ) (dataset : Dataset) → index < length datasets → dataset ≡ get_or datasets index dataset
     → schema_of (take (index + 1) datasets) ≡ schema_of (take index datasets) ++ relations_of dataset
 schema_step datasets index dataset below is =
-    ap schema_of (take_more datasets index dataset below ∙ ap (λ d. take index datasets ++ d ∷ []) (sym is)) ∙ schema_more (take index datasets) dataset
+    ap schema_of (take-item datasets index dataset below is) ∙ schema_more (take index datasets) dataset
 
 pub schema_more_step : (datasets : List Dataset) (index : ℕ) (dataset : Dataset) (schema after : List Relation) → index < length datasets
     → dataset ≡ get_or datasets index dataset → schema ≡ schema_of (take index datasets) → after ≡ schema ++ relations_of dataset
@@ -203,7 +204,7 @@ pub word_turn : (datasets : List Dataset) (index : ℕ) (dataset : Dataset) (nam
 word_turn datasets index dataset name words after below at named so_far is =
     is ∙ ap (λ (n : List ℕ). words ++ record { name = n; model = dataset.model; base = dataset.base } ∷ []) named
     ∙ ap (λ it. it ++ word_of dataset ∷ []) so_far ∙ sym (map-append word_of (take index datasets) (dataset ∷ []))
-    ∙ ap words_of (sym (take_more datasets index dataset below ∙ ap (λ d. take index datasets ++ d ∷ []) (sym at)))
+    ∙ ap words_of (sym (take-item datasets index dataset below at))
 
 arity_at : (schema : List Relation) (base : ℕ) (relations : List Relation) → StandFrom schema base relations → (number place : ℕ) (relation : Relation)
     → slice_get relations number ≡ Some relation → place ≡ base + number → slice_get (arities_of schema) place ≡ Some relation.arity

@@ -4,7 +4,7 @@ use Rattle.std.specs.Prelude.{◌≢◌, AllPairs, Contains, nat_eq}
 use Rattle.std.specs.Cmp.Lexicographic.{pointwise}
 use Rattle.std.specs.List.{AllZip, starts_with}
 use Rattle.std.proofs.lemmas.Bool.Decides.{nat_tests}
-use Rattle.std.proofs.lemmas.List.{length-map, map-append, take_more}
+use Rattle.std.proofs.lemmas.List.{length-map, map-append}
 use Rattle.esto_course.specs.Course.{and_then, judges, gives, refuses, demands}
 use Rattle.esto_docmodel.specs.Layouts.{IsLayout}
 use Rattle.esto_docmodel.specs.Shapes.{entries_of}
@@ -22,6 +22,7 @@ use Rattle.esto_read.specs.declared.words.DataModel.{DataModel}
 use Rattle.esto_read.specs.declared.words.DataModel.TheVariants.{Table, Documents, Keys}
 use Rattle.esto_term.proofs.ChoiceLemmas.{pairs_map}
 use Rattle.esto_term.proofs.ListLemmas.{Contains-head, Contains-map_from}
+use Rattle.esto_term.proofs.PlaceLemmas.{take-item}
 use Rattle.esto_term.specs.declared.term.Term.{Term}
 use Rattle.esto_text.specs.Gaps.{IsLetter}
 use Rattle.esto_text.specs.Lexemes.{IsNameText}
@@ -119,7 +120,7 @@ module _ (names : List Name) (terms : List Term) (index : ℕ) (term : Term) (co
   columns_more : map (column_of names) (take index terms) ++ column ∷ [] ≡ map (column_of names) (take (index + 1) terms)
   columns_more =
       ap (λ (it : List ℕ). map (column_of names) (take index terms) ++ it ∷ []) is ∙ sym (map-append (column_of names) (take index terms) (term ∷ []))
-      ∙ ap (map (column_of names)) (sym (take_more terms index term below ∙ ap (λ (it : Term). take index terms ++ it ∷ []) (sym at)))
+      ∙ ap (map (column_of names)) (sym (take-item terms index term below at))
 
   pub column_turn : (columns after : List (List ℕ)) → columns ≡ map (column_of names) (take index terms) → after ≡ columns ++ column ∷ []
       → after ≡ map (column_of names) (take (index + 1) terms)

@@ -1,10 +1,11 @@
 -- What is judged of lines is right.
-use Rattle.std.proofs.Common.{◌≡◌, inl, inr, ◌==◌, ℕ, ◌+◌, ◌-◌, ◌<◌, ◌≤◌, Bool, true, false, cond, List, [], ◌∷◌, ◌++◌, take, map, length, get_or, slice_get, option_map, Option, Some, None, Contains, subst, refl, sym, ap, ◌∙◌}
+use Rattle.std.proofs.Common.{◌≡◌, inl, inr, ◌==◌, ℕ, ◌+◌, ◌-◌, ◌<◌, ◌≤◌, Bool, true, false, cond, List, [], ◌∷◌, take, map, length, get_or, slice_get, option_map, Option, Some, None, Contains, subst, refl, sym, ap, ◌∙◌}
 use Rattle.std.specs.List.{AllZip}
-use Rattle.std.proofs.lemmas.List.{take_more, take_all}
+use Rattle.std.proofs.lemmas.List.{take_all}
 use Rattle.std.proofs.lemmas.List.Elements.{Contains-append_cases}
 use Rattle.std.proofs.lemmas.Option.{same_Some, slice_get-map}
 use Rattle.esto_term.proofs.ListLemmas.{Contains-nil, Contains-cases}
+use Rattle.esto_term.proofs.PlaceLemmas.{take-item}
 use Rattle.esto_term.proofs.ZipLemmas.{zip_weaker}
 use Rattle.esto_term.specs.declared.term.Term.{Term}
 use Rattle.esto_constraint.specs.Constraints.{rule_of, rules_of}
@@ -28,7 +29,7 @@ module _ {X : Type 0} (P : X → Type 0) (items : List X) (place : ℕ) (none : 
       → (thing : X) → Contains (take (place + 1) items) thing → ¬ (P thing)
   none_more item within is wrong thing inside holds =
       elim (Contains-append_cases (take place items) (item ∷ []) thing
-      (subst (λ (it : List X). Contains it thing) (take_more items place item within ∙ ap (λ (it : X). take place items ++ it ∷ []) (sym is)) inside)) [
+      (subst (λ (it : List X). Contains it thing) (take-item items place item within is) inside)) [
         | inl earlier ↦ none thing earlier holds
         | inr last ↦ elim (Contains-cases item [] thing last) [
           | inl same ↦ wrong (subst P (sym same) holds)

@@ -1,9 +1,10 @@
 -- Renamings tell what equalities link.
 use Rattle.std.proofs.Common.{◌≡◌, ◌⊎◌, inl, inr, ℕ, ◌+◌, ◌<◌, ◌≤◌, Bool, true, false, cond, List, [], ◌∷◌, ◌++◌, take, length, get_or, subst, refl, sym, ap, ◌∙◌}
-use Rattle.std.proofs.lemmas.List.{take_more, take_all}
+use Rattle.std.proofs.lemmas.List.{take_all}
 use Rattle.std.proofs.lemmas.List.Elements.{Contains-append_left, Contains-append_right, Contains-append_cases}
 use Rattle.std.specs.Bool.{Decides}
 use Rattle.esto_term.proofs.ListLemmas.{Contains-nil, Contains-cases, Contains-head}
+use Rattle.esto_term.proofs.PlaceLemmas.{take-item}
 use Rattle.esto_term.specs.Order.{replaced, same_term}
 use Rattle.esto_term.specs.declared.term.Term.{Term}
 use Rattle.esto_semantics.proofs.TermLemmas.{same_term-Decides}
@@ -109,7 +110,7 @@ module _ (facts : List (Fact Term)) (renamings equalities : List Equality) (plac
       subst (λ (it : List Equality). Tells it (IsAmong facts (take (place + 1) equalities))) (sym (pushed ∙ ap (λ (it : Equality). renamings ++ it ∷ []) made))
       (subst (λ (it : List Equality). Tells (renamings ++ record { left = standing renamings last.left; right = standing renamings last.right } ∷ [])
       (IsAmong facts it))
-      (sym (take_more equalities place last within ∙ ap (λ (it : Equality). take place equalities ++ it ∷ []) (sym is)))
+      (sym (take-item equalities place last within is))
       (tells_more renamings (take place equalities) facts last tells))
 
   pub tells_end : length equalities ≤ place → Tells renamings (IsAmong facts equalities)

@@ -1,19 +1,10 @@
 -- Steps of walks over two lists, place by place.
-use Rattle.std.proofs.Common.{◌≡◌, ◌↔◌, zero, suc, ℕ, ◌+◌, ◌<◌, ◌≤◌, List, [], ◌∷◌, drop, length, get_or, refl, subst, sym, ap, ◌∙◌, arith}
+use Rattle.std.proofs.Common.{◌≡◌, ◌↔◌, ℕ, ◌+◌, ◌<◌, ◌≤◌, List, [], ◌∷◌, drop, length, get_or, subst, sym, arith}
 use Rattle.std.specs.List.{AllZip}
-use Rattle.std.proofs.lemmas.List.{drop_more}
+use Rattle.std.proofs.lemmas.List.{drop_all}
+use Rattle.esto_term.proofs.PlaceLemmas.{drop-item}
 
 module _ {A B : Type 0} (R : A → B → Type 0) where
-  drop-item : {X : Type 0} (items : List X) (place : ℕ) (thing : X) → place < length items → thing ≡ get_or items place thing → drop place items
-      ≡ thing ∷ drop (place + 1) items
-  drop-item items place thing within is = drop_more items place thing within ∙ ap (λ it. it ∷ drop (place + 1) items) (sym is)
-
-  drop-past : {X : Type 0} (place : ℕ) (items : List X) → length items ≤ place → drop place items ≡ []
-  drop-past zero [] past = refl
-  drop-past zero (first ∷ rest) past = absurd (omega (arith, past))
-  drop-past (suc place) [] past = refl
-  drop-past (suc place) (first ∷ rest) past = drop-past place rest (omega (arith, past))
-
   module _ (xs : List A) (ys : List B) (place : ℕ) (left : AllZip R (drop place xs) (drop place ys) ↔ AllZip R xs ys) where
     module _ (x : A) (y : B) (within : place < length xs) (within_y : place < length ys) (is : x ≡ get_or xs place x) (is_y : y ≡ get_or ys place y) where
       here_to : R x y × AllZip R (drop (place + 1) xs) (drop (place + 1) ys) → AllZip R (drop place xs) (drop place ys)
@@ -31,5 +22,5 @@ module _ {A B : Type 0} (R : A → B → Type 0) where
       zip_fails wrong all = wrong (here_from (left.1 all)).0
 
     pub zip_ends : length xs ≡ length ys → length xs ≤ place → AllZip R xs ys
-    zip_ends same past = left.0 (subst (λ it. AllZip R it (drop place ys)) (sym (drop-past place xs past))
-        (subst (λ it. AllZip R [] it) (sym (drop-past place ys (omega (arith, past, same)))) tt))
+    zip_ends same past = left.0 (subst (λ it. AllZip R it (drop place ys)) (sym (drop_all place xs past))
+        (subst (λ it. AllZip R [] it) (sym (drop_all place ys (omega (arith, past, same)))) tt))

@@ -29,7 +29,7 @@ use Rattle.esto_world_laws.specs.declared.entry.Entry.{Entry}
 use Rattle.esto_world_laws.proofs.GrowLemmas.{InWorld-more, AreDerived-push}
 use Rattle.esto_world_laws.specs.Worlds.{AreOfCount}
 use Rattle.esto_condchase.specs.Rounds.{IsAdded, IsEntryOf, Grows}
-use Rattle.esto_condchase.proofs.MeetLemmas.{take-item}
+use Rattle.esto_term.proofs.PlaceLemmas.{take-item}
 use Rattle.esto_condchase.proofs.CoverLemmas.{added-IsThere}
 
 pub one_number : (old new : List Bool) (count atom : ℕ) → old ≡ replicate count false → ((number : ℕ) → Has new number ↔ ((number ≡ atom) ⊎ Has old number))

@@ -25,7 +25,7 @@ use Rattle.esto_world_laws.proofs.TakenLemmas.{taken-Const}
 use Rattle.esto_condchase.specs.Products.{EntryGoesOn, GoesOn, GoesOnBy, IsBegun, IsVisit, SomeWayGoesOn, Visited, WayGoesOn}
 use Rattle.esto_condchase.specs.Ways.{AreCounted, AreRows, IsWay, begun}
 use Rattle.esto_condchase.specs.declared.ways.Way.{Way}
-use Rattle.esto_condchase.proofs.MeetLemmas.{drop-item, take-item}
+use Rattle.esto_term.proofs.PlaceLemmas.{drop-item, take-item}
 use Rattle.esto_condchase.proofs.VisitLemmas.{visited_as}
 use Rattle.esto_condchase.proofs.WayLemmas.{IsUnion-more, IsUnion-none, fact_more, terms_of-push, within_united}
 

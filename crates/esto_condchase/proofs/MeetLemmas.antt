@@ -1,21 +1,12 @@
 -- Steps of the walks for what a term meets first.
-use Rattle.std.proofs.Common.{◌≡◌, ℕ, ◌+◌, ◌<◌, ◌≤◌, Bool, true, false, cond, List, [], ◌∷◌, ◌++◌, drop, take, length, get_or, slice_get, Some, Contains, subst, refl, sym, ap, ◌∙◌, arith}
-use Rattle.std.proofs.lemmas.List.{drop_more, take_more}
-use Rattle.std.proofs.lemmas.Option.{slice_get_within, get_or_from_slice_get}
+use Rattle.std.proofs.Common.{◌≡◌, ℕ, ◌+◌, ◌<◌, ◌≤◌, Bool, true, false, cond, List, [], ◌∷◌, ◌++◌, drop, length, get_or, slice_get, Some, Contains, subst, refl, sym, ap, ◌∙◌, arith}
+use Rattle.std.proofs.lemmas.List.{drop_all}
 use Rattle.esto_term.specs.declared.term.Term.{Term}
 use Rattle.esto_term.proofs.ListLemmas.{Contains-read}
+use Rattle.esto_term.proofs.PlaceLemmas.{drop-item, drop-there}
 use Rattle.esto_term.specs.Order.{same_term}
 use Rattle.esto_semantics.proofs.TermLemmas.{same_term-Decides}
 use Rattle.esto_views.specs.Spreads.{substituted}
-use Rattle.esto_prov.proofs.MeetLemmas.{drop-past}
-
-pub take-item : {X : Type 0} (items : List X) (place : ℕ) (thing : X) → place < length items → thing ≡ get_or items place thing → take (place + 1) items
-    ≡ take place items ++ thing ∷ []
-take-item items place thing within is = take_more items place thing within ∙ ap (λ it. take place items ++ it ∷ []) (sym is)
-
-pub drop-item : {X : Type 0} (items : List X) (place : ℕ) (thing : X) → place < length items → thing ≡ get_or items place thing → drop place items
-    ≡ thing ∷ drop (place + 1) items
-drop-item items place thing within is = drop_more items place thing within ∙ ap (λ it. it ∷ drop (place + 1) items) (sym is)
 
 -- what is read of the items is one of the things
 pub item_inside : {X : Type 0} (things items : List X) (place : ℕ) (thing : X) → items ≡ things → place < length items → thing ≡ get_or items place thing
@@ -25,18 +16,15 @@ item_inside things items place thing same within is = subst (λ it. Contains it 
 module _ (from to more others : List Term) (place : ℕ) (term first own : Term) (answer : Bool) (within : place < length from)
     (at : first ≡ get_or from place first)
     (goes : slice_get to place ≡ Some own) (told : answer ≡ same_term term first) where
-  to_drop : drop place to ≡ own ∷ drop (place + 1) to
-  to_drop = drop_more to place own (slice_get_within to place own goes) ∙ ap (λ it. it ∷ drop (place + 1) to) (get_or_from_slice_get to place own own goes)
-
   pub met_later : answer ≡ false → substituted (drop (place + 1) from ++ more) (drop (place + 1) to ++ others) term
       ≡ substituted (drop place from ++ more) (drop place to ++ others) term
   met_later is =
-      sym ((λ i. substituted (drop-item from place first within at i ++ more) (to_drop i ++ others) term)
+      sym ((λ i. substituted (drop-item from place first within at i ++ more) (drop-there to place own goes i ++ others) term)
       ∙ ap (λ it. cond it own (substituted (drop (place + 1) from ++ more) (drop (place + 1) to ++ others) term)) (sym told ∙ is))
 
 pub met_last : (from to : List Term) (place : ℕ) (term own : Term) → length from ≡ length to → length from ≤ place
     → substituted (drop place from ++ term ∷ []) (drop place to ++ own ∷ []) term ≡ own
 met_last from to place term own lengths past =
     let last : same_term term term ≡ true = (same_term-Decides term term).1 refl in
-    (λ i. substituted (drop-past place from past i ++ term ∷ []) (drop-past place to (omega (arith, past, lengths)) i ++ own ∷ []) term)
+    (λ i. substituted (drop_all place from past i ++ term ∷ []) (drop_all place to (omega (arith, past, lengths)) i ++ own ∷ []) term)
     ∙ ap (λ it. cond it own term) last

@@ -33,7 +33,7 @@ use Rattle.esto_prov.specs.Taking.{made_of}
 use Rattle.esto_condchase.specs.Ways.{Links, IsFound, AreFound}
 use Rattle.esto_condchase.specs.Rounds.{IsAdded, IsThere, Grows, IsAnswered, IsRuleAnswered, LinksAt, IsJoinedWith, IsPairJoined}
 use Rattle.esto_condchase.specs.declared.ways.Way.{Way}
-use Rattle.esto_condchase.proofs.MeetLemmas.{take-item}
+use Rattle.esto_term.proofs.PlaceLemmas.{take-item}
 use Rattle.esto_condchase.proofs.WayLemmas.{IsUnion-more}
 use Rattle.esto_condchase.proofs.CoverLemmas.{IsThere-grows, Grows-then, added-Grows, added-IsThere}
 

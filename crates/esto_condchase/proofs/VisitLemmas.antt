@@ -19,7 +19,7 @@ use Rattle.esto_world_laws.specs.declared.entry.Entry.{Entry}
 use Rattle.esto_world_laws.proofs.TakenLemmas.{taken-stays}
 use Rattle.esto_condchase.specs.Products.{GoesOn, GoesOnBy, WayGoesOn, SomeWayGoesOn, EntryGoesOn, IsFree, SomeEntryGoesOn, Visited}
 use Rattle.esto_condchase.specs.declared.ways.Way.{Way}
-use Rattle.esto_condchase.proofs.MeetLemmas.{take-item}
+use Rattle.esto_term.proofs.PlaceLemmas.{take-item}
 
 module _ (entries : List Entry) (head : List Term) (body : List (Fact Term)) (targets : List Term) where
   abbrev Seen : (List Bool → Type 0) → List (List Bool) → List (List Bool) → Type 0

@@ -23,7 +23,7 @@ use Rattle.esto_world_laws.proofs.LinkLemmas.{Touching-more}
 use Rattle.esto_world_laws.proofs.TakenLemmas.{Fits-push, Fits-split}
 use Rattle.esto_condchase.specs.Ways.{AreCounted, Links, met, met_by, begun, IsWay, AreLonger, AreRows, AreThrough, AreMatched, IsFound, AreFound}
 use Rattle.esto_condchase.specs.declared.ways.Way.{Way}
-use Rattle.esto_condchase.proofs.MeetLemmas.{take-item}
+use Rattle.esto_term.proofs.PlaceLemmas.{take-item}
 
 one_of : {X : Type 0} (P : X → Type 0) (only other : X) → Contains (only ∷ []) other → P only → P other
 one_of P only other inside it = subst P (Contains-one only other inside) it

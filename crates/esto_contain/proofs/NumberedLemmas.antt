@@ -1,10 +1,11 @@
 -- Facts as what is expanded of atoms of their own.
 use Rattle.std.proofs.Common.{◌≡◌, ◌<◌, ℕ, ◌+◌, inl, inr, List, [], ◌∷◌, ◌++◌, length, take, get_or, slice_get, Some, Contains, refl, sym, ap, ◌∙◌, subst, arith}
-use Rattle.std.proofs.lemmas.List.{length-take, take_more}
+use Rattle.std.proofs.lemmas.List.{length-take}
 use Rattle.std.proofs.lemmas.List.Elements.{Contains-append_left, Contains-push, Contains-push_cases}
 use Rattle.std.proofs.lemmas.Option.{none-some, slice_get_within}
 use Rattle.esto_term.specs.declared.term.Term.{Term}
 use Rattle.esto_term.proofs.ListLemmas.{Contains-at, Contains-map_from, Contains-nil, at_end, at_left, at_pushed}
+use Rattle.esto_term.proofs.PlaceLemmas.{take-item}
 use Rattle.esto_semantics.specs.Maps.{AreFlat}
 use Rattle.esto_semantics.specs.declared.fact.Fact.{Fact}
 use Rattle.esto_views.specs.Expanded.{facts_of}
@@ -34,7 +35,7 @@ numbered_more facts place fact now within is so_far it = (
     last = record { atom = place; place = 0; fact = fact }
 
     whole : take (place + 1) facts ≡ take place facts ++ fact ∷ []
-    whole = take_more facts place fact within ∙ ap (λ own. take place facts ++ own ∷ []) (sym is)
+    whole = take-item facts place fact within is
 
     count : length (take place facts) ≡ place
     count = omega (arith, within, length-take place facts)

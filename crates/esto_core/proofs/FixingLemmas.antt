@@ -1,7 +1,7 @@
 -- The valuation that fixes terms.
 use Rattle.std.proofs.Common.{◌≡◌, ◌↔◌, ℕ, ◌+◌, ◌<◌, Bool, true, false, cond, Some, List, [], ◌∷◌, ◌++◌, take, length, get_or, map, refl, sym, ap, ◌∙◌, subst, arith}
 use Rattle.std.proofs.lemmas.Bool.Decides.{nat_tests}
-use Rattle.std.proofs.lemmas.List.{take_more, map_push, same_from_push}
+use Rattle.std.proofs.lemmas.List.{map_push, same_from_push}
 use Rattle.std.proofs.lemmas.Option.{none-some, same_Some}
 use Rattle.std.specs.Cmp.{nat_cmp_total}
 use Rattle.std.specs.FinMap.{get, insert, empty, get-empty, get-insert}
@@ -9,6 +9,7 @@ use Rattle.std.specs.Ordering.{nat_cmp, eq_by_cmp}
 use Rattle.esto_term.specs.declared.term.Term.{Term}
 use Rattle.esto_term.specs.declared.term.Term.TheVariants.{Const, Plain}
 use Rattle.esto_term.proofs.ListLemmas.{map_itself}
+use Rattle.esto_term.proofs.PlaceLemmas.{take-item}
 use Rattle.esto_query.specs.Valuations.{Assignment, Extends}
 use Rattle.esto_core.specs.Left.{IsFixing}
 
@@ -89,4 +90,4 @@ module _ (terms : List Term) (old : Assignment) (is : IsFixing terms old) where
 pub fixing-next : (terms : List Term) (place : ℕ) (term : Term) (new : Assignment) → place < length terms → term ≡ get_or terms place term
     → IsFixing (take place terms ++ term ∷ []) new → IsFixing (take (place + 1) terms) new
 fixing-next terms place term new within is fixing =
-    subst (λ row. IsFixing row new) (sym (take_more terms place term within ∙ ap (λ it. take place terms ++ it ∷ []) (sym is))) fixing
+    subst (λ row. IsFixing row new) (sym (take-item terms place term within is)) fixing

@@ -5,12 +5,12 @@ use Rattle.std.specs.Bool.{⊤}
 use Rattle.std.specs.Option.{is_some}
 use Rattle.std.proofs.Math.Seq.{take-append_seam, drop-append-add, drop-length, take-length}
 use Rattle.std.proofs.lemmas.Bool.{false≢true}
-use Rattle.std.proofs.lemmas.List.{take_more, drop_more, append-nil, take-append-drop, length-append, length-take-le}
-use Rattle.std.proofs.lemmas.Option.{get_or_from_slice_get}
+use Rattle.std.proofs.lemmas.List.{append-nil, take-append-drop, length-append, length-take-le}
 use Rattle.esto_term.specs.declared.term.Term.{Term}
 use Rattle.esto_term.specs.declared.term.Term.TheVariants.{Const}
 use Rattle.esto_term.proofs.DistinctLemmas.{after_push, length_split, split_cases, split_more, split_thing}
 use Rattle.esto_term.proofs.ListLemmas.{Contains-cases, Contains-head, Contains-rest, thing_at}
+use Rattle.esto_term.proofs.PlaceLemmas.{drop-there, take-there}
 use Rattle.esto_semantics.specs.Maps.{AreFlat, Keeps, Sends}
 use Rattle.esto_semantics.specs.Matches.{IsMatch}
 use Rattle.esto_semantics.specs.declared.fact.Fact.{Fact}
@@ -47,7 +47,7 @@ module _ (atoms : List (Fact Term)) (place : ℕ) (atom : Fact Term) (at : slice
   whole =
       sym (take-append-drop place atoms)
       ∙ ap (λ rest. take place atoms ++ rest)
-      (drop_more atoms place atom within ∙ ap (λ it. it ∷ drop (place + 1) atoms) (get_or_from_slice_get atoms place atom atom at))
+      (drop-there atoms place atom at)
 
   -- the list has what the atom and the others have
   pub first-from : (fact : Fact Term) → Contains atoms fact → Contains (atom ∷ without place atoms) fact
@@ -149,12 +149,7 @@ module _ (head : List Term) where
     module _ (place : ℕ) (within : place < length atoms) (old : List (Fact Term)) (gone : IsGone head atoms (place + 1) old) where
       parts : (atom : Fact Term) × (take (place + 1) atoms ≡ take place atoms ++ atom ∷ []) × (drop place atoms ≡ atom ∷ drop (place + 1) atoms)
       parts =
-          let at = thing_at atoms place within in
-          let is = get_or_from_slice_get atoms place at.0 at.0 at.1 in (
-            at.0,
-            take_more atoms place at.0 within ∙ ap (λ it. take place atoms ++ it ∷ []) is,
-            drop_more atoms place at.0 within ∙ ap (λ it. it ∷ drop (place + 1) atoms) is,
-          )
+          let at = thing_at atoms place within in (at.0, take-there atoms place at.0 at.1, drop-there atoms place at.0 at.1)
 
       length_before : length (take place atoms) ≡ place
       length_before = length-take-le place atoms (omega (arith, within))

@@ -1,5 +1,5 @@
 -- The printed plan: it is one, what cored plans keep of a plan it keeps too, and its head is as long as the query's.
-use Rattle.std.proofs.Common.{◌≡◌, ◌≢◌, Bool, true, false, IsTrue, List, [], ◌∷◌, map, length, Contains, inl, inr, sym, ap, subst, ◌∙◌}
+use Rattle.std.proofs.Common.{◌≡◌, ◌≢◌, Bool, true, false, IsTrue, List, [], ◌∷◌, map, length, sym, ap, subst, ◌∙◌}
 use Rattle.std.proofs.lemmas.Bool.{false≢true}
 use Rattle.std.proofs.lemmas.List.{length-map}
 use Rattle.std.specs.Prelude.{AllPairs}

@@ -4,7 +4,7 @@ use Rattle.std.specs.Prelude.{AllPairs, IfSome, IsSome}
 use Rattle.std.specs.Result.{IsErrAnd}
 use Rattle.std.proofs.lemmas.List.Elements.{Contains-append_cases, Contains-append_left, Contains-append_right, Contains-get_or}
 use Rattle.std.proofs.lemmas.List.Quantifiers.{all_pairs_push}
-use Rattle.std.proofs.lemmas.Option.{same_Some, slice_get-get_or, slice_get_within}
+use Rattle.std.proofs.lemmas.Option.{same_Some, slice_get_within}
 use Rattle.esto_catalog.specs.declared.dataset.Dataset.{Dataset}
 use Rattle.esto_course.specs.Course.{Course, IsQuiet, Stops, judges, demands, gives, and_then, each}
 use Rattle.esto_course.specs.Course.Stops.{refused}
@@ -21,6 +21,7 @@ use Rattle.esto_ports.specs.declared.file_fault.FileFault.{FileFault}
 use Rattle.esto_semantics.specs.Maps.{AreFlat}
 use Rattle.esto_semantics.specs.declared.fact.Fact.{Fact}
 use Rattle.esto_term.proofs.ListLemmas.{Contains-cases, Contains-head, Contains-nil}
+use Rattle.esto_term.proofs.PlaceLemmas.{item_at}
 use Rattle.esto_term.specs.declared.term.Term.{Term}
 use Rattle.esto_opening.specs.Answers.{IsWant, IsCaused}
 use Rattle.esto_opening.specs.Asked.{AsksIn}
@@ -372,4 +373,4 @@ needed_all datasets Needs count numbers so_far le = record {
 pub dataset_read : (datasets items : List Dataset) → items ≡ datasets → (number : ℕ) (dataset : Dataset) → number < length items
     → dataset ≡ get_or items number dataset → slice_get datasets number ≡ Some dataset
 dataset_read datasets items are number dataset below is =
-    subst (λ (it : List Dataset). slice_get it number ≡ Some dataset) are (slice_get-get_or items number dataset below ∙ ap Some (sym is))
+    subst (λ (it : List Dataset). slice_get it number ≡ Some dataset) are (item_at items number dataset below is)

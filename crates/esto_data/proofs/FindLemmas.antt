@@ -1,10 +1,11 @@
 -- The fragment of a name.
-use Rattle.std.proofs.Common.{◌≡◌, ◌≢◌, ◌<◌, ◌≤◌, ◌+◌, ℕ, List, length, get_or, slice_get, Contains, Some, sym, ap, subst, ◌∙◌}
-use Rattle.std.proofs.lemmas.Option.{slice_get-get_or, slice_get_within}
+use Rattle.std.proofs.Common.{◌≡◌, ◌≢◌, ◌<◌, ◌≤◌, ◌+◌, ℕ, List, length, get_or, slice_get, Contains, Some, ap, subst, ◌∙◌}
+use Rattle.std.proofs.lemmas.Option.{slice_get_within}
 use Rattle.esto_catalog.specs.declared.catalogue.Catalogue.{Catalogue}
 use Rattle.esto_course.specs.Course.{Stops, judges}
 use Rattle.esto_course.specs.Course.Stops.{refused}
 use Rattle.esto_term.proofs.ListLemmas.{Contains-map_from, HoldsBelow, holds_all_in, holds_more_in, map_at, map_at-from, place-from_Contains}
+use Rattle.esto_term.proofs.PlaceLemmas.{item_at}
 use Rattle.esto_views.specs.declared.fragments.FragmentDef.{FragmentDef}
 use Rattle.esto_opening.specs.Answers.{IsCaused, IsWant}
 use Rattle.esto_opening.specs.declared.status.Status.TheVariants as status
@@ -23,7 +24,7 @@ module _ (catalogue : Catalogue) (name : List ℕ) (items : List FragmentDef) (a
     unfolding judges
     found others same = record {
       there = map_at (λ (it : FragmentDef). it.name) catalogue.fragments number fragment
-          (subst (λ (it : List FragmentDef). slice_get it number ≡ Some fragment) are (slice_get-get_or items number fragment below ∙ ap Some (sym is)))
+          (subst (λ (it : List FragmentDef). slice_get it number ≡ Some fragment) are (item_at items number fragment below is))
           ∙ ap Some same;
       first = λ earlier less at.
           let own = map_at-from (λ (it : FragmentDef). it.name) catalogue.fragments earlier name at in others earlier own.0 less own.1 own.2;

@@ -1,9 +1,10 @@
 -- The entries that are used, directly or through reasons.
-use Rattle.std.proofs.Common.{◌≡◌, ◌⊎◌, inl, inr, ℕ, ◌+◌, ◌<◌, ◌≤◌, Bool, List, [], ◌∷◌, take, slice_get, Some, Contains, All, subst, refl, sym, ap, ◌∙◌, arith, zero, suc}
+use Rattle.std.proofs.Common.{◌≡◌, ◌⊎◌, inl, inr, ℕ, ◌+◌, ◌<◌, ◌≤◌, Bool, List, take, slice_get, Some, Contains, All, subst, refl, sym, ap, ◌∙◌, arith, zero, suc}
 use Rattle.std.proofs.lemmas.List.{length-take}
 use Rattle.std.proofs.lemmas.List.Elements.{All-weaker, All-contains_itself}
 use Rattle.std.proofs.lemmas.Option.{same_Some}
 use Rattle.esto_term.proofs.ListLemmas.{Contains-nil}
+use Rattle.esto_term.proofs.PlaceLemmas.{at_before}
 use Rattle.esto_semantics.specs.Sets.{Has, Within}
 use Rattle.esto_world_laws.specs.Derived.{IsUnion}
 use Rattle.esto_world_laws.specs.Laws.{AreReasoned, IsReasoned}
@@ -14,13 +15,6 @@ use Rattle.esto_derive.specs.Marking.{named_by, AddsNamed, AreUsedWithin, IsName
 
 pub all_below : (count : ℕ) (places : List ℕ) → ((place : ℕ) → Contains places place → place < count) → All (λ place. place < count) places
 all_below count places below = All-weaker (Contains places) (λ place. place < count) below places (All-contains_itself places)
-
--- an entry of a list is one of those before a later place
-pub at_before : {X : Type 0} (xs : List X) (place bound : ℕ) (x : X) → place < bound → slice_get xs place ≡ Some x → slice_get (take bound xs) place ≡ Some x
-at_before [] place bound x before at = absurd (let wrong = at in cc)
-at_before (first ∷ xs) place zero x before at = absurd (omega (arith, before))
-at_before (first ∷ xs) zero (suc bound) x before at = at
-at_before (first ∷ xs) (suc place) (suc bound) x before at = at_before xs place bound x (omega (arith, before)) at
 
 pub same_or_later : (place number : ℕ) → place ≤ number → (number ≡ place) ⊎ (place + 1 ≤ number)
 same_or_later zero zero from = inl refl

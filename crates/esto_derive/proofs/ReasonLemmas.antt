@@ -1,7 +1,7 @@
 -- Lines of entries by their reasons: what stands for an entry, and one line more.
 use Rattle.std.proofs.Common.{◌≡◌, ◌⊎◌, inl, inr, ℕ, ◌+◌, ◌<◌, ◌≤◌, zero, suc, Bool, List, [], ◌∷◌, ◌++◌, length, take, get_or, slice_get, Some, None, AllPairs, Contains, subst, refl, sym, ap, ◌∙◌, arith}
 use Rattle.std.proofs.lemmas.Bool.{cases_order}
-use Rattle.std.proofs.lemmas.List.{length-append, length-take, take_all}
+use Rattle.std.proofs.lemmas.List.{length-append, length-take, take-append-le, take_all}
 use Rattle.std.proofs.lemmas.List.Elements.{Contains-get_or}
 use Rattle.std.proofs.lemmas.List.Quantifiers.{all_pairs_push}
 use Rattle.std.proofs.lemmas.Option.{get_or_from_slice_get, same_Some, slice_get_within}
@@ -151,11 +151,6 @@ line_of_more : (entries : List Entry) (set : List Bool) (written more : List ℕ
 line_of_more entries set written more place line (entry, at, within, says) =
     (entry, at, within, says_more entries written more entry.reason line says)
 
-take_before : {X : Type 0} (xs ys : List X) (count : ℕ) → count ≤ length xs → take count (xs ++ ys) ≡ take count xs
-take_before xs ys zero few = refl
-take_before [] ys (suc count) few = absurd (omega (arith, few))
-take_before (x ∷ xs) ys (suc count) few = ap (λ it. x ∷ it) (take_before xs ys count (omega (arith, few)))
-
 module _ (case : Case) (lines : List Line) (claims : List Claim) (line : Line) (claim : Claim) (may : MayClaim case claims line claim)
     (are : AreClaimsOf case lines claims) where
   pub claims_more : AreClaimsOf case (lines ++ line ∷ []) (claims ++ claim ∷ [])
@@ -172,7 +167,7 @@ module _ (case : Case) (lines : List Line) (claims : List Claim) (line : Line) (
           → MayClaim case (take place (claims ++ claim ∷ [])) its its_claim
       old place its its_claim at within (inl claimed) =
           subst (λ (it : List Claim). MayClaim case it its its_claim)
-          (sym (take_before claims (claim ∷ []) place (omega (arith, slice_get_within claims place its_claim claimed))))
+          (sym (take-append-le place claims (claim ∷ []) (omega (arith, slice_get_within claims place its_claim claimed))))
           (are.each place its its_claim at claimed)
       old place its its_claim at within (inr (last, is)) = absurd (omega (arith, within, last, are.as_many))
 
@@ -182,7 +177,7 @@ module _ (case : Case) (lines : List Line) (claims : List Claim) (line : Line) (
       own place its its_claim last is (inl claimed) = absurd (omega (arith, last, slice_get_within claims place its_claim claimed, are.as_many))
       own place its its_claim last is (inr (end, claim_is)) =
           subst (λ (it : List Claim). MayClaim case it its its_claim)
-          (sym (take_before claims (claim ∷ []) place (omega (arith, end)) ∙ take_all place claims (omega (arith, end))))
+          (sym (take-append-le place claims (claim ∷ []) (omega (arith, end)) ∙ take_all place claims (omega (arith, end))))
           (subst (λ (it : Line). MayClaim case claims it its_claim) is (subst (MayClaim case claims line) claim_is may))
 
 pub of_entries_more : (case : Case) (entries : List Entry) (places : List ℕ) (lines : List Line) (claims : List Claim)

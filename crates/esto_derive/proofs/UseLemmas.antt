@@ -1,9 +1,10 @@
 -- What a step's and a chain's entry names, where the rule and the places are read.
-use Rattle.std.proofs.Common.{◌≡◌, ◌≢◌, inl, inr, ℕ, ◌<◌, ◌≤◌, List, length, take, drop, slice_get, Some, Contains, subst, sym, ap, ◌∙◌, arith, zero, suc, [], ◌∷◌}
+use Rattle.std.proofs.Common.{◌≡◌, ◌≢◌, ℕ, ◌<◌, ◌≤◌, List, length, take, drop, slice_get, Some, Contains, subst, sym, ap, ◌∙◌, arith, zero, suc, [], ◌∷◌}
 use Rattle.std.specs.List.{AllZip}
 use Rattle.std.proofs.lemmas.List.{length-map, length-take}
 use Rattle.std.proofs.lemmas.Option.{same_Some, slice_get_within}
-use Rattle.esto_term.proofs.ListLemmas.{Contains-nil, Contains-cases, Contains-head, Contains-rest, map_at}
+use Rattle.esto_term.proofs.ListLemmas.{Contains-rest, map_at}
+use Rattle.esto_term.proofs.PlaceLemmas.{Contains-take_in}
 use Rattle.esto_term.specs.declared.term.Term.{Term}
 use Rattle.esto_constraint.specs.Constraints.{rule_of, rules_of}
 use Rattle.esto_constraint.specs.declared.rule.Constraint.{Constraint}
@@ -27,14 +28,6 @@ pub has_body : (rule : Rule) → IsRule rule → body_of rule ≢ []
 has_body (tuple body head) is = is.has_body
 has_body (equality body left right) is = is.has_body
 has_body (denial body) is = is.has_body
-
-in_take : (count : ℕ) (xs : List ℕ) (x : ℕ) → Contains (take count xs) x → Contains xs x
-in_take zero xs x inside = absurd (Contains-nil x inside)
-in_take (suc count) [] x inside = inside
-in_take (suc count) (first ∷ xs) x inside = elim (Contains-cases first (take count xs) x inside) [
-  | inl is ↦ subst (Contains (first ∷ xs)) is (Contains-head first xs)
-  | inr later ↦ Contains-rest first xs x (in_take count xs x later)
-]
 
 in_drop : (count : ℕ) (xs : List ℕ) (x : ℕ) → Contains (drop count xs) x → Contains xs x
 in_drop zero xs x inside = inside
@@ -72,7 +65,7 @@ module _ (entries : List Entry) (rules : List Constraint) (lines : List (List �
 
       module _ (facts : List ℕ) (facts_is : facts ≡ take (length body) places) where
         pub facts_below : (place : ℕ) → Contains facts place → place < length lines
-        facts_below place inside = place_below place (in_take (length body) places place (subst (λ (it : List ℕ). Contains it place) facts_is inside))
+        facts_below place inside = place_below place (Contains-take_in places (length body) place (subst (λ (it : List ℕ). Contains it place) facts_is inside))
 
         pub facts_there : (place : ℕ) → Contains facts place → place < length entries
         facts_there place inside = omega (arith, facts_below place inside, lines_fewer)

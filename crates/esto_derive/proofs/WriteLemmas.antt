@@ -1,10 +1,11 @@
 -- The line of an entry, and what stands for it then.
 use Rattle.std.proofs.Common.{◌≡◌, ◌≢◌, inl, inr, ℕ, ◌+◌, ◌-◌, ◌<◌, ◌≤◌, Bool, List, [], ◌∷◌, ◌++◌, length, map, take, drop, slice_get, Some, Contains, codes, subst, refl, sym, ap, ◌∙◌, arith}
 use Rattle.std.specs.List.{AllZip}
-use Rattle.std.proofs.lemmas.List.{length-take, length-append}
+use Rattle.std.proofs.lemmas.List.{drop_at, length-append, length-take, take_at}
 use Rattle.std.proofs.lemmas.List.Elements.{Contains-append_left, Contains-append_right, Contains-append_cases}
 use Rattle.std.proofs.lemmas.Option.{same_Some}
 use Rattle.esto_term.proofs.ListLemmas.{Contains-cases, Contains-flat, Contains-flat_from, Contains-head, Contains-rest, Contains-nil, thing_at}
+use Rattle.esto_term.proofs.PlaceLemmas.{taken_at}
 use Rattle.esto_term.proofs.ZipLemmas.{zip_left, zip_length, zip_weaker}
 use Rattle.esto_term.specs.Nesting.{greatest_u64}
 use Rattle.esto_term.specs.declared.term.Term.{Term}
@@ -13,7 +14,6 @@ use Rattle.esto_semantics.specs.Rules.{Rule, body_of}
 use Rattle.esto_semantics.specs.Sets.{Has}
 use Rattle.esto_semantics.specs.declared.fact.Fact.{Fact}
 use Rattle.esto_views.specs.declared.expansion.ExpandedFact.{ExpandedFact}
-use Rattle.esto_world_laws.proofs.InductionLemmas.{taken_at}
 use Rattle.esto_world_laws.proofs.LinkLemmas.{Linked-then, Linked-back}
 use Rattle.esto_world_laws.specs.Derived.{Claims, IsNamed, IsUnion, IsEquality, IsChain, FollowsBy, Follows, AreDerived}
 use Rattle.esto_world_laws.specs.Matches.{IsLike, Fits, AreChosen, match_map}
@@ -48,14 +48,6 @@ like_chosen Holds body chosen = zip_weaker
     × (length fact.terms ≡ length atom.terms)) IsLike body chosen
     (λ atom fact inside are. (are.1, are.2))
 
-take_front : {X : Type 0} (xs ys : List X) → take (length xs) (xs ++ ys) ≡ xs
-take_front [] ys = refl
-take_front (x ∷ xs) ys = ap (λ it. x ∷ it) (take_front xs ys)
-
-drop_front : {X : Type 0} (xs ys : List X) → drop (length xs) (xs ++ ys) ≡ ys
-drop_front [] ys = refl
-drop_front (x ∷ xs) ys = drop_front xs ys
-
 -- A rule's step: what the entries at the places, among the first few, make of a rule.
 abbrev pub IsStep : List Entry → List Rule → ℕ → ℕ → List ℕ → Claim → List Bool → Type 0
 IsStep entries rules count number places claim product =
@@ -81,10 +73,10 @@ module _ (entries : List Entry) (rules : List Rule) (count number : ℕ) (places
   long_enough = omega (arith, few_facts, ap length by.in_order, length-append by.facts by.links)
 
   pub facts_are : take (length (body_of step.0)) places ≡ by.facts
-  facts_are = ap (λ (it : ℕ). take it places) (sym few_facts) ∙ ap (take (length by.facts)) by.in_order ∙ take_front by.facts by.links
+  facts_are = ap (λ (it : ℕ). take it places) (sym few_facts) ∙ ap (take (length by.facts)) by.in_order ∙ take_at by.facts by.links (length by.facts) refl
 
   pub links_are : drop (length (body_of step.0)) places ≡ by.links
-  links_are = ap (λ (it : ℕ). drop it places) (sym few_facts) ∙ ap (drop (length by.facts)) by.in_order ∙ drop_front by.facts by.links
+  links_are = ap (λ (it : ℕ). drop it places) (sym few_facts) ∙ ap (drop (length by.facts)) by.in_order ∙ drop_at by.facts by.links (length by.facts) refl
 
   pub named_before : (place : ℕ) → Contains places place → place < count
   named_before place inside = omega (arith, step.3.there place inside, length-take count entries)

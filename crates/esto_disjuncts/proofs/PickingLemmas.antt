@@ -1,6 +1,5 @@
 -- The choice of a set for each member of a union.
 use Rattle.std.proofs.Common.{◌≡◌, ◌≢◌, ◌<◌, ◌≤◌, ◌+◌, ℕ, List, [], ◌∷◌, ◌++◌, length, map, take, get_or, filter, Contains, Option, Some, None, Result, Ok, Err, inl, inr, refl, sym, ap, subst, ◌∙◌, arith}
-use Rattle.std.proofs.lemmas.List.{take_more}
 use Rattle.std.proofs.lemmas.List.Elements.{Contains-append_left, Contains-push, Contains-push_cases, filter-append}
 use Rattle.std.specs.List.{AllZip}
 use Rattle.std.specs.Prelude.{IfErr}
@@ -16,6 +15,7 @@ use Rattle.esto_planning.specs.Planning.{chooses}
 use Rattle.esto_run.specs.Picks.{candidate_of}
 use Rattle.esto_run.specs.declared.picks.Pick.{Pick}
 use Rattle.esto_semantics.specs.Listed.{candidate}
+use Rattle.esto_term.proofs.PlaceLemmas.{take-item}
 use Rattle.esto_term.proofs.ZipLemmas.{zip_append}
 use Rattle.esto_views.specs.Plans.{plan_query}
 use Rattle.esto_views.specs.declared.plan.Plan.{Plan}
@@ -84,7 +84,7 @@ pub least_next : (members : List Member) (index : ℕ) (member : Member) (least 
     → IsLeast (take index members ++ member ∷ []) least → IsLeast (take (index + 1) members) least
 least_next members index member least below is least_is =
     subst (λ (them : List Member). IsLeast them least)
-    (sym (take_more members index member below ∙ ap (λ it. take index members ++ it ∷ []) (sym is))) least_is
+    (sym (take-item members index member below is)) least_is
 
 -- ---- the judgement
 
@@ -165,7 +165,7 @@ pub picks_next : (members : List Member) (number : Option ℕ) (index : ℕ) (me
 picks_next members number index member old new below is (more, adds, new_is) are =
     subst (λ (them : List Pick). ArePicksOf number (take (index + 1) members) them) (sym new_is)
     (subst (λ (them : List Member). AllZip (IsPickOf number) (filter has_plan them) (old ++ more))
-    (sym (take_more members index member below ∙ ap (λ it. take index members ++ it ∷ []) (sym is)))
+    (sym (take-item members index member below is))
     (subst (λ (them : List Member). AllZip (IsPickOf number) them (old ++ more)) (sym (filter-append has_plan (take index members) (member ∷ [])))
     (zip_append (IsPickOf number) (filter has_plan (take index members)) (filter has_plan (member ∷ [])) old more are adds)))
 

@@ -1,7 +1,8 @@
 -- The text of a union is put member by member.
-use Rattle.std.proofs.Common.{◌≡◌, ◌<◌, ◌≤◌, ◌+◌, ℕ, suc, List, [], ◌∷◌, ◌++◌, length, drop, get_or, drop-cons, add-one, refl, sym, ap, subst}
+use Rattle.std.proofs.Common.{◌≡◌, ◌<◌, ◌≤◌, ◌+◌, ℕ, List, [], ◌∷◌, ◌++◌, length, drop, get_or, refl, sym, subst}
 use Rattle.std.proofs.lemmas.List.{append_assoc, append-nil, drop_all}
 use Rattle.std.specs.List.{AllZip}
+use Rattle.esto_term.proofs.PlaceLemmas.{drop-item}
 use Rattle.esto_catalog.specs.declared.catalogue.Catalogue.{Catalogue}
 use Rattle.esto_list.specs.Text.{each_from}
 use Rattle.esto_disjuncts.specs.List.{IsMemberText, IsUnionText, disjunct_text}
@@ -22,7 +23,7 @@ module _ (catalogue : Catalogue) (members : List Member) where
       → GoesOn catalogue members (place + 1) new
   goes place member old new below is (own, is_own, put) so_far more texts =
       let left : drop place members ≡ member ∷ drop (place + 1) members =
-      rw (drop-cons members place member, add-one) (ap (λ (first : Member). first ∷ drop (suc place) members) (sym is)) in
+      drop-item members place member below is in
       let all = so_far (own ∷ more) (subst (λ it. AllZip (IsMemberText catalogue) it (own ∷ more)) (sym left) (is_own, texts)) in
       subst (IsUnionText catalogue members) (joined old (disjunct_text place own) (each_from disjunct_text (place + 1) more) new put) all
     where

@@ -1,11 +1,12 @@
 -- The loops of the encodings, a turn at a time.
-use Rattle.std.proofs.Common.{◌≡◌, ℕ, suc, ◌+◌, ◌<◌, List, [], ◌∷◌, ◌++◌, map, drop, length, get_or, Some, None, refl, sym, ap, ◌∙◌, subst, arith, add-one, append_assoc}
-use Rattle.std.proofs.Math.Seq.{drop-cons}
+use Rattle.std.proofs.Common.{◌≡◌, ℕ, suc, ◌+◌, ◌<◌, List, [], ◌∷◌, ◌++◌, map, drop, length, get_or, Some, None, refl, sym, ap, ◌∙◌, subst, arith, append_assoc}
 use Rattle.std.proofs.lemmas.List.{append-nil, map-append}
+use Rattle.std.proofs.lemmas.Option.{slice_get-get_or}
 use Rattle.std.proofs.lemmas.Result.{IfOk-weaker, on_ok_weaker}
 use Rattle.std.specs.Prelude.{Result, IfOk, OnOk}
 use Rattle.esto_term.specs.declared.term.Term.{Term}
 use Rattle.esto_term.specs.declared.term.Term.TheVariants.{Const, Plain}
+use Rattle.esto_term.proofs.PlaceLemmas.{drop-item, drop-there}
 use Rattle.esto_semantics.specs.declared.fact.Fact.{Fact}
 use Rattle.esto_docmodel.specs.DocumentFacts.{DocFact, value, below, flat}
 use Rattle.esto_docmodel.specs.Encodings.{size, entering, belows, holding, facts_from, end, step_atoms, atoms}
@@ -21,11 +22,6 @@ use Rattle.esto_docmodel.proofs.ShapeLemmas.{shape-Value, shape-Nothing, shape-F
 use Rattle.esto_docmodel.specs.declared.pattern.Step.{Step}
 use Rattle.esto_docmodel.specs.declared.pattern.Entry.{Entry}
 use Rattle.esto_docmodel.specs.declared.pattern.Entry.TheVariants as entry
-
--- ---- lists
-
-pub drop_at : {X : Type 0} (xs : List X) (i : ℕ) (x d : X) → i < length xs → x ≡ get_or xs i d → drop i xs ≡ x ∷ drop (i + 1) xs
-drop_at {X} xs i x d within is = rw (add-one i) (drop-cons xs i d within ∙ ap (λ (y : X). y ∷ drop (suc i) xs) (sym is))
 
 -- ---- the nodes above
 
@@ -43,7 +39,7 @@ below_step : (facts whole : List (Fact Term)) (base n : ℕ) (xs : List ℕ) (i 
 below_step facts whole base n xs i x within is known =
     append_assoc facts _ _
     ∙ ap (λ (w : List (DocFact Term)). facts ++ map (flat base) w) (sym (belows_last (turned (drop (i + 1) xs)) x n))
-    ∙ ap (λ (w : List ℕ). facts ++ map (flat base) (belows (turned w) n)) (sym (drop_at xs i x 0 within is))
+    ∙ ap (λ (w : List ℕ). facts ++ map (flat base) (belows (turned w) n)) (sym (drop-there xs i x (slice_get-get_or xs i 0 within ∙ ap Some (sym is))))
     ∙ known
 
 pub below_turn : (facts now whole : List (Fact Term)) (base n : ℕ) (xs : List ℕ) (i : ℕ) → i < length xs
@@ -177,7 +173,7 @@ module _ (base number next : ℕ) (above inner : List ℕ) (facts whole : List (
       inside_turned
       ∙ kid_step base facts whole (number ∷ turned above) next (name f.name) (shape f.tree) (named_row (map shaped_field (drop (i + 1) fields)))
       (ap (λ (w : List (FieldOf Tree)). facts ++ map (flat base) (facts_from (number ∷ turned above) next (named_row (map shaped_field w))))
-      (sym (drop_at fields i f f within is)) ∙ known)
+      (sym (drop-item fields i f within is)) ∙ known)
 
   pub item_facts : (items : List Tree) (i : ℕ) (t : Tree) → i < length items → t ≡ get_or items i t
       → facts ++ map (flat base) (facts_from (number ∷ turned above) next (row (map shape (drop i items)))) ≡ whole
@@ -187,7 +183,7 @@ module _ (base number next : ℕ) (above inner : List ℕ) (facts whole : List (
       ap (λ (a : List ℕ). ((facts ++ fact_over (base + 2) (Plain number ∷ Plain next ∷ []) ∷ []) ++ map (flat base) (node_facts a next (shape t)))
       ++ map (flat base) (facts_from (number ∷ turned above) (suc next + size (shape t).inside) (row (map shape (drop (i + 1) items))))) inside_turned
       ∙ kid_step base facts whole (number ∷ turned above) next place (shape t) (row (map shape (drop (i + 1) items)))
-      (ap (λ (w : List Tree). facts ++ map (flat base) (facts_from (number ∷ turned above) next (row (map shape w)))) (sym (drop_at items i t t within is))
+      (ap (λ (w : List Tree). facts ++ map (flat base) (facts_from (number ∷ turned above) next (row (map shape w)))) (sym (drop-item items i t within is))
       ∙ known)
 
 pub field_count : (next all : ℕ) (fields : List (FieldOf Tree)) (i : ℕ) (f : FieldOf Tree) → i < length fields → f ≡ get_or fields i f
@@ -195,14 +191,14 @@ pub field_count : (next all : ℕ) (fields : List (FieldOf Tree)) (i : ℕ) (f :
     → (suc next + size (shape f.tree).inside) + size (named_row (map shaped_field (drop (i + 1) fields))) ≡ all
 field_count next all fields i f within is known =
     kid_count next all (shape f.tree) (named_row (map shaped_field (drop (i + 1) fields))) (name f.name)
-    (ap (λ (w : List (FieldOf Tree)). next + size (named_row (map shaped_field w))) (sym (drop_at fields i f f within is)) ∙ known)
+    (ap (λ (w : List (FieldOf Tree)). next + size (named_row (map shaped_field w))) (sym (drop-item fields i f within is)) ∙ known)
 
 pub item_count : (next all : ℕ) (items : List Tree) (i : ℕ) (t : Tree) → i < length items → t ≡ get_or items i t
     → next + size (row (map shape (drop i items))) ≡ all
     → (suc next + size (shape t).inside) + size (row (map shape (drop (i + 1) items))) ≡ all
 item_count next all items i t within is known =
     kid_count next all (shape t) (row (map shape (drop (i + 1) items))) place
-    (ap (λ (w : List Tree). next + size (row (map shape w))) (sym (drop_at items i t t within is)) ∙ known)
+    (ap (λ (w : List Tree). next + size (row (map shape w))) (sym (drop-item items i t within is)) ∙ known)
 
 pub document_facts : (base next : ℕ) (above : List ℕ) (facts whole : List (Fact Term)) → above ≡ [] → (items : List Tree) (i : ℕ) (t : Tree) → i < length items
     → t ≡ get_or items i t
@@ -213,7 +209,7 @@ document_facts base next above facts whole none_above items i t within is known 
     ap (λ (a : List ℕ). ((facts ++ fact_over (base + 0) (Plain next ∷ []) ∷ []) ++ map (flat base) (node_facts (turned a) next (shape t)))
     ++ map (flat base) (facts_from [] (suc next + size (shape t).inside) (row (map shape (drop (i + 1) items))))) none_above
     ∙ kid_step base facts whole [] next place (shape t) (row (map shape (drop (i + 1) items)))
-    (ap (λ (w : List Tree). facts ++ map (flat base) (facts_from [] next (row (map shape w)))) (sym (drop_at items i t t within is)) ∙ known)
+    (ap (λ (w : List Tree). facts ++ map (flat base) (facts_from [] next (row (map shape w)))) (sym (drop-item items i t within is)) ∙ known)
 
 module _ (base number next later : ℕ) (above inner : List ℕ) (facts entered now whole : List (Fact Term)) (all : ℕ)
     (is_inner : inner ≡ above ++ number ∷ []) where
@@ -266,9 +262,9 @@ pub field_inside : (fields : List (FieldOf Tree)) (i : ℕ) (f : FieldOf Tree) (
     → IsRising (shape f.tree).inside
     → (AreInside (named_row (map shaped_field (drop i fields))) → W) → AreInside (named_row (map shaped_field (drop (i + 1) fields))) → W
 field_inside fields i f W within is rising known rest =
-    known (subst (λ (w : List (FieldOf Tree)). AreInside (named_row (map shaped_field w))) (sym (drop_at fields i f f within is)) (rising, rest))
+    known (subst (λ (w : List (FieldOf Tree)). AreInside (named_row (map shaped_field w))) (sym (drop-item fields i f within is)) (rising, rest))
 
 pub item_inside : (items : List Tree) (i : ℕ) (t : Tree) (W : Type 0) → i < length items → t ≡ get_or items i t → IsRising (shape t).inside
     → (AreInside (row (map shape (drop i items))) → W) → AreInside (row (map shape (drop (i + 1) items))) → W
 item_inside items i t W within is rising known rest =
-    known (subst (λ (w : List Tree). AreInside (row (map shape w))) (sym (drop_at items i t t within is)) (rising, rest))
+    known (subst (λ (w : List Tree). AreInside (row (map shape w))) (sym (drop-item items i t within is)) (rising, rest))

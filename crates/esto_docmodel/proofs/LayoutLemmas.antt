@@ -2,12 +2,12 @@
 use Rattle.std.proofs.Common.{◌≡◌, ◌≢◌, ◌⊎◌, ◌↔◌, inl, inr, ℕ, ◌+◌, ◌-◌, ◌<◌, ◌≤◌, ◌==◌, Bool, true, false, not, IsTrue, List, [], ◌∷◌, length, drop, get_or, Contains, refl, sym, ap, ◌∙◌, subst, arith}
 use Rattle.std.proofs.lemmas.Bool.{false≢true, cases_eq, eqb-true, eq-eqb}
 use Rattle.esto_term.proofs.ListLemmas.{Contains-head, Contains-rest, Contains-cases}
+use Rattle.esto_term.proofs.PlaceLemmas.{drop-item}
 use Rattle.esto_term.specs.declared.term.Term.{Term}
 use Rattle.esto_term.specs.declared.term.Term.TheVariants.{Plain}
 use Rattle.esto_docmodel.specs.Layouts.{paths, Begins, SomeBegins, AreFields, IsOneItem, FitTogether, IsColumn, AreLaidOut, StandsOnce, height, IsLayout}
 use Rattle.esto_docmodel.specs.Patterns.{Entries, done, holds, group, Mentions}
 use Rattle.esto_docmodel.specs.Shapes.{entry_shape, entries_of}
-use Rattle.esto_docmodel.proofs.EncodeLemmas.{drop_at}
 use Rattle.esto_docmodel.proofs.ShapeLemmas.{entry-Value, entry-Group}
 use Rattle.esto_docmodel.specs.declared.layout.TheConstants.{MAX_LAYOUT_DEPTH}
 use Rattle.esto_docmodel.specs.declared.pattern.Step.{Step}
@@ -147,7 +147,7 @@ pub laid_at : (columns steps : ℕ) (entries : List Entry) (i : ℕ) (it : Entry
     → LaidOutWithin columns steps (entries_of (drop i entries))
     ↔ (LaidOutWithin columns steps (entry_shape it done) × LaidOutWithin columns steps (entries_of (drop (i + 1) entries)))
 laid_at columns steps entries i it within is =
-    laid_parts columns steps (drop i entries) (drop (i + 1) entries) it (drop_at entries i it it within is)
+    laid_parts columns steps (drop i entries) (drop (i + 1) entries) it (drop-item entries i it within is)
 
 module _ (term : Term) (others : Entries) where
   abbrev MentionParts : Entry → Type 0
@@ -204,7 +204,7 @@ mention_parts term left rest it is = rw is (mention_here term (entries_of rest) 
 
 pub mention_at : (term : Term) (entries : List Entry) (i : ℕ) (it : Entry) → i < length entries → it ≡ get_or entries i it
     → Mentions (entries_of (drop i entries)) term ↔ (Mentions (entry_shape it done) term ⊎ Mentions (entries_of (drop (i + 1) entries)) term)
-mention_at term entries i it within is = mention_parts term (drop i entries) (drop (i + 1) entries) it (drop_at entries i it it within is)
+mention_at term entries i it within is = mention_parts term (drop i entries) (drop (i + 1) entries) it (drop-item entries i it within is)
 
 once_parts : (term : Term) (left rest : List Entry) (it : Entry) → left ≡ it ∷ rest
     → StandsOnce term (entries_of left) ↔ Once term (entry_shape it done) (entries_of rest)
@@ -256,7 +256,7 @@ pub once_found_at : (term : Term) (entries : List Entry) (i : ℕ) (it : Entry) 
     → Mentions (entry_shape it done) term → StandsOnce term (entries_of (drop i entries)) ↔ Whole
     → Whole ↔ (StandsOnce term (entry_shape it done) × ¬ (Mentions (entries_of (drop (i + 1) entries)) term))
 once_found_at term entries i it within is said same =
-    once_found term (drop i entries) (drop (i + 1) entries) it (drop_at entries i it it within is) said same
+    once_found term (drop i entries) (drop (i + 1) entries) it (drop-item entries i it within is) said same
 
 pub not_told : {P : Type 0} (test : Bool) → IsTrue test ↔ P → IsTrue (not test) ↔ ¬ P
 not_told true tells = (λ e. absurd (false≢true e), λ none. absurd (none (tells.0 refl)))
@@ -276,7 +276,7 @@ pub once_passed_at : (term : Term) (entries : List Entry) (i : ℕ) (it : Entry)
     → ¬ (Mentions (entry_shape it done) term) → StandsOnce term (entries_of (drop i entries)) ↔ Whole
     → StandsOnce term (entries_of (drop (i + 1) entries)) ↔ Whole
 once_passed_at term entries i it within is unsaid same =
-    once_passed term (drop i entries) (drop (i + 1) entries) it (drop_at entries i it it within is) unsaid same
+    once_passed term (drop i entries) (drop (i + 1) entries) it (drop-item entries i it within is) unsaid same
 
 -- ---- groups
 

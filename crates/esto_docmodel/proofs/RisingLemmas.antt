@@ -2,6 +2,7 @@
 use Rattle.std.proofs.Common.{◌≡◌, List, ℕ, sym, ap, subst, ◌∙◌, inl, inr}
 use Rattle.std.proofs.lemmas.Bool.{false≢true}
 use Rattle.std.proofs.lemmas.Cmp.{nat_list_cmp_total}
+use Rattle.std.proofs.lemmas.List.{drop_all}
 use Rattle.std.specs.Cmp.Lexicographic.{slice_cmp}
 use Rattle.std.specs.Ordering.{nat_cmp, ordering_reverse}
 use Rattle.std.specs.declared.cmp.Ordering.TheVariants.{Less, Greater}
@@ -13,7 +14,7 @@ use Rattle.esto_docmodel.specs.Shapes.{shape, row, named_row, shaped_field}
 use Rattle.std.specs.Prelude.{IsTrue}
 use Rattle.esto_docmodel.specs.declared.field.FieldOf.{FieldOf}
 use Rattle.esto_docmodel.specs.declared.tree.Tree.{Tree}
-use Rattle.std.proofs.Common.{Bool, false, cond, zero, suc, [], ◌∷◌, ◌≤◌, length, drop, map, refl, arith}
+use Rattle.std.proofs.Common.{Bool, false, cond, [], ◌∷◌, ◌≤◌, length, drop, map, refl}
 use Rattle.std.specs.Ordering.{is_lt}
 use Rattle.std.specs.declared.cmp.Ordering.{Ordering}
 use Rattle.std.specs.declared.cmp.Ordering.TheVariants.{Equal}
@@ -68,19 +69,13 @@ rising_items [] inside = tt
 rising_items (t ∷ []) inside = (tt, (inside.0, tt))
 rising_items (t ∷ u ∷ ts) inside = (tt, (inside.0, rising_items (u ∷ ts) inside.1))
 
-drop_none : {X : Type 0} (xs : List X) (i : ℕ) → length xs ≤ i → drop i xs ≡ []
-drop_none [] zero past = refl
-drop_none [] (suc i) past = refl
-drop_none (x ∷ xs) zero past = absurd (omega arith)
-drop_none (x ∷ xs) (suc i) past = drop_none xs i (omega arith)
-
 pub field_end : (items fields : List (FieldOf Tree)) (i : ℕ) → length items ≤ i → items ≡ fields → Rise items
     → (AreInside (named_row (map shaped_field (drop i items))) → AreInside (named_row (map shaped_field items)))
     → IsRising (named_row (map shaped_field fields))
 field_end items fields i past is rise known =
     subst (λ (w : List (FieldOf Tree)). IsRising (named_row (map shaped_field w))) is
-    (rising_fields items rise (known (subst (λ (w : List (FieldOf Tree)). AreInside (named_row (map shaped_field w))) (sym (drop_none items i past)) tt)))
+    (rising_fields items rise (known (subst (λ (w : List (FieldOf Tree)). AreInside (named_row (map shaped_field w))) (sym (drop_all i items past)) tt)))
 
 pub item_end : (items : List Tree) (i : ℕ) → length items ≤ i → (AreInside (row (map shape (drop i items))) → AreInside (row (map shape items)))
     → IsRising (row (map shape items))
-item_end items i past known = rising_items items (known (subst (λ (w : List Tree). AreInside (row (map shape w))) (sym (drop_none items i past)) tt))
+item_end items i past known = rising_items items (known (subst (λ (w : List Tree). AreInside (row (map shape w))) (sym (drop_all i items past)) tt))

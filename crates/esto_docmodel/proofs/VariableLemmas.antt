@@ -4,6 +4,7 @@ use Rattle.std.proofs.lemmas.List.{drop_all, get_or_default}
 use Rattle.std.specs.FinMap.{insert}
 use Rattle.std.specs.Prelude.{Result, Ok, Err, OnOk}
 use Rattle.esto_term.proofs.ListLemmas.{Contains-nil, Contains-cases, Contains-map_from, each_more}
+use Rattle.esto_term.proofs.PlaceLemmas.{drop-item}
 use Rattle.esto_term.specs.declared.term.Term.{Term}
 use Rattle.esto_term.specs.declared.term.Term.TheVariants.{Const, Plain}
 use Rattle.esto_semantics.specs.Facts as facts
@@ -22,7 +23,6 @@ use Rattle.esto_docmodel.specs.Valuations.{HaveFlatTerms}
 use Rattle.esto_docmodel.specs.declared.pattern.Entry.{Entry}
 use Rattle.esto_docmodel.specs.declared.pattern.Entry.TheVariants as entry
 use Rattle.esto_docmodel.specs.declared.pattern.Step.{Step}
-use Rattle.esto_docmodel.proofs.EncodeLemmas.{drop_at}
 use Rattle.esto_docmodel.proofs.ExtendingLemmas.{below_const, below_plain, below_more}
 use Rattle.esto_docmodel.proofs.LayoutLemmas.{mention_at}
 use Rattle.esto_docmodel.proofs.MentionLemmas.{atoms_have, said_in_atoms}
@@ -155,8 +155,8 @@ pub given_turn : (known next : Assignment) (variables : List ℕ) (row : List Te
     → i + 1 < length row → v ≡ get_or variables i v → term ≡ get_or row (i + 1) term → next ≡ insert known v term
     → given known (drop i variables) (drop (i + 1) row) ≡ whole → given next (drop (i + 1) variables) (drop (i + 1 + 1) row) ≡ whole
 given_turn known next variables row i v term {whole} here there is at put so_far =
-    rw put (subst (λ (terms : List Term). given known (v ∷ drop (i + 1) variables) terms ≡ whole) (drop_at row (i + 1) term term there at)
-    (subst (λ (vs : List ℕ). given known vs (drop (i + 1) row) ≡ whole) (drop_at variables i v v here is) so_far))
+    rw put (subst (λ (terms : List Term). given known (v ∷ drop (i + 1) variables) terms ≡ whole) (drop-item row (i + 1) term there at)
+    (subst (λ (vs : List ℕ). given known vs (drop (i + 1) row) ≡ whole) (drop-item variables i v here is) so_far))
 
 pub given_end : (known : Assignment) (variables : List ℕ) (row : List Term) (i : ℕ) {whole : Assignment} → length variables ≤ i
     → given known (drop i variables) (drop (i + 1) row) ≡ whole → known ≡ whole

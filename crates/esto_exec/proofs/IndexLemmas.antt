@@ -1,9 +1,10 @@
 -- Indexes of rows, row by row.
 use Rattle.std.proofs.Common.{◌≡◌, ◌⊎◌, inl, inr, ℕ, ◌+◌, ◌<◌, ◌≤◌, List, [], ◌∷◌, ◌++◌, map, length, take, Some, slice_get, refl, sym, ap, ◌∙◌, subst, arith}
 use Rattle.std.proofs.lemmas.Bool.{cases_order}
-use Rattle.std.proofs.lemmas.List.{length-append, take_more, take_all}
-use Rattle.std.proofs.lemmas.Option.{none-some, slice_get_within, get_or_from_slice_get}
+use Rattle.std.proofs.lemmas.List.{length-append, take_all}
+use Rattle.std.proofs.lemmas.Option.{none-some, slice_get_within}
 use Rattle.esto_term.proofs.ListLemmas.{Contains-at, at_left, at_end, at_pushed, map_at, place-from_Contains}
+use Rattle.esto_term.proofs.PlaceLemmas.{take-there}
 use Rattle.esto_columns.specs.Indexed.{Index, IsIndexOf, LeadsOn, AreChains, bucket_of}
 use Rattle.esto_plan.specs.declared.steps.Get.{Get}
 use Rattle.esto_plan.specs.declared.steps.Source.{Source}
@@ -22,7 +23,7 @@ pub finds_more : (columns : List Source) (rows : List (List ℕ)) (count : ℕ) 
     → ((keys : List (List ℕ)) → IsIndexOf index keys → IsIndexOf new (keys ++ own ∷ [])) → FindsRows (take (count + 1) rows) columns new
 finds_more columns rows count row given key own index new below is same named own_is (keys, before, are) added =
     let more : take (count + 1) rows ≡ take count rows ++ row ∷ [] =
-    take_more rows count row below ∙ ap (λ it. take count rows ++ it ∷ []) (get_or_from_slice_get rows count row row is) in (
+    take-there rows count row is in (
       keys ++ own ∷ [],
       added keys before,
       record {

@@ -1,9 +1,10 @@
 -- Joins, row by row.
 use Rattle.std.proofs.Common.{◌≡◌, ◌⊎◌, ◌↔◌, inl, inr, ℕ, ◌+◌, ◌<◌, ◌≤◌, List, [], ◌∷◌, ◌++◌, length, get_or, take, Some, slice_get, Contains, refl, sym, ap, ◌∙◌, subst}
-use Rattle.std.proofs.lemmas.List.{take_more, take_all}
+use Rattle.std.proofs.lemmas.List.{take_all}
 use Rattle.std.proofs.lemmas.List.Elements.{Contains-append_left, Contains-push, Contains-push_cases}
 use Rattle.std.proofs.lemmas.Option.{same_Some}
 use Rattle.esto_term.proofs.ListLemmas.{Contains-nil}
+use Rattle.esto_term.proofs.PlaceLemmas.{take-item}
 use Rattle.esto_plan.specs.declared.steps.Get.{Get}
 use Rattle.esto_plan.specs.Meaning.{Follows}
 use Rattle.esto_exec.specs.Joined.{IsJoin, IsFollower, IsFollowerAt, GainsOnly}
@@ -14,7 +15,7 @@ pub taken_more : {X : Type 0} (things : List X) (count : ℕ) (thing it : X) →
     → Contains (take (count + 1) things) it ↔ (Contains (take count things) it ⊎ (thing ≡ it))
 taken_more things count thing it below is =
     let more : take (count + 1) things ≡ take count things ++ thing ∷ [] =
-    take_more things count thing below ∙ ap (λ x. take count things ++ x ∷ []) (sym is) in (
+    take-item things count thing below is in (
       λ has. Contains-push_cases (take count things) thing it (subst (λ xs. Contains xs it) more has),
       λ has. subst (λ xs. Contains xs it) (sym more) (elim has [
         | inl before ↦ Contains-append_left (take count things) (thing ∷ []) it before

@@ -1,9 +1,10 @@
 -- Codes that sources name, and links that are met.
 use Rattle.std.proofs.Common.{◌≡◌, ◌⊎◌, inl, inr, ℕ, zero, suc, ◌<◌, ◌≤◌, List, [], ◌∷◌, ◌++◌, map, length, get_or, Some, None, slice_get, Contains, refl, sym, ap, ◌∙◌, subst, arith}
 use Rattle.std.proofs.lemmas.List.{length-map}
-use Rattle.std.proofs.lemmas.Option.{none-some, slice_get-get_or}
+use Rattle.std.proofs.lemmas.Option.{none-some}
 use Rattle.esto_term.proofs.ListLemmas.{map_at, map_at-from}
 use Rattle.esto_term.proofs.ListLemmas.{Contains-head, Contains-rest}
+use Rattle.esto_term.proofs.PlaceLemmas.{item_at}
 use Rattle.esto_plan.specs.declared.steps.Get.{Get}
 use Rattle.esto_plan.specs.declared.steps.Link.{Link}
 use Rattle.esto_plan.specs.declared.steps.Source.{Source}
@@ -20,7 +21,7 @@ pub none_names : (cells : List ℕ) (sources items : List Source) → items ≡ 
     → source ≡ get_or items at source → code_at cells source ≡ None
     → (codes : List ℕ) × NamesCodes cells sources codes → ⊥
 none_names cells sources items same at source below is none (codes, named) =
-    let there : slice_get sources at ≡ Some source = ap (λ it. slice_get it at) (sym same) ∙ slice_get-get_or items at source below ∙ ap Some (sym is) in
+    let there : slice_get sources at ≡ Some source = ap (λ it. slice_get it at) (sym same) ∙ item_at items at source below is in
     let found = map_at-from Some codes at None (ap (λ it. slice_get it at) (sym named) ∙ map_at (code_at cells) sources at source there ∙ ap Some none) in
     none-some found.0 (sym found.2)
 

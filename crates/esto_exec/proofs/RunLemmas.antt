@@ -1,11 +1,12 @@
 -- The run, get by get.
 use Rattle.std.proofs.Common.{◌≡◌, ◌↔◌, inl, inr, ℕ, ◌+◌, ◌<◌, ◌≤◌, List, [], ◌∷◌, ◌++◌, map, length, get_or, drop, Some, slice_get, Contains, refl, sym, ap, ◌∙◌, subst, arith}
-use Rattle.std.proofs.lemmas.List.{drop_more, drop_all, length-map, get_or-map}
+use Rattle.std.proofs.lemmas.List.{drop_all, length-map, get_or-map}
 use Rattle.std.proofs.lemmas.List.Elements.{Contains-append_left, Contains-push, Contains-push_cases}
-use Rattle.std.proofs.lemmas.Option.{same_Some, slice_get_within, slice_get-get_or}
+use Rattle.std.proofs.lemmas.Option.{same_Some, slice_get_within}
 use Rattle.esto_semantics.specs.declared.fact.Fact.{Fact}
 use Rattle.esto_term.proofs.ListLemmas.{Contains-nil, Contains-head, Contains-cases}
 use Rattle.esto_term.proofs.ListLemmas.{map_at}
+use Rattle.esto_term.proofs.PlaceLemmas.{drop-item, item_at}
 use Rattle.esto_columns.specs.Asked.{Shape, IsAllowed}
 use Rattle.esto_plan.specs.declared.steps.Get.{Get}
 use Rattle.esto_plan.specs.declared.steps.Source.{Source}
@@ -68,7 +69,7 @@ pub leads_more : (Holds : Fact ℕ → Type 0) (gets : List Get) (count : ℕ) (
     → ((both : List ℕ) → Contains new both ↔ IsJoin get so_far rows both)
     → LeadsFrom Holds gets (count + 1) new
 leads_more Holds gets count get so_far new rows below is holds before joins end =
-    let split : drop count gets ≡ get ∷ drop (count + 1) gets = drop_more gets count get below ∙ ap (λ it. it ∷ drop (count + 1) gets) (sym is) in (
+    let split : drop count gets ≡ get ∷ drop (count + 1) gets = drop-item gets count get below is in (
       λ leads. let found = (before end).0 leads in by (subst (λ them. Leads Holds them found.0 end) split found.2) found.1,
       λ found. let join = (joins found.0).0 found.1 in
           (before end).1 (
@@ -115,7 +116,7 @@ module _ {T : Type 0} (shape : T → Shape) (rows : T → List (List ℕ)) (frag
   fragment_allows gets items count get fragment same below is runnable at =
       let found = runnable get (subst (λ them. Contains them get) same (count, below, sym is)) in
       let there : slice_get fragments get.fragment ≡ Some fragment =
-      slice_get-get_or fragments get.fragment fragment (fragment_there gets items count get same below is runnable) ∙ ap Some (sym at) in
+      item_at fragments get.fragment fragment (fragment_there gets items count get same below is runnable) at in
       subst (λ it. IsAllowed it (map (λ link. link.column) get.inputs))
       (same_Some found.0 (shape fragment) (sym found.1 ∙ map_at shape fragments get.fragment fragment there)) found.2
 

@@ -1,5 +1,5 @@
 -- An audit comes to one end, and it rests on the sets of rows alone.
-use Rattle.std.proofs.Common.{◌≡◌, ◌≢◌, ◌↔◌, inl, inr, ℕ, zero, suc, ◌<◌, List, [], ◌∷◌, take, map, Option, None, Some, slice_get, Contains, refl, sym, ap, ◌∙◌, subst, arith}
+use Rattle.std.proofs.Common.{◌≡◌, ◌≢◌, ◌↔◌, inl, inr, ℕ, suc, ◌<◌, List, take, map, Option, None, Some, slice_get, Contains, refl, sym, ap, ◌∙◌, subst}
 use Rattle.std.specs.Prelude.{filter}
 use Rattle.std.specs.Cmp.Lexicographic.{slice_cmp}
 use Rattle.std.specs.Ordering.{nat_cmp}
@@ -23,7 +23,8 @@ use Rattle.esto_semantics.specs.declared.fact.Fact.{Fact}
 use Rattle.esto_semantics.specs.declared.fact.Value.TheVariants.{Text}
 use Rattle.esto_stores.specs.Rows.{Row}
 use Rattle.esto_term.specs.declared.term.Term.{Term}
-use Rattle.esto_term.proofs.ListLemmas.{Contains-at, Contains-head, Contains-rest, Contains-flat_from, Contains-filter_from, agree-from_map, map_agree}
+use Rattle.esto_term.proofs.ListLemmas.{Contains-at, Contains-flat_from, Contains-filter_from, agree-from_map, map_agree}
+use Rattle.esto_term.proofs.PlaceLemmas.{Contains-take}
 use Rattle.esto_fill.specs.Databases.{database_of}
 use Rattle.esto_fill.specs.Differences.{AreOne, Audits, HoldViewRows, IsFirstApart, IsFirstBroken, IsInOne, IsOfView, at}
 use Rattle.esto_fill.specs.Laws.{AuditsAreOne, AuditsAreOverFiles}
@@ -38,15 +39,6 @@ use Rattle.esto_fill.proofs.ValueLemmas.{facts_stand}
 
 -- ---- the rules
 
--- an item before a place is among the first
-Contains-first : {X : Type 0} (xs : List X) (count place : ℕ) (x : X) → place < count → slice_get xs place ≡ Some x → Contains (take count xs) x
-Contains-first [] count place x below there = absurd (cc)
-Contains-first (first ∷ xs) zero place x below there = absurd (omega (arith, below))
-Contains-first (first ∷ xs) (suc count) zero x below there =
-    subst (Contains (first ∷ take count xs)) (same_Some first x there) (Contains-head first (take count xs))
-Contains-first (first ∷ xs) (suc count) (suc place) x below there =
-    Contains-rest first (take count xs) x (Contains-first xs count place x (omega (arith, below)) there)
-
 module _ (rules : List Rule) (names : List (List Name)) (facts : List (Fact Term)) where
   -- facts that meet the rules break none
   broken_unmet : (number : ℕ) (cells : Row) → AreMet facts rules → IsFirstBroken rules names facts number cells → ⊥
@@ -59,7 +51,7 @@ module _ (rules : List Rule) (names : List (List Name)) (facts : List (Fact Term
       (one : IsFirstBroken rules names facts number cells) (two : IsFirstBroken rules names facts other its) → one.place < two.place → ⊥
   broken_before stand are flat number other cells its one two less =
       let met = meets_met stand facts (facts_stand facts flat) (take two.place rules) (first_rules rules two.place are) two.before in
-      one.active.active (met one.rule (Contains-first rules two.place one.place one.rule less one.there) one.m one.active.keeps
+      one.active.active (met one.rule (Contains-take rules two.place one.place one.rule less one.there) one.m one.active.keeps
       (Sends-match one.m (body_of one.rule) facts one.places one.active.matches))
 
   -- the record of a match rests on its places

@@ -1,5 +1,5 @@
 -- An audit: the rules, the rows of one fragment, and those of all.
-use Rattle.std.proofs.Common.{◌≡◌, ◌↔◌, inl, inr, ℕ, zero, suc, ◌≤◌, ◌<◌, ◌+◌, List, [], ◌∷◌, length, take, map, Option, None, Some, true, false, slice_get, Contains, refl, sym, ap, ◌∙◌, subst, arith}
+use Rattle.std.proofs.Common.{◌≡◌, ◌↔◌, inl, inr, ℕ, ◌≤◌, ◌<◌, ◌+◌, List, [], length, take, map, Option, None, Some, true, false, slice_get, Contains, refl, sym, ap, ◌∙◌, subst, arith}
 use Rattle.std.specs.Option.{is_some}
 use Rattle.std.proofs.lemmas.Bool.{cases_order}
 use Rattle.std.proofs.lemmas.List.{get_or_past, length-map}
@@ -24,7 +24,8 @@ use Rattle.esto_semantics.specs.declared.fact.Value.TheVariants.{Text}
 use Rattle.esto_stores.specs.Rows.{Row}
 use Rattle.esto_term.specs.declared.term.Term.{Term}
 use Rattle.esto_term.specs.declared.term.Term.TheVariants.{Const}
-use Rattle.esto_term.proofs.ListLemmas.{Contains-at, Contains-cases, Contains-head, Contains-map, Contains-map_from, Contains-nil, Contains-rest, map_at}
+use Rattle.esto_term.proofs.ListLemmas.{Contains-at, Contains-map, Contains-map_from, Contains-nil, map_at}
+use Rattle.esto_term.proofs.PlaceLemmas.{Contains-take_in}
 use Rattle.esto_views.specs.Fragments.{views_of}
 use Rattle.esto_views.specs.declared.fragments.FragmentDef.{FragmentDef}
 use Rattle.esto_fill.specs.Databases.{value_of, database_of}
@@ -54,17 +55,8 @@ module _ (stand : RulesStand) (facts : List (Fact Term)) (stands : Stands facts 
 pub are_rules : (each : (constraint : Constraint) → IsRule (rule_of constraint)) (rules : List Constraint) → AreRules (rules_of rules)
 are_rules each rules rule inside = let from = Contains-map_from rule_of rules rule inside in subst IsRule from.2 (each from.0)
 
-Contains-take : {X : Type 0} (xs : List X) (count : ℕ) (x : X) → Contains (take count xs) x → Contains xs x
-Contains-take [] zero x inside = inside
-Contains-take [] (suc count) x inside = inside
-Contains-take (first ∷ xs) zero x inside = absurd (Contains-nil x inside)
-Contains-take (first ∷ xs) (suc count) x inside = elim (Contains-cases first (take count xs) x inside) [
-  | inl is ↦ subst (Contains (first ∷ xs)) is (Contains-head first xs)
-  | inr later ↦ Contains-rest first xs x (Contains-take xs count x later)
-]
-
 pub first_rules : (rules : List Rule) (count : ℕ) → AreRules rules → AreRules (take count rules)
-first_rules rules count are rule inside = are rule (Contains-take rules count rule inside)
+first_rules rules count are rule inside = are rule (Contains-take_in rules count rule inside)
 
 pub rule_broken : (stand : RulesStand) (least : LeastActiveIsLeast) (facts : List (Fact Term)) (stands : Stands facts value_of (database_of facts))
     (rules : List Constraint) (are : AreRules (rules_of rules)) (place number : ℕ) (constraint : Constraint) (valuation : Assignment) (places : List ℕ)

@@ -1,6 +1,6 @@
 -- The facts of datasets' files.
 use Rattle.std.proofs.Common.{◌≡◌, inl, inr, ℕ, suc, ◌≤◌, ◌<◌, ◌+◌, List, [], ◌∷◌, ◌++◌, length, take, get_or, Option, None, Some, slice_get, Contains, refl, sym, ap, ◌∙◌, subst, append_assoc, append-nil, arith}
-use Rattle.std.proofs.lemmas.List.{take_more, take_all}
+use Rattle.std.proofs.lemmas.List.{take_all}
 use Rattle.std.proofs.lemmas.List.Elements.{Contains-append_cases}
 use Rattle.std.specs.Prelude.{Ok}
 use Rattle.std.proofs.lemmas.Option.{slice_get_within}
@@ -23,6 +23,7 @@ use Rattle.esto_term.specs.Kinds.{IsFlat}
 use Rattle.esto_term.specs.declared.term.Term.{Term}
 use Rattle.esto_term.specs.declared.term.Term.TheVariants.{Const, Plain}
 use Rattle.esto_term.proofs.ListLemmas.{Contains-nil, Contains-cases, Contains-map_from, HoldsBelow}
+use Rattle.esto_term.proofs.PlaceLemmas.{take-item}
 use Rattle.esto_fill.specs.Files.{dataset_fault, nodes_in, AreFactsOf, AreFactsFrom, AreReadable, GivesFacts, IsLoadedFrom}
 use Rattle.esto_fill.specs.declared.loaded.Loaded.{Loaded}
 use Rattle.esto_fill.specs.declared.datasets.DatasetBytes.{DatasetBytes}
@@ -177,7 +178,7 @@ module _ (datasets : List Dataset) (files : List DatasetBytes) where
       → ((those : List DatasetBytes) → IsLoadedFrom datasets those old → IsLoadedFrom datasets (those ++ file ∷ []) new)
       → IsLoadedFrom datasets (take (count + 1) files) new
   loaded_more count file old new within read before step =
-      subst (λ those. IsLoadedFrom datasets those new) (sym (take_more files count file within ∙ ap (λ last. take count files ++ last ∷ []) (sym read)))
+      subst (λ those. IsLoadedFrom datasets those new) (sym (take-item files count file within read))
       (step (take count files) before)
 
   pub all_readable : (count : ℕ) → length files ≤ count → AreReadableBelow count → AreReadable datasets files

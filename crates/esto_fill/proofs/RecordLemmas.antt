@@ -1,7 +1,7 @@
 -- The named variables of a body, each once.
 use Rattle.std.proofs.Common.{◌≡◌, ℕ, ◌≤◌, ◌<◌, ◌+◌, Bool, true, false, cond, List, [], ◌∷◌, ◌++◌, length, take, get_or, Contains, refl, sym, ap, ◌∙◌, subst, append_assoc, append-nil, inl, inr, arith}
 use Rattle.std.specs.Prelude.{filter}
-use Rattle.std.proofs.lemmas.List.{take_more, take_all}
+use Rattle.std.proofs.lemmas.List.{take_all}
 use Rattle.std.proofs.lemmas.Option.{slice_get_cases}
 use Rattle.std.proofs.lemmas.List.Concat.{flat_map-append}
 use Rattle.std.proofs.lemmas.List.Elements.{filter-append}
@@ -12,6 +12,7 @@ use Rattle.esto_semantics.specs.Facts.{terms_of}
 use Rattle.esto_semantics.specs.declared.fact.Fact.{Fact}
 use Rattle.esto_term.specs.declared.term.Term.{Term}
 use Rattle.esto_term.specs.declared.term.Term.TheVariants.{Plain, outs-Plain}
+use Rattle.esto_term.proofs.PlaceLemmas.{take-item}
 use Rattle.esto_fill.specs.Placing.{AddsNamed}
 use Rattle.esto_fill.specs.Records.{is_given, is_named, is_named_kind, AreNamedVariables}
 
@@ -58,7 +59,7 @@ module _ (names : List Name) where
       → AddsNamed names (take count terms) old middle → AddsNamed names (term ∷ []) middle new → AddsNamed names (take (count + 1) terms) old new
   adds_more terms old middle new count term within read one other =
       subst (λ those. AddsNamed names those old new)
-      (sym (take_more terms count term within ∙ ap (λ last. take count terms ++ last ∷ []) (sym read)))
+      (sym (take-item terms count term within read))
       (adds_then (take count terms) term old middle new one other)
 
   pub adds_all : (terms old new : List Term) (count : ℕ) → length terms ≤ count → AddsNamed names (take count terms) old new → AddsNamed names terms old new
@@ -70,7 +71,7 @@ module _ (names : List Name) where
       → AreNamedVariables names (take count body) old → AddsNamed names atom.terms old new → AreNamedVariables names (take (count + 1) body) new
   named_more body count atom old new within read before more =
       subst (λ those. AreNamedVariables names those new)
-      (sym (take_more body count atom within ∙ ap (λ last. take count body ++ last ∷ []) (sym read)))
+      (sym (take-item body count atom within read))
       (subst (λ those. AreEachOnce those new) same (more (filter (is_named names) (terms_of (take count body))) before))
     where
       same : filter (is_named names) (terms_of (take count body)) ++ filter (is_named names) atom.terms

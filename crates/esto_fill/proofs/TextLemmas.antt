@@ -4,7 +4,7 @@ use Rattle.std.specs.Prelude.{Result, Ok, Err}
 use Rattle.std.specs.Cmp.Lexicographic.{slice_cmp}
 use Rattle.std.specs.Ordering.{nat_cmp}
 use Rattle.std.specs.declared.cmp.Ordering.TheVariants.{Less}
-use Rattle.std.proofs.lemmas.List.{take_more, take_all}
+use Rattle.std.proofs.lemmas.List.{take_all}
 use Rattle.std.proofs.lemmas.List.Elements.{Contains-push_cases, Contains-append_left, Contains-append_right}
 use Rattle.std.proofs.lemmas.Bool.{cases_order}
 use Rattle.std.proofs.lemmas.Option.{slice_get_within}
@@ -24,6 +24,7 @@ use Rattle.esto_term.specs.declared.term.Term.{Term}
 use Rattle.esto_term.specs.declared.term.Term.TheVariants.{Const}
 use Rattle.esto_term.proofs.ChoiceLemmas.{pairs_cons, pairs_head, pairs_tail}
 use Rattle.esto_term.proofs.ListLemmas.{Contains-head, Contains-at, Contains-map, Contains-map_from, map_at, map_at-from, map_agree, map_itself, map_then, place-from_Contains, HoldsBelow}
+use Rattle.esto_term.proofs.PlaceLemmas.{take-item}
 use Rattle.esto_fill.specs.Databases.{value_of}
 use Rattle.esto_fill.specs.Placing.{text_of, IsImageOf, AreConstant, IsOpenAt, LeastOpen, NamesColumn, lesser}
 use Rattle.esto_fill.specs.Texts.{HaveTextsOnly, AreTextsOf, IsFirstNodeColumn, AreTextViews, GivesTexts, JudgesRows, JudgesViews}
@@ -96,7 +97,7 @@ open_more rows row (Some place) (Some other) before own = (
 pub open_next : (rows : List (List Term)) (count : ℕ) (row : List Term) (place other new : Option ℕ) → count < length rows → row ≡ get_or rows count row
     → LeastOpen (take count rows) place → LeastOpen (row ∷ []) other → new ≡ lesser place other → LeastOpen (take (count + 1) rows) new
 open_next rows count row place other new within read before own is =
-    subst (λ those. LeastOpen those new) (sym (take_more rows count row within ∙ ap (λ last. take count rows ++ last ∷ []) (sym read)))
+    subst (λ those. LeastOpen those new) (sym (take-item rows count row within read))
     (subst (LeastOpen (take count rows ++ row ∷ [])) (sym is) (open_more (take count rows) row place other before own))
 
 pub open_all : (rows : List (List Term)) (count : ℕ) (place : Option ℕ) → length rows ≤ count → LeastOpen (take count rows) place → LeastOpen rows place

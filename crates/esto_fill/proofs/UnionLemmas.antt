@@ -1,6 +1,6 @@
 -- The answers of unions of queries over facts.
-use Rattle.std.proofs.Common.{◌≡◌, ◌↔◌, ◌<◌, ◌≤◌, ◌+◌, inl, inr, ℕ, List, [], ◌∷◌, ◌++◌, length, take, map, get_or, Contains, sym, ap, subst, ◌∙◌}
-use Rattle.std.proofs.lemmas.List.{take_more, take_all}
+use Rattle.std.proofs.Common.{◌≡◌, ◌↔◌, ◌<◌, ◌≤◌, ◌+◌, inl, inr, ℕ, List, [], ◌∷◌, ◌++◌, length, take, map, get_or, Contains, sym, subst}
+use Rattle.std.proofs.lemmas.List.{take_all}
 use Rattle.std.proofs.lemmas.List.Elements.{Contains-append_cases, Contains-push_cases, Contains-append_left, Contains-append_right}
 use Rattle.esto_query.specs.Making.{query_of}
 use Rattle.esto_query.specs.declared.query.Query.{Query}
@@ -11,6 +11,7 @@ use Rattle.esto_semantics.specs.Unions.{IsUnionAnswer}
 use Rattle.esto_semantics.specs.declared.fact.Fact.{Fact}
 use Rattle.esto_semantics.specs.declared.fact.Value.{Value}
 use Rattle.esto_term.proofs.ListLemmas.{Contains-head, Contains-map, Contains-map_from, Contains-nil}
+use Rattle.esto_term.proofs.PlaceLemmas.{take-item}
 use Rattle.esto_term.specs.declared.term.Term.{Term}
 use Rattle.esto_term.specs.declared.term.Term.TheVariants.{Const}
 use Rattle.esto_fill.specs.Databases.{value_of}
@@ -62,7 +63,7 @@ module _ (facts : List (Fact Term)) where
       → query ≡ get_or queries count query → HaveRowsOf (take count queries) old → AddsAnswers query facts old new
       → HaveRowsOf (take (count + 1) queries) new
   rows_of_next queries count query old new within read have adds =
-      subst (λ those. HaveRowsOf those new) (sym (take_more queries count query within ∙ ap (λ last. take count queries ++ last ∷ []) (sym read)))
+      subst (λ those. HaveRowsOf those new) (sym (take-item queries count query within read))
       (rows_of_more (take count queries) query old new have adds)
 
   pub rows_of_all : (queries : List Query) (count : ℕ) (rows : List (List Term)) → length queries ≤ count → HaveRowsOf (take count queries) rows

@@ -4,35 +4,20 @@ use Rattle.std.proofs.Common.{length, get_or, take, drop, Contains, slice_get, S
 use Rattle.std.specs.List.Sorted.{IsPermutation}
 use Rattle.std.specs.Set.{is_member}
 use Rattle.std.proofs.lemmas.Bool.{cases_order}
-use Rattle.std.proofs.lemmas.List.{take_more, drop_more, append-nil, length-take}
+use Rattle.std.proofs.lemmas.List.{drop_more, append-nil, length-take}
 use Rattle.std.proofs.lemmas.List.Elements.{Contains-append_left, Contains-push, Contains-push_cases}
 use Rattle.std.proofs.lemmas.List.Sorted.{Contains-permutation, IsPermutation-sym}
 use Rattle.std.proofs.lemmas.Map.Made.{is_member-Decides}
 use Rattle.std.proofs.lemmas.Option.{slice_get_within, get_or_from_slice_get}
 use Rattle.esto_term.specs.declared.term.Term.{Term}
-use Rattle.esto_term.proofs.ListLemmas.{Contains-cases, Contains-head, Contains-nil, Contains-rest, at_left, at_right}
+use Rattle.esto_term.proofs.ListLemmas.{Contains-cases, Contains-head, Contains-nil, Contains-rest, at_left, at_pushed, at_right}
+use Rattle.esto_term.proofs.PlaceLemmas.{Contains-take, Contains-take_from, drop-item, take-item}
 use Rattle.esto_semantics.specs.Listed.{chosen}
 use Rattle.esto_semantics.specs.declared.fact.Fact.{Fact}
 use Rattle.esto_chase_laws.specs.Joined.{joined, same_fact}
 use Rattle.esto_chase_laws.proofs.JoinedLemmas.{joined_one, one_from, one_has, same_fact-Decides}
 use Rattle.esto_instance.specs.Fresh.{IsEntry, HasEntry, IsOld, IsNew, Adds, AreEntries, IsFirstRank, IsEarlier, AreFresh}
 use Rattle.esto_instance.specs.declared.fresh.Entry.{Entry}
-
--- what stands at a place of a list with one more item
-push_at : {X : Type 0} (things : List X) (last : X) (place : ℕ) (thing : X) → slice_get (things ++ last ∷ []) place ≡ Some thing
-    → (slice_get things place ≡ Some thing) ⊎ ((place ≡ length things) × (last ≡ thing))
-push_at [] last zero thing at = inr (refl, cc)
-push_at [] last (suc place) thing at = absurd (cc)
-push_at (first ∷ things) last zero thing at = inl at
-push_at (first ∷ things) last (suc place) thing at = elim (push_at things last place thing at) [
-  | inl earlier ↦ inl earlier
-  | inr same ↦ inr (ap suc same.0, same.1)
-]
-
--- the items up to a place, and the one there
-take_one : {X : Type 0} (things : List X) (place : ℕ) (thing : X) → place < length things → thing ≡ get_or things place thing
-    → take (place + 1) things ≡ take place things ++ thing ∷ []
-take_one things place thing within is = take_more things place thing within ∙ ap (λ it. take place things ++ it ∷ []) (sym is)
 
 -- ---- entries, one after the other
 
@@ -74,7 +59,7 @@ pub old_more : (facts : List (Fact Term)) (place : ℕ) (fact : Fact Term) → p
     → (old now new : List Entry) (entry : Entry) → new ≡ now ++ entry ∷ [] → IsEntry fact 0 entry
     → Adds (IsOld (take place facts)) old now → Adds (IsOld (take (place + 1) facts)) old new
 old_more facts place fact within is =
-    let whole = take_one facts place fact within is in
+    let whole = take-item facts place fact within is in
     adds_more (IsOld (take place facts)) (IsOld (take (place + 1) facts)) fact 0
     (λ it other (inside, none). elim (Contains-push_cases (take place facts) fact it (subst (λ all. Contains all it) whole inside)) [
       | inl earlier ↦ inl (earlier, none)
@@ -90,10 +75,10 @@ pub new_more : (facts : List (Fact Term)) (place : ℕ) (fact : Fact Term) → p
     → (old now new : List Entry) (entry : Entry) → new ≡ now ++ entry ∷ [] → IsEntry fact (place + 1) entry
     → Adds (IsNew (take place facts)) old now → Adds (IsNew (take (place + 1) facts)) old new
 new_more facts place fact within is =
-    let whole = take_one facts place fact within is in
+    let whole = take-item facts place fact within is in
     let count : length (take place facts) ≡ place = omega (arith, within, length-take place facts) in
     adds_more (IsNew (take place facts)) (IsNew (take (place + 1) facts)) fact (place + 1)
-    (λ it other (at, there, rank). elim (push_at (take place facts) fact at it (subst (λ all. slice_get all at ≡ Some it) whole there)) [
+    (λ it other (at, there, rank). elim (at_pushed (take place facts) fact at it (subst (λ all. slice_get all at ≡ Some it) whole there)) [
       | inl earlier ↦ inl (at, earlier, rank)
       | inr same ↦ inr (same.1, sym (rank ∙ ap (λ n. n + 1) (same.0 ∙ count)))
     ])
@@ -132,28 +117,10 @@ module _ (facts more : List (Fact Term)) (index : List Entry) (are : AreEntries 
   own : HasEntry index fact rank × (rank ≤ place + 1)
   own = first (place + 1) (are.has fact (place + 1) (inr (place, at, refl)))
 
-  in_take : {X : Type 0} (things : List X) (count k : ℕ) (thing : X) → k < count → slice_get things k ≡ Some thing → Contains (take count things) thing
-  in_take [] count k thing less there = absurd (cc)
-  in_take (x ∷ things) zero k thing less there = absurd (omega arith)
-  in_take (x ∷ things) (suc count) zero thing less there =
-      let same : x ≡ thing = cc in subst (Contains (x ∷ take count things)) same (Contains-head x (take count things))
-  in_take (x ∷ things) (suc count) (suc k) thing less there =
-      Contains-rest x (take count things) thing (in_take things count k thing (omega arith) there)
-
-  from_take : {X : Type 0} (things : List X) (count : ℕ) (thing : X) → Contains (take count things) thing
-      → (k : ℕ) × (k < count) × (slice_get things k ≡ Some thing)
-  from_take [] zero thing inside = absurd (Contains-nil thing inside)
-  from_take [] (suc count) thing inside = absurd (Contains-nil thing inside)
-  from_take (x ∷ things) zero thing inside = absurd (Contains-nil thing inside)
-  from_take (x ∷ things) (suc count) thing inside = elim (Contains-cases x (take count things) thing inside) [
-    | inl same ↦ (0, omega arith, ap Some same)
-    | inr later ↦ let found = from_take things count thing later in (suc found.0, omega (arith, found.1), found.2)
-  ]
-
   earlier_is_less : IsEarlier facts more place fact → rank < place + 1
   earlier_is_less (inl inside) = omega (arith, (first 0 (are.has fact 0 (inl (inside, refl)))).1)
   earlier_is_less (inr inside) =
-      let found = from_take more place fact inside in
+      let found = Contains-take_from more place fact inside in
       omega (arith, found.1, (first (found.0 + 1) (are.has fact (found.0 + 1) (inr (found.0, found.2, refl)))).1)
 
   fresh_is_first : (IsEarlier facts more place fact → ⊥) → rank ≡ place + 1
@@ -165,7 +132,7 @@ module _ (facts more : List (Fact Term)) (index : List Entry) (are : AreEntries 
         | inr (k, there, counted) ↦ elim (cases_order k place) [
           | inl same ↦ sym ranked ∙ counted ∙ ap (λ n. n + 1) same
           | inr apart ↦ elim apart [
-            | inl less ↦ absurd (fresh (inr (in_take more place k fact less (there ∙ ap Some is))))
+            | inl less ↦ absurd (fresh (inr (Contains-take more place k fact less (there ∙ ap Some is))))
             | inr above ↦ absurd (omega (arith, above, own.1, ranked, counted))
           ]
         ]
@@ -294,7 +261,7 @@ module _ (marks : List Bool) (facts copies : List (Fact Term)) (place : ℕ) (ma
       ap (λ all. chosen all (drop place facts))
       (drop_more marks place mark (slice_get_within marks place mark marked)
       ∙ ap (λ it. it ∷ drop (place + 1) marks) (get_or_from_slice_get marks place mark mark marked))
-      ∙ ap (chosen (mark ∷ drop (place + 1) marks)) (drop_more facts place fact within ∙ ap (λ it. it ∷ drop (place + 1) facts) (sym is))
+      ∙ ap (chosen (mark ∷ drop (place + 1) marks)) (drop-item facts place fact within is)
 
   pub copied : (new : List (Fact Term)) (copy : Fact Term) → mark ≡ true → copy ≡ fact → new ≡ copies ++ copy ∷ [] → chosen marks facts ≡ new ++ rest
   copied new copy told same pushed =

@@ -4,7 +4,7 @@ use Rattle.std.proofs.Math.ListN.{drop_of_length-le}
 use Rattle.std.proofs.lemmas.Bool.{cases_Bool}
 use Rattle.std.proofs.lemmas.List.{length-map, map-append, take_more, take_all}
 use Rattle.std.proofs.lemmas.List.Sums.{sum_by-cons}
-use Rattle.std.proofs.lemmas.Option.{none-some, same_Some, slice_get-get_or, get_or_from_slice_get}
+use Rattle.std.proofs.lemmas.Option.{none-some, same_Some, get_or_from_slice_get}
 use Rattle.esto_term.specs.declared.term.Term.{Term}
 use Rattle.esto_semantics.specs.declared.fact.Fact.{Fact}
 use Rattle.esto_semantics.specs.Sets.{Has}
@@ -15,6 +15,7 @@ use Rattle.esto_views.specs.Plans.{fact_of}
 use Rattle.esto_list.specs.declared.listing.Listed.{Listed}
 use Rattle.esto_list.specs.Items.{set_weight, sets_of, totals_of}
 use Rattle.esto_term.proofs.ListLemmas.{map_at}
+use Rattle.esto_term.proofs.PlaceLemmas.{item_at}
 
 -- ---- the pick
 
@@ -22,7 +23,7 @@ pub total_at : (items : List Listed) (place : ℕ) (item : Listed) → place < l
     → slice_index_or (totals_of items) place 0 ≡ item.weight
 total_at items place item below is =
     get_or_from_slice_get (totals_of items) place item.weight 0 (map_at (λ (it : Listed). it.weight) items place item
-    (slice_get-get_or items place item below ∙ ap Some (sym is)))
+    (item_at items place item below is))
 
 module _ (weights : List ℕ) (place pick : ℕ) (least : (other : ℕ) → other < place → slice_index_or weights pick 0 ≤ slice_index_or weights other 0) where
   module _ (less : slice_index_or weights place 0 < slice_index_or weights pick 0) where
@@ -64,7 +65,7 @@ module _ (weights : List ℕ) where
   module _ (atoms : List PlanAtom) (given : List PlanAtom) (same : given ≡ atoms) (set : List Bool) (number : ℕ) (atom : PlanAtom)
       (below : number < length given) (is : atom ≡ get_or given number atom) where
     at : slice_get (map fact_of atoms) number ≡ Some (fact_of atom)
-    at = map_at fact_of atoms number atom (subst (λ it. slice_get it number ≡ Some atom) same (slice_get-get_or given number atom below ∙ ap Some (sym is)))
+    at = map_at fact_of atoms number atom (subst (λ it. slice_get it number ≡ Some atom) same (item_at given number atom below is))
 
     step : set_weight weights (drop number (map fact_of atoms)) (drop number set)
         ≡ cond (slice_index_or set number false) (slice_index_or weights atom.fragment 0) 0 + set_weight weights (drop (number + 1) (map fact_of atoms))

@@ -1,6 +1,7 @@
 -- Texts that are put together, one thing after the other.
 use Rattle.std.proofs.Common.{◌≡◌, ℕ, ◌+◌, ◌<◌, ◌≤◌, List, ◌∷◌, ◌++◌, length, get_or, drop, sym, ap, ◌∙◌}
-use Rattle.std.proofs.lemmas.List.{append_assoc, append-nil, drop_more, drop_all}
+use Rattle.std.proofs.lemmas.List.{append_assoc, append-nil, drop_all}
+use Rattle.esto_term.proofs.PlaceLemmas.{drop-item}
 use Rattle.esto_list.specs.Text.{each_from}
 
 -- a text is put together up to a place, and the texts of the things from there on are to come
@@ -11,7 +12,7 @@ module _ {A : Type 0} (text_of : ℕ → A → List ℕ) (things : List A) (plac
   each_turn thing more below is grown =
       let rest = each_from text_of (place + 1) (drop (place + 1) things) in
       let split : drop place things ≡ thing ∷ drop (place + 1) things =
-      drop_more things place thing below ∙ ap (λ it. it ∷ drop (place + 1) things) (sym is) in
+      drop-item things place thing below is in
       ap (λ it. it ++ rest) grown ∙ append_assoc text (text_of place thing) rest ∙ sym (ap (λ them. text ++ each_from text_of place them) split) ∙ so_far
 
   pub each_end : length things ≤ place → text ≡ whole

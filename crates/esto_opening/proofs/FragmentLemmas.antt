@@ -1,10 +1,10 @@
 -- The files of the fragments that a set uses, opened one after the other.
-use Rattle.std.proofs.Common.{◌≡◌, ◌≢◌, ◌↔◌, ◌<◌, ◌≤◌, ◌+◌, ◌==◌, ℕ, suc, true, false, List, [], ◌∷◌, ◌++◌, take, drop, length, get_or, drop-cons, add-one, Contains, slice_get, Option, Some, None, Result, Ok, Err, refl, sym, ap, subst, ◌∙◌, arith}
+use Rattle.std.proofs.Common.{◌≡◌, ◌≢◌, ◌↔◌, ◌<◌, ◌≤◌, ◌+◌, ◌==◌, ℕ, true, false, List, [], ◌∷◌, ◌++◌, take, drop, length, get_or, Contains, slice_get, Option, Some, None, Result, Ok, Err, refl, sym, ap, subst, ◌∙◌, arith}
 use Rattle.std.proofs.lemmas.Bool.Decides.{nat_tests}
 use Rattle.std.specs.Prelude.{IfSome}
 use Rattle.std.specs.List.{AllPairs}
 use Rattle.std.specs.Result.{IsErrAnd}
-use Rattle.std.proofs.lemmas.List.{get_or_default, take_more, take-append-drop, take_all}
+use Rattle.std.proofs.lemmas.List.{get_or_default, take-append-drop, take_all}
 use Rattle.std.proofs.lemmas.List.Elements.{Contains-append_left, Contains-get_or}
 use Rattle.std.proofs.lemmas.Option.{same_Some}
 use Rattle.esto_catalog.specs.declared.catalogue.Catalogue.{Catalogue}
@@ -23,6 +23,7 @@ use Rattle.esto_run.specs.Stores.{IsRowIn, first_fault_in}
 use Rattle.esto_stores.specs.Rows.{Row}
 use Rattle.esto_term.proofs.DistinctLemmas.{outside}
 use Rattle.esto_term.proofs.ListLemmas.{thing_at}
+use Rattle.esto_term.proofs.PlaceLemmas.{drop-item, take-item}
 use Rattle.esto_views.specs.declared.fragments.FragmentDef.{FragmentDef}
 use Rattle.esto_opening.specs.Answers.{IsWant, IsCaused}
 use Rattle.esto_opening.specs.Fetch.{fetches}
@@ -170,10 +171,10 @@ module _ (files : Option Files) (catalogue : Catalogue) (numbers : List ℕ) (be
       }
         where
           taken : take (index + 1) numbers ≡ take index numbers ++ number ∷ []
-          taken = take_more numbers index number below ∙ ap (λ (it : ℕ). take index numbers ++ it ∷ []) (sym is)
+          taken = take-item numbers index number below is
 
           left : drop index numbers ≡ number ∷ drop (index + 1) numbers
-          left = rw (drop-cons numbers index number, add-one) (ap (λ (first : ℕ). first ∷ drop (suc index) numbers) (sym is))
+          left = drop-item numbers index number below is
 
           absent : ¬ (Contains (take index numbers) number)
           absent inside = outside (take index numbers) (drop (index + 1) numbers) number

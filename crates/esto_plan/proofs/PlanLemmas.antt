@@ -2,15 +2,16 @@
 use Rattle.std.proofs.Common.{◌≡◌, ◌⊎◌, inl, inr, ℕ, suc, ◌+◌, ◌<◌, ◌≤◌, Bool, true, false, cond, List, [], ◌∷◌, ◌++◌, map, length, get_or, take, drop, Some, slice_get, Contains, option_to_list, refl, sym, ap, ◌∙◌, subst, arith}
 use Rattle.std.specs.List.{AllZip}
 use Rattle.std.proofs.lemmas.Bool.{cases_lt}
-use Rattle.std.proofs.lemmas.List.{append_assoc, append-nil, length-take, take_more, take_all, drop_more, drop_all, map_push, get_or_past}
+use Rattle.std.proofs.lemmas.List.{append_assoc, append-nil, length-take, take_all, drop_more, drop_all, map_push, get_or_past}
 use Rattle.std.proofs.lemmas.List.Elements.{Contains-append_left, Contains-append_right, Contains-push, Contains-push_cases}
-use Rattle.std.proofs.lemmas.Option.{same_Some, slice_get_within, get_or_from_slice_get}
+use Rattle.std.proofs.lemmas.Option.{same_Some, slice_get_within}
 use Rattle.std.proofs.lemmas.Slice.Zip.{all_zipped_more}
 use Rattle.esto_term.specs.declared.term.Term.{Term}
 use Rattle.esto_term.specs.declared.term.Term.TheVariants.{Const}
 use Rattle.esto_semantics.specs.Maps.{IsFixedBy}
 use Rattle.esto_semantics.specs.declared.fact.Fact.{Fact}
 use Rattle.esto_term.proofs.ListLemmas.{Contains-nil, Contains-cases, at_left, at_right}
+use Rattle.esto_term.proofs.PlaceLemmas.{take-item, take-there}
 use Rattle.esto_plan.specs.declared.steps.Get.{Get}
 use Rattle.esto_plan.specs.declared.steps.Link.{Link}
 use Rattle.esto_plan.specs.declared.steps.Source.{Source}
@@ -109,7 +110,7 @@ pub inputs_more : (pattern : List Bool) (count : ℕ) (input : Bool) → slice_g
 inputs_more pattern count input at =
     let below = slice_get_within pattern count input at in let short = length-take count pattern in
     let place : 0 + length (take count pattern) ≡ count = omega (arith, short, below) in
-    ap inputs_of (take_more pattern count input below ∙ ap (λ it. take count pattern ++ it ∷ []) (get_or_from_slice_get pattern count input input at))
+    ap inputs_of (take-there pattern count input at)
     ∙ inputs-append 0 (take count pattern) (input ∷ []) ∙ ap (λ n. inputs_of (take count pattern) ++ cond input (n ∷ []) []) place
 
 -- ---- columns
@@ -240,7 +241,7 @@ pub head_more : (old texts : List (List ℕ)) (bound items : List Term) (sources
     → AllZip (IsSource old bound) (take count items) sources → IsSource texts (bound ++ []) term source → new ≡ sources ++ source ∷ []
     → AllZip (IsSource texts bound) (take (count + 1) items) new
 head_more old texts bound items sources new count term source grown below is all last more =
-    subst (λ them. AllZip (IsSource texts bound) them new) (sym (take_more items count term below ∙ ap (λ it. take count items ++ it ∷ []) (sym is)))
+    subst (λ them. AllZip (IsSource texts bound) them new) (sym (take-item items count term below is))
     (subst (AllZip (IsSource texts bound) (take count items ++ term ∷ [])) (sym more)
     (all_zipped_more (IsSource texts bound) (take count items) sources term source (head_grows old texts bound (take count items) sources grown all)
     (subst (λ them. IsSource texts them term source) (append-nil bound) last)))

@@ -1,22 +1,22 @@
 -- The derivations of derived entries derive their claims.
-use Rattle.std.proofs.Common.{◌≡◌, ◌≢◌, ◌⊎◌, ◌<◌, zero, suc, ℕ, Bool, List, [], ◌∷◌, ◌++◌, map, length, take, slice_get, Contains, Some, None, refl, sym, ap, ◌∙◌, subst, arith, inl, inr}
+use Rattle.std.proofs.Common.{◌≡◌, ◌≢◌, ◌⊎◌, ◌<◌, zero, suc, ℕ, List, [], ◌∷◌, ◌++◌, map, length, take, slice_get, Contains, Some, refl, sym, ap, ◌∙◌, subst, arith, inl, inr}
 use Rattle.std.specs.List.{AllZip}
 use Rattle.esto_term.specs.declared.term.Term.{Term}
 use Rattle.esto_term.proofs.ListLemmas.{Contains-head, Contains-rest, thing_at}
+use Rattle.esto_term.proofs.PlaceLemmas.{taken_at}
 use Rattle.esto_term.proofs.ZipLemmas.{zip_left, zip_length, zip_right, zip_weaker}
 use Rattle.esto_semantics.specs.Facts.{terms_of}
 use Rattle.esto_semantics.specs.Rules.{Rule, body_of}
 use Rattle.esto_semantics.specs.declared.fact.Fact.{Fact}
 use Rattle.esto_views.specs.declared.expansion.ExpandedFact.{ExpandedFact}
-use Rattle.esto_world_laws.specs.Derived.{AreDerived, Claims, Follows, FollowsBy, IsChain, IsEquality, IsNamed, IsUnion}
-use Rattle.esto_world_laws.specs.Matches.{AreChosen, IsMatch, taken}
+use Rattle.esto_world_laws.specs.Derived.{AreDerived, Claims, Follows, FollowsBy, IsChain, IsNamed}
+use Rattle.esto_world_laws.specs.Matches.{taken}
 use Rattle.esto_world_laws.specs.Worlds.{Linked}
 use Rattle.esto_world_laws.specs.declared.entry.Claim.{Claim}
 use Rattle.esto_world_laws.specs.declared.entry.Claim.TheVariants as claim
 use Rattle.esto_world_laws.specs.declared.entry.Entry.{Entry}
 use Rattle.esto_world_laws.specs.declared.entry.Reason.{Reason}
 use Rattle.esto_world_laws.specs.declared.entry.Reason.TheVariants as reason
-use Rattle.esto_world_laws.proofs.InductionLemmas.{taken_at}
 use Rattle.esto_world_laws.proofs.LinkLemmas.{Linked-more}
 use Rattle.esto_prov.specs.Derivations.{AreChain, Derives, DerivationsDerive, FollowsFrom, HasReason, IsWhy}
 use Rattle.esto_prov.specs.Derivations.Derives.{given, by_rule, by_chain}

@@ -1,10 +1,11 @@
 -- The products of a claim, entry by entry.
-use Rattle.std.proofs.Common.{◌≡◌, ◌↔◌, ◌⊎◌, ◌<◌, ◌≤◌, ◌+◌, ℕ, Bool, List, [], ◌∷◌, ◌++◌, length, take, get_or, Contains, All, refl, sym, ap, ◌∙◌, subst, arith, inl, inr}
-use Rattle.std.proofs.lemmas.List.{take_more, take_all}
+use Rattle.std.proofs.Common.{◌≡◌, ◌↔◌, ◌⊎◌, ◌<◌, ◌≤◌, ◌+◌, ℕ, Bool, List, [], ◌∷◌, ◌++◌, length, take, get_or, Contains, sym, ap, ◌∙◌, subst, arith, inl, inr}
+use Rattle.std.proofs.lemmas.List.{take_all}
 use Rattle.std.proofs.lemmas.List.Elements.{All-nil, All-push, Contains-append_left, Contains-push, Contains-push_cases}
 use Rattle.esto_term.proofs.ListLemmas.{Contains-nil, Contains-head}
-use Rattle.esto_semantics.specs.Sets.{Within, IsMinimal, AreMinimal}
-use Rattle.esto_bits.specs.Kept.{AreOver, with_set, with_sets, OneMoreIsMinimal, KeptAreMinimal}
+use Rattle.esto_term.proofs.PlaceLemmas.{take-item}
+use Rattle.esto_semantics.specs.Sets.{IsMinimal, AreMinimal}
+use Rattle.esto_bits.specs.Kept.{AreOver, OneMoreIsMinimal, KeptAreMinimal}
 use Rattle.esto_world_laws.specs.Claims.{AreSameClaim}
 use Rattle.esto_world_laws.specs.Laws.{AreReasoned}
 use Rattle.esto_world_laws.specs.declared.entry.Claim.{Claim}
@@ -85,7 +86,7 @@ module _ (claim : Claim) (count : ℕ) where
       → AddsProduct entry claim sets later → AreKept claim count (take (place + 1) entries) later
   kept_more one_more entries place entry sets later within read kept counted adds =
       let taken : take (place + 1) entries ≡ take place entries ++ entry ∷ [] =
-      take_more entries place entry within ∙ ap (λ it. take place entries ++ it ∷ []) (sym read) in
+      take-item entries place entry within read in
       subst (λ it. AreKept claim count it later) (sym taken) (kept_push one_more (take place entries) entry sets later kept counted adds)
 
   pub kept_all : (entries : List Entry) (place : ℕ) (sets : List (List Bool)) → length entries ≤ place → AreKept claim count (take place entries) sets

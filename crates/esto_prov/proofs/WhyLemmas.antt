@@ -1,8 +1,9 @@
 -- Derivations, one after the other.
-use Rattle.std.proofs.Common.{◌≡◌, ◌<◌, ◌+◌, ℕ, List, [], ◌∷◌, ◌++◌, length, take, get_or, slice_get, Contains, Some, sym, ap, ◌∙◌, subst, arith, inl, inr, length-append}
+use Rattle.std.proofs.Common.{◌≡◌, ◌<◌, ◌+◌, ℕ, List, [], ◌∷◌, ◌++◌, length, take, get_or, Contains, sym, subst, arith, inl, inr, length-append}
 use Rattle.std.proofs.lemmas.List.{take_more, length-take-le, get_or_default}
-use Rattle.std.proofs.lemmas.Option.{slice_get_within, slice_get-get_or}
+use Rattle.std.proofs.lemmas.Option.{slice_get_within}
 use Rattle.esto_term.proofs.ListLemmas.{at_pushed}
+use Rattle.esto_term.proofs.PlaceLemmas.{item_at}
 use Rattle.esto_world_laws.specs.Derived.{IsUnion}
 use Rattle.esto_world_laws.specs.Laws.{IsReasoned, AreReasoned}
 use Rattle.esto_world_laws.specs.declared.entry.Entry.{Entry}
@@ -41,7 +42,7 @@ module _ (entries : List Entry) where
 
 pub has_reason : (entries : List Entry) (at : ℕ) (entry : Entry) (its : Reason) → at < length entries → entry ≡ get_or entries at entry → entry.reason ≡ its
     → HasReason entries at its
-has_reason entries at entry its within read is = (entry, slice_get-get_or entries at entry within ∙ ap Some (sym read), is)
+has_reason entries at entry its within read is = (entry, item_at entries at entry within read, is)
 
 -- the places that a reason names are below that of its entry
 named_below : (entries : List Entry) (at : ℕ) (entry : Entry) (places : List ℕ) → at < length entries → IsUnion (take at entries) places entry.product
@@ -52,14 +53,14 @@ pub below_step : (entries : List Entry) (at : ℕ) (entry : Entry) (number : ℕ
     → entry.reason ≡ reason.Step number places → items ≡ places → AreReasoned entries → (place : ℕ) → Contains items place → place < at
 below_step entries at entry number places items within read is same reasoned place inside =
     named_below entries at entry places within
-    (subst (IsReasoned (take at entries) entry.product) is (reasoned.reasoned at entry (slice_get-get_or entries at entry within ∙ ap Some (sym read))))
+    (subst (IsReasoned (take at entries) entry.product) is (reasoned.reasoned at entry (item_at entries at entry within read)))
     place (subst (λ it. Contains it place) same inside)
 
 pub below_chain : (entries : List Entry) (at : ℕ) (entry : Entry) (places items : List ℕ) → at < length entries → entry ≡ get_or entries at entry
     → entry.reason ≡ reason.Equal places → items ≡ places → AreReasoned entries → (place : ℕ) → Contains items place → place < at
 below_chain entries at entry places items within read is same reasoned place inside =
     named_below entries at entry places within
-    (subst (IsReasoned (take at entries) entry.product) is (reasoned.reasoned at entry (slice_get-get_or entries at entry within ∙ ap Some (sym read))))
+    (subst (IsReasoned (take at entries) entry.product) is (reasoned.reasoned at entry (item_at entries at entry within read)))
     place (subst (λ it. Contains it place) same inside)
 
 -- a place of the list is below the bound

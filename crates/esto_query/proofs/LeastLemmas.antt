@@ -6,7 +6,7 @@ use Rattle.std.specs.Option.{IfSome, IfNone}
 use Rattle.std.specs.declared.cmp.Ordering.TheVariants.{Less, Equal, Greater}
 use Rattle.std.proofs.lemmas.Bool.Decides.{nat_tests}
 use Rattle.std.proofs.lemmas.Option.{slice_get_within}
-use Rattle.std.proofs.lemmas.List.{append_assoc, append-nil, drop_more, drop_all, get_or-drop, get_or_read, length-drop, nil_from_length}
+use Rattle.std.proofs.lemmas.List.{append_assoc, append-nil, drop_all, get_or-drop, get_or_read, length-drop, nil_from_length}
 use Rattle.std.proofs.lemmas.List.Elements.{All-cons}
 use Rattle.esto_term.specs.declared.term.Term.{Term}
 use Rattle.esto_term.specs.declared.term.Term.TheVariants.{Const}
@@ -27,6 +27,7 @@ use Rattle.esto_query.proofs.TrailLemmas.{Grew-same, Grew-then}
 use Rattle.esto_query.proofs.PlaceLemmas.{IsAtMost-nil, first_is_least, rest_is_at_most, IsAtMost-onto, IsAtMost-least}
 use Rattle.esto_query.proofs.MatchLemmas.{IsMatch-length, found_variables}
 use Rattle.esto_term.proofs.ListLemmas.{Contains-cases, Contains-head, Contains-nil, Contains-rest}
+use Rattle.esto_term.proofs.PlaceLemmas.{drop-item}
 
 -- ---- where no first place below a bound has a match
 
@@ -102,7 +103,7 @@ module _ (atom : Fact Term) (rest facts : List (Fact Term)) (known : Assignment)
 
     module _ (entry : Entry) (within : i < length found) (read : entry ≡ get_or found i entry) where
       next_left : drop i found ≡ entry ∷ drop (i + 1) found
-      next_left = drop_more found i entry within ∙ ap (λ e. e ∷ drop (i + 1) found) (sym read)
+      next_left = drop-item found i entry within read
 
       pub AreLeft-next : NoneAt atom rest facts known from entry.place → AreLeft atom rest facts known from (drop (i + 1) found)
       AreLeft-next none = record { among = later }

@@ -1,4 +1,4 @@
--- What lists contain, maps of terms that agree, and maps that are changed at one variable.
+-- What equal images come of, and maps that are changed at one variable.
 use Rattle.std.proofs.Common.{◌≡◌, ◌≢◌, ℕ, eqb, cond, true, false, List, map, get_or, Contains, None, sym, ap, ◌∙◌, inl, inr, arith}
 use Rattle.std.proofs.lemmas.List.{get_or-map}
 use Rattle.std.proofs.lemmas.Option.{none-some}
@@ -11,12 +11,8 @@ use Rattle.esto_semantics.specs.Facts.{image}
 use Rattle.esto_semantics.specs.Maps.{IsFlat, Keeps}
 use Rattle.esto_semantics.specs.declared.fact.Fact.{Fact}
 use Rattle.esto_query.specs.Valuations.{Assignment, Extends}
-use Rattle.esto_term.proofs.ListLemmas.{map_agree}
 
--- ---- maps that agree
-
-pub image_agree : {V : Type 0} (f g : Term → V) (fact : Fact Term) → ((term : Term) → Contains fact.terms term → f term ≡ g term) → image f fact ≡ image g fact
-image_agree {V} f g fact same = ap (λ (row : List V). record { relation = fact.relation; terms = row }) (map_agree f g fact.terms same)
+-- ---- equal images
 
 -- equal images come of equal values
 pub image_values : (f g : Term → Term) (fact : Fact Term) (term : Term) → image f fact ≡ image g fact → Contains fact.terms term → f term ≡ g term

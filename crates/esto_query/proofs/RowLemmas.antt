@@ -5,7 +5,7 @@ use Rattle.std.specs.FinMap.{get, empty, get-empty}
 use Rattle.std.specs.Ordering.{nat_cmp}
 use Rattle.std.proofs.lemmas.Bool.{false≢true}
 use Rattle.std.proofs.lemmas.Option.{none-some, same_Some, slice_get_read}
-use Rattle.std.proofs.lemmas.List.{take_more, take_all}
+use Rattle.std.proofs.lemmas.List.{take_all}
 use Rattle.std.specs.List.Sorted.{IsPermutation}
 use Rattle.std.proofs.lemmas.List.Sorted.{Contains-permutation, IsPermutation-sym}
 use Rattle.std.proofs.lemmas.List.Elements.{Contains-append_left, Contains-push, Contains-push_cases}
@@ -27,6 +27,7 @@ use Rattle.esto_query.proofs.MapLemmas.{image_values}
 use Rattle.esto_query.proofs.ValuationLemmas.{Keeps-map_of, Extends-map_of}
 use Rattle.esto_query.proofs.MatchLemmas.{known_kept, known_fixed, Sends-match, match-Sends}
 use Rattle.esto_term.proofs.ListLemmas.{Contains-at, Contains-cases, Contains-head, Contains-nil, Contains-rest, map_agree}
+use Rattle.esto_term.proofs.PlaceLemmas.{take-item}
 
 -- ---- with no atom left there is one row
 
@@ -287,19 +288,16 @@ module _ (head : List Term) (atom : Fact Term) (rest facts : List (Fact Term)) (
     )
 
     module _ (i : ℕ) where
-      seen_at : (entry : Entry) → i < length found → entry ≡ get_or found i entry → take (i + 1) found ≡ take i found ++ entry ∷ []
-      seen_at entry within read = take_more found i entry within ∙ ap (λ e. take i found ++ e ∷ []) (sym read)
-
       pub turn_skip : (entry : Entry) (now : List (List Term)) → i < length found → entry ≡ get_or found i entry → Excludes known (Here entry.place)
           → Adds old now (Seen (take i found)) → Adds old now (Seen (take (i + 1) found))
       turn_skip entry now within read none seen =
-          subst (λ es. Adds old now (Seen es)) (sym (seen_at entry within read)) (skip (take i found) entry now none seen)
+          subst (λ es. Adds old now (Seen es)) (sym (take-item found i entry within read)) (skip (take i found) entry now none seen)
 
       pub turn_next : (entry : Entry) (mid : Assignment) (now new : List (List Term)) → i < length found → entry ≡ get_or found i entry
           → Narrows known mid (Here entry.place) → Adds now new (IsRow head rest facts mid) → Adds old now (Seen (take i found))
           → Adds old new (Seen (take (i + 1) found))
       turn_next entry mid now new within read step more seen =
-          subst (λ es. Adds old new (Seen es)) (sym (seen_at entry within read)) (next (take i found) entry mid now new step more seen)
+          subst (λ es. Adds old new (Seen es)) (sym (take-item found i entry within read)) (next (take i found) entry mid now new step more seen)
 
       pub end_adds : (now : List (List Term)) → length found ≤ i → Adds old now (Seen (take i found)) → Adds old now (IsRow head (atom ∷ rest) facts known)
       end_adds now end seen =

@@ -1,7 +1,7 @@
 -- Trails of bindings: the last binding of a variable, and what one more binding does.
 use Rattle.std.proofs.Common.{◌≡◌, ◌↔◌, ℕ, suc, ◌+◌, ◌-◌, ◌<◌, ◌≤◌, Bool, true, false, cond, Some, None, Option, List, [], ◌∷◌, ◌++◌, take, length, get_or, map, refl, sym, ap, subst, ◌∙◌, arith}
 use Rattle.std.proofs.Math.Seq.{take-suc}
-use Rattle.std.proofs.lemmas.List.{append_assoc, append-nil, take-map, take_at, take_all, take_more, map_push, same_from_push}
+use Rattle.std.proofs.lemmas.List.{append_assoc, append-nil, take-map, take_at, take_all, map_push, same_from_push}
 use Rattle.std.proofs.lemmas.List.Sums.{fold-append}
 use Rattle.std.proofs.lemmas.Option.{same_Some, slice_get_within}
 use Rattle.std.specs.List.{slice_get}
@@ -10,6 +10,7 @@ use Rattle.std.specs.Cmp.{nat_cmp_total}
 use Rattle.std.specs.FinMap.{get, insert, get-insert}
 use Rattle.esto_term.specs.declared.term.Term.{Term}
 use Rattle.esto_term.specs.declared.term.Term.TheVariants.{Plain}
+use Rattle.esto_term.proofs.PlaceLemmas.{take-item}
 use Rattle.esto_semantics.specs.Facts.{image}
 use Rattle.esto_semantics.specs.declared.fact.Fact.{Fact}
 use Rattle.esto_query.specs.Valuations.{Assignment, Extends}
@@ -102,8 +103,8 @@ row_next : (m : Term → Term) (xs ys : List Term) (i : ℕ) (x y : Term) → i 
     → (map m (take (i + 1) xs) ≡ take (i + 1) ys) ↔ ((map m (take i xs) ≡ take i ys) × (m x ≡ y))
 row_next m xs ys i x y l k read_x read_y =
     let left : map m (take (i + 1) xs) ≡ map m (take i xs) ++ m x ∷ [] =
-    ap (map m) (take_more xs i x l ∙ ap (λ z. take i xs ++ z ∷ []) (sym read_x)) ∙ map_push m (take i xs) x in
-    let right : take (i + 1) ys ≡ take i ys ++ y ∷ [] = take_more ys i y k ∙ ap (λ z. take i ys ++ z ∷ []) (sym read_y) in (
+    ap (map m) (take-item xs i x l read_x) ∙ map_push m (take i xs) x in
+    let right : take (i + 1) ys ≡ take i ys ++ y ∷ [] = take-item ys i y k read_y in (
       λ e. same_from_push (map m (take i xs)) (take i ys) (m x) y (sym left ∙ e ∙ right),
       λ both. left ∙ ap (λ z. z ++ m x ∷ []) both.0 ∙ ap (λ z. take i ys ++ z ∷ []) both.1 ∙ sym right,
     )

@@ -1,14 +1,14 @@
 -- Items, from left to right.
-use Rattle.std.proofs.Common.{◌≡◌, ℕ, suc, ◌+◌, ◌<◌, ◌≤◌, inl, inr, List, [], ◌∷◌, ◌++◌, length, take, drop, get_or, refl, sym, ap, subst, ◌∙◌, arith, append_assoc, add-one}
+use Rattle.std.proofs.Common.{◌≡◌, ℕ, suc, ◌+◌, ◌<◌, ◌≤◌, inl, inr, List, [], ◌∷◌, ◌++◌, length, take, drop, get_or, refl, sym, ap, subst, ◌∙◌, arith, append_assoc}
 use Rattle.std.specs.Prelude.{map}
 use Rattle.std.specs.List.{AllByRecursion}
-use Rattle.std.proofs.Math.Seq.{drop-cons}
 use Rattle.std.proofs.Math.ListN.{get_or-map}
 use Rattle.std.proofs.lemmas.List.Elements.{All-from_recursion}
-use Rattle.std.proofs.lemmas.List.{take_more, take_all, drop_all, append-nil, length-append}
+use Rattle.std.proofs.lemmas.List.{take_all, drop_all, append-nil, length-append}
 use Rattle.esto_query.specs.declared.query.Name.{Name}
 use Rattle.esto_semantics.specs.declared.fact.Fact.{Fact}
 use Rattle.esto_term.specs.declared.term.Term.{Term}
+use Rattle.esto_term.proofs.PlaceLemmas.{drop-item, take-item}
 use Rattle.esto_text.specs.Trees.{ItemTree}
 use Rattle.esto_text.specs.View.{item_of}
 use Rattle.esto_text.specs.declared.fault.ReadError.{ReadError}
@@ -66,7 +66,7 @@ module _ (words : List Word) (schema bytes : List ℕ) where
       (lt : n < length items) (item : ItemTree)
       (e : get_or items n item ≡ item) where
     here : drop n items ≡ item ∷ drop (n + 1) items
-    here = rw (add-one n) (drop-cons items n item lt ∙ ap (λ (i : ItemTree). i ∷ drop (suc n) items) e)
+    here = drop-item items n item lt (sym e)
 
     pub body_more : (own : List (Fact Term)) (after : List Name) → IsItemOf words schema bytes names item own after
         → IsFitting words schema bytes (length body) item → BodySoFar before items (n + 1) (body ++ own) after
@@ -75,7 +75,7 @@ module _ (words : List Word) (schema bytes : List ℕ) where
         length-append body own ∙ ap (λ (k : ℕ). length body + k) (item_count words schema bytes names item own after is) in
         record {
           read = subst (λ (l : List ItemTree). AreItems words schema bytes before l (body ++ own) after)
-              (sym (take_more items n item lt ∙ ap (λ (i : ItemTree). take n items ++ i ∷ []) e))
+              (sym (take-item items n item lt (sym e)))
               (items_then before names after (take n items) body item own h.read is);
           fits = λ g. h.fits (subst (AreFitting words schema bytes (length body)) (sym here)
               (fit, subst (λ (k : ℕ). AreFitting words schema bytes k (drop (n + 1) items)) count g));

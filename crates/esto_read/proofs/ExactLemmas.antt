@@ -1,12 +1,12 @@
 -- A text has one reading and no fault, or one first fault and no reading.
-use Rattle.std.proofs.Common.{◌≡◌, ◌≢◌, ℕ, ◌+◌, ◌<◌, ◌≤◌, inl, inr, List, [], ◌∷◌, length, take, Some, refl, sym, ap, subst, ◌∙◌, arith}
-use Rattle.std.specs.Prelude.{Contains, AllPairs, map, slice_get}
+use Rattle.std.proofs.Common.{◌≡◌, ◌≢◌, ℕ, ◌+◌, inl, inr, List, [], ◌∷◌, Some, refl, sym, ap, subst, ◌∙◌, arith}
+use Rattle.std.specs.Prelude.{AllPairs, map, slice_get}
 use Rattle.std.proofs.lemmas.Bool.{cases_lt}
-use Rattle.std.proofs.lemmas.List.{get_or-take, length-take-le}
-use Rattle.std.proofs.lemmas.Option.{slice_get_within, get_or_from_slice_get}
 use Rattle.esto_query.specs.declared.query.Name.{Name}
 use Rattle.esto_semantics.specs.declared.fact.Fact.{Fact}
 use Rattle.esto_term.specs.declared.term.Term.{Term}
+use Rattle.esto_term.proofs.ListLemmas.{Contains-at}
+use Rattle.esto_term.proofs.PlaceLemmas.{Contains-take}
 use Rattle.esto_text.specs.Faults as text
 use Rattle.esto_text.specs.Tokens.{text_of}
 use Rattle.esto_text.specs.Trees.{ItemTree, QueryTree}
@@ -27,12 +27,6 @@ use Rattle.esto_read.proofs.WordLemmas.{relation_one}
 pub fault_same : (f g : TextFault) → f.offset ≡ g.offset → f.kind ≡ g.kind → f ≡ g
 fault_same f g o k = λ i. record { offset = o i; kind = k i }
 
-found : {X : Type 0} → (xs : List X) (i : ℕ) (x : X) → slice_get xs i ≡ Some x → Contains xs x
-found xs i x e = (i, slice_get_within xs i x e, get_or_from_slice_get xs i x x e)
-
-found_before : {X : Type 0} → (xs : List X) (i j : ℕ) (x : X) → slice_get xs i ≡ Some x → i < j → j ≤ length xs → Contains (take j xs) x
-found_before xs i j x e lt le = (i, omega (arith, length-take-le j xs le), get_or-take j xs i x lt ∙ get_or_from_slice_get xs i x x e)
-
 one_there : {X : Type 0} → (xs : List X) (i j : ℕ) (x y : X) → slice_get xs i ≡ Some x → slice_get xs j ≡ Some y → i ≡ j → x ≡ y
 one_there xs i j x y e f same = let g : Some x ≡ Some y = sym e ∙ ap (slice_get xs) same ∙ f in cc
 
@@ -51,9 +45,9 @@ repeat_one bytes variables m n (p, t, r, e, none) (q, u, s, f, none') =
 missing_one : (body : List (Fact Term)) (head : List Term) (p q : ℕ) → IsFirstMissing body head p → IsFirstMissing body head q → p ≡ q
 missing_one body head p q (x, at, none, before) (y, at', none', before') =
     elim (cases_lt p q) [
-      | inl lt ↦ absurd (none (before' x (found_before head p q x at lt (omega (arith, slice_get_within head q y at')))))
+      | inl lt ↦ absurd (none (before' x (Contains-take head q p x lt at)))
       | inr le ↦ elim (cases_lt q p) [
-        | inl lt ↦ absurd (none' (before y (found_before head q p y at' lt (omega (arith, slice_get_within head p x at)))))
+        | inl lt ↦ absurd (none' (before y (Contains-take head p q y lt at')))
         | inr ge ↦ omega arith
       ]
     ]
@@ -69,7 +63,7 @@ refused_one View bytes variables m n h g = repeat_one bytes variables m n h g
 module _ (form : Form) (bytes : List ℕ) (variables : List Token) (head : List Term) (body : List (Fact Term)) where
   fit_or_fault : (f : TextFault) → IsHeadFit form bytes variables head body → ¬ IsHeadFault form bytes variables head body f
   fit_or_fault f fit (inl (k, r)) = not_refused form bytes variables f.offset fit.0 r
-  fit_or_fault f fit (inr (k, allowed, place, token, (x, at, none, before), there, e)) = none (fit.1 x (found head place x at))
+  fit_or_fault f fit (inr (k, allowed, place, token, (x, at, none, before), there, e)) = none (fit.1 x (Contains-at head place x at))
 
   head_fault_one : (f g : TextFault) → IsHeadFault form bytes variables head body f → IsHeadFault form bytes variables head body g → f ≡ g
   head_fault_one f g (inl (k, r)) (inl (k', r')) = fault_same f g (refused_one form bytes variables f.offset g.offset r r') (k ∙ sym k')

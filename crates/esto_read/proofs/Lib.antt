@@ -1,4 +1,3 @@
-pub mod SeenLemmas
 pub mod QuoteLemmas
 pub mod Utf8Lemmas
 pub mod TermLemmas

@@ -1,10 +1,9 @@
 -- A text has one reading, or one first fault.
-use Rattle.std.proofs.Common.{◌≡◌, ◌≢◌, ℕ, zero, suc, append_assoc, ◌⊎◌, inl, inr, true, false, eqb, List, [], ◌∷◌, ◌++◌, length, Some, refl, sym, ap, subst, ◌∙◌, arith}
+use Rattle.std.proofs.Common.{◌≡◌, ◌≢◌, ℕ, zero, suc, append_assoc, inl, inr, true, false, eqb, List, [], ◌∷◌, ◌++◌, length, Some, refl, sym, ap, subst, ◌∙◌, arith}
 use Rattle.std.specs.Prelude.{Contains, AllPairs, map, slice_get, replicate}
 use Rattle.std.specs.List.{flat_map, AllZip}
-use Rattle.std.proofs.lemmas.Bool.{cases_lt}
-use Rattle.std.proofs.lemmas.List.{length-append, append-nil, append_cancel_right, get_or_append_left, get_or_at}
-use Rattle.std.proofs.lemmas.Option.{slice_get_within, slice_get-get_or, get_or_from_slice_get}
+use Rattle.std.proofs.lemmas.List.{append-nil, append_cancel_right}
+use Rattle.std.proofs.lemmas.Option.{slice_get_within}
 use Rattle.esto_docmodel.specs.Encodings.{atoms_of, used}
 use Rattle.esto_docmodel.specs.Patterns.{Entries, done, holds, group}
 use Rattle.esto_docmodel.specs.declared.pattern.Step.{Step}
@@ -14,6 +13,7 @@ use Rattle.esto_query.specs.declared.query.Name.TheVariants.{Given, Hidden}
 use Rattle.esto_semantics.specs.declared.fact.Fact.{Fact}
 use Rattle.esto_term.specs.declared.term.Term.{Term}
 use Rattle.esto_term.specs.declared.term.Term.TheVariants.{Const, Plain}
+use Rattle.esto_term.proofs.ListLemmas.{Contains-at, at_pushed}
 use Rattle.esto_text.specs.Quotes.{written, closed}
 use Rattle.esto_text.specs.Tokens.{text_of}
 use Rattle.esto_text.specs.Trees.{EntryTrees, Value, Nested, NoEntry, AndEntry, ItemTree, Atom, Part, Pattern}
@@ -85,37 +85,22 @@ content_one text s t e f =
 abbrev pub Apart : List Name → Type 0
 Apart names = (i j : ℕ) (name : List ℕ) → slice_get names i ≡ Some (Given name) → slice_get names j ≡ Some (Given name) → i ≡ j
 
-last_cases : (names : List Name) (new name : Name) (i : ℕ) → slice_get (names ++ new ∷ []) i ≡ Some name → (slice_get names i ≡ Some name)
-    ⊎ ((i ≡ length names) × (new ≡ name))
-last_cases names new name i e =
-    let n = length-append names (new ∷ []) in
-    elim (cases_lt i (length names)) [
-      | inl lt ↦ inl (slice_get-get_or names i name lt ∙ ap (λ (x : Name). Some x) (sym (get_or_append_left names (new ∷ []) name i lt)
-          ∙ get_or_from_slice_get (names ++ new ∷ []) i name name e))
-      | inr le ↦
-          let at : i ≡ length names = omega (arith, n, slice_get_within (names ++ new ∷ []) i name e) in
-          inr (at, sym (get_or_at names new [] name i (sym at)) ∙ get_or_from_slice_get (names ++ new ∷ []) i name name e)
-    ]
-
-contained : (names : List Name) (i : ℕ) (name : Name) → slice_get names i ≡ Some name → Contains names name
-contained names i name e = (i, slice_get_within names i name e, get_or_from_slice_get names i name name e)
-
 apart_hidden : (names : List Name) → Apart names → Apart (names ++ Hidden ∷ [])
 apart_hidden names h i j name e f =
-    elim (last_cases names Hidden (Given name) i e) [
-      | inl a ↦ elim (last_cases names Hidden (Given name) j f) [ inl b ↦ h i j name a b | inr b ↦ let c : Hidden ≡ Given name = b.1 in absurd cc ]
+    elim (at_pushed names Hidden i (Given name) e) [
+      | inl a ↦ elim (at_pushed names Hidden j (Given name) f) [ inl b ↦ h i j name a b | inr b ↦ let c : Hidden ≡ Given name = b.1 in absurd cc ]
       | inr a ↦ let c : Hidden ≡ Given name = a.1 in absurd cc
     ]
 
 apart_given : (names : List Name) (new : List ℕ) → ¬ Contains names (Given new) → Apart names → Apart (names ++ Given new ∷ [])
 apart_given names new none h i j name e f =
-    elim (last_cases names (Given new) (Given name) i e) [
-      | inl a ↦ elim (last_cases names (Given new) (Given name) j f) [
+    elim (at_pushed names (Given new) i (Given name) e) [
+      | inl a ↦ elim (at_pushed names (Given new) j (Given name) f) [
         | inl b ↦ h i j name a b
-        | inr b ↦ absurd (none (subst (Contains names) (sym b.1) (contained names i (Given name) a)))
+        | inr b ↦ absurd (none (subst (Contains names) (sym b.1) (Contains-at names i (Given name) a)))
       ]
-      | inr a ↦ elim (last_cases names (Given new) (Given name) j f) [
-        | inl b ↦ absurd (none (subst (Contains names) (sym a.1) (contained names j (Given name) b)))
+      | inr a ↦ elim (at_pushed names (Given new) j (Given name) f) [
+        | inl b ↦ absurd (none (subst (Contains names) (sym a.1) (Contains-at names j (Given name) b)))
         | inr b ↦ a.0 ∙ sym b.0
       ]
     ]
@@ -132,8 +117,8 @@ variable_one : (name : List ℕ) (before after after' : List Name) (x x' : Term)
     → IsVariableOf name before x' after' → Same after after' x x'
 variable_one name before after after' x x' h (inl (n, at, e, p)) (inl (m, at', e', p')) =
     (e ∙ ap Plain (h n m name at at') ∙ sym e', p ∙ sym p', apart_same before after p h)
-variable_one name before after after' x x' h (inl (n, at, e, p)) (inr (none, e', p')) = absurd (none (contained before n (Given name) at))
-variable_one name before after after' x x' h (inr (none, e, p)) (inl (m, at', e', p')) = absurd (none (contained before m (Given name) at'))
+variable_one name before after after' x x' h (inl (n, at, e, p)) (inr (none, e', p')) = absurd (none (Contains-at before n (Given name) at))
+variable_one name before after after' x x' h (inr (none, e, p)) (inl (m, at', e', p')) = absurd (none (Contains-at before m (Given name) at'))
 variable_one name before after after' x x' h (inr (none, e, p)) (inr (none', e', p')) =
     (e ∙ sym e', p ∙ sym p', subst Apart (sym p) (apart_given before name none h))
 

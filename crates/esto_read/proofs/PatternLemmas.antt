@@ -1,10 +1,10 @@
 -- Groups as patterns, an entry at a time.
-use Rattle.std.proofs.Common.{◌≡◌, ◌≢◌, ◌⊎◌, inl, inr, ℕ, zero, suc, ◌+◌, ◌-◌, ◌<◌, ◌≤◌, List, [], ◌∷◌, ◌++◌, map, length, take, drop, get_or, refl, sym, ap, subst, ◌∙◌, arith, append_assoc, add-one}
+use Rattle.std.proofs.Common.{◌≡◌, ◌≢◌, ◌⊎◌, inl, inr, ℕ, zero, suc, ◌+◌, ◌-◌, ◌<◌, ◌≤◌, List, [], ◌∷◌, ◌++◌, map, length, take, drop, get_or, refl, sym, ap, subst, ◌∙◌, arith, append_assoc}
 use Rattle.std.specs.Prelude.{replicate}
 use Rattle.std.specs.List.{AllZip}
-use Rattle.std.proofs.Math.Seq.{drop-cons}
 use Rattle.std.proofs.lemmas.List.{take_more, map-append, drop_all, append-nil, length-append, length-replicate, replicate_more}
 use Rattle.std.proofs.lemmas.Slice.Zip.{all_zipped_more}
+use Rattle.esto_term.proofs.PlaceLemmas.{drop-item}
 use Rattle.esto_docmodel.specs.Patterns.{Entries, done}
 use Rattle.esto_docmodel.specs.Shapes.{More, chain, entry_shape, entries_of as pattern_of}
 use Rattle.esto_docmodel.specs.declared.pattern.Entry.{Entry}
@@ -25,12 +25,9 @@ use Rattle.esto_read.specs.Patterns.{AreEntries, Puts}
 
 -- ---- what is left of a group
 
-rest_is : (es : List EntrySyntax) (n : ℕ) (x : EntrySyntax) → n < length es → x ≡ get_or es n x → drop n es ≡ x ∷ drop (n + 1) es
-rest_is es n x lt e = rw (add-one n) (drop-cons es n x lt ∙ ap (λ (y : EntrySyntax). y ∷ drop (suc n) es) (sym e))
-
 pub rest_at : (es : List EntrySyntax) (n : ℕ) (x : EntrySyntax) → n < length es → x ≡ get_or es n x
     → entries_of (drop n es) ≡ AndEntry (entry_of x) (entries_of (drop (n + 1) es))
-rest_at es n x lt e = ap entries_of (rest_is es n x lt e)
+rest_at es n x lt e = ap entries_of (drop-item es n x lt e)
 
 pub rest_done : (es : List EntrySyntax) (n : ℕ) → length es ≤ n → entries_of (drop n es) ≡ NoEntry
 rest_done es n le = ap entries_of (drop_all n es le)

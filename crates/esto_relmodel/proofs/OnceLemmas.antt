@@ -1,10 +1,11 @@
 -- Things each once: one thing more.
-use Rattle.std.proofs.Common.{◌≡◌, ◌↔◌, inl, inr, ℕ, suc, Bool, true, false, ◌<◌, ◌≤◌, ◌+◌, List, [], ◌∷◌, ◌++◌, take, Some, length, slice_get, get_or, Contains, AllPairs, refl, sym, ap, ◌∙◌, subst, arith}
-use Rattle.std.proofs.lemmas.List.{take_all, take_more}
+use Rattle.std.proofs.Common.{◌≡◌, ◌↔◌, inl, inr, ℕ, suc, Bool, true, false, ◌<◌, ◌≤◌, ◌+◌, List, [], ◌∷◌, ◌++◌, take, length, get_or, Contains, AllPairs, sym, subst, arith}
+use Rattle.std.proofs.lemmas.List.{take_all}
 use Rattle.std.proofs.lemmas.List.Elements.{Contains-append_left, Contains-append_right, Contains-push_cases}
 use Rattle.esto_term.proofs.ChoiceLemmas.{pairs_append}
-use Rattle.std.proofs.lemmas.Option.{slice_get_within, same_Some}
-use Rattle.esto_term.proofs.ListLemmas.{Contains-at, Contains-head, Contains-one, at_end, at_left, at_pushed, place-from_Contains}
+use Rattle.std.proofs.lemmas.Option.{slice_get_within}
+use Rattle.esto_term.proofs.ListLemmas.{Contains-at, Contains-head, Contains-one, at_left, at_pushed, place-from_Contains}
+use Rattle.esto_term.proofs.PlaceLemmas.{take-item}
 use Rattle.esto_relmodel.specs.Once.{StandsBefore, AreEachOnce, IsAdded}
 
 module _ {X : Type 0} where
@@ -80,7 +81,7 @@ pub more_rows : {X : Type 0} (rows old new : List X) (count : ℕ) (row : X) →
     → AreEachOnce (take count rows) old
     → ((things : List X) → AreEachOnce things old → AreEachOnce (things ++ row ∷ []) new) → AreEachOnce (take (count + 1) rows) new
 more_rows rows old new count row within read once step =
-    subst (λ those. AreEachOnce those new) (sym (take_more rows count row within ∙ ap (λ last. take count rows ++ last ∷ []) (sym read)))
+    subst (λ those. AreEachOnce those new) (sym (take-item rows count row within read))
     (step (take count rows) once)
 
 pub all_rows : {X : Type 0} (rows kept : List X) (count : ℕ) → length rows ≤ count → AreEachOnce (take count rows) kept → AreEachOnce rows kept

@@ -2,7 +2,7 @@
 use Rattle.std.proofs.Common.{◌≡◌, ◌≢◌, ◌↔◌, inl, inr, ℕ, zero, suc, ◌+◌, ◌<◌, ◌≤◌, Bool, true, false, cond, List, map, take, [], ◌∷◌, ◌++◌, length, get_or, Some, slice_get, Contains, refl, sym, ap, ◌∙◌, subst, arith}
 use Rattle.std.specs.Prelude.{AllPairs}
 use Rattle.std.proofs.lemmas.Bool.{cases_order, cases_Bool}
-use Rattle.std.proofs.lemmas.List.{append-nil, append_assoc, map-append, take_more}
+use Rattle.std.proofs.lemmas.List.{append-nil, append_assoc, map-append}
 use Rattle.std.proofs.lemmas.List.Concat.{flat_map-append}
 use Rattle.std.specs.List.{flat_map}
 use Rattle.std.proofs.lemmas.List.Elements.{Contains-get_or, Contains-push_cases, Contains-append_left, Contains-append_right}
@@ -13,6 +13,7 @@ use Rattle.esto_semantics.specs.Sets.{Has}
 use Rattle.esto_semantics.specs.declared.fact.Fact.{Fact}
 use Rattle.esto_term.proofs.ChoiceLemmas.{Decided, least_below, pairs_head, pairs_tail, pairs_append}
 use Rattle.esto_term.proofs.ListLemmas.{Contains-at, Contains-nil, Contains-head, Contains-rest, Contains-cases, at_left, place-from_Contains, thing_at}
+use Rattle.esto_term.proofs.PlaceLemmas.{take-item}
 use Rattle.esto_semantics.specs.Queries.{ConjunctiveQuery}
 use Rattle.esto_run.specs.Picks.{candidate_of}
 use Rattle.esto_run.specs.Used.{Uses, UsesFirst, AreUsed, AreUsedByAll, AddsUse, StandsFirst, AreFirsts, fragments_of}
@@ -384,7 +385,7 @@ firsts_step set atoms number atom numbers old new at adds are =
 pub one_seen : (picks : List Pick) (index : ℕ) (pick : Pick) → index < length picks → pick ≡ get_or picks index pick
     → map candidate_of (take (index + 1) picks) ≡ map candidate_of (take index picks) ++ candidate_of pick ∷ []
 one_seen picks index pick below is =
-    ap (map candidate_of) (take_more picks index pick below ∙ ap (λ it. take index picks ++ it ∷ []) (sym is)) ∙ map-append candidate_of (take index picks)
+    ap (map candidate_of) (take-item picks index pick below is) ∙ map-append candidate_of (take index picks)
     (pick ∷ [])
 
 pub picks_step : (picks : List Pick) (index : ℕ) (pick : Pick) (old new : List ℕ) → index < length picks → pick ≡ get_or picks index pick

@@ -9,7 +9,7 @@ use Rattle.esto_semantics.specs.ListedLaws.{EquivalentPartsAreOne, EquivalentPar
 use Rattle.esto_semantics.specs.Queries.{ConjunctiveQuery}
 use Rattle.esto_semantics.specs.Rules.{Rule}
 use Rattle.esto_semantics.specs.Sets.{Covers, HaveCount, IsMinimal, Rises, TellHolds, Within}
-use Rattle.esto_semantics.proofs.AccessLemmas.{minimal_of_parts}
+use Rattle.esto_semantics.proofs.AccessLawLemmas.{minimal_of_parts}
 use Rattle.esto_semantics.proofs.AnswerLemmas.{IsAnswerInto-mapped, contained-in_mapped}
 use Rattle.esto_semantics.proofs.CandidateLemmas.{candidate-equivalent}
 use Rattle.esto_semantics.proofs.CoverLemmas.{listed_by_is_one, minimal-cover, minimal_tell, none_is_listed_by}

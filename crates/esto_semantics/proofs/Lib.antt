@@ -19,6 +19,8 @@ pub mod PartLemmas
 pub mod SpreadLemmas
 pub mod SetLemmas
 pub mod AccessLemmas
+pub mod AccessRunLemmas
+pub mod AccessLawLemmas
 pub mod CoverLemmas
 pub mod ListedLemmas
 pub mod WeightLemmas

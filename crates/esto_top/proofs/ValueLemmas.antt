@@ -1,9 +1,10 @@
 -- The number that digits write.
-use Rattle.std.proofs.Common.{◌≡◌, ◌<◌, ◌≤◌, ◌+◌, ◌-◌, ◌*◌, ℕ, zero, suc, true, false, Bool, List, ◌∷◌, drop, length, get_or, drop-cons, add-one, refl, sym, ap, ◌∙◌, arith}
+use Rattle.std.proofs.Common.{◌≡◌, ◌<◌, ◌≤◌, ◌+◌, ◌-◌, ◌*◌, ℕ, zero, suc, true, false, Bool, List, ◌∷◌, drop, length, get_or, refl, sym, ap, ◌∙◌, arith}
 use Rattle.std.proofs.lemmas.Bool.Decides.{nat_tests}
 use Rattle.std.specs.List.{list_all}
 use Rattle.std.proofs.lemmas.List.{get_or_default}
 use Rattle.std.proofs.lemmas.List.Folds.{list_all_at}
+use Rattle.esto_term.proofs.PlaceLemmas.{drop-item}
 use Rattle.esto_top.specs.Grammar.{is_digit, value_after}
 
 -- the power of ten
@@ -35,7 +36,7 @@ module _ (digits : List ℕ) (index digit : ℕ) (below : index < length digits)
           let h : true ≡ false = sym all ∙ none in absurd (cc)
 
   left : drop index digits ≡ digit ∷ drop (index + 1) digits
-  left = rw (drop-cons digits index digit, add-one) (ap (λ (first : ℕ). first ∷ drop (suc index) digits) (sym is))
+  left = drop-item digits index digit below is
 
   -- one digit more
   pub value_more : (value next whole : ℕ) → next ≡ value * 10 + (digit - 48) → value_after value (drop index digits) ≡ whole

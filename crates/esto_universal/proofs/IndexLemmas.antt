@@ -1,5 +1,5 @@
 -- The order of entries, the entries of terms, and the first place of a term.
-use Rattle.std.proofs.Common.{◌≡◌, ◌≢◌, inl, inr, zero, suc, ℕ, ◌+◌, ◌<◌, ◌≤◌, Bool, true, false, List, [], ◌∷◌, ◌++◌, length, get_or, ltb, take, drop}
+use Rattle.std.proofs.Common.{◌≡◌, ◌≢◌, inl, inr, ℕ, ◌+◌, ◌<◌, ◌≤◌, Bool, true, false, List, [], ◌∷◌, ◌++◌, length, get_or, ltb, take}
 use Rattle.std.proofs.Common.{slice_get, Contains, None, Some, Option, refl, sym, ap, ◌∙◌, subst, Bor, arith}
 use Rattle.std.specs.Prelude.{MatchOption}
 use Rattle.std.specs.Cmp.{IsTotalOrder, IsStrictWeakOrder}
@@ -12,13 +12,13 @@ use Rattle.std.proofs.lemmas.Bool.{cases_lt, cases_order, false≢true}
 use Rattle.std.proofs.lemmas.Bool.Decides.{nat_tests}
 use Rattle.std.proofs.lemmas.Cmp.{nat_cmp_total, on_total, then_total}
 use Rattle.std.proofs.lemmas.Fn.{always_returns_same}
-use Rattle.std.proofs.lemmas.List.{get_or_default, take_more, length-take, take-append-drop}
+use Rattle.std.proofs.lemmas.List.{get_or_default, length-take}
 use Rattle.std.proofs.lemmas.List.Elements.{Contains-append_left, Contains-push, Contains-push_cases}
 use Rattle.std.proofs.lemmas.List.Sorted.{Contains-permutation, IsPermutation-sym, ranks_by, sorted_far}
-use Rattle.std.proofs.lemmas.Option.{slice_get_within}
 use Rattle.esto_term.specs.Order.{term_cmp}
 use Rattle.esto_term.specs.declared.term.Term.{Term}
-use Rattle.esto_term.proofs.ListLemmas.{Contains-nil, Contains-head, Contains-rest, at_left, at_end, at_pushed, place-from_Contains}
+use Rattle.esto_term.proofs.ListLemmas.{Contains-nil, at_left, at_end, at_pushed, place-from_Contains}
+use Rattle.esto_term.proofs.PlaceLemmas.{Contains-take, Contains-take_from, take-item}
 use Rattle.esto_term.proofs.OrderLemmas.{term_cmp_total, term_cmp_exact}
 use Rattle.esto_universal.specs.Indexes.{entry_cmp, AreEntries, IsInOrder, IsIndex, HasNoEntry, IsFirstEntry, IsFirstPlace}
 use Rattle.esto_universal.specs.declared.index.Entry.{Entry}
@@ -77,7 +77,7 @@ entries_more terms place term now new entry within is pushed term_is place_is so
 }
   where
     whole : take (place + 1) terms ≡ take place terms ++ term ∷ []
-    whole = take_more terms place term within ∙ ap (λ it. take place terms ++ it ∷ []) (sym is)
+    whole = take-item terms place term within is
 
     count : length (take place terms) ≡ place
     count = omega (arith, within, length-take place terms)
@@ -199,31 +199,13 @@ apart_told term other told same =
 
 -- ---- the first place of a term
 
-pub in_take : {X : Type 0} (things : List X) (count : ℕ) (thing : X) → Contains (take count things) thing
-    → (place : ℕ) × (place < count) × (slice_get things place ≡ Some thing)
-in_take things count thing inside =
-    let found = place-from_Contains (take count things) thing inside in (
-      found.0,
-      omega (arith, length-take count things, slice_get_within (take count things) found.0 thing found.1),
-      subst (λ all. slice_get all found.0 ≡ Some thing) (take-append-drop count things) (at_left (take count things) (drop count things) found.0 thing found.1),
-    )
-
-pub take_has : {X : Type 0} (things : List X) (count place : ℕ) (thing : X) → slice_get things place ≡ Some thing → place < count
-    → Contains (take count things) thing
-take_has [] count place thing at less = absurd (cc)
-take_has (x ∷ things) zero place thing at less = absurd (omega arith)
-take_has (x ∷ things) (suc count) zero thing at less =
-    let same : x ≡ thing = cc in subst (Contains (x ∷ take count things)) same (Contains-head x (take count things))
-take_has (x ∷ things) (suc count) (suc place) thing at less =
-    Contains-rest x (take count things) thing (take_has things count place thing at (omega arith))
-
 pub first_of_index : (terms : List Term) (index : List Entry) (term : Term) (result : Option ℕ) → IsIndex terms index
     → MatchOption result (HasNoEntry index term) (IsFirstEntry index term) → MatchOption result (Contains terms term → ⊥) (IsFirstPlace terms term)
 first_of_index terms index term None is_index no_entry =
     λ inside. let at = place-from_Contains terms term inside in no_entry at.0 (is_index.entries.has at.0 term at.1)
 first_of_index terms index term (Some place) is_index ((entry, inside, is, at), least) = (
   ap (slice_get terms) (sym at) ∙ is_index.entries.only entry inside ∙ ap Some is,
-  (λ earlier. let found = in_take terms place term earlier in
+  (λ earlier. let found = Contains-take_from terms place term earlier in
       omega (arith, found.1, least found.0 (is_index.entries.has found.0 term found.2))),
 )
 
@@ -233,7 +215,7 @@ pub not_first : (terms : List Term) (term : Term) (place first : ℕ) → slice_
 not_first terms term place first at is_first apart = elim (cases_order first place) [
   | inl same ↦ absurd (apart same)
   | inr other ↦ elim other [
-    | inl less ↦ take_has terms place first term is_first.0 less
-    | inr more ↦ absurd (is_first.1 (take_has terms first place term at more))
+    | inl less ↦ Contains-take terms place first term less is_first.0
+    | inr more ↦ absurd (is_first.1 (Contains-take terms first place term more at))
   ]
 ]

@@ -12,6 +12,7 @@ use Rattle.esto_semantics.specs.Maps.{IsConstant}
 use Rattle.esto_semantics.specs.declared.fact.Fact.{Fact}
 use Rattle.esto_universal.specs.Reading.{OccursBefore, AreFirstOccurrences}
 use Rattle.esto_term.proofs.ListLemmas.{Contains-nil}
+use Rattle.esto_term.proofs.PlaceLemmas.{take-item}
 
 pub seen_none : AreFirstOccurrences [] []
 seen_none = record {
@@ -31,7 +32,7 @@ occurs_at terms term (place, within, is) = (
   (
     drop (place + 1) terms,
     sym (take-append-drop (place + 1) terms) ∙ ap (λ it. it ++ drop (place + 1) terms)
-        (take_more terms place term within ∙ ap (λ it. take place terms ++ it ∷ []) is),
+        (take-item terms place term within (sym is)),
   ),
 )
 

@@ -1,5 +1,5 @@
 -- The renaming of terms by place, and its way back.
-use Rattle.std.proofs.Common.{◌≡◌, zero, suc, ℕ, ◌+◌, Bool, true, false, cond, List, [], ◌∷◌, ◌++◌}
+use Rattle.std.proofs.Common.{◌≡◌, zero, suc, ℕ, ◌+◌, true, false, List, [], ◌∷◌, ◌++◌}
 use Rattle.std.proofs.Common.{get_or, take, slice_get, Contains, Some, refl, sym, ap, ◌∙◌, subst, arith}
 use Rattle.std.specs.Option.{unwrap_or}
 use Rattle.std.proofs.lemmas.List.Elements.{Contains-push}
@@ -9,14 +9,11 @@ use Rattle.esto_term.specs.declared.term.Term.TheOpen.{Term-F}
 use Rattle.esto_term.specs.declared.term.Term.TheVariants.{Const, Plain, outs-Const, outs-Plain}
 use Rattle.esto_term.specs.Order.{same_term}
 use Rattle.esto_semantics.proofs.TermLemmas.{same_term-Decides}
-use Rattle.esto_views.proofs.SubstitutionLemmas.{apart_told}
+use Rattle.esto_views.proofs.SubstitutionLemmas.{apart_told, cond_is}
 use Rattle.esto_universal.specs.Reading.{OccursBefore, AreFirstOccurrences}
 use Rattle.esto_universal.specs.Renamings.{IsRenaming, numbered}
 use Rattle.esto_term.proofs.ListLemmas.{Contains-head, Contains-rest}
-use Rattle.esto_universal.proofs.IndexLemmas.{in_take}
-
-cond_is : {X : Type 0} (answer told : Bool) (one other : X) → answer ≡ told → cond answer one other ≡ cond told one other
-cond_is answer told one other is = ap (λ it. cond it one other) is
+use Rattle.esto_term.proofs.PlaceLemmas.{Contains-take_from}
 
 numbered-at : (number : ℕ) (seen : List Term) (place : ℕ) (term : Term) → slice_get seen place ≡ Some term → (Contains (take place seen) term → ⊥)
     → numbered number seen term ≡ Plain (number + place)
@@ -50,7 +47,7 @@ apart_before terms term other (front, (back, is, without)) same = without (subst
 seen_once : (terms seen : List Term) → AreFirstOccurrences terms seen → (place : ℕ) (term : Term) → slice_get seen place ≡ Some term
     → Contains (take place seen) term → ⊥
 seen_once terms seen are_seen place term at earlier =
-    let found = in_take seen place term earlier in
+    let found = Contains-take_from seen place term earlier in
     apart_before terms (get_or seen found.0 term) (get_or seen place term)
     (are_seen.ordered found.0 place term found.1 (slice_get_within seen place term at))
     (get_or_from_slice_get seen found.0 term term found.2 ∙ sym (get_or_from_slice_get seen place term term at))

@@ -1,7 +1,7 @@
 -- What a plan's atoms ask of the datasets is an expansion of the plan.
 use Rattle.std.proofs.Common.{◌≡◌, ◌↔◌, ◌⊎◌, inl, inr, zero, suc, ℕ, ◌<◌, ◌≤◌, ◌+◌, List, [], ◌∷◌, ◌++◌, map, length, drop, get_or, slice_get, Contains, Some, refl, sym, ap, ◌∙◌, subst, arith}
 use Rattle.std.proofs.lemmas.Bool.{cases_order}
-use Rattle.std.proofs.lemmas.List.{append-nil, append_assoc, drop_more, drop_all, length-map}
+use Rattle.std.proofs.lemmas.List.{append-nil, append_assoc, drop_all, length-map}
 use Rattle.std.proofs.lemmas.List.Elements.{Contains-append_cases, Contains-append_left, Contains-append_right}
 use Rattle.std.proofs.lemmas.Option.{slice_get_within, same_Some}
 use Rattle.esto_term.specs.declared.term.Term.{Term}
@@ -26,6 +26,7 @@ use Rattle.esto_views.specs.declared.plan.PlanAtom.{PlanAtom}
 use Rattle.esto_views.specs.declared.plan.Plan.{Plan}
 use Rattle.esto_views.proofs.SoundLemmas.{named-Plain}
 use Rattle.esto_term.proofs.ListLemmas.{Contains-at, Contains-cases, Contains-head, Contains-map, Contains-map_from, Contains-nil, Contains-read, Contains-rest, map_at, map_at-from, place-from_Contains}
+use Rattle.esto_term.proofs.PlaceLemmas.{drop-item}
 
 -- ---- the fragment of an atom
 
@@ -68,7 +69,7 @@ pub expanded_more : (fragments : List FragmentDef) (atoms : List PlanAtom) (star
     → (rest : List ExpandedFact) → AreExpanded fragments (number + 1) next (drop (number + 1) atoms) rest → AreExpanded fragments 0 start atoms (more ++ rest)
 expanded_more fragments atoms start number first next atom fragment m done more within read found spread is so_far rest tail =
     let own = placed number 0 (map (image m) fragment.view.body) in
-    let left : drop number atoms ≡ atom ∷ drop (number + 1) atoms = drop_more atoms number atom within ∙ ap (λ it. it ∷ drop (number + 1) atoms) (sym read) in
+    let left : drop number atoms ≡ atom ∷ drop (number + 1) atoms = drop-item atoms number atom within read in
     let joined : more ++ rest ≡ done ++ (own ++ rest) = ap (λ it. it ++ rest) is ∙ append_assoc done own rest in
     subst (AreExpanded fragments 0 start atoms) (sym joined)
     (so_far (own ++ rest) (subst (λ it. AreExpanded fragments number first it (own ++ rest)) (sym left)

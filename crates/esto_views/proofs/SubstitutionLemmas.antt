@@ -1,10 +1,10 @@
 -- What stands for a term, and what the terms of a view stand for in an atom.
 use Rattle.std.proofs.Common.{◌≡◌, ◌≢◌, inl, inr, zero, suc, ℕ, ◌<◌, ◌≤◌, ◌+◌, Bool, true, false, cond, List, [], ◌∷◌, ◌++◌, map, length, take, drop, get_or, slice_get, Contains, Some, refl, sym, ap, ◌∙◌, subst, arith}
 use Rattle.std.specs.List.{AllPairs, range_with_len}
-use Rattle.std.proofs.lemmas.List.{length-map, length-append, get_or-map, append-nil, append_assoc, map-append, take_more, take_all, drop_more}
+use Rattle.std.proofs.lemmas.List.{length-map, length-append, get_or-map, append-nil, append_assoc, map-append, take_more, take_all}
 use Rattle.std.proofs.lemmas.List.Elements.{Contains-append_cases}
 use Rattle.std.proofs.lemmas.List.FromFn.{length-range_with_len, map-range_with_len_more}
-use Rattle.std.proofs.lemmas.Option.{slice_get_within, get_or_from_slice_get}
+use Rattle.std.proofs.lemmas.Option.{slice_get_within}
 use Rattle.esto_term.specs.declared.term.Term.{Term}
 use Rattle.esto_term.specs.declared.term.Term.TheVariants.{Const, Plain}
 use Rattle.esto_semantics.specs.Maps.{IsVariable}
@@ -15,11 +15,13 @@ use Rattle.esto_term.proofs.DistinctLemmas.{distinct_head, distinct_rest}
 use Rattle.esto_views.specs.Spreads.{AreInner, IsSpread, substituted}
 use Rattle.esto_term.proofs.ChoiceLemmas.{pairs_append}
 use Rattle.esto_term.proofs.ListLemmas.{Contains-at, Contains-map_from, at_left, at_right, map_at, map_by_places, range_at}
+use Rattle.esto_term.proofs.PlaceLemmas.{drop-there}
 
 -- ---- what stands for a term
 
-cond_false : {X : Type 0} (answer : Bool) (one other : X) → answer ≡ false → cond answer one other ≡ other
-cond_false answer one other told = ap (λ it. cond it one other) told
+-- what an answer chooses is what the same answer chooses
+pub cond_is : {X : Type 0} (answer told : Bool) (one other : X) → answer ≡ told → cond answer one other ≡ cond told one other
+cond_is answer told one other is = ap (λ it. cond it one other) is
 
 pub apart_told : (term other : Term) → (term ≡ other → ⊥) → same_term term other ≡ false
 apart_told term other apart = by (same_term term other) refl
@@ -38,7 +40,7 @@ substituted-at (first ∷ from) (own ∷ to) zero term target distinct at goes =
     let own_is : own ≡ target = cc in
     ap (λ answer. cond answer own (substituted from to term)) ((same_term-Decides term first).1 is) ∙ own_is
 substituted-at (first ∷ from) (own ∷ to) (suc place) term target distinct at goes =
-    cond_false (same_term term first) own (substituted from to term) (apart_told term first
+    cond_is (same_term term first) false own (substituted from to term) (apart_told term first
     (λ is. distinct_head first from term distinct (Contains-at from place term at) (sym is)))
     ∙ substituted-at from to place term target (distinct_rest first from distinct) at goes
 
@@ -46,20 +48,17 @@ pub substituted-outside : (from to : List Term) (term : Term) → (Contains from
 substituted-outside [] to term outside = refl
 substituted-outside (first ∷ from) [] term outside = refl
 substituted-outside (first ∷ from) (own ∷ to) term outside =
-    cond_false (same_term term first) own (substituted from to term) (apart_told term first (λ is. outside (0, omega arith, sym is)))
+    cond_is (same_term term first) false own (substituted from to term) (apart_told term first (λ is. outside (0, omega arith, sym is)))
     ∙ substituted-outside from to term (λ inside. outside (suc inside.0, omega (arith, inside.1), inside.2))
 
 -- ---- a search from the front
-
-drop_at : {X : Type 0} (xs : List X) (place : ℕ) (x : X) → slice_get xs place ≡ Some x → drop place xs ≡ x ∷ drop (place + 1) xs
-drop_at xs place x at = drop_more xs place x (slice_get_within xs place x at) ∙ ap (λ it. it ∷ drop (place + 1) xs) (get_or_from_slice_get xs place x x at)
 
 module _ (from to : List Term) (place : ℕ) (term first own : Term) (answer : Bool) (at : slice_get from place ≡ Some first)
     (goes : slice_get to place ≡ Some own)
     (told : answer ≡ same_term term first) where
   one_step : substituted (drop place from) (drop place to) term ≡ cond answer own (substituted (drop (place + 1) from) (drop (place + 1) to) term)
   one_step =
-      (λ i. substituted (drop_at from place first at i) (drop_at to place own goes i) term)
+      (λ i. substituted (drop-there from place first at i) (drop-there to place own goes i) term)
       ∙ ap (λ it. cond it own (substituted (drop (place + 1) from) (drop (place + 1) to) term)) (sym told)
 
   pub substituted_here : answer ≡ true → substituted (drop place from) (drop place to) term ≡ own

@@ -1,5 +1,5 @@
 -- Derived entries are no more than the pairs of a claim that may be made and a set of atoms.
-use Rattle.std.proofs.Common.{◌≡◌, ◌<◌, ◌≤◌, zero, suc, ℕ, Bool, List, [], ◌∷◌, length, map, take, slice_get, Contains, Some, refl, sym, ap, subst, arith, inl, inr}
+use Rattle.std.proofs.Common.{◌≡◌, ◌<◌, ◌≤◌, suc, ℕ, Bool, List, [], ◌∷◌, length, map, take, slice_get, Contains, Some, refl, sym, ap, subst, arith, inl, inr}
 use Rattle.std.specs.List.{flat_map}
 use Rattle.std.proofs.lemmas.List.{length-map}
 use Rattle.std.proofs.lemmas.List.Elements.{Contains-append_left, Contains-append_right}
@@ -8,7 +8,8 @@ use Rattle.esto_term.specs.Nesting.{greatest_u64}
 use Rattle.esto_term.specs.declared.term.Term.{Term}
 use Rattle.esto_term.proofs.DistinctLemmas.{Distinct, distinct_none, distinct_cons, no_more_than}
 use Rattle.esto_term.proofs.FiniteLemmas.{Contains-lists_within, finite}
-use Rattle.esto_term.proofs.ListLemmas.{Contains-head, Contains-rest, Contains-map, Contains-map_from, Contains-flat, place-from_Contains}
+use Rattle.esto_term.proofs.ListLemmas.{Contains-map, Contains-map_from, Contains-flat, place-from_Contains}
+use Rattle.esto_term.proofs.PlaceLemmas.{Contains-take}
 use Rattle.esto_semantics.specs.Rules.{Rule}
 use Rattle.esto_semantics.specs.Sets.{Within, all_sets}
 use Rattle.esto_semantics.specs.declared.fact.Fact.{Fact}
@@ -32,12 +33,6 @@ use Rattle.esto_world_laws.proofs.BoundLemmas.{stock, width, IsClaimWithin, deri
 abbrev pair_of : Entry → Claim × List Bool
 pair_of entry = (entry.claim, entry.product)
 
-in_take : {X : Type 0} (xs : List X) (i j : ℕ) (x : X) → i < j → slice_get xs i ≡ Some x → Contains (take j xs) x
-in_take [] i j x below at = absurd (cc)
-in_take (y ∷ ys) i zero x below at = absurd (omega (arith, below))
-in_take (y ∷ ys) zero (suc j) x below at = let is : y ≡ x = cc in subst (Contains (y ∷ take j ys)) is (Contains-head y (take j ys))
-in_take (y ∷ ys) (suc i) (suc j) x below at = Contains-rest y (take j ys) x (in_take ys i j x (omega (arith, below)) at)
-
 itself_covered : (before : List Entry) (entry : Entry) (product : List Bool) → Contains before entry → Within entry.product product
     → (claim : Claim) → entry.claim ≡ claim → IsCovered (InWorld before product) claim
 itself_covered before entry product inside within (Stated fact) is = (entry, inside, within, is)
@@ -47,7 +42,7 @@ apart : (expanded : List ExpandedFact) (rules : List Rule) (entries : List Entry
     → (i j : ℕ) (x y : Entry) → i < j → slice_get entries i ≡ Some x → slice_get entries j ≡ Some y → pair_of x ≡ pair_of y → ⊥
 apart expanded rules entries derived i j x y below at at_later is =
     let products : x.product ≡ y.product = ap (λ (it : Claim × List Bool). it.1) is in
-    (derived j y at_later).uncovered (itself_covered (take j entries) x y.product (in_take entries i j x below at)
+    (derived j y at_later).uncovered (itself_covered (take j entries) x y.product (Contains-take entries j i x below at)
     (subst (Within x.product) products (within_refl x.product)) y.claim (ap (λ (it : Claim × List Bool). it.0) is))
 
 distinct_pairs : (entries : List Entry)

@@ -1,14 +1,15 @@
 -- Entries that grow: what was named, covered or derived stays so.
-use Rattle.std.proofs.Common.{◌≡◌, ◌⊎◌, ◌<◌, inl, inr, zero, suc, ℕ, Bool, List, [], ◌∷◌, ◌++◌, length, map, take, slice_get, Contains, Some, refl, sym, ap, ◌∙◌, subst, arith, length-append}
+use Rattle.std.proofs.Common.{◌≡◌, ◌⊎◌, ◌<◌, inl, inr, ℕ, Bool, List, [], ◌∷◌, ◌++◌, length, map, take, slice_get, Contains, Some, sym, ap, ◌∙◌, subst, arith, length-append}
+use Rattle.std.proofs.lemmas.List.{take-append-le, take_at}
+use Rattle.std.proofs.lemmas.Option.{slice_get_within}
 use Rattle.esto_term.specs.declared.term.Term.{Term}
 use Rattle.esto_semantics.specs.Facts.{terms_of}
 use Rattle.esto_semantics.specs.Rules.{Rule}
 use Rattle.esto_semantics.specs.Sets.{Within}
 use Rattle.esto_semantics.specs.declared.fact.Fact.{Fact}
-use Rattle.esto_term.proofs.ListLemmas.{thing_at}
+use Rattle.esto_term.proofs.ListLemmas.{at_left, at_pushed, thing_at}
 use Rattle.esto_semantics.specs.Rules.{body_of}
 use Rattle.esto_views.specs.declared.expansion.ExpandedFact.{ExpandedFact}
-use Rattle.esto_term.proofs.ListLemmas.{at_left}
 use Rattle.esto_term.proofs.ZipLemmas.{zip_weaker}
 use Rattle.esto_world_laws.specs.Worlds.{InWorld, Linked}
 use Rattle.esto_world_laws.specs.Matches.{Touching, match_map, IsMatch, IsDirectMatch}
@@ -107,14 +108,12 @@ module _ (entries more : List Entry) where
 
 -- ---- one entry more
 
+-- what stands at a place of a list with one more item, and what stands before that place
 push_cases : {X : Type 0} (xs : List X) (y : X) (place : ℕ) (x : X) → slice_get (xs ++ y ∷ []) place ≡ Some x
     → ((slice_get xs place ≡ Some x) × (take place (xs ++ y ∷ []) ≡ take place xs)) ⊎ ((y ≡ x) × (take place (xs ++ y ∷ []) ≡ xs))
-push_cases [] y zero x at = inr ((cc), refl)
-push_cases [] y (suc place) x at = absurd (cc)
-push_cases (z ∷ xs) y zero x at = inl (at, refl)
-push_cases (z ∷ xs) y (suc place) x at = elim (push_cases xs y place x at) [
-  | inl both ↦ inl (both.0, ap (λ it. z ∷ it) both.1)
-  | inr both ↦ inr (both.0, ap (λ it. z ∷ it) both.1)
+push_cases xs y place x at = elim (at_pushed xs y place x at) [
+  | inl there ↦ inl (there, take-append-le place xs (y ∷ []) (omega (arith, slice_get_within xs place x there)))
+  | inr last ↦ inr (last.1, take_at xs (y ∷ []) place (sym last.0))
 ]
 
 pub AreDerived-push : (expanded : List ExpandedFact) (rules : List Rule) (entries : List Entry) (entry : Entry) → AreDerived expanded rules entries

@@ -2,7 +2,7 @@ use Rattle.std.proofs.Common.{Contains, sym, ◌∙◌, arith}
 use Rattle.std.proofs.lemmas.Bool.{false≢true}
 use Rattle.esto_semantics.specs.Access.{MeetsPattern}
 use Rattle.esto_views.specs.Plans.{fact_of, plan_query}
-use Rattle.esto_access.proofs.NeedLemmas.{read_at}
+use Rattle.esto_term.proofs.PlaceLemmas.{read_at}
 use Rattle.esto_access.proofs.atoms.first_met.Goals as goal
 use Rattle.esto_term.proofs.ListLemmas.{holds_all_in, holds_more_in, place-from_Contains}
 

@@ -2,7 +2,7 @@ use Rattle.std.proofs.Common.{Contains, refl, sym, ◌∙◌, arith}
 use Rattle.std.proofs.lemmas.Bool.{false≢true}
 use Rattle.esto_semantics.specs.Access.{IsInput, IsBound}
 use Rattle.esto_views.specs.Plans.{plan_query}
-use Rattle.esto_access.proofs.NeedLemmas.{read_at}
+use Rattle.esto_term.proofs.PlaceLemmas.{read_at}
 use Rattle.esto_access.proofs.atoms.meets_pattern.Goals.{else-is_input-via-then-is_input+else-not-is_bound, else-is_input-via-else-is_input}
 use Rattle.esto_access.proofs.atoms.meets_pattern.Goals as goal
 use Rattle.esto_term.proofs.ListLemmas.{holds_all_in, holds_more_in}

@@ -1,6 +1,7 @@
 use Rattle.std.proofs.Common.{◌∙◌, ◌≤◌, subst, length}
+use Rattle.esto_term.proofs.PlaceLemmas.{read_at}
 use Rattle.esto_views.specs.Plans.{fact_of, plan_query}
-use Rattle.esto_access.proofs.NeedLemmas.{read_at, met_start, met_turns, met_end}
+use Rattle.esto_access.proofs.NeedLemmas.{met_start, met_turns, met_end}
 use Rattle.esto_access.proofs.needs.meeting.Goals as goal
 
 pub columns-init : goal.columns-init

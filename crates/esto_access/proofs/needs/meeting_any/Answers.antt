@@ -1,6 +1,7 @@
 use Rattle.std.proofs.Common.{◌∙◌, refl}
+use Rattle.esto_term.proofs.PlaceLemmas.{read_at}
 use Rattle.esto_views.specs.Plans.{fact_of, plan_query}
-use Rattle.esto_access.proofs.NeedLemmas.{read_at, met_by_grows, met_by_end}
+use Rattle.esto_access.proofs.NeedLemmas.{met_by_grows, met_by_end}
 use Rattle.esto_access.proofs.needs.meeting_any.Goals as goal
 
 pub patterns-preserved : goal.patterns-preserved

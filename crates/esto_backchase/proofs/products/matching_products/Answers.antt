@@ -1,8 +1,9 @@
 use Rattle.std.proofs.Common.{sym, subst, ◌∙◌}
+use Rattle.esto_term.proofs.PlaceLemmas.{item_at}
 use Rattle.esto_query.specs.declared.query.Query.{Query}
 use Rattle.esto_backchase.specs.Evidence.{MatchesIn}
 use Rattle.esto_world_laws.specs.Steps.{AreJoined}
-use Rattle.esto_backchase.proofs.FoundLemmas.{at_turn, found_all, found_more, handed_over}
+use Rattle.esto_backchase.proofs.FoundLemmas.{found_all, found_more, handed_over}
 use Rattle.esto_backchase.proofs.products.matching_products.Goals as goal
 
 pub products_of_matches-requires-clause-joined : goal.products_of_matches-requires-clause-joined
@@ -16,7 +17,7 @@ queries-preserved c =
     let own = c.in_ok-own.own.sets in (
       c.add_others.ensures.count ∙ c.queries.invariant.0,
       found_more (λ (it : Query) set. MatchesIn it plan entries set) c.args.queries.now c.queries.query-index query
-          (at_turn c.args.queries.now c.queries.query-index query c.queries-test.true c.query-item.is) c.queries.found.sets own c.add_others.new.products.sets
+          (item_at c.args.queries.now c.queries.query-index query c.queries-test.true c.query-item.is) c.queries.found.sets own c.add_others.new.products.sets
           (λ set. handed_over own set entries c.items.result.now query.head query.body c.items-in-queries.result.now plan.head c.items-in-queries-2.result.now
           c.items.ensures c.items-in-queries.ensures c.items-in-queries-2.ensures (c.in_ok-own.ensures.tell set))
           c.in_ok-add_others.ensures.covers c.queries.invariant.1,

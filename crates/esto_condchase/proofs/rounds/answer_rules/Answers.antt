@@ -1,6 +1,6 @@
 use Rattle.std.proofs.lemmas.List.{length-map}
 use Rattle.esto_constraint.specs.Constraints.{rule_of, rules_of}
-use Rattle.esto_prov.proofs.MeetLemmas.{item_at}
+use Rattle.esto_term.proofs.PlaceLemmas.{item_at}
 use Rattle.esto_condchase.proofs.RoundLemmas.{rule_at, rules_turn, rules_all}
 use Rattle.esto_condchase.proofs.rounds.answer_rules.Goals as goal
 

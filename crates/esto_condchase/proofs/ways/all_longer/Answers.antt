@@ -1,7 +1,6 @@
 use Rattle.std.proofs.Common.{◌∙◌}
 use Rattle.esto_term.proofs.ListLemmas.{Contains-at}
-use Rattle.esto_prov.proofs.MeetLemmas.{item_at}
-use Rattle.esto_condchase.proofs.MeetLemmas.{take-item}
+use Rattle.esto_term.proofs.PlaceLemmas.{item_at, take-item}
 use Rattle.esto_condchase.proofs.WayLemmas.{longer_join, counted_join}
 use Rattle.esto_condchase.proofs.ways.all_longer.Goals as goal
 

@@ -1,4 +1,4 @@
-use Rattle.esto_condchase.proofs.MeetLemmas.{take-item}
+use Rattle.esto_term.proofs.PlaceLemmas.{take-item}
 use Rattle.esto_condchase.proofs.WayLemmas.{matched_join, counted_join}
 use Rattle.esto_condchase.proofs.ways.all_matched.Goals as goal
 

@@ -1,7 +1,7 @@
 use Rattle.std.proofs.Common.{◌+◌, sym, ◌∙◌, subst}
 use Rattle.std.proofs.lemmas.Bool.{false≢true}
 use Rattle.esto_term.proofs.ListLemmas.{Contains-at}
-use Rattle.esto_prov.proofs.MeetLemmas.{item_at}
+use Rattle.esto_term.proofs.PlaceLemmas.{item_at}
 use Rattle.esto_condchase.specs.Ways.{Links}
 use Rattle.esto_condchase.proofs.WayLemmas.{LongerSoFar, longer_skip, longer_more, longer_all}
 use Rattle.esto_condchase.proofs.ways.longer_by_links.Goals.{then-links+in_ok-met_by+in_ok-push, else-links}

@@ -1,6 +1,6 @@
 use Rattle.std.proofs.Common.{sym, ◌∙◌}
 use Rattle.esto_term.proofs.ListLemmas.{Contains-at}
-use Rattle.esto_prov.proofs.MeetLemmas.{item_at}
+use Rattle.esto_term.proofs.PlaceLemmas.{item_at}
 use Rattle.esto_condchase.proofs.WayLemmas.{matched_turn, matched_all}
 use Rattle.esto_condchase.proofs.ways.matched.Goals as goal
 

@@ -1,7 +1,7 @@
 use Rattle.std.proofs.Common.{◌++◌, ◌∷◌, [], take, length, ap, sym, ◌∙◌, refl, append_assoc}
 use Rattle.std.proofs.lemmas.List.{append-nil}
 use Rattle.esto_condchase.specs.declared.ways.Way.{Way}
-use Rattle.esto_condchase.proofs.MeetLemmas.{take-item}
+use Rattle.esto_term.proofs.PlaceLemmas.{take-item}
 use Rattle.esto_condchase.proofs.WayLemmas.{rows_none, counted_one, row_lengths, row_turn}
 use Rattle.esto_condchase.proofs.ways.through_row.Goals as goal
 

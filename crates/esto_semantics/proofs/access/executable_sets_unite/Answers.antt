@@ -1,4 +1,5 @@
-use Rattle.esto_semantics.proofs.AccessLemmas.{none_is_executable, union_is_executable, part_exists, part_is_one, executable_is_own_part, part_rises}
+use Rattle.esto_semantics.proofs.AccessRunLemmas.{part_exists, union_is_executable}
+use Rattle.esto_semantics.proofs.AccessLawLemmas.{none_is_executable, part_is_one, executable_is_own_part, part_rises}
 use Rattle.esto_semantics.proofs.access.executable_sets_unite.Goals as goal
 
 pub returns : goal.returns

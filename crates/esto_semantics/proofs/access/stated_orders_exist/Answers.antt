@@ -1,4 +1,5 @@
-use Rattle.esto_semantics.proofs.AccessLemmas.{stated_order_exists, stated_order_is_one}
+use Rattle.esto_semantics.proofs.AccessRunLemmas.{stated_order_exists}
+use Rattle.esto_semantics.proofs.AccessLawLemmas.{stated_order_is_one}
 use Rattle.esto_semantics.proofs.access.stated_orders_exist.Goals as goal
 
 pub returns : goal.returns

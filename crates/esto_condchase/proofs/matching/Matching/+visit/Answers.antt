@@ -1,6 +1,6 @@
 use Rattle.std.proofs.Common.{true, false, length, get_or, drop, refl, sym, ap, ◌∙◌, arith}
 use Rattle.esto_term.proofs.ListLemmas.{Contains-at}
-use Rattle.esto_prov.proofs.MeetLemmas.{item_at}
+use Rattle.esto_term.proofs.PlaceLemmas.{item_at}
 use Rattle.esto_condchase.specs.Products.{WayGoesOn, SomeEntryGoesOn}
 use Rattle.esto_condchase.specs.Ways.{begun}
 use Rattle.esto_condchase.proofs.MatchingLemmas.{ended, next_visits, next_goes}
