@@ -3,43 +3,61 @@
 
 use esto_opening::Status;
 use esto_ports::{FolderShelf, OutSink, Shelf, Sink};
-use esto_term::{List, Text, TextError};
+use esto_term::{List, OutOfMemory, Text, TextError};
 use esto_top::mediate;
 use std::alloc::Global;
 use std::env;
 use std::process::ExitCode;
 
-// The words after the program's name. What is not UTF-8 is outside the claims, and is answered as words outside the
-// grammar.
-fn words_of(rt: &HostRuntime, alloc: Global) -> Result<List<Text>, Status> {
+// Puts the word that an argument is at the end.
+fn add_word(alloc: Global, words: &mut List<Text>, argument: &str) -> Result<(), TextError> {
+    let word = Text::from_bytes(alloc, argument.as_bytes())?;
+    match words.push(word) {
+        Ok(()) => Ok(()),
+        Err(OutOfMemory) => Err(TextError::OutOfMemory),
+    }
+}
+
+// The words after the program's name.
+fn words_of(rt: &HostRuntime, alloc: Global) -> Result<List<Text>, TextError> {
     let mut words = List::new(alloc);
     let Ok(arguments) = env::args(rt) else {
-        return Err(Status::OutOfMemory);
+        return Err(TextError::OutOfMemory);
     };
     'arguments: for argument in arguments.skip(1) {
-        match Text::from_bytes(alloc, argument.as_bytes()) {
-            Ok(word) => words.push(word)?,
-            Err(TextError::NotUtf8) => return Err(Status::Usage),
-            Err(TextError::OutOfMemory) => return Err(Status::OutOfMemory),
-        }
+        add_word(alloc, &mut words, argument.as_str())?;
     }
     Ok(words)
 }
 
-// The code of the status that the words end with, over a shelf and a sink.
-fn code_of<S: Shelf, O: Sink>(alloc: Global, words: &[Text], shelf: &mut S, out: &mut O) -> u8 {
-    mediate(alloc, words, shelf, out).code()
+// The code of a status, which is let go.
+fn code_of(status: Status) -> u8 {
+    let code = status.code();
+    drop(status);
+    code
 }
 
+// The code of the status that the words end with, over a shelf and a sink.
+fn code_of_words<S: Shelf, O: Sink>(
+    alloc: Global,
+    words: &[Text],
+    shelf: &mut S,
+    out: &mut O,
+) -> u8 {
+    code_of(mediate(alloc, words, shelf, out))
+}
+
+// What is not UTF-8 is outside the claims, and is answered as words outside the grammar.
 fn main(rt: HostRuntime) -> ExitCode {
     let alloc = rt.alloc();
     let code = match words_of(&rt, alloc) {
         Ok(words) => {
             let mut shelf = FolderShelf::new(&rt);
             let mut out = OutSink::new(&rt);
-            code_of(alloc, words.items(), &mut shelf, &mut out)
+            code_of_words(alloc, words.items(), &mut shelf, &mut out)
         }
-        Err(status) => status.code(),
+        Err(TextError::NotUtf8) => code_of(Status::Usage),
+        Err(TextError::OutOfMemory) => code_of(Status::OutOfMemory),
     };
     ExitCode::from(code)
 }

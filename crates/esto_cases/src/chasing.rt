@@ -6,10 +6,10 @@ ghost use Rattle.esto_acyclic.specs.Relations.{IsEdge};
 ghost use Rattle.esto_cases.specs.Leading.{AreBelow, LeadsBelow};
 
 use crate::printing::{put, put_counted, put_number, put_row};
-use crate::reading::Refused;
-use either::{Left, Right};
+use crate::reading::{Refused, let_go};
+use either::{Either, Left, Right};
 use esto_acyclic::{Ranks, judge};
-use esto_chase::{Clash, chase};
+use esto_chase::{Chased, Clash, chase};
 use esto_chase_laws::queries_have_starts;
 use esto_constraint::{Constraint, Rules};
 use esto_instance::Instance;
@@ -78,6 +78,14 @@ fn put_clash(rt: &HostRuntime, clash: &Clash) {
     }
 }
 
+// What a chase ends with.
+fn put_ended(rt: &HostRuntime, ended: &Either<Chased, Clash>) {
+    match ended {
+        Left(chased) => put_chased(rt, &chased.instance),
+        Right(clash) => put_clash(rt, clash),
+    }
+}
+
 // What the chase of the query under the rules ends with, where these are the ranks.
 fn put_end(
     rt: &HostRuntime,
@@ -92,10 +100,9 @@ fn put_end(
     queries_are_sound();
     queries_have_starts();
     let start = Instance::of_query(alloc, query)?;
-    match chase(alloc, start, rules, ranks)? {
-        Left(chased) => put_chased(rt, &chased.instance),
-        Right(clash) => put_clash(rt, &clash),
-    }
+    let ended = chase(alloc, start, rules, ranks)?;
+    put_ended(rt, &ended);
+    let_go(ended);
     Ok(())
 }
 

@@ -150,6 +150,7 @@ impl FileSet {
         let ran = self.outcome(alloc, line)?;
         put_bytes(rt, ran.out.written());
         put_status(rt, ran.code);
+        let_go(ran);
         Ok(())
     }
 
@@ -166,6 +167,7 @@ impl FileSet {
         let ran = self.outcome(alloc, words)?;
         put_ends(rt, ran.out.written(), number(first), number(last));
         put_status(rt, ran.code);
+        let_go(ran);
         Ok(())
     }
 }

@@ -30,10 +30,12 @@ pub fn rule(alloc: Global, catalogue: &Catalogue, text: &str) -> Result<Constrai
 
 /// The valuation that gives variable 0 this term, or none where the word is empty.
 pub fn start_of(alloc: Global, word: &str) -> Result<Valuation, Refused> {
-    let mut start = Valuation::new(alloc);
-    if !word.is_empty() {
-        start.bind(0, term(alloc, word)?)?;
+    if word.is_empty() {
+        return Ok(Valuation::new(alloc));
     }
+    let term = term(alloc, word)?;
+    let mut start = Valuation::new(alloc);
+    start.bind(0, term)?;
     Ok(start)
 }
 

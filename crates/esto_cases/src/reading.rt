@@ -141,10 +141,10 @@ fn add_number(numbers: &mut Places, word: &str) -> Result<(), Refused> {
 
 /// Numbers, between commas; `-` is none.
 pub fn numbers(alloc: Global, word: &str) -> Result<Places, Refused> {
-    let mut numbers = Values::new(alloc);
     if word == "-" {
-        return Ok(numbers);
+        return Ok(Values::new(alloc));
     }
+    let mut numbers = Values::new(alloc);
     'words: for word in word.split(',') {
         add_number(&mut numbers, word)?;
     }
@@ -179,6 +179,18 @@ fn pattern(alloc: Global, word: &str) -> Result<Values<bool>, Refused> {
     Ok(columns)
 }
 
+// Puts what a part is read as at the end.
+fn add_read<T: Drop, F: Fn(&str) -> Result<T, Refused>>(
+    list: &mut List<T>,
+    part: &str,
+    read: &F,
+) -> Result<(), Refused>
+    requires { F.IsAlwaysCallable read.now }
+{
+    list.push(read(part)?)?;
+    Ok(())
+}
+
 /// What the parts between these signs are read as, one by one.
 pub fn each<T: Drop, F: Fn(&str) -> Result<T, Refused>>(
     alloc: Global,
@@ -190,7 +202,7 @@ pub fn each<T: Drop, F: Fn(&str) -> Result<T, Refused>>(
 {
     let mut list = List::new(alloc);
     'parts: for part in line.split(sign) {
-        list.push(read(part)?)?;
+        add_read(&mut list, part, &read)?;
     }
     Ok(list)
 }

@@ -1,7 +1,7 @@
 //! Sets of numbers, and the minimal ones of them.
 
 use crate::printing::{put, put_digits, put_set, put_sorted};
-use crate::reading::{Refused, parts, place, set};
+use crate::reading::{Refused, let_go, parts, place, set};
 use esto_bits::{Products, RowBits};
 use std::alloc::Global;
 
@@ -95,7 +95,10 @@ fn put_joined(rt: &HostRuntime, alloc: Global, count: usize, words: &str) -> Res
     let (left, right) = words.split_once(" | ").unwrap_or((words, "-"));
     let left = products_of(rt, alloc, count, left, false)?;
     let right = products_of(rt, alloc, count, right, false)?;
-    put_unions(rt, alloc, &left, &right)
+    let outcome = put_unions(rt, alloc, &left, &right);
+    let_go(left);
+    let_go(right);
+    outcome
 }
 
 /// Answers what the words ask of sets. The first word of the line is what the numbers are below.

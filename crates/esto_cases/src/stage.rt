@@ -14,6 +14,7 @@ use esto_query::{Facts, Query, Valuation};
 use esto_term::List;
 use esto_views::{AccessList, Plan};
 use std::alloc::Global;
+use std::mem;
 
 /// The catalogue, the patterns of its first fragments, the plan, the entries of a list, the facts, the start of matches, and
 /// the rules.
@@ -48,7 +49,8 @@ impl Stage {
 
     /// Takes these bytes for the catalogue, with no rule yet and no patterns but its own.
     pub fn open(&mut self, alloc: Global, bytes: &[u8]) -> Result<(), Refused> {
-        self.catalogue = catalogue_of(alloc, bytes)?;
+        let catalogue = catalogue_of(alloc, bytes)?;
+        let_go(mem::replace(&mut self.catalogue, catalogue));
         self.patterns = List::new(alloc);
         self.rules = List::new(alloc);
         Ok(())

@@ -2,7 +2,7 @@
 
 use crate::files::{FileSet, NONE, Ran, Trouble, words_of};
 use crate::printing::{put, put_bytes, put_counted, put_digits};
-use crate::reading::Refused;
+use crate::reading::{Refused, let_go};
 use esto_term::Text;
 use std::alloc::Global;
 
@@ -33,6 +33,11 @@ fn put_outcome(rt: &HostRuntime, ran: &Ran) {
     put_counted(rt, ", puts ", ran.out.puts());
 }
 
+// Whether these bytes alone were put, and the status is that of a write fault.
+fn has_left(ran: &Ran, bytes: &[u8]) -> bool {
+    ran.code == 4 && ran.out.written() == bytes
+}
+
 impl Sweep<'_> {
     fn run(&self, alloc: Global, trouble: Trouble) -> Result<Ran, Refused> {
         self.files.ran(alloc, self.words, trouble)
@@ -42,6 +47,7 @@ impl Sweep<'_> {
     fn put_run(&self, rt: &HostRuntime, alloc: Global, trouble: Trouble) -> Result<(), Refused> {
         let ran = self.run(alloc, trouble)?;
         put_outcome(rt, &ran);
+        let_go(ran);
         Ok(())
     }
 
@@ -86,7 +92,9 @@ impl Sweep<'_> {
                 ..NONE
             },
         )?;
-        Ok(ran.code == 4 && ran.out.written() == bytes)
+        let leaves = has_left(&ran, bytes);
+        let_go(ran);
+        Ok(leaves)
     }
 
     // The put fails after each number of bytes of the text, and how often that left these bytes
@@ -127,7 +135,9 @@ impl Sweep<'_> {
     // Runs the command line with nothing wrong, and then with each trouble.
     fn put_all(&self, rt: &HostRuntime, alloc: Global) -> Result<(), Refused> {
         let whole = self.run(alloc, NONE)?;
-        self.put_troubles(rt, alloc, &whole)
+        let outcome = self.put_troubles(rt, alloc, &whole);
+        let_go(whole);
+        outcome
     }
 }
 

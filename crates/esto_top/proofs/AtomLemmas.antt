@@ -1,6 +1,6 @@
 -- The numbers of atoms that a word names.
-use Rattle.std.proofs.Common.{◌≡◌, ◌==◌, ◌≤◌, ℕ, List, [], ◌∷◌, ◌++◌, Option, Some, None, Result, Ok, Err, refl, sym, ap, subst, ◌∙◌, arith}
-use Rattle.std.proofs.lemmas.List.{append_assoc}
+use Rattle.std.proofs.Common.{◌≡◌, ◌==◌, ◌≤◌, ◌<◌, ◌+◌, ℕ, List, [], ◌∷◌, ◌++◌, drop, get_or, length, map, Option, Some, None, Result, Ok, Err, refl, sym, ap, subst, ◌∙◌, arith}
+use Rattle.std.proofs.lemmas.List.{append-nil, append_assoc, drop_all, drop_more}
 use Rattle.std.specs.List.{slice_split}
 use Rattle.esto_certify.specs.Verify.{verify_course}
 use Rattle.esto_course.specs.Course.{Names, Stops, judges}
@@ -22,26 +22,42 @@ abbrev pub after : List ℕ → Option (List ℕ) → Option (List ℕ)
 after done None = None
 after done (Some rest) = Some (done ++ rest)
 
-pub after_nothing : (rest : Option (List ℕ)) → rest ≡ after [] rest
-after_nothing None = refl
-after_nothing (Some rest) = refl
+pub after_nothing : (done : List ℕ) (rest : Option (List ℕ)) → done ≡ [] → after done rest ≡ rest
+after_nothing done None none = refl
+after_nothing done (Some rest) none = ap (λ (it : List ℕ). Some (it ++ rest)) none
 
 -- one more number is done
 pub after_one : (done : List ℕ) (number : ℕ) (rest : Option (List ℕ)) → after (done ++ number ∷ []) rest ≡ after done (before_all number rest)
 after_one done number None = refl
 after_one done number (Some rest) = ap Some (append_assoc done (number ∷ []) rest)
 
-module _ (done : List ℕ) (before : ℕ) (word : List ℕ) (words : List (List ℕ)) (whole : Option (List ℕ))
-    (so_far : after done (numbers_above before (word ∷ words)) ≡ whole) where
+module _ {X : Type 0} (now : X → List ℕ) (words : List X) (index : ℕ) (other : X) (below : index < length words) (done : List ℕ) (before : ℕ)
+    (whole : Option (List ℕ)) (so_far : after done (numbers_above before (map now (drop index words))) ≡ whole) where
+  abbrev pub own : List ℕ
+  own = now (get_or words index other)
+
+  abbrev pub left : List (List ℕ)
+  left = map now (drop (index + 1) words)
+
+  at_word : after done (with_rest (number_above before own) (λ next. numbers_above next left)) ≡ whole
+  at_word = subst (λ (it : List X). after done (numbers_above before (map now it)) ≡ whole) (drop_more words index other below) so_far
+
   -- the word writes a number that is above
-  pub one_more : (number : ℕ) → number_above before word ≡ Some number → after (done ++ number ∷ []) (numbers_above number words) ≡ whole
-  one_more number is =
-      after_one done number (numbers_above number words)
-      ∙ sym (ap (λ (it : Option ℕ). after done (with_rest it (λ next. numbers_above next words))) is) ∙ so_far
+  pub one_more : (number : ℕ) → number_above before own ≡ Some number → (next : List ℕ) → next ≡ done ++ number ∷ [] → after next (numbers_above number left)
+      ≡ whole
+  one_more number is next grown =
+      ap (λ (it : List ℕ). after it (numbers_above number left)) grown ∙ after_one done number (numbers_above number left)
+      ∙ sym (ap (λ (it : Option ℕ). after done (with_rest it (λ next. numbers_above next left))) is) ∙ at_word
 
   -- it does not
-  pub none_more : number_above before word ≡ None → None ≡ whole
-  none_more is = sym (ap (λ (it : Option ℕ). after done (with_rest it (λ next. numbers_above next words))) is) ∙ so_far
+  pub none_more : number_above before own ≡ None → None ≡ whole
+  none_more is = sym (ap (λ (it : Option ℕ). after done (with_rest it (λ next. numbers_above next left))) is) ∙ at_word
+
+-- no word is left
+pub all_done : {X : Type 0} (now : X → List ℕ) (words : List X) (index : ℕ) → length words ≤ index → (done : List ℕ) (before : ℕ) (whole : Option (List ℕ))
+    → after done (numbers_above before (map now (drop index words))) ≡ whole → Some done ≡ whole
+all_done now words index past done before whole so_far =
+    ap Some (sym (append-nil done)) ∙ subst (λ (it : List _). after done (numbers_above before (map now it)) ≡ whole) (drop_all index words past) so_far
 
 -- ---- the step
 

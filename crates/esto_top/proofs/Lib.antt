@@ -27,3 +27,4 @@ pub mod MarkLemmas
 pub mod ExplainLemmas
 pub mod AtomLemmas
 pub mod AgreedLemmas
+pub mod WordLemmas

@@ -86,5 +86,7 @@ pub fn check<S: Shelf>(alloc: Global, shelf: &mut S, catalogue: &Text) -> Result
     ensures later { S.faults shelf.old ≤ S.faults shelf.new }
 {
     let catalogue = open_catalogue(alloc, shelf, catalogue)?;
-    checked(alloc, &catalogue)
+    let reply = checked(alloc, &catalogue);
+    drop(catalogue);
+    reply
 }

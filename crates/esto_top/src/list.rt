@@ -102,5 +102,7 @@ pub fn list<S: Shelf>(
     ensures later { S.faults shelf.old ≤ S.faults shelf.new }
 {
     let catalogue = open_catalogue(alloc, shelf, catalogue)?;
-    list_read(alloc, shelf, &catalogue, query)
+    let reply = list_read(alloc, shelf, &catalogue, query);
+    drop(catalogue);
+    reply
 }

@@ -170,5 +170,7 @@ pub fn run<S: Shelf>(
     ensures later { S.faults shelf.old ≤ S.faults shelf.new }
 {
     let catalogue = open_catalogue(alloc, shelf, catalogue)?;
-    run_read(alloc, shelf, &catalogue, query, number)
+    let reply = run_read(alloc, shelf, &catalogue, query, number);
+    drop(catalogue);
+    reply
 }

@@ -12,9 +12,9 @@ pub returns-in_err-catalogue-clause-asked : goal.returns-in_err-catalogue-clause
 returns-in_err-catalogue-clause-asked g c = handed_asks _ _ _ c.from_residual.ensures.1 (exit_asks _ _ c.in_err-catalogue.ensures.asked)
 
 pub returns-clause-answer : goal.returns-clause-answer
-returns-clause-answer g c = then_answers_still _ _ _ c.in_ok-catalogue.catalogue c.checked.result c.in_ok-catalogue.ensures.answer c.checked.ensures
+returns-clause-answer g c = then_answers_still _ _ _ c.in_ok-catalogue.catalogue c.checked-reply.result c.in_ok-catalogue.ensures.answer c.checked-reply.ensures
 
 pub returns-clause-asked : goal.returns-clause-asked
 returns-clause-asked g c =
     later_asks _ _ c.in_ok-catalogue.ensures.asked
-    (quiet_asks (prints_check c.in_ok-catalogue.catalogue) _ c.checked.result (quiet_gives _ _) c.checked.ensures)
+    (quiet_asks (prints_check c.in_ok-catalogue.catalogue) _ c.checked-reply.result (quiet_gives _ _) c.checked-reply.ensures)

@@ -11,11 +11,11 @@ returns-in_err-catalogue-clause-asked g c = handed_asks _ _ _ c.from_residual.en
 
 pub returns-clause-answer : goal.returns-clause-answer
 returns-clause-answer g c =
-    let answer = rw c.in_ok-catalogue.ensures.files at c.list_read.ensures.answer in
-    then_answers _ _ _ _ _ c.in_ok-catalogue.catalogue c.list_read.result c.in_ok-catalogue.ensures.answer c.in_ok-catalogue.ensures.later
-    c.list_read.ensures.later answer
+    let answer = rw c.in_ok-catalogue.ensures.files at c.list_read-reply.ensures.answer in
+    then_answers _ _ _ _ _ c.in_ok-catalogue.catalogue c.list_read-reply.result c.in_ok-catalogue.ensures.answer c.in_ok-catalogue.ensures.later
+    c.list_read-reply.ensures.later answer
 
 pub returns-clause-asked : goal.returns-clause-asked
 returns-clause-asked g c =
-    let asked = rw c.in_ok-catalogue.ensures.files at c.list_read.ensures.asked in
+    let asked = rw c.in_ok-catalogue.ensures.files at c.list_read-reply.ensures.asked in
     later_asks _ _ c.in_ok-catalogue.ensures.asked asked

@@ -1,6 +1,9 @@
+use Rattle.std.proofs.Common.{refl}
 use Rattle.esto_run.specs.Opened.{rows_held}
 use Rattle.esto_course.proofs.Steps.{at_exit}
+use Rattle.esto_course.specs.Course.Stops.{is_free}
 use Rattle.esto_opening.proofs.AskedSteps.{handed_asks}
+use Rattle.esto_opening.specs.declared.status.Status.TheVariants.{OutOfMemory}
 use Rattle.esto_top.proofs.RunAskedLemmas.{item_asks, item_exit_asks, item_text_wants, item_wants}
 use Rattle.esto_top.proofs.RunLemmas.{item_goes, item_stops, text_over_files, used_are_there}
 use Rattle.esto_top.proofs.run.run_item.Goals as goal
@@ -59,3 +62,15 @@ returns-clause-asked g c =
     (text_over_files c.answers_are_over_files.ensures c.chosen_atoms_are_named.ensures c.args.catalogue.now c.args.query.now c.args.plan.now
     c.args.item.now.set c.in_ok-numbers.numbers opened.0 (rows_held c.in_ok-opened.opened) c.in_ok-text.text c.in_ok-numbers.ensures.used opened.2
     (c.in_ok-text.ensures c.args.item.now.set c.requires.item.order.is_order))
+
+pub returns-in_err-numbers-clause-answer : goal.returns-in_err-numbers-clause-answer
+returns-in_err-numbers-clause-answer g c = at_exit _ OutOfMemory c.from_residual.result c.from_residual.ensures.1 (is_free refl)
+
+pub returns-in_err-text-clause-answer : goal.returns-in_err-text-clause-answer
+returns-in_err-text-clause-answer g c = at_exit _ OutOfMemory c.from_residual-in_err-text.result c.from_residual-in_err-text.ensures.1 (is_free refl)
+
+pub run_text-requires-clause-order : goal.run_text-requires-clause-order
+run_text-requires-clause-order g c = (c.args.item.now.set, c.requires.item.order.is_order, c.requires.item.set.0.safe)
+
+pub run_text-requires-clause-rows : goal.run_text-requires-clause-rows
+run_text-requires-clause-rows g c = c.in_ok-opened.ensures.answer.3
