@@ -1,5 +1,6 @@
 -- The row of a head, with its limit.
 use Rattle.std.proofs.Common.{◌≡◌, ◌≢◌, ℕ, zero, suc, ◌-◌, Bool, true, false, cond, List, [], ◌∷◌, ◌++◌, length, refl, sym, ap, subst, ◌∙◌, arith}
+use Rattle.std.proofs.lemmas.Bool.{true≢false, false≢true}
 use Rattle.esto_text.specs.declared.stop.Stop.{Stop}
 use Rattle.esto_text.specs.declared.stop.Stop.TheVariants.{Syntax}
 use Rattle.esto_text.specs.declared.token.Token.{Token}
@@ -55,11 +56,13 @@ class_cases room (t ∷ ts) P p q = go (is_close (class_of t)) (is_name (class_o
 -- with no room a name fits nowhere
 no_room : (ts : List Token) → class_at (limited_row 0 ts) ≢ Name
 no_room [] = λ e. cc
-no_room (t ∷ ts) = go (class_of t) refl
+no_room (t ∷ ts) = go (is_close (class_of t)) (is_name (class_of t)) refl refl
   where
-    go : (k : TokenKind) → class_of t ≡ k → class_at (limited_row 0 (t ∷ ts)) ≡ Name → ⊥
-    go Name p e = let q = ap class_at (by_class 0 t ts Name p) in absurd cc
-    go k p e = let q = ap class_at (by_class 0 t ts k p) in absurd cc
+    go : (b c : Bool) → is_close (class_of t) ≡ b → is_name (class_of t) ≡ c
+        → class_at (cond b (t ∷ ts) (cond c (in_room 0 t ∷ limited_row 0 ts) (t ∷ limited_row 0 ts))) ≢ Name
+    go true c p q e = false≢true (sym (ap is_close e) ∙ p)
+    go false true p q e = cc
+    go false false p q e = true≢false (sym (ap is_name e) ∙ q)
 
 -- ---- the row of a head
 

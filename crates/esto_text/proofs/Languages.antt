@@ -3,6 +3,7 @@
 use Rattle.std.proofs.Common.{◌≡◌, ℕ, suc, inl, inr, Bool, true, false, cond, ltb, List, [], ◌∷◌, ◌++◌, Option, Some, None, refl, sym, ap, subst, ◌∙◌, append_assoc}
 use Rattle.std.proofs.lemmas.List.{append-nil}
 use Rattle.std.proofs.lemmas.Bool.{ltb-true}
+use Rattle.std.proofs.lemmas.Option.{none-some, same_Some}
 use Rattle.esto_text.specs.declared.token.Token.{Token}
 use Rattle.esto_text.specs.declared.token.TokenKind.{TokenKind}
 use Rattle.esto_text.specs.declared.token.TokenKind.TheVariants.{Name, Wildcard, Quoted, LeftParen, RightParen, LeftBrace, RightBrace, LeftBracket, RightBracket, Comma, Dot, Colon, Turnstile, Arrow, Equals, Stars}
@@ -166,16 +167,16 @@ part_back t ws p (a0, b0, e0, (r, f0, p0), (a1, b1, e1, (c, f1, p1), last)) =
 rest_back : (c : TokenKind) (t : Token) (new : List Symbol) (ws : List Token) → class_of t ≡ c → step ItemRest c ≡ Some new → Langs new ws
     → Lang ItemRest (t ∷ ws)
 rest_back LeftParen t new ws p e h =
-    let q : ATerm ∷ MoreTerms ∷ [] ≡ new = cc in
+    let q : ATerm ∷ MoreTerms ∷ [] ≡ new = same_Some _ _ e in
     let r = two ATerm MoreTerms ws (subst (λ (l : List Symbol). Langs l ws) (sym q) h) in
     (λ n. Atom n (r.3.0 ∷ r.4.0), λ n name. (t, ws, refl, name, p, (r.1, r.2 ∙ ap (λ (w : List Token). w ++ r.1) r.3.1, r.3.2, r.4.1)))
 rest_back Dot t new ws p e h =
-    let q : AName ∷ AParen ∷ ATerm ∷ MoreTerms ∷ [] ≡ new = cc in part_back t ws p (subst (λ (l : List Symbol). Langs l ws) (sym q) h)
+    let q : AName ∷ AParen ∷ ATerm ∷ MoreTerms ∷ [] ≡ new = same_Some _ _ e in part_back t ws p (subst (λ (l : List Symbol). Langs l ws) (sym q) h)
 rest_back LeftBrace t new ws p e h =
-    let q : AnEntry 1 ∷ MoreEntries 1 ∷ [] ≡ new = cc in
+    let q : AnEntry 1 ∷ MoreEntries 1 ∷ [] ≡ new = same_Some _ _ e in
     let r = group_parts 1 ws (subst (λ (l : List Symbol). Langs l ws) (sym q) h) in
     (λ n. Pattern n r.0, λ n name. (t, ws, refl, name, p, r.1))
-rest_back _ t new ws p e h = absurd cc
+rest_back _ t new ws p e h = absurd (none-some _ e)
 
 -- ---- the rest of a constraint
 
@@ -202,34 +203,34 @@ items_back c t new ws p e h =
 
 step_back : (x : Symbol) (c : TokenKind) (t : Token) (new : List Symbol) (ws : List Token) → class_of t ≡ c → step x c ≡ Some new → Langs new ws
     → Lang x (t ∷ ws)
-step_back AName Name t new ws p e h = let q : [] ≡ new = cc in (t, ap (λ (l : List Token). t ∷ l) (subst (λ (l : List Symbol). Langs l ws) (sym q) h), p)
-step_back AParen LeftParen t new ws p e h = let q : [] ≡ new = cc in (t, ap (λ (l : List Token). t ∷ l) (subst (λ (l : List Symbol). Langs l ws) (sym q) h), p)
-step_back ATurnstile Turnstile t new ws p e h = let q : [] ≡ new = cc in
+step_back AName Name t new ws p e h = let q : [] ≡ new = same_Some _ _ e in (t, ap (λ (l : List Token). t ∷ l) (subst (λ (l : List Symbol). Langs l ws) (sym q) h), p)
+step_back AParen LeftParen t new ws p e h = let q : [] ≡ new = same_Some _ _ e in (t, ap (λ (l : List Token). t ∷ l) (subst (λ (l : List Symbol). Langs l ws) (sym q) h), p)
+step_back ATurnstile Turnstile t new ws p e h = let q : [] ≡ new = same_Some _ _ e in
     (t, ap (λ (l : List Token). t ∷ l) (subst (λ (l : List Symbol). Langs l ws) (sym q) h), p)
 step_back ATerm c t new ws p e h = term_back t c new ws p e h
 step_back MoreNames Comma t new ws p e h =
-    let q : AName ∷ MoreNames ∷ [] ≡ new = cc in
+    let q : AName ∷ MoreNames ∷ [] ≡ new = same_Some _ _ e in
     let r = two AName MoreNames ws (subst (λ (l : List Symbol). Langs l ws) (sym q) h) in
     (r.3.0 ∷ r.4.0, tail_back IsName t r.3.0 ws r.0 r.1 r.4.0 p r.2 r.3.1 r.3.2 r.4.1)
-step_back MoreNames RightParen t new ws p e h = let q : [] ≡ new = cc in
+step_back MoreNames RightParen t new ws p e h = let q : [] ≡ new = same_Some _ _ e in
     ([], (t, ap (λ (l : List Token). t ∷ l) (subst (λ (l : List Symbol). Langs l ws) (sym q) h), p))
 step_back MoreTerms Comma t new ws p e h =
-    let q : ATerm ∷ MoreTerms ∷ [] ≡ new = cc in
+    let q : ATerm ∷ MoreTerms ∷ [] ≡ new = same_Some _ _ e in
     let r = two ATerm MoreTerms ws (subst (λ (l : List Symbol). Langs l ws) (sym q) h) in
     (r.3.0 ∷ r.4.0, tail_back IsTerm t r.3.0 ws r.0 r.1 r.4.0 p r.2 r.3.1 r.3.2 r.4.1)
-step_back MoreTerms RightParen t new ws p e h = let q : [] ≡ new = cc in
+step_back MoreTerms RightParen t new ws p e h = let q : [] ≡ new = same_Some _ _ e in
     ([], (t, ap (λ (l : List Token). t ∷ l) (subst (λ (l : List Symbol). Langs l ws) (sym q) h), p))
 step_back AnItem Name t new ws p e h =
-    let q : ItemRest ∷ [] ≡ new = cc in
+    let q : ItemRest ∷ [] ≡ new = same_Some _ _ e in
     let r = one ItemRest ws (subst (λ (l : List Symbol). Langs l ws) (sym q) h) in (r.0 t, r.1 t p)
 step_back ItemRest c t new ws p e h = rest_back c t new ws p e h
 step_back MoreItems Comma t new ws p e h =
-    let q : AnItem ∷ MoreItems ∷ [] ≡ new = cc in
+    let q : AnItem ∷ MoreItems ∷ [] ≡ new = same_Some _ _ e in
     let r = two AnItem MoreItems ws (subst (λ (l : List Symbol). Langs l ws) (sym q) h) in
     (r.3.0 ∷ r.4.0, (t, r.0, r.1, ap (λ (w : List Token). t ∷ w) r.2, p, r.3.1, r.4.1))
 step_back MoreBody Comma t new ws p e h =
-    let q : AnItem ∷ MoreBody ∷ [] ≡ new = cc in body_comma_back t ws p (subst (λ (l : List Symbol). Langs l ws) (sym q) h)
-step_back MoreBody Arrow t new ws p e h = let q : [] ≡ new = cc in (
+    let q : AnItem ∷ MoreBody ∷ [] ≡ new = same_Some _ _ e in body_comma_back t ws p (subst (λ (l : List Symbol). Langs l ws) (sym q) h)
+step_back MoreBody Arrow t new ws p e h = let q : [] ≡ new = same_Some _ _ e in (
   [],
   [],
   t,
@@ -239,56 +240,56 @@ step_back MoreBody Arrow t new ws p e h = let q : [] ≡ new = cc in (
   p,
 )
 step_back AHead Name t new ws p e h =
-    let q : HeadRest ∷ [] ≡ new = cc in
+    let q : HeadRest ∷ [] ≡ new = same_Some _ _ e in
     let r = one HeadRest ws (subst (λ (l : List Symbol). Langs l ws) (sym q) h) in (r.0 t, r.1 t p)
 step_back HeadRest Equals t new ws p e h =
-    let q : ATerm ∷ [] ≡ new = cc in
+    let q : ATerm ∷ [] ≡ new = same_Some _ _ e in
     let r = one ATerm ws (subst (λ (l : List Symbol). Langs l ws) (sym q) h) in
     (λ n. Equality n r.0, λ n name. (t, ap (λ (w : List Token). n ∷ t ∷ w) r.1, name, p, r.2))
 step_back HeadRest LeftParen t new ws p e h =
-    let q : ATerm ∷ MoreTerms ∷ MoreItems ∷ [] ≡ new = cc in items_back LeftParen t (ATerm ∷ MoreTerms ∷ []) ws p refl
+    let q : ATerm ∷ MoreTerms ∷ MoreItems ∷ [] ≡ new = same_Some _ _ e in items_back LeftParen t (ATerm ∷ MoreTerms ∷ []) ws p refl
     (subst (λ (l : List Symbol). Langs l ws) (sym q) h)
 step_back HeadRest Dot t new ws p e h =
-    let q : AName ∷ AParen ∷ ATerm ∷ MoreTerms ∷ MoreItems ∷ [] ≡ new = cc in
+    let q : AName ∷ AParen ∷ ATerm ∷ MoreTerms ∷ MoreItems ∷ [] ≡ new = same_Some _ _ e in
     items_back Dot t (AName ∷ AParen ∷ ATerm ∷ MoreTerms ∷ []) ws p refl (subst (λ (l : List Symbol). Langs l ws) (sym q) h)
 step_back HeadRest LeftBrace t new ws p e h =
-    let q : AnEntry 1 ∷ MoreEntries 1 ∷ MoreItems ∷ [] ≡ new = cc in items_back LeftBrace t (AnEntry 1 ∷ MoreEntries 1 ∷ []) ws p refl
+    let q : AnEntry 1 ∷ MoreEntries 1 ∷ MoreItems ∷ [] ≡ new = same_Some _ _ e in items_back LeftBrace t (AnEntry 1 ∷ MoreEntries 1 ∷ []) ws p refl
     (subst (λ (l : List Symbol). Langs l ws) (sym q) h)
 step_back AGroup LeftBrace t new ws p e h =
-    let q : AnEntry 1 ∷ MoreEntries 1 ∷ [] ≡ new = cc in
+    let q : AnEntry 1 ∷ MoreEntries 1 ∷ [] ≡ new = same_Some _ _ e in
     let r = group_parts 1 ws (subst (λ (l : List Symbol). Langs l ws) (sym q) h) in (r.0, (t, ws, refl, p, r.1))
 step_back (AnEntry n) Name t new ws p e h =
-    let q : PathRest n ∷ [] ≡ new = cc in first_back n (Field t) t ws (ap (λ (k : TokenKind). step_at k t) p)
+    let q : PathRest n ∷ [] ≡ new = same_Some _ _ e in first_back n (Field t) t ws (ap (λ (k : TokenKind). step_at k t) p)
     (one (PathRest n) ws (subst (λ (l : List Symbol). Langs l ws) (sym q) h))
 step_back (AnEntry n) Quoted t new ws p e h =
-    let q : PathRest n ∷ [] ≡ new = cc in first_back n (Field t) t ws (ap (λ (k : TokenKind). step_at k t) p)
+    let q : PathRest n ∷ [] ≡ new = same_Some _ _ e in first_back n (Field t) t ws (ap (λ (k : TokenKind). step_at k t) p)
     (one (PathRest n) ws (subst (λ (l : List Symbol). Langs l ws) (sym q) h))
 step_back (AnEntry n) Stars t new ws p e h =
-    let q : PathRest n ∷ [] ≡ new = cc in first_back n Below t ws (ap (λ (k : TokenKind). step_at k t) p)
+    let q : PathRest n ∷ [] ≡ new = same_Some _ _ e in first_back n Below t ws (ap (λ (k : TokenKind). step_at k t) p)
     (one (PathRest n) ws (subst (λ (l : List Symbol). Langs l ws) (sym q) h))
 step_back (AnEntry n) LeftBracket t new ws p e h =
-    let q : ABracket ∷ PathRest n ∷ [] ≡ new = cc in first_bracket_back n t ws p (subst (λ (l : List Symbol). Langs l ws) (sym q) h)
+    let q : ABracket ∷ PathRest n ∷ [] ≡ new = same_Some _ _ e in first_bracket_back n t ws p (subst (λ (l : List Symbol). Langs l ws) (sym q) h)
 step_back (PathRest n) LeftBracket t new ws p e h =
-    let q : ABracket ∷ PathRest n ∷ [] ≡ new = cc in later_bracket_back n t ws p (subst (λ (l : List Symbol). Langs l ws) (sym q) h)
+    let q : ABracket ∷ PathRest n ∷ [] ≡ new = same_Some _ _ e in later_bracket_back n t ws p (subst (λ (l : List Symbol). Langs l ws) (sym q) h)
 step_back (PathRest n) Dot t new ws p e h =
-    let q : ANext ∷ PathRest n ∷ [] ≡ new = cc in dot_back n t ws p (subst (λ (l : List Symbol). Langs l ws) (sym q) h)
+    let q : ANext ∷ PathRest n ∷ [] ≡ new = same_Some _ _ e in dot_back n t ws p (subst (λ (l : List Symbol). Langs l ws) (sym q) h)
 step_back (PathRest n) Colon t new ws p e h =
-    let q : ATerm ∷ [] ≡ new = cc in
+    let q : ATerm ∷ [] ≡ new = same_Some _ _ e in
     let r = one ATerm ws (subst (λ (l : List Symbol). Langs l ws) (sym q) h) in
     (λ path. Value path r.0, λ path front h. (front, t, ap (λ (w : List Token). front ++ t ∷ w) r.1, h, p, r.2))
-step_back ANext Name t new ws p e h = let q : [] ≡ new = cc in next_back t (Field t) new ws q h (ap (λ (k : TokenKind). step_at k t) p)
-step_back ANext Quoted t new ws p e h = let q : [] ≡ new = cc in next_back t (Field t) new ws q h (ap (λ (k : TokenKind). step_at k t) p)
-step_back ANext Stars t new ws p e h = let q : [] ≡ new = cc in next_back t Below new ws q h (ap (λ (k : TokenKind). step_at k t) p)
-step_back ABracket RightBracket t new ws p e h = let q : [] ≡ new = cc in
+step_back ANext Name t new ws p e h = let q : [] ≡ new = same_Some _ _ e in next_back t (Field t) new ws q h (ap (λ (k : TokenKind). step_at k t) p)
+step_back ANext Quoted t new ws p e h = let q : [] ≡ new = same_Some _ _ e in next_back t (Field t) new ws q h (ap (λ (k : TokenKind). step_at k t) p)
+step_back ANext Stars t new ws p e h = let q : [] ≡ new = same_Some _ _ e in next_back t Below new ws q h (ap (λ (k : TokenKind). step_at k t) p)
+step_back ABracket RightBracket t new ws p e h = let q : [] ≡ new = same_Some _ _ e in
     (t, ap (λ (l : List Token). t ∷ l) (subst (λ (l : List Symbol). Langs l ws) (sym q) h), p)
 step_back (PathRest n) LeftBrace t new ws p e h = brace_back n t new ws p e h
 step_back (MoreEntries n) Comma t new ws p e h =
-    let q : AnEntry n ∷ MoreEntries n ∷ [] ≡ new = cc in
+    let q : AnEntry n ∷ MoreEntries n ∷ [] ≡ new = same_Some _ _ e in
     let r = two (AnEntry n) (MoreEntries n) ws (subst (λ (l : List Symbol). Langs l ws) (sym q) h) in
     (AndEntry r.3.0 r.4.0, (t, r.0, r.1, ap (λ (w : List Token). t ∷ w) r.2, p, r.3.1, r.4.1))
-step_back (MoreEntries n) RightBrace t new ws p e h = let q : [] ≡ new = cc in
+step_back (MoreEntries n) RightBrace t new ws p e h = let q : [] ≡ new = same_Some _ _ e in
     (NoEntry, (t, ap (λ (l : List Token). t ∷ l) (subst (λ (l : List Symbol). Langs l ws) (sym q) h), p))
-step_back _ _ t new ws p e h = absurd cc
+step_back _ _ t new ws p e h = absurd (none-some _ e)
 
 advance_back : (xs : List Symbol) (t : Token) (new : List Symbol) (ws : List Token) → advance xs (class_of t) ≡ Some new → Langs new ws → Langs xs (t ∷ ws)
 advance_back [] t new ws e h = absurd cc

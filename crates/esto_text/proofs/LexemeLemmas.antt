@@ -1,10 +1,10 @@
 -- The longest token at a place, by its first byte.
-use Rattle.std.proofs.Common.{◌≡◌, ◌≢◌, ℕ, zero, suc, ◌+◌, ◌<◌, ◌≤◌, inl, inr, Bool, true, false, leb, eqb, List, [], ◌∷◌, ◌++◌, length, take, drop, get_or, Option, Some, None, refl, sym, ap, subst, ◌∙◌, arith, add-one}
+use Rattle.std.proofs.Common.{◌≡◌, ◌≢◌, ℕ, zero, suc, ◌+◌, ◌<◌, ◌≤◌, inl, inr, Bool, true, false, cond, List, [], ◌∷◌, ◌++◌, length, take, drop, get_or, Option, Some, None, refl, sym, ap, subst, ◌∙◌, arith, add-one}
 use Rattle.std.specs.Prelude.{◌&&◌, ◌||◌, ◌==◌, nat_le, if◌then◌else◌}
 use Rattle.std.specs.List.{AllByRecursion}
 use Rattle.std.proofs.lemmas.List.{length-append, take-append-drop, length-take-le, get_or_append_left, get_or-take}
 use Rattle.std.proofs.lemmas.List.Elements.{All-from_recursion, recursion_from_All, All-from_get_or}
-use Rattle.std.proofs.lemmas.Bool.{le-leb, cases_lt}
+use Rattle.std.proofs.lemmas.Bool.{le-leb, lt-leb, ne_eqb, and_from, and_left, or_left, or_right, or_from, cases_lt}
 use Rattle.esto_text.specs.declared.scan.Class.{Class}
 use Rattle.esto_text.specs.declared.scan.Class.TheVariants.{Digit, Word}
 use Rattle.esto_text.specs.declared.token.TokenKind.{TokenKind}
@@ -58,18 +58,21 @@ abbrev pub kind_of : List ℕ → TokenKind
 kind_of [] = Stray
 kind_of (b ∷ u) = if is_letter b then Name else (if is_digit b then Number else sign_kind b u)
 
+a_letter : (b : ℕ) (u : List ℕ) → is_letter b ≡ true → kind_of (b ∷ u) ≡ Name
+a_letter b u is = ap (λ (test : Bool). cond test Name (cond (is_digit b) Number (sign_kind b u))) is
+
 letter_kind : (b : ℕ) (u : List ℕ) → IsLetter b → kind_of (b ∷ u) ≡ Name
-letter_kind b u (inl h) = let p : leb 65 b ≡ true = le-leb 65 b h.0 in let q : leb b 90 ≡ true = le-leb b 90 h.1 in rw (p, q) refl
-letter_kind b u (inr h) =
-    let p : leb 97 b ≡ true = le-leb 97 b h.0 in let q : leb b 122 ≡ true = le-leb b 122 h.1 in
-    let r : is_letter b ≡ true = grind arith in rw r refl
+letter_kind b u (inl h) = a_letter b u (or_left _ _ (and_from _ _ (le-leb 65 b h.0) (le-leb b 90 h.1)))
+letter_kind b u (inr h) = a_letter b u (or_right _ _ (and_from _ _ (le-leb 97 b h.0) (le-leb b 122 h.1)))
 
 digit_kind : (b : ℕ) (u : List ℕ) → IsDigit b → kind_of (b ∷ u) ≡ Number
 digit_kind b u h =
-    let r : is_letter b ≡ false = grind arith in let s : is_digit b ≡ true = grind arith in rw (r, s) refl
+    let none : is_letter b ≡ false = or_from _ _ (and_left _ _ (lt-leb 65 b (omega (arith, h.1)))) (and_left _ _ (lt-leb 97 b (omega (arith, h.1)))) in
+    ap (λ (test : Bool). cond test Name (cond (is_digit b) Number (sign_kind b u))) none
+    ∙ ap (λ (test : Bool). cond test Number (sign_kind b u)) (and_from _ _ (le-leb 48 b h.0) (le-leb b 57 h.1))
 
 minus_kind : (b : ℕ) (u : List ℕ) → IsDigit b → kind_of (45 ∷ b ∷ u) ≡ Number
-minus_kind b u h = let r : eqb b 62 ≡ false = grind arith in rw r refl
+minus_kind b u h = ap (λ (test : Bool). cond test Arrow Number) (ne_eqb b 62 (λ e. omega (arith, h.1, e)))
 
 pub kind_is : (k : TokenKind) (t a : List ℕ) → IsLexeme k t a → kind_of t ≡ k
 kind_is Name t a h = ap kind_of h.is ∙ letter_kind h.first h.others h.letter
@@ -136,8 +139,7 @@ minus_is rest free k [] a e p = sym p
 minus_is [] free k (x ∷ u) a e p = absurd cc
 minus_is (y ∷ rest) free k (x ∷ u) a e p =
     let same : x ≡ y = cc in
-    let r : eqb x 62 ≡ false = grind (arith, free (omega arith), same) in
-    sym p ∙ rw r refl
+    sym p ∙ ap (λ (test : Bool). cond test Arrow Number) (ne_eqb x 62 (λ e. free (omega arith) (sym same ∙ e)))
 
 minus_max : (rest : List ℕ) (n : ℕ) → (0 < length rest → get_or rest 0 0 ≢ 62) → (n < length rest → ¬ IsIn Digit (get_or rest n 0))
     → (k : TokenKind) (t a : List ℕ) → t ++ a ≡ 45 ∷ rest → IsLexeme k t a → (0 < n) × (length t ≤ n + 1)

@@ -1,5 +1,5 @@
 -- Steps and paths, as the readers take them.
-use Rattle.std.proofs.Common.{◌≡◌, ◌≢◌, ℕ, List, [], ◌∷◌, ◌++◌, length, drop, inl, inr, refl, sym, ap, ◌∙◌, append_assoc}
+use Rattle.std.proofs.Common.{◌≡◌, ◌≢◌, ◌≤◌, ℕ, arith, List, [], ◌∷◌, ◌++◌, length, drop, inl, inr, refl, sym, ap, ◌∙◌, append_assoc}
 use Rattle.std.proofs.lemmas.List.{append-nil}
 use Rattle.esto_text.specs.declared.stop.Stop.{Stop}
 use Rattle.esto_text.specs.declared.stop.Stop.TheVariants.{Syntax}
@@ -18,6 +18,11 @@ use Rattle.esto_text.proofs.RowLemmas.{fails_along, fails_here, NoStep, not_next
 pub next_is : (ts : List Token) (k : TokenKind) → class_at ts ≡ k → (class_at [] ≡ k → ⊥) → (t : Token) × (ts ≡ t ∷ drop 1 ts) × (class_of t ≡ k)
 next_is [] k e n = absurd (n e)
 next_is (t ∷ ts) k e n = (t, refl, e)
+
+-- there is a next token, where its class is known
+pub some_next : (ts : List Token) (k : TokenKind) → class_at ts ≡ k → (class_at [] ≡ k → ⊥) → 1 ≤ length ts
+some_next [] k e n = absurd (n e)
+some_next (t ∷ ts) k e n = omega arith
 
 -- no step stands there
 abbrev pub NoneStands : List Token → Stop → Type 0

@@ -151,6 +151,9 @@ module _ {X : Type 0} (Row : List X → List Token → Type 0) (from to : List S
     runs = h.runs ∙ runs;
   }
 
+  pub goes_begun : Goes Row from to tokens [] tokens true
+  goes_begun = record { front = []; split = refl; grows = λ xs ts h. h; runs = refl }
+
   pub goes_done : (so_far : List X) (rest : List Token) (more : Bool) → more ≡ false → Goes Row from to tokens so_far rest more → Takes (Row so_far) tokens rest
   goes_done so_far rest true f h = absurd cc
   goes_done so_far rest false f h = (h.front, h.split, h.grows)

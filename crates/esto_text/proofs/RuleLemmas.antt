@@ -1,7 +1,8 @@
 -- Constraints: the items of a body with its arrow, and a head.
 use Rattle.std.proofs.Common.{◌≡◌, ℕ, Bool, true, false, inl, inr, Some, None, List, [], ◌∷◌, ◌++◌, length, drop, refl, sym, ap, subst, ◌∙◌, append_assoc}
 use Rattle.std.specs.List.{AllByRecursion}
-use Rattle.std.specs.Prelude.{map}
+use Rattle.std.specs.Prelude.{◌↔◌, map, IsTrue}
+use Rattle.std.proofs.lemmas.Bool.{true≢false}
 use Rattle.std.proofs.lemmas.List.{append-nil}
 use Rattle.esto_text.specs.declared.stop.Stop.{Stop}
 use Rattle.esto_text.specs.declared.stop.Stop.TheVariants.{Syntax, OutOfMemory}
@@ -90,6 +91,29 @@ module _ (tokens rest : List Token) (name : Token) (h : Named tokens name rest) 
           here : (l : List Token) → ¬ (length l ≡ 0) → FailsAt [] l (Syntax (length l))
           here [] ne = absurd (ne refl)
           here (t ∷ ts) ne = (t ∷ ts, refl, refl)
+
+-- ---- a denial
+
+module _ {IsFalse : Token → Type 0} (tokens rest : List Token) (word : Token) (are : tokens ≡ word ∷ rest) where
+  -- a lone name is a denial where it is the word
+  pub is_lone : length rest ≡ 0 → class_at tokens ≡ Name → (told : Bool) → IsTrue told ↔ IsFalse word → IsTrue told ↔ IsHead IsFalse Never tokens
+  is_lone none name told (to, from) = (λ yes. (word, are ∙ ap (λ (l : List Token). word ∷ l) (nil rest none), sym (ap class_at are) ∙ name, to yes), back)
+    where
+      nil : (l : List Token) → length l ≡ 0 → l ≡ []
+      nil [] e = refl
+      nil (t ∷ l) e = absurd cc
+
+      back : IsHead IsFalse Never tokens → IsTrue told
+      back (other, alone, named, is) = let same : other ≡ word = cc (sym alone ∙ are) in from (subst IsFalse same is)
+
+  -- what is no lone name is no denial
+  pub is_not_lone : (told : Bool) → told ≡ false → (length rest ≡ 0 → class_at tokens ≡ Name → ⊥) → IsTrue told ↔ IsHead IsFalse Never tokens
+  is_not_lone told is_false not_lone = (
+    λ yes. absurd (true≢false (sym yes ∙ is_false)),
+    λ (other, alone, named, is).
+        let both : word ∷ rest ≡ other ∷ [] = sym are ∙ alone in
+        absurd (not_lone (ap (λ (l : List Token). length (drop 1 l)) both) (ap class_at alone ∙ named)),
+  )
 
 -- ---- the whole constraint
 

@@ -1,10 +1,23 @@
 -- What the loops over bytes keep.
 use Rattle.std.proofs.Common.{◌≡◌, ◌≢◌, ℕ, ◌+◌, ◌<◌, ◌≤◌, ◌⊎◌, inl, inr, Bool, true, false, eqb, List, [], ◌∷◌, ◌++◌, length, take, drop, get_or, Option, Some, None, refl, sym, ap, subst, ◌∙◌, append_assoc, arith}
 use Rattle.std.specs.List.{flat_map}
+use Rattle.std.specs.Prelude.{◌↔◌, IsTrue, MatchBool}
 use Rattle.std.proofs.lemmas.List.{append-nil, take_more, take_all, drop_all, take_at, length-append, take-append-drop, take-append-le}
-use Rattle.std.proofs.lemmas.Bool.{eqb-true, cases_lt}
+use Rattle.std.proofs.lemmas.Bool.{false≢true, eqb-true, cases_lt}
 use Rattle.esto_text.specs.Gaps.{IsGap, IsComment}
 use Rattle.esto_text.specs.Quotes.{written, closed, IsClosed, LongestClosed}
+
+-- ---- classes
+
+-- a test that tells which of two facts holds tells the first, where both can't hold
+pub told_apart : {P Q : Type 0} (told : Bool) → MatchBool told P Q → (P → Q → ⊥) → IsTrue told ↔ P
+told_apart true holds apart = (λ _. holds, λ _. refl)
+told_apart false other apart = (λ yes. absurd (false≢true yes), λ holds. absurd (apart holds other))
+
+-- what is within bounds is not beyond them
+pub not_beyond : (least most byte : ℕ) → (least ≤ byte) × (byte ≤ most) → (byte < least) ⊎ (most < byte) → ⊥
+not_beyond least most byte within (inl below) = omega (arith, within.0, below)
+not_beyond least most byte within (inr above) = omega (arith, within.1, above)
 
 -- one more byte at the front
 front_more : (bytes : List ℕ) (n : ℕ) (x : List ℕ) → n < length bytes → take (n + 1) bytes ++ x ≡ take n bytes ++ (get_or bytes n 0 ∷ x)

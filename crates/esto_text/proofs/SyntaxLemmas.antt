@@ -3,16 +3,24 @@ use Rattle.std.proofs.Common.{inl, ◌≡◌, ℕ, zero, suc, ◌+◌, ◌-◌, 
 use Rattle.std.specs.Prelude.{map}
 use Rattle.std.proofs.lemmas.List.{append-nil, length-append, map-append, drop-map}
 use Rattle.std.proofs.Math.Seq.{drop-append_seam}
+use Rattle.esto_text.specs.declared.fault.ReadError.{ReadError}
+use Rattle.esto_text.specs.declared.fault.ReadError.TheVariants.{Fault, OutOfMemory}
 use Rattle.esto_text.specs.declared.fault.TextKind.TheVariants as kind
 use Rattle.esto_text.specs.declared.stop.Stop.TheVariants.{Syntax}
 use Rattle.esto_text.specs.declared.token.Token.{Token}
-use Rattle.esto_text.specs.Faults.{IsViable, Leaves, StopsAt, place_of, IsTextOf, IsFaultOf, IsOnlyTree, IsGrammarFault, IsLayoutGrammarFault, IsUnionGrammarFault, HaveOneTree, HaveNoFault, HaveOneFault}
+use Rattle.esto_text.specs.Faults.{IsErrorOf, IsViable, Leaves, StopsAt, place_of, IsTextOf, IsFaultOf, IsOnlyTree, IsGrammarFault, IsLayoutGrammarFault, IsUnionGrammarFault, HaveOneTree, HaveNoFault, HaveOneFault}
 use Rattle.esto_text.specs.Grammar.{class_of, IsLayout, IsQuery, IsConstraint}
 use Rattle.esto_text.specs.Limits.{is_close, is_name, in_room, limited_row, limited, Reached, Nothing, Part, Head, reached_then, limited_token, limited_after, limited_union}
 use Rattle.esto_text.specs.Machine.{Symbol, start, constraint_start, layout_start, first_fault, FailsAt, ConstraintFails, UnionFails}
-use Rattle.esto_text.specs.Tokens.{AreTokens}
+use Rattle.esto_text.specs.Tokens.{AreTokens, IsTokenError}
 use Rattle.esto_text.proofs.Languages.{fault_is, constraint_fault_is, layout_fault_is}
 use Rattle.esto_text.proofs.Covering.{covers_unique}
+
+-- why there are no tokens is why there is no tree
+pub token_error : {T : Type 0} (IsTree : T → List Token → Type 0) (marked : List Token → List Token) (bytes : List ℕ) (error : ReadError)
+    → IsTokenError bytes error → IsErrorOf (IsFaultOf IsTree marked) bytes error
+token_error IsTree marked bytes (Fault fault) is = inl is
+token_error IsTree marked bytes OutOfMemory is = is
 
 -- ---- places
 

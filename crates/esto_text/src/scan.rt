@@ -24,14 +24,9 @@ pub fn is_in(class: Class, byte: u8) -> bool
     ensures { IsTrue result ↔ IsIn class byte }
 {
     match class {
-        Class::Letter => (b'A' <= byte && byte <= b'Z') || (b'a' <= byte && byte <= b'z'),
-        Class::Digit => b'0' <= byte && byte <= b'9',
-        Class::Word => {
-            (b'A' <= byte && byte <= b'Z')
-                || (b'a' <= byte && byte <= b'z')
-                || (b'0' <= byte && byte <= b'9')
-                || byte == b'_'
-        }
+        Class::Letter => byte.is_ascii_alphabetic(),
+        Class::Digit => byte.is_ascii_digit(),
+        Class::Word => byte.is_ascii_alphanumeric() || byte == b'_',
         Class::Blank => byte == b' ' || byte == b'\t' || byte == b'\r' || byte == b'\n',
     }
 }

@@ -1,10 +1,11 @@
 use Rattle.std.proofs.Common.{◌<◌, ◌∷◌, [], length, arith, ap, sym, ◌∙◌}
+use Rattle.std.proofs.lemmas.Bool.{true≢false}
 use Rattle.std.proofs.lemmas.List.{length-drop}
 use Rattle.std.proofs.lemmas.Result.{err_from_is_err_and}
 use Rattle.esto_text.specs.Machine.{AnEntry, MoreEntries}
-use Rattle.esto_text.proofs.RowLemmas.{row_fails, goes_done}
+use Rattle.esto_text.proofs.RowLemmas.{row_fails, goes_begun, goes_done}
 use Rattle.esto_text.proofs.GroupLemmas.{AreGroup, entry_fails, entry_end_fails, entry_more, entry_term, entry_group, entry_group_fails, entry_term_fails, entry_end_stops, entry_too_deep, value_entry, group_entry}
-use Rattle.esto_text.proofs.PathLemmas.{next_is}
+use Rattle.esto_text.proofs.PathLemmas.{next_is, some_next}
 use Rattle.esto_text.specs.declared.token.TokenKind.TheVariants.{Colon, LeftBrace}
 use Rattle.esto_text.proofs.groups.+group.Goals as goal
 
@@ -91,3 +92,34 @@ pub entry-returns-in_ok-entries-in-LeftBrace-clause-shorter : goal.entry-returns
 entry-returns-in_ok-entries-in-LeftBrace-clause-shorter t c =
     let some = rw c.split_at-in-LeftBrace.ensures.back at c.in_ok-entries-in-LeftBrace.ensures.shorter in
     omega (arith, c.in_ok-path.ensures.shorter, some, length-drop 1 c.in_ok-path.rest.now)
+
+pub group-entries-init : goal.group-entries-init
+group-entries-init t c = record {
+  left = omega arith;
+  goes = rw c.new-entries.ensures (λ s. goes_begun (AreGroup c.args.depth) _ s c.args.tokens.now);
+  shorter = λ e. absurd (true≢false e);
+}
+
+pub group-entries-smaller : goal.group-entries-smaller
+group-entries-smaller t c = omega (arith, c.in_ok-entry.ensures.shorter, ap length c.in_ok-more.ensures.ok.1)
+
+pub group-returns-clause-shorter : goal.group-returns-clause-shorter
+group-returns-clause-shorter t c = c.entries.invariant.shorter c.entries-test.false
+
+pub group-returns-in_err-push-clause-err : goal.group-returns-in_err-push-clause-err
+group-returns-in_err-push-clause-err t c =
+    let p = err_from_is_err_and c.from_residual-in_err-push.result c.from_residual-in_err-push.ensures.1 in rw (p.1, p.2) (λ s. tt)
+
+pub entry-split_at-requires : goal.entry-split_at-requires
+entry-split_at-requires t c = some_next c.in_ok-path.rest.now Colon (sym c.in-Colon.ensures) (λ z. cc)
+
+pub entry-split_at-requires-in-LeftBrace : goal.entry-split_at-requires-in-LeftBrace
+entry-split_at-requires-in-LeftBrace t c = some_next c.in_ok-path.rest.now LeftBrace (sym c.in-LeftBrace.ensures) (λ z. cc)
+
+pub entry-group-requires : goal.entry-group-requires
+entry-group-requires t c =
+    let rest = ap length c.split_at-in-LeftBrace.ensures.back in
+    (omega (arith, c.decreases, c.in_ok-path.ensures.shorter, rest, length-drop 1 c.in_ok-path.rest.now), tt)
+
+pub group-entry-requires : goal.group-entry-requires
+group-entry-requires t c = (omega (arith, c.decreases, c.entries.invariant.left), tt)

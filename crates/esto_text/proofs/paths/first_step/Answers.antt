@@ -1,6 +1,7 @@
 use Rattle.std.proofs.Common.{sym, ◌∙◌}
 use Rattle.std.proofs.lemmas.Result.{err_from_is_err_and}
-use Rattle.esto_text.proofs.PathLemmas.{brackets_taken, first_brackets, first_next, first_fails}
+use Rattle.esto_text.proofs.PathLemmas.{some_next, brackets_taken, first_brackets, first_next, first_fails}
+use Rattle.esto_text.specs.declared.token.TokenKind.TheVariants.{LeftBracket}
 use Rattle.esto_text.proofs.paths.first_step.Goals as goal
 
 pub returns-in_ok-rest-in-LeftBracket-clause-ok : goal.returns-in_ok-rest-in-LeftBracket-clause-ok
@@ -16,3 +17,6 @@ returns-in_err-step-in_default-clause-err c =
 pub returns-in_ok-step-in_default-clause-ok : goal.returns-in_ok-step-in_default-clause-ok
 returns-in_ok-step-in_default-clause-ok c = first_next c.args.tokens.now c.in_ok-step-in_default.rest.now c.in_ok-step-in_default.step
     c.in_ok-step-in_default.ensures.ok
+
+pub split_at-requires : goal.split_at-requires
+split_at-requires c = some_next c.args.tokens.now LeftBracket (sym c.in-LeftBracket.ensures) (λ z. cc)

@@ -1,6 +1,7 @@
 use Rattle.std.proofs.Common.{sym}
 use Rattle.std.proofs.lemmas.Result.{err_from_is_err_and}
-use Rattle.esto_text.proofs.PathLemmas.{brackets_taken, later_brackets, later_next, dot_fails}
+use Rattle.esto_text.proofs.PathLemmas.{some_next, brackets_taken, later_brackets, later_next, dot_fails}
+use Rattle.esto_text.specs.declared.token.TokenKind.TheVariants.{LeftBracket, Dot}
 use Rattle.esto_text.proofs.paths.later_step.Goals as goal
 
 pub returns-in_err-step-in-Dot-clause-err : goal.returns-in_err-step-in-Dot-clause-err
@@ -17,3 +18,9 @@ pub returns-in_ok-step-in-Dot-clause-ok : goal.returns-in_ok-step-in-Dot-clause-
 returns-in_ok-step-in-Dot-clause-ok c =
     later_next c.args.tokens.now c.in_ok-step-in-Dot.rest.now c.in_ok-step-in-Dot.step (sym c.in-Dot.ensures)
     (rw c.split_at-in-Dot.ensures.back at c.in_ok-step-in-Dot.ensures.ok)
+
+pub split_at-requires : goal.split_at-requires
+split_at-requires c = some_next c.args.tokens.now LeftBracket (sym c.in-LeftBracket.ensures) (λ z. cc)
+
+pub split_at-requires-in-Dot : goal.split_at-requires-in-Dot
+split_at-requires-in-Dot c = some_next c.args.tokens.now Dot (sym c.in-Dot.ensures) (λ z. cc)

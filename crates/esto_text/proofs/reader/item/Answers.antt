@@ -1,6 +1,8 @@
 use Rattle.std.proofs.Common.{sym, ◌∙◌}
 use Rattle.std.proofs.lemmas.Result.{err_from_is_err_and}
 use Rattle.esto_text.proofs.ItemLemmas.{item_name_fails, item_rest_stops, item_shorter, item_terms, item_terms_fails, item_group, item_group_fails}
+use Rattle.esto_text.specs.declared.token.TokenKind.TheVariants.{LeftParen, LeftBrace}
+use Rattle.esto_text.proofs.PathLemmas.{some_next}
 use Rattle.esto_text.proofs.reader.item.Goals as goal
 
 pub returns-in_err-terms-in-LeftParen-clause-err : goal.returns-in_err-terms-in-LeftParen-clause-err
@@ -58,3 +60,9 @@ returns-in-Dot-clause-shorter c = rw c.in_ok-name.ensures.ok.0 c.part.ensures.sh
 
 pub returns-in-Dot-clause-err : goal.returns-in-Dot-clause-err
 returns-in-Dot-clause-err c = rw c.in_ok-name.ensures.ok.0 c.part.ensures.err
+
+pub split_at-requires : goal.split_at-requires
+split_at-requires c = some_next c.in_ok-name.rest.now LeftParen (sym c.in-LeftParen.ensures) (λ z. cc)
+
+pub split_at-requires-in-LeftBrace : goal.split_at-requires-in-LeftBrace
+split_at-requires-in-LeftBrace c = some_next c.in_ok-name.rest.now LeftBrace (sym c.in-LeftBrace.ensures) (λ z. cc)

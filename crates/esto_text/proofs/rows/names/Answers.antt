@@ -1,6 +1,9 @@
-use Rattle.std.proofs.Common.{[], ◌∷◌, ◌++◌, ◌≡◌, ◌-◌, suc, arith, length}
+use Rattle.std.proofs.Common.{[], ◌∷◌, ◌++◌, ◌≡◌, ◌-◌, suc, arith, length, ap}
 use Rattle.std.proofs.lemmas.List.{length-append}
 use Rattle.std.proofs.lemmas.Result.{err_from_is_err_and}
+use Rattle.esto_text.specs.Grammar.{IsName, IsRow}
+use Rattle.esto_text.specs.Limits.{limited_row}
+use Rattle.esto_text.proofs.RowLemmas.{goes_begun}
 use Rattle.esto_text.proofs.HeadLemmas.{head_fails, head_full_fails, head_name_fails, head_end_fails, head_next, head_done}
 use Rattle.esto_text.proofs.rows.names.Goals as goal
 
@@ -31,3 +34,13 @@ names-preserved c =
 
 pub returns-clause-ok : goal.returns-clause-ok
 returns-clause-ok c = head_done _ _ _ c.names.rest.now c.names.more c.names.invariant c.names-test.false
+
+pub names-init : goal.names-init
+names-init c = rw c.new-names.ensures (λ s. goes_begun (IsRow IsName) _ s (limited_row 32 c.args.tokens.now))
+
+pub returns-in_err-push-clause-err : goal.returns-in_err-push-clause-err
+returns-in_err-push-clause-err c =
+    let p = err_from_is_err_and c.from_residual-in_err-push.result c.from_residual-in_err-push.ensures.1 in rw (p.1, p.2) (λ s. tt)
+
+pub names-smaller : goal.names-smaller
+names-smaller c = omega (arith, ap length c.in_ok-name.ensures.ok.0, ap length c.in_ok-more.ensures.ok.1)

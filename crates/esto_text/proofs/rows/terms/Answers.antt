@@ -1,8 +1,8 @@
-use Rattle.std.proofs.Common.{◌∷◌, []}
+use Rattle.std.proofs.Common.{◌∷◌, [], arith, length, ap}
 use Rattle.std.proofs.lemmas.Result.{err_from_is_err_and}
 use Rattle.esto_text.specs.Grammar.{IsTerm, IsRow}
 use Rattle.esto_text.specs.Machine.{ATerm, MoreTerms}
-use Rattle.esto_text.proofs.RowLemmas.{row_fails, term_fails, term_end_fails, term_more, goes_done}
+use Rattle.esto_text.proofs.RowLemmas.{row_fails, term_fails, term_end_fails, term_more, goes_begun, goes_done}
 use Rattle.esto_text.proofs.rows.terms.Goals as goal
 
 pub returns-in_err-term-clause-err : goal.returns-in_err-term-clause-err
@@ -28,3 +28,13 @@ terms-preserved c =
 pub returns-clause-ok : goal.returns-clause-ok
 returns-clause-ok c = goes_done (IsRow IsTerm) (ATerm ∷ MoreTerms ∷ []) [] c.args.tokens.now c.terms.terms c.terms.rest.now c.terms.more c.terms-test.false
     (c.terms.invariant [])
+
+pub terms-init : goal.terms-init
+terms-init c = rw c.new-terms.ensures (λ s. goes_begun (IsRow IsTerm) _ s c.args.tokens.now)
+
+pub returns-in_err-push-clause-err : goal.returns-in_err-push-clause-err
+returns-in_err-push-clause-err c =
+    let p = err_from_is_err_and c.from_residual-in_err-push.result c.from_residual-in_err-push.ensures.1 in rw (p.1, p.2) (λ s. tt)
+
+pub terms-smaller : goal.terms-smaller
+terms-smaller c = omega (arith, ap length c.in_ok-term.ensures.ok.0, ap length c.in_ok-more.ensures.ok.1)

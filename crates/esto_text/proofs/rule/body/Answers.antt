@@ -1,6 +1,6 @@
 use Rattle.std.proofs.Common.{[]}
 use Rattle.std.proofs.lemmas.Result.{err_from_is_err_and}
-use Rattle.esto_text.proofs.RowLemmas.{row_fails, goes_done}
+use Rattle.esto_text.proofs.RowLemmas.{row_fails, goes_begun, goes_done}
 use Rattle.esto_text.proofs.RuleLemmas.{AreRuleItems, body_part, item_fails, item_end_fails, item_more}
 use Rattle.esto_text.proofs.rule.body.Goals as goal
 
@@ -25,3 +25,6 @@ items-preserved c =
 pub returns-clause-ok : goal.returns-clause-ok
 returns-clause-ok c = goes_done AreRuleItems body_part [] c.args.tokens.now c.items.items c.items.rest.now c.items.more c.items-test.false
     (c.items.invariant [])
+
+pub items-init : goal.items-init
+items-init c = rw c.new-items.ensures (λ s. goes_begun AreRuleItems _ s c.args.tokens.now)

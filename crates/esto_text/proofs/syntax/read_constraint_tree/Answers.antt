@@ -1,9 +1,10 @@
 use Rattle.std.proofs.Common.{sym, refl}
+use Rattle.std.proofs.lemmas.Result.{err_from_is_err_and}
 use Rattle.esto_text.specs.Faults.{IsFalse}
 use Rattle.esto_text.specs.Grammar.{IsConstraint}
 use Rattle.esto_text.specs.View.{constraint_of}
 use Rattle.esto_text.proofs.LeafLemmas.{tokens_stand, constraint_stands}
-use Rattle.esto_text.proofs.SyntaxLemmas.{constraint_left_fits, constraint_syntax_fault, only_tree}
+use Rattle.esto_text.proofs.SyntaxLemmas.{token_error, constraint_left_fits, constraint_syntax_fault, only_tree}
 use Rattle.esto_text.proofs.Unique.{constraint_one}
 use Rattle.esto_text.proofs.syntax.read_constraint_tree.Goals as goal
 
@@ -31,3 +32,11 @@ returns-clause-error c =
     rw c.syntax_error.ensures
     (constraint_syntax_fault (IsFalse c.args.version c.args.bytes.now) c.items-tokens.result.now c.in-Err-Syntax.left
     (rw c.in-Err-Syntax.field-0-is at c.in-Err-Syntax.ensures.err) c.args.bytes.now _ (rw (sym c.items-tokens.ensures) at c.in_ok-tokens.ensures.tokens) refl)
+
+pub returns-in-Ok-clause-tree : goal.returns-in-Ok-clause-tree
+returns-in-Ok-clause-tree c = (c.in_ok-tokens.tokens, c.in_ok-tokens.ensures.tokens, rw c.items-tokens.ensures at c.in-Ok.ensures.ok)
+
+pub returns-in_err-tokens-clause-error : goal.returns-in_err-tokens-clause-error
+returns-in_err-tokens-clause-error c =
+    let p = err_from_is_err_and c.from_residual.result c.from_residual.ensures.1 in
+    rw (p.1, p.2) (token_error (IsConstraint (IsFalse c.args.version c.args.bytes.now)) (λ tokens. tokens) c.args.bytes.now _ c.in_err-tokens.ensures.error)

@@ -1,6 +1,7 @@
 use Rattle.std.proofs.Common.{map, sym, refl}
+use Rattle.std.proofs.lemmas.Result.{err_from_is_err_and}
 use Rattle.esto_text.specs.View.{tree_of}
-use Rattle.esto_text.proofs.SyntaxLemmas.{union_left_fits, union_syntax_fault, only_tree}
+use Rattle.esto_text.proofs.SyntaxLemmas.{token_error, union_left_fits, union_syntax_fault, only_tree}
 use Rattle.esto_text.proofs.LeafLemmas.{union_stands}
 use Rattle.esto_text.proofs.UnionLemmas.{union_one}
 use Rattle.esto_text.specs.Grammar.{IsUnion}
@@ -23,3 +24,11 @@ pub returns-clause-error : goal.returns-clause-error
 returns-clause-error c =
     rw c.syntax_error.ensures (union_syntax_fault c.args.bytes.now c.items-tokens.result.now c.in-Err-Syntax.left _
     (rw (sym c.items-tokens.ensures) at c.in_ok-tokens.ensures.tokens) (rw c.in-Err-Syntax.field-0-is at c.in-Err-Syntax.ensures.err) refl)
+
+pub returns-in-Ok-clause-trees : goal.returns-in-Ok-clause-trees
+returns-in-Ok-clause-trees c = (c.in_ok-tokens.tokens, c.in_ok-tokens.ensures.tokens, rw c.items-tokens.ensures at c.in-Ok.ensures.ok)
+
+pub returns-in_err-tokens-clause-error : goal.returns-in_err-tokens-clause-error
+returns-in_err-tokens-clause-error c =
+    let p = err_from_is_err_and c.from_residual.result c.from_residual.ensures.1 in
+    rw (p.1, p.2) (token_error IsUnion limited_union c.args.bytes.now _ c.in_err-tokens.ensures.error)
