@@ -5,6 +5,7 @@ use Rattle.std.proofs.lemmas.Slice.Eq.{bytes_eq-Decides}
 use Rattle.std.specs.Str.{bytes_eq}
 use Rattle.esto_term.specs.declared.term.Term.{Term, out-Term}
 use Rattle.esto_term.specs.declared.term.Term.TheVariants.{Const, Plain, Made, outs-Made}
+use Rattle.esto_term.specs.Kinds.{IsConstant}
 use Rattle.esto_term.specs.Order.{frontier}
 
 -- ---- terms of two kinds are not equal
@@ -23,6 +24,13 @@ apart_Plain_Made left right n rule variable parts is other = (λ holds. absurd (
 -- the same the other way round
 pub apart_turned : (left right : Term) → IsTrue false ↔ (left ≡ right) → IsTrue false ↔ (right ≡ left)
 apart_turned left right apart = (λ holds. sym (apart.0 holds), λ same. apart.1 (sym same))
+
+-- and no constant
+pub no_constant_Plain : (term : Term) (n : ℕ) → term ≡ Plain n → IsTrue false ↔ IsConstant term
+no_constant_Plain term n is = (λ holds. absurd (cc), λ (bytes, other). absurd (cc))
+
+pub no_constant_Made : (term : Term) (rule variable : ℕ) (parts : List Term) → term ≡ Made rule variable parts → IsTrue false ↔ IsConstant term
+no_constant_Made term rule variable parts is = (λ holds. absurd (cc), λ (bytes, other). absurd (cc))
 
 -- ---- terms of one kind
 

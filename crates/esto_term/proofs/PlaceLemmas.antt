@@ -17,6 +17,11 @@ item_at items place thing within is = slice_get-get_or items place thing within 
 pub read_at : {X : Type 0} (xs ys : List X) → ys ≡ xs → (place : ℕ) (x : X) → place < length ys → x ≡ get_or ys place x → slice_get xs place ≡ Some x
 read_at xs ys same place x within is = subst (λ zs. slice_get zs place ≡ Some x) same (item_at ys place x within is)
 
+-- what is read of one place of two lists that are the same is the same
+pub same_read : {X : Type 0} (xs ys : List X) (place : ℕ) (x y : X) → place < length xs → x ≡ get_or xs place x → y ≡ get_or ys place y → xs ≡ ys → x ≡ y
+same_read xs ys place x y within here there same =
+    same_Some x y (sym (item_at xs place x within here) ∙ read_at xs ys (sym same) place y (subst (λ zs. place < length zs) same within) there)
+
 -- ---- one item more, and one item less
 
 -- the items before a place, and the one that is read there

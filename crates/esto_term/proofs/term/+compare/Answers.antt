@@ -1,8 +1,14 @@
 use Rattle.std.proofs.Common.{arith, sym, ◌∙◌}
+use Rattle.std.specs.Ordering.{nat_cmp}
+use Rattle.std.specs.Cmp.Lexicographic.{slice_cmp}
 use Rattle.esto_term.specs.Order.{term_cmp}
-use Rattle.esto_term.proofs.CompareLemmas.{kinds_answer, term_cmp-Const-Plain, term_cmp-Const-Made, term_cmp-Plain-Const, term_cmp-Plain-Made, term_cmp-Made-Const, term_cmp-Made-Plain, term_cmp-Made-Made}
+use Rattle.esto_term.proofs.CompareLemmas.{kinds_answer, term_cmp-Const-Const, term_cmp-Const-Plain, term_cmp-Const-Made, term_cmp-Plain-Const, term_cmp-Plain-Plain, term_cmp-Plain-Made, term_cmp-Made-Const, term_cmp-Made-Plain, term_cmp-Made-Made}
 use Rattle.esto_term.proofs.WalkLemmas.{rests-longer, rests-end, rests-decided, rests-alike}
 use Rattle.esto_term.proofs.term.+compare.Goals as goal
+
+pub Term::compare-returns-in-Const-other : goal.Term::compare-returns-in-Const-other
+Term::compare-returns-in-Const-other t c = kinds_answer _ _ _ _ _ c.in-Const.is c.in-Const-other.is
+    (term_cmp-Const-Const _ _ ∙ sym (c.cmp.ensures ∙ (λ i. slice_cmp nat_cmp (c.bytes.ensures.value i) (c.bytes-in-Const-other.ensures.value i))))
 
 pub Term::compare-returns-in-Plain-other : goal.Term::compare-returns-in-Plain-other
 Term::compare-returns-in-Plain-other t c = kinds_answer _ _ _ _ _ c.in-Const.is c.in-Plain-other.is (term_cmp-Const-Plain _ _)
@@ -12,6 +18,10 @@ Term::compare-returns-in-Made-other t c = kinds_answer _ _ _ _ _ c.in-Const.is c
 
 pub Term::compare-returns-in-Const-other-2 : goal.Term::compare-returns-in-Const-other-2
 Term::compare-returns-in-Const-other-2 t c = kinds_answer _ _ _ _ _ c.in-Plain.is c.in-Const-other-2.is (term_cmp-Plain-Const _ _)
+
+pub Term::compare-returns-in-Plain-other-2 : goal.Term::compare-returns-in-Plain-other-2
+Term::compare-returns-in-Plain-other-2 t c =
+    kinds_answer _ _ _ _ _ c.in-Plain.is c.in-Plain-other-2.is (term_cmp-Plain-Plain _ _ ∙ sym c.cmp-in-Plain-other-2.ensures)
 
 pub Term::compare-returns-in-Made-other-2 : goal.Term::compare-returns-in-Made-other-2
 Term::compare-returns-in-Made-other-2 t c = kinds_answer _ _ _ _ _ c.in-Plain.is c.in-Made-other-2.is (term_cmp-Plain-Made _ _ _ _)

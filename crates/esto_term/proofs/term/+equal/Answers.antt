@@ -1,7 +1,9 @@
-use Rattle.std.proofs.Common.{refl, sym, ◌∙◌, arith}
+use Rattle.std.proofs.Common.{◌++◌, ◌∷◌, [], length, refl, sym, ap, ◌∙◌, arith}
+use Rattle.std.proofs.lemmas.Bool.{false≢true}
 use Rattle.std.proofs.lemmas.Bool.Decides.{Decides-eqb}
 use Rattle.std.proofs.lemmas.List.{take_all}
 use Rattle.esto_term.proofs.EqualLemmas.{apart_Const_Plain, apart_Const_Made, apart_Plain_Made, apart_turned, tested, same_Const, same_Plain, same_Made, apart_variables, apart_rules}
+use Rattle.esto_term.proofs.PlaceLemmas.{same_read, take-item}
 use Rattle.esto_term.proofs.term.+equal.Goals as goal
 
 pub Term::equal-returns-in-Const-other : goal.Term::equal-returns-in-Const-other
@@ -46,6 +48,22 @@ Term::equal-returns-else-rule-rule_b t c = (
   λ holds. absurd (c.if-rule-rule_b.false ((Decides-eqb _ _).0 holds)),
   λ same. absurd (apart_rules _ _ _ _ _ _ _ _ c.in-Made.is c.in-Made-other-3.is c.if-rule-rule_b.false same),
 )
+
+pub equal_terms-returns-then-terms-others : goal.equal_terms-returns-then-terms-others
+equal_terms-returns-then-terms-others t c = (λ never. absurd (false≢true never), λ same. absurd (c.if-terms-others.true (ap length same)))
+
+pub equal_terms-returns-then-not-equal : goal.equal_terms-returns-then-not-equal
+equal_terms-returns-then-not-equal t c = (
+  λ never. absurd (false≢true never),
+  λ same. absurd (false≢true (sym c.if-not-equal.true ∙ c.equal.ensures.1
+      (same_read c.args.terms.now c.args.others.now c.terms.place _ _ c.terms-test.true c.index-terms-place.is c.index-others-place.is same))),
+)
+
+pub equal_terms-terms-preserved : goal.equal_terms-terms-preserved
+equal_terms-terms-preserved t c =
+    take-item c.args.terms.now c.terms.place _ c.terms-test.true c.index-terms-place.is
+    ∙ (λ i. c.terms.invariant i ++ c.equal.ensures.0 c.if-not-equal.false i ∷ [])
+    ∙ sym (take-item c.args.others.now c.terms.place _ (omega arith) c.index-others-place.is)
 
 pub equal_terms-returns : goal.equal_terms-returns
 equal_terms-returns t c = (
