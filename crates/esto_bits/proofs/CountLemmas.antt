@@ -1,8 +1,8 @@
 -- A set has as many numbers as its words have bits that are 1.
-use Rattle.std.proofs.Common.{◌≡◌, ◌≢◌, ℕ, zero, suc, ◌+◌, ◌*◌, ◌/◌, ◌%◌, ◌^◌, ◌<◌, ◌≤◌, Bool, true, false, List, [], ◌∷◌, length, drop, slice_index_or, count_ones, sum_by, add_comm, refl, sym, ap, ◌∙◌, inl, inr, arith}
+use Rattle.std.proofs.Common.{◌≡◌, ◌≢◌, ℕ, zero, suc, ◌+◌, ◌*◌, ◌/◌, ◌%◌, ◌^◌, ◌<◌, ◌≤◌, Bool, true, false, List, [], ◌∷◌, length, drop, slice_index_or, count_ones, sum_by, take, get_or, min, add_comm, refl, sym, ap, ◌∙◌, inl, inr, arith}
 use Rattle.std.proofs.Math.ListN.{drop_of_length-le}
 use Rattle.std.proofs.lemmas.Bool.{cases_lt}
-use Rattle.std.proofs.lemmas.List.Sums.{sum_by-drop_more}
+use Rattle.std.proofs.lemmas.List.Sums.{sum_by-drop_more, sum_by_more}
 use Rattle.std.proofs.lemmas.Nat.{div-add-mod', ones_cat, ones_le_self, shr-shr, zero_from_ones}
 use Rattle.std.proofs.lemmas.Nat.Bits.{bit_at-lt}
 use Rattle.std.specs.Int.{bit_at}
@@ -104,3 +104,9 @@ module _ (words : List ℕ) (count : ℕ) (row : List Bool) (keep : Keep words c
 
   pub size_is : ((place : ℕ) → slice_index_or words place 0 < 2 ^ 64) → sum_by count_ones words ≡ length (numbers row)
   size_is fits = sym (words_rest fits (length words) 0 (omega arith))
+
+-- ---- the bits of the words so far, or the greatest number where there are more, and those of one word more
+
+pub bits_more : (words : List ℕ) (place now new most : ℕ) → place < length words → now ≡ min (sum_by count_ones (take place words)) most
+    → new ≡ min (now + count_ones (get_or words place 0)) most → new ≡ min (sum_by count_ones (take (place + 1) words)) most
+bits_more words place now new most within so_far grows = omega (arith, sum_by_more count_ones words place 0 within)

@@ -102,7 +102,26 @@ module _ (small large : List ℕ) (at : ℕ) where
     λ none. says.1 (λ place _. none place),
   )
 
+-- where no word from a place up to the end has a bit that the other's word lacks, none from there on has one
+pub rest_lacks : (small large : List ℕ) (from at : ℕ) → length small ≡ length large → length small ≤ at
+    → ((place : ℕ) → from ≤ place → place < at → LacksNone small large place) → LackNoneFrom small large from
+rest_lacks small large from at same end before place after = elim (cases_lt place at) [
+  | inl early ↦ before place after early
+  | inr late ↦
+      let past : get_or small place 0 ≡ 0 = get_or_past small place 0 (omega (arith, end, late)) in
+      let large_past : get_or large place 0 ≡ 0 = get_or_past large place 0 (omega (arith, same, end, late)) in
+      (λ i. bit_and (past i) (large_past i)) ∙ sym past
+]
+
 -- ---- one word in each lane
+
+-- where P holds of no place from one up to the end, it holds of none from there on
+pub none_from : (words : List ℕ) (from at : ℕ) (P : ℕ → Type 0) → length words ≤ at → ((place : ℕ) → from ≤ place → place < at → ¬ (P place))
+    → IsTrue false ↔ SomePlaceFrom from words P
+none_from words from at P end none = (
+  λ no. absurd (false≢true no),
+  λ (place, after, inside, holds). absurd (none place after (omega (arith, end, inside)) holds),
+)
 
 -- a mask that isn't 0 has an answer that is yes
 found_in_mask : (answers : List Bool) → (mask_l answers ≡ 0 → ⊥) → (lane : ℕ) × (get_or answers lane false ≡ true)

@@ -1,8 +1,20 @@
-use Rattle.std.proofs.Common.{◌∙◌, sym}
+use Rattle.std.proofs.Common.{rules, ◌*◌, ◌<◌, ◌^◌, ◌∙◌, arith, length, sym}
 use Rattle.std.proofs.lemmas.Bool.{false≢true}
 use Rattle.esto_bits.specs.Words.{LackNoBit}
-use Rattle.esto_bits.proofs.LaneLemmas.{one_word_within, group_found, group_passed, no_group}
+use Rattle.esto_bits.proofs.LaneLemmas.{group_fits, one_word_within, group_found, group_passed, no_group}
 use Rattle.esto_bits.proofs.lanes.any_within.Goals as goal
+
+pub overflow_mul-at : goal.overflow_mul-at
+overflow_mul-at c =
+    let fits : length c.args.rows.now < 2 ^ 64 = search rules in
+    let room = group_fits c.args.rows.now c.args.width c.requires.width (λ part. LackNoBit part c.args.row.now) c.groups.group c.groups-test.true in
+    record { fits = omega (arith, fits, room) }
+
+pub offset_bounds-rows-at : goal.offset_bounds-rows-at
+offset_bounds-rows-at c =
+    let fits : length c.args.rows.now * 8 < 2 ^ 64 = search rules in
+    let room = group_fits c.args.rows.now c.args.width c.requires.width (λ part. LackNoBit part c.args.row.now) c.groups.group c.groups-test.true in
+    record { fits = omega (arith, fits, room) }
 
 pub returns-then-width-eq1-clause-within : goal.returns-then-width-eq1-clause-within
 returns-then-width-eq1-clause-within c =
@@ -21,3 +33,12 @@ groups-preserved c =
 pub returns-clause-within : goal.returns-clause-within
 returns-clause-within c =
     no_group c.args.rows.now c.args.width c.requires.width (λ part. LackNoBit part c.args.row.now) c.groups.group c.groups-test.false c.groups.invariant
+
+pub returns-then-width-eq1-clause-fits : goal.returns-then-width-eq1-clause-fits
+returns-then-width-eq1-clause-fits c = λ place. (c.type_inv.rows place).fits
+
+pub returns-then-row_within-clause-fits : goal.returns-then-row_within-clause-fits
+returns-then-row_within-clause-fits c = λ place. (c.type_inv.rows place).fits
+
+pub returns-clause-fits : goal.returns-clause-fits
+returns-clause-fits c = λ place. (c.type_inv.rows place).fits

@@ -18,3 +18,9 @@ blocks-2-preserved c = record {
 pub returns-clause-within : goal.returns-clause-within
 returns-clause-within c =
     rest_lacks_none c.args.small.now c.args.large.now c.blocks-2.at c.rest_within.result c.blocks-2.invariant.so_far c.rest_within.ensures
+
+pub returns-then-not-block_within-clause-fits : goal.returns-then-not-block_within-clause-fits
+returns-then-not-block_within-clause-fits c = λ place. (c.type_inv.small place).fits
+
+pub returns-clause-fits : goal.returns-clause-fits
+returns-clause-fits c = λ place. (c.type_inv.small place).fits

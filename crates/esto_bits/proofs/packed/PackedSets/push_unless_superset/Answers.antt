@@ -4,6 +4,9 @@ use Rattle.esto_bits.specs.Words.{AreWordsBelow, set_of}
 use Rattle.esto_bits.proofs.PackedLemmas.{passed_over, put_behind}
 use Rattle.esto_bits.proofs.packed.PackedSets.push_unless_superset.Goals as goal
 
+pub push-requires : goal.push-requires
+push-requires c = subst (AreWordsBelow c.words_at-words.result.now) c.requires.same_count c.words_at-words.ensures.below
+
 pub returns-then-row_within : goal.returns-then-row_within
 returns-then-row_within c =
     let words = c.words_at-words.result.now in

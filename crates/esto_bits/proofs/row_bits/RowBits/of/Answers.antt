@@ -8,6 +8,9 @@ pub insert_all-requires : goal.insert_all-requires
 insert_all-requires c = subst (λ count. All (λ number. number < count) c.args.numbers.now)
     (sym (ap length c.in_ok-set.ensures ∙ length-replicate c.args.atoms false)) c.requires
 
+pub returns-clause-count : goal.returns-clause-count
+returns-clause-count c = c.insert_all.ensures.count ∙ ap length c.in_ok-set.ensures ∙ length-replicate c.args.atoms false
+
 pub returns-clause-has : goal.returns-clause-has
 returns-clause-has c = λ number. (
   λ has. elim ((c.insert_all.ensures.has number).0 has) [
