@@ -1,2 +1,4 @@
 pub mod EntryLemmas
 pub mod CallLemmas
+pub mod SinkLemmas
+pub mod ReadLemmas

@@ -152,7 +152,6 @@ impl Shelf for MemoryShelf {
 
     /// Failed comes only at a call that is listed to fail and at a name that the shelf lacks, and there no other answer
     /// comes but OutOfMemory. That comes at each other call that is listed to be refused. Every fetch counts as a call.
-    #[tactic(auto, using(crate::proofs::CallLemmas::within_after))]
     fn fetch(&mut self, alloc: Global, name: &Text, limit: u64) -> Result<Bytes, ShelfError>
         requires { limit < 2 ^ 32 }
         ensures answer { Fetches (Some self.old.files) name.now limit
