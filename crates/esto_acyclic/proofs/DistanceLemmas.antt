@@ -48,6 +48,17 @@ pub record SunkSoFar (edges : List (ℕ × ℕ)) (old now : List ℕ) (fell : Bo
   pub less : fell ≡ true → sum now < sum old
   pub still : fell ≡ false → (place : ℕ) → place < done → FallsAt edges now place
 
+-- at the start of a round nothing has changed
+pub sunk_start : (edges : List (ℕ × ℕ)) (old : List ℕ) → IsWithin (length old) (Joins edges) → SunkSoFar edges old old false 0
+sunk_start edges old within = record {
+  same = refl;
+  within = within;
+  near = λ target near. near;
+  shrank = omega arith;
+  less = λ never. absurd (cc);
+  still = λ _ place below. absurd (omega arith);
+}
+
 module _ (edges : List (ℕ × ℕ)) (old now : List ℕ) (fell : Bool) (done from to : ℕ) (far : SunkSoFar edges old now fell done) (below : done < length edges)
     (is : slice_index_or edges done (0, 0) ≡ (from, to)) where
   edge : Joins edges from to

@@ -4,3 +4,4 @@ pub mod DistanceLemmas
 pub mod CycleLemmas
 pub mod SameLemmas
 pub mod EdgeLemmas
+pub mod PushLemmas

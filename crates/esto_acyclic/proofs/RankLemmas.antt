@@ -59,6 +59,18 @@ pub record RaisedSoFar (edges : List (ℕ × ℕ)) (old now : List ℕ) (rose : 
   pub more : rose ≡ true → sum old < sum now
   pub still : rose ≡ false → (place : ℕ) → place < done → RisesAt edges now place
 
+-- at the start of a round nothing has changed
+pub raised_start : (edges : List (ℕ × ℕ)) (old : List ℕ) → IsWithin (length old) (Joins edges) → AreReached (Joins edges) old
+    → RaisedSoFar edges old old false 0
+raised_start edges old within reached = record {
+  same = refl;
+  within = within;
+  reached = reached;
+  grew = omega arith;
+  more = λ never. absurd (cc);
+  still = λ _ place below. absurd (omega arith);
+}
+
 module _ (edges : List (ℕ × ℕ)) (old now : List ℕ) (rose : Bool) (done from to : ℕ) (far : RaisedSoFar edges old now rose done) (below : done < length edges)
     (is : slice_index_or edges done (0, 0) ≡ (from, to)) where
   edge : Joins edges from to

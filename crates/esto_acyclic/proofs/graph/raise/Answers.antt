@@ -1,5 +1,5 @@
 use Rattle.std.proofs.Common.{◌+◌, refl, sym, subst}
-use Rattle.esto_acyclic.proofs.RankLemmas.{RaisedSoFar, raised_within, raised_still, raised_more, raised_full}
+use Rattle.esto_acyclic.proofs.RankLemmas.{RaisedSoFar, raised_start, raised_within, raised_still, raised_more, raised_full}
 use Rattle.esto_acyclic.proofs.graph.raise.Goals.{in-Still, in-Rose}
 use Rattle.esto_acyclic.proofs.graph.raise.Goals as goal
 
@@ -20,6 +20,9 @@ pub returns-in-Full-clause-raises : goal.returns-in-Full-clause-raises
 returns-in-Full-clause-raises c =
     (raised_full c.args.edges.now c.args.ranks.now.items c.edges.ranks.items c.edges.rose c.edges.edge-index _ _ c.edges.invariant c.edges-test.true refl
     c.lift.new.ranks.items c.in-Full.ensures).0
+
+pub edges-init : goal.edges-init
+edges-init c = raised_start c.args.edges.now c.args.ranks.now.items c.requires.within c.requires.reached
 
 pub edges-preserved : goal.edges-preserved
 edges-preserved c = elim c.match-lift.branch [
