@@ -1,20 +1,22 @@
 -- Layouts: the first name that is no column's, and that a text has one pattern or one fault.
-use Rattle.std.proofs.Common.{◌≡◌, ℕ, ◌+◌, ◌<◌, ◌≤◌, inl, inr, List, [], ◌∷◌, ◌++◌, length, drop, get_or, refl, sym, ap, subst, ◌∙◌, append_assoc, arith}
-use Rattle.std.specs.Prelude.{Contains}
-use Rattle.std.proofs.lemmas.Bool.{cases_lt}
+use Rattle.std.proofs.Common.{◌≡◌, ℕ, ◌+◌, ◌<◌, ◌≤◌, inl, inr, Bool, true, false, not, List, [], ◌∷◌, ◌++◌, length, drop, get_or, Some, None, refl, sym, ap, subst, ◌∙◌, append_assoc, arith}
+use Rattle.std.specs.Prelude.{◌↔◌, IsTrue, Option, MatchOption, is_some, slice_get, Contains}
+use Rattle.std.proofs.lemmas.Bool.{cases_lt, false≢true}
 use Rattle.std.proofs.lemmas.List.Elements.{Contains-append_cases}
 use Rattle.std.proofs.lemmas.Option.{slice_get_within, get_or_from_slice_get}
-use Rattle.esto_term.proofs.ListLemmas.{Contains-head, Contains-nil, Contains-one, Contains-rest}
+use Rattle.esto_term.proofs.ListLemmas.{Contains-at, Contains-head, Contains-nil, Contains-one, Contains-rest}
 use Rattle.esto_docmodel.specs.Shapes.{entries_of as pattern_of}
 use Rattle.esto_docmodel.specs.declared.pattern.Pattern.{Pattern}
 use Rattle.esto_query.specs.declared.query.Name.{Name}
 use Rattle.esto_query.specs.declared.query.Name.TheVariants.{Given}
 use Rattle.esto_text.specs.Faults as text
+use Rattle.esto_text.specs.Tokens.{text_of}
 use Rattle.esto_text.specs.Trees.{EntryTrees}
 use Rattle.esto_text.specs.View.{entry_of, entries_of}
 use Rattle.esto_text.specs.declared.fault.TextFault.{TextFault}
 use Rattle.esto_text.specs.declared.fault.TextKind.TheVariants.{Unknown}
 use Rattle.esto_text.specs.declared.token.Token.{Token}
+use Rattle.esto_text.specs.declared.token.TokenKind.TheVariants as kind
 use Rattle.esto_text.specs.declared.tree.EntrySyntax.{EntrySyntax}
 use Rattle.esto_read.specs.Layouts.{AreColumns, entry_terms, terms_of, IsStranger, AreKnown, IsFirstStranger, IsLayoutReading, IsLayoutFault}
 use Rattle.esto_read.specs.Patterns.{AreEntries}
@@ -29,6 +31,16 @@ module _ (bytes : List ℕ) (columns : List Name) where
 
   pub one_known : (token : Token) → ¬ IsStranger bytes columns token → AreKnown bytes columns (token ∷ [])
   one_known token h other k = subst (λ (t : Token). ¬ IsStranger bytes columns t) (Contains-one token other k) h
+
+  -- a name is a stranger exactly where no column is found for it
+  pub stranger_told : (token : Token) → token.kind ≡ kind.Name → (found : Option ℕ)
+      → MatchOption found (¬ Contains columns (Given (text_of bytes token))) (λ number. slice_get columns number ≡ Some (Given (text_of bytes token)))
+      → (none : Bool) → is_some found ≡ not none → IsTrue none ↔ IsStranger bytes columns token
+  stranger_told token name None unknown true told = (λ _. (name, unknown), λ _. refl)
+  stranger_told token name None unknown false told = absurd (false≢true told)
+  stranger_told token name (Some number) known true told = absurd (false≢true (sym told))
+  stranger_told token name (Some number) known false told =
+      (λ none. absurd (false≢true none), λ stranger. absurd (stranger.1 (Contains-at columns number _ known)))
 
   pub one_stranger : (token : Token) → IsStranger bytes columns token
       → IsFirstStranger bytes columns (token ∷ []) (record { offset = token.start; kind = Unknown })

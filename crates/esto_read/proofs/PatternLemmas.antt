@@ -1,6 +1,6 @@
 -- Groups as patterns, an entry at a time.
-use Rattle.std.proofs.Common.{◌≡◌, ◌≢◌, ◌⊎◌, inl, inr, ℕ, zero, suc, ◌+◌, ◌-◌, ◌<◌, ◌≤◌, List, [], ◌∷◌, ◌++◌, map, length, take, drop, get_or, refl, sym, ap, subst, ◌∙◌, arith, append_assoc}
-use Rattle.std.specs.Prelude.{replicate}
+use Rattle.std.proofs.Common.{◌≡◌, ◌≢◌, ◌⊎◌, inl, inr, ℕ, zero, suc, ◌+◌, ◌-◌, ◌<◌, ◌≤◌, List, [], ◌∷◌, ◌++◌, map, length, take, drop, get_or, Some, None, refl, sym, ap, subst, ◌∙◌, arith, append_assoc}
+use Rattle.std.specs.Prelude.{Option, SomeIff, MatchOption, replicate}
 use Rattle.std.specs.List.{AllZip}
 use Rattle.std.proofs.lemmas.List.{take_more, map-append, drop_all, append-nil, length-append, length-replicate, replicate_more}
 use Rattle.std.proofs.lemmas.Slice.Zip.{all_zipped_more}
@@ -8,8 +8,13 @@ use Rattle.esto_term.proofs.PlaceLemmas.{drop-item}
 use Rattle.esto_docmodel.specs.Patterns.{Entries, done}
 use Rattle.esto_docmodel.specs.Shapes.{More, chain, entry_shape, entries_of as pattern_of}
 use Rattle.esto_docmodel.specs.declared.pattern.Entry.{Entry}
+use Rattle.esto_docmodel.specs.declared.pattern.Entry.TheVariants as pattern
+use Rattle.esto_docmodel.specs.declared.pattern.Step.{Step}
+use Rattle.esto_docmodel.proofs.ShapeLemmas.{entry-Value, entry-Group}
 use Rattle.esto_query.specs.declared.query.Name.{Name}
 use Rattle.esto_query.specs.declared.query.Name.TheVariants.{Hidden}
+use Rattle.esto_term.specs.declared.term.Term.{Term}
+use Rattle.esto_text.specs.Tokens.{text_of}
 use Rattle.esto_text.specs.Trees.{EntryTree, Value, Nested, EntryTrees, NoEntry, AndEntry, EachOfPath, EachOfEntry, EachOfEntries}
 use Rattle.esto_text.specs.View.{entry_of, entries_of}
 use Rattle.esto_text.specs.declared.token.Token.{Token}
@@ -19,9 +24,10 @@ use Rattle.esto_text.specs.declared.tree.EntrySyntax.{EntrySyntax}
 use Rattle.esto_text.specs.declared.tree.EntrySyntax.TheVariants as variants
 use Rattle.esto_text.specs.declared.tree.StepSyntax.{StepSyntax}
 use Rattle.esto_text.specs.declared.tree.StepSyntax.TheVariants.{Field, Item, Below}
-use Rattle.esto_text.proofs.GroupLemmas.{group_entry}
+use Rattle.esto_text.proofs.GroupLemmas.{value_entry, group_entry}
 use Rattle.esto_read.specs.Items.{entry_size, entries_size}
-use Rattle.esto_read.specs.Patterns.{AreEntries, Puts}
+use Rattle.esto_read.specs.Patterns.{IsStepOf, AreEntries, Puts}
+use Rattle.esto_read.specs.Terms.{IsTermOf}
 
 -- ---- what is left of a group
 
@@ -66,13 +72,23 @@ nested_weight entry path es read is same =
     ap (λ (z : EntrySyntax). entry_weight (entry_of z)) is ∙ ap entry_weight (group_entry path es)
     ∙ ap (λ (l : List EntrySyntax). suc (entries_weight (entries_of l))) (sym same)
 
--- what stands in an entry stands in its group
+-- what stands in a value stands in its path and its term
+pub value_stands : (F T : Token → Type 0) (entry : EntrySyntax) (path : List StepSyntax) (term : Token) → entry ≡ variants.Value path term
+    → EachOfEntry F T (entry_of entry) → EachOfPath F path × T term
+value_stands F T entry path term is h =
+    subst (EachOfEntry F T) (value_entry path term) (subst (λ (z : EntrySyntax). EachOfEntry F T (entry_of z)) is h)
+
+-- what stands in an entry stands in its path and its group
+pub group_stands : (F T : Token → Type 0) (entry : EntrySyntax) (path : List StepSyntax) (es : List EntrySyntax) → entry ≡ variants.Group path es
+    → EachOfEntry F T (entry_of entry) → EachOfPath F path × EachOfEntries F T (entries_of es)
+group_stands F T entry path es is h =
+    subst (EachOfEntry F T) (group_entry path es) (subst (λ (z : EntrySyntax). EachOfEntry F T (entry_of z)) is h)
+
 pub nested_stands : (F T : Token → Type 0) (entry : EntrySyntax) (path : List StepSyntax) (es read : List EntrySyntax) → entry ≡ variants.Group path es
     → read ≡ es
     → EachOfEntry F T (entry_of entry) → EachOfEntries F T (entries_of read)
 nested_stands F T entry path es read is same h =
-    subst (λ (l : List EntrySyntax). EachOfEntries F T (entries_of l)) (sym same)
-    (subst (EachOfEntry F T) (group_entry path es) (subst (λ (z : EntrySyntax). EachOfEntry F T (entry_of z)) is h)).1
+    subst (λ (l : List EntrySyntax). EachOfEntries F T (entries_of l)) (sym same) (group_stands F T entry path es is h).1
 
 -- ---- entries in a row
 
@@ -113,6 +129,18 @@ module _ (bytes : List ℕ) (before : List Name) (es : List EntrySyntax) where
   entries_end n it names so_far le =
       let whole = so_far done names (subst (λ (l : EntryTrees). AreEntries bytes names l done names) (sym (rest_done es n le)) refl) in
       subst (λ (p : Entries). AreEntries bytes before (entries_of es) p names) (before_none (map entry_shape it)) whole
+
+-- ---- what an entry puts
+
+module _ (bytes : List ℕ) (before after : List Name) (entry : EntrySyntax) (path : List StepSyntax) (steps : List Step)
+    (are : AllZip (IsStepOf bytes) path steps) where
+  pub value_puts : (token : Token) (term : Term) → entry ≡ variants.Value path token → IsTermOf token.kind (text_of bytes token) before term after
+      → Puts bytes before (entry_of entry) (entry_shape (pattern.Value steps term)) after
+  value_puts token term is put others rest end h = rw (is, value_entry, entry-Value) (after, are, put, h)
+
+  pub group_puts : (es : List EntrySyntax) (inner : List Entry) → entry ≡ variants.Group path es → AreEntries bytes before (entries_of es) (pattern_of inner) after
+      → Puts bytes before (entry_of entry) (entry_shape (pattern.Group steps inner)) after
+  group_puts es inner is put others rest end h = rw (is, group_entry, entry-Group) (after, are, put, h)
 
 -- ---- paths
 
@@ -178,6 +206,18 @@ module _ (es : List EntrySyntax) (room n left : ℕ) (h : RoomSoFar es room n le
 
     pub room_none : left < entry_size (entry_of x) → room < entries_size (entries_of es)
     room_none less = omega (arith, h, here, less)
+
+-- what is left of the room behind a path, for a term
+pub room_for_term : (room steps left : ℕ) (result : Option ℕ) → room ≡ left + steps → SomeIff result (1 ≤ left) (left - 1)
+    → MatchOption result (room < suc steps) (λ last. room ≡ last + suc steps)
+room_for_term room steps left None is h = omega (arith, is, h)
+room_for_term room steps left (Some last) is h = omega (arith, is, h)
+
+-- and for a group
+pub room_for_group : (room steps left size : ℕ) (result : Option ℕ) → room ≡ left + steps → MatchOption result (left < size) (λ last. left ≡ last + size)
+    → MatchOption result (room < steps + size) (λ last. room ≡ last + (steps + size))
+room_for_group room steps left size None is h = omega (arith, is, h)
+room_for_group room steps left size (Some last) is h = omega (arith, is, h)
 
 -- ---- fields
 

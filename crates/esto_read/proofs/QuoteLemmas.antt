@@ -32,7 +32,7 @@ module _ (inside : List ℕ) (n : ℕ) (content : List ℕ) where
   said_pair b on lt h =
       let left : drop n inside ≡ 39 ∷ flat_map written h.rest = subst (λ (x : Bool). Left x (drop n inside) h.rest) on h.left in
       let cut : get_or inside n 0 ∷ drop (n + 1) inside ≡ 39 ∷ flat_map written h.rest = rw (add-one n) (sym (drop-cons inside n 0 lt) ∙ left) in
-      record { rest = h.rest; whole = h.whole; left = cc }
+      record { rest = h.rest; whole = h.whole; left = ap (drop 1) cut }
 
   pub said_more : (b : Bool) → b ≡ false → n < length inside → SaidSoFar inside n content b
       → SaidSoFar inside (n + 1) (content ++ get_or inside n 0 ∷ []) (eqb (get_or inside n 0) 39)
@@ -48,8 +48,8 @@ module _ (inside : List ℕ) (n : ℕ) (content : List ℕ) where
           elim (written_cases x) [
             | inl w ↦
                 let two : get_or inside n 0 ∷ drop (n + 1) inside ≡ 39 ∷ 39 ∷ flat_map written xs = cut ∙ ap (λ (l : List ℕ). l ++ flat_map written xs) w.2 in
-                let first : get_or inside n 0 ≡ x = cc in
-                let second : drop (n + 1) inside ≡ 39 ∷ flat_map written xs = cc in
+                let first : get_or inside n 0 ≡ x = ap (λ (l : List ℕ). get_or l 0 0) two ∙ sym w.0 in
+                let second : drop (n + 1) inside ≡ 39 ∷ flat_map written xs = ap (drop 1) two in
                 record {
                   rest = xs;
                   whole = same (get_or inside n 0) first;
@@ -58,8 +58,8 @@ module _ (inside : List ℕ) (n : ℕ) (content : List ℕ) where
                 }
             | inr w ↦
                 let one : get_or inside n 0 ∷ drop (n + 1) inside ≡ x ∷ flat_map written xs = cut ∙ ap (λ (l : List ℕ). l ++ flat_map written xs) w.1 in
-                let first : get_or inside n 0 ≡ x = cc in
-                let second : drop (n + 1) inside ≡ flat_map written xs = cc in
+                let first : get_or inside n 0 ≡ x = ap (λ (l : List ℕ). get_or l 0 0) one in
+                let second : drop (n + 1) inside ≡ flat_map written xs = ap (drop 1) one in
                 record {
                   rest = xs;
                   whole = same (get_or inside n 0) first;

@@ -1,6 +1,6 @@
 -- Queries from their parts.
 use Rattle.std.proofs.Common.{IsUtf8, take, get_or, ◌≡◌, ◌≢◌, ℕ, ◌≤◌, inl, inr, List, [], ◌∷◌, length, Some, refl, sym, ap, subst, ◌∙◌, arith}
-use Rattle.std.specs.Prelude.{All, Contains, AllPairs, slice_get}
+use Rattle.std.specs.Prelude.{map, All, Contains, AllPairs, slice_get}
 use Rattle.std.specs.List.{AllByRecursion, AllZip}
 use Rattle.std.proofs.lemmas.List.{length-append, get_or-take, length-take-le}
 use Rattle.std.proofs.lemmas.List.Elements.{Contains-append_cases}
@@ -15,17 +15,20 @@ use Rattle.esto_term.proofs.ListLemmas.{Contains-nil, Contains-one}
 use Rattle.esto_term.proofs.ZipLemmas.{zip_read, zip_right}
 use Rattle.esto_term.specs.declared.term.Term.{Term}
 use Rattle.esto_term.specs.declared.term.Term.TheVariants.{Const, Plain}
-use Rattle.esto_text.specs.Faults.{IsNameIn, IsFieldIn, IsTermIn, StandsAt, IsQueryText}
+use Rattle.esto_text.specs.Faults.{IsNameIn, IsFieldIn, IsTermIn, StandsAt, IsQueryText, IsErrorOf, IsGrammarFault}
 use Rattle.esto_text.specs.Grammar.{IsName, IsRow, IsBody, IsQuery}
 use Rattle.esto_text.specs.Tokens.{text_of}
 use Rattle.esto_text.specs.Trees.{ItemTree, Atom, Part, Pattern, QueryTree, EachOfItem}
+use Rattle.esto_text.specs.View.{item_of, tree_of}
 use Rattle.esto_text.specs.declared.fault.ReadError.{ReadError}
 use Rattle.esto_text.specs.declared.fault.ReadError.TheVariants.{Fault, OutOfMemory}
 use Rattle.esto_text.specs.declared.token.Token.{Token}
+use Rattle.esto_text.specs.declared.tree.ItemSyntax.{ItemSyntax}
+use Rattle.esto_text.specs.declared.tree.QuerySyntax.{QuerySyntax}
 use Rattle.esto_text.specs.declared.token.TokenKind.{TokenKind}
 use Rattle.esto_text.specs.declared.token.TokenKind.TheVariants as kind
 use Rattle.esto_read.specs.Heads.{AreDifferent, AreMentioned}
-use Rattle.esto_read.specs.Items.{IsAtomOf, IsItemOf, AreItems, IsBodyError}
+use Rattle.esto_read.specs.Items.{AreFitting, IsAtomOf, IsItemOf, AreItems, IsBodyError}
 use Rattle.esto_read.specs.Readings.{IsAllowed, HasVariables, HasParts, IsRead, IsTreeError, IsReadError}
 use Rattle.esto_read.specs.Terms.{IsVariableOf, IsTermOf, AreTerms}
 use Rattle.esto_read.specs.declared.read.Form.{Form}
@@ -133,6 +136,22 @@ module _ (words : List Word) (schema bytes : List ℕ) (u : IsUtf8 bytes) where
       head_texts = λ s k. (head_grows.1 (Const s) k).2 s refl;
     }
 
+-- what was read from lists that are the tree's is what the tree means
+pub is_read : (words : List Word) (schema bytes : List ℕ) (tree : QuerySyntax) (head : List Term) (body : List (Fact Term)) (names : List Name)
+    → (given : List Word) (start between : List Name) (variables : List Token) (items : List ItemSyntax)
+    → given ≡ words → start ≡ [] → variables ≡ tree.variables → items ≡ tree.items
+    → AreTerms bytes start variables head between → AreItems given schema bytes between (map item_of items) body names
+    → AreFitting given schema bytes 0 (map item_of items) → IsRead words schema bytes (tree_of tree) head body names
+is_read words schema bytes tree head body names given start between variables items w s v i terms atoms fits = record {
+  between = between;
+  head_terms = subst (λ (l : List Name). AreTerms bytes l tree.variables head between) s
+      (subst (λ (l : List Token). AreTerms bytes start l head between) v terms);
+  body_atoms = subst (λ (l : List Word). AreItems l schema bytes between (map item_of tree.items) body names) w
+      (subst (λ (l : List ItemSyntax). AreItems given schema bytes between (map item_of l) body names) i atoms);
+  fits = subst (λ (l : List Word). AreFitting l schema bytes 0 (map item_of tree.items)) w
+      (subst (λ (l : List ItemSyntax). AreFitting given schema bytes 0 (map item_of l)) i fits);
+}
+
 -- ---- variables of a head
 
 -- the term is the variable of that name
@@ -201,6 +220,11 @@ pub body_error : (form : Form) (words : List Word) (schema bytes : List ℕ) (tr
     → IsTreeError form words schema bytes tree e
 body_error form words schema bytes tree OutOfMemory h = tt
 body_error form words schema bytes tree (Fault f) h = inl h
+
+pub grammar_error : (form : Form) (words : List Word) (schema bytes : List ℕ) (e : ReadError) → IsErrorOf IsGrammarFault bytes e
+    → IsReadError form words schema bytes e
+grammar_error form words schema bytes OutOfMemory h = h
+grammar_error form words schema bytes (Fault f) h = inl h
 
 pub read_error : (form : Form) (words : List Word) (schema bytes : List ℕ) (tree : QueryTree) (e : ReadError) → IsQueryText bytes tree
     → IsTreeError form words schema bytes tree e → IsReadError form words schema bytes e

@@ -7,6 +7,12 @@ use Rattle.esto_read.proofs.rule.read_rule.Goals as goal
 pub said_rule-requires-clause-text : goal.said_rule-requires-clause-text
 said_rule-requires-clause-text c = (c.args.version, c.in_ok-tree.ensures.tree)
 
+pub said_rule-requires-clause-relations : goal.said_rule-requires-clause-relations
+said_rule-requires-clause-relations c = rw c.items.ensures c.requires.words.relations
+
+pub said_rule-requires-clause-stands : goal.said_rule-requires-clause-stands
+said_rule-requires-clause-stands c = c.in_ok-tree.ensures.tokens
+
 pub returns-clause-reading : goal.returns-clause-reading
 returns-clause-reading c =
     IfOk-weaker c.said_rule.result _ _ (λ rule said. (constraint_of c.in_ok-tree.tree, c.in_ok-tree.ensures.tree, said))

@@ -2,26 +2,39 @@ use Rattle.std.proofs.Common.{ap}
 use Rattle.std.specs.Prelude.{map}
 use Rattle.std.proofs.lemmas.Result.{err_from_is_err_and}
 use Rattle.esto_query.specs.Schemas.{arities_of}
+use Rattle.esto_text.specs.Trees.{Items, Equality}
 use Rattle.esto_text.specs.View.{item_of, head_of, constraint_of}
-use Rattle.esto_read.proofs.RuleLemmas.{tuple_parts, equality_parts, denial_parts, tuple_said, equality_said, denial_said, body_error, head_error, side_error}
+use Rattle.esto_read.proofs.RuleLemmas.{name_is_term, head_stands, tuple_parts, equality_parts, denial_parts, tuple_said, equality_said, denial_said, body_error, head_error, side_error}
 use Rattle.esto_read.proofs.rule.said_rule.Goals as goal
 
--- ---- errors of items
+-- ---- where an error is handed on
 
-pub returns-in_err-atoms-clause-error : goal.returns-in_err-atoms-clause-error
-returns-in_err-atoms-clause-error c =
+pub returns-in_err-atoms : goal.returns-in_err-atoms
+returns-in_err-atoms c =
     let p = err_from_is_err_and c.from_residual.result c.from_residual.ensures.1 in
-    rw (p.1, p.2)
-    (body_error c.args.words.now (arities_of c.args.schema.now) c.args.bytes.now (constraint_of c.args.tree.now) _
-    (rw c.items.ensures at c.in_err-atoms.ensures.err))
+    rw (p.1, p.2) (record {
+      said = tt;
+      over = tt;
+      error = body_error c.args.words.now (arities_of c.args.schema.now) c.args.bytes.now (constraint_of c.args.tree.now) _
+          (rw c.items.ensures at c.in_err-atoms.ensures.err);
+    })
 
-pub returns-in_err-head-in-Items-clause-error : goal.returns-in_err-head-in-Items-clause-error
-returns-in_err-head-in-Items-clause-error c =
+pub returns-in_err-head-in-Items : goal.returns-in_err-head-in-Items
+returns-in_err-head-in-Items c =
     let p = err_from_is_err_and c.from_residual-in_err-head-in-Items.result c.from_residual-in_err-head-in-Items.ensures.1 in
-    rw (p.1, p.2)
-    (head_error c.args.words.now (arities_of c.args.schema.now) c.args.bytes.now (constraint_of c.args.tree.now)
-    (rw c.items.ensures at c.in_ok-atoms.ensures.fits)
-    (map item_of c.in-Items.items) (ap head_of c.in-Items.is) _ (rw c.items-in-Items.ensures at c.in_err-head-in-Items.ensures.err))
+    rw (p.1, p.2) (record {
+      said = tt;
+      over = tt;
+      error = head_error c.args.words.now (arities_of c.args.schema.now) c.args.bytes.now (constraint_of c.args.tree.now)
+          (rw c.items.ensures at c.in_ok-atoms.ensures.fits)
+          (map item_of c.in-Items.items) (ap head_of c.in-Items.is) _ (rw c.items-in-Items.ensures at c.in_err-head-in-Items.ensures.err);
+    })
+
+pub returns-in_err-left_term-in-Equality : goal.returns-in_err-left_term-in-Equality
+returns-in_err-left_term-in-Equality c =
+    let exit = c.from_residual-in_err-left_term-in-Equality.ensures.1 in
+    let p = err_from_is_err_and c.from_residual-in_err-left_term-in-Equality.result exit in
+    rw (p.1, p.2) (record { said = tt; over = tt; error = tt })
 
 -- ---- a tuple rule
 
@@ -103,3 +116,49 @@ returns-in-Never-clause-said c =
       body_atoms = rw (c.new-names.ensures, c.items.ensures) at c.in_ok-atoms.ensures.ok;
       body_fits = rw c.items.ensures at c.in_ok-atoms.ensures.fits;
     })
+
+-- ---- what the parts require
+
+pub body-requires-clause-utf8 : goal.body-requires-clause-utf8
+body-requires-clause-utf8 c = c.requires.text.1.1.0
+
+pub body-requires-clause-stand : goal.body-requires-clause-stand
+body-requires-clause-stand c = rw c.items.ensures c.requires.stands.0
+
+pub body-requires-clause-relations : goal.body-requires-clause-relations
+body-requires-clause-relations c = c.requires.relations
+
+pub body-requires-in-Items-clause-utf8 : goal.body-requires-in-Items-clause-utf8
+body-requires-in-Items-clause-utf8 c = c.requires.text.1.1.0
+
+pub body-requires-in-Items-clause-stand : goal.body-requires-in-Items-clause-stand
+body-requires-in-Items-clause-stand c =
+    rw c.items-in-Items.ensures (head_stands c.args.bytes.now (constraint_of c.args.tree.now) c.requires.stands (Items (map item_of c.in-Items.items))
+    (ap head_of c.in-Items.is))
+
+pub body-requires-in-Items-clause-relations : goal.body-requires-in-Items-clause-relations
+body-requires-in-Items-clause-relations c = c.requires.relations
+
+pub sides-requires-clause-utf8 : goal.sides-requires-clause-utf8
+sides-requires-clause-utf8 c = c.requires.text.1.1.0
+
+pub sides-requires-clause-left : goal.sides-requires-clause-left
+sides-requires-clause-left c =
+    name_is_term c.args.bytes.now c.in-Equality.left (head_stands c.args.bytes.now (constraint_of c.args.tree.now) c.requires.stands
+    (Equality c.in-Equality.left c.in-Equality.right) (ap head_of c.in-Equality.is)).0
+
+pub sides-requires-clause-right : goal.sides-requires-clause-right
+sides-requires-clause-right c =
+    (head_stands c.args.bytes.now (constraint_of c.args.tree.now) c.requires.stands
+    (Equality c.in-Equality.left c.in-Equality.right) (ap head_of c.in-Equality.is)).1
+
+-- ---- that the rules are over the schema
+
+pub returns-in_ok-head-in-Items-clause-over : goal.returns-in_ok-head-in-Items-clause-over
+returns-in_ok-head-in-Items-clause-over c = c.tuple_rule.ensures.over
+
+pub returns-in-None-clause-over : goal.returns-in-None-clause-over
+returns-in-None-clause-over c = c.equal_rule.ensures.over
+
+pub returns-in-Never-clause-over : goal.returns-in-Never-clause-over
+returns-in-Never-clause-over c = c.denial.ensures.over
