@@ -1,11 +1,11 @@
 -- The rows of a body, atom by atom and fact by fact.
-use Rattle.std.proofs.Common.{◌≡◌, ℕ, ◌+◌, ◌<◌, ◌≤◌, ◌++◌, ◌⊎◌, ◌↔◌, Bool, true, false, List, [], ◌∷◌, length, get_or, take, map, Contains, Option, Some, None, IsSome, refl, sym, ap, subst, ◌∙◌, inl, inr, arith}
+use Rattle.std.proofs.Common.{◌≡◌, ℕ, ◌+◌, ◌<◌, ◌≤◌, ◌++◌, ◌⊎◌, ◌↔◌, Bool, true, false, List, [], ◌∷◌, length, get_or, take, map, Contains, Bor, Option, Some, None, IsSome, is_some, option_copied, refl, sym, ap, subst, ◌∙◌, inl, inr, arith}
 use Rattle.std.specs.List.{slice_get}
 use Rattle.std.specs.FinMap.{get, empty, get-empty}
 use Rattle.std.specs.Ordering.{nat_cmp}
 use Rattle.std.proofs.lemmas.Bool.{false≢true}
 use Rattle.std.proofs.lemmas.Option.{none-some, same_Some, slice_get_read}
-use Rattle.std.proofs.lemmas.List.{take_all}
+use Rattle.std.proofs.lemmas.List.{take_all, map_push}
 use Rattle.std.specs.List.Sorted.{IsPermutation}
 use Rattle.std.proofs.lemmas.List.Sorted.{Contains-permutation, IsPermutation-sym}
 use Rattle.std.proofs.lemmas.List.Elements.{Contains-append_left, Contains-push, Contains-push_cases}
@@ -44,6 +44,19 @@ agree_known m known term keeps extends (inr plain) = elim plain.2 [
       ap m plain.1 ∙ extends plain.0 value.0 value.1 ∙ sym (Extends-map_of known plain.0 value.0 value.1) ∙ ap (map_of known) (sym plain.1)
   | inr mentioned ↦ absurd (Contains-nil mentioned.0 mentioned.1)
 ]
+
+-- a variable that has a value is known
+pub variable_known : (known : Assignment) (term : Term) (variable : ℕ) (value : Option (Bor Term)) → term ≡ Plain variable
+    → option_copied value ≡ get known variable → is_some value ≡ true → IsKnown [] known term
+variable_known known term variable None is same some = absurd (false≢true some)
+variable_known known term variable (Some there) is same some = inr (variable, is, inl (subst IsSome same refl))
+
+-- one more image of a row
+pub images_more : (m : Term → Term) (row : List Term) (place : ℕ) (term image : Term) (images more : List Term) → place < length row
+    → term ≡ get_or row place term → images ≡ map m (take place row) → image ≡ m term → more ≡ images ++ image ∷ [] → more ≡ map m (take (place + 1) row)
+images_more m row place term image images more within at so_far is grown =
+    grown ∙ ap (λ (l : List Term). l ++ image ∷ []) so_far ∙ ap (λ (it : Term). map m (take place row) ++ it ∷ []) is
+    ∙ sym (map_push m (take place row) term) ∙ ap (map m) (sym (take-item row place term within at))
 
 IsRow-nil : (head : List Term) (facts : List (Fact Term)) (known : Assignment) (row : List Term) → AreKnown head [] known
     → (row ≡ map (map_of known) head) ↔ IsRow head [] facts known row

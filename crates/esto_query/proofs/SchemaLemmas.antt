@@ -10,6 +10,7 @@ use Rattle.std.proofs.lemmas.Option.{slice_get-map, slice_get_within, get_or_fro
 use Rattle.esto_query.specs.Schemas.{names_of, arities_of, IsArity, IsSchema}
 use Rattle.esto_query.specs.declared.schema.TheConstants.{MAX_RELATIONS}
 use Rattle.esto_query.specs.declared.schema.Relation.{Relation}
+use Rattle.esto_query.specs.declared.schema.SchemaError.TheVariants.{SameName, OutOfMemory}
 use Rattle.esto_term.proofs.ListLemmas.{Contains-map_from}
 
 pub name_missing : (schema : List Relation) (name : List ℕ) → ((relation : Relation) → Contains schema relation → relation.name ≢ name)
@@ -43,6 +44,10 @@ IsSchema-push schema new relation grown old missing ranged room = rw grown (reco
 pub none_found : {X : Type 0} (found : Option X) (P : Type 0) (Q : X → Type 0) → is_some found ≡ false → MatchOption found P Q → P
 none_found None P Q e missing = missing
 none_found (Some x) P Q e there = absurd (false≢true (sym e))
+
+-- that a name is there is not that memory is wanting
+pub same_name_told : SameName ≢ OutOfMemory
+same_name_told same = cc
 
 -- where it answered something
 pub some_found : {X : Type 0} (found : Option X) (P : Type 0) (Q : X → Type 0) → is_some found ≡ true → MatchOption found P Q → (x : X) × Q x

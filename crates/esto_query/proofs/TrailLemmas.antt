@@ -24,6 +24,14 @@ pub with_trail-push : (start : Assignment) (trail : List Binding) (binding : Bin
     → with_trail start (trail ++ binding ∷ []) ≡ insert (with_trail start trail) binding.variable binding.term.now
 with_trail-push start trail binding = fold-append (λ (known : Assignment) (b : Binding). insert known b.variable b.term.now) start trail (binding ∷ [])
 
+-- a valuation with one more binding of a trail
+pub trail_more : (start : Assignment) (trail : List Binding) (place : ℕ) (binding : Binding) (valuation more : Assignment) (term : Term)
+    → place < length trail → binding ≡ get_or trail place binding → valuation ≡ with_trail start (take place trail) → term ≡ binding.term.now
+    → more ≡ insert valuation binding.variable term → more ≡ with_trail start (take (place + 1) trail)
+trail_more start trail place binding valuation more term within at so_far is grown =
+    grown ∙ ap (λ (known : Assignment). insert known binding.variable term) so_far ∙ ap (insert (with_trail start (take place trail)) binding.variable) is
+    ∙ sym (with_trail-push start (take place trail) binding) ∙ ap (with_trail start) (sym (take-item trail place binding within at))
+
 module _ (start : Assignment) (trail : List Binding) (variable : ℕ) where
   -- what the first i bindings give, where a later one hides an earlier one
   abbrev pub given_by : ℕ → Option Term

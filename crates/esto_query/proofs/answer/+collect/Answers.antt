@@ -1,4 +1,4 @@
-use Rattle.std.proofs.Common.{length, ◌≡◌, [], refl, ap, subst, ◌∙◌, arith, rules}
+use Rattle.std.proofs.Common.{length, ◌≡◌, [], refl, ap, subst, ◌∙◌, arith}
 use Rattle.std.proofs.lemmas.List.{nil_from_length}
 use Rattle.std.proofs.lemmas.Result.{on_ok_weaker}
 use Rattle.esto_semantics.specs.Maps.{AreFlat}
@@ -15,7 +15,7 @@ returns-in_default-clause-trail t c = on_ok_weaker c.push_image.result (λ _. re
 
 pub returns-in_default-clause-adds : goal.returns-in_default-clause-adds
 returns-in_default-clause-adds t c =
-    let empty : c.args.body.now ≡ [] = nil_from_length _ (grind arith) in
+    let empty : c.args.body.now ≡ [] = nil_from_length _ c.in_default.ensures.cases in
     let adds = rw c.deref.ensures.value at c.push_image.ensures in
     rw empty (on_ok_weaker c.push_image.result (leaf_adds c.args.head.now c.args.facts.now (with_trail c.args.start.now c.args.trail.now.items) _ _ _
     (rw empty at c.requires.known) refl) adds)
@@ -34,7 +34,7 @@ returns-then-are_known-clause-adds t c = c.push_if_matched.ensures.adds
 
 pub loop-entry-init : goal.loop-entry-init
 loop-entry-init t c = record {
-  split = search rules;
+  split = c.in-Some.ensures.cases.0;
   trail = refl;
   adds = none_seen c.args.head.now c.in-Some.atom.now c.in-Some.rest.now c.args.facts.now (with_trail c.args.start.now c.args.trail.now.items)
       c.args.rows.now.items;

@@ -25,3 +25,13 @@ returns-in-None c =
     let over = rw c.items.ensures at c.in_default.ensures in
     let safe = rw (c.items-2.ensures, c.items-3.ensures) at c.in-None.ensures in
     (over, omega arith, safe, refl, refl, refl)
+
+pub returns-in-Some : goal.returns-in-Some
+returns-in-Some c = rw c.items.ensures at c.in-Some.ensures
+
+pub returns-then-len-gt-MAX_ATOMS : goal.returns-then-len-gt-MAX_ATOMS
+returns-then-len-gt-MAX_ATOMS c = (rw c.items.ensures at c.in_default.ensures, c.len-then-len-gt-MAX_ATOMS.ensures, omega arith)
+
+pub returns-in-Some-first_unsafe : goal.returns-in-Some-first_unsafe
+returns-in-Some-first_unsafe c =
+    (rw c.items.ensures at c.in_default.ensures, omega arith, rw (c.items-2.ensures, c.items-3.ensures) at c.in-Some-first_unsafe.ensures)

@@ -1,4 +1,4 @@
-use Rattle.std.proofs.Common.{length, ◌≡◌, ◌∷◌, [], refl, ap, ◌∙◌, subst, ◌≤◌, arith, rules}
+use Rattle.std.proofs.Common.{length, ◌≡◌, ◌∷◌, [], refl, ap, ◌∙◌, subst, ◌≤◌, arith}
 use Rattle.std.proofs.lemmas.List.{nil_from_length}
 use Rattle.esto_semantics.specs.Maps.{AreFlat}
 use Rattle.esto_query.specs.Trails.{with_trail}
@@ -10,7 +10,7 @@ use Rattle.esto_query.proofs.search.+search.Goals.{then-branch+in_ok-push+in_ok-
 
 pub returns-in_default : goal.returns-in_default
 returns-in_default t c =
-    let empty : c.args.body.now ≡ [] = nil_from_length _ (grind arith) in
+    let empty : c.args.body.now ≡ [] = nil_from_length _ c.in_default.ensures.cases in
     rw empty (Searched-nil c.args.start.now c.args.facts.now c.args.from.now c.args.places.now c.args.trail.now.items _ c.is_empty.ensures)
 
 pub loop-entry-init : goal.loop-entry-init
@@ -18,7 +18,7 @@ loop-entry-init t c =
     let serves = rw c.deref.ensures.value at c.candidates-found.ensures in
     let cut = rw c.least_first.ensures at c.entries_from-left.ensures in
     record {
-      split = search rules;
+      split = c.in-Some.ensures.cases.0;
       trail = refl;
       places = refl;
       left = AreLeft-first c.in-Some.atom.now c.in-Some.rest.now c.args.facts.now (with_trail c.args.start.now c.args.trail.now.items)
