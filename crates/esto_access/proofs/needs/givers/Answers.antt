@@ -44,3 +44,13 @@ pub add_all-requires : goal.add_all-requires
 add_all-requires c =
     c.requires.counts c.atoms.number c.item-then-has_term.result.now c.item-then-has_term.ensures ∙ length-map c.args.plan.now.atoms fact_of
     ∙ sym c.atoms.invariant.0
+
+pub item-requires-then-has_term : goal.item-requires-then-has_term
+item-requires-then-has_term c =
+    omega (arith, c.requires.each, length-map c.args.plan.now.atoms fact_of, c.atoms-test.true, c.len-number-end.ensures)
+
+pub item-requires : goal.item-requires
+item-requires c = omega (arith, c.atoms-test.true, c.len-number-end.ensures)
+
+pub returns-clause-count : goal.returns-clause-count
+returns-clause-count c = c.atoms.invariant.0
