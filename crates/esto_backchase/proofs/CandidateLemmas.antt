@@ -1,12 +1,14 @@
 -- The candidate of a set, by what the plan's expansion has for the set.
-use Rattle.std.proofs.Common.{◌≡◌, ◌≢◌, ◌↔◌, inl, inr, ℕ, ◌<◌, Bool, true, false, cond, List, [], ◌∷◌, length, slice_index_or, Contains, refl, sym, subst, ◌∙◌, arith}
-use Rattle.std.proofs.lemmas.Bool.{false≢true}
-use Rattle.std.proofs.lemmas.List.{length-map}
+use Rattle.std.proofs.Common.{◌≡◌, ◌≢◌, ◌↔◌, inl, inr, ℕ, ◌<◌, ◌≤◌, ◌+◌, Bool, true, false, cond, List, [], ◌∷◌, ◌++◌, length, drop, get_or, slice_index_or, Contains}
+use Rattle.std.proofs.Common.{refl, sym, ap, subst, ◌∙◌, arith}
+use Rattle.std.proofs.lemmas.Bool.{false_from_ne_true, false≢true}
+use Rattle.std.proofs.lemmas.List.{append-nil, append_assoc, drop_all, length-map}
 use Rattle.either.specs.Either.{MatchEither}
 use Rattle.either.specs.declared.Either.{Either}
 use Rattle.either.specs.declared.Either.TheVariants.{Left, Right}
 use Rattle.esto_term.specs.declared.term.Term.{Term}
 use Rattle.esto_term.proofs.ListLemmas.{Contains-at, Contains-cases, Contains-head, Contains-map, Contains-map_from, Contains-nil, Contains-rest, place-from_Contains}
+use Rattle.esto_term.proofs.PlaceLemmas.{drop-item}
 use Rattle.esto_semantics.specs.Containment.{IsContained, IsSatisfiable}
 use Rattle.esto_semantics.specs.ExpansionLaws.{ExpansionAnswers, ExpansionIsContained, PartExpandsCandidate}
 use Rattle.esto_semantics.specs.Expansions.{IsExpansion, IsPartOf}
@@ -105,6 +107,39 @@ from-chosen set (first ∷ rest) part there has = by (λ later. from-chosen set 
       | inl is ↦ absurd (false≢true (sym told ∙ subst (λ (it : ExpandedFact). Has set it.atom) (sym is) has))
       | inr more ↦ again more
     ]
+
+-- the facts that are chosen of the parts so far, and then those of the parts that are left, are all that are chosen
+module _ (set : List Bool) (expanded : List ExpandedFact) (place : ℕ) (facts : List (Fact Term))
+    (so_far : facts ++ own.facts_chosen set (drop place expanded) ≡ own.facts_chosen set expanded) where
+  module _ (part : ExpandedFact) (below : place < length expanded) (is : part ≡ get_or expanded place part) where
+    at_part : facts ++ cond (slice_index_or set part.atom false) (part.fact ∷ own.facts_chosen set (drop (place + 1) expanded))
+        (own.facts_chosen set (drop (place + 1) expanded)) ≡ own.facts_chosen set expanded
+    at_part =
+        subst (λ (it : List ExpandedFact). facts ++ own.facts_chosen set it ≡ own.facts_chosen set expanded) (drop-item expanded place part below is) so_far
+
+    told : (answer : Bool) → slice_index_or set part.atom false ≡ answer
+        → facts ++ cond answer (part.fact ∷ own.facts_chosen set (drop (place + 1) expanded)) (own.facts_chosen set (drop (place + 1) expanded))
+        ≡ own.facts_chosen set expanded
+    told answer same =
+        subst (λ (it : Bool). facts ++ cond it (part.fact ∷ own.facts_chosen set (drop (place + 1) expanded)) (own.facts_chosen set (drop (place + 1) expanded))
+        ≡ own.facts_chosen set expanded) same at_part
+
+    -- the next part is chosen
+    pub chosen-taken : Has set part.atom → (next : List (Fact Term)) → next ≡ facts ++ part.fact ∷ []
+        → next ++ own.facts_chosen set (drop (place + 1) expanded) ≡ own.facts_chosen set expanded
+    chosen-taken has next grown =
+        ap (λ (it : List (Fact Term)). it ++ own.facts_chosen set (drop (place + 1) expanded)) grown
+        ∙ append_assoc facts (part.fact ∷ []) (own.facts_chosen set (drop (place + 1) expanded)) ∙ told true has
+
+    -- it is not
+    pub chosen-passed : ¬ (Has set part.atom) → facts ++ own.facts_chosen set (drop (place + 1) expanded) ≡ own.facts_chosen set expanded
+    chosen-passed missing = told false (false_from_ne_true _ missing)
+
+  -- no part is left
+  pub chosen-ends : length expanded ≤ place → facts ≡ own.facts_chosen set expanded
+  chosen-ends past =
+      sym (append-nil facts)
+      ∙ subst (λ (it : List ExpandedFact). facts ++ own.facts_chosen set it ≡ own.facts_chosen set expanded) (drop_all place expanded past) so_far
 
 module _ (plan : Plan) (fragments : List FragmentDef) (expanded : List ExpandedFact) (expands : Expands plan fragments expanded) (set : List Bool)
     (over : length set ≡ length plan.atoms) (begin : StartsHaveTheBody) where

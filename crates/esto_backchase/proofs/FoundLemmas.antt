@@ -1,7 +1,7 @@
 -- What is found for the first few queries of a union, and for all of them.
 use Rattle.std.proofs.Common.{◌≡◌, ◌↔◌, ◌≤◌, ℕ, ◌+◌, inl, inr, Bool, List, [], ◌∷◌, Some, length, slice_get, Contains, subst, sym}
 use Rattle.esto_term.specs.declared.term.Term.{Term}
-use Rattle.esto_term.proofs.ListLemmas.{Contains-cases, Contains-head, Contains-nil, SomeBelow, some_contained, some_step}
+use Rattle.esto_term.proofs.ListLemmas.{Contains-cases, Contains-head, Contains-nil, SomeBelow, some_contained, some_none, some_step}
 use Rattle.esto_semantics.specs.Sets.{Covers}
 use Rattle.esto_bits.specs.Kept.{CoversEither}
 use Rattle.esto_query.specs.declared.query.Query.{Query}
@@ -14,6 +14,13 @@ module _ (Matches : Query → List Bool → Type 0) (queries : List Query) where
   -- the sets cover just what one of the first few queries has a match in
   abbrev pub AreFoundBelow : ℕ → List (List Bool) → Type 0
   AreFoundBelow count found = (set : List Bool) → Covers found set ↔ SomeBelow (λ _ query. Matches query set) queries count
+
+  -- no set covers anything, and there is no query yet
+  pub found_none : (found : List (List Bool)) → found ≡ [] → AreFoundBelow 0 found
+  found_none found none set = (
+    λ covers. absurd (Contains-nil covers.0 (subst (λ sets. Contains sets covers.0) none covers.1)),
+    λ some. absurd (some_none (λ _ query. Matches query set) queries some),
+  )
 
   pub found_more : (count : ℕ) (query : Query) → slice_get queries count ≡ Some query → (found own after : List (List Bool))
       → ((set : List Bool) → Covers own set ↔ Matches query set) → CoversEither found own after → AreFoundBelow count found → AreFoundBelow (count + 1) after

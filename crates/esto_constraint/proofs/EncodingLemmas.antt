@@ -1,8 +1,8 @@
 -- The rules of the encodings are rules.
-use Rattle.std.proofs.Common.{◌≡◌, ◌≢◌, ℕ, zero, suc, ◌<◌, List, [], ◌∷◌, ◌++◌, map, length, slice_index_or, Contains, Result, refl, sym, ◌∙◌, ap, subst, inl, inr, arith}
+use Rattle.std.proofs.Common.{◌≡◌, ◌≢◌, ℕ, zero, suc, ◌<◌, ◌≤◌, ◌+◌, List, [], ◌∷◌, ◌++◌, map, drop, get_or, length, slice_index_or, Contains, Result, refl, sym, ◌∙◌, ap, subst, inl, inr, arith}
 use Rattle.std.specs.List.{AllByRecursion}
 use Rattle.std.specs.Result.{OnOk}
-use Rattle.std.proofs.lemmas.List.{append_assoc, length-map, map_push}
+use Rattle.std.proofs.lemmas.List.{append-nil, append_assoc, drop_all, drop_more, length-map, map_push}
 use Rattle.std.proofs.lemmas.Result.{on_ok_weaker}
 use Rattle.esto_term.proofs.ListLemmas.{Contains-cases, Contains-head, Contains-map, Contains-map_from, Contains-nil, Contains-rest}
 use Rattle.esto_term.specs.declared.term.Term.{Term}
@@ -134,6 +134,20 @@ module _ {T : Type 0} (named_as : T → Name) (texts : List T) (names : List Nam
   sound_denial relation other first second body are below lower =
       let it = two_atoms names (length texts) relation other first second body are many below lower in
       record { rule = record { has_body = it.some; flat_body = it.flat }; named = it.named }
+
+-- a list that gets what a function makes of the items of another: what it has, and what the items that are left make, are the whole
+module _ {A B : Type 0} (f : A → B) (items : List A) (place : ℕ) (made whole : List B) (so_far : made ++ map f (drop place items) ≡ whole) where
+  -- one more item
+  pub made_more : (other : A) → place < length items → (next : List B) → next ≡ made ++ f (get_or items place other) ∷ []
+      → next ++ map f (drop (place + 1) items) ≡ whole
+  made_more other below next grown =
+      ap (λ those. those ++ map f (drop (place + 1) items)) grown
+      ∙ append_assoc made (f (get_or items place other) ∷ []) (map f (drop (place + 1) items))
+      ∙ subst (λ left. made ++ map f left ≡ whole) (drop_more items place other below) so_far
+
+  -- no item is left
+  pub made_all : length items ≤ place → made ≡ whole
+  made_all past = sym (append-nil made) ∙ subst (λ left. made ++ map f left ≡ whole) (drop_all place items past) so_far
 
 -- a list that got more, and then one more
 pub grown : {Y : Type 0} (first old new more : List Y) (last : Y) → old ≡ first ++ more → new ≡ old ++ last ∷ [] → new ≡ first ++ (more ++ last ∷ [])

@@ -1,14 +1,14 @@
 -- Items of a list: their sets, their weights and the pick.
-use Rattle.std.proofs.Common.{◌≡◌, ℕ, zero, suc, ◌+◌, ◌<◌, ◌≤◌, Bool, true, false, cond, List, [], ◌∷◌, ◌++◌, map, length, take, drop, get_or, slice_index_or, Some, slice_get, Contains, refl, sym, ap, ◌∙◌, subst, arith, add-one, below_more, inl, inr}
+use Rattle.std.proofs.Common.{◌≡◌, ℕ, zero, suc, ◌+◌, ◌==◌, ◌<◌, ◌≤◌, Bool, true, false, cond, List, [], ◌∷◌, ◌++◌, map, length, take, drop, get_or, slice_index_or, Some, slice_get, Contains, refl, sym, ap, ◌∙◌, subst, arith, add-one, below_more, inl, inr}
 use Rattle.std.proofs.Math.ListN.{drop_of_length-le}
-use Rattle.std.proofs.lemmas.Bool.{cases_Bool}
+use Rattle.std.proofs.lemmas.Bool.{cases_Bool, false≢true}
 use Rattle.std.proofs.lemmas.List.{length-map, map-append, take_more, take_all}
 use Rattle.std.proofs.lemmas.List.Sums.{sum_by-cons}
 use Rattle.std.proofs.lemmas.Option.{none-some, same_Some, get_or_from_slice_get}
 use Rattle.esto_term.specs.declared.term.Term.{Term}
 use Rattle.esto_semantics.specs.declared.fact.Fact.{Fact}
 use Rattle.esto_semantics.specs.Sets.{Has}
-use Rattle.esto_semantics.specs.Listed.{chosen}
+use Rattle.esto_semantics.specs.Listed.{chosen, IsPick}
 use Rattle.esto_semantics.proofs.SetLemmas.{beyond}
 use Rattle.esto_views.specs.declared.plan.PlanAtom.{PlanAtom}
 use Rattle.esto_views.specs.Plans.{fact_of}
@@ -37,6 +37,23 @@ module _ (weights : List ℕ) (place pick : ℕ) (least : (other : ℕ) → othe
   pub old_is_least : slice_index_or weights pick 0 ≤ slice_index_or weights place 0 → (other : ℕ) → other < place + 1
       → slice_index_or weights pick 0 ≤ slice_index_or weights other 0
   old_is_least more = below_more (λ other. slice_index_or weights pick 0 ≤ slice_index_or weights other 0) place least more
+
+-- a list that is not empty has a first place
+pub some_there : (empty : Bool) (n : ℕ) → empty ≡ (n == 0) → empty ≡ false → 0 < n
+some_there empty zero is not_empty = absurd (false≢true (sym not_empty ∙ is))
+some_there empty (suc n) is not_empty = omega arith
+
+-- the pick among all items is the pick of the list
+pub pick_whole : (items : List Listed) (place pick : ℕ) → length items ≤ place → pick < length items
+    → ((other : ℕ) → other < place → slice_index_or (totals_of items) pick 0 ≤ slice_index_or (totals_of items) other 0)
+    → ((other : ℕ) → other < pick → slice_index_or (totals_of items) pick 0 < slice_index_or (totals_of items) other 0) → IsPick (totals_of items) pick
+pick_whole items place pick past below least first =
+    let same = length-map items (λ (it : Listed). it.weight) in
+    record {
+      there = omega (arith, same, below);
+      least = λ other within. least other (omega (arith, same, past, within));
+      first = first;
+    }
 
 -- ---- weights
 

@@ -1,2 +1,3 @@
 pub mod ItemLemmas
+pub mod NameLemmas
 pub mod TextLemmas

@@ -1,9 +1,10 @@
 use Rattle.std.proofs.Common.{sym, subst, ◌∙◌}
+use Rattle.std.proofs.lemmas.Result.{IfOk-from_err}
 use Rattle.esto_term.proofs.PlaceLemmas.{item_at}
 use Rattle.esto_query.specs.declared.query.Query.{Query}
 use Rattle.esto_backchase.specs.Evidence.{MatchesIn}
 use Rattle.esto_world_laws.specs.Steps.{AreJoined}
-use Rattle.esto_backchase.proofs.FoundLemmas.{found_all, found_more, handed_over}
+use Rattle.esto_backchase.proofs.FoundLemmas.{found_all, found_more, found_none, handed_over}
 use Rattle.esto_backchase.proofs.products.matching_products.Goals as goal
 
 pub products_of_matches-requires-clause-joined : goal.products_of_matches-requires-clause-joined
@@ -27,3 +28,12 @@ pub returns-clause-tell : goal.returns-clause-tell
 returns-clause-tell c =
     found_all (λ (it : Query) set. MatchesIn it c.args.plan.now c.args.entries.now set) c.args.queries.now c.queries.query-index c.queries-test.false
     c.queries.found.sets c.queries.invariant.1
+
+pub returns-in_err-own : goal.returns-in_err-own
+returns-in_err-own c = record { count = IfOk-from_err _ _ c.from_residual.ensures.0; tell = IfOk-from_err _ _ c.from_residual.ensures.0 }
+
+pub queries-init : goal.queries-init
+queries-init c = (
+  c.new-found.ensures.count ∙ c.len.ensures,
+  found_none (λ (it : Query) set. MatchesIn it c.args.plan.now c.args.entries.now set) c.args.queries.now c.new-found.result.sets c.new-found.ensures.empty,
+)

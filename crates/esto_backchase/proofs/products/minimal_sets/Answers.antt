@@ -1,5 +1,6 @@
 use Rattle.std.proofs.Common.{◌≡◌, ◌↔◌, ◌∙◌, Bool, List, length}
 use Rattle.std.proofs.lemmas.List.{length-map}
+use Rattle.std.proofs.lemmas.Result.{IfOk-from_err}
 use Rattle.esto_semantics.specs.Listed.{IsRewriting}
 use Rattle.esto_semantics.proofs.CoverLemmas.{minimal-cover}
 use Rattle.esto_constraint.specs.Constraints.{rules_of}
@@ -56,3 +57,27 @@ pub returns-clause-consistent : goal.returns-clause-consistent
 returns-clause-consistent c =
     c.entries_decide_answers.ensures.consistent c.args.catalogue.now c.args.query.now c.args.plan.now c.in_ok-entries.entries
     c.requires.satisfiable c.in_ok-entries.ensures.entries
+
+pub returns-in_err-entries : goal.returns-in_err-entries
+returns-in_err-entries c = record {
+  entries = IfOk-from_err _ _ c.from_residual.ensures.0;
+  joined = IfOk-from_err _ _ c.from_residual.ensures.0;
+  count = IfOk-from_err _ _ c.from_residual.ensures.0;
+  listed = IfOk-from_err _ _ c.from_residual.ensures.0;
+  complete = IfOk-from_err _ _ c.from_residual.ensures.0;
+  decided = IfOk-from_err _ _ c.from_residual.ensures.0;
+  of_parts = IfOk-from_err _ _ c.from_residual.ensures.0;
+  consistent = IfOk-from_err _ _ c.from_residual.ensures.0;
+}
+
+pub returns-in_err-sets : goal.returns-in_err-sets
+returns-in_err-sets c = record {
+  entries = IfOk-from_err _ _ c.from_residual-in_err-sets.ensures.0;
+  joined = IfOk-from_err _ _ c.from_residual-in_err-sets.ensures.0;
+  count = IfOk-from_err _ _ c.from_residual-in_err-sets.ensures.0;
+  listed = IfOk-from_err _ _ c.from_residual-in_err-sets.ensures.0;
+  complete = IfOk-from_err _ _ c.from_residual-in_err-sets.ensures.0;
+  decided = IfOk-from_err _ _ c.from_residual-in_err-sets.ensures.0;
+  of_parts = IfOk-from_err _ _ c.from_residual-in_err-sets.ensures.0;
+  consistent = IfOk-from_err _ _ c.from_residual-in_err-sets.ensures.0;
+}

@@ -1,4 +1,5 @@
 use Rattle.std.proofs.Common.{◌≡◌, ◌+◌, ◌++◌, length, refl, inl, inr, subst, arith}
+use Rattle.std.proofs.lemmas.Option.{slice_get_within}
 use Rattle.esto_query.specs.Making.{IsFirstMisfit}
 use Rattle.esto_query.specs.Schemas.{arities_of}
 use Rattle.esto_constraint.proofs.MakingLemmas.{AreOver-append, IsFirstMisfit-body, IsFirstMisfit-head}
@@ -26,3 +27,9 @@ returns-then-head-gt-MAX_ATOMS c =
 
 pub returns : goal.returns
 returns c = (AreOver-append _ _ _ c.in_default.ensures c.in_default-first_misfit.ensures, omega arith, omega arith)
+
+pub returns-in_default-checked_add : goal.returns-in_default-checked_add
+returns-in_default-checked_add c =
+    let misfit = c.in-Some-first_misfit.ensures in
+    let within = slice_get_within c.args.head.now c.in-Some-first_misfit.place misfit.atom misfit.there in
+    omega (arith, within, c.in_default-checked_add.ensures)

@@ -1,9 +1,25 @@
-use Rattle.std.proofs.Common.{◌≡◌, ℕ, ◌+◌, ◌<◌, ◌≤◌, length, get_or, slice_index_or, sym, ap, subst, arith}
+use Rattle.std.proofs.Common.{◌≡◌, ℕ, ◌+◌, ◌<◌, ◌≤◌, length, get_or, slice_index_or, sym, ap, subst, arith, ◌∙◌}
+use Rattle.std.proofs.lemmas.Bool.{eqb-true}
+use Rattle.std.proofs.lemmas.List.{nil_from_length}
 use Rattle.esto_list.specs.declared.listing.Listed.{Listed}
 use Rattle.esto_list.specs.Items.{totals_of}
-use Rattle.esto_list.proofs.ItemLemmas.{total_at, new_is_first, new_is_least, old_is_least}
+use Rattle.esto_list.proofs.ItemLemmas.{total_at, some_there, pick_whole, new_is_first, new_is_least, old_is_least}
 use Rattle.esto_list.proofs.listing.first_of_least_weight.Goals.{then-item-items, else-item-items}
 use Rattle.esto_list.proofs.listing.first_of_least_weight.Goals as goal
+
+pub returns-then-is_empty : goal.returns-then-is_empty
+returns-then-is_empty c = nil_from_length c.args.items.now (eqb-true _ _ (sym c.is_empty.ensures ∙ c.if-is_empty.true))
+
+pub items-init : goal.items-init
+items-init c = record {
+  there = some_there c.is_empty.result _ c.is_empty.ensures c.if-is_empty.false;
+  least = λ other below. absurd (omega (arith, below));
+  first = λ other below. absurd (omega (arith, below));
+}
+
+pub returns : goal.returns
+returns c =
+    pick_whole c.args.items.now c.items.place c.items.pick c.items-test.false c.items.invariant.there c.items.invariant.least c.items.invariant.first
 
 pub items-preserved : goal.items-preserved
 items-preserved c =

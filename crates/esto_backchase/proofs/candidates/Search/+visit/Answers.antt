@@ -129,3 +129,30 @@ visit_by-returns-clause-visited t c =
     (HasOneBelow c.args.set.now c.args.left_out.now c.args.numbers.now c.numbers.number-index) c.args.found.now.sets c.numbers.found.sets
     c.numbers.invariant.visited
     (λ other is_in _. one-all c.args.set.now c.args.left_out.now c.args.numbers.now c.numbers.number-index c.numbers-test.false other is_in)
+
+pub visit-covered-requires : goal.visit-covered-requires
+visit-covered-requires t c = c.requires.count ∙ sym c.requires.same_count
+
+pub visit-returns-then-covered-clause-failing : goal.visit-returns-then-covered-clause-failing
+visit-returns-then-covered-clause-failing t c = c.requires.failing
+
+pub visit-add-requires : goal.visit-add-requires
+visit-add-requires t c = c.requires.count ∙ sym c.requires.same_count
+
+pub visit-returns-in_ok-add-in-None-clause-count : goal.visit-returns-in_ok-add-in-None-clause-count
+visit-returns-in_ok-add-in-None-clause-count t c = c.add.ensures.count
+
+pub visit-returns-in_ok-add-in-None-clause-failing : goal.visit-returns-in_ok-add-in-None-clause-failing
+visit-returns-in_ok-add-in-None-clause-failing t c = c.in_ok-outcome.ensures.failing
+
+pub visit-returns-in_ok-visit_by-in-Some-clause-count : goal.visit-returns-in_ok-visit_by-in-Some-clause-count
+visit-returns-in_ok-visit_by-in-Some-clause-count t c = c.in_ok-visit_by-in-Some.ensures.count
+
+pub visit-returns-in_ok-visit_by-in-Some-clause-failing : goal.visit-returns-in_ok-visit_by-in-Some-clause-failing
+visit-returns-in_ok-visit_by-in-Some-clause-failing t c = c.in_ok-visit_by-in-Some.ensures.failing
+
+pub visit_by-returns-clause-count : goal.visit_by-returns-clause-count
+visit_by-returns-clause-count t c = c.numbers.invariant.same_count
+
+pub visit_by-returns-clause-failing : goal.visit_by-returns-clause-failing
+visit_by-returns-clause-failing t c = c.numbers.invariant.failing
