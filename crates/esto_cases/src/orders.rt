@@ -7,47 +7,10 @@ use esto_access::{access_products, is_order, order_of, reached};
 use esto_bits::{Products, RowBits};
 use esto_catalog::Catalogue;
 use esto_query::Query;
-use esto_term::{List, OutOfMemory, Places, Replicate};
+use esto_term::Places;
 use esto_universal::universal;
-use esto_views::{AccessList, FragmentDef, FragmentDefs, Plan};
+use esto_views::{FragmentDefs, Plan};
 use std::alloc::Global;
-
-// Gives a fragment these patterns, where there are some.
-fn give_patterns(
-    alloc: Global,
-    fragment: &mut FragmentDef,
-    patterns: Option<&AccessList>,
-) -> Result<(), OutOfMemory> {
-    if let Some(patterns) = patterns {
-        fragment.access = patterns.copy(alloc)?;
-    }
-    Ok(())
-}
-
-// Puts a copy of a fragment at the end, with the patterns where there are some.
-fn add_fragment(
-    alloc: Global,
-    fragments: &mut FragmentDefs,
-    fragment: &FragmentDef,
-    patterns: Option<&AccessList>,
-) -> Result<(), OutOfMemory> {
-    let mut copy = fragment.copy(alloc)?;
-    give_patterns(alloc, &mut copy, patterns)?;
-    fragments.push(copy)
-}
-
-/// The fragments of the catalogue, where the first ones have these patterns in place of their own.
-pub fn fragments_with(
-    alloc: Global,
-    catalogue: &Catalogue,
-    patterns: &[AccessList],
-) -> Result<FragmentDefs, OutOfMemory> {
-    let mut fragments = List::new(alloc);
-    'fragments: for (number, fragment) in catalogue.fragments.items().iter().enumerate() {
-        add_fragment(alloc, &mut fragments, fragment, patterns.get(number))?;
-    }
-    Ok(fragments)
-}
 
 /// The universal plan of a query over the catalogue's fragments; it does not depend on their patterns. A query that is not
 /// satisfiable has none.

@@ -1,11 +1,10 @@
-//! What the words of a script say: numbers, terms, facts, sets and patterns.
+//! What the words of a script say: numbers, terms, facts and sets.
 ghost use Rattle.std.specs.Prelude.{◌≡◌, length, IfOk};
 
 use esto_bits::RowBits;
 use esto_query::Facts;
 use esto_semantics::Atom;
 use esto_term::{List, OutOfMemory, Places, Term, Terms, Text, Values};
-use esto_views::AccessList;
 use std::alloc::{AllocError, Global};
 
 /// Why a line is not obeyed: it is ill-formed, or memory is wanting.
@@ -170,15 +169,6 @@ pub fn set(alloc: Global, word: &str, count: usize) -> Result<RowBits, Refused>
     set_of(alloc, numbers.items(), count)
 }
 
-// Which columns are inputs: those of a `+`.
-fn pattern(alloc: Global, word: &str) -> Result<Values<bool>, Refused> {
-    let mut columns = Values::new(alloc);
-    'bytes: for byte in word.as_bytes() {
-        columns.push(*byte == b'+')?;
-    }
-    Ok(columns)
-}
-
 // Puts what a part is read as at the end.
 fn add_read<T: Drop, F: Fn(&str) -> Result<T, Refused>>(
     list: &mut List<T>,
@@ -205,9 +195,4 @@ pub fn each<T: Drop, F: Fn(&str) -> Result<T, Refused>>(
         add_read(&mut list, part, &read)?;
     }
     Ok(list)
-}
-
-/// Patterns, between blanks.
-pub fn patterns(alloc: Global, line: &str) -> Result<AccessList, Refused> {
-    each(alloc, line, ' ', |word| pattern(alloc, word))
 }

@@ -55,7 +55,6 @@ impl Script {
     fn set_stage(&mut self, alloc: Global, word: &str, rest: &str) -> Option<Result<(), Refused>> {
         let outcome = match word {
             "catalogue" => self.open(alloc),
-            "patterns" => self.stage.add_patterns(alloc, rest),
             "facts" => self.stage.set_facts(alloc, rest),
             "start" => self.stage.set_start(alloc, rest),
             "rule" => self.stage.add_rule(alloc, rest),

@@ -3,25 +3,23 @@
 use crate::chasing::put_chase;
 use crate::making::{RuleMade, put_fault, query_made, rule_made};
 use crate::matching::{put_active, put_answers, put_broken, put_matches, query, rule, start_of};
-use crate::orders::{ask_under, fragments_with, plan_of, put_plan};
+use crate::orders::{ask_under, plan_of, put_plan};
 use crate::printing::put;
-use crate::reading::{Refused, facts, let_go, patterns, place};
+use crate::reading::{Refused, facts, let_go, place};
 use crate::worlds::{put_derivation, put_entries, put_listed, put_products_of};
 use esto_catalog::{Catalogue, read_catalogue};
 use esto_constraint::Rules;
 use esto_prov::Entries;
 use esto_query::{Facts, Query, Valuation};
 use esto_term::List;
-use esto_views::{AccessList, Plan};
+use esto_views::Plan;
 use std::alloc::Global;
 use std::mem;
 
-/// The catalogue, the patterns of its first fragments, the plan, the entries of a list, the facts, the start of matches, and
-/// the rules.
+/// The catalogue, the plan, the entries of a list, the facts, the start of matches, and the rules.
 #[derive(Drop)]
 pub struct Stage {
     catalogue: Catalogue,
-    patterns: List<AccessList>,
     plan: Option<Plan>,
     entries: Entries,
     facts: Facts,
@@ -38,7 +36,6 @@ impl Stage {
     pub fn new(alloc: Global) -> Result<Stage, Refused> {
         Ok(Stage {
             catalogue: catalogue_of(alloc, b"version = 1\n")?,
-            patterns: List::new(alloc),
             plan: None,
             entries: Entries::new(alloc),
             facts: List::new(alloc),
@@ -47,18 +44,11 @@ impl Stage {
         })
     }
 
-    /// Takes these bytes for the catalogue, with no rule yet and no patterns but its own.
+    /// Takes these bytes for the catalogue, with no rule yet.
     pub fn open(&mut self, alloc: Global, bytes: &[u8]) -> Result<(), Refused> {
         let catalogue = catalogue_of(alloc, bytes)?;
         let_go(mem::replace(&mut self.catalogue, catalogue));
-        self.patterns = List::new(alloc);
         self.rules = List::new(alloc);
-        Ok(())
-    }
-
-    /// Gives the next fragment these patterns.
-    pub fn add_patterns(&mut self, alloc: Global, line: &str) -> Result<(), Refused> {
-        self.patterns.push(patterns(alloc, line)?)?;
         Ok(())
     }
 
@@ -222,8 +212,7 @@ impl Stage {
         let Some(plan) = &self.plan else {
             return Err(Refused);
         };
-        let fragments = fragments_with(alloc, &self.catalogue, self.patterns.items())?;
-        ask_under(rt, alloc, plan, &fragments, word, rest)
+        ask_under(rt, alloc, plan, &self.catalogue.fragments, word, rest)
     }
 
     /// Answers what is asked about the facts, the rules and the plan.
