@@ -132,15 +132,18 @@ module _ (bytes : List ℕ) (before : List Name) (es : List EntrySyntax) where
 
 -- ---- what an entry puts
 
-module _ (bytes : List ℕ) (before after : List Name) (entry : EntrySyntax) (path : List StepSyntax) (steps : List Step)
-    (are : AllZip (IsStepOf bytes) path steps) where
-  pub value_puts : (token : Token) (term : Term) → entry ≡ variants.Value path token → IsTermOf token.kind (text_of bytes token) before term after
-      → Puts bytes before (entry_of entry) (entry_shape (pattern.Value steps term)) after
-  value_puts token term is put others rest end h = rw (is, value_entry, entry-Value) (after, are, put, h)
+pub value_is : (entry : EntrySyntax) (path : List StepSyntax) (token : Token) → entry ≡ variants.Value path token → entry_of entry ≡ Value path token
+value_is entry path token is = ap entry_of is ∙ value_entry path token
 
-  pub group_puts : (es : List EntrySyntax) (inner : List Entry) → entry ≡ variants.Group path es → AreEntries bytes before (entries_of es) (pattern_of inner) after
+module _ (bytes : List ℕ) (before after : List Name) (path : List StepSyntax) (steps : List Step) (are : AllZip (IsStepOf bytes) path steps) where
+  pub value_puts : (token : Token) (term : Term) → IsTermOf token.kind (text_of bytes token) before term after
+      → Puts bytes before (Value path token) (entry_shape (pattern.Value steps term)) after
+  value_puts token term put others rest end h = rw entry-Value (after, are, put, h)
+
+  pub group_puts : (entry : EntrySyntax) (es : List EntrySyntax) (inner : List Entry) → entry ≡ variants.Group path es
+      → AreEntries bytes before (entries_of es) (pattern_of inner) after
       → Puts bytes before (entry_of entry) (entry_shape (pattern.Group steps inner)) after
-  group_puts es inner is put others rest end h = rw (is, group_entry, entry-Group) (after, are, put, h)
+  group_puts entry es inner is put others rest end h = rw (is, group_entry, entry-Group) (after, are, put, h)
 
 -- ---- paths
 

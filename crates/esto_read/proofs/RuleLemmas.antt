@@ -1,7 +1,8 @@
 -- Rules from their parts.
-use Rattle.std.proofs.Common.{IsUtf8, ◌≡◌, ◌≢◌, ℕ, ◌≤◌, inl, inr, List, [], ◌∷◌, length, Ok, refl, sym, ap, subst, arith}
+use Rattle.std.proofs.Common.{IsUtf8, ◌≡◌, ◌≢◌, ℕ, ◌≤◌, ◌⊎◌, inl, inr, List, [], ◌∷◌, length, Result, Ok, Err, refl, sym, ap, subst, arith}
 use Rattle.std.specs.Prelude.{Contains, All}
 use Rattle.std.specs.List.{AllByRecursion}
+use Rattle.std.specs.Result.{IfOk, IfErr, result_and}
 use Rattle.esto_constraint.specs.Constraints.{rule_of}
 use Rattle.esto_constraint.specs.Making.{MakesTuple, MakesEquality, MakesDenial}
 use Rattle.esto_constraint.specs.declared.rule.Constraint.{Constraint}
@@ -44,6 +45,26 @@ pub sides_are : (bytes : List ℕ) (before between after : List Name) (left righ
     → IsTermOf left.kind (text_of bytes left) before one between
     → IsTermOf right.kind (text_of bytes right) between other after → AreTerms bytes before (left ∷ right ∷ []) (one ∷ other ∷ []) after
 sides_are bytes before between after left right one other h g = (between, h, (after, g, refl))
+
+-- what is made where a test lets it pass
+module _ {A : Type 0} (checked : Result (Unit {0}) ReadError) (value : A) (result : Result A ReadError) (is : result ≡ result_and checked (Ok value)) where
+  pub passed_ok : (P : A → Type 0) → IfOk checked (λ _. P value) → IfOk result P
+  passed_ok P holds = subst (λ (it : Result A ReadError). IfOk it P) (sym is) (keeps checked holds) where
+    keeps : (checked : Result (Unit {0}) ReadError) → IfOk checked (λ _. P value) → IfOk (result_and checked (Ok value)) P
+    keeps (Ok unit) h = h
+    keeps (Err error) h = tt
+
+  pub passed_holds : (P : A → Type 0) → P value → IfOk result P
+  passed_holds P holds = passed_ok P (each checked) where
+    each : (checked : Result (Unit {0}) ReadError) → IfOk checked (λ _. P value)
+    each (Ok unit) = holds
+    each (Err error) = tt
+
+  pub passed_err : (P : ReadError → Type 0) → IfErr checked P → IfErr result P
+  passed_err P holds = subst (λ (it : Result A ReadError). IfErr it P) (sym is) (keeps checked holds) where
+    keeps : (checked : Result (Unit {0}) ReadError) → IfErr checked P → IfErr (result_and checked (Ok value)) P
+    keeps (Ok unit) h = tt
+    keeps (Err error) h = h
 
 -- ---- what a text's constraint stands in
 
@@ -280,6 +301,21 @@ module _ (words : List Word) (schema bytes : List ℕ) (tree : ConstraintTree) w
           subst (λ (x : HeadTree). IsRuleHeadFault words schema bytes tree.body x (record { offset = offset; kind = Unsafe }))
               (sym is) (body, one, other, names, h, refl, g),
         )
+
+    -- an equality's sides are not read, or one is no constant and not in the body
+    pub sides_error : (left right : Token) (body : List (Fact Term)) (between : List Name) → tree.head ≡ Equality left right
+        → AreItems words schema bytes [] tree.body body between → (e : ReadError)
+        → (e ≡ OutOfMemory) ⊎ ((after : List Name) × (one other : Term) × (offset : ℕ) × AreTerms bytes between (left ∷ right ∷ []) (one ∷ other ∷ []) after
+        × IsUnsafeSide body left right one other offset × (e ≡ Fault (record { offset = offset; kind = Unsafe })))
+        → IsRuleError words schema bytes tree e
+    sides_error left right body between is are e (inl none) = subst (IsRuleError words schema bytes tree) (sym none) tt
+    sides_error left right body between is are e (inr (after, one, other, offset, terms, unsafe, it)) =
+        subst (IsRuleError words schema bytes tree) (sym it) (side_error left right body one other after offset is (record {
+          between = between;
+          body_atoms = are;
+          body_fits = fits;
+          sides = terms;
+        }) unsafe)
 
 pub rule_error : (version : Version) (words : List Word) (schema bytes : List ℕ) (tree : ConstraintTree) → IsConstraintText version bytes tree
     → (e : ReadError) → IsRuleError words schema bytes tree e → IsConstraintError version words schema bytes e

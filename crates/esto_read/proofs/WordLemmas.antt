@@ -43,6 +43,10 @@ no_document_part part root field item value below (suc (suc (suc zero))) is = va
 no_document_part part root field item value below (suc (suc (suc (suc zero)))) is = below (sym (same_Some _ _ is))
 no_document_part part root field item value below (suc (suc (suc (suc (suc place))))) is = none-some part is
 
+pub no_key_part : (part : List ℕ) → part ≢ codes "pair" → (place : ℕ) → ¬ IsPart Keys part place
+no_key_part part pair zero is = pair (sym (same_Some _ _ is))
+no_key_part part pair (suc place) is = none-some part is
+
 pub part_place : (model : DataModel) (part : List ℕ) (place other : ℕ) → IsPart model part place → IsPart model part other → place ≡ other
 part_place Table part place other h g = absurd h
 part_place Documents part place other h g = sym (document_place part place h) ∙ document_place part other g

@@ -156,8 +156,8 @@ fn atoms_of(
     }
 }
 
-/// The fault of an item that begins there.
-fn fault_at(name: Token, kind: TextKind) -> ReadError
+/// The fault of this kind at a token.
+pub fn fault_at(name: Token, kind: TextKind) -> ReadError
     ensures { result ≡ ReadError.Fault (record { offset = name.start; kind = kind }) }
 {
     ReadError::Fault(TextFault {

@@ -6,7 +6,7 @@ ghost use Rattle.esto_docmodel.specs.Shapes.{entry_shape, entries_of as pattern_
 ghost use Rattle.esto_query.specs.declared.query.Name.TheVariants.{Hidden};
 ghost use Rattle.esto_text.specs.Faults.{IsFieldIn, IsTermIn};
 ghost use Rattle.esto_text.specs.Tokens.{text_of};
-ghost use Rattle.esto_text.specs.Trees.{EachOfPath, EachOfEntry, EachOfEntries};
+ghost use Rattle.esto_text.specs.Trees.{Value, EachOfPath, EachOfEntry, EachOfEntries};
 ghost use Rattle.esto_text.specs.View.{entry_of, entries_of};
 ghost use Rattle.esto_read.specs.Items.{entry_size, entries_size};
 ghost use Rattle.esto_read.specs.Patterns.{IsFieldOf, IsStepOf, AreEntries, Puts, IsPatternOf};
@@ -59,6 +59,24 @@ fn path(alloc: Global, bytes: &[u8], steps: &[StepSyntax]) -> Result<Path, OutOf
     Ok(path)
 }
 
+/// The entry of a path and the term that stands there.
+fn value(
+    alloc: Global,
+    bytes: &[u8],
+    steps: &[StepSyntax],
+    token: Token,
+    names: &mut Names,
+) -> Result<Entry, OutOfMemory>
+    requires utf8 { IsUtf8 bytes.now }
+    requires path { EachOfPath (IsFieldIn bytes.now) steps.now }
+    requires term { IsTermIn bytes.now token }
+    ensures { IfOk result (λ it.
+        Puts bytes.now names.old (Value steps.now token) (entry_shape it) names.new) }
+{
+    let path = path(alloc, bytes, steps)?;
+    Ok(Entry::Value(path, term(alloc, bytes, token, names)?))
+}
+
 /// An entry of a group.
 #[cycle(entry)]
 fn entry(
@@ -76,10 +94,7 @@ fn entry(
         EntrySyntax::Value {
             path: steps,
             term: token,
-        } => {
-            let path = path(alloc, bytes, steps.items())?;
-            Ok(Entry::Value(path, term(alloc, bytes, *token, names)?))
-        }
+        } => value(alloc, bytes, steps.items(), *token, names),
         EntrySyntax::Group {
             path: steps,
             entries: inner,

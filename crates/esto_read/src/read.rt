@@ -9,17 +9,17 @@ ghost use Rattle.esto_text.specs.View.{tree_of};
 ghost use Rattle.esto_read.specs.declared.read.Form.{Form};
 ghost use Rattle.esto_read.specs.Words.{IsVocabulary};
 ghost use Rattle.esto_read.specs.Naming.{ViewsNameTheirColumns};
-ghost use Rattle.esto_read.specs.Readings.{HasVariables, IsAllowed, IsRefused, IsHeadFit, IsHeadFault, IsSaid, IsReading, IsTreeError, HasParts, IsReadError, HaveOneReading, HaveNoFault, HaveOneFault};
+ghost use Rattle.esto_read.specs.Readings.{IsRead, HasVariables, IsAllowed, IsRefused, IsHeadFit, IsHeadFault, IsSaid, IsReading, IsTreeError, HasParts, IsReadError, HaveOneReading, HaveNoFault, HaveOneFault};
 
-use crate::body::body;
+use crate::body::{body, fault_at};
 use crate::constant::{bytes_of, plain};
 use crate::head::{first_missing, first_repeat};
 use crate::make::query;
 use crate::term::terms;
 use crate::words::Vocabulary;
-use esto_query::{Query, Schema};
-use esto_semantics::Atom;
-use esto_term::{List, Term, Text};
+use esto_query::{Names, Query, Schema};
+use esto_semantics::{Atom, Atoms};
+use esto_term::{List, Term, Terms, Text};
 use esto_text::{
     QuerySyntax, ReadError, TextFault, TextKind, Token, read_query_tree, trees_are_determined,
 };
@@ -40,30 +40,32 @@ pub enum Form {
     View,
 }
 
-/// What is wrong with a head over a body.
-fn head_fault(
+/// What is wrong with a head over a body, as an error.
+fn demand_fit(
     form: Form,
     bytes: &[u8],
     variables: &[Token],
     head: &[Term],
     body: &[Atom],
-) -> Option<TextFault>
+) -> Result<(), ReadError>
     requires names { AllByRecursion (IsNameIn bytes.now) variables.now }
     requires lengths { length head.now ≡ length variables.now }
-    ensures { MatchOption result (IsHeadFit form bytes.now variables.now head.now body.now)
-        (IsHeadFault form bytes.now variables.now head.now body.now) }
+    ensures fit { IfOk result (λ _.
+        IsHeadFit form bytes.now variables.now head.now body.now) }
+    ensures error { IfErr result (λ error. (fault : TextFault)
+        × IsHeadFault form bytes.now variables.now head.now body.now fault
+        × (error ≡ ReadError.Fault fault)) }
 {
     if let Some(offset) = repeat(form, bytes, variables) {
-        return Some(TextFault {
+        return Err(ReadError::Fault(TextFault {
             offset,
             kind: TextKind::SameVariable,
-        });
+        }));
     }
-    let place = first_missing(head, body)?;
-    Some(TextFault {
-        offset: variables[place].start,
-        kind: TextKind::Unsafe,
-    })
+    match first_missing(head, body) {
+        Some(place) => Err(fault_at(variables[place], TextKind::Unsafe)),
+        None => Ok(()),
+    }
 }
 
 /// Where the first name stands that a head of this form may not have again.
@@ -76,6 +78,40 @@ fn repeat(form: Form, bytes: &[u8], variables: &[Token]) -> Option<u64>
         Form::Query => None,
         Form::View => first_repeat(bytes, variables),
     }
+}
+
+/// The head, the body and the names of variables that a tree of the text says, where nothing is wrong with them.
+fn head_and_body(
+    alloc: Global,
+    bytes: &[u8],
+    tree: &QuerySyntax,
+    words: &Vocabulary,
+    schema: &Schema,
+    form: Form,
+    names: &mut Names,
+) -> Result<(Terms, Atoms), ReadError>
+    requires utf8 { IsUtf8 bytes.now }
+    requires words { IsVocabulary (arities_of schema.now) words.now }
+    requires stands { StandsAt bytes.now (tree_of tree.now) }
+    requires none { names.old ≡ [] }
+    ensures read { IfOk result (λ it. IsRead
+        words.now (arities_of schema.now) bytes.now (tree_of tree.now) it.0 it.1 names.new) }
+    ensures fit { IfOk result (λ it.
+        IsHeadFit form bytes.now (tree_of tree.now).variables it.0 it.1) }
+    ensures error { IfErr result (IsTreeError
+        form words.now (arities_of schema.now) bytes.now (tree_of tree.now)) }
+{
+    let variables = tree.variables.items();
+    let head = terms(alloc, bytes, variables, names)?;
+    let body = body(
+        alloc,
+        bytes,
+        tree.items.items(),
+        words.items(),
+        schema,
+        names,
+    )?;
+    demand_fit(form, bytes, variables, head.items(), body.items()).and(Ok((head, body)))
 }
 
 /// The query or view that a tree of the text says.
@@ -99,24 +135,11 @@ pub fn said(
     ensures error { IfErr result (IsTreeError
         form words.now (arities_of schema.now) bytes.now (tree_of tree.now)) }
 {
-    let words = words.items();
     let mut names = List::new(alloc);
-    let head = terms(alloc, bytes, tree.variables.items(), &mut names)?;
-    let body = body(alloc, bytes, tree.items.items(), words, schema, &mut names)?;
-    match head_fault(
-        form,
-        bytes,
-        tree.variables.items(),
-        head.items(),
-        body.items(),
-    ) {
-        Some(fault) => Err(ReadError::Fault(fault)),
-        None => {
-            let query = query(alloc, schema, head, body, names);
-            let name = plain(alloc, bytes_of(bytes, tree.name))?;
-            Ok(NamedQuery { name, query })
-        }
-    }
+    let (head, body) = head_and_body(alloc, bytes, tree, words, schema, form, &mut names)?;
+    let query = query(alloc, schema, head, body, names);
+    let name = plain(alloc, bytes_of(bytes, tree.name))?;
+    Ok(NamedQuery { name, query })
 }
 
 /// The query or view that a text is.

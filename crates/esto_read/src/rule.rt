@@ -1,9 +1,11 @@
 //! Constraints, from their texts.
-ghost use Rattle.std.specs.Prelude.{◌≡◌, ◌↔◌, [], ◌∷◌, All, IsTrue, IsUtf8, MatchOption, IfOk, IfErr};
+ghost use Rattle.std.specs.Prelude.{◌≡◌, ◌↔◌, ◌⊎◌, ℕ, List, [], ◌∷◌, All, IsTrue, IsUtf8, IfOk, IfErr};
 ghost use Rattle.esto_constraint.specs.Constraints.{rule_of};
 ghost use Rattle.esto_query.specs.Schemas.{arities_of};
+ghost use Rattle.esto_query.specs.declared.query.Name.{Name};
 ghost use Rattle.esto_semantics.specs.Maps.{IsFixedBy};
 ghost use Rattle.esto_semantics.specs.WellFormed.{IsRuleOver};
+ghost use Rattle.esto_term.specs.declared.term.Term.{Term};
 ghost use Rattle.esto_text.specs.Faults.{IsTermIn, IsConstraintText, ConstraintStandsAt};
 ghost use Rattle.esto_text.specs.View.{constraint_of};
 ghost use Rattle.esto_text.specs.declared.version.Version.{Version};
@@ -11,17 +13,17 @@ ghost use Rattle.esto_read.specs.Terms.{AreTerms};
 ghost use Rattle.esto_read.specs.Words.{HasRelations, IsVocabulary};
 ghost use Rattle.esto_read.specs.Constraints.{IsUnsafeSide, IsRuleOf, IsRuleError, IsConstraintReading, IsConstraintError, HaveOneRule, HaveNoRuleFault, HaveOneRuleFault};
 
-use crate::body::body;
+use crate::body::{body, fault_at};
 use crate::make::{denial, equal_rule, tuple_rule};
 use crate::term::term;
 use crate::words::{Vocabulary, Word};
 use esto_constraint::Constraint;
 use esto_query::{Names, Schema, mentions};
 use esto_semantics::Atom;
-use esto_term::{List, OutOfMemory, Term};
+use esto_term::{List, Term};
 use esto_text::{
-    ConstraintSyntax, HeadSyntax, ReadError, TextFault, TextKind, Token, Version,
-    read_constraint_tree, trees_are_determined,
+    ConstraintSyntax, HeadSyntax, ReadError, TextKind, Token, Version, read_constraint_tree,
+    trees_are_determined,
 };
 use std::alloc::Global;
 
@@ -32,44 +34,55 @@ fn is_fixed(term: &Term, body: &[Atom]) -> bool
     term.is_constant() || mentions(body, term)
 }
 
-/// Where the first side of an equality begins, left and then right, that is no constant and not in the body.
-fn unsafe_side(
+/// The fault of the first side of an equality, left and then right, that is no constant and not in the body.
+fn demand_fixed(
     left: Token,
     right: Token,
     left_term: &Term,
     right_term: &Term,
     body: &[Atom],
-) -> Option<u64>
-    ensures { MatchOption result
-        (IsFixedBy body.now left_term.now × IsFixedBy body.now right_term.now)
-        (IsUnsafeSide body.now left right left_term.now right_term.now) }
+) -> Result<(), ReadError>
+    ensures fixed { IfOk result (λ _.
+        IsFixedBy body.now left_term.now × IsFixedBy body.now right_term.now) }
+    ensures error { IfErr result (λ error. (offset : ℕ)
+        × IsUnsafeSide body.now left right left_term.now right_term.now offset
+        × (error ≡ ReadError.Fault (record { offset = offset; kind = TextKind.Unsafe }))) }
 {
     if !is_fixed(left_term, body) {
-        return Some(left.start);
+        return Err(fault_at(left, TextKind::Unsafe));
     }
     if !is_fixed(right_term, body) {
-        return Some(right.start);
+        return Err(fault_at(right, TextKind::Unsafe));
     }
-    None
+    Ok(())
 }
 
-/// The terms at the two sides of an equality.
-fn sides(
+/// The terms at the two sides of an equality over the atoms; or the fault of the first side that is no constant and not
+/// in them.
+fn safe_sides(
     alloc: Global,
     bytes: &[u8],
     left: Token,
     right: Token,
+    body: &[Atom],
     names: &mut Names,
-) -> Result<(Term, Term), OutOfMemory>
+) -> Result<(Term, Term), ReadError>
     requires utf8 { IsUtf8 bytes.now }
     requires left { IsTermIn bytes.now left }
     requires right { IsTermIn bytes.now right }
-    ensures { IfOk result (λ it.
+    ensures sides { IfOk result (λ it.
         AreTerms bytes.now names.old (left ∷ right ∷ []) (it.0 ∷ it.1 ∷ []) names.new) }
+    ensures fixed { IfOk result (λ it.
+        IsFixedBy body.now it.0 × IsFixedBy body.now it.1) }
+    ensures error { IfErr result (λ error. (error ≡ ReadError.OutOfMemory)
+        ⊎ ((after : List Name) × (one other : Term) × (offset : ℕ)
+        × AreTerms bytes.now names.old (left ∷ right ∷ []) (one ∷ other ∷ []) after
+        × IsUnsafeSide body.now left right one other offset
+        × (error ≡ ReadError.Fault (record { offset = offset; kind = TextKind.Unsafe })))) }
 {
-    let left = term(alloc, bytes, left, names)?;
-    let right = term(alloc, bytes, right, names)?;
-    Ok((left, right))
+    let left_term = term(alloc, bytes, left, names)?;
+    let right_term = term(alloc, bytes, right, names)?;
+    demand_fixed(left, right, &left_term, &right_term, body).and(Ok((left_term, right_term)))
 }
 
 /// The constraint that a tree of the text says.
@@ -99,14 +112,8 @@ fn said_rule(
             Ok(tuple_rule(alloc, schema, atoms, head, names))
         }
         HeadSyntax::Equality { left, right } => {
-            let (left_term, right_term) = sides(alloc, bytes, *left, *right, &mut names)?;
-            match unsafe_side(*left, *right, &left_term, &right_term, atoms.items()) {
-                Some(offset) => Err(ReadError::Fault(TextFault {
-                    offset,
-                    kind: TextKind::Unsafe,
-                })),
-                None => Ok(equal_rule(alloc, schema, atoms, left_term, right_term, names)),
-            }
+            let (left, right) = safe_sides(alloc, bytes, *left, *right, atoms.items(), &mut names)?;
+            Ok(equal_rule(alloc, schema, atoms, left, right, names))
         }
         HeadSyntax::Never => Ok(denial(alloc, schema, atoms, names)),
     }

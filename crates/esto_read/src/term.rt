@@ -1,7 +1,7 @@
 //! Terms, and the numbers of variables.
 ghost use Rattle.std.specs.Prelude.{◌≡◌, ◌≢◌, [], ◌∷◌, ◌++◌, List, ℕ, length, slice_get, Contains, Some, MatchOption, IfOk, IsTrue, ◌↔◌, IsUtf8};
 ghost use Rattle.std.specs.List.{AllByRecursion};
-ghost use Rattle.esto_query.specs.declared.query.Name.TheVariants.{Given};
+ghost use Rattle.esto_query.specs.declared.query.Name.TheVariants.{Given, Hidden};
 ghost use Rattle.esto_text.specs.Faults.{IsTermIn};
 ghost use Rattle.esto_text.specs.Tokens.{text_of};
 ghost use Rattle.esto_read.specs.Terms.{IsVariableOf, IsTermOf, AreTerms};
@@ -48,6 +48,16 @@ fn variable(alloc: Global, text: &[u8], names: &mut Names) -> Result<Term, OutOf
     Ok(Term::Plain(number as u64))
 }
 
+/// A new variable with no name.
+fn wildcard(names: &mut Names) -> Result<Term, OutOfMemory>
+    ensures { IfOk result (λ term.
+        (term ≡ Term.Plain (length names.old)) × (names.new ≡ names.old ++ Hidden ∷ [])) }
+{
+    let number = names.len();
+    names.push(Name::Hidden)?;
+    Ok(Term::Plain(number as u64))
+}
+
 /// The term that a token is.
 pub fn term(
     alloc: Global,
@@ -62,15 +72,8 @@ pub fn term(
 {
     let text = bytes_of(bytes, token);
     match token.kind {
-        TokenKind::Name => {
-            let term = variable(alloc, text, names)?;
-            Ok(term)
-        }
-        TokenKind::Wildcard => {
-            let number = names.len();
-            names.push(Name::Hidden)?;
-            Ok(Term::Plain(number as u64))
-        }
+        TokenKind::Name => variable(alloc, text, names),
+        TokenKind::Wildcard => wildcard(names),
         TokenKind::Quoted => Ok(Term::Const(quoted(alloc, text)?)),
         _ => Ok(Term::Const(plain(alloc, text)?)),
     }

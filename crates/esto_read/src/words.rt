@@ -84,10 +84,10 @@ fn key_part(part: &[u8]) -> Option<usize>
     ensures { MatchOption result ((place : ℕ) → ¬ IsPart DataModel.Keys part.now place)
         (IsPart DataModel.Keys part.now) }
 {
-    match part {
-        b"pair" => Some(0),
-        _ => None,
+    if is_named(part, "pair") {
+        return Some(0);
     }
+    None
 }
 
 /// The place of the part of that name among the relations of a dataset of the model. None comes exactly where there is

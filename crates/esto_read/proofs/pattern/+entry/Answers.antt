@@ -1,7 +1,7 @@
 use Rattle.std.proofs.Common.{arith}
 use Rattle.std.proofs.lemmas.Result.{err_from_is_err_and}
 use Rattle.esto_text.specs.Faults.{IsFieldIn, IsTermIn}
-use Rattle.esto_read.proofs.PatternLemmas.{lighter, nested_weight, entry_stands, value_stands, group_stands, nested_stands, value_puts, group_puts, entries_more, entries_end}
+use Rattle.esto_read.proofs.PatternLemmas.{lighter, nested_weight, entry_stands, value_stands, group_stands, nested_stands, value_is, group_puts, entries_more, entries_end}
 use Rattle.esto_read.proofs.pattern.+entry.Goals as goal
 
 pub entries-entry-requires : goal.entries-entry-requires
@@ -36,22 +36,18 @@ entries-returns-in_err-push t c = let p = err_from_is_err_and c.from_residual-in
 
 -- ---- an entry
 
+pub entry-value-requires : goal.entry-value-requires
+entry-value-requires t c =
+    let stand = value_stands (IsFieldIn c.args.bytes.now) (IsTermIn c.args.bytes.now) c.args.entry.now c.in-Value.steps c.in-Value.token c.in-Value.is
+    c.requires.stands in
+    record { utf8 = c.requires.utf8; path = rw c.items.ensures stand.0; term = stand.1 }
+
+pub entry-returns-in-Value : goal.entry-returns-in-Value
+entry-returns-in-Value t c =
+    rw (value_is c.args.entry.now c.in-Value.steps c.in-Value.token c.in-Value.is) (rw c.items.ensures at c.value.ensures)
+
 pub entry-path-requires-clause-stand : goal.entry-path-requires-clause-stand
 entry-path-requires-clause-stand t c =
-    rw c.items.ensures (value_stands (IsFieldIn c.args.bytes.now) (IsTermIn c.args.bytes.now) c.args.entry.now c.in-Value.steps c.in-Value.token c.in-Value.is
-    c.requires.stands).0
-
-pub entry-term-requires-clause-stands : goal.entry-term-requires-clause-stands
-entry-term-requires-clause-stands t c =
-    (value_stands (IsFieldIn c.args.bytes.now) (IsTermIn c.args.bytes.now) c.args.entry.now c.in-Value.steps c.in-Value.token c.in-Value.is c.requires.stands).1
-
-pub entry-returns-in_ok-term-in-Value : goal.entry-returns-in_ok-term-in-Value
-entry-returns-in_ok-term-in-Value t c =
-    value_puts c.args.bytes.now c.args.names.now c.term.new.names c.args.entry.now c.in-Value.steps c.in_ok-path-in-Value.path
-    (rw c.items.ensures at c.in_ok-path-in-Value.ensures) c.in-Value.token c.in_ok-term-in-Value.field-0 c.in-Value.is c.in_ok-term-in-Value.ensures
-
-pub entry-path-requires-in-Group-clause-stand : goal.entry-path-requires-in-Group-clause-stand
-entry-path-requires-in-Group-clause-stand t c =
     rw c.items-in-Group.ensures (group_stands (IsFieldIn c.args.bytes.now) (IsTermIn c.args.bytes.now) c.args.entry.now c.in-Group.steps c.in-Group.inner
     c.in-Group.is c.requires.stands).0
 
@@ -71,6 +67,6 @@ entry-entries-requires t c = (
 
 pub entry-returns-in_ok-entries-in-Group : goal.entry-returns-in_ok-entries-in-Group
 entry-returns-in_ok-entries-in-Group t c =
-    group_puts c.args.bytes.now c.args.names.now c.entries.new.names c.args.entry.now c.in-Group.steps c.in_ok-path-in-Group.path
-    (rw c.items-in-Group.ensures at c.in_ok-path-in-Group.ensures) c.in-Group.inner c.in_ok-entries-in-Group.field-0 c.in-Group.is
+    group_puts c.args.bytes.now c.args.names.now c.entries.new.names c.in-Group.steps c.in_ok-path-in-Group.path
+    (rw c.items-in-Group.ensures at c.in_ok-path-in-Group.ensures) c.args.entry.now c.in-Group.inner c.in_ok-entries-in-Group.field-0 c.in-Group.is
     (rw c.items-in-Group-2.ensures at c.in_ok-entries-in-Group.ensures)

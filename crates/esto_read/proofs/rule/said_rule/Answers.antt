@@ -4,7 +4,7 @@ use Rattle.std.proofs.lemmas.Result.{err_from_is_err_and}
 use Rattle.esto_query.specs.Schemas.{arities_of}
 use Rattle.esto_text.specs.Trees.{Items, Equality}
 use Rattle.esto_text.specs.View.{item_of, head_of, constraint_of}
-use Rattle.esto_read.proofs.RuleLemmas.{name_is_term, head_stands, tuple_parts, equality_parts, denial_parts, tuple_said, equality_said, denial_said, body_error, head_error, side_error}
+use Rattle.esto_read.proofs.RuleLemmas.{name_is_term, head_stands, tuple_parts, equality_parts, denial_parts, tuple_said, equality_said, denial_said, body_error, head_error, sides_error}
 use Rattle.esto_read.proofs.rule.said_rule.Goals as goal
 
 -- ---- where an error is handed on
@@ -30,11 +30,18 @@ returns-in_err-head-in-Items c =
           (map item_of c.in-Items.items) (ap head_of c.in-Items.is) _ (rw c.items-in-Items.ensures at c.in_err-head-in-Items.ensures.err);
     })
 
-pub returns-in_err-left_term-in-Equality : goal.returns-in_err-left_term-in-Equality
-returns-in_err-left_term-in-Equality c =
-    let exit = c.from_residual-in_err-left_term-in-Equality.ensures.1 in
-    let p = err_from_is_err_and c.from_residual-in_err-left_term-in-Equality.result exit in
-    rw (p.1, p.2) (record { said = tt; over = tt; error = tt })
+pub returns-in_err-left-in-Equality : goal.returns-in_err-left-in-Equality
+returns-in_err-left-in-Equality c =
+    let exit = c.from_residual-in_err-left-in-Equality.ensures.1 in
+    let p = err_from_is_err_and c.from_residual-in_err-left-in-Equality.result exit in
+    rw (p.1, p.2) (record {
+      said = tt;
+      over = tt;
+      error = sides_error c.args.words.now (arities_of c.args.schema.now) c.args.bytes.now (constraint_of c.args.tree.now)
+          (rw c.items.ensures at c.in_ok-atoms.ensures.fits) c.in-Equality.left c.in-Equality.right c.in_ok-atoms.atoms c.body.new.names
+          (ap head_of c.in-Equality.is) (rw (c.new-names.ensures, c.items.ensures) at c.in_ok-atoms.ensures.ok) _
+          (rw c.items-in-Equality.ensures at c.in_err-left-in-Equality.ensures.error);
+    })
 
 -- ---- a tuple rule
 
@@ -64,39 +71,28 @@ returns-in_ok-head-in-Items-clause-said c =
 
 -- ---- an equality rule
 
-pub returns-in-Some-clause-error : goal.returns-in-Some-clause-error
-returns-in-Some-clause-error c =
-    side_error c.args.words.now (arities_of c.args.schema.now) c.args.bytes.now (constraint_of c.args.tree.now)
-    (rw c.items.ensures at c.in_ok-atoms.ensures.fits)
-    c.in-Equality.left c.in-Equality.right _ _ _ _ _ (ap head_of c.in-Equality.is) (record {
-      between = c.body.new.names;
-      body_atoms = rw (c.new-names.ensures, c.items.ensures) at c.in_ok-atoms.ensures.ok;
-      body_fits = rw c.items.ensures at c.in_ok-atoms.ensures.fits;
-      sides = c.in_ok-left_term-in-Equality.ensures;
-    }) (rw c.items-in-Equality.ensures at c.in-Some.ensures)
-
 pub equal_rule-requires : goal.equal_rule-requires
 equal_rule-requires c =
     equality_parts c.requires.text.0 c.args.words.now (arities_of c.args.schema.now) c.args.bytes.now (constraint_of c.args.tree.now)
     c.requires.text.1 c.requires.stands c.requires.relations c.in-Equality.left c.in-Equality.right (ap head_of c.in-Equality.is)
-    c.in_ok-atoms.atoms c.in_ok-left_term-in-Equality.left_term c.in_ok-left_term-in-Equality.right_term c.sides.new.names (record {
+    c.in_ok-atoms.atoms c.in_ok-left-in-Equality.left c.in_ok-left-in-Equality.right c.safe_sides.new.names (record {
       between = c.body.new.names;
       body_atoms = rw (c.new-names.ensures, c.items.ensures) at c.in_ok-atoms.ensures.ok;
       body_fits = rw c.items.ensures at c.in_ok-atoms.ensures.fits;
-      sides = c.in_ok-left_term-in-Equality.ensures;
+      sides = c.in_ok-left-in-Equality.ensures.sides;
     })
-    (rw c.items-in-Equality.ensures at c.in-None.ensures)
+    (rw c.items-in-Equality.ensures at c.in_ok-left-in-Equality.ensures.fixed)
 
-pub returns-in-None-clause-said : goal.returns-in-None-clause-said
-returns-in-None-clause-said c =
+pub returns-in_ok-left-in-Equality-clause-said : goal.returns-in_ok-left-in-Equality-clause-said
+returns-in_ok-left-in-Equality-clause-said c =
     equality_said c.args.words.now (arities_of c.args.schema.now) c.args.bytes.now (constraint_of c.args.tree.now)
     c.in-Equality.left c.in-Equality.right c.equal_rule.result
-    c.in_ok-atoms.atoms c.in_ok-left_term-in-Equality.left_term c.in_ok-left_term-in-Equality.right_term c.sides.new.names
+    c.in_ok-atoms.atoms c.in_ok-left-in-Equality.left c.in_ok-left-in-Equality.right c.safe_sides.new.names
     c.equal_rule.ensures.made (ap head_of c.in-Equality.is) (record {
       between = c.body.new.names;
       body_atoms = rw (c.new-names.ensures, c.items.ensures) at c.in_ok-atoms.ensures.ok;
       body_fits = rw c.items.ensures at c.in_ok-atoms.ensures.fits;
-      sides = c.in_ok-left_term-in-Equality.ensures;
+      sides = c.in_ok-left-in-Equality.ensures.sides;
     })
 
 -- ---- a denial
@@ -139,16 +135,16 @@ body-requires-in-Items-clause-stand c =
 pub body-requires-in-Items-clause-relations : goal.body-requires-in-Items-clause-relations
 body-requires-in-Items-clause-relations c = c.requires.relations
 
-pub sides-requires-clause-utf8 : goal.sides-requires-clause-utf8
-sides-requires-clause-utf8 c = c.requires.text.1.1.0
+pub safe_sides-requires-clause-utf8 : goal.safe_sides-requires-clause-utf8
+safe_sides-requires-clause-utf8 c = c.requires.text.1.1.0
 
-pub sides-requires-clause-left : goal.sides-requires-clause-left
-sides-requires-clause-left c =
+pub safe_sides-requires-clause-left : goal.safe_sides-requires-clause-left
+safe_sides-requires-clause-left c =
     name_is_term c.args.bytes.now c.in-Equality.left (head_stands c.args.bytes.now (constraint_of c.args.tree.now) c.requires.stands
     (Equality c.in-Equality.left c.in-Equality.right) (ap head_of c.in-Equality.is)).0
 
-pub sides-requires-clause-right : goal.sides-requires-clause-right
-sides-requires-clause-right c =
+pub safe_sides-requires-clause-right : goal.safe_sides-requires-clause-right
+safe_sides-requires-clause-right c =
     (head_stands c.args.bytes.now (constraint_of c.args.tree.now) c.requires.stands
     (Equality c.in-Equality.left c.in-Equality.right) (ap head_of c.in-Equality.is)).1
 
@@ -157,8 +153,8 @@ sides-requires-clause-right c =
 pub returns-in_ok-head-in-Items-clause-over : goal.returns-in_ok-head-in-Items-clause-over
 returns-in_ok-head-in-Items-clause-over c = c.tuple_rule.ensures.over
 
-pub returns-in-None-clause-over : goal.returns-in-None-clause-over
-returns-in-None-clause-over c = c.equal_rule.ensures.over
+pub returns-in_ok-left-in-Equality-clause-over : goal.returns-in_ok-left-in-Equality-clause-over
+returns-in_ok-left-in-Equality-clause-over c = c.equal_rule.ensures.over
 
 pub returns-in-Never-clause-over : goal.returns-in-Never-clause-over
 returns-in-Never-clause-over c = c.denial.ensures.over

@@ -14,3 +14,9 @@ quoted-requires-clause-utf8 c = rw c.bytes_of-text.ensures (quoted_token c.args.
 
 pub quoted-requires-clause-quoted : goal.quoted-requires-clause-quoted
 quoted-requires-clause-quoted c = rw c.bytes_of-text.ensures (quoted_lexeme c.args.bytes.now c.requires.utf8 c.args.token c.requires.stands.0 c.in-Quoted.is)
+
+pub returns-in-Name : goal.returns-in-Name
+returns-in-Name c = rw c.in-Name.is (rw c.bytes_of-text.ensures at c.variable.ensures)
+
+pub returns-in-Wildcard : goal.returns-in-Wildcard
+returns-in-Wildcard c = rw c.in-Wildcard.is c.wildcard.ensures
