@@ -1,6 +1,7 @@
 -- The candidate of a set, by what the plan's expansion has for the set.
 use Rattle.std.proofs.Common.{◌≡◌, ◌≢◌, ◌↔◌, inl, inr, ℕ, ◌<◌, ◌≤◌, ◌+◌, Bool, true, false, cond, List, [], ◌∷◌, ◌++◌, length, drop, get_or, slice_index_or, Contains}
 use Rattle.std.proofs.Common.{refl, sym, ap, subst, ◌∙◌, arith}
+use Rattle.std.specs.Bool.{⊤}
 use Rattle.std.proofs.lemmas.Bool.{false_from_ne_true, false≢true}
 use Rattle.std.proofs.lemmas.List.{append-nil, append_assoc, drop_all, length-map}
 use Rattle.either.specs.Either.{MatchEither}
@@ -22,8 +23,12 @@ use Rattle.esto_semantics.specs.Sets.{Has, numbers}
 use Rattle.esto_semantics.specs.Views.{IsFragmentAnswer}
 use Rattle.esto_semantics.specs.declared.fact.Fact.{Fact}
 use Rattle.esto_semantics.proofs.SetLemmas.{beyond, numbers_have}
+use Rattle.esto_chase.specs.Chased.{IsFinishedRun, RunClashes}
+use Rattle.esto_chase.specs.declared.chasing.Chased.{Chased}
 use Rattle.esto_chase_laws.specs.RunLaws.{StartsHaveTheBody}
 use Rattle.esto_chase_laws.specs.Runs.{IsStart, start_of}
+use Rattle.esto_chase_laws.specs.declared.clash.Clash.{Clash}
+use Rattle.esto_instance.specs.Instances.{state_of}
 use Rattle.esto_constraint.specs.Constraints.{rule_of, rules_of}
 use Rattle.esto_constraint.specs.declared.rule.Constraint.{Constraint}
 use Rattle.esto_views.specs.Expanded.{Expands, facts_of}
@@ -61,14 +66,6 @@ size-some set some = by (numbers set) refl
     by : (its : List ℕ) → numbers set ≡ its → (number : ℕ) × Has set number
     by [] is = absurd (some (subst (λ its. length its ≡ 0) (sym is) refl))
     by (first ∷ rest) is = (first, (numbers_have set first).0 (subst (λ its. Contains its first) (sym is) (Contains-head first rest)))
-
--- ---- what is said of the one side or the other
-
-pub left-says : {A B : Type 0} (outcome : Either A B) (P : A → Type 0) (Q : B → Type 0) (one : A) → MatchEither outcome P Q → outcome ≡ Left one → P one
-left-says outcome P Q one says is = subst (λ it. MatchEither it P Q) is says
-
-pub right-says : {A B : Type 0} (outcome : Either A B) (P : A → Type 0) (Q : B → Type 0) (other : B) → MatchEither outcome P Q → outcome ≡ Right other → Q other
-right-says outcome P Q other says is = subst (λ it. MatchEither it P Q) is says
 
 -- ---- the facts that come from atoms of a set
 
@@ -205,3 +202,15 @@ module _ (plan : Plan) (fragments : List FragmentDef) (expanded : List ExpandedF
     contained-clashed answers start is none database meets row answer =
         let own_answer = (answers (views_of fragments) (candidate (plan_query plan) set) chosen_start.body chosen-expands database row).0 answer in
         absurd (none (subst (IsSatisfiable rules) (sym is) (database, meets, (row, own_answer))))
+
+    -- the query is received at the end of the chase, or the chase clashes
+    pub contained-received : ExpansionIsContained → ExpansionAnswers → AreRules rules → (start : ConjunctiveQuery) → start ≡ chosen_start
+        → (outcome : Either Chased Clash)
+        → MatchEither outcome (λ chased. IsFinishedRun rules start chased.instance) (RunClashes rules start)
+        → MatchEither outcome (λ chased. IsUniversalFor rules start (state_of chased.instance)) (λ _. ⊤)
+        → MatchEither outcome (λ _. IsSatisfiable rules start) (λ _. ¬ (IsSatisfiable rules start))
+        → MatchEither outcome (λ chased. MapsTo query (state_of chased.instance)) (λ _. ⊤) ↔ IsIn
+    contained-received decide answers are start is (Left chased) run universal _ =
+        let contained = contained-mapped decide are start (state_of chased.instance) is universal run.finished in
+        (λ maps. contained.1 maps, λ within. contained.0 within)
+    contained-received decide answers are start is (Right clash) _ _ none = (λ _. contained-clashed answers start is none, λ _. tt)

@@ -1,5 +1,5 @@
 -- What is found for the first few queries of a union, and for all of them.
-use Rattle.std.proofs.Common.{◌≡◌, ◌↔◌, ◌≤◌, ℕ, ◌+◌, inl, inr, Bool, List, [], ◌∷◌, Some, length, slice_get, Contains, subst, sym}
+use Rattle.std.proofs.Common.{◌≡◌, ◌↔◌, ◌⊎◌, ◌≤◌, ℕ, ◌+◌, inl, inr, Bool, List, [], ◌∷◌, Some, length, slice_get, Contains, subst, sym}
 use Rattle.esto_term.specs.declared.term.Term.{Term}
 use Rattle.esto_term.proofs.ListLemmas.{Contains-cases, Contains-head, Contains-nil, SomeBelow, some_contained, some_none, some_step}
 use Rattle.esto_semantics.specs.Sets.{Covers}
@@ -22,12 +22,12 @@ module _ (Matches : Query → List Bool → Type 0) (queries : List Query) where
     λ some. absurd (some_none (λ _ query. Matches query set) queries some),
   )
 
-  pub found_more : (count : ℕ) (query : Query) → slice_get queries count ≡ Some query → (found own after : List (List Bool))
-      → ((set : List Bool) → Covers own set ↔ Matches query set) → CoversEither found own after → AreFoundBelow count found → AreFoundBelow (count + 1) after
-  found_more count query at found own after tell either before set =
+  pub found_more : (count : ℕ) (query : Query) → slice_get queries count ≡ Some query → (found after : List (List Bool))
+      → ((set : List Bool) → Covers after set ↔ (Covers found set ⊎ Matches query set)) → AreFoundBelow count found → AreFoundBelow (count + 1) after
+  found_more count query at found after added before set =
       let step = some_step (λ _ it. Matches it set) queries count query at in (
-        λ covers. step.1 (elim ((either set).0 covers) [ inl earlier ↦ inl ((before set).0 earlier) | inr now ↦ inr ((tell set).0 now) ]),
-        λ some. (either set).1 (elim (step.0 some) [ inl earlier ↦ inl ((before set).1 earlier) | inr now ↦ inr ((tell set).1 now) ]),
+        λ covers. step.1 (elim ((added set).0 covers) [ inl earlier ↦ inl ((before set).0 earlier) | inr now ↦ inr now ]),
+        λ some. (added set).1 (elim (step.0 some) [ inl earlier ↦ inl ((before set).1 earlier) | inr now ↦ inr now ]),
       )
 
   pub found_all : (count : ℕ) → length queries ≤ count → (found : List (List Bool)) → AreFoundBelow count found
@@ -35,6 +35,14 @@ module _ (Matches : Query → List Bool → Type 0) (queries : List Query) where
   found_all count all found before set =
       let whole = some_contained (λ (query : Query). Matches query set) queries count all in
       (λ covers. whole.0 ((before set).0 covers), λ some. (before set).1 (whole.1 some))
+
+-- sets are added that cover what the query has a match in
+pub matching_added : (Matches : List Bool → Type 0) (found own after : List (List Bool)) → ((set : List Bool) → Covers own set ↔ Matches set)
+    → CoversEither found own after → (set : List Bool) → Covers after set ↔ (Covers found set ⊎ Matches set)
+matching_added Matches found own after tell either set = (
+  λ covers. elim ((either set).0 covers) [ inl earlier ↦ inl earlier | inr now ↦ inr ((tell set).0 now) ],
+  λ some. (either set).1 (elim some [ inl earlier ↦ inl earlier | inr now ↦ inr ((tell set).1 now) ]),
+)
 
 -- what is handed over are the entries, the body and the targets
 pub handed_over : (sets : List (List Bool)) (set : List Bool) (entries its : List Entry) (head : List Term) (body atoms : List (Fact Term))

@@ -1,15 +1,16 @@
 -- What a visit of sets leaves, and that at the end the kept sets are the minimal ones of those that pass.
-use Rattle.std.proofs.Common.{◌≡◌, ◌↔◌, ◌⊎◌, inl, inr, ℕ, zero, suc, ◌+◌, ◌<◌, ◌≤◌, Bool, true, false, cond, not, List, [], ◌∷◌, ◌++◌, length, filter, take, get_or, Contains, Option, Some, None, IfSome, MatchOption, refl, sym, ap, subst, ◌∙◌, arith}
+use Rattle.std.proofs.Common.{◌≡◌, ◌↔◌, ◌⊎◌, inl, inr, ℕ, zero, suc, ◌+◌, ◌<◌, ◌≤◌, Bool, true, false, cond, not, List, [], ◌∷◌, ◌++◌, length, filter, take, get_or, slice_get, Contains, Option, Some, None, IfSome, MatchOption, refl, sym, ap, subst, ◌∙◌, arith}
 use Rattle.std.proofs.lemmas.Bool.{cases_order, false≢true}
 use Rattle.std.proofs.lemmas.List.{take_more, take_all}
+use Rattle.std.proofs.lemmas.Option.{same_Some, slice_get_within}
 use Rattle.std.proofs.lemmas.List.Elements.{Contains-append_left, Contains-push, Contains-push_cases}
 use Rattle.esto_term.proofs.ChoiceLemmas.{Decided, decided_below, decided_both, decided_not}
-use Rattle.esto_term.proofs.ListLemmas.{Contains-cases, Contains-filter_from, Contains-head, Contains-nil, Contains-rest}
+use Rattle.esto_term.proofs.ListLemmas.{at_end, Contains-at, Contains-cases, Contains-filter_from, Contains-head, Contains-nil, Contains-rest}
 use Rattle.esto_semantics.specs.Sets.{Has, Within, Covers, IsMinimal, Rises}
 use Rattle.esto_semantics.proofs.SetLemmas.{beyond, decided_has, within_trans, within_same}
 use Rattle.esto_bits.specs.Kept.{IsAntichain, CoversAlso, is_covered, is_within, with_set}
 use Rattle.esto_bits.proofs.FamilyLemmas.{antichain-same}
-use Rattle.esto_backchase.specs.Searching.{AreFailing, FailsWith, HasOneOf, IsBetween, IsWithRange, Visited}
+use Rattle.esto_backchase.specs.Searching.{AreFailing, FailsAt, FailsWith, HasOneOf, IsBetween, IsWithRange, Visited}
 
 -- ---- how many numbers a set lacks
 
@@ -219,26 +220,34 @@ module _ (set left_out : List Bool) where
     )
 
     -- such a set has one of the numbers before the next one, or it has that one and none before it
-    pub one-splits : (earlier more : List Bool) → AreEarlier numbers count earlier → length more ≡ length set
-        → ((k : ℕ) → Has more k ↔ ((k ≡ number) ⊎ Has set k))
-        → (other : List Bool) → HasOneBelow numbers (count + 1) other → HasOneBelow numbers count other ⊎ IsBetween more earlier other
-    one-splits earlier more are same has_more other (between, (k, inside, has)) = elim (decided_one (take count numbers) other) [
+    pub one-splits : (earlier : List Bool) → AreEarlier numbers count earlier → (other : List Bool) → HasOneBelow numbers (count + 1) other
+        → HasOneBelow numbers count other ⊎ (IsBetween set earlier other × Has other number)
+    one-splits earlier are other (between, (k, inside, has)) = elim (decided_one (take count numbers) other) [
       | inl one ↦ inl (between, one)
-      | inr none ↦ inr (record {
-        same_length = between.same_length ∙ sym same;
-        has = λ j in_more. elim ((has_more j).0 in_more) [
-          | inl is ↦ subst (Has other) (sym is) (elim (at_more k inside) [
-            | inl old ↦ absurd (none (k, old, has))
-            | inr here ↦ subst (Has other) (sym here) has
-          ])
-          | inr own ↦ between.has j own
-        ];
-        lacks = λ j out in_other. elim ((are j).0 out) [
-          | inl left ↦ between.lacks j left in_other
-          | inr old ↦ none (j, old, in_other)
-        ];
-      })
+      | inr none ↦ inr (
+        record {
+          same_length = between.same_length;
+          has = between.has;
+          lacks = λ j out in_other. elim ((are j).0 out) [
+            | inl left ↦ between.lacks j left in_other
+            | inr old ↦ none (j, old, in_other)
+          ];
+        },
+        elim (at_more k inside) [
+          | inl old ↦ absurd (none (k, old, has))
+          | inr here ↦ subst (Has other) (sym here) has
+        ],
+      )
     ]
+
+  -- a set between that has one number more is between the set with that number and the ones left out
+  pub between-more : (more other : List Bool) (number : ℕ) → length more ≡ length set → ((k : ℕ) → Has more k ↔ ((k ≡ number) ⊎ Has set k))
+      → IsBetween set left_out other → Has other number → IsBetween more left_out other
+  between-more more other number same has_more between has = record {
+    same_length = between.same_length ∙ sym same;
+    has = λ j in_more. elim ((has_more j).0 in_more) [ inl is ↦ subst (Has other) (sym is) has | inr own ↦ between.has j own ];
+    lacks = between.lacks;
+  }
 
   pub one-none : (numbers : List ℕ) (other : List Bool) → HasOneBelow numbers 0 other → ⊥
   one-none numbers other (_, (k, inside, _)) = Contains-nil k inside
@@ -273,16 +282,28 @@ module _ (count : ℕ) (Pass : List Bool → Type 0) where
   pub failing-none : AreFailing count Pass []
   failing-none set inside = absurd (Contains-nil set inside)
 
-  pub failing-pushed : (failing : List (List Bool)) (failed : List Bool) → AreFailing count Pass failing → (length failed ≡ count) → (Pass failed → ⊥)
-      → AreFailing count Pass (failing ++ failed ∷ [])
-  failing-pushed failing failed are same fails set inside = elim (Contains-push_cases failing failed set inside) [
-    | inl old ↦ are set old
-    | inr is ↦ (sym (ap length is) ∙ same, subst (λ it. ¬ (Pass it)) is fails)
-  ]
+  pub failing-pushed : (failing after : List (List Bool)) (set failed : List Bool) → AreFailing count Pass failing → FailsWith count Pass set failed
+      → after ≡ failing ++ failed ∷ [] → AreFailing count Pass after
+  failing-pushed failing after set failed are fails pushed other inside =
+      elim (Contains-push_cases failing failed other (subst (λ sets. Contains sets other) pushed inside)) [
+        | inl old ↦ are other old
+        | inr is ↦ (sym (ap length is) ∙ fails.same_length, subst (λ it. ¬ (Pass it)) is fails.fails)
+      ]
 
-  pub fails-known : (failing : List (List Bool)) (set failed : List Bool) → AreFailing count Pass failing → Contains failing failed → Within set failed
-      → FailsWith count Pass set failed
-  fails-known failing set failed are inside within = record { same_length = (are failed inside).0; within = within; fails = (are failed inside).1 }
+  -- the place of a known set, where one is found
+  pub fails-known : (failing : List (List Bool)) (set : List Bool) (outcome : Option ℕ) (place : ℕ) → AreFailing count Pass failing
+      → IfSome outcome (λ at. (other : List Bool) × (slice_get failing at ≡ Some other) × Within set other) → outcome ≡ Some place
+      → FailsAt count Pass failing set place
+  fails-known failing set outcome place are found is =
+      let (other, here, within) = subst (λ it. IfSome it (λ at. (other : List Bool) × (slice_get failing at ≡ Some other) × Within set other)) is found in
+      let known = are other (Contains-at failing place other here) in
+      (other, here, record { same_length = known.0; within = within; fails = known.1 })
+
+  -- the place of one that is put at the end
+  pub fails-pushed : (failing after : List (List Bool)) (set failed : List Bool) (place : ℕ) → FailsWith count Pass set failed
+      → after ≡ failing ++ failed ∷ [] → place ≡ length failing → FailsAt count Pass after set place
+  fails-pushed failing after set failed place fails pushed counted =
+      (failed, rw (pushed, counted) (at_end failing failed), fails)
 
   pub fails-own : (set : List Bool) → length set ≡ count → (Pass set → ⊥) → FailsWith count Pass set set
   fails-own set same fails = record { same_length = same; within = λ number has. has; fails = fails }
@@ -300,48 +321,43 @@ module _ (count : ℕ) (Pass : List Bool → Type 0) where
       (λ other. IsWithRange set from to other × ¬ (Pass other))) is says in
       record { same_length = range.same_length ∙ same; within = λ number has. (range.has number).1 (inl has); fails = fails }
 
-  -- a set that fails has come to the known ones, or the set passes
-  abbrev pub IsNewFailing : List Bool → List (List Bool) → List (List Bool) → Option (List Bool) → Type 0
-  IsNewFailing set failing after outcome =
-      MatchOption outcome (Pass set × (after ≡ failing)) (λ failed. FailsWith count Pass set failed × ¬ (Pass set) × (after ≡ failing ++ failed ∷ []))
+  module _ (failing : List (List Bool)) (set : List Bool) (outcome : Option ℕ) (says : MatchOption outcome (Pass set) (FailsAt count Pass failing set)) where
+    pub none-passes : outcome ≡ None → Pass set
+    none-passes is = subst (λ it. MatchOption it (Pass set) (FailsAt count Pass failing set)) is says
 
-  pub new-failing : (set : List Bool) (failing after : List (List Bool)) (outcome : Option (List Bool)) → IsNewFailing set failing after outcome
-      → AreFailing count Pass failing → AreFailing count Pass after
-  new-failing set failing after None says are = subst (AreFailing count Pass) (sym says.1) are
-  new-failing set failing after (Some failed) says are =
-      subst (AreFailing count Pass) (sym says.2) (failing-pushed failing failed are (says.0).same_length (says.0).fails)
+    pub some-fails : (place : ℕ) → outcome ≡ Some place → FailsAt count Pass failing set place
+    some-fails place is = subst (λ it. MatchOption it (Pass set) (FailsAt count Pass failing set)) is says
 
-  pub new-failed : (set : List Bool) (failing after : List (List Bool)) (outcome : Option (List Bool)) → IsNewFailing set failing after outcome
-      → MatchOption outcome (Pass set) (FailsWith count Pass set)
-  new-failed set failing after None says = says.0
-  new-failed set failing after (Some failed) says = says.0
+  module _ (failing : List (List Bool)) (set : List Bool) (place : ℕ) (at : FailsAt count Pass failing set place) where
+    pub fails-within : place < length failing
+    fails-within = slice_get_within failing place at.0 at.1
 
-  pub new-known : (set : List Bool) (failing after : List (List Bool)) (outcome : Option (List Bool)) → IsNewFailing set failing after outcome
-      → IfSome outcome (Contains after)
-  new-known set failing after None says = tt
-  new-known set failing after (Some failed) says = subst (λ sets. Contains sets failed) (sym says.2) (Contains-push failing failed)
+    -- the set that is read at the place fails
+    pub fails-there : (read : List Bool) → slice_get failing place ≡ Some read → FailsWith count Pass set read
+    fails-there read there = subst (FailsWith count Pass set) (same_Some at.0 read (sym at.1 ∙ there)) at.2
 
-  pub some-fails : (outcome : Option (List Bool)) (set failed : List Bool) → MatchOption outcome (Pass set) (FailsWith count Pass set) → outcome ≡ Some failed
-      → FailsWith count Pass set failed
-  some-fails outcome set failed says is = subst (λ it. MatchOption it (Pass set) (FailsWith count Pass set)) is says
+  module _ (set left_out failed : List Bool) (fails : FailsWith count Pass set failed) (numbers its : List ℕ)
+      (exact : (number : ℕ) → Contains numbers number ↔ ((number < length failed) × ¬ (Has failed number) × ¬ (Has left_out number)))
+      (same : its ≡ numbers) where
+    -- each number that is not left out and is outside of one that fails is a number of the count that the set lacks
+    pub further-lacks : (number : ℕ) → Contains its number → (number < count) × ¬ (Has set number)
+    further-lacks number inside =
+        let it = (exact number).0 (subst (λ those. Contains those number) same inside) in
+        (omega (arith, it.0, fails.same_length), λ has. it.1 (fails.within number has))
 
-  pub none-passes : (outcome : Option (List Bool)) (set : List Bool) → MatchOption outcome (Pass set) (FailsWith count Pass set) → outcome ≡ None → Pass set
-  none-passes outcome set says is = subst (λ it. MatchOption it (Pass set) (FailsWith count Pass set)) is says
-
-  -- a set between that passes has a number that is outside of one that fails
-  pub passing-has : Rises count Pass → (set left_out failed : List Bool) → FailsWith count Pass set failed → length set ≡ count
-      → (numbers : List ℕ) → ((number : ℕ) → Contains numbers number ↔ ((number < length failed) × ¬ (Has failed number) × ¬ (Has left_out number)))
-      → (other : List Bool) → IsBetween set left_out other → Pass other → HasOneOf numbers other
-  passing-has rises set left_out failed fails same numbers exact other between passes =
-      let counted : length other ≡ count = between.same_length ∙ same in
-      elim (outside other failed) [
-        | inl within ↦ absurd (fails.fails (rises other failed counted fails.same_length within passes))
-        | inr (number, has, missing) ↦ (
-          number,
-          (exact number).1 (omega (arith, beyond other number has, counted, fails.same_length), missing, λ out. between.lacks number out has),
-          has,
-        )
-      ]
+    -- a set between that passes has one of them
+    pub passing-has : Rises count Pass → length set ≡ count → (other : List Bool) → IsBetween set left_out other → Pass other → HasOneOf its other
+    passing-has rises counted other between passes =
+        let over : length other ≡ count = between.same_length ∙ counted in
+        elim (outside other failed) [
+          | inl within ↦ absurd (fails.fails (rises other failed over fails.same_length within passes))
+          | inr (number, has, missing) ↦ (
+            number,
+            subst (λ those. Contains those number) (sym same)
+                ((exact number).1 (omega (arith, beyond other number has, over, fails.same_length), missing, λ out. between.lacks number out has)),
+            has,
+          )
+        ]
 
 -- ---- visits
 

@@ -1,5 +1,5 @@
 -- What a search among the sets of a plan's atoms looks for, and what it leaves.
-use Rattle.std.specs.Prelude.{◌≡◌, ◌↔◌, ◌⊎◌, ℕ, ◌<◌, ◌≤◌, Bool, List, length, Contains}
+use Rattle.std.specs.Prelude.{◌≡◌, ◌↔◌, ◌⊎◌, ℕ, ◌<◌, ◌≤◌, Bool, List, Some, length, slice_get, Contains}
 use Rattle.esto_semantics.specs.Sets.{Has, Covers, Within}
 
 -- The other set has each number of the set, and none of those that are left out.
@@ -32,3 +32,7 @@ pub record FailsWith (count : ℕ) (Pass : List Bool → Type 0) (set failed : L
   pub same_length : length failed ≡ count
   pub within : Within set failed
   pub fails : ¬ (Pass failed)
+
+-- At the place stands such a set.
+abbrev pub FailsAt : ℕ → (List Bool → Type 0) → List (List Bool) → List Bool → ℕ → Type 0
+FailsAt count Pass sets set place = (failed : List Bool) × (slice_get sets place ≡ Some failed) × FailsWith count Pass set failed

@@ -1,6 +1,8 @@
 //! Whether the candidate of a set of a plan's atoms is equivalent to the query.
-ghost use Rattle.std.specs.Prelude.{◌≡◌, ◌↔◌, ◌<◌, [], Contains, IsTrue, IfOk, length};
+ghost use Rattle.std.specs.Prelude.{◌≡◌, ◌↔◌, ◌<◌, [], Contains, IsTrue, IfOk, length, ⊤};
+ghost use Rattle.either.specs.Either.{MatchEither};
 ghost use Rattle.esto_semantics.specs.Containment.{IsContained};
+ghost use Rattle.esto_semantics.specs.Instances.{MapsTo};
 ghost use Rattle.esto_semantics.specs.Listed.{candidate};
 ghost use Rattle.esto_semantics.specs.Queries.{IsAnswer};
 ghost use Rattle.esto_semantics.specs.Views.{IsFragmentAnswer};
@@ -14,10 +16,10 @@ ghost use Rattle.esto_instance.specs.Instances.{state_of, trace_of};
 ghost use Rattle.esto_backchase.specs.Candidates.{facts_chosen, IsSearch, Answers};
 
 use crate::safety::is_safe;
-use either::{Left, Right};
+use either::{Either, Left, Right};
 use esto_bits::RowBits;
 use esto_catalog::{Catalogue, catalogues_are_sound};
-use esto_chase::chase;
+use esto_chase::{Chased, Clash, chase};
 use esto_chase_laws::queries_have_starts;
 use esto_constraint::rules_are_sound;
 use esto_instance::Instance;
@@ -72,6 +74,22 @@ impl Search<'_> {
         Instance::of_facts(alloc, &facts, &self.plan.head)
     }
 
+    /// Whether the query maps, head to head, to the end of a chase, or the chase clashes.
+    fn is_received(
+        &self,
+        alloc: Global,
+        outcome: &Either<Chased, Clash>,
+    ) -> Result<bool, OutOfMemory>
+        ensures { IfOk result (λ answer. IsTrue answer ↔ MatchEither outcome.now
+            (λ chased. MapsTo (query_of self.now.query.now) (state_of chased.instance))
+            (λ _. ⊤)) }
+    {
+        match outcome {
+            Left(chased) => chased.instance.receives(alloc, self.query),
+            Right(_) => Ok(true),
+        }
+    }
+
     /// Whether the set's candidate is contained in the query: the query maps, head to head, to the end of the chase of
     /// what the expansion has for the set. Where that chase clashes, the candidate has no answer.
     fn is_contained(&self, alloc: Global, set: &RowBits) -> Result<bool, OutOfMemory>
@@ -92,10 +110,9 @@ impl Search<'_> {
         an_expansion_of_a_plan_expands_its_candidates();
         let start = self.start_for(alloc, set)?;
         let outcome = chase(alloc, start, &self.catalogue.rules, &self.catalogue.ranks)?;
-        match outcome {
-            Left(chased) => chased.instance.receives(alloc, self.query),
-            Right(_) => Ok(true),
-        }
+        let answer = self.is_received(alloc, &outcome);
+        drop(outcome);
+        answer
     }
 
     /// Whether the set answers the query: it has an atom, is safe, and its candidate is contained in the query.

@@ -1,5 +1,5 @@
 //! The listed sets of a plan, from the products of one conditional chase.
-ghost use Rattle.std.specs.Prelude.{◌≡◌, ◌↔◌, List, Bool, Contains, IfOk, OnOk, length};
+ghost use Rattle.std.specs.Prelude.{◌≡◌, ◌↔◌, ◌⊎◌, List, Bool, Contains, IfOk, OnOk, length};
 ghost use Rattle.esto_semantics.specs.Containment.{IsSatisfiable};
 ghost use Rattle.esto_semantics.specs.Listed.{IsListed, IsExecutableRewriting};
 ghost use Rattle.esto_semantics.specs.Plans.{IsUniversalPlan};
@@ -13,8 +13,9 @@ ghost use Rattle.esto_query.specs.Making.{query_of};
 ghost use Rattle.esto_views.specs.Fragments.{views_of, patterns_of};
 ghost use Rattle.esto_views.specs.Plans.{plan_query, IsPlanOver};
 ghost use Rattle.esto_world_laws.specs.Steps.{AreJoined};
+ghost use Rattle.esto_world_laws.specs.Worlds.{AreOfCount};
 ghost use Rattle.esto_backchase.specs.Candidates.{Answers};
-ghost use Rattle.esto_backchase.specs.Evidence.{AreConsistent, AreEntriesOf, DecideAnswers, IsLeastOfParts, OneMatchesIn};
+ghost use Rattle.esto_backchase.specs.Evidence.{AreConsistent, AreEntriesOf, DecideAnswers, IsLeastOfParts, MatchesIn, OneMatchesIn};
 ghost use Rattle.esto_backchase.specs.Listing.{MapsOntoOne};
 
 use crate::completion::executable_products;
@@ -69,6 +70,34 @@ fn add_others(alloc: Global, products: &mut Products, others: Products) -> Resul
     products.add_all(alloc, &others)
 }
 
+/// Adds to the products the minimal sets of the plan's atoms in whose worlds the query has a match, head to head with
+/// the plan's head.
+fn add_matching(
+    alloc: Global,
+    plan: &Plan,
+    query: &Query,
+    entries: &Entries,
+    products: &mut Products,
+) -> Result<(), OutOfMemory>
+    requires same_length { length plan.now.head ≡ length query.now.head }
+    requires counts { AreOfCount (length plan.now.atoms) entries.now }
+    requires joined { AreJoined entries.now entries.now }
+    requires count { products.old.count ≡ length plan.now.atoms }
+    ensures count { products.new.count ≡ products.old.count }
+    ensures covers { OnOk result ((set : List Bool) → Covers products.new.sets set
+        ↔ (Covers products.old.sets set ⊎ MatchesIn query.now plan.now entries.now set)) }
+{
+    let own = products_of_matches(
+        alloc,
+        entries.items(),
+        &query.head,
+        query.body.items(),
+        plan.head.items(),
+        plan.atoms.len(),
+    )?;
+    add_others(alloc, products, own)
+}
+
 /// The minimal sets of the plan's atoms in whose worlds one of the queries has a match, head to head with the plan's head:
 /// the world of a set has one exactly where one of these is a subset of the set.
 pub fn matching_products(
@@ -88,15 +117,7 @@ pub fn matching_products(
 {
     let mut found = Products::new(alloc, plan.atoms.len());
     'queries: for query in queries {
-        let own = products_of_matches(
-            alloc,
-            entries.items(),
-            &query.head,
-            query.body.items(),
-            plan.head.items(),
-            plan.atoms.len(),
-        )?;
-        add_others(alloc, &mut found, own)?;
+        add_matching(alloc, plan, query, entries, &mut found)?;
     }
     Ok(found)
 }

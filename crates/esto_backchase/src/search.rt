@@ -1,8 +1,8 @@
 //! The search for the minimal sets of a plan's atoms that answer the query.
-ghost use Rattle.std.specs.Prelude.{◌≡◌, ◌↔◌, ◌⊎◌, ◌<◌, ◌≤◌, ◌∷◌, ◌++◌, [], ℕ, List, Bool, Contains, IfOk, IfSome, OnOk, MatchOption, length};
+ghost use Rattle.std.specs.Prelude.{◌≡◌, ◌↔◌, ◌⊎◌, ◌<◌, ◌≤◌, ◌∷◌, ◌++◌, [], ℕ, List, Bool, Contains, IfOk, IfSome, OnOk, MatchOption, Some, length, slice_get};
 ghost use Rattle.esto_semantics.specs.Sets.{Has, Rises, Within};
 ghost use Rattle.esto_backchase.specs.Candidates.{IsSearch, Answers};
-ghost use Rattle.esto_backchase.specs.Searching.{AreFailing, FailsWith, HasOneOf, IsBetween, IsWithRange, Visited};
+ghost use Rattle.esto_backchase.specs.Searching.{AreFailing, FailsAt, FailsWith, HasOneOf, IsBetween, IsWithRange, Visited};
 
 use crate::candidates::Search;
 use esto_bits::{Products, RowBits, SetList};
@@ -33,23 +33,18 @@ fn with_range(alloc: Global, set: &RowBits, from: usize, to: usize) -> Result<Ro
     Ok(more)
 }
 
-/// A copy of one of the sets that has the set's numbers, if one is found.
-fn superset_in(
-    alloc: Global,
-    sets: &[RowBits],
-    set: &RowBits,
-) -> Result<Option<RowBits>, OutOfMemory>
+/// The place of one of the sets that has the set's numbers, if one is found.
+fn superset_in(sets: &SetList, set: &RowBits) -> Option<usize>
     requires { (other : List Bool) → Contains sets.now other → length other ≡ length set.now }
-    ensures { IfOk result (λ outcome. IfSome outcome
-        (λ other. Contains sets.now other × Within set.now other)) }
+    ensures { IfSome result (λ place. (other : List Bool) × (slice_get sets.now place ≡ Some other)
+        × Within set.now other) }
 {
-    'sets: for other in sets {
-        if set.within(other) {
-            let copied = other.copy(alloc)?;
-            return Ok(Some(copied));
+    'sets: for place in 0..sets.len() {
+        if set.within(sets.item(place)) {
+            return Some(place);
         }
     }
-    Ok(None)
+    None
 }
 
 /// The numbers that the set lacks.
@@ -131,46 +126,39 @@ impl Search<'_> {
         }
         let middle = from + (to - from) / 2;
         let half = self.grown(alloc, set, from, middle)?;
-        let both = self.grown(alloc, &half, middle, to)?;
-        Ok(both)
+        self.grown(alloc, &half, middle, to)
     }
 
-    /// A set that has the set's numbers and does not answer the query, put at the end of the known
-    /// ones. None comes exactly where the set answers the query, and the known ones stay as they
-    /// are then.
-    fn new_failing(
+    /// Puts a set that has the set's numbers and does not answer the query at the end of the known
+    /// ones.
+    fn add_failing(
         &self,
         alloc: Global,
         set: &RowBits,
         failing: &mut SetList,
-    ) -> Result<Option<RowBits>, OutOfMemory>
+    ) -> Result<(), OutOfMemory>
         requires search { IsSearch self.now.catalogue.now self.now.query.now self.now.plan.now
             self.now.expanded.now }
         requires count { length set.now ≡ length self.now.plan.now.atoms }
-        ensures { IfOk result (λ outcome. MatchOption outcome
-            (Answers self.now.catalogue.now self.now.query.now self.now.plan.now set.now
-            × (failing.new ≡ failing.old))
-            (λ failed. FailsWith (length self.now.plan.now.atoms)
+        requires fails { ¬ (Answers self.now.catalogue.now self.now.query.now self.now.plan.now
+            set.now) }
+        ensures { OnOk result ((failed : List Bool) × FailsWith (length self.now.plan.now.atoms)
             (Answers self.now.catalogue.now self.now.query.now self.now.plan.now) set.now failed
-            × ¬ (Answers self.now.catalogue.now self.now.query.now self.now.plan.now set.now)
-            × (failing.new ≡ failing.old ++ failed ∷ []))) }
+            × (failing.new ≡ failing.old ++ failed ∷ [])) }
     {
-        if self.answers(alloc, set)? {
-            return Ok(None);
-        }
         let failed = self.grown(alloc, set, 0, set.count())?;
-        failing.push(failed.copy(alloc)?)?;
-        Ok(Some(failed))
+        failing.push(failed)
     }
 
-    /// A set that has the set's numbers and does not answer the query, and is a known one then.
-    /// None comes only where the set answers the query.
+    /// The place of a known set that has the set's numbers and does not answer the query. Where
+    /// none is known, one is put at the end of the known ones. None comes only where the set
+    /// answers the query.
     fn failing_with(
         &self,
         alloc: Global,
         set: &RowBits,
         failing: &mut SetList,
-    ) -> Result<Option<RowBits>, OutOfMemory>
+    ) -> Result<Option<usize>, OutOfMemory>
         requires search { IsSearch self.now.catalogue.now self.now.query.now self.now.plan.now
             self.now.expanded.now }
         requires count { length set.now ≡ length self.now.plan.now.atoms }
@@ -180,15 +168,19 @@ impl Search<'_> {
             (Answers self.now.catalogue.now self.now.query.now self.now.plan.now) failing.new) }
         ensures failed { IfOk result (λ outcome. MatchOption outcome
             (Answers self.now.catalogue.now self.now.query.now self.now.plan.now set.now)
-            (FailsWith (length self.now.plan.now.atoms)
-            (Answers self.now.catalogue.now self.now.query.now self.now.plan.now) set.now)) }
-        ensures known { IfOk result (λ outcome. IfSome outcome (Contains failing.new)) }
+            (FailsAt (length self.now.plan.now.atoms)
+            (Answers self.now.catalogue.now self.now.query.now self.now.plan.now)
+            failing.new set.now)) }
     {
-        let known = superset_in(alloc, failing.items(), set)?;
-        if let Some(failed) = known {
-            return Ok(Some(failed));
+        if let Some(place) = superset_in(failing, set) {
+            return Ok(Some(place));
         }
-        self.new_failing(alloc, set, failing)
+        if self.answers(alloc, set)? {
+            return Ok(None);
+        }
+        let place = failing.len();
+        self.add_failing(alloc, set, failing)?;
+        Ok(Some(place))
     }
 
     /// Tries every set of the plan's atoms.
@@ -247,12 +239,44 @@ impl Search<'_> {
                 found.add(alloc, set)?;
                 Ok(())
             }
-            Some(failed) => {
-                let numbers = absent_in_both(alloc, &failed, left_out)?;
-                self.visit_by(alloc, set, left_out, numbers.items(), found, failing)?;
-                Ok(())
-            }
+            Some(place) => self.visit_outside(alloc, set, left_out, place, found, failing),
         }
+    }
+
+    /// Tries each set that has the set's numbers and none of those left out, where the known set at
+    /// the place has the set's numbers too and does not answer the query: each set that answers has
+    /// a number which that one lacks.
+    #[cycle(visit)]
+    fn visit_outside(
+        &self,
+        alloc: Global,
+        set: &RowBits,
+        left_out: &RowBits,
+        place: usize,
+        found: &mut Products,
+        failing: &mut SetList,
+    ) -> Result<(), OutOfMemory>
+        requires search { IsSearch self.now.catalogue.now self.now.query.now self.now.plan.now
+            self.now.expanded.now }
+        requires rises { Rises (length self.now.plan.now.atoms)
+            (Answers self.now.catalogue.now self.now.query.now self.now.plan.now) }
+        requires count { length set.now ≡ length self.now.plan.now.atoms }
+        requires left_out { length left_out.now ≡ length self.now.plan.now.atoms }
+        requires failed { FailsAt (length self.now.plan.now.atoms)
+            (Answers self.now.catalogue.now self.now.query.now self.now.plan.now)
+            failing.old set.now place }
+        requires same_count { found.old.count ≡ length self.now.plan.now.atoms }
+        requires failing { AreFailing (length self.now.plan.now.atoms)
+            (Answers self.now.catalogue.now self.now.query.now self.now.plan.now) failing.old }
+        ensures count { OnOk result (found.new.count ≡ found.old.count) }
+        ensures failing { OnOk result (AreFailing (length self.now.plan.now.atoms)
+            (Answers self.now.catalogue.now self.now.query.now self.now.plan.now) failing.new) }
+        ensures visited { OnOk result (Visited
+            (Answers self.now.catalogue.now self.now.query.now self.now.plan.now)
+            (IsBetween set.now left_out.now) found.old.sets found.new.sets) }
+    {
+        let numbers = absent_in_both(alloc, failing.item(place), left_out)?;
+        self.visit_by(alloc, set, left_out, numbers.items(), found, failing)
     }
 
     /// Tries each set that has the set's numbers, none of those left out, and one of the further
@@ -288,10 +312,42 @@ impl Search<'_> {
     {
         let mut earlier = left_out.copy(alloc)?;
         'numbers: for number in numbers {
-            let more = with_number(alloc, set, *number)?;
-            self.visit(alloc, &more, &earlier, found, failing)?;
+            self.visit_more(alloc, set, *number, &earlier, found, failing)?;
             earlier.insert(*number);
         }
         Ok(())
+    }
+
+    /// Tries each set that has the set's numbers and the further one, and none of those left out.
+    #[cycle(visit)]
+    fn visit_more(
+        &self,
+        alloc: Global,
+        set: &RowBits,
+        number: usize,
+        left_out: &RowBits,
+        found: &mut Products,
+        failing: &mut SetList,
+    ) -> Result<(), OutOfMemory>
+        requires search { IsSearch self.now.catalogue.now self.now.query.now self.now.plan.now
+            self.now.expanded.now }
+        requires rises { Rises (length self.now.plan.now.atoms)
+            (Answers self.now.catalogue.now self.now.query.now self.now.plan.now) }
+        requires count { length set.now ≡ length self.now.plan.now.atoms }
+        requires further { (number < length self.now.plan.now.atoms) × ¬ (Has set.now number) }
+        requires left_out { length left_out.now ≡ length self.now.plan.now.atoms }
+        requires same_count { found.old.count ≡ length self.now.plan.now.atoms }
+        requires failing { AreFailing (length self.now.plan.now.atoms)
+            (Answers self.now.catalogue.now self.now.query.now self.now.plan.now) failing.old }
+        ensures count { OnOk result (found.new.count ≡ found.old.count) }
+        ensures failing { OnOk result (AreFailing (length self.now.plan.now.atoms)
+            (Answers self.now.catalogue.now self.now.query.now self.now.plan.now) failing.new) }
+        ensures visited { OnOk result (Visited
+            (Answers self.now.catalogue.now self.now.query.now self.now.plan.now)
+            (λ other. IsBetween set.now left_out.now other × Has other number)
+            found.old.sets found.new.sets) }
+    {
+        let more = with_number(alloc, set, number)?;
+        self.visit(alloc, &more, left_out, found, failing)
     }
 }

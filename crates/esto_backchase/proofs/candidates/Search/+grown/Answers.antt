@@ -20,5 +20,7 @@ returns-then-to-from t c =
 
 pub returns : goal.returns
 returns t c =
-    fails-further (length c.args.self.now.plan.now.atoms) (Answers c.args.self.now.catalogue.now c.args.self.now.query.now c.args.self.now.plan.now)
-    c.args.set.now c.in_ok-half.half c.in_ok-both.both c.in_ok-half.ensures c.in_ok-both.ensures
+    let Pass = Answers c.args.self.now.catalogue.now c.args.self.now.query.now c.args.self.now.plan.now in
+    let count = length c.args.self.now.plan.now.atoms in
+    IfOk-weaker c.grown-2.result _ _ (λ both after. fails-further count Pass c.args.set.now c.in_ok-half.half both c.in_ok-half.ensures after)
+    c.grown-2.ensures

@@ -1,10 +1,11 @@
-use Rattle.std.proofs.Common.{◌+◌, ◌<◌, ℕ, true, inl, inr, ap, length, get_or, Contains, refl, sym, subst, ◌∙◌, arith}
+use Rattle.std.proofs.Common.{◌+◌, ◌<◌, true, inl, inr, ap, length, get_or, refl, sym, subst, ◌∙◌, arith}
 use Rattle.std.proofs.lemmas.List.{length-set}
 use Rattle.std.proofs.lemmas.List.Elements.{Contains-get_or}
+use Rattle.std.proofs.lemmas.Result.{on_ok_weaker}
 use Rattle.esto_semantics.specs.Sets.{Has}
 use Rattle.esto_backchase.specs.Candidates.{Answers}
 use Rattle.esto_backchase.specs.Searching.{HasOneOf, IsBetween}
-use Rattle.esto_backchase.proofs.VisitLemmas.{AreEarlier, HasOneBelow, earlier-more, earlier-none, lacks, lacks-fewer, none-passes, one-all, one-none, one-splits, passing-has, some-fails, visited-added, visited-as, visited-both, visited-covered, visited-none}
+use Rattle.esto_backchase.proofs.VisitLemmas.{AreEarlier, HasOneBelow, between-more, earlier-more, earlier-none, fails-there, fails-within, further-lacks, lacks, lacks-fewer, none-passes, one-all, one-none, one-splits, passing-has, some-fails, visited-added, visited-as, visited-both, visited-covered, visited-none}
 use Rattle.esto_backchase.proofs.candidates.Search.+visit.Goals as goal
 
 pub visit-returns-then-covered-clause-visited : goal.visit-returns-then-covered-clause-visited
@@ -17,47 +18,68 @@ pub visit-returns-in_ok-add-in-None-clause-visited : goal.visit-returns-in_ok-ad
 visit-returns-in_ok-add-in-None-clause-visited t c =
     let Pass = Answers c.args.self.now.catalogue.now c.args.self.now.query.now c.args.self.now.plan.now in
     visited-added Pass (IsBetween c.args.set.now c.args.left_out.now) c.args.found.now.sets c.add.new.self.sets c.args.set.now
-    (none-passes (length c.args.self.now.plan.now.atoms) Pass c.in_ok-outcome.outcome c.args.set.now c.in_ok-outcome.ensures.failed c.in-None.is)
+    (none-passes (length c.args.self.now.plan.now.atoms) Pass c.failing_with.new.failing c.args.set.now c.in_ok-outcome.outcome
+    c.in_ok-outcome.ensures.failed c.in-None.is)
     (λ other between. between.has) c.in_ok-add-in-None.ensures.ok c.in_ok-add-in-None.ensures.covers
 
-pub visit-absent_in_both-requires : goal.visit-absent_in_both-requires
-visit-absent_in_both-requires t c =
+pub visit-visit_outside-requires : goal.visit-visit_outside-requires
+visit-visit_outside-requires t c =
     let Pass = Answers c.args.self.now.catalogue.now c.args.self.now.query.now c.args.self.now.plan.now in
-    c.requires.left_out ∙ sym (some-fails (length c.args.self.now.plan.now.atoms) Pass c.in_ok-outcome.outcome c.args.set.now c.in-Some.failed
-    c.in_ok-outcome.ensures.failed c.in-Some.is).same_length
-
-pub visit-visit_by-requires : goal.visit-visit_by-requires
-visit-visit_by-requires t c =
-    let Pass = Answers c.args.self.now.catalogue.now c.args.self.now.query.now c.args.self.now.plan.now in
-    let fails = some-fails (length c.args.self.now.plan.now.atoms) Pass c.in_ok-outcome.outcome c.args.set.now c.in-Some.failed
-    c.in_ok-outcome.ensures.failed c.in-Some.is in
-    let numbers : (number : ℕ) → Contains c.items.result.now number → (number < length c.args.self.now.plan.now.atoms) × ¬ (Has c.args.set.now number) =
-    (λ number inside.
-    let it = (c.in_ok-numbers-in-Some.ensures number).0 (subst (λ its. Contains its number) c.items.ensures inside) in
-    (omega (arith, it.0, fails.same_length), λ has. it.1 (fails.within number has))) in (
+    let failed = some-fails (length c.args.self.now.plan.now.atoms) Pass c.failing_with.new.failing c.args.set.now c.in_ok-outcome.outcome
+    c.in_ok-outcome.ensures.failed c.in-Some.place c.in-Some.is in (
       omega (arith, c.decreases),
-      (c.requires.search, (c.requires.rises, (c.requires.count, (c.requires.left_out, (numbers, (c.requires.same_count, c.in_ok-outcome.ensures.failing)))))),
+      (c.requires.search, (c.requires.rises, (c.requires.count, (c.requires.left_out, (failed, (c.requires.same_count, c.in_ok-outcome.ensures.failing)))))),
     )
 
-pub visit-returns-in_ok-visit_by-in-Some-clause-visited : goal.visit-returns-in_ok-visit_by-in-Some-clause-visited
-visit-returns-in_ok-visit_by-in-Some-clause-visited t c =
+pub visit-returns-in-Some-clause-visited : goal.visit-returns-in-Some-clause-visited
+visit-returns-in-Some-clause-visited t c = c.visit_outside.ensures.visited
+
+pub visit_outside-item-requires : goal.visit_outside-item-requires
+visit_outside-item-requires t c =
+    let Pass = Answers c.args.self.now.catalogue.now c.args.self.now.query.now c.args.self.now.plan.now in
+    fails-within (length c.args.self.now.plan.now.atoms) Pass c.args.failing.now c.args.set.now c.args.place c.requires.failed
+
+pub visit_outside-absent_in_both-requires : goal.visit_outside-absent_in_both-requires
+visit_outside-absent_in_both-requires t c =
+    let Pass = Answers c.args.self.now.catalogue.now c.args.self.now.query.now c.args.self.now.plan.now in
+    c.requires.left_out
+    ∙ sym (fails-there (length c.args.self.now.plan.now.atoms) Pass c.args.failing.now c.args.set.now c.args.place c.requires.failed
+    c.item.result.now c.item.ensures).same_length
+
+pub visit_outside-visit_by-requires : goal.visit_outside-visit_by-requires
+visit_outside-visit_by-requires t c =
     let Pass = Answers c.args.self.now.catalogue.now c.args.self.now.query.now c.args.self.now.plan.now in
     let count = length c.args.self.now.plan.now.atoms in
-    visited-as Pass (IsBetween c.args.set.now c.args.left_out.now)
-    (λ other. IsBetween c.args.set.now c.args.left_out.now other × HasOneOf c.items.result.now other)
-    c.args.found.now.sets c.visit_by.new.found.sets c.in_ok-visit_by-in-Some.ensures.visited
+    let set = c.args.set.now in
+    let fails = fails-there count Pass c.args.failing.now set c.args.place c.requires.failed c.item.result.now c.item.ensures in
+    let numbers = further-lacks count Pass set c.args.left_out.now c.item.result.now fails c.in_ok-numbers.numbers c.items.result.now
+    c.in_ok-numbers.ensures c.items.ensures in (
+      omega (arith, c.decreases),
+      (c.requires.search, (c.requires.rises, (c.requires.count, (c.requires.left_out, (numbers, (c.requires.same_count, c.requires.failing)))))),
+    )
+
+pub visit_outside-returns-clause-count : goal.visit_outside-returns-clause-count
+visit_outside-returns-clause-count t c = c.visit_by.ensures.count
+
+pub visit_outside-returns-clause-failing : goal.visit_outside-returns-clause-failing
+visit_outside-returns-clause-failing t c = c.visit_by.ensures.failing
+
+pub visit_outside-returns-clause-visited : goal.visit_outside-returns-clause-visited
+visit_outside-returns-clause-visited t c =
+    let Pass = Answers c.args.self.now.catalogue.now c.args.self.now.query.now c.args.self.now.plan.now in
+    let count = length c.args.self.now.plan.now.atoms in
+    let set = c.args.set.now in
+    let left_out = c.args.left_out.now in
+    let fails = fails-there count Pass c.args.failing.now set c.args.place c.requires.failed c.item.result.now c.item.ensures in
+    on_ok_weaker c.visit_by.result
+    (λ visited. visited-as Pass (IsBetween set left_out) (λ other. IsBetween set left_out other × HasOneOf c.items.result.now other)
+    c.args.found.now.sets c.visit_by.new.found.sets visited
     (λ other between passes. (
       between,
-      subst (λ numbers. HasOneOf numbers other) (sym c.items.ensures)
-          (passing-has count Pass c.requires.rises c.args.set.now c.args.left_out.now c.in-Some.failed
-          (some-fails count Pass c.in_ok-outcome.outcome c.args.set.now c.in-Some.failed c.in_ok-outcome.ensures.failed c.in-Some.is)
-          c.requires.count c.in_ok-numbers-in-Some.numbers c.in_ok-numbers-in-Some.ensures other between passes),
-    ))
-
-pub visit_by-with_number-requires : goal.visit_by-with_number-requires
-visit_by-with_number-requires t c =
-    let inside = Contains-get_or c.args.numbers.now c.numbers.number-index 0 c.numbers-test.true in
-    omega (arith, (c.requires.numbers (get_or c.args.numbers.now c.numbers.number-index 0) inside).0, c.requires.count)
+      passing-has count Pass set left_out c.item.result.now fails c.in_ok-numbers.numbers c.items.result.now c.in_ok-numbers.ensures
+          c.items.ensures c.requires.rises c.requires.count other between passes,
+    )))
+    c.visit_by.ensures.visited
 
 pub visit_by-numbers-init : goal.visit_by-numbers-init
 visit_by-numbers-init t c =
@@ -73,23 +95,19 @@ visit_by-numbers-init t c =
       visited = visited-none Pass (HasOneBelow set left_out numbers 0) c.args.found.now.sets (one-none set left_out numbers);
     }
 
-pub visit_by-visit-requires : goal.visit_by-visit-requires
-visit_by-visit-requires t c =
-    let number = get_or c.args.numbers.now c.numbers.number-index 0 in
-    let inside = Contains-get_or c.args.numbers.now c.numbers.number-index 0 c.numbers-test.true in
-    let fewer : lacks c.in_ok-more.more < lacks c.args.set.now =
-    lacks-fewer c.args.set.now c.in_ok-more.more number c.in_ok-more.ensures.count (λ k has. (c.in_ok-more.ensures.has k).1 (inr has))
-    ((c.in_ok-more.ensures.has number).1 (inl refl)) (c.requires.numbers number inside).1 in (
-      omega (arith, c.decreases, fewer),
+pub visit_by-visit_more-requires : goal.visit_by-visit_more-requires
+visit_by-visit_more-requires t c =
+    let inside = Contains-get_or c.args.numbers.now c.numbers.number-index 0 c.numbers-test.true in (
+      omega (arith, c.decreases),
       (
         c.requires.search,
         (
           c.requires.rises,
           (
-            c.in_ok-more.ensures.count ∙ c.requires.count,
+            c.requires.count,
             (
-              c.numbers.invariant.earlier_count,
-              (c.numbers.invariant.same_count ∙ c.requires.same_count, c.numbers.invariant.failing),
+              c.requires.numbers (get_or c.args.numbers.now c.numbers.number-index 0) inside,
+              (c.numbers.invariant.earlier_count, (c.numbers.invariant.same_count ∙ c.requires.same_count, c.numbers.invariant.failing)),
             ),
           ),
         ),
@@ -113,13 +131,12 @@ visit_by-numbers-preserved t c =
       earlier_count = ap length c.insert.ensures.value ∙ length-set c.numbers.earlier number true ∙ c.numbers.invariant.earlier_count;
       earlier = earlier-more set left_out numbers index number c.numbers-test.true refl c.numbers.earlier c.insert.new.self
           c.numbers.invariant.earlier c.insert.ensures.has;
-      same_count = c.in_ok-visit.ensures.count ∙ c.numbers.invariant.same_count;
-      failing = c.in_ok-visit.ensures.failing;
+      same_count = c.in_ok-visit_more.ensures.count ∙ c.numbers.invariant.same_count;
+      failing = c.in_ok-visit_more.ensures.failing;
       visited = visited-both Pass (HasOneBelow set left_out numbers (index + 1)) (HasOneBelow set left_out numbers index)
-          (IsBetween c.in_ok-more.more c.numbers.earlier) c.args.found.now.sets c.numbers.found.sets c.visit.new.found.sets
-          c.numbers.invariant.visited c.in_ok-visit.ensures.visited
-          (one-splits set left_out numbers index number c.numbers-test.true refl c.numbers.earlier c.in_ok-more.more c.numbers.invariant.earlier
-          c.in_ok-more.ensures.count c.in_ok-more.ensures.has);
+          (λ other. IsBetween set c.numbers.earlier other × Has other number) c.args.found.now.sets c.numbers.found.sets c.visit_more.new.found.sets
+          c.numbers.invariant.visited c.in_ok-visit_more.ensures.visited
+          (one-splits set left_out numbers index number c.numbers-test.true refl c.numbers.earlier c.numbers.invariant.earlier);
     }
 
 pub visit_by-returns-clause-visited : goal.visit_by-returns-clause-visited
@@ -145,14 +162,53 @@ visit-returns-in_ok-add-in-None-clause-count t c = c.add.ensures.count
 pub visit-returns-in_ok-add-in-None-clause-failing : goal.visit-returns-in_ok-add-in-None-clause-failing
 visit-returns-in_ok-add-in-None-clause-failing t c = c.in_ok-outcome.ensures.failing
 
-pub visit-returns-in_ok-visit_by-in-Some-clause-count : goal.visit-returns-in_ok-visit_by-in-Some-clause-count
-visit-returns-in_ok-visit_by-in-Some-clause-count t c = c.in_ok-visit_by-in-Some.ensures.count
+pub visit-returns-in-Some-clause-count : goal.visit-returns-in-Some-clause-count
+visit-returns-in-Some-clause-count t c = c.visit_outside.ensures.count
 
-pub visit-returns-in_ok-visit_by-in-Some-clause-failing : goal.visit-returns-in_ok-visit_by-in-Some-clause-failing
-visit-returns-in_ok-visit_by-in-Some-clause-failing t c = c.in_ok-visit_by-in-Some.ensures.failing
+pub visit-returns-in-Some-clause-failing : goal.visit-returns-in-Some-clause-failing
+visit-returns-in-Some-clause-failing t c = c.visit_outside.ensures.failing
 
 pub visit_by-returns-clause-count : goal.visit_by-returns-clause-count
 visit_by-returns-clause-count t c = c.numbers.invariant.same_count
 
 pub visit_by-returns-clause-failing : goal.visit_by-returns-clause-failing
 visit_by-returns-clause-failing t c = c.numbers.invariant.failing
+
+pub visit_more-with_number-requires : goal.visit_more-with_number-requires
+visit_more-with_number-requires t c = omega (arith, c.requires.further.0, c.requires.count)
+
+pub visit_more-visit-requires : goal.visit_more-visit-requires
+visit_more-visit-requires t c =
+    let more = c.in_ok-more.more in
+    let has = c.in_ok-more.ensures.has in
+    let fewer : lacks more < lacks c.args.set.now =
+    lacks-fewer c.args.set.now more c.args.number c.in_ok-more.ensures.count (λ k own. (has k).1 (inr own)) ((has c.args.number).1 (inl refl))
+    c.requires.further.1 in (
+      omega (arith, c.decreases, fewer),
+      (
+        c.requires.search,
+        (
+          c.requires.rises,
+          (c.in_ok-more.ensures.count ∙ c.requires.count, (c.requires.left_out, (c.requires.same_count, c.requires.failing))),
+        ),
+      ),
+    )
+
+pub visit_more-returns-clause-count : goal.visit_more-returns-clause-count
+visit_more-returns-clause-count t c = c.visit.ensures.count
+
+pub visit_more-returns-clause-failing : goal.visit_more-returns-clause-failing
+visit_more-returns-clause-failing t c = c.visit.ensures.failing
+
+pub visit_more-returns-clause-visited : goal.visit_more-returns-clause-visited
+visit_more-returns-clause-visited t c =
+    let Pass = Answers c.args.self.now.catalogue.now c.args.self.now.query.now c.args.self.now.plan.now in
+    let set = c.args.set.now in
+    let left_out = c.args.left_out.now in
+    let number = c.args.number in
+    on_ok_weaker c.visit.result
+    (λ visited. visited-as Pass (λ other. IsBetween set left_out other × Has other number) (IsBetween c.in_ok-more.more left_out)
+    c.args.found.now.sets c.visit.new.found.sets visited
+    (λ other (between, has) _.
+    between-more set left_out c.in_ok-more.more other number c.in_ok-more.ensures.count c.in_ok-more.ensures.has between has))
+    c.visit.ensures.visited

@@ -5,10 +5,16 @@ use Rattle.esto_backchase.proofs.VisitLemmas.{AreEarlier, HasOneBelow, lacks}
 use Rattle.esto_backchase.proofs.candidates.Search.+visit.Given as goal
 
 abbrev pub decreases-visit : goal.decreases-visit
-decreases-visit l = 2 * lacks l.set.now + 1
+decreases-visit l = 4 * lacks l.set.now + 3
+
+abbrev pub decreases-visit_outside : goal.decreases-visit_outside
+decreases-visit_outside l = 4 * lacks l.set.now + 2
 
 abbrev pub decreases-visit_by : goal.decreases-visit_by
-decreases-visit_by l = 2 * lacks l.set.now
+decreases-visit_by l = 4 * lacks l.set.now + 1
+
+abbrev pub decreases-visit_more : goal.decreases-visit_more
+decreases-visit_more l = 4 * lacks l.set.now
 
 -- the sets that have one of the numbers so far are tried, and these numbers are left out then
 abbrev pub invariant-visit_by-numbers : goal.invariant-visit_by-numbers

@@ -1,17 +1,12 @@
-use Rattle.std.proofs.Common.{◌<◌, refl, sym, subst}
-use Rattle.std.specs.Bool.{⊤}
+use Rattle.std.proofs.Common.{◌<◌, sym, subst}
 use Rattle.std.proofs.lemmas.Result.{IfOk-weaker}
 use Rattle.esto_acyclic.specs.Graphs.{AreRanks, IsWithin}
 use Rattle.esto_acyclic.specs.Relations.{IsEdge}
-use Rattle.esto_chase.specs.Chased.{IsFinishedRun, RunClashes}
-use Rattle.esto_chase.specs.declared.chasing.Chased.{Chased}
-use Rattle.esto_semantics.specs.Containment.{IsSatisfiable}
-use Rattle.esto_semantics.specs.Instances.{IsUniversalFor}
 use Rattle.esto_chase_laws.specs.Runs.{IsStart}
 use Rattle.esto_constraint.specs.Constraints.{rules_of}
 use Rattle.esto_query.specs.Making.{query_of}
 use Rattle.esto_instance.specs.Instances.{state_of}
-use Rattle.esto_backchase.proofs.CandidateLemmas.{chosen-starts, contained-clashed, contained-mapped, left-says, right-says, rules-are}
+use Rattle.esto_backchase.proofs.CandidateLemmas.{chosen-starts, contained-received, rules-are}
 use Rattle.esto_backchase.proofs.candidates.Search.is_contained.Goals as goal
 
 pub start_for-requires : goal.start_for-requires
@@ -36,31 +31,14 @@ chase-requires-clause-ranks c =
     subst (λ count. AreRanks (IsEdge (rules_of c.args.self.now.catalogue.now.rules)) count c.args.self.now.catalogue.now.ranks)
     (sym sound.ranks_are.for_each) sound.ranks_are
 
-pub returns-in-Left : goal.returns-in-Left
-returns-in-Left c =
-    let it = c.args.self.now in
-    let rules = rules_of it.catalogue.now.rules in
-    let start_is = c.in_ok-start.ensures.state in
-    let end = state_of c.in-Left.chased.instance in
-    let run = left-says c.in_ok-outcome.outcome (λ (chased : Chased). IsFinishedRun rules (state_of c.in_ok-start.start) chased.instance)
-    (RunClashes rules (state_of c.in_ok-start.start)) c.in-Left.chased c.in_ok-outcome.ensures.run c.in-Left.is in
-    let universal = left-says c.in_ok-outcome.outcome (λ (chased : Chased). IsUniversalFor rules (state_of c.in_ok-start.start) (state_of chased.instance))
-    (λ _. ⊤) c.in-Left.chased c.in_ok-outcome.ensures.universal c.in-Left.is in
-    let contained = contained-mapped it.plan.now it.catalogue.now.fragments it.expanded.now c.requires.search.expands c.args.set.now c.requires.count
-    c.queries_have_starts.ensures.body rules (query_of it.query.now) c.an_expansion_of_a_plan_expands_its_candidates.ensures
-    c.an_expansion_means_the_same.ensures.contained (rules-are it.catalogue.now.rules c.rules_are_sound.ensures.rules)
-    (state_of c.in_ok-start.start) end start_is universal run.finished in
-    IfOk-weaker c.receives.result _ _ (λ _ mapped. (λ holds. contained.1 (mapped.0 holds), λ is. mapped.1 (contained.0 is))) c.receives.ensures
-
 pub returns : goal.returns
 returns c =
     let it = c.args.self.now in
     let rules = rules_of it.catalogue.now.rules in
-    let start_is = c.in_ok-start.ensures.state in
-    let none = right-says c.in_ok-outcome.outcome (λ _. IsSatisfiable rules (state_of c.in_ok-start.start))
-    (λ _. ¬ (IsSatisfiable rules (state_of c.in_ok-start.start)))
-    c.in-Right.field-0 c.in_ok-outcome.ensures.satisfiable c.in-Right.is in
-    let contained = contained-clashed it.plan.now it.catalogue.now.fragments it.expanded.now c.requires.search.expands c.args.set.now c.requires.count
+    let contained = contained-received it.plan.now it.catalogue.now.fragments it.expanded.now c.requires.search.expands c.args.set.now c.requires.count
     c.queries_have_starts.ensures.body rules (query_of it.query.now) c.an_expansion_of_a_plan_expands_its_candidates.ensures
-    c.an_expansion_means_the_same.ensures.answers (state_of c.in_ok-start.start) start_is none in
-    (λ _. contained, λ _. refl)
+    c.an_expansion_means_the_same.ensures.contained c.an_expansion_means_the_same.ensures.answers
+    (rules-are it.catalogue.now.rules c.rules_are_sound.ensures.rules) (state_of c.in_ok-start.start) c.in_ok-start.ensures.state c.in_ok-outcome.outcome
+    c.in_ok-outcome.ensures.run c.in_ok-outcome.ensures.universal c.in_ok-outcome.ensures.satisfiable in
+    IfOk-weaker c.is_received-answer.result _ _ (λ _ received. (λ holds. contained.0 (received.0 holds), λ is. received.1 (contained.1 is)))
+    c.is_received-answer.ensures
