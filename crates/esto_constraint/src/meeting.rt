@@ -104,11 +104,15 @@ fn least_active(
     let body = body_of(rule);
     let mut candidate = facts.first_match(alloc, body, start)?;
     'matches: while let Some(found) = candidate {
-        let unmet = is_active(alloc, rule, facts, &found.valuation)?;
-        if unmet {
-            return Ok(Some(found));
+        match is_active(alloc, rule, facts, &found.valuation) {
+            Ok(true) => return Ok(Some(found)),
+            Ok(false) => {}
+            Err(error) => return Err(error),
         }
-        candidate = facts.next_match(alloc, body, start, &found)?;
+        match facts.next_match(alloc, body, start, &found) {
+            Ok(next) => candidate = next,
+            Err(error) => return Err(error),
+        }
     }
     Ok(None)
 }

@@ -80,8 +80,7 @@ fn places_after(
     ensures { IfOk result (λ from. Follows after.now count bound from) }
 {
     if after.len() < count {
-        let from = Values::from_slice(alloc, after)?;
-        return Ok(from);
+        return Values::from_slice(alloc, after);
     }
     let mut from = Values::from_slice(alloc, &after[..count])?;
     from.set(count - 1, after[count - 1].saturating_add(1));

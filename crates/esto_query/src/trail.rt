@@ -101,6 +101,5 @@ pub fn bind_atom<'a>(
     if atom.relation != fact.relation {
         return Ok(false);
     }
-    let is_bound = bind_row(start, trail, atom.terms.items(), fact.terms.items())?;
-    Ok(is_bound)
+    bind_row(start, trail, atom.terms.items(), fact.terms.items())
 }

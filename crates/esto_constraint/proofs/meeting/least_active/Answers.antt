@@ -24,29 +24,29 @@ is_active-requires c =
 pub next_match-requires : goal.next_match-requires
 next_match-requires c = subst AreFlat (sym c.body_of-body.ensures) (flat_body c.args.rule.now)
 
-pub returns-then-unmet : goal.returns-then-unmet
-returns-then-unmet c =
+pub returns-in-Ok-true : goal.returns-in-Ok-true
+returns-in-Ok-true c =
     let now = rw c.in-Some.is at c.matches.invariant in
     active_here (rule_of c.args.rule.now) c.args.facts.now c.args.start.now c.requires c.in-Some.found
     (subst (λ body. IsCandidate body c.args.facts.now c.args.start.now (Holds c.args.facts.now (rule_of c.args.rule.now)) c.in-Some.found)
     c.body_of-body.ensures now)
-    (subst (λ unmet. Tells c.in-Some.found.valuation (Holds c.args.facts.now (rule_of c.args.rule.now)) unmet) c.if-unmet.true c.in_ok-unmet.ensures)
+    (subst (λ unmet. Tells c.in-Some.found.valuation (Holds c.args.facts.now (rule_of c.args.rule.now)) unmet) c.in-Ok-true.field-0-test c.in-Ok-true.ensures)
 
 pub matches-preserved : goal.matches-preserved
 matches-preserved c =
     let now = rw c.in-Some.is at c.matches.invariant in
     next_candidate _ _ _ (Holds c.args.facts.now (rule_of c.args.rule.now)) c.requires c.in-Some.found now
-    (subst (λ unmet. Tells c.in-Some.found.valuation (Holds c.args.facts.now (rule_of c.args.rule.now)) unmet) c.if-unmet.false c.in_ok-unmet.ensures)
-    c.in_ok-candidate-2.candidate c.in_ok-candidate-2.ensures.found c.in_ok-candidate-2.ensures.none
+    (subst (λ unmet. Tells c.in-Some.found.valuation (Holds c.args.facts.now (rule_of c.args.rule.now)) unmet) c.in-Ok-false.field-0-test c.in-Ok-false.ensures)
+    c.in-Ok.next c.in-Ok.ensures.found c.in-Ok.ensures.none
 
 pub matches-smaller : goal.matches-smaller
 matches-smaller c =
     let now = rw c.in-Some.is at c.matches.invariant in
     let next = next_candidate _ _ _ (Holds c.args.facts.now (rule_of c.args.rule.now)) c.requires c.in-Some.found now
-    (subst (λ unmet. Tells c.in-Some.found.valuation (Holds c.args.facts.now (rule_of c.args.rule.now)) unmet) c.if-unmet.false c.in_ok-unmet.ensures)
-    c.in_ok-candidate-2.candidate c.in_ok-candidate-2.ensures.found c.in_ok-candidate-2.ensures.none in
+    (subst (λ unmet. Tells c.in-Some.found.valuation (Holds c.args.facts.now (rule_of c.args.rule.now)) unmet) c.in-Ok-false.field-0-test c.in-Ok-false.ensures)
+    c.in-Ok.next c.in-Ok.ensures.found c.in-Ok.ensures.none in
     rw c.in-Some.is (fewer_left _ _ _
-    (Holds c.args.facts.now (rule_of c.args.rule.now)) c.requires c.in-Some.found now c.in_ok-candidate-2.candidate next c.in_ok-candidate-2.ensures.found)
+    (Holds c.args.facts.now (rule_of c.args.rule.now)) c.requires c.in-Some.found now c.in-Ok.next next c.in-Ok.ensures.found)
 
 pub returns : goal.returns
 returns c =

@@ -1,15 +1,17 @@
-use Rattle.std.proofs.Common.{◌≡◌, ◌∷◌, length, take}
+use Rattle.std.proofs.Common.{◌≡◌, ◌+◌, ◌*◌, length, take}
 use Rattle.esto_query.specs.Trails.{with_trail}
 use Rattle.esto_query.specs.Rows.{Adds}
 use Rattle.esto_query.proofs.RowLemmas.{IsRowSeen}
 use Rattle.esto_query.proofs.answer.+collect.Given as goal
 
 abbrev pub decreases-collect : goal.decreases-collect
-decreases-collect l = length l.body.now
+decreases-collect l = 2 * length l.body.now
 
-abbrev pub invariant-loop-entry : goal.invariant-loop-entry
-invariant-loop-entry l = record {
-  split : l.fn.body ≡ l.atom ∷ l.rest;
+abbrev pub decreases-collect_each : goal.decreases-collect_each
+decreases-collect_each l = 2 * length l.rest.now + 1
+
+abbrev pub invariant-collect_each-loop-entry : goal.invariant-collect_each-loop-entry
+invariant-collect_each-loop-entry l = record {
   trail : l.trail.items ≡ l.fn.trail.items;
   adds : Adds l.fn.rows.items l.rows.items (IsRowSeen l.head l.atom l.rest l.facts (take l.entry-index l.found) (with_trail l.start l.fn.trail.items));
 }
