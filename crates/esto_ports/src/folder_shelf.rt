@@ -75,10 +75,7 @@ fn read_file<R: Files>(rt: &R, alloc: Global, path: &str, most: usize) -> Result
     ensures { IfOk result (λ bytes. length bytes ≤ most) }
 {
     match fs::open(rt, path) {
-        Ok(mut file) => {
-            let bytes = read_up_to(alloc, &mut file, most)?;
-            Ok(bytes)
-        }
+        Ok(mut file) => read_up_to(alloc, &mut file, most),
         Err(_) => Err(ReadError::Fault),
     }
 }

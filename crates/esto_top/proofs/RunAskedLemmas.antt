@@ -1,5 +1,5 @@
 -- What a run asks of the shelf.
-use Rattle.std.proofs.Common.{◌≡◌, ℕ, List, [], ◌∷◌, length, slice_get, Option, Some, Result, Ok, Err, refl, subst}
+use Rattle.std.proofs.Common.{◌≡◌, ℕ, List, [], ◌∷◌, get_or, length, slice_get, Option, Some, Result, Ok, Err, refl, subst, arith}
 use Rattle.either.specs.declared.Either.TheVariants.{Left, Right}
 use Rattle.esto_catalog.specs.declared.catalogue.Catalogue.{Catalogue}
 use Rattle.esto_chase_laws.specs.declared.clash.Clash.{Clash}
@@ -109,8 +109,21 @@ queries_asks files other same catalogue queries items are number {old = old} {ne
     subst (λ (it : Option Files). AsksIn old new (runs_queries it catalogue queries number) result) same
     (subst (λ (it : List Query). AsksIn old new (runs_queries other catalogue it number) result) are asked)
 
--- two or more queries are run as a union
 module _ (files : Option Files) (catalogue : Catalogue) (number : Option ℕ) (result : Result Reply Status) where
+  -- one query is run
+  pub one_answers : (rose : Type 0) (queries : List Query) (query : Query) → length queries ≡ 1 → query ≡ get_or queries 0 query
+      → Answers (runs_query files catalogue query number) rose result → Answers (runs_queries files catalogue queries number) rose result
+  one_answers rose [] query count is answers = absurd (omega (arith, count))
+  one_answers rose (one ∷ []) query count is answers = subst (λ (it : Query). Answers (runs_query files catalogue it number) rose result) is answers
+  one_answers rose (one ∷ next ∷ queries) query count is answers = absurd (omega (arith, count))
+
+  pub one_asks : (old new : Option Names) (queries : List Query) (query : Query) → length queries ≡ 1 → query ≡ get_or queries 0 query
+      → AsksIn old new (runs_query files catalogue query number) result → AsksIn old new (runs_queries files catalogue queries number) result
+  one_asks old new [] query count is asked = absurd (omega (arith, count))
+  one_asks old new (one ∷ []) query count is asked = subst (λ (it : Query). AsksIn old new (runs_query files catalogue it number) result) is asked
+  one_asks old new (one ∷ next ∷ queries) query count is asked = absurd (omega (arith, count))
+
+  -- two or more are run as a union
   pub more_answers : (rose : Type 0) (queries : List Query) → (length queries ≡ 1 → ⊥) → Answers (runs_union files catalogue queries number) rose result
       → Answers (runs_queries files catalogue queries number) rose result
   more_answers rose [] several answers = answers

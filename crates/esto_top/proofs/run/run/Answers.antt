@@ -1,3 +1,4 @@
+use Rattle.std.proofs.Common.{◌∙◌}
 use Rattle.esto_course.proofs.Steps.{at_exit, first_stops}
 use Rattle.esto_opening.proofs.AskedSteps.{exit_asks, handed_asks, later_asks}
 use Rattle.esto_opening.proofs.Steps.{then_answers}
@@ -19,3 +20,6 @@ pub returns-clause-asked : goal.returns-clause-asked
 returns-clause-asked g c =
     let asked = rw c.in_ok-catalogue.ensures.files at c.run_read-reply.ensures.asked in
     later_asks _ _ c.in_ok-catalogue.ensures.asked asked
+
+pub returns-clause-files : goal.returns-clause-files
+returns-clause-files g c = c.run_read-reply.ensures.files ∙ c.in_ok-catalogue.ensures.files

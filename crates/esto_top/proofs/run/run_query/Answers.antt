@@ -31,3 +31,6 @@ returns-in-Right-clause-asked g c =
     let clashes = rw c.in-Right.is at c.in_ok-plan.ensures.run in
     clash_asks (g.S.Shelf.files c.args.shelf.now) c.args.catalogue.now c.args.query.now c.args.number (g.S.Shelf.asked c.args.shelf.now)
     c.in-Right.clash clashes c.no_answers.result c.no_answers.ensures
+
+pub run_plan-requires : goal.run_plan-requires
+run_plan-requires g c = let planned = rw c.in-Left.is at c.in_ok-plan.ensures.run in planned

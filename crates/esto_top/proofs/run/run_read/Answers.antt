@@ -1,3 +1,4 @@
+use Rattle.std.proofs.Common.{◌∙◌}
 use Rattle.esto_course.proofs.Steps.{at_exit, first_stops}
 use Rattle.esto_opening.proofs.AskedSteps.{exit_asks, handed_asks, later_asks}
 use Rattle.esto_opening.proofs.Steps.{then_answers}
@@ -23,3 +24,6 @@ returns-clause-asked g c =
     let asked = queries_asks (g.S.Shelf.files c.args.shelf.now) _ c.in_ok-queries.ensures.files c.args.catalogue.now c.in_ok-queries.queries c.items.result.now
     c.items.ensures c.args.number _ c.run_queries.ensures.asked in
     later_asks _ _ c.in_ok-queries.ensures.asked asked
+
+pub returns-clause-files : goal.returns-clause-files
+returns-clause-files g c = c.run_queries.ensures.files ∙ c.in_ok-queries.ensures.files

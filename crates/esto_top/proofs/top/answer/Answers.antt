@@ -7,3 +7,9 @@ returns-in-None-clause-answer g c = usage _ _ _ c.in-None.ensures.command
 
 pub returns-in-None-clause-asked : goal.returns-in-None-clause-asked
 returns-in-None-clause-asked g c = usage_asks _ _ _ c.in-None.ensures.command
+
+pub returns-in-Some-clause-answer : goal.returns-in-Some-clause-answer
+returns-in-Some-clause-answer g c = rw c.in-Some.ensures.command c.obey.ensures.answer
+
+pub returns-in-Some-clause-asked : goal.returns-in-Some-clause-asked
+returns-in-Some-clause-asked g c = rw c.in-Some.ensures.command c.obey.ensures.asked

@@ -54,3 +54,12 @@ returns-clause-after c = (
   put_whole c.args.self.now _ _ c.self.view_is c.saturating_add-self-inside.ensures _ c.args.bytes.now _ c.saturating_add-self-inside-2.ensures
       c.in_ok-append-2.ensures.ok,
 )
+
+pub returns-clause-answer : goal.returns-clause-answer
+returns-clause-answer c = c.in_ok-append-2.ensures.ok ∙ ap (λ s. s.written ++ c.args.bytes.now) c.self.view_is
+
+pub returns-clause-puts : goal.returns-clause-puts
+returns-clause-puts c = ap Some (c.saturating_add-self-inside-2.ensures ∙ ap (λ s. next_count s.puts) c.self.view_is)
+
+pub returns-in-Some-clause-puts : goal.returns-in-Some-clause-puts
+returns-in-Some-clause-puts c = ap Some (c.saturating_add-self-inside-in-Some.ensures ∙ ap (λ s. next_count s.puts) c.self.view_is)
