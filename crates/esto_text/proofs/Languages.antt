@@ -203,8 +203,10 @@ items_back c t new ws p e h =
 
 step_back : (x : Symbol) (c : TokenKind) (t : Token) (new : List Symbol) (ws : List Token) → class_of t ≡ c → step x c ≡ Some new → Langs new ws
     → Lang x (t ∷ ws)
-step_back AName Name t new ws p e h = let q : [] ≡ new = same_Some _ _ e in (t, ap (λ (l : List Token). t ∷ l) (subst (λ (l : List Symbol). Langs l ws) (sym q) h), p)
-step_back AParen LeftParen t new ws p e h = let q : [] ≡ new = same_Some _ _ e in (t, ap (λ (l : List Token). t ∷ l) (subst (λ (l : List Symbol). Langs l ws) (sym q) h), p)
+step_back AName Name t new ws p e h = let q : [] ≡ new = same_Some _ _ e in
+    (t, ap (λ (l : List Token). t ∷ l) (subst (λ (l : List Symbol). Langs l ws) (sym q) h), p)
+step_back AParen LeftParen t new ws p e h = let q : [] ≡ new = same_Some _ _ e in
+    (t, ap (λ (l : List Token). t ∷ l) (subst (λ (l : List Symbol). Langs l ws) (sym q) h), p)
 step_back ATurnstile Turnstile t new ws p e h = let q : [] ≡ new = same_Some _ _ e in
     (t, ap (λ (l : List Token). t ∷ l) (subst (λ (l : List Symbol). Langs l ws) (sym q) h), p)
 step_back ATerm c t new ws p e h = term_back t c new ws p e h

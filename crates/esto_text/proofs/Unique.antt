@@ -31,8 +31,10 @@ apart e p q other = same_false the_type _ _ other (sym p ∙ ap class_of (first_
 
 row_end_one : (P : Token → Type 0) (ns ts ns' ts' x y : List Token) → ts ++ x ≡ ts' ++ y → IsRowEnd P ns ts → IsRowEnd P ns' ts' → (ns ≡ ns') × (x ≡ y)
 row_end_one P [] ts [] ts' x y e (c, p, q) (c', p', q') = let f = along ts x ts' y (c ∷ []) (c' ∷ []) e p p' in (refl, rest_same f)
-row_end_one P [] ts (n ∷ ns') ts' x y e (c, p, q) (c', more, p', q', h, r) = let f = along ts x ts' y (c ∷ []) (c' ∷ n ∷ more) e p p' in absurd (apart f q q' refl)
-row_end_one P (n ∷ ns) ts [] ts' x y e (c, more, p, q, h, r) (c', p', q') = let f = along ts x ts' y (c ∷ n ∷ more) (c' ∷ []) e p p' in absurd (apart f q q' refl)
+row_end_one P [] ts (n ∷ ns') ts' x y e (c, p, q) (c', more, p', q', h, r) = let f = along ts x ts' y (c ∷ []) (c' ∷ n ∷ more) e p p' in
+    absurd (apart f q q' refl)
+row_end_one P (n ∷ ns) ts [] ts' x y e (c, more, p, q, h, r) (c', p', q') = let f = along ts x ts' y (c ∷ n ∷ more) (c' ∷ []) e p p' in
+    absurd (apart f q q' refl)
 row_end_one P (n ∷ ns) ts (n' ∷ ns') ts' x y e (c, more, p, q, h, r) (c', more', p', q', h', r') =
     let f = along ts x ts' y (c ∷ n ∷ more) (c' ∷ n' ∷ more') e p p' in
     let g = rest_same f in
@@ -86,10 +88,14 @@ later_one s ts s' ts' x y e (inr (i, l, r, p, q, q')) (inr (i', l', r', p', o, o
 
 -- no later step begins where a path ends
 no_later : (s : StepSyntax) (ts b x : List Token) → x ≡ ts ++ b → IsLater s ts → ¬ EndsPath x
-no_later s ts b x e (inl (d, t, p, c, h)) (inl q) = let f : class_at x ≡ class_of d = ap class_at (e ∙ ap (λ (l : List Token). l ++ b) p) in same_false the_type Colon Dot refl (sym q ∙ f ∙ c)
-no_later s ts b x e (inl (d, t, p, c, h)) (inr q) = let f : class_at x ≡ class_of d = ap class_at (e ∙ ap (λ (l : List Token). l ++ b) p) in same_false the_type LeftBrace Dot refl (sym q ∙ f ∙ c)
-no_later s ts b x e (inr (i, l, r, p, c, c')) (inl q) = let f : class_at x ≡ class_of l = ap class_at (e ∙ ap (λ (w : List Token). w ++ b) p) in same_false the_type Colon LeftBracket refl (sym q ∙ f ∙ c)
-no_later s ts b x e (inr (i, l, r, p, c, c')) (inr q) = let f : class_at x ≡ class_of l = ap class_at (e ∙ ap (λ (w : List Token). w ++ b) p) in same_false the_type LeftBrace LeftBracket refl (sym q ∙ f ∙ c)
+no_later s ts b x e (inl (d, t, p, c, h)) (inl q) = let f : class_at x ≡ class_of d = ap class_at (e ∙ ap (λ (l : List Token). l ++ b) p) in
+    same_false the_type Colon Dot refl (sym q ∙ f ∙ c)
+no_later s ts b x e (inl (d, t, p, c, h)) (inr q) = let f : class_at x ≡ class_of d = ap class_at (e ∙ ap (λ (l : List Token). l ++ b) p) in
+    same_false the_type LeftBrace Dot refl (sym q ∙ f ∙ c)
+no_later s ts b x e (inr (i, l, r, p, c, c')) (inl q) = let f : class_at x ≡ class_of l = ap class_at (e ∙ ap (λ (w : List Token). w ++ b) p) in
+    same_false the_type Colon LeftBracket refl (sym q ∙ f ∙ c)
+no_later s ts b x e (inr (i, l, r, p, c, c')) (inr q) = let f : class_at x ≡ class_of l = ap class_at (e ∙ ap (λ (w : List Token). w ++ b) p) in
+    same_false the_type LeftBrace LeftBracket refl (sym q ∙ f ∙ c)
 
 path_end_one : (path : List StepSyntax) (ts : List Token) (path' : List StepSyntax) (ts' x y : List Token) → ts ++ x ≡ ts' ++ y → EndsPath x → EndsPath y
     → IsPathEnd path ts → IsPathEnd path' ts'
