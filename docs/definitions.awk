@@ -27,8 +27,9 @@ function place_of(path,   part, count) {
     return part[2] "/" part[4]
 }
 
-# Keeps the names that an import brings in.
-function import(line,   path, place, names, count, i, words) {
+# Keeps the names that an import brings in, and those that the file hands on.
+function import(line,   path, place, names, count, i, words, own, hands_on) {
+    hands_on = line ~ /^pub /
     sub(/^.*use /, "", line)
     sub(/;$/, "", line)
     path = line
@@ -46,7 +47,9 @@ function import(line,   path, place, names, count, i, words) {
     count = split(line, names, ", *")
     for (i = 1; i <= count; i++) {
         split(names[i], words, " as ")
-        imported[file, words[2] == "" ? words[1] : words[2]] = place ~ /\/src\// ? place : place "/" words[1]
+        own = words[2] == "" ? words[1] : words[2]
+        imported[file, own] = place ~ /\/src\// ? place : place "/" words[1]
+        if (hands_on) handed_on[file "/" own] = imported[file, own]
         delete words
     }
 }
@@ -54,6 +57,7 @@ function import(line,   path, place, names, count, i, words) {
 # The definition or type that a name means in a file, or nothing.
 function meaning(name, where,   target) {
     target = (where, name) in imported ? imported[where, name] : where "/" name
+    while (target in handed_on) target = handed_on[target]
     if (target in variant_of) target = variant_of[target]
     return target in body ? target : ""
 }
@@ -101,7 +105,7 @@ is_crates { if (match($0, /^[a-z][a-z0-9_]*/)) crates[++crate_count] = substr($0
 is_list { if ($1 == "pub") files[crate, ++files_of[crate]] = $3; next }
 
 # Specs.
-!is_code && /^use / { if (is_head) header[file] = held; is_head = 0; held = ""; import($0); next }
+!is_code && /^(pub )?use / { if (is_head) header[file] = held; is_head = 0; held = ""; import($0); next }
 !is_code && /^ *-- ?/ {
     # A comment within a record stands with its field.
     if (is_block && indent_of($0) > depth) next

@@ -1,8 +1,6 @@
 -- Graphs over numbered relations: walks, cycles and ranks.
-use Rattle.std.specs.Prelude.{◌≡◌, ◌≢◌, ℕ, ◌<◌, ◌≤◌, List, [], ◌∷◌, length, Contains, slice_index}
-use Rattle.std.specs.Ordering.{nat_cmp}
-use Rattle.std.specs.Cmp.Lexicographic.{slice_cmp}
-use Rattle.std.specs.declared.cmp.Ordering.TheVariants.{Greater}
+use Rattle.std.specs.Prelude.{◌≡◌, ℕ, ◌<◌, ◌≤◌, List, [], ◌∷◌, length, Contains, slice_index}
+use Rattle.esto_semantics.specs.Matches.{IsAtMost}
 
 -- One of the edges goes from the first relation to the second.
 abbrev pub Joins : List (ℕ × ℕ) → ℕ → ℕ → Type 0
@@ -28,10 +26,6 @@ HasNoCycle Edge start = (relations : List ℕ) → ¬ (IsCycleAt Edge start rela
 -- The graph is acyclic when no cycle is at any relation.
 abbrev pub IsAcyclic : (ℕ → ℕ → Type 0) → Type 0
 IsAcyclic Edge = (start : ℕ) → HasNoCycle Edge start
-
--- The list comes before the other, number by number, or is the same.
-abbrev pub IsAtMost : List ℕ → List ℕ → Type 0
-IsAtMost relations others = slice_cmp nat_cmp relations others ≢ Greater
 
 -- It is a shortest cycle at the relation, and among the shortest the least by the list of relations.
 pub record IsLeastCycleAt (Edge : ℕ → ℕ → Type 0) (start : ℕ) (relations : List ℕ) : Type 0 where

@@ -13,6 +13,6 @@ lent_row row = map (λ text. text.now) row.items
 abbrev pub lent_rows : {Z : Type 0} → List (Vec (Bor (List ℕ)) Z) → List (List (List ℕ))
 lent_rows rows = map lent_row rows
 
--- Each row of texts comes before each later one, cell by cell by bytes.
-abbrev pub Ascend : List (List (List ℕ)) → Type 0
-Ascend rows = AllPairs (λ row other. slice_cmp (slice_cmp nat_cmp) row other ≡ Less) rows
+-- Each row of texts comes before each later one, cell by cell by bytes, so none comes twice.
+abbrev pub AreRising : List (List (List ℕ)) → Type 0
+AreRising rows = AllPairs (λ row other. slice_cmp (slice_cmp nat_cmp) row other ≡ Less) rows

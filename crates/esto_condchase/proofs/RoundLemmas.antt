@@ -17,7 +17,7 @@ use Rattle.esto_semantics.proofs.SetLemmas.{has_united, length-united}
 use Rattle.esto_constraint.specs.Constraints.{rule_of, rules_of}
 use Rattle.esto_constraint.specs.declared.rule.Constraint.{Constraint}
 use Rattle.esto_views.specs.declared.expansion.ExpandedFact.{ExpandedFact}
-use Rattle.esto_world_laws.specs.Worlds.{InWorld, Linked}
+use Rattle.esto_world_laws.specs.Worlds.{InWorld, SaysOne, Linked}
 use Rattle.esto_world_laws.specs.Matches.{taken, Touching, AreChosen, match_map}
 use Rattle.esto_chase_laws.specs.Making.{frontier, extended}
 use Rattle.esto_world_laws.specs.Steps.{IsAsked, AreAnswered, AreJoined}
@@ -30,7 +30,7 @@ use Rattle.esto_world_laws.proofs.LinkLemmas.{Linked-touching, Touching-more}
 use Rattle.esto_world_laws.proofs.GrowLemmas.{InWorld-more, IsCovered-more, Follows-append}
 use Rattle.esto_world_laws.specs.Worlds.{AreOfCount}
 use Rattle.esto_prov.specs.Taking.{made_of}
-use Rattle.esto_condchase.specs.Ways.{Links, IsFound, AreFound}
+use Rattle.esto_condchase.specs.Ways.{IsFound, AreFound}
 use Rattle.esto_condchase.specs.Rounds.{IsAdded, IsThere, Grows, IsAnswered, IsRuleAnswered, LinksAt, IsJoinedWith, IsPairJoined}
 use Rattle.esto_condchase.specs.declared.ways.Way.{Way}
 use Rattle.esto_term.proofs.PlaceLemmas.{take-item}
@@ -317,12 +317,12 @@ pair_joined entries one two x y left right is kept joined_one joined_two s t (in
     let begin : left ≡ s = cc in
     let meet : right ≡ t = cc in
     subst (λ it. IsThere (entries ++ two) (Same it u) (united x.product y.product)) begin
-    (IsThere-grows entries one two kept (Same left u) (united x.product y.product) (joined_one u (subst (λ it. Links y.claim it u) (sym meet) b)))
+    (IsThere-grows entries one two kept (Same left u) (united x.product y.product) (joined_one u (subst (λ it. SaysOne y.claim it u) (sym meet) b)))
 pair_joined entries one two x y left right is kept joined_one joined_two s t (inr a) u b =
     let both : Same left right ≡ Same t s = sym is ∙ a in
     let begin : right ≡ s = cc in
     let meet : left ≡ t = cc in
-    subst (λ it. IsThere (entries ++ two) (Same it u) (united x.product y.product)) begin (joined_two u (subst (λ it. Links y.claim it u) (sym meet) b))
+    subst (λ it. IsThere (entries ++ two) (Same it u) (united x.product y.product)) begin (joined_two u (subst (λ it. SaysOne y.claim it u) (sym meet) b))
 
 pub IsPairJoined-grows : (entries more later : List Entry) (x y : Entry) → ((entry : Entry) → Contains more entry → Contains later entry)
     → IsPairJoined (entries ++ more) x y → IsPairJoined (entries ++ later) x y
@@ -362,7 +362,7 @@ all_joined entries more pairs atoms s t u one two = by one two
     up term next it = Touching-more (InWorld-more entries (entries ++ more) atoms (λ entry inside. Contains-append_left entries more entry inside)) term next it
 
     linked : (term next : Term) → InWorld entries atoms (Same term next) ⊎ InWorld entries atoms (Same next term) → (entry : Entry) × Contains entries entry
-        × Within entry.product atoms × Links entry.claim term next
+        × Within entry.product atoms × SaysOne entry.claim term next
     linked term next (inl (entry, inside, within, is)) = (entry, inside, within, inl is)
     linked term next (inr (entry, inside, within, is)) = (entry, inside, within, inr is)
 

@@ -12,7 +12,7 @@ use Rattle.esto_term.proofs.ListLemmas.{Contains-nil, Contains-head, Contains-on
 use Rattle.esto_term.proofs.ListLemmas.{place-from_Contains}
 use Rattle.esto_term.proofs.ZipLemmas.{zip_append, zip_split, zip_weaker}
 use Rattle.esto_semantics.proofs.SetLemmas.{has_united, length-united}
-use Rattle.esto_world_laws.specs.Worlds.{InWorld}
+use Rattle.esto_world_laws.specs.Worlds.{InWorld, SaysOne}
 use Rattle.esto_semantics.specs.Facts.{terms_of}
 use Rattle.esto_world_laws.specs.Matches.{IsLike, taken, Touching, Fits, AreChosen, IsDirectMatch}
 use Rattle.esto_world_laws.specs.Derived.{Claims, IsNamed, IsUnion, IsEquality}
@@ -21,7 +21,7 @@ use Rattle.esto_world_laws.specs.declared.entry.Claim.TheVariants.{Fact as State
 use Rattle.esto_world_laws.specs.declared.entry.Entry.{Entry}
 use Rattle.esto_world_laws.proofs.LinkLemmas.{Touching-more}
 use Rattle.esto_world_laws.proofs.TakenLemmas.{Fits-push, Fits-split}
-use Rattle.esto_condchase.specs.Ways.{AreCounted, Links, met, met_by, begun, IsWay, AreLonger, AreRows, AreThrough, AreMatched, IsFound, AreFound}
+use Rattle.esto_condchase.specs.Ways.{AreCounted, met, met_by, begun, IsWay, AreLonger, AreRows, AreThrough, AreMatched, IsFound, AreFound}
 use Rattle.esto_condchase.specs.declared.ways.Way.{Way}
 use Rattle.esto_term.proofs.PlaceLemmas.{take-item}
 
@@ -118,7 +118,7 @@ module _ (entries : List Entry) (from : List Term) (term own : Term) (before : W
   }
 
   way_met_by : (place : ℕ) (entry : Entry) → slice_get entries place ≡ Some entry
-      → Links entry.claim own (taken (from ++ term ∷ []) (before.to ++ own ∷ []) term)
+      → SaysOne entry.claim own (taken (from ++ term ∷ []) (before.to ++ own ∷ []) term)
       → (facts : List ℕ) (to : List Term) → IsWay entries facts from to before
       → IsWay entries facts (from ++ term ∷ []) (to ++ own ∷ []) (met_by before own place entry.product)
   way_met_by place entry at links facts to way = record {
@@ -171,7 +171,7 @@ module _ (entries : List Entry) (from : List Term) (term own : Term) (before : W
     pub come : (way : Way) → Contains ways way → (way.to ≡ before.to ++ own ∷ [])
         × ((facts : List ℕ) (to : List Term) → IsWay entries facts from to before → IsWay entries facts (from ++ term ∷ []) (to ++ own ∷ []) way)
     pub tried : (other : ℕ) (entry : Entry) → other < place → slice_get entries other ≡ Some entry
-        → Links entry.claim own (taken (from ++ term ∷ []) (before.to ++ own ∷ []) term)
+        → SaysOne entry.claim own (taken (from ++ term ∷ []) (before.to ++ own ∷ []) term)
         → Contains ways (met_by before own other entry.product)
     pub counted : AreCounted (length before.product) ways
 
@@ -189,17 +189,18 @@ module _ (entries : List Entry) (from : List Term) (term own : Term) (before : W
       | inr apart ↦ elim apart [ inl lower ↦ inl lower | inr above ↦ absurd (omega (arith, below, above)) ]
     ]
 
-    pub longer_skip : (Links entry.claim own (taken (from ++ term ∷ []) (before.to ++ own ∷ []) term) → ⊥) → LongerSoFar (place + 1) ways
+    pub longer_skip : (SaysOne entry.claim own (taken (from ++ term ∷ []) (before.to ++ own ∷ []) term) → ⊥) → LongerSoFar (place + 1) ways
     longer_skip unlinked = record {
       come = so_far.come;
       tried = λ other its below at_other links. elim (below_cases other its below at_other) [
         | inl lower ↦ so_far.tried other its lower at_other links
-        | inr both ↦ absurd (unlinked (subst (λ (it : Entry). Links it.claim own (taken (from ++ term ∷ []) (before.to ++ own ∷ []) term)) (sym both.1) links))
+        | inr both ↦
+            absurd (unlinked (subst (λ (it : Entry). SaysOne it.claim own (taken (from ++ term ∷ []) (before.to ++ own ∷ []) term)) (sym both.1) links))
       ];
       counted = so_far.counted;
     }
 
-    pub longer_more : Links entry.claim own (taken (from ++ term ∷ []) (before.to ++ own ∷ []) term) → length before.product ≡ length entry.product
+    pub longer_more : SaysOne entry.claim own (taken (from ++ term ∷ []) (before.to ++ own ∷ []) term) → length before.product ≡ length entry.product
         → (way : Way) (later : List Way) → way ≡ met_by before own place entry.product → later ≡ ways ++ way ∷ [] → LongerSoFar (place + 1) later
     longer_more links count way later is grown = rw (grown, is) record {
       come = λ it inside. elim (Contains-push_cases ways (met_by before own place entry.product) it inside) [
@@ -232,7 +233,7 @@ module _ (entries : List Entry) (from : List Term) (term own : Term) (before : W
   }
     where
       by : (atoms : List Bool) → Within before.product atoms → (entry : Entry) → Contains entries entry → Within entry.product atoms
-          → Links entry.claim own (taken (from ++ term ∷ []) (before.to ++ own ∷ []) term)
+          → SaysOne entry.claim own (taken (from ++ term ∷ []) (before.to ++ own ∷ []) term)
           → (it : Way) × Contains ways it × (it.to ≡ before.to ++ own ∷ []) × Within it.product atoms
       by atoms within entry inside entry_within links =
           let at = place-from_Contains entries entry inside in

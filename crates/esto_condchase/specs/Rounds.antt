@@ -6,7 +6,7 @@ use Rattle.esto_semantics.specs.declared.fact.Fact.{Fact}
 use Rattle.esto_semantics.specs.Sets.{Has, Within, united}
 use Rattle.esto_views.specs.declared.expansion.ExpandedFact.{ExpandedFact}
 use Rattle.esto_world_laws.specs.Claims.{AreSameClaim}
-use Rattle.esto_world_laws.specs.Worlds.{InWorld, AreOfCount}
+use Rattle.esto_world_laws.specs.Worlds.{InWorld, AreOfCount, SaysOne}
 use Rattle.esto_semantics.specs.Facts.{terms_of}
 use Rattle.esto_world_laws.specs.Matches.{taken, match_map, IsDirectMatch}
 use Rattle.esto_world_laws.specs.Steps.{IsAsked, IsCovered}
@@ -16,7 +16,6 @@ use Rattle.esto_world_laws.specs.declared.entry.Claim.TheVariants.{Fact as State
 use Rattle.esto_world_laws.specs.declared.entry.Reason.{Reason}
 use Rattle.esto_world_laws.specs.declared.entry.Reason.TheVariants.{Expanded}
 use Rattle.esto_world_laws.specs.declared.entry.Entry.{Entry}
-use Rattle.esto_condchase.specs.Ways.{Links}
 use Rattle.esto_condchase.specs.declared.ways.Way.{Way}
 
 -- Some entry has the claim, with a product within the set.
@@ -63,14 +62,14 @@ IsRuleAnswered old new number rule =
 
 -- The entry at the place links the terms.
 abbrev pub LinksAt : List Entry → ℕ → Entry → Term → Term → Type 0
-LinksAt entries place entry term other = (slice_get entries place ≡ Some entry) × Links entry.claim term other
+LinksAt entries place entry term other = (slice_get entries place ≡ Some entry) × SaysOne entry.claim term other
 
 -- What a link and an entry link one after the other is there, with both products.
 abbrev pub IsJoinedWith : List Entry → Term → Term → List Bool → Entry → Type 0
 IsJoinedWith entries from to product second =
-    (other : Term) → Links second.claim to other → IsThere entries (Same from other) (united product second.product)
+    (other : Term) → SaysOne second.claim to other → IsThere entries (Same from other) (united product second.product)
 
 -- What two entries link one after the other is there.
 abbrev pub IsPairJoined : List Entry → Entry → Entry → Type 0
 IsPairJoined entries first second =
-    (term next : Term) → Links first.claim term next → IsJoinedWith entries term next first.product second
+    (term next : Term) → SaysOne first.claim term next → IsJoinedWith entries term next first.product second

@@ -17,10 +17,6 @@ use Rattle.esto_condchase.specs.declared.ways.Way.{Way}
 abbrev pub AreCounted : ℕ → List Way → Type 0
 AreCounted count ways = (way : Way) → Contains ways way → length way.product ≡ count
 
--- The claim says that the two terms are one, in either order.
-abbrev pub Links : Claim → Term → Term → Type 0
-Links claim term other = (claim ≡ Same term other) ⊎ (claim ≡ Same other term)
-
 -- The way that has matched nothing.
 abbrev pub empty_way : ℕ → Way
 empty_way count = record { to = []; facts = []; links = []; product = replicate count false }

@@ -3,8 +3,8 @@ ghost use Rattle.std.specs.Prelude.{◌≡◌, ◌≢◌, ◌↔◌, ◌<◌, �
 ghost use Rattle.esto_world_laws.specs.Derived.{Claims};
 ghost use Rattle.esto_world_laws.specs.declared.entry.Claim.TheVariants.{Fact as Stated};
 ghost use Rattle.esto_world_laws.specs.Matches.{taken};
-ghost use Rattle.esto_world_laws.specs.Worlds.{AreOfCount};
-ghost use Rattle.esto_condchase.specs.Ways.{AreCounted, Links, empty_way, met, met_by, begun, AreLonger, AreRows, AreThrough, AreMatched, AreFound};
+ghost use Rattle.esto_world_laws.specs.Worlds.{AreOfCount, SaysOne};
+ghost use Rattle.esto_condchase.specs.Ways.{AreCounted, empty_way, met, met_by, begun, AreLonger, AreRows, AreThrough, AreMatched, AreFound};
 ghost use Rattle.esto_condchase.specs.declared.ways.Way.{Way};
 
 use crate::taking::to_meet;
@@ -85,7 +85,7 @@ fn begun(alloc: Global, way: &Way, place: usize, product: &RowBits) -> Result<Wa
 
 /// Whether the claim says that the two terms are one.
 fn links(claim: &Claim, term: &Term, other: &Term) -> bool
-    ensures { IsTrue result ↔ Links claim.now term.now other.now }
+    ensures { IsTrue result ↔ SaysOne claim.now term.now other.now }
 {
     match claim {
         Claim::Fact(_) => false,

@@ -1,9 +1,9 @@
 -- What a chain of steps asks for follows from what its steps ask for.
-use Rattle.std.proofs.Common.{◌≡◌, ◌<◌, ◌≤◌, ◌+◌, ℕ, suc, List, [], ◌∷◌, ◌++◌, length, drop, get_or, drop-cons, add-one, inl, inr, refl, sym, ap, subst, append-nil}
+use Rattle.std.proofs.Common.{◌≡◌, ◌<◌, ◌≤◌, ◌+◌, ℕ, suc, List, [], ◌∷◌, ◌++◌, length, drop, get_or, inl, inr, refl, sym, subst, append-nil}
 use Rattle.std.proofs.lemmas.List.{append_assoc, drop_all}
 use Rattle.esto_course.specs.Course.{Course, Names, Point, IsQuiet, asking_nothing, judges, gives, refuses, demands, and_then, each}
 use Rattle.esto_course.specs.Course.Point.{went, stopped, missing, underway}
-use Rattle.esto_course.proofs.Steps.{gives_goes}
+use Rattle.esto_course.proofs.Steps.{gives_goes, items_left}
 
 module _ {E A B : Type 0} (first : Course E A) (next : A → Course E B) where
   -- the first step stops
@@ -86,13 +86,9 @@ asks_next so_far early first next to value leads asks = record {
 -- a turn of a loop over items, of which those at and after a place are left
 module _ {E A B : Type 0} (step : ℕ → B → A → Course E B) (items : List A) (to : Course E B) (number place : ℕ) (given : B) (so_far : Names)
     (leads : LeadsAsking so_far (each step number given (drop place items)) to) where
-  -- the item at a place, and those after it
-  items_left : (item : A) → place < length items → item ≡ get_or items place item → drop place items ≡ item ∷ drop (place + 1) items
-  items_left item below is = rw (drop-cons items place item, add-one) (ap (λ (first : A). first ∷ drop (suc place) items) (sym is))
-
   module _ (item : A) (below : place < length items) (is : item ≡ get_or items place item) where
     at_item : LeadsAsking so_far (and_then (step number given item) (λ next. each step (suc number) next (drop (place + 1) items))) to
-    at_item = let P : List A → Type 0 = λ left. LeadsAsking so_far (each step number given left) to in subst P (items_left item below is) leads
+    at_item = let P : List A → Type 0 = λ left. LeadsAsking so_far (each step number given left) to in subst P (items_left items place item below is) leads
 
     -- the step of the item goes on
     pub each_asks_next : (early : Names) (next : B) → (step number given item).asks early (went next)

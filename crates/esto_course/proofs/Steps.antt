@@ -67,16 +67,17 @@ leads_next first next to value leads goes = record {
   stops = λ error stops. leads.stops error (inr (value, goes, stops));
 }
 
+-- the item at a place, and those after it
+pub items_left : {A : Type 0} (items : List A) (place : ℕ) (item : A) → place < length items → item ≡ get_or items place item
+    → drop place items ≡ item ∷ drop (place + 1) items
+items_left {A} items place item below is = rw (drop-cons items place item, add-one) (ap (λ (first : A). first ∷ drop (suc place) items) (sym is))
+
 -- a turn of a loop over items, of which those at and after a place are left
 module _ {E A B : Type 0} (step : ℕ → B → A → Course E B) (items : List A) (to : Course E B) where
-  -- the item at a place, and those after it
-  items_left : (place : ℕ) (item : A) → place < length items → item ≡ get_or items place item → drop place items ≡ item ∷ drop (place + 1) items
-  items_left place item below is = rw (drop-cons items place item, add-one) (ap (λ (first : A). first ∷ drop (suc place) items) (sym is))
-
   module _ (number place : ℕ) (given : B) (leads : Leads (each step number given (drop place items)) to) where
     module _ (item : A) (below : place < length items) (is : item ≡ get_or items place item) where
       at_item : Leads (and_then (step number given item) (λ next. each step (suc number) next (drop (place + 1) items))) to
-      at_item = let P : List A → Type 0 = λ left. Leads (each step number given left) to in subst P (items_left place item below is) leads
+      at_item = let P : List A → Type 0 = λ left. Leads (each step number given left) to in subst P (items_left items place item below is) leads
 
       -- the step of the item goes on
       pub each_next : (next : B) → (step number given item).goes next → Leads (each step (suc number) next (drop (place + 1) items)) to

@@ -15,13 +15,13 @@ use Rattle.esto_world_laws.proofs.TakenLemmas.{Fits-split, Fits-join}
 use Rattle.esto_world_laws.specs.Derived.{IsNamed}
 use Rattle.esto_world_laws.specs.Matches.{taken, Fits, Touching}
 use Rattle.esto_world_laws.specs.Steps.{AreJoined}
-use Rattle.esto_world_laws.specs.Worlds.{InWorld, Linked, here}
+use Rattle.esto_world_laws.specs.Worlds.{InWorld, SaysOne, Linked, here}
 use Rattle.esto_world_laws.specs.declared.entry.Claim.{Claim}
 use Rattle.esto_world_laws.specs.declared.entry.Claim.TheVariants.{Fact as Stated, Same}
 use Rattle.esto_world_laws.specs.declared.entry.Entry.{Entry}
 use Rattle.std.proofs.lemmas.Option.{same_Some, slice_get_within}
 use Rattle.esto_derive.proofs.MarkLemmas.{same_or_later}
-use Rattle.esto_derive.specs.Searching.{SaysOne, ClaimsIn, IsLink, GoesOn, IsFound, IsFoundAfter, IsFoundBy, AddsLink}
+use Rattle.esto_derive.specs.Searching.{ClaimsIn, IsLink, GoesOn, IsFound, IsFoundAfter, IsFoundBy, AddsLink}
 
 -- ---- going on
 

@@ -1,5 +1,5 @@
 -- Matches of a body in the world of a set, found atom by atom, and the equalities that they use.
-use Rattle.std.specs.Prelude.{◌≡◌, ◌⊎◌, ℕ, Bool, List, ◌∷◌, ◌++◌, Option, Some, None, slice_get, Contains}
+use Rattle.std.specs.Prelude.{◌≡◌, ℕ, Bool, List, ◌∷◌, ◌++◌, Option, Some, None, slice_get, Contains}
 use Rattle.std.specs.List.{AllZip}
 use Rattle.esto_term.specs.declared.term.Term.{Term}
 use Rattle.esto_semantics.specs.Facts.{terms_of}
@@ -7,14 +7,10 @@ use Rattle.esto_semantics.specs.Sets.{Within}
 use Rattle.esto_semantics.specs.declared.fact.Fact.{Fact}
 use Rattle.esto_world_laws.specs.Derived.{IsNamed}
 use Rattle.esto_world_laws.specs.Matches.{AreChosen, Fits}
-use Rattle.esto_world_laws.specs.Worlds.{InWorld, Linked}
+use Rattle.esto_world_laws.specs.Worlds.{InWorld, SaysOne, Linked}
 use Rattle.esto_world_laws.specs.declared.entry.Claim.{Claim}
 use Rattle.esto_world_laws.specs.declared.entry.Claim.TheVariants.{Fact as Stated, Same}
 use Rattle.esto_world_laws.specs.declared.entry.Entry.{Entry}
-
--- The claim says that the two terms are one, in either order.
-abbrev pub SaysOne : Claim → Term → Term → Type 0
-SaysOne claim term other = (claim ≡ Same term other) ⊎ (claim ≡ Same other term)
 
 -- The entry at the place makes the claim in the world of the set.
 abbrev pub ClaimsIn : List Entry → List Bool → ℕ → Claim → Type 0

@@ -7,9 +7,9 @@ ghost use Rattle.esto_semantics.specs.Facts.{terms_of};
 ghost use Rattle.esto_world_laws.specs.Derived.{Claims, IsNamed};
 ghost use Rattle.esto_world_laws.specs.Matches.{taken, Fits};
 ghost use Rattle.esto_world_laws.specs.Steps.{AreJoined};
-ghost use Rattle.esto_world_laws.specs.Worlds.{AreOfCount, InWorld, Linked};
+ghost use Rattle.esto_world_laws.specs.Worlds.{AreOfCount, InWorld, SaysOne, Linked};
 ghost use Rattle.esto_world_laws.specs.declared.entry.Claim.TheVariants.{Fact as Stated};
-ghost use Rattle.esto_derive.specs.Searching.{SaysOne, IsLink, IsFound, IsFoundAfter, IsFoundBy, AreLinks, AddsLink};
+ghost use Rattle.esto_derive.specs.Searching.{IsLink, IsFound, IsFoundAfter, IsFoundBy, AreLinks, AddsLink};
 
 use esto_bits::RowBits;
 use esto_prov::{Claim, Entry, taken_terms};

@@ -40,10 +40,10 @@ abbrev pub IsRowOf : ℕ → Entries → List Tree → Row → Type 0
 IsRowOf columns layout trees row = (length row ≡ columns) × ((tree : Tree) × Contains trees tree × Matches (row_map row) layout (shape tree))
 
 -- The answer has exactly the rows that are so, and there is no fault; or it is the first fault, and there is one; or memory is wanting.
-abbrev pub Opens : (Row → Type 0) → Option FileFault → Result (List Row) FileError → Type 0
-Opens IsRow fault (Ok rows) = (fault ≡ None) × ((row : Row) → Contains rows row ↔ IsRow row)
-Opens IsRow fault (Err (Fault found)) = fault ≡ Some found
-Opens IsRow fault (Err OutOfMemory) = Unit {0}
+abbrev pub GivesRows : (Row → Type 0) → Option FileFault → Result (List Row) FileError → Type 0
+GivesRows IsRow fault (Ok rows) = (fault ≡ None) × ((row : Row) → Contains rows row ↔ IsRow row)
+GivesRows IsRow fault (Err (Fault found)) = fault ≡ Some found
+GivesRows IsRow fault (Err OutOfMemory) = Unit {0}
 
 -- ---- for private clauses
 

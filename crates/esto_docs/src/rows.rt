@@ -6,7 +6,7 @@ ghost use Rattle.esto_lines.specs.Lines.{lines_of};
 ghost use Rattle.esto_docmodel.specs.Layouts.{IsLayout};
 ghost use Rattle.esto_docmodel.specs.Shapes.{entries_of};
 ghost use Rattle.esto_docs.specs.Files.{json_of, lines_fault, trees_of_lines, array_fault, trees_of_array, trees_fault, file_trees};
-ghost use Rattle.esto_docs.specs.Rows.{Row, IsRowOf, Opens, Gains, OpensLine, text_of_value, row_of};
+ghost use Rattle.esto_docs.specs.Rows.{Row, IsRowOf, GivesRows, Gains, OpensLine, text_of_value, row_of};
 ghost use Rattle.esto_docs.specs.Trees.{tree_of, trees_of};
 
 use crate::from_json::tree_of;
@@ -105,7 +105,7 @@ fn open_lines(
 ) -> Result<TextRows, FileError>
     requires { IsLayout columns (entries_of pattern.now.entries) }
     ensures { let lines = lines_of bytes.now in
-        Opens (IsRowOf columns (entries_of pattern.now.entries) (trees_of_lines lines))
+        GivesRows (IsRowOf columns (entries_of pattern.now.entries) (trees_of_lines lines))
         (lines_fault 1 lines) result }
 {
     let mut rows = List::new(alloc);
@@ -170,7 +170,7 @@ fn open_array(
 ) -> Result<TextRows, FileError>
     requires { IsLayout columns (entries_of pattern.now.entries) }
     ensures { let value = json_of bytes.now in
-        Opens (IsRowOf columns (entries_of pattern.now.entries) (trees_of_array value))
+        GivesRows (IsRowOf columns (entries_of pattern.now.entries) (trees_of_array value))
         (array_fault value) result }
 {
     match parse(alloc, bytes) {
@@ -197,7 +197,7 @@ pub fn open_documents(
     columns: usize,
 ) -> Result<TextRows, FileError>
     requires { IsLayout columns (entries_of pattern.now.entries) }
-    ensures { Opens
+    ensures { GivesRows
         (IsRowOf columns (entries_of pattern.now.entries) (file_trees layout.now bytes.now))
         (trees_fault layout.now bytes.now) result }
 {

@@ -13,7 +13,7 @@ use Rattle.esto_docmodel.specs.Patterns.{Entries, done, holds, group}
 use Rattle.esto_docmodel.specs.Shapes.{entries_of}
 use Rattle.esto_docmodel.specs.declared.pattern.Pattern.{Pattern}
 use Rattle.esto_docs.specs.Files.{file_trees, trees_fault}
-use Rattle.esto_docs.specs.Rows.{IsRowOf, Opens}
+use Rattle.esto_docs.specs.Rows.{IsRowOf, GivesRows}
 use Rattle.esto_docs.specs.declared.layout.Layout.{Layout}
 use Rattle.esto_lines.specs.Faults.{Gives, fault_at}
 use Rattle.esto_ports.specs.declared.file_fault.FileError.{FileError}
@@ -92,7 +92,7 @@ one_width columns other entries is too = elim (cases_order columns other) [
 
 pub documents_give : (columns : ℕ) (layout : Layout) (pattern : Pattern) (bytes : List ℕ) (result : Result (List Row) FileError)
     → IsLayout columns (entries_of pattern.entries)
-    → Opens (IsRowOf columns (entries_of pattern.entries) (file_trees layout bytes)) (trees_fault layout bytes) result
+    → GivesRows (IsRowOf columns (entries_of pattern.entries) (file_trees layout bytes)) (trees_fault layout bytes) result
     → GivesRows (IsDocumentRow layout pattern bytes) (trees_fault layout bytes) result
 documents_give columns layout pattern bytes (Ok rows) is opens = (
   opens.0,

@@ -1,13 +1,11 @@
 -- The answers of a query in print.
-use Rattle.std.specs.Prelude.{◌≡◌, ◌↔◌, ℕ, List, [], Option, Some, None, map, slice_get, Contains, AllPairs}
-use Rattle.std.specs.Cmp.Lexicographic.{slice_cmp}
-use Rattle.std.specs.Ordering.{nat_cmp}
-use Rattle.std.specs.declared.cmp.Ordering.TheVariants.{Less}
+use Rattle.std.specs.Prelude.{◌≡◌, ◌↔◌, ℕ, List, [], Option, Some, None, map, slice_get, Contains}
 use Rattle.esto_term.specs.declared.term.Term.{Term, out-Term}
 use Rattle.esto_term.specs.declared.term.Term.TheOpen.{Term-F}
 use Rattle.esto_query.specs.declared.query.Name.{Name}
 use Rattle.esto_query.specs.declared.query.Name.TheVariants.{Given, Hidden}
 use Rattle.esto_query.specs.declared.query.Query.{Query}
+pub use Rattle.esto_columns.specs.Lent.{AreRising}
 use Rattle.esto_stores.specs.Rows.{Row}
 use Rattle.esto_stores.specs.TableText.{table_text}
 
@@ -30,10 +28,6 @@ head_names query = map (λ term. level_name query.names (out-Term term)) query.h
 -- The text of rows under the names of the query's head: a CSV record of the names, and one of each row.
 abbrev pub rows_text : Query → List Row → List ℕ
 rows_text query rows = table_text (head_names query) rows
-
--- Each row comes before each later one, cell by cell by bytes, so none comes twice.
-abbrev pub AreRising : List Row → Type 0
-AreRising rows = AllPairs (λ row other. slice_cmp (slice_cmp nat_cmp) row other ≡ Less) rows
 
 -- The text is that of exactly these rows, each once, in rising order.
 pub record IsAnswersText (query : Query) (Has : Row → Type 0) (text : List ℕ) : Type 0 where

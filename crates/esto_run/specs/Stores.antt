@@ -1,5 +1,5 @@
 -- The rows of fragments' files, or the first fault of one.
-use Rattle.std.specs.Prelude.{◌≡◌, ◌↔◌, ℕ, List, Option, Some, None, Result, Ok, Err, length, slice_get, Contains}
+use Rattle.std.specs.Prelude.{◌≡◌, ℕ, List, Option, Some, length, slice_get, Contains}
 use Rattle.esto_catalog.specs.declared.catalogue.Shape.{Shape}
 use Rattle.esto_catalog.specs.declared.catalogue.Shape.TheVariants.{Table, Documents, Keys}
 use Rattle.esto_catalog.specs.declared.catalogue.Store.{Store}
@@ -8,9 +8,8 @@ use Rattle.esto_docmodel.specs.Shapes.{entries_of}
 use Rattle.esto_docmodel.specs.declared.pattern.Pattern.{Pattern}
 use Rattle.esto_docs.specs.Files.{file_trees, trees_fault}
 use Rattle.esto_docs.specs.Rows.{IsRowOf}
+pub use Rattle.esto_docs.specs.Rows.{GivesRows}
 use Rattle.esto_docs.specs.declared.layout.Layout.{Layout}
-use Rattle.esto_ports.specs.declared.file_fault.FileError.{FileError}
-use Rattle.esto_ports.specs.declared.file_fault.FileError.TheVariants.{Fault, OutOfMemory}
 use Rattle.esto_ports.specs.declared.file_fault.FileFault.{FileFault}
 use Rattle.esto_semantics.specs.declared.fact.Fact.{Fact}
 use Rattle.esto_stores.specs.Keys.{key_rows, key_fault}
@@ -33,12 +32,6 @@ abbrev pub first_fault_in : Shape → ℕ → List ℕ → Option FileFault
 first_fault_in (Table columns) width bytes = table_fault columns bytes
 first_fault_in (Documents layout pattern) width bytes = trees_fault layout bytes
 first_fault_in Keys width bytes = key_fault width bytes
-
--- The answer is exactly these rows, and there is no fault; or it is the first fault, and there is one; or memory is wanting.
-abbrev pub GivesRows : (Row → Type 0) → Option FileFault → Result (List Row) FileError → Type 0
-GivesRows Has fault (Ok rows) = (fault ≡ None) × ((row : Row) → Contains rows row ↔ Has row)
-GivesRows Has fault (Err (Fault found)) = fault ≡ Some found
-GivesRows Has fault (Err OutOfMemory) = Unit {0}
 
 -- The fact is a row of the file of the fragment that its relation numbers, in the shape of the fragment's store.
 abbrev pub IsFileRow : List Store → (ℕ → List ℕ) → Fact (List ℕ) → Type 0

@@ -1,6 +1,6 @@
 -- Worlds: what a list of entries claims of a set of a plan's atoms. Source: the backchase with provenance (Ileana, Cautis, Deutsch and Katsis 2014), with
 -- equalities as facts of their own.
-use Rattle.std.specs.Prelude.{◌≡◌, ◌≢◌, ⊤, ℕ, Bool, List, length, Contains}
+use Rattle.std.specs.Prelude.{◌≡◌, ◌≢◌, ◌⊎◌, ⊤, ℕ, Bool, List, length, Contains}
 use Rattle.std.specs.List.{AllZip}
 use Rattle.esto_term.specs.declared.term.Term.{Term}
 use Rattle.esto_term.specs.declared.term.Term.TheVariants.{Const}
@@ -19,6 +19,10 @@ InWorld entries atoms claim = (entry : Entry) × Contains entries entry × Withi
 -- Each entry's product has this count.
 abbrev pub AreOfCount : ℕ → List Entry → Type 0
 AreOfCount count entries = (entry : Entry) → Contains entries entry → length entry.product ≡ count
+
+-- The claim says that the two terms are one, in either order.
+abbrev pub SaysOne : Claim → Term → Term → Type 0
+SaysOne claim term other = (claim ≡ Same term other) ⊎ (claim ≡ Same other term)
 
 -- Two terms are linked, so that they are one: a chain of equalities that hold leads from the one to the other.
 pub data Linked (Holds : Claim → Type 0) : Term → Term → Type 0 where

@@ -3,7 +3,7 @@ use Rattle.std.proofs.lemmas.Option.{slice_get_read}
 use Rattle.esto_term.proofs.ListLemmas.{each_more, each_seen}
 use Rattle.esto_semantics.specs.Sets.{Within}
 use Rattle.esto_world_laws.specs.declared.entry.Entry.{Entry}
-use Rattle.esto_derive.specs.Searching.{SaysOne}
+use Rattle.esto_world_laws.specs.Worlds.{SaysOne}
 use Rattle.esto_derive.proofs.FoundLemmas.{unsaid}
 use Rattle.esto_derive.proofs.searching.World.link.Goals.{else-within-via-then-within+else-says_one, else-within-via-else-within}
 use Rattle.esto_derive.proofs.searching.World.link.Goals as goal
