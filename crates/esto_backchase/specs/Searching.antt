@@ -33,6 +33,6 @@ pub record FailsWith (count : ℕ) (Pass : List Bool → Type 0) (set failed : L
   pub within : Within set failed
   pub fails : ¬ (Pass failed)
 
--- At the place stands such a set.
+-- At the place stands a set of the count that has the set's numbers and does not pass.
 abbrev pub FailsAt : ℕ → (List Bool → Type 0) → List (List Bool) → List Bool → ℕ → Type 0
 FailsAt count Pass sets set place = (failed : List Bool) × (slice_get sets place ≡ Some failed) × FailsWith count Pass set failed

@@ -1,9 +1,9 @@
 //! Ways to match a body among entries, modulo equalities.
-ghost use Rattle.std.specs.Prelude.{◌≡◌, ◌≢◌, ◌↔◌, ◌<◌, ◌∷◌, ◌++◌, [], List, length, slice_get, Contains, IsTrue, IfOk, OnOk, Some};
+ghost use Rattle.std.specs.Prelude.{◌≡◌, ◌≢◌, ◌<◌, ◌∷◌, ◌++◌, [], List, length, slice_get, Contains, IfOk, OnOk, Some};
 ghost use Rattle.esto_world_laws.specs.Derived.{Claims};
 ghost use Rattle.esto_world_laws.specs.declared.entry.Claim.TheVariants.{Fact as Stated};
 ghost use Rattle.esto_world_laws.specs.Matches.{taken};
-ghost use Rattle.esto_world_laws.specs.Worlds.{AreOfCount, SaysOne};
+ghost use Rattle.esto_world_laws.specs.Worlds.{AreOfCount};
 ghost use Rattle.esto_condchase.specs.Ways.{AreCounted, empty_way, met, met_by, begun, AreLonger, AreRows, AreThrough, AreMatched, AreFound};
 ghost use Rattle.esto_condchase.specs.declared.ways.Way.{Way};
 
@@ -83,21 +83,6 @@ fn begun(alloc: Global, way: &Way, place: usize, product: &RowBits) -> Result<Wa
     Ok(further)
 }
 
-/// Whether the claim says that the two terms are one.
-fn links(claim: &Claim, term: &Term, other: &Term) -> bool
-    ensures { IsTrue result ↔ SaysOne claim.now term.now other.now }
-{
-    match claim {
-        Claim::Fact(_) => false,
-        Claim::Same(left, right) => {
-            if left.equal(term) && right.equal(other) {
-                return true;
-            }
-            left.equal(other) && right.equal(term)
-        }
-    }
-}
-
 /// One way, with one term more, which is made what it has to meet by an equality.
 fn longer_by_links(
     alloc: Global,
@@ -118,7 +103,7 @@ fn longer_by_links(
 {
     let mut ways = List::new(alloc);
     'entries: for (place, entry) in entries.iter().enumerate() {
-        if links(&entry.claim, own, goal) {
+        if entry.claim.says_one(own, goal) {
             ways.push(met_by(alloc, before, own, place, &entry.product)?)?;
         }
     }

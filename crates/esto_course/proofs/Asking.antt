@@ -1,5 +1,5 @@
 -- What a chain of steps asks for follows from what its steps ask for.
-use Rattle.std.proofs.Common.{◌≡◌, ◌<◌, ◌≤◌, ◌+◌, ℕ, suc, List, [], ◌∷◌, ◌++◌, length, drop, get_or, inl, inr, refl, sym, subst, append-nil}
+use Rattle.std.proofs.Common.{◌≡◌, ◌<◌, ◌≤◌, ◌+◌, ℕ, suc, List, [], ◌++◌, length, drop, get_or, inl, inr, refl, sym, subst, append-nil}
 use Rattle.std.proofs.lemmas.List.{append_assoc, drop_all}
 use Rattle.esto_course.specs.Course.{Course, Names, Point, IsQuiet, asking_nothing, judges, gives, refuses, demands, and_then, each}
 use Rattle.esto_course.specs.Course.Point.{went, stopped, missing, underway}

@@ -7,7 +7,7 @@ ghost use Rattle.esto_semantics.specs.Facts.{terms_of};
 ghost use Rattle.esto_world_laws.specs.Derived.{Claims, IsNamed};
 ghost use Rattle.esto_world_laws.specs.Matches.{taken, Fits};
 ghost use Rattle.esto_world_laws.specs.Steps.{AreJoined};
-ghost use Rattle.esto_world_laws.specs.Worlds.{AreOfCount, InWorld, SaysOne, Linked};
+ghost use Rattle.esto_world_laws.specs.Worlds.{AreOfCount, InWorld, Linked};
 ghost use Rattle.esto_world_laws.specs.declared.entry.Claim.TheVariants.{Fact as Stated};
 ghost use Rattle.esto_derive.specs.Searching.{IsLink, IsFound, IsFoundAfter, IsFoundBy, AreLinks, AddsLink};
 
@@ -22,21 +22,6 @@ use std::alloc::Global;
 pub struct World<'a> {
     pub entries: &'a [Entry],
     pub set: &'a RowBits,
-}
-
-/// Whether the claim says that the two terms are one.
-fn says_one(claim: &Claim, term: &Term, other: &Term) -> bool
-    ensures { IsTrue result ↔ SaysOne claim.now term.now other.now }
-{
-    match claim {
-        Claim::Fact(_) => false,
-        Claim::Same(left, right) => {
-            if left.equal(term) && right.equal(other) {
-                return true;
-            }
-            left.equal(other) && right.equal(term)
-        }
-    }
 }
 
 /// The places with one more before them, where there are places.
@@ -60,7 +45,7 @@ impl World<'_> {
         ensures { IsLink self.now.entries.now self.now.set.now term.now other.now result }
     {
         'entries: for (place, entry) in self.entries.iter().enumerate() {
-            if entry.product.within(self.set) && says_one(&entry.claim, term, other) {
+            if entry.product.within(self.set) && entry.claim.says_one(term, other) {
                 return Some(place);
             }
         }

@@ -1,6 +1,7 @@
 //! Entries: claims, each with the set of atoms that it rests on and with what it follows from.
 ghost use Rattle.std.specs.Prelude.{◌≡◌, ◌⊎◌, ◌↔◌, IsTrue};
 ghost use Rattle.esto_world_laws.specs.Claims.{AreSameClaim};
+ghost use Rattle.esto_world_laws.specs.Worlds.{SaysOne};
 
 use esto_bits::RowBits;
 use esto_semantics::Atom;
@@ -100,6 +101,16 @@ fn is_same_pair(left: &Term, right: &Term, other_left: &Term, other_right: &Term
 }
 
 impl Claim {
+    /// Whether the claim says that the two terms are one, in either order.
+    pub fn says_one(&self, term: &Term, other: &Term) -> bool
+        ensures { IsTrue result ↔ SaysOne self.now term.now other.now }
+    {
+        match self {
+            Claim::Fact(_) => false,
+            Claim::Same(left, right) => is_same_pair(left, right, term, other),
+        }
+    }
+
     /// Whether the two are one claim: the same fact, or an equality of the same two terms, in either order.
     pub fn is_same(&self, other: &Claim) -> bool
         ensures { IsTrue result ↔ AreSameClaim self.now other.now }

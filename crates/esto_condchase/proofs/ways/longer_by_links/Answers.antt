@@ -4,7 +4,7 @@ use Rattle.esto_term.proofs.ListLemmas.{Contains-at}
 use Rattle.esto_term.proofs.PlaceLemmas.{item_at}
 use Rattle.esto_world_laws.specs.Worlds.{SaysOne}
 use Rattle.esto_condchase.proofs.WayLemmas.{LongerSoFar, longer_skip, longer_more, longer_all}
-use Rattle.esto_condchase.proofs.ways.longer_by_links.Goals.{then-links+in_ok-met_by+in_ok-push, else-links}
+use Rattle.esto_condchase.proofs.ways.longer_by_links.Goals.{then-says_one+in_ok-met_by+in_ok-push, else-says_one}
 use Rattle.esto_condchase.proofs.ways.longer_by_links.Goals as goal
 
 pub entries-preserved : goal.entries-preserved
@@ -12,18 +12,18 @@ entries-preserved c =
     let target = c.requires.goal in
     let entry = c.index-entries-place.result in
     let at = item_at c.args.entries.now c.entries.place entry c.entries-test.true c.index-entries-place.is in
-    elim c.if-links.branch [
-      | then-links+in_ok-met_by+in_ok-push w ↦
+    elim c.if-says_one.branch [
+      | then-says_one+in_ok-met_by+in_ok-push w ↦
           longer_more c.args.entries.now c.args.from.now c.args.term.now c.args.own.now c.args.before.now c.entries.place c.entries.ways entry at
           c.entries.invariant
-          (subst (SaysOne entry.claim c.args.own.now) target (c.links.ensures.0 w.if-links.true))
+          (subst (SaysOne entry.claim c.args.own.now) target (c.says_one.ensures.0 w.if-says_one.true))
           (sym (c.requires.counts entry (Contains-at c.args.entries.now c.entries.place entry at)))
           _ _ w.in_ok-met_by.ensures (w.ways-is ∙ w.in_ok-push.ensures.ok)
-      | else-links w ↦
+      | else-says_one w ↦
           subst (LongerSoFar c.args.entries.now c.args.from.now c.args.term.now c.args.own.now c.args.before.now (c.entries.place + 1)) (sym w.ways-is)
           (longer_skip c.args.entries.now c.args.from.now c.args.term.now c.args.own.now c.args.before.now c.entries.place c.entries.ways entry at
           c.entries.invariant
-          (λ links. false≢true (sym w.if-links.false ∙ c.links.ensures.1 (subst (SaysOne entry.claim c.args.own.now) (sym target) links))))
+          (λ links. false≢true (sym w.if-says_one.false ∙ c.says_one.ensures.1 (subst (SaysOne entry.claim c.args.own.now) (sym target) links))))
     ]
 
 pub returns-clause-longer : goal.returns-clause-longer
