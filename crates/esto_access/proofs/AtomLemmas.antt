@@ -1,5 +1,6 @@
 -- The atoms of a plan, read as facts over fragments, and lists of numbers.
-use Rattle.std.proofs.Common.{◌≡◌, ◌↔◌, ℕ, ◌<◌, ◌≤◌, Bool, List, map, length, get_or, [], Option, None, Some, slice_get, slice_index_or, IsTrue, Contains, refl, sym, ◌∙◌, subst, arith}
+use Rattle.std.proofs.Common.{◌≡◌, ◌↔◌, ℕ, ◌<◌, ◌≤◌, Bool, List, map, length, get_or, [], Option, None, Some, slice_get, slice_index_or, IsTrue, Contains, refl}
+use Rattle.std.proofs.Common.{sym, ◌∙◌, subst, arith}
 use Rattle.std.specs.Option.{is_some}
 use Rattle.std.proofs.lemmas.Bool.{false≢true}
 use Rattle.std.proofs.lemmas.List.{get_or_default, get_or_past, length-map}

@@ -1,5 +1,6 @@
 -- What an atom needs, by what products cover.
-use Rattle.std.proofs.Common.{◌≡◌, ◌↔◌, ◌⊎◌, ℕ, ◌+◌, ◌≤◌, Bool, false, List, [], map, length, replicate, Some, slice_get, slice_index_or, Contains, refl, sym, ap, ◌∙◌, subst, inl, inr, arith}
+use Rattle.std.proofs.Common.{◌≡◌, ◌↔◌, ◌⊎◌, ℕ, ◌+◌, ◌≤◌, Bool, false, List, [], map, length, replicate, Some, slice_get, slice_index_or, Contains, refl, sym}
+use Rattle.std.proofs.Common.{ap, ◌∙◌, subst, inl, inr, arith}
 use Rattle.std.proofs.lemmas.Bool.{cases_lt}
 use Rattle.std.proofs.lemmas.List.{length-map, get_or_past}
 use Rattle.std.proofs.lemmas.Option.{same_Some, get_or_from_slice_get}
@@ -19,7 +20,8 @@ use Rattle.esto_access.specs.Supplies.{sets_at, IsSupplied}
 use Rattle.esto_access.proofs.AtomLemmas.{no_patterns}
 use Rattle.esto_access.specs.Rounds.{IsNextIn}
 use Rattle.esto_bits.proofs.JoinLemmas.{covers_none}
-use Rattle.esto_term.proofs.ListLemmas.{Contains-nil, HoldsBelow, SomeBelow, some_none, some_step, some_all, some_contained, each_none, each_step, each_all, map_at, thing_at}
+use Rattle.esto_term.proofs.ListLemmas.{Contains-nil, HoldsBelow, SomeBelow, some_none, some_step, some_all, some_contained, each_none, each_step, each_all}
+use Rattle.esto_term.proofs.ListLemmas.{map_at, thing_at}
 
 -- the set of no number is a subset of every set
 pub none_within : (count : ℕ) (set : List Bool) → Within (replicate count false) set

@@ -1,5 +1,6 @@
 -- Runs that take the accessible atom of least number each time, and what they show of the set.
-use Rattle.std.proofs.Common.{◌≡◌, ◌↔◌, ℕ, zero, suc, ◌+◌, ◌-◌, ◌<◌, ◌≤◌, Bool, true, false, List, [], ◌∷◌, ◌++◌, length, get_or, take, slice_set, replicate, Some, slice_get, IsTrue, Contains, All, refl, sym, ap, ◌∙◌, subst, arith, inl, inr, length-append}
+use Rattle.std.proofs.Common.{◌≡◌, ◌↔◌, ℕ, zero, suc, ◌+◌, ◌-◌, ◌<◌, ◌≤◌, Bool, true, false, List, [], ◌∷◌, ◌++◌, length, get_or, take, slice_set, replicate}
+use Rattle.std.proofs.Common.{Some, slice_get, IsTrue, Contains, All, refl, sym, ap, ◌∙◌, subst, arith, inl, inr, length-append}
 use Rattle.std.proofs.lemmas.List.Elements.{Contains-get_or}
 use Rattle.std.proofs.lemmas.Option.{none-some, same_Some, slice_get_within, slice_get-get_or}
 use Rattle.esto_term.specs.declared.term.Term.{Term}
@@ -7,7 +8,8 @@ use Rattle.esto_semantics.specs.declared.fact.Fact.{Fact}
 use Rattle.esto_semantics.specs.Sets.{Has}
 use Rattle.esto_semantics.specs.Access.{Patterns, IsAccessible, IsEarlier, IsOrder, IsExecutable, IsAccessiblePart, IsStatedOrder}
 use Rattle.esto_semantics.specs.AccessSteps.{IsStuck}
-use Rattle.esto_semantics.proofs.AccessLemmas.{earlier_contains, earlier_push, push_earlier, missing, missing-set, has_set, none_has, accessible_more, ready_more, order_grows, none_is_order, stuck_has}
+use Rattle.esto_semantics.proofs.AccessLemmas.{earlier_contains, earlier_push, push_earlier, missing, missing-set, has_set, none_has, accessible_more}
+use Rattle.esto_semantics.proofs.AccessLemmas.{ready_more, order_grows, none_is_order, stuck_has}
 use Rattle.esto_semantics.proofs.SetLemmas.{beyond, decided_has, within_refl, within_same}
 use Rattle.esto_access.specs.Runs.{CanFollow, NoneFollows, IsFirstFollower, IsRun}
 use Rattle.esto_term.proofs.ListLemmas.{Contains-at, at_pushed, place-from_Contains}

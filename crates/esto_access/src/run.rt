@@ -2,7 +2,7 @@
 ghost use Rattle.std.specs.Prelude.{Bool, List, IfOk, MatchOption};
 ghost use Rattle.esto_views.specs.Fragments.{patterns_of};
 ghost use Rattle.esto_views.specs.Plans.{plan_query};
-ghost use Rattle.esto_access.specs.Runs.{CanFollow, IsFirstFollower, IsRun, NoneFollows};
+ghost use Rattle.esto_access.specs.Runs.{IsFirstFollower, IsRun, NoneFollows};
 
 use crate::atoms::can_follow;
 use esto_bits::RowBits;

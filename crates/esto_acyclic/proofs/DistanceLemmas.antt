@@ -1,5 +1,6 @@
 -- Distances to a relation, and the least of the shortest cycles there.
-use Rattle.std.proofs.Common.{◌≡◌, ◌≢◌, ◌⊎◌, inl, inr, ℕ, zero, suc, ◌+◌, ◌-◌, ◌<◌, ◌≤◌, Bool, true, false, List, [], ◌∷◌, ◌++◌, length, Contains, slice_index, slice_index_or, set, get_or, refl, sym, ap, ◌∙◌, subst, arith, replicate, append_assoc}
+use Rattle.std.proofs.Common.{◌≡◌, ◌≢◌, ◌⊎◌, inl, inr, ℕ, zero, suc, ◌+◌, ◌-◌, ◌<◌, ◌≤◌, Bool, true, false, List, [], ◌∷◌, ◌++◌, length, Contains, slice_index}
+use Rattle.std.proofs.Common.{slice_index_or, set, get_or, refl, sym, ap, ◌∙◌, subst, arith, replicate, append_assoc}
 use Rattle.std.specs.List.{sum}
 use Rattle.std.proofs.lemmas.List.{length-set, get_or-set_same, get_or-set_other, length-replicate, get_or-replicate, get_or_default, append-nil}
 use Rattle.std.proofs.lemmas.List.Sums.{sum_by-set}

@@ -1,5 +1,6 @@
 -- Numbers that rise along each edge and are numbers of edges on walks: they are the ranks.
-use Rattle.std.proofs.Common.{◌≡◌, ◌≢◌, inl, inr, ℕ, zero, ◌+◌, ◌*◌, ◌-◌, ◌<◌, ◌≤◌, Bool, true, false, List, [], length, Contains, slice_index, slice_index_or, set, get_or, refl, sym, ap, ◌∙◌, subst, arith, replicate}
+use Rattle.std.proofs.Common.{◌≡◌, ◌≢◌, inl, inr, ℕ, zero, ◌+◌, ◌*◌, ◌-◌, ◌<◌, ◌≤◌, Bool, true, false, List, [], length, Contains, slice_index, slice_index_or}
+use Rattle.std.proofs.Common.{set, get_or, refl, sym, ap, ◌∙◌, subst, arith, replicate}
 use Rattle.std.specs.List.{sum}
 use Rattle.std.proofs.lemmas.List.{length-set, get_or-set_same, get_or-set_other, length-replicate, get_or-replicate, get_or_default}
 use Rattle.std.proofs.lemmas.List.Sums.{sum_by-set, sum_by-le}

@@ -1,5 +1,6 @@
 -- What completions cover, and that the minimal ones are the minimal executable sets in which it holds.
-use Rattle.std.proofs.Common.{◌≡◌, ◌↔◌, ℕ, ◌<◌, Bool, false, List, [], ◌∷◌, map, length, replicate, slice_index_or, Contains, sym, ap, ◌∙◌, subst, inl, inr, arith}
+use Rattle.std.proofs.Common.{◌≡◌, ◌↔◌, ℕ, ◌<◌, Bool, false, List, [], ◌∷◌, map, length, replicate, slice_index_or, Contains, sym, ap, ◌∙◌, subst, inl, inr}
+use Rattle.std.proofs.Common.{arith}
 use Rattle.std.proofs.lemmas.List.{length-replicate}
 use Rattle.std.proofs.lemmas.List.Elements.{All-contains, Contains-append_cases, Contains-get_or}
 use Rattle.esto_term.specs.declared.term.Term.{Term}
@@ -15,7 +16,8 @@ use Rattle.esto_bits.proofs.FamilyLemmas.{antichain_is_minimal, told_are_minimal
 use Rattle.esto_bits.proofs.JoinLemmas.{covers_append, covers_none, covers_unions}
 use Rattle.esto_access.specs.Supplies.{AreAccessProducts, EachIs, IsReachedIn, IsSupplied, sets_at}
 use Rattle.esto_access.proofs.NeedLemmas.{none_within, sets_there, supplied_from}
-use Rattle.esto_backchase.specs.Completion.{AreAccessSupplies, HaveOwn, IsCompletedIn, IsOneCompletedIn, MinimalCompletions, combined, completions, completions_of}
+use Rattle.esto_backchase.specs.Completion.{AreAccessSupplies, HaveOwn, IsCompletedIn, IsOneCompletedIn, MinimalCompletions, combined, completions}
+use Rattle.esto_backchase.specs.Completion.{completions_of}
 
 -- ---- what the completions cover
 

@@ -1,5 +1,6 @@
 -- The made catalogue keeps what a catalogue keeps.
-use Rattle.std.proofs.Common.{◌≡◌, ◌≢◌, ◌<◌, ◌≤◌, ◌+◌, ◌*◌, ℕ, zero, suc, false, List, [], ◌∷◌, map, length, slice_get, Some, Contains, AllPairs, refl, sym, ap, subst, ◌∙◌, inl, inr, arith, add-zero}
+use Rattle.std.proofs.Common.{◌≡◌, ◌≢◌, ◌<◌, ◌≤◌, ◌+◌, ◌*◌, ℕ, zero, suc, false, List, [], ◌∷◌, map, length, slice_get, Some, Contains, AllPairs, refl, sym, ap}
+use Rattle.std.proofs.Common.{subst, ◌∙◌, inl, inr, arith, add-zero}
 use Rattle.std.specs.Prelude.{codes}
 use Rattle.std.proofs.lemmas.List.{length-map}
 use Rattle.std.proofs.lemmas.List.Elements.{All-map, All-from_get_or, Contains-get_or}
@@ -28,7 +29,8 @@ use Rattle.esto_term.specs.declared.term.Term.{Term}
 use Rattle.esto_term.specs.declared.term.Term.TheVariants.{Const, Plain}
 use Rattle.esto_views.specs.Fragments.{AreFragments}
 use Rattle.esto_views.specs.declared.fragments.FragmentDef.{FragmentDef}
-use Rattle.esto_bench.specs.Case.{below, made_columns, made_dataset, made_datasets, made_relation, made_schema, made_store, made_stores, made_view, numbered, without_inputs}
+use Rattle.esto_bench.specs.Case.{below, made_columns, made_dataset, made_datasets, made_relation, made_schema, made_store, made_stores, made_view, numbered}
+use Rattle.esto_bench.specs.Case.{without_inputs}
 use Rattle.esto_bench.specs.Made.{AreMadeFragments}
 use Rattle.esto_bench.specs.declared.case.TheConstants.{MAX_SIZE}
 use Rattle.esto_bench.proofs.BothLemmas.{both_from, both_long, mapped_from}

@@ -1,5 +1,6 @@
 -- The made rows as contents of files, and the query's answers over them.
-use Rattle.std.proofs.Common.{◌≡◌, ◌≢◌, ◌↔◌, ◌⊎◌, ◌<◌, ◌+◌, ◌*◌, ◌/◌, ℕ, List, [], ◌∷◌, ◌++◌, map, length, slice_get, Some, None, Contains, All, AllPairs, Err, refl, sym, ap, subst, ◌∙◌, inl, inr, arith, get_or}
+use Rattle.std.proofs.Common.{◌≡◌, ◌≢◌, ◌↔◌, ◌⊎◌, ◌<◌, ◌+◌, ◌*◌, ◌/◌, ℕ, List, [], ◌∷◌, ◌++◌, map, length, slice_get, Some, None, Contains, All, AllPairs, Err}
+use Rattle.std.proofs.Common.{refl, sym, ap, subst, ◌∙◌, inl, inr, arith, get_or}
 use Rattle.std.specs.Prelude.{codes, IfSome}
 use Rattle.std.specs.Cmp.Lexicographic.{slice_cmp}
 use Rattle.std.specs.Ordering.{nat_cmp}
@@ -36,7 +37,8 @@ use Rattle.esto_term.specs.declared.term.Term.{Term}
 use Rattle.esto_views.specs.Plans.{fact_of, plan_query, IsPlanOver}
 use Rattle.esto_views.specs.declared.fragments.FragmentDef.{FragmentDef}
 use Rattle.esto_views.specs.declared.plan.Plan.{Plan}
-use Rattle.esto_bench.specs.Case.{IsMadeCatalogue, below, made_columns, made_database, made_patterns, made_query, made_row, made_rows, made_store, made_views, numbered}
+use Rattle.esto_bench.specs.Case.{IsMadeCatalogue, below, made_columns, made_database, made_patterns, made_query, made_row, made_rows, made_store, made_views}
+use Rattle.esto_bench.specs.Case.{numbered}
 use Rattle.esto_bench.specs.declared.rows.TheConstants.{ROWS}
 use Rattle.esto_bench.specs.Made.{AreOpenedBelow, CountsAnswers, IsItemOfCase, made_content}
 use Rattle.esto_bench.proofs.BothLemmas.{below_more, below_there, both_from, both_long, mapped_from}

@@ -1,5 +1,6 @@
 -- The rows of the made views over a database, and the rewriting of the made query by the fragments A.
-use Rattle.std.proofs.Common.{◌≡◌, ◌↔◌, ◌<◌, ◌+◌, ◌*◌, ◌/◌, ℕ, zero, suc, true, false, List, [], ◌∷◌, map, length, get_or, replicate, slice_get, Some, Contains, refl, sym, ap, subst, ◌∙◌, arith}
+use Rattle.std.proofs.Common.{◌≡◌, ◌↔◌, ◌<◌, ◌+◌, ◌*◌, ◌/◌, ℕ, zero, suc, true, false, List, [], ◌∷◌, map, length, get_or, replicate, slice_get, Some, Contains}
+use Rattle.std.proofs.Common.{refl, sym, ap, subst, ◌∙◌, arith}
 use Rattle.std.proofs.lemmas.List.{length-replicate}
 use Rattle.std.proofs.lemmas.Option.{get_or_from_slice_get}
 use Rattle.esto_semantics.specs.Access.{AreOpen}
@@ -19,7 +20,8 @@ use Rattle.esto_term.specs.declared.term.Term.{Term, out-Term}
 use Rattle.esto_term.specs.declared.term.Term.TheOpen.{Term-F}
 use Rattle.esto_term.specs.declared.term.Term.TheVariants.{Plain, outs-Const, outs-Plain}
 use Rattle.esto_term.proofs.ListLemmas.{Contains-flat, Contains-flat_from, Contains-head, Contains-map, Contains-map_from, Contains-nil, Contains-one}
-use Rattle.esto_bench.specs.Case.{below, made_atom, made_database, made_fact, made_query, made_patterns, made_rows, made_row, made_view, made_views, without_inputs}
+use Rattle.esto_bench.specs.Case.{below, made_atom, made_database, made_fact, made_query, made_patterns, made_rows, made_row, made_view, made_views}
+use Rattle.esto_bench.specs.Case.{without_inputs}
 use Rattle.esto_bench.proofs.BothLemmas.{below_bound, below_there, both_at, mapped_from}
 use Rattle.esto_bench.proofs.CaseLemmas.{chain, chain_atom, chain_is}
 

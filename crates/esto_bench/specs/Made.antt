@@ -16,7 +16,8 @@ use Rattle.esto_stores.specs.Table.{table_rows}
 use Rattle.esto_stores.specs.TableText.{table_text}
 use Rattle.esto_views.specs.Fragments.{views_of, patterns_of, weights_of}
 use Rattle.esto_views.specs.declared.fragments.FragmentDef.{FragmentDef}
-use Rattle.esto_bench.specs.Case.{below, made_columns, made_database, made_fragment_names, made_names, made_patterns, made_query, made_rows, made_view, made_views, made_weights, numbered, without_inputs}
+use Rattle.esto_bench.specs.Case.{below, made_columns, made_database, made_fragment_names, made_names, made_patterns, made_query, made_rows, made_view}
+use Rattle.esto_bench.specs.Case.{made_views, made_weights, numbered, without_inputs}
 
 -- The fragment is that of the letter over the relation, with this weight.
 pub record IsMadeFragment (letter : List ℕ) (relation weight : ℕ) (fragment : FragmentDef) : Type 0 where

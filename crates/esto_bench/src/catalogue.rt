@@ -1,10 +1,10 @@
 //! The catalogue of the made case.
-ghost use Rattle.std.specs.Prelude.{◌≡◌, ◌<◌, ◌≤◌, ◌++◌, ◌∷◌, [], map, length, codes, Contains, IfOk, OnOk};
+ghost use Rattle.std.specs.Prelude.{◌≡◌, ◌<◌, ◌≤◌, ◌++◌, ◌∷◌, [], length, Contains, IfOk, OnOk};
 ghost use Rattle.esto_acyclic.specs.Graphs.{AreRanks};
 ghost use Rattle.esto_acyclic.specs.Relations.{IsEdge};
 ghost use Rattle.esto_catalog.specs.Datasets.{words_of};
 ghost use Rattle.esto_query.specs.Schemas.{names_of};
-ghost use Rattle.esto_bench.specs.Case.{IsMadeCatalogue, below, made_dataset, made_datasets, made_relation, made_schema, numbered};
+ghost use Rattle.esto_bench.specs.Case.{IsMadeCatalogue, made_dataset, made_datasets, made_schema, numbered};
 
 use crate::case::MAX_SIZE;
 use crate::fragments::{made_columns, made_fragments, made_stores, numbered};

@@ -1,9 +1,11 @@
 -- Sets that are packed in words: which sets the words keep, which of them are subsets or supersets of another, and what a set more does.
-use Rattle.std.proofs.Common.{◌≡◌, ◌↔◌, ℕ, ◌+◌, ◌-◌, ◌*◌, ◌%◌, ◌^◌, ◌<◌, ◌≤◌, Bool, true, false, cond, not, List, [], ◌∷◌, ◌++◌, length, map, take, drop, filter, get_or, slice_range, slice_get, Some, IfSome, IsTrue, Contains, refl, sym, ap, ◌∙◌, subst, inl, inr, arith, lit<}
+use Rattle.std.proofs.Common.{◌≡◌, ◌↔◌, ℕ, ◌+◌, ◌-◌, ◌*◌, ◌%◌, ◌^◌, ◌<◌, ◌≤◌, Bool, true, false, cond, not, List, [], ◌∷◌, ◌++◌, length, map, take, drop}
+use Rattle.std.proofs.Common.{filter, get_or, slice_range, slice_get, Some, IfSome, IsTrue, Contains, refl, sym, ap, ◌∙◌, subst, inl, inr, arith, lit<}
 use Rattle.std.proofs.Math.Nat.{mul-le-mul_right, mul-mod_left}
 use Rattle.std.specs.List.{range_with_len}
 use Rattle.std.proofs.lemmas.Bool.{cases_lt}
-use Rattle.std.proofs.lemmas.List.{drop-append-le, drop_at, get_or_past, get_or-drop, get_or-take, length-append, length-drop, length-take, append-nil, take-append-le, take_all, take_more}
+use Rattle.std.proofs.lemmas.List.{drop-append-le, drop_at, get_or_past, get_or-drop, get_or-take, length-append, length-drop, length-take, append-nil}
+use Rattle.std.proofs.lemmas.List.{take-append-le, take_all, take_more}
 use Rattle.std.proofs.lemmas.List.Elements.{All-contains_itself, All-weaker, filter-append}
 use Rattle.std.proofs.lemmas.List.FromFn.{fill_by_all, get_or-map-range_with_len, length-map-range_with_len, map-range_with_len_more}
 use Rattle.std.proofs.lemmas.Option.{slice_get-get_or}

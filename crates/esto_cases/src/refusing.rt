@@ -1,6 +1,5 @@
 //! Steps that are run over fragments of which one finds memory wanting.
-ghost use Rattle.std.specs.Prelude.{◌≡◌, ◌<◌, [], ◌∷◌, length, map, Contains, IfOk, OnOk};
-ghost use Rattle.esto_exec.specs.Runnable.{AreRunnable};
+ghost use Rattle.std.specs.Prelude.{◌≡◌, ◌<◌, [], ◌∷◌, IfOk};
 ghost use Rattle.esto_cases.specs.Refusing.{AreOpen, AskAll};
 
 use crate::printing::{put, put_digits};

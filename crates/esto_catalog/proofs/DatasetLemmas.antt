@@ -1,5 +1,6 @@
 -- Datasets that were read are sound over the relations of all.
-use Rattle.std.proofs.Common.{◌≡◌, ◌≢◌, ◌<◌, ◌≤◌, ◌+◌, ◌*◌, ℕ, suc, List, [], ◌∷◌, ◌++◌, length, map, drop, get_or, true, false, Option, Some, inl, inr, refl, sym, ap, subst, ◌∙◌, arith, length-append}
+use Rattle.std.proofs.Common.{◌≡◌, ◌≢◌, ◌<◌, ◌≤◌, ◌+◌, ◌*◌, ℕ, suc, List, [], ◌∷◌, ◌++◌, length, map, drop, get_or, true, false, Option, Some, inl, inr, refl}
+use Rattle.std.proofs.Common.{sym, ap, subst, ◌∙◌, arith, length-append}
 use Rattle.std.specs.Prelude.{Contains, AllPairs, slice_get}
 use Rattle.std.proofs.lemmas.Bool.{false≢true}
 use Rattle.std.proofs.lemmas.Cmp.{nat_list_eq_equiv}
@@ -15,7 +16,8 @@ use Rattle.esto_read.specs.declared.words.DataModel.{DataModel}
 use Rattle.esto_read.specs.declared.words.DataModel.TheVariants.{Table, Documents, Keys}
 use Rattle.esto_term.proofs.ListLemmas.{at_left, at_right, Contains-map_from, Contains-nil}
 use Rattle.esto_catalog.proofs.NameLemmas.{any_free, name_of}
-use Rattle.esto_catalog.specs.Datasets.{AreBased, AreDatasets, FitModel, IsDataset, StandFrom, adds_dataset, columns_row, dataset_of, has_dataset, is_name, model_relations, reads_dataset, reads_datasets, relation_count, relations_of, schema_of}
+use Rattle.esto_catalog.specs.Datasets.{AreBased, AreDatasets, FitModel, IsDataset, StandFrom, adds_dataset, columns_row, dataset_of, has_dataset, is_name}
+use Rattle.esto_catalog.specs.Datasets.{model_relations, reads_dataset, reads_datasets, relation_count, relations_of, schema_of}
 use Rattle.esto_catalog.specs.Models.{layout_row}
 use Rattle.esto_catalog.specs.Rows.{IsWant, IsAny}
 use Rattle.esto_settings.specs.Settings.{is_same}

@@ -1,5 +1,6 @@
 -- The walk has one outcome.
-use Rattle.std.proofs.Common.{◌≡◌, ◌≢◌, ◌⊎◌, ℕ, suc, pos, arith, Bool, List, [], ◌∷◌, ◌++◌, length, map, Option, Some, None, get_or, Ordering, Less, Equal, Greater, inl, inr, refl, sym, ap, subst, ◌∙◌, codes}
+use Rattle.std.proofs.Common.{◌≡◌, ◌≢◌, ◌⊎◌, ℕ, suc, pos, arith, Bool, List, [], ◌∷◌, ◌++◌, length, map, Option, Some, None, get_or, Ordering, Less, Equal}
+use Rattle.std.proofs.Common.{Greater, inl, inr, refl, sym, ap, subst, ◌∙◌, codes}
 use Rattle.std.specs.Prelude.{slice_get}
 use Rattle.std.specs.Ordering.{ordering_reverse}
 use Rattle.std.proofs.Math.Logic.{∥∥₁_prop}
@@ -17,7 +18,8 @@ use Rattle.esto_constraint.specs.declared.rule.Constraint.{Constraint}
 use Rattle.esto_constraint.specs.declared.rule.Constraint.TheVariants.{Tuple, Equal as Equality, Never}
 use Rattle.esto_course.specs.Agreement.{Agree, IsDetermined, IsDeterminedUpTo}
 use Rattle.esto_course.proofs.Alike.{nothing_alike, then_alike}
-use Rattle.esto_course.proofs.Determined.{then_agree, judges_agree, then_determined, gives_determined, refuses_determined, demands_determined, judges_determined, each_determined}
+use Rattle.esto_course.proofs.Determined.{then_agree, judges_agree, then_determined, gives_determined, refuses_determined, demands_determined}
+use Rattle.esto_course.proofs.Determined.{judges_determined, each_determined}
 use Rattle.esto_course.specs.Course.{Course, Stops, and_then, demands, each, gives}
 use Rattle.esto_course.specs.Course.Stops.{is_free, refused}
 use Rattle.esto_query.specs.Schemas.{arities_of, names_of}
@@ -49,7 +51,8 @@ use Rattle.esto_text.specs.declared.version.Version.TheVariants.{One, Two}
 use Rattle.esto_catalog.proofs.AccessLemmas.{patterns_one, weight_one}
 use Rattle.esto_catalog.specs.Access.{reads_patterns, allows_access, allows_weight}
 use Rattle.esto_catalog.specs.Constraints.{reads_rule, reads_constraint, adds_constraint, reads_constraints}
-use Rattle.esto_catalog.specs.Datasets.{name_row, columns_row, layout_and_file_rows, rows_after_name, reads_dataset, adds_dataset, reads_datasets, schema_of, words_of}
+use Rattle.esto_catalog.specs.Datasets.{name_row, columns_row, layout_and_file_rows, rows_after_name, reads_dataset, adds_dataset, reads_datasets, schema_of}
+use Rattle.esto_catalog.specs.Datasets.{words_of}
 use Rattle.esto_catalog.proofs.DatasetLemmas.{read_set}
 use Rattle.esto_catalog.proofs.SchemaLemmas.{set_words}
 use Rattle.esto_catalog.proofs.ShapeLemmas.{head_fit, names_are, view_reading}
@@ -57,8 +60,10 @@ use Rattle.esto_catalog.specs.Determined.{HaveOneCatalogue, HaveNoError, HaveOne
 use Rattle.esto_catalog.specs.Models.{allows_layout, layout_row, layout_word, model_word, needs_model, unfit_row}
 use Rattle.esto_catalog.specs.Rules.{all_rules}
 use Rattle.esto_catalog.specs.Shapes.{AreDistinctNames, documents_row, head_columns, keys_row, pattern_row, reads_pattern, shape_row, store_columns, table_row}
-use Rattle.esto_catalog.specs.Fragments.{reads_view, view_row, access_and_weight_rows, rows_after_file, rows_after_view, stored_fragment, reads_fragment, adds_fragment, reads_fragments, no_fragments, with_fragment}
-use Rattle.esto_catalog.specs.Reading.{IsCatalogueError, IsCycleOf, IsMadeOf, IsRankedOf, is_ranked, makes_catalogue, reads_catalogue, reads_fragments_and_rules, reads_ranked, reads_sections}
+use Rattle.esto_catalog.specs.Fragments.{reads_view, view_row, access_and_weight_rows, rows_after_file, rows_after_view, stored_fragment, reads_fragment}
+use Rattle.esto_catalog.specs.Fragments.{adds_fragment, reads_fragments, no_fragments, with_fragment}
+use Rattle.esto_catalog.specs.Reading.{IsCatalogueError, IsCycleOf, IsMadeOf, IsRankedOf, is_ranked, makes_catalogue, reads_catalogue}
+use Rattle.esto_catalog.specs.Reading.{reads_fragments_and_rules, reads_ranked, reads_sections}
 use Rattle.esto_catalog.specs.Rows.{IsWant, IsAny, fault_at, text_fault_at, IsLeastUnknown, knows_keys, needs_text, needs_texts, allows_text, top}
 use Rattle.esto_settings.specs.Settings.{document_of, setting_at}
 use Rattle.esto_catalog.specs.Whole.{number_of, top_keys, reads_toml, reads_version, reads_core, fits_section, reads_top, reads_whole}

@@ -1,5 +1,6 @@
 -- The rows of a dataset, and what datasets give.
-use Rattle.std.specs.Prelude.{◌≡◌, ◌≢◌, ℕ, ◌+◌, ◌≤◌, List, [], ◌∷◌, ◌++◌, Option, Some, Bool, true, false, ◌&&◌, ◌||◌, nat_le, nat_lt, nat_eq, length, map, codes, AllPairs, Contains, slice_get}
+use Rattle.std.specs.Prelude.{◌≡◌, ◌≢◌, ℕ, ◌+◌, ◌≤◌, List, [], ◌∷◌, ◌++◌, Option, Some, Bool, true, false, ◌&&◌, ◌||◌, nat_le, nat_lt, nat_eq, length, map}
+use Rattle.std.specs.Prelude.{codes, AllPairs, Contains, slice_get}
 use Rattle.std.specs.List.{list_all, list_any, starts_with}
 use Rattle.esto_course.specs.Course.{Course, gives, demands, and_then, each}
 use Rattle.esto_docs.specs.declared.layout.Layout.{Layout}

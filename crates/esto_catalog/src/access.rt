@@ -1,6 +1,7 @@
 //! The rows of a fragment's binding patterns and of its weight.
 ghost use Rattle.std.specs.Prelude.{◌≡◌, ◌≢◌, ℕ, List, Bool, [], ◌∷◌, length, MatchOption, IfOk};
-ghost use Rattle.esto_catalog.specs.Access.{letter_of, IsPattern, ArePatterns, IsWeight, is_usual_input, reads_patterns, usual_pattern, access_row, reads_weight, weight_row};
+ghost use Rattle.esto_catalog.specs.Access.{letter_of, IsPattern, ArePatterns, IsWeight, is_usual_input, reads_patterns, usual_pattern, access_row};
+ghost use Rattle.esto_catalog.specs.Access.{reads_weight, weight_row};
 ghost use Rattle.esto_catalog.specs.Rows.{Walks};
 
 use crate::columns::are_distinct;

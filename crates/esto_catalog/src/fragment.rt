@@ -3,7 +3,8 @@ ghost use Rattle.std.specs.Prelude.{◌≡◌, ◌<◌, ◌+◌, ◌||◌, IfOk,
 ghost use Rattle.esto_course.specs.Course.{Stops};
 ghost use Rattle.esto_query.specs.Schemas.{arities_of};
 ghost use Rattle.esto_catalog.specs.Datasets.{has_dataset};
-ghost use Rattle.esto_catalog.specs.Fragments.{has_fragment, reads_view, view_row, access_and_weight_rows, rows_after_file, rows_after_view, stored_fragment, reads_fragment, adds_fragment, reads_fragments};
+ghost use Rattle.esto_catalog.specs.Fragments.{has_fragment, reads_view, view_row, access_and_weight_rows, rows_after_file, rows_after_view, stored_fragment};
+ghost use Rattle.esto_catalog.specs.Fragments.{reads_fragment, adds_fragment, reads_fragments};
 ghost use Rattle.esto_catalog.specs.Rows.{IsAny, IsWant, Walks};
 ghost use Rattle.esto_catalog.specs.Scope.{IsScope};
 ghost use Rattle.esto_catalog.specs.Shapes.{AreDistinctNames};

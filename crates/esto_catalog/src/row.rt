@@ -1,8 +1,9 @@
 //! What rows of the catalogue's table have in common.
-ghost use Rattle.std.specs.Prelude.{◌≡◌, ℕ, List, codes, Contains, IfOk, IfErr, MatchOption, option_copied};
+ghost use Rattle.std.specs.Prelude.{◌≡◌, ℕ, List, IfOk, IfErr, MatchOption, option_copied};
 ghost use Rattle.esto_course.specs.Course.{Stops};
 ghost use Rattle.std.specs.List.{list_any};
-ghost use Rattle.esto_catalog.specs.Rows.{IsAny, IsWant, Walks, is_known, IsUnknown, IsLeastUnknown, IsLesserOf, knows_keys, needs_text, allows_text, needs_texts};
+ghost use Rattle.esto_catalog.specs.Rows.{IsAny, IsWant, Walks, is_known, IsUnknown, IsLeastUnknown, IsLesserOf, knows_keys, needs_text, allows_text};
+ghost use Rattle.esto_catalog.specs.Rows.{needs_texts};
 ghost use Rattle.esto_settings.specs.Settings.{is_same, setting_at};
 
 use crate::fault::{CatalogueError, CatalogueKind, Place, fault};

@@ -3,7 +3,8 @@ ghost use Rattle.std.specs.Prelude.{◌≡◌, ◌↔◌, IsTrue, Some, option_c
 ghost use Rattle.esto_query.specs.declared.query.Name.{Name};
 ghost use Rattle.esto_catalog.specs.Datasets.{AreColumns};
 ghost use Rattle.esto_catalog.specs.Rows.{Walks};
-ghost use Rattle.esto_catalog.specs.Shapes.{column_of, head_columns, name_at, AreDistinctNames, store_columns, store_columns_row, reads_pattern, pattern_row, table_row, documents_row, keys_row, shape_row};
+ghost use Rattle.esto_catalog.specs.Shapes.{column_of, head_columns, name_at, AreDistinctNames, store_columns, store_columns_row, reads_pattern, pattern_row};
+ghost use Rattle.esto_catalog.specs.Shapes.{table_row, documents_row, keys_row, shape_row};
 ghost use Rattle.esto_settings.specs.declared.setting.Setting.TheVariants.{Texts};
 
 use crate::catalogue::Shape;

@@ -3,7 +3,8 @@ ghost use Rattle.std.specs.Prelude.{◌≡◌, ◌≢◌, ◌≤◌, Some, codes
 ghost use Rattle.esto_catalog.specs.Rows.{Walks};
 ghost use Rattle.esto_settings.specs.Settings.{setting_at};
 ghost use Rattle.esto_settings.specs.declared.setting.Setting.TheVariants.{Integer};
-ghost use Rattle.esto_catalog.specs.Whole.{is_two, top_keys, number_of, reads_toml, reads_version, reads_core, fits_section, reads_top, reads_whole, tables_of, sections_of};
+ghost use Rattle.esto_catalog.specs.Whole.{is_two, top_keys, number_of, reads_toml, reads_version, reads_core, fits_section, reads_top, reads_whole, tables_of};
+ghost use Rattle.esto_catalog.specs.Whole.{sections_of};
 
 use crate::fault::{CatalogueError, CatalogueKind, TOP, fault};
 use crate::row::{Keys, knows_keys};

@@ -1,5 +1,6 @@
 -- The walk over the lines of a certificate.
-use Rattle.std.proofs.Common.{Bool, ◌≡◌, ◌⊎◌, inl, inr, ℕ, ◌+◌, ◌<◌, List, [], ◌∷◌, ◌++◌, drop, map, length, get_or, Option, Some, None, Result, Ok, Err, IfOk, subst, refl, sym, arith, zero, suc}
+use Rattle.std.proofs.Common.{Bool, ◌≡◌, ◌⊎◌, inl, inr, ℕ, ◌+◌, ◌<◌, List, [], ◌∷◌, ◌++◌, drop, map, length, get_or, Option, Some, None, Result, Ok, Err, IfOk}
+use Rattle.std.proofs.Common.{subst, refl, sym, arith, zero, suc}
 use Rattle.std.proofs.lemmas.List.{drop_more}
 use Rattle.esto_term.specs.declared.term.Term.{Term}
 use Rattle.esto_constraint.specs.Constraints.{rules_of}

@@ -6,13 +6,11 @@ use Rattle.esto_catalog.specs.declared.catalogue.Catalogue.{Catalogue}
 use Rattle.esto_course.specs.Course.{gives, judges}
 use Rattle.esto_course.proofs.Determined.{judges_agree, then_agree}
 use Rattle.esto_list.specs.declared.listing.Listed.{Listed}
-use Rattle.esto_ports.specs.Files.{Files}
 use Rattle.esto_query.specs.declared.query.Query.{Query}
 use Rattle.esto_views.specs.declared.plan.Plan.{Plan}
 use Rattle.esto_opening.specs.Alike.{CataloguesOpenAlike, IsSameQuery, QueriesOpenAlike}
 use Rattle.esto_opening.specs.Calm.{AgreeCalmly}
 use Rattle.esto_opening.specs.declared.reply.Reply.TheVariants.{Done}
-use Rattle.esto_opening.specs.declared.status.Status.{Status}
 use Rattle.esto_planning.specs.Alike.{ChoiceIsOne, IsSamePlan, ListIsOne, PlanIsOne}
 use Rattle.esto_planning.specs.Planning.{chooses}
 use Rattle.esto_certify.specs.Explain.{explains_plan, explains_query}

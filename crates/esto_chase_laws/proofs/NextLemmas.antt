@@ -23,7 +23,8 @@ use Rattle.esto_semantics.proofs.FactLemmas.{image_agree}
 use Rattle.esto_semantics.proofs.TermLemmas.{Const-same}
 use Rattle.esto_chase_laws.specs.Joined.{joined}
 use Rattle.esto_chase_laws.specs.Making.{extended, made_facts}
-use Rattle.esto_chase_laws.specs.Runs.{Step, added, merged, AreSides, IsTriedBefore, IsNext, IsAdded, IsMerged, IsStep, IsClashed, IsDenied, HasClashed, IsEnd, kind_of, move_of, merge_of, replaced_facts}
+use Rattle.esto_chase_laws.specs.Runs.{Step, added, merged, AreSides, IsTriedBefore, IsNext, IsAdded, IsMerged, IsStep, IsClashed, IsDenied, HasClashed, IsEnd}
+use Rattle.esto_chase_laws.specs.Runs.{kind_of, move_of, merge_of, replaced_facts}
 use Rattle.esto_chase_laws.specs.declared.clash.Clash.{Clash}
 use Rattle.esto_chase_laws.specs.declared.clash.Clash.TheVariants.{Equal, Denied}
 use Rattle.esto_chase_laws.proofs.MakingLemmas.{extended_agree}

@@ -1,5 +1,6 @@
 -- What is so of each state of a run.
-use Rattle.std.proofs.Common.{◌≡◌, ◌⊎◌, inl, inr, ℕ, ◌+◌, ◌<◌, ◌≤◌, List, [], ◌∷◌, ◌++◌, map, length, Contains, slice_get, Some, refl, sym, ap, ◌∙◌, subst, arith, length-append}
+use Rattle.std.proofs.Common.{◌≡◌, ◌⊎◌, inl, inr, ℕ, ◌+◌, ◌<◌, ◌≤◌, List, [], ◌∷◌, ◌++◌, map, length, Contains, slice_get, Some, refl, sym, ap, ◌∙◌, subst}
+use Rattle.std.proofs.Common.{arith, length-append}
 use Rattle.esto_term.specs.Finite.{Stock, IsMadeOf, lists_within}
 use Rattle.esto_term.specs.Finite.IsMadeOf.{constant}
 use Rattle.esto_term.specs.Nesting.{nesting, greatest_u64}

@@ -1,6 +1,7 @@
 //! Laws of runs: their start, that they go on to an end, and that they have one.
 ghost use Rattle.esto_chase_laws.specs.RunLaws.{StartsHaveTheBody, QueriesHaveStarts, EndIsOne, MovesAreOne, MergesAreOne, ClashIsOne, ClashedIsNotFinished};
-ghost use Rattle.esto_chase_laws.specs.RunLaws.{EndsHaveNoStep, FinishedHasNoMatch, NoMatchIsFinished, RulesAreDecided, StatesGoOn, RunsReachAnEnd, MadeTermsAreNew};
+ghost use Rattle.esto_chase_laws.specs.RunLaws.{EndsHaveNoStep, FinishedHasNoMatch, NoMatchIsFinished, RulesAreDecided, StatesGoOn, RunsReachAnEnd};
+ghost use Rattle.esto_chase_laws.specs.RunLaws.{MadeTermsAreNew};
 ghost use Rattle.esto_chase_laws.specs.RunLaws.{HeadsGoAlong, FactsGoAlong, MergedTermsMeet, MentionedTermsStay};
 
 /// A law: the start of a query's run has exactly the facts of its body, and no made term.

@@ -1,7 +1,9 @@
 -- Indexes of keys, place by place.
-use Rattle.std.proofs.Common.{◌≡◌, inl, inr, ℕ, ◌+◌, ◌-◌, ◌<◌, ◌≤◌, Bool, false, cond, eqb, List, [], ◌∷◌, ◌++◌, map, length, get_or, set, take, drop, reverse, Some, slice_get, refl, sym, ap, ◌∙◌, subst, arith, slice_range}
+use Rattle.std.proofs.Common.{◌≡◌, inl, inr, ℕ, ◌+◌, ◌-◌, ◌<◌, ◌≤◌, Bool, false, cond, eqb, List, [], ◌∷◌, ◌++◌, map, length, get_or, set, take, drop, reverse}
+use Rattle.std.proofs.Common.{Some, slice_get, refl, sym, ap, ◌∙◌, subst, arith, slice_range}
 use Rattle.std.proofs.lemmas.Bool.Decides.{eqb_tells, Decides-eqb}
-use Rattle.std.proofs.lemmas.List.{length-append, length-set, length-take, map-append, append-nil, append_assoc, take_all, take_more, reverse-append, get_or-set_same, get_or-set_other, get_or_append_left, get_or-take, get_or-drop}
+use Rattle.std.proofs.lemmas.List.{length-append, length-set, length-take, map-append, append-nil, append_assoc, take_all, take_more, reverse-append}
+use Rattle.std.proofs.lemmas.List.{get_or-set_same, get_or-set_other, get_or_append_left, get_or-take, get_or-drop}
 use Rattle.std.proofs.lemmas.Option.{slice_get_within, slice_get-get_or, get_or_from_slice_get}
 use Rattle.esto_term.proofs.ListLemmas.{at_left, at_end, at_pushed}
 use Rattle.esto_columns.specs.Indexed.{Index, LeadsOn, AreChains, IsIndexOf, AreAmongPlaces, with_place, bucket_of}

@@ -1,5 +1,6 @@
 //! Codes of texts.
-ghost use Rattle.std.specs.Prelude.{◌≡◌, ◌≢◌, ◌⊎◌, ◌↔◌, ◌<◌, ℕ, List, [], ◌∷◌, ◌++◌, length, slice_get, Some, Contains, AllPairs, IfOk, IfErr, OnOk, OnErr, MatchOption, IsUtf8, IsTrue};
+ghost use Rattle.std.specs.Prelude.{◌≡◌, ◌≢◌, ◌⊎◌, ◌↔◌, ◌<◌, ℕ, List, [], ◌∷◌, ◌++◌, length, slice_get, Some, Contains, AllPairs, IfOk, IfErr, OnOk, OnErr};
+ghost use Rattle.std.specs.Prelude.{MatchOption, IsUtf8, IsTrue};
 ghost use Rattle.esto_columns.specs.Indexed.{IsIndexOf};
 ghost use Rattle.esto_columns.specs.Interned.{IsRightFault};
 

@@ -1,9 +1,8 @@
 //! Fragments whose rows are stored.
-ghost use Rattle.std.specs.Prelude.{◌≡◌, ◌==◌, ◌<◌, ◌++◌, ◌∷◌, [], List, ℕ, length, map, slice_index_or, Contains, IfOk, OnOk};
+ghost use Rattle.std.specs.Prelude.{◌≡◌, ◌==◌, ◌<◌, ◌++◌, ◌∷◌, [], ℕ, length, map, slice_index_or, Contains, IfOk, OnOk};
 ghost use Rattle.std.specs.List.{filter};
 ghost use Rattle.esto_columns.specs.declared.fragment.Input.{Input};
 ghost use Rattle.esto_columns.specs.Asked.{holds_all};
-ghost use Rattle.esto_columns.specs.CodedRows.{CodedRows};
 ghost use Rattle.esto_columns.specs.Picked.{rows_at};
 
 use crate::fragment::{Fragment, Input, Inputs, Ways};

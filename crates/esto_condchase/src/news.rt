@@ -1,6 +1,5 @@
 //! What is new since a round, and whether a rule has to be asked again for it.
-ghost use Rattle.std.specs.Prelude.{◌≡◌, ◌↔◌, ◌≤◌, false, length, Contains, IsTrue};
-ghost use Rattle.esto_term.specs.declared.term.Term.{Term};
+ghost use Rattle.std.specs.Prelude.{◌≡◌, ◌↔◌, false, IsTrue};
 ghost use Rattle.esto_semantics.specs.Rules.{body_of};
 ghost use Rattle.esto_semantics.specs.declared.fact.Fact.{Fact};
 ghost use Rattle.esto_constraint.specs.Constraints.{rule_of};

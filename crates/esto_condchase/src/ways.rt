@@ -1,7 +1,5 @@
 //! Ways to match a body among entries, modulo equalities.
-ghost use Rattle.std.specs.Prelude.{◌≡◌, ◌≢◌, ◌<◌, ◌∷◌, ◌++◌, [], List, length, slice_get, Contains, IfOk, OnOk, Some};
-ghost use Rattle.esto_world_laws.specs.Derived.{Claims};
-ghost use Rattle.esto_world_laws.specs.declared.entry.Claim.TheVariants.{Fact as Stated};
+ghost use Rattle.std.specs.Prelude.{◌≡◌, ◌≢◌, ◌<◌, ◌∷◌, ◌++◌, [], List, length, Contains, IfOk, OnOk};
 ghost use Rattle.esto_world_laws.specs.Matches.{taken};
 ghost use Rattle.esto_world_laws.specs.Worlds.{AreOfCount};
 ghost use Rattle.esto_condchase.specs.Ways.{AreCounted, empty_way, met, met_by, begun, AreLonger, AreRows, AreThrough, AreMatched, AreFound};

@@ -1,5 +1,6 @@
 -- The turns of the loop over matches, and whether a match is active.
-use Rattle.std.proofs.Common.{◌≡◌, ℕ, ◌+◌, ◌-◌, ◌<◌, ◌≤◌, ◌⊎◌, ◌↔◌, Bool, not, true, false, List, [], ◌∷◌, length, take, Option, Some, None, IsSome, IsTrue, refl, sym, ap, subst, ◌∙◌, inl, inr, arith}
+use Rattle.std.proofs.Common.{◌≡◌, ℕ, ◌+◌, ◌-◌, ◌<◌, ◌≤◌, ◌⊎◌, ◌↔◌, Bool, not, true, false, List, [], ◌∷◌, length, take, Option, Some, None, IsSome, IsTrue}
+use Rattle.std.proofs.Common.{refl, sym, ap, subst, ◌∙◌, inl, inr, arith}
 use Rattle.std.specs.List.{slice_get}
 use Rattle.std.specs.Option.{IfSome, IfNone, is_none, is_some, option_map}
 use Rattle.std.specs.Prelude.{⊤}

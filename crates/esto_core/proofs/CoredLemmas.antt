@@ -9,7 +9,8 @@ use Rattle.esto_semantics.specs.Maps.{IsFlat, AreFlat}
 use Rattle.esto_semantics.specs.Queries.{ConjunctiveQuery}
 use Rattle.esto_semantics.specs.Rewritings.{IsPlanFor}
 use Rattle.esto_semantics.specs.declared.fact.Fact.{Fact}
-use Rattle.esto_plan_laws.specs.CoreLaws.{MapsCompose, LeftIsChosen, MapsToLeft, LeftMapsBack, LeftIsCore, LeftIsOne, RenamedIsReached, RenamedMapsBack, RenamedIsCore}
+use Rattle.esto_plan_laws.specs.CoreLaws.{MapsCompose, LeftIsChosen, MapsToLeft, LeftMapsBack, LeftIsCore, LeftIsOne, RenamedIsReached, RenamedMapsBack}
+use Rattle.esto_plan_laws.specs.CoreLaws.{RenamedIsCore}
 use Rattle.esto_plan_laws.specs.Cores.{with_head, IsCore, IsRenamedTo}
 use Rattle.esto_query.specs.declared.query.Name.{Name}
 use Rattle.esto_views.specs.Plans.{fact_of, plan_query, IsPlanOver}

@@ -1,5 +1,6 @@
 -- The files of the datasets that are needed, opened one after the other.
-use Rattle.std.proofs.Common.{◌≡◌, ◌↔◌, ◌⊎◌, ◌<◌, ◌≤◌, ◌+◌, ℕ, suc, List, [], ◌∷◌, ◌++◌, drop, length, get_or, Contains, slice_get, Option, Some, None, Result, Ok, Err, refl, sym, ap, subst, ◌∙◌, arith, inl, inr}
+use Rattle.std.proofs.Common.{◌≡◌, ◌↔◌, ◌⊎◌, ◌<◌, ◌≤◌, ◌+◌, ℕ, suc, List, [], ◌∷◌, ◌++◌, drop, length, get_or, Contains, slice_get, Option, Some, None, Result}
+use Rattle.std.proofs.Common.{Ok, Err, refl, sym, ap, subst, ◌∙◌, arith, inl, inr}
 use Rattle.std.specs.Prelude.{AllPairs, IfSome, IsSome}
 use Rattle.std.specs.Result.{IsErrAnd}
 use Rattle.std.proofs.lemmas.List.Elements.{Contains-append_cases, Contains-append_left, Contains-append_right, Contains-get_or}
@@ -25,7 +26,8 @@ use Rattle.esto_term.proofs.PlaceLemmas.{item_at}
 use Rattle.esto_term.specs.declared.term.Term.{Term}
 use Rattle.esto_opening.specs.Answers.{IsWant, IsCaused}
 use Rattle.esto_opening.specs.Asked.{AsksIn}
-use Rattle.esto_data.specs.Datasets.{AddsNeeded, AreFactsOfFiles, AreNeeded, IsSourceAt, Loads, LoadsAsking, LoadsFiles, LoadsMore, LoadsNext, ReadsData, Source, demands_file, demands_files, loads, loads_files, loads_next, opens_dataset, reads_data}
+use Rattle.esto_data.specs.Datasets.{AddsNeeded, AreFactsOfFiles, AreNeeded, IsSourceAt, Loads, LoadsAsking, LoadsFiles, LoadsMore, LoadsNext, ReadsData}
+use Rattle.esto_data.specs.Datasets.{Source, demands_file, demands_files, loads, loads_files, loads_next, opens_dataset, reads_data}
 use Rattle.esto_opening.specs.Fetch.{fetches}
 use Rattle.esto_data.specs.declared.datasets.TheConstants.{DATASET_LIMIT}
 use Rattle.esto_opening.specs.declared.status.Status.{Status}

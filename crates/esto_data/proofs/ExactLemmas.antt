@@ -1,5 +1,6 @@
 -- What `fill`, `answer` and `audit` answer where nothing is wrong with the files.
-use Rattle.std.proofs.Common.{◌≡◌, ◌≢◌, ◌↔◌, ℕ, suc, List, [], ◌∷◌, ◌++◌, map, length, slice_get, Contains, Option, Some, None, Err, refl, sym, ap, subst, ◌∙◌, arith, inl, inr}
+use Rattle.std.proofs.Common.{◌≡◌, ◌≢◌, ◌↔◌, ℕ, suc, List, [], ◌∷◌, ◌++◌, map, length, slice_get, Contains, Option, Some, None, Err, refl, sym, ap, subst, ◌∙◌}
+use Rattle.std.proofs.Common.{arith, inl, inr}
 use Rattle.std.proofs.lemmas.Bool.{cases_order}
 use Rattle.std.proofs.lemmas.Option.{same_Some, none-some}
 use Rattle.esto_catalog.specs.Determined.{AreSame, CataloguesAreSound}
@@ -54,7 +55,8 @@ use Rattle.esto_data.specs.Answer.{IsAnswerOfFacts, IsUnionAnswerOfFacts, answer
 use Rattle.esto_data.specs.Audit.{AuditsFiles, all_fragments, audit_course, audit_text, audits_catalogue}
 use Rattle.esto_data.specs.Datasets.{IsAny, Names, OneNames, demands_file, loads, loads_next, opens_dataset}
 use Rattle.esto_data.specs.declared.datasets.TheConstants.{DATASET_LIMIT}
-use Rattle.esto_data.specs.Exact.{AreReadableFragments, AuditsExactly, FillsExactly, GivesExactly, HoldFacts, IsExactAnswer, IsExactAudit, IsExactFill, IsExactUnionAnswer}
+use Rattle.esto_data.specs.Exact.{AreReadableFragments, AuditsExactly, FillsExactly, GivesExactly, HoldFacts, IsExactAnswer, IsExactAudit, IsExactFill}
+use Rattle.esto_data.specs.Exact.{IsExactUnionAnswer}
 use Rattle.esto_data.specs.Exact.FillsExactly.{prints, tells_key, tells_node}
 use Rattle.esto_data.specs.Fill.{IsFilled, IsFirstOf, IsRowOfView, fill_course, fill_status, fills_file, fills_named, names_of}
 use Rattle.esto_data.specs.DataLaws.{DataLaws}

@@ -10,7 +10,8 @@ use Rattle.esto_run.specs.Stores.{IsFileRow, IsRowIn}
 use Rattle.esto_semantics.specs.declared.fact.Fact.{Fact}
 use Rattle.esto_opening.specs.Answers.{IsCaused}
 use Rattle.esto_opening.specs.Calm.{Leads}
-use Rattle.esto_opening.specs.Fragments.{Stored, IsReadableFragment, IsStoredAt, reads_content, opens_stored, opens_fragment, opens_next, opens_fragments, no_contents, with_content}
+use Rattle.esto_opening.specs.Fragments.{Stored, IsReadableFragment, IsStoredAt, reads_content, opens_stored, opens_fragment, opens_next, opens_fragments}
+use Rattle.esto_opening.specs.Fragments.{no_contents, with_content}
 use Rattle.esto_opening.specs.declared.fragments.TheConstants.{FRAGMENT_LIMIT}
 use Rattle.esto_opening.specs.declared.status.Status.{Status}
 use Rattle.esto_opening.proofs.LeadLemmas.{then-leads, leads-more, gives-leads, judges-leads, fetches-leads}

@@ -22,7 +22,8 @@ use Rattle.esto_opening.specs.Calm.{AgreeCalmly}
 use Rattle.esto_opening.specs.declared.status.Status.{Status}
 use Rattle.esto_opening.specs.declared.status.Status.TheVariants as status
 use Rattle.esto_opening.proofs.AgreeLemmas.{fetches-agree}
-use Rattle.esto_data.specs.Datasets.{AreFactsOfFiles, AreNeeded, IsSourceAt, Source, demands_file, demands_files, loads, loads_files, loads_next, opens_dataset, opens_source, reads_data}
+use Rattle.esto_data.specs.Datasets.{AreFactsOfFiles, AreNeeded, IsSourceAt, Source, demands_file, demands_files, loads, loads_files, loads_next, opens_dataset}
+use Rattle.esto_data.specs.Datasets.{opens_source, reads_data}
 use Rattle.esto_data.specs.declared.datasets.TheConstants.{DATASET_LIMIT}
 
 -- a determined course agrees with itself where no fetch is at a fault

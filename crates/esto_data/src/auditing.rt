@@ -1,5 +1,5 @@
 //! The command `audit`.
-ghost use Rattle.std.specs.Prelude.{◌≡◌, ◌↔◌, ◌<◌, ◌≤◌, ◌++◌, ◌∷◌, [], ℕ, List, length, IfOk, OnOk, codes};
+ghost use Rattle.std.specs.Prelude.{◌≡◌, ◌↔◌, ◌<◌, ◌≤◌, ℕ, List, length, IfOk};
 ghost use Rattle.esto_opening.specs.Fragments.{Stored};
 ghost use Rattle.esto_fill.specs.Databases.{database_of};
 ghost use Rattle.esto_fill.specs.Texts.{AreTextViews};

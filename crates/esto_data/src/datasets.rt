@@ -1,10 +1,11 @@
 //! The files of the datasets that a command needs: each has to have a file; then each is fetched, and its content read,
 //! before the next is fetched.
-ghost use Rattle.std.specs.Prelude.{◌≡◌, ◌↔◌, ◌<◌, ◌≤◌, ℕ, IsTrue, length, slice_get, Some, Contains, AllPairs, IfOk, OnOk};
+ghost use Rattle.std.specs.Prelude.{◌≡◌, ◌↔◌, ◌<◌, ◌≤◌, ℕ, IsTrue, length, slice_get, Some, Contains, IfOk, OnOk};
 ghost use Rattle.esto_catalog.specs.declared.dataset.Dataset.{Dataset};
 ghost use Rattle.esto_ports.specs.Faults.{Rises};
 ghost use Rattle.esto_opening.specs.Answers.{Answers};
-ghost use Rattle.esto_data.specs.Datasets.{AddsNeeded, AreNeeded, IsAny, HasRelation, IsSourceAt, Loads, LoadsAsking, LoadsFiles, LoadsNext, Names, ReadsData, Source, demands_file, demands_files, loads};
+ghost use Rattle.esto_data.specs.Datasets.{AddsNeeded, AreNeeded, IsAny, HasRelation, IsSourceAt, Loads, LoadsAsking, LoadsFiles, LoadsNext, Names, ReadsData};
+ghost use Rattle.esto_data.specs.Datasets.{Source, demands_file, demands_files, loads};
 
 use esto_catalog::{Catalogue, Dataset, Datasets, relation_count};
 use esto_fill::{Loaded, load_dataset, loaded_facts_are_flat, nothing_loaded};

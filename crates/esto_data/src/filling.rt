@@ -1,5 +1,5 @@
 //! The command `fill`.
-ghost use Rattle.std.specs.Prelude.{◌≡◌, ◌<◌, ◌≤◌, length, IfOk, IsTrue, ◌↔◌};
+ghost use Rattle.std.specs.Prelude.{◌≡◌, ◌<◌, ◌≤◌, length, IsTrue, ◌↔◌};
 ghost use Rattle.esto_opening.specs.Fragments.{Stored};
 ghost use Rattle.esto_ports.specs.Faults.{Rises};
 ghost use Rattle.esto_opening.specs.Answers.{Answers};

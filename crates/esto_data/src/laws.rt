@@ -1,6 +1,7 @@
 //! Laws of the commands on data.
 ghost use Rattle.esto_data.specs.DataLaws.{DataLaws};
-ghost use Rattle.esto_data.specs.Laws.{AnswersAreExact, AnswersAreOne, AuditsAreExact, AuditsAreOne, AuditsRefuse, FillsAreExact, FillsAreOne, RepliesAreAudited, UnionAnswersAreExact};
+ghost use Rattle.esto_data.specs.Laws.{AnswersAreExact, AnswersAreOne, AuditsAreExact, AuditsAreOne, AuditsRefuse, FillsAreExact, FillsAreOne};
+ghost use Rattle.esto_data.specs.Laws.{RepliesAreAudited, UnionAnswersAreExact};
 
 use esto_catalog::catalogues_are_sound;
 use esto_constraint::rules_are_sound;

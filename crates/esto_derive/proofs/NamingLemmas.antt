@@ -1,9 +1,11 @@
 -- What lines name, by the reasons of their entries; and that each line is named by a later one.
-use Rattle.std.proofs.Common.{◌≡◌, ◌⊎◌, inl, inr, ℕ, ◌+◌, ◌<◌, ◌≤◌, zero, suc, Bool, List, [], ◌∷◌, ◌++◌, length, map, slice_get, Some, Contains, subst, refl, sym, ap, ◌∙◌, arith}
+use Rattle.std.proofs.Common.{◌≡◌, ◌⊎◌, inl, inr, ℕ, ◌+◌, ◌<◌, ◌≤◌, zero, suc, Bool, List, [], ◌∷◌, ◌++◌, length, map, slice_get, Some, Contains, subst, refl}
+use Rattle.std.proofs.Common.{sym, ap, ◌∙◌, arith}
 use Rattle.std.specs.List.{AllZip}
 use Rattle.std.proofs.lemmas.List.Elements.{Contains-append_cases, Contains-append_left, Contains-append_right}
 use Rattle.std.proofs.lemmas.Option.{same_Some, slice_get_within}
-use Rattle.esto_term.proofs.ListLemmas.{Contains-at, Contains-flat, Contains-flat_from, Contains-head, Contains-map, Contains-map_from, Contains-nil, Contains-rest, at_end, at_left, place-from_Contains, thing_at}
+use Rattle.esto_term.proofs.ListLemmas.{Contains-at, Contains-flat, Contains-flat_from, Contains-head, Contains-map, Contains-map_from, Contains-nil}
+use Rattle.esto_term.proofs.ListLemmas.{Contains-rest, at_end, at_left, place-from_Contains, thing_at}
 use Rattle.esto_term.proofs.ZipLemmas.{zip_at, zip_left}
 use Rattle.esto_term.specs.declared.term.Term.{Term}
 use Rattle.esto_semantics.specs.Sets.{Has}

@@ -1,5 +1,5 @@
 //! Lines of a certificate in print.
-ghost use Rattle.std.specs.Prelude.{◌≡◌, ◌+◌, ◌++◌, ◌≤◌, map, codes, IfOk, OnOk};
+ghost use Rattle.std.specs.Prelude.{◌≡◌, ◌+◌, ◌++◌, ◌≤◌, map, codes, OnOk};
 ghost use Rattle.std.specs.Fmt.{decimal};
 ghost use Rattle.esto_term.specs.Nesting.{greatest_u64};
 ghost use Rattle.esto_cert.specs.declared.line.Line.TheVariants.{Expanded, Step, Match};

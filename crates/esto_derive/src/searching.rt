@@ -1,14 +1,12 @@
 //! A match of a body in the world of a set, with the entries that it uses.
-ghost use Rattle.std.specs.Prelude.{◌≡◌, ◌++◌, ◌↔◌, ◌∷◌, List, ℕ, Some, option_map, Contains, length, map, slice_get, IsTrue, IfOk, OnOk};
+ghost use Rattle.std.specs.Prelude.{◌≡◌, ◌++◌, ◌↔◌, ◌∷◌, List, Some, option_map, length, slice_get, IsTrue, IfOk, OnOk};
 ghost use Rattle.std.specs.List.{AllZip};
 ghost use Rattle.esto_semantics.specs.declared.fact.Fact.{Fact};
 ghost use Rattle.esto_term.specs.declared.term.Term.{Term};
-ghost use Rattle.esto_semantics.specs.Facts.{terms_of};
-ghost use Rattle.esto_world_laws.specs.Derived.{Claims, IsNamed};
-ghost use Rattle.esto_world_laws.specs.Matches.{taken, Fits};
+ghost use Rattle.esto_world_laws.specs.Derived.{IsNamed};
+ghost use Rattle.esto_world_laws.specs.Matches.{Fits};
 ghost use Rattle.esto_world_laws.specs.Steps.{AreJoined};
 ghost use Rattle.esto_world_laws.specs.Worlds.{AreOfCount, InWorld, Linked};
-ghost use Rattle.esto_world_laws.specs.declared.entry.Claim.TheVariants.{Fact as Stated};
 ghost use Rattle.esto_derive.specs.Searching.{IsLink, IsFound, IsFoundAfter, IsFoundBy, AreLinks, AddsLink};
 
 use esto_bits::RowBits;

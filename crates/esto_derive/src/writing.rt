@@ -1,9 +1,8 @@
 //! The lines of a certificate, one for each entry that is used and is no chain of equalities.
-ghost use Rattle.std.specs.Prelude.{◌≡◌, ◌↔◌, ◌+◌, ◌++◌, ◌<◌, ◌≤◌, [], ◌∷◌, List, ℕ, All, Contains, Some, length, slice_get, IfOk, OnOk};
+ghost use Rattle.std.specs.Prelude.{◌≡◌, ◌+◌, ◌++◌, ◌<◌, ◌≤◌, [], ◌∷◌, List, ℕ, Contains, Some, length, slice_get, IfOk, OnOk};
 ghost use Rattle.esto_constraint.specs.Constraints.{rule_of, rules_of};
 ghost use Rattle.esto_semantics.specs.Facts.{terms_of};
 ghost use Rattle.esto_semantics.specs.Rules.{body_of};
-ghost use Rattle.esto_semantics.specs.Sets.{Has};
 ghost use Rattle.esto_views.specs.declared.expansion.ExpandedFact.{ExpandedFact};
 ghost use Rattle.esto_world_laws.specs.Derived.{AreDerived};
 ghost use Rattle.esto_world_laws.specs.Matches.{taken};

@@ -31,7 +31,8 @@ use Rattle.esto_views.specs.declared.plan.Plan.{Plan}
 use Rattle.esto_disjuncts.proofs.PickingLemmas.{same_items, not_planned}
 use Rattle.esto_disjuncts.specs.Laws.{IsSameMember, MembersAreOne}
 use Rattle.esto_disjuncts.specs.Members.{ClashAt, HavePlan}
-use Rattle.esto_disjuncts.specs.Run.{AreChosen, HasNoChoice, IsChosen, IsChosenOf, IsNoRows, IsUnionRunText, chooses_each, ends_members, runs_chosen, runs_end, runs_members}
+use Rattle.esto_disjuncts.specs.Run.{AreChosen, HasNoChoice, IsChosen, IsChosenOf, IsNoRows, IsUnionRunText, chooses_each, ends_members, runs_chosen, runs_end}
+use Rattle.esto_disjuncts.specs.Run.{runs_members}
 use Rattle.esto_disjuncts.specs.Run.HasNoChoice.{is_empty, is_above}
 use Rattle.esto_disjuncts.specs.RunLaws.{UnionRunsAreOne}
 use Rattle.esto_disjuncts.specs.declared.members.Member.{Member}

@@ -1,12 +1,11 @@
 //! The choice of a set for each member of a union.
-ghost use Rattle.std.specs.Prelude.{◌≡◌, ◌++◌, ◌∷◌, [], List, IfOk, IfErr, OnOk};
+ghost use Rattle.std.specs.Prelude.{◌++◌, ◌∷◌, [], List, IfOk, IfErr, OnOk};
 ghost use Rattle.esto_course.specs.Course.{Stops};
 ghost use Rattle.esto_opening.specs.Answers.{IsCaused, IsWant};
 ghost use Rattle.esto_disjuncts.specs.Picking.{AddsPick, ArePicksOf, HasChoice, HaveChoice, IsLeast, IsLesser, IsPickFrom};
 ghost use Rattle.esto_disjuncts.specs.Run.{HasNoChoice, chooses_each};
 ghost use Rattle.esto_disjuncts.specs.declared.members.Member.{Member};
 ghost use Rattle.esto_disjuncts.specs.declared.members.Member.TheVariants as member;
-ghost use Rattle.std.specs.Prelude.{Contains};
 
 use crate::members::Member;
 use esto_list::Listing;

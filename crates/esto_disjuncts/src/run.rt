@@ -9,7 +9,6 @@ ghost use Rattle.esto_run.specs.declared.picks.Pick.{Pick};
 ghost use Rattle.esto_disjuncts.specs.Members.{AreMembersOf};
 ghost use Rattle.esto_disjuncts.specs.Run.{IsNoRows, runs_chosen, runs_members, runs_union};
 ghost use Rattle.esto_opening.specs.Unions.{FormUnion};
-ghost use Rattle.esto_disjuncts.specs.Picking.{ArePicksOf};
 
 use crate::members::{Members, clash_of, members_of};
 use crate::picking::pick_each;

@@ -7,8 +7,8 @@ ghost use Rattle.esto_docmodel.specs.DocumentFacts.{flat};
 ghost use Rattle.esto_docmodel.specs.Encodings.{facts_of, atoms_of, atoms, end, step_atoms, used, belows, facts_from, size};
 ghost use Rattle.esto_docmodel.specs.Meanings.{HaveRootsOnTop};
 ghost use Rattle.esto_docmodel.specs.Putting.{fact_over, turned, node_facts};
-ghost use Rattle.esto_docmodel.specs.Rising.{IsRising, AreRising, AreInside};
-ghost use Rattle.esto_docmodel.specs.Shapes.{shape, row, named_row, shaped_field, documents, entry_shape, entries_of};
+ghost use Rattle.esto_docmodel.specs.Rising.{IsRising, AreRising};
+ghost use Rattle.esto_docmodel.specs.Shapes.{shape, row, named_row, shaped_field, documents, entries_of};
 
 use crate::pattern::{Entry, Pattern, Step};
 use crate::tree::{Fields, Tree, Trees};

@@ -1,5 +1,6 @@
 -- The lines of a file, one after another.
-use Rattle.std.proofs.Common.{◌≡◌, ◌<◌, ◌≤◌, ◌+◌, ◌∙◌, ◌++◌, ◌∷◌, [], ℕ, suc, List, Bool, true, false, cond, Some, None, Option, length, refl, ap, sym, append_assoc, append-nil, arith, add-zero}
+use Rattle.std.proofs.Common.{◌≡◌, ◌<◌, ◌≤◌, ◌+◌, ◌∙◌, ◌++◌, ◌∷◌, [], ℕ, suc, List, Bool, true, false, cond, Some, None, Option, length, refl, ap, sym}
+use Rattle.std.proofs.Common.{append_assoc, append-nil, arith, add-zero}
 use Rattle.std.specs.Prelude.{option_map}
 use Rattle.esto_ports.specs.declared.file_fault.FileFault.{FileFault}
 use Rattle.esto_ports.specs.declared.file_fault.FileKind.TheVariants.{BadJson}

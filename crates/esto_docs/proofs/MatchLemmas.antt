@@ -12,7 +12,8 @@ use Rattle.esto_docmodel.specs.declared.pattern.Step.TheVariants.{Name, Item, Be
 use Rattle.esto_docs.specs.Rows.{Row, text_in, row_map}
 use Rattle.esto_docs.specs.Documents.{path_data, begins_with_field, first_name, later_steps, begun, document, members}
 use Rattle.esto_docs.proofs.FieldLemmas.{node_of, HasField, NoField, put_other_into, put_other_from, put_same_into, put_same_from}
-use Rattle.esto_docs.proofs.PathLemmas.{NoneBelow, LeadsTo, object_kid, object_kid_from, array_kid, array_kid_from, led_one, led_only, begins_name, begins_item, held, holds_string}
+use Rattle.esto_docs.proofs.PathLemmas.{NoneBelow, LeadsTo, object_kid, object_kid_from, array_kid, array_kid_from, led_one, led_only, begins_name, begins_item}
+use Rattle.esto_docs.proofs.PathLemmas.{held, holds_string}
 
 -- The field with which the path begins leads to that node alone.
 abbrev LeadsOnce : Members → List Step → Node → Type 0

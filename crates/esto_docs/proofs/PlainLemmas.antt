@@ -1,5 +1,6 @@
 -- The documents of rows are of texts alone, and nest no deeper than their layout.
-use Rattle.std.proofs.Common.{◌≤◌, ◌+◌, ◌-◌, ◌∷◌, [], ℕ, suc, max, List, Bool, true, false, length, cond, inl, inr, refl, arith, nat_cmp, Ordering, Less, Equal, Greater}
+use Rattle.std.proofs.Common.{◌≤◌, ◌+◌, ◌-◌, ◌∷◌, [], ℕ, suc, max, List, Bool, true, false, length, cond, inl, inr, refl, arith, nat_cmp, Ordering, Less, Equal}
+use Rattle.std.proofs.Common.{Greater}
 use Rattle.std.specs.Cmp.Lexicographic.{slice_cmp}
 use Rattle.std.specs.Ordering.{match_ordering}
 use Rattle.serde_json.specs.Data.{Data, string, array, object, no_items, item, Members, no_members, member, put, depth, members_depth}

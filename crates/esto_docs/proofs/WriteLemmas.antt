@@ -1,5 +1,6 @@
 -- What is written is read as the same documents.
-use Rattle.std.proofs.Common.{◌≡◌, ◌<◌, ◌≤◌, ◌+◌, ◌∙◌, ◌++◌, ◌∷◌, [], ℕ, List, false, Some, None, get_or, length, map, take, flat_map, refl, ap, sym, subst, append_assoc, arith}
+use Rattle.std.proofs.Common.{◌≡◌, ◌<◌, ◌≤◌, ◌+◌, ◌∙◌, ◌++◌, ◌∷◌, [], ℕ, List, false, Some, None, get_or, length, map, take, flat_map, refl, ap, sym, subst}
+use Rattle.std.proofs.Common.{append_assoc, arith}
 use Rattle.std.specs.Prelude.{IsUtf8, Contains, All, ◌↔◌}
 use Rattle.std.proofs.lemmas.List.{take_all, take_more, map_more, map_push, flat_map_more}
 use Rattle.esto_term.proofs.ListLemmas.{Contains-head, Contains-rest, map_then, each_more, each_seen}

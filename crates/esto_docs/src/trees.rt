@@ -1,5 +1,4 @@
 //! The documents of JSON files, as trees.
-ghost use Rattle.std.specs.Prelude.{◌≡◌, ◌++◌};
 ghost use Rattle.esto_lines.specs.Faults.{Gives};
 ghost use Rattle.esto_lines.specs.Lines.{lines_of};
 ghost use Rattle.esto_docs.specs.Files.{json_of, lines_fault, trees_of_lines, array_fault, trees_of_array, trees_fault, file_trees};

@@ -1,7 +1,6 @@
 //! Rows so far joined with rows of a fragment.
 ghost use Rattle.std.specs.Prelude.{◌≡◌, ◌↔◌, ◌++◌, ◌+◌, [], List, ℕ, Some, slice_get, length, map, Contains, IfOk, OnOk, IsTrue};
 ghost use Rattle.esto_plan.specs.Meaning.{Follows};
-ghost use Rattle.esto_plan.specs.declared.steps.Link.{Link};
 ghost use Rattle.esto_plan.specs.declared.steps.Source.{Source};
 ghost use Rattle.esto_plan.specs.declared.steps.Source.TheVariants.{Cell};
 ghost use Rattle.esto_columns.specs.Indexed.{AreChains, bucket_of};

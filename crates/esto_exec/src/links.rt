@@ -2,7 +2,7 @@
 ghost use Rattle.std.specs.Prelude.{◌≡◌, ◌↔◌, ◌⊎◌, ◌≤◌, List, ℕ, length, map, Contains, IfOk, OnOk, IsTrue};
 ghost use Rattle.esto_plan.specs.declared.steps.Link.{Link};
 ghost use Rattle.esto_plan.specs.declared.steps.Source.TheVariants.{Cell};
-ghost use Rattle.esto_plan.specs.Meaning.{code_at, IsMet, Follows};
+ghost use Rattle.esto_plan.specs.Meaning.{IsMet, Follows};
 ghost use Rattle.esto_exec.specs.Named.{IsEarly};
 
 use esto_plan::{Get, Link, Links, Source, Sources};

@@ -1,7 +1,6 @@
 //! The run of steps.
-ghost use Rattle.std.specs.Prelude.{◌≡◌, ◌↔◌, ◌<◌, List, ℕ, length, map, slice_index_or, [], Contains, IfOk, OnOk};
+ghost use Rattle.std.specs.Prelude.{◌≡◌, ◌↔◌, ◌<◌, List, ℕ, length, map, [], Contains, IfOk, OnOk};
 ghost use Rattle.esto_columns.specs.Asked.{IsAllowed};
-ghost use Rattle.esto_columns.specs.CodedRows.{CodedRows};
 ghost use Rattle.esto_plan.specs.Meaning.{IsResult};
 ghost use Rattle.esto_plan.specs.Rows.{IsRowOf, held_by};
 ghost use Rattle.esto_exec.specs.Joined.{IsJoin, GainsOnly};

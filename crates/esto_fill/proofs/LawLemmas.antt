@@ -32,7 +32,8 @@ use Rattle.esto_term.proofs.ListLemmas.{Contains-at, map_at-from}
 use Rattle.esto_fill.specs.Differences.{HoldViewRows}
 use Rattle.esto_fill.specs.Files.{nodes_in, AreFactsByModel, AreFactsOf, AreFactsFrom, dataset_fault}
 use Rattle.esto_fill.specs.Filled.{CanHold, Fills, IsFirstUnfit, text_in, with_mark}
-use Rattle.esto_fill.specs.Laws.{FactsAreOne, FaultsAreOne, ReadableHaveNone, AnswersAreOne, UnionAnswersAreOne, JudgementsAreOne, FillsAreOne, AgreeingAnswersAreTexts, AgreeingAnswersAreOne}
+use Rattle.esto_fill.specs.Laws.{FactsAreOne, FaultsAreOne, ReadableHaveNone, AnswersAreOne, UnionAnswersAreOne, JudgementsAreOne, FillsAreOne}
+use Rattle.esto_fill.specs.Laws.{AgreeingAnswersAreTexts, AgreeingAnswersAreOne}
 use Rattle.esto_fill.specs.Texts.{AreExactly, AreTextsOf, AreTextViews, GivesTexts, HasNodeIn, HaveTextsOnly, IsFirstNodeColumn, IsFirstNodeView, IsTextRow}
 use Rattle.esto_fill.specs.declared.datasets.DatasetBytes.{DatasetBytes}
 use Rattle.esto_fill.specs.declared.filled.FillError.{FillError}

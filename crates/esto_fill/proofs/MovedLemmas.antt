@@ -1,5 +1,6 @@
 -- The facts of files under other numbers of their nodes, and answers over some of the files.
-use Rattle.std.proofs.Common.{◌≡◌, ◌≢◌, inl, inr, ℕ, suc, ◌≤◌, ◌<◌, ◌+◌, ◌-◌, ◌==◌, ltb, true, false, cond, List, [], ◌∷◌, ◌++◌, map, Option, None, Some, slice_get, Contains, refl, sym, ap, ◌∙◌, subst, arith}
+use Rattle.std.proofs.Common.{◌≡◌, ◌≢◌, inl, inr, ℕ, suc, ◌≤◌, ◌<◌, ◌+◌, ◌-◌, ◌==◌, ltb, true, false, cond, List, [], ◌∷◌, ◌++◌, map, Option, None, Some}
+use Rattle.std.proofs.Common.{slice_get, Contains, refl, sym, ap, ◌∙◌, subst, arith}
 use Rattle.std.proofs.lemmas.Bool.Decides.{nat_tests}
 use Rattle.std.proofs.lemmas.List.{map-append}
 use Rattle.std.proofs.lemmas.List.Elements.{Contains-append_cases, Contains-append_left, Contains-append_right}

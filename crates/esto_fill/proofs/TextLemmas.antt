@@ -1,5 +1,6 @@
 -- Rows of terms as rows of texts.
-use Rattle.std.proofs.Common.{◌≡◌, ◌↔◌, ◌⊎◌, inl, inr, ℕ, suc, ◌≤◌, ◌<◌, ◌+◌, min, List, [], ◌∷◌, ◌++◌, length, take, map, get_or, Option, Some, None, slice_get, Contains, refl, sym, ap, ◌∙◌, subst, arith}
+use Rattle.std.proofs.Common.{◌≡◌, ◌↔◌, ◌⊎◌, inl, inr, ℕ, suc, ◌≤◌, ◌<◌, ◌+◌, min, List, [], ◌∷◌, ◌++◌, length, take, map, get_or, Option, Some, None}
+use Rattle.std.proofs.Common.{slice_get, Contains, refl, sym, ap, ◌∙◌, subst, arith}
 use Rattle.std.specs.Prelude.{Result, Ok, Err}
 use Rattle.std.specs.Cmp.Lexicographic.{slice_cmp}
 use Rattle.std.specs.Ordering.{nat_cmp}
@@ -23,7 +24,8 @@ use Rattle.esto_term.specs.Kinds.{IsConstant}
 use Rattle.esto_term.specs.declared.term.Term.{Term}
 use Rattle.esto_term.specs.declared.term.Term.TheVariants.{Const}
 use Rattle.esto_term.proofs.ChoiceLemmas.{pairs_cons, pairs_head, pairs_tail}
-use Rattle.esto_term.proofs.ListLemmas.{Contains-head, Contains-at, Contains-map, Contains-map_from, map_at, map_at-from, map_agree, map_itself, map_then, place-from_Contains, HoldsBelow}
+use Rattle.esto_term.proofs.ListLemmas.{Contains-head, Contains-at, Contains-map, Contains-map_from, map_at, map_at-from, map_agree, map_itself, map_then}
+use Rattle.esto_term.proofs.ListLemmas.{place-from_Contains, HoldsBelow}
 use Rattle.esto_term.proofs.PlaceLemmas.{take-item}
 use Rattle.esto_fill.specs.Databases.{value_of}
 use Rattle.esto_fill.specs.Placing.{text_of, IsImageOf, AreConstant, IsOpenAt, LeastOpen, NamesColumn, lesser}

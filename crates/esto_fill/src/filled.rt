@@ -1,5 +1,5 @@
 //! A fragment's file, filled with the rows of its view.
-ghost use Rattle.std.specs.Prelude.{◌≡◌, ◌<◌, All, Contains, length, slice_get, IfOk, IfSome};
+ghost use Rattle.std.specs.Prelude.{◌≡◌, ◌<◌, All, length, slice_get, IfOk, IfSome};
 ghost use Rattle.esto_catalog.specs.Soundness.{IsShapeFor};
 ghost use Rattle.esto_catalog.specs.declared.catalogue.Shape.TheVariants as shapes;
 ghost use Rattle.esto_query.specs.Making.{query_of};

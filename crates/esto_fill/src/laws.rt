@@ -1,5 +1,7 @@
 //! Laws of the facts of datasets and the rows of fragments.
-ghost use Rattle.esto_fill.specs.Laws.{AnswersRestOnDatasets, LoadedAreFlat, FactsStand, FactsAreOne, FaultsAreOne, ReadableHaveNone, AnswersAreOne, UnionAnswersAreOne, JudgementsAreOne, FillsAreOne, AuditsAreOne, AuditsAreOverFiles, AgreeingAnswersAreTexts, AgreeingAnswersAreOne};
+ghost use Rattle.esto_fill.specs.Laws.{AnswersRestOnDatasets, LoadedAreFlat, FactsStand, FactsAreOne, FaultsAreOne, ReadableHaveNone, AnswersAreOne};
+ghost use Rattle.esto_fill.specs.Laws.{UnionAnswersAreOne, JudgementsAreOne, FillsAreOne, AuditsAreOne, AuditsAreOverFiles, AgreeingAnswersAreTexts};
+ghost use Rattle.esto_fill.specs.Laws.{AgreeingAnswersAreOne};
 
 use esto_run::{rewritings_answer_queries, rising_rows_are_one};
 use esto_semantics::databases_stand_for_facts;

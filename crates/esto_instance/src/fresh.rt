@@ -1,5 +1,5 @@
 //! Which facts of a list are not there yet, by a sorted index.
-ghost use Rattle.std.specs.Prelude.{◌≡◌, [], ◌++◌, Bool, length, IfOk, OnOk};
+ghost use Rattle.std.specs.Prelude.{◌≡◌, [], ◌++◌, length, IfOk, OnOk};
 ghost use Rattle.esto_semantics.specs.Listed.{chosen};
 ghost use Rattle.esto_chase_laws.specs.Joined.{joined};
 ghost use Rattle.esto_instance.specs.Fresh.{fact_cmp, entry_cmp, IsOld, IsNew, Adds, AreEntries};

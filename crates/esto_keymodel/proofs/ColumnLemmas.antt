@@ -1,5 +1,5 @@
 -- The facts of rows have as many columns as the rows.
-use Rattle.std.proofs.Common.{◌≡◌, ℕ, List, length, map, get_or, Contains, ◌∙◌, subst}
+use Rattle.std.proofs.Common.{◌≡◌, ℕ, List, length, get_or, Contains, ◌∙◌, subst}
 use Rattle.std.specs.Prelude.{All}
 use Rattle.std.proofs.lemmas.List.{length-map}
 use Rattle.std.proofs.lemmas.List.Elements.{Contains-get_or}

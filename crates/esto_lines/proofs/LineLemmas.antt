@@ -1,5 +1,6 @@
 -- Lines, one after the other.
-use Rattle.std.proofs.Common.{◌≡◌, ◌<◌, ◌≤◌, ◌+◌, ◌-◌, ◌∙◌, ◌==◌, ◌||◌, ◌++◌, ℕ, zero, suc, List, [], ◌∷◌, Bool, true, false, not, cond, Some, None, get_or, take, drop, length, refl, ap, sym, arith, inl, inr, add-one}
+use Rattle.std.proofs.Common.{◌≡◌, ◌<◌, ◌≤◌, ◌+◌, ◌-◌, ◌∙◌, ◌==◌, ◌||◌, ◌++◌, ℕ, zero, suc, List, [], ◌∷◌, Bool, true, false, not, cond, Some, None, get_or}
+use Rattle.std.proofs.Common.{take, drop, length, refl, ap, sym, arith, inl, inr, add-one}
 use Rattle.std.specs.Prelude.{position, nat_lt}
 use Rattle.std.specs.List.{list_any, prefix_len, position_or_len, onto_first}
 use Rattle.std.proofs.lemmas.Bool.{cases_Bool}

@@ -1,8 +1,9 @@
 //! The text that is printed of a list.
-ghost use Rattle.std.specs.Prelude.{◌≡◌, ◌++◌, ◌↔◌, [], slice_get, IsTrue, IfOk, OnOk};
+ghost use Rattle.std.specs.Prelude.{◌≡◌, ◌++◌, slice_get, IfOk, OnOk};
 ghost use Rattle.esto_term.specs.declared.term.Term.{out-Term};
-ghost use Rattle.esto_list.specs.Names.{has_number, is_given, met_atoms, met_level, met_terms, met_variable, nameless_of};
-ghost use Rattle.esto_list.specs.Text.{atom_line, count_line, each_from, fragment_name, item_line, list_text, numbers_text, pick_line, plan_lines, plan_lines_with};
+ghost use Rattle.esto_list.specs.Names.{has_number, is_given, met_level, met_terms, met_variable, nameless_of};
+ghost use Rattle.esto_list.specs.Text.{atom_line, count_line, each_from, fragment_name, item_line, list_text, numbers_text, pick_line, plan_lines};
+ghost use Rattle.esto_list.specs.Text.{plan_lines_with};
 ghost use Rattle.esto_semantics.specs.Sets.{numbers};
 
 use crate::listing::Listed;

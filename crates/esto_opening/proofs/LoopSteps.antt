@@ -2,7 +2,8 @@
 use Rattle.std.proofs.Common.{◌≡◌, ◌<◌, ◌≤◌, ◌+◌, ℕ, suc, List, [], ◌∷◌, ◌++◌, drop, length, get_or, Option, Ok, Err, refl}
 use Rattle.esto_course.specs.Course.{Course, IsQuiet, Names, Stops, gives, and_then, each}
 use Rattle.esto_course.specs.Course.Point.{underway}
-use Rattle.esto_course.proofs.Asking.{LeadsAsking, asks_itself, each_asks_end, each_asks_next, each_stop_asks, each_way_asks, first_way_asks, quiet_gives, quiet_then}
+use Rattle.esto_course.proofs.Asking.{LeadsAsking, asks_itself, each_asks_end, each_asks_next, each_stop_asks, each_way_asks, first_way_asks, quiet_gives}
+use Rattle.esto_course.proofs.Asking.{quiet_then}
 use Rattle.esto_course.proofs.Steps.{Leads, each_goes, each_next, each_stops, gives_goes, leads_itself}
 use Rattle.esto_ports.specs.Asked.{AsksFor}
 use Rattle.esto_opening.specs.Answers.{IsCaused, IsWant}

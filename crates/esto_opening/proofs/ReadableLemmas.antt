@@ -1,5 +1,6 @@
 -- The files of fragments that are readable are those that are opened.
-use Rattle.std.proofs.Common.{◌≡◌, ◌≢◌, ◌⊎◌, ◌==◌, arith, ℕ, suc, true, false, Bool, List, [], ◌∷◌, Contains, Some, None, slice_get, refl, sym, ap, subst, ◌∙◌, inl, inr}
+use Rattle.std.proofs.Common.{◌≡◌, ◌≢◌, ◌⊎◌, ◌==◌, arith, ℕ, suc, true, false, Bool, List, [], ◌∷◌, Contains, Some, None, slice_get, refl, sym, ap, subst, ◌∙◌}
+use Rattle.std.proofs.Common.{inl, inr}
 use Rattle.std.proofs.lemmas.Bool.Decides.{nat_tests}
 use Rattle.esto_catalog.specs.Determined.{AreSame, stored_as}
 use Rattle.esto_catalog.specs.declared.catalogue.Catalogue.{Catalogue}
@@ -11,7 +12,8 @@ use Rattle.esto_opening.specs.Answers.{IsCaused}
 use Rattle.esto_opening.specs.Calm.{Leads}
 use Rattle.esto_opening.specs.Fetch.{FetchStops, HasWithin, fetches}
 use Rattle.esto_opening.specs.Fetch.FetchStops.{fails, is_longer}
-use Rattle.esto_opening.specs.Fragments.{IsReadableFragment, IsStoredAt, Stored, content_fault, no_contents, opens_fragment, opens_fragments, opens_next, with_content}
+use Rattle.esto_opening.specs.Fragments.{IsReadableFragment, IsStoredAt, Stored, content_fault, no_contents, opens_fragment, opens_fragments, opens_next}
+use Rattle.esto_opening.specs.Fragments.{with_content}
 use Rattle.esto_opening.specs.Readable.{OpenedAreReadable, ReadableAreOpened, TellsOfFile}
 use Rattle.esto_opening.specs.Readable.TellsOfFile.{fails as file_fails, is_longer as file_longer, has_fault}
 use Rattle.esto_opening.specs.declared.fragments.TheConstants.{FRAGMENT_LIMIT}

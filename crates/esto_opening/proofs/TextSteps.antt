@@ -1,5 +1,5 @@
 -- The course of a command that reads, and then replies with a text of what it read.
-use Rattle.std.proofs.Common.{List, ℕ, Option, Result, Ok, Err, refl}
+use Rattle.std.proofs.Common.{List, ℕ, Option, Ok, Err, refl}
 use Rattle.esto_course.specs.Course.{Course, IsQuiet, Names, Stops, gives, and_then}
 use Rattle.esto_course.proofs.Asking.{quiet_gives}
 use Rattle.esto_course.proofs.Steps.{gives_goes, then_goes, then_stops}

@@ -10,7 +10,8 @@ use Rattle.esto_ports.specs.Files.{Files}
 use Rattle.esto_query.specs.Schemas.{arities_of}
 use Rattle.esto_query.specs.declared.query.Query.{Query}
 use Rattle.esto_read.specs.Readings.{AreSame as IsSameNamed}
-use Rattle.esto_read.specs.Unions.{AreAllSame, AreSaid, HaveNoUnionFault, HaveOneUnion, HaveOneUnionFault, IsFirstUnionFault, IsUnionReading, UnionOfOneIsQuery, head_length}
+use Rattle.esto_read.specs.Unions.{AreAllSame, AreSaid, HaveNoUnionFault, HaveOneUnion, HaveOneUnionFault, IsFirstUnionFault, IsUnionReading, UnionOfOneIsQuery}
+use Rattle.esto_read.specs.Unions.{head_length}
 use Rattle.esto_read.specs.declared.read.NamedQuery.{NamedQuery}
 use Rattle.esto_read.specs.declared.words.Word.{Word}
 use Rattle.esto_read.proofs.UnionLemmas.{one_length}

@@ -18,7 +18,9 @@ use Rattle.esto_text.specs.declared.fault.TextFault.{TextFault}
 use Rattle.esto_text.specs.declared.fault.TextKind.{TextKind}
 use Rattle.esto_text.specs.declared.fault.TextKind.TheVariants.{Utf8, Syntax, Unknown, Arity, TooLarge, SameVariable, Unsafe, HeadLength}
 use Rattle.esto_opening.specs.declared.status.Status.{Status}
-use Rattle.esto_opening.specs.declared.status.Status.TheVariants.{Done, OutOfMemory, Usage, ReadFault, WriteFault, TooLong, BadCatalogue, BadQuery, NotAcyclic, BadFragment, Unsatisfiable, NoRewriting, NoSuchNumber, NoData, BadDataset, NodeInRow, Differs, KeyText, NoSuchFragment, Rejected, HeadLengths}
+use Rattle.esto_opening.specs.declared.status.Status.TheVariants.{Done, OutOfMemory, Usage, ReadFault, WriteFault, TooLong, BadCatalogue, BadQuery, NotAcyclic}
+use Rattle.esto_opening.specs.declared.status.Status.TheVariants.{BadFragment, Unsatisfiable, NoRewriting, NoSuchNumber, NoData, BadDataset, NodeInRow, Differs}
+use Rattle.esto_opening.specs.declared.status.Status.TheVariants.{KeyText, NoSuchFragment, Rejected, HeadLengths}
 
 -- A cell as the record of this one cell has it, without the line feed that ends the record. The empty cell is two quotes.
 abbrev pub cell_of : List ℕ → List ℕ

@@ -2,7 +2,6 @@
 ghost use Rattle.std.specs.Prelude.{◌≡◌, ◌≢◌, ◌<◌, ◌≤◌, ℕ, length, Contains, AllPairs};
 ghost use Rattle.esto_ports.specs.Faults.{Rises};
 ghost use Rattle.esto_run.specs.Opened.{AreRowsFor, rows_held};
-ghost use Rattle.esto_opening.specs.Answers.{Answers};
 ghost use Rattle.esto_opening.specs.Fragments.{Stored, IsStoredAt, OpensAll, OpensNext, Reads};
 
 use crate::fetching::fetch;

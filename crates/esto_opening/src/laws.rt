@@ -1,5 +1,6 @@
 //! Laws of what is opened.
-ghost use Rattle.esto_opening.specs.Alike.{CataloguesOpenAlike, FragmentOpensAlike, FragmentsOpenAlike, QueriesOpenAlike, UnionsOpenAlike, StoresHaveOneContent, StoresHaveOneFault, StoresHaveOneFile};
+ghost use Rattle.esto_opening.specs.Alike.{CataloguesOpenAlike, FragmentOpensAlike, FragmentsOpenAlike, QueriesOpenAlike, UnionsOpenAlike};
+ghost use Rattle.esto_opening.specs.Alike.{StoresHaveOneContent, StoresHaveOneFault, StoresHaveOneFile};
 ghost use Rattle.esto_opening.specs.Readable.{OpenedAreReadable, ReadableAreOpened};
 ghost use Rattle.esto_opening.specs.Unions.{OpenedFormUnions, QueriesOpenAlone, SaidUnionsOpen, UnionsOfOneAreQueries};
 

@@ -3,7 +3,8 @@ ghost use Rattle.std.specs.Prelude.{◌≡◌, ◌+◌, ◌++◌, IfOk, OnOk, co
 ghost use Rattle.std.specs.Fmt.{decimal};
 ghost use Rattle.std.specs.List.{flat_map};
 ghost use Rattle.csv.specs.Writing.{default_writer, row_text};
-ghost use Rattle.esto_opening.specs.Line.{catalogue_word, cell_of, clash_text, difference_text, file_word, kind_word, line_of, section_word, way_text, within_text};
+ghost use Rattle.esto_opening.specs.Line.{catalogue_word, cell_of, clash_text, difference_text, file_word, kind_word, line_of, section_word, way_text};
+ghost use Rattle.esto_opening.specs.Line.{within_text};
 ghost use Rattle.esto_list.specs.Text.{constant_text};
 ghost use Rattle.esto_opening.specs.declared.status.Status.TheVariants as status;
 

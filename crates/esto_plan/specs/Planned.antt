@@ -1,5 +1,6 @@
 -- The steps of a query over fragments whose atoms stand in an order.
-use Rattle.std.specs.Prelude.{◌≡◌, ◌⊎◌, ℕ, ◌<◌, ◌+◌, Bool, true, cond, List, [], ◌∷◌, ◌++◌, Some, length, map, take, slice_get, slice_index_or, Contains, option_to_list}
+use Rattle.std.specs.Prelude.{◌≡◌, ◌⊎◌, ℕ, ◌<◌, ◌+◌, Bool, true, cond, List, [], ◌∷◌, ◌++◌, Some, length, map, take, slice_get, slice_index_or, Contains}
+use Rattle.std.specs.Prelude.{option_to_list}
 use Rattle.std.specs.List.{AllZip}
 use Rattle.esto_term.specs.declared.term.Term.{Term}
 use Rattle.esto_term.specs.declared.term.Term.TheVariants.{Const}

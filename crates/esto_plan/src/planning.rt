@@ -1,5 +1,6 @@
 //! The steps of an order of a plan's atoms.
-ghost use Rattle.std.specs.Prelude.{◌≡◌, ◌<◌, ◌≤◌, ◌+◌, ◌++◌, ◌∷◌, [], ℕ, List, Bool, length, take, slice_get, slice_index_or, Some, Contains, IfOk, OnOk, MatchOption, IsTrue, ◌↔◌};
+ghost use Rattle.std.specs.Prelude.{◌≡◌, ◌<◌, ◌≤◌, ◌+◌, ◌++◌, ◌∷◌, [], ℕ, List, Bool, length, take, slice_get, Some, Contains, IfOk, OnOk, MatchOption, IsTrue};
+ghost use Rattle.std.specs.Prelude.{◌↔◌};
 ghost use Rattle.std.specs.List.{AllZip};
 ghost use Rattle.esto_term.specs.declared.term.Term.{Term};
 ghost use Rattle.esto_semantics.specs.Maps.{IsFixedBy};

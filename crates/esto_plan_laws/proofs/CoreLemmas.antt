@@ -1,5 +1,6 @@
 -- Cores: maps of a core to itself, two cores that map to each other, and cores under renamings.
-use Rattle.std.proofs.Common.{◌≡◌, ◌≢◌, ◌⊎◌, inl, inr, zero, suc, ℕ, Bool, true, false, cond, List, [], ◌∷◌, ◌++◌, map, length, replicate, Contains, slice_get, slice_index_or, Some, refl, sym, ap, ◌∙◌, subst, arith}
+use Rattle.std.proofs.Common.{◌≡◌, ◌≢◌, ◌⊎◌, inl, inr, zero, suc, ℕ, Bool, true, false, cond, List, [], ◌∷◌, ◌++◌, map, length, replicate, Contains, slice_get}
+use Rattle.std.proofs.Common.{slice_index_or, Some, refl, sym, ap, ◌∙◌, subst, arith}
 use Rattle.std.proofs.lemmas.List.{length-map, length-append, length-replicate}
 use Rattle.std.proofs.lemmas.List.Sorted.{IsPermutation-sym, Contains-permutation, length_permutation}
 use Rattle.esto_term.specs.declared.term.Term.{Term}
@@ -16,13 +17,15 @@ use Rattle.esto_semantics.specs.Rules.{Rule}
 use Rattle.esto_semantics.specs.Sets.{Has}
 use Rattle.esto_semantics.specs.declared.fact.Fact.{Fact}
 use Rattle.esto_semantics.proofs.CanonicalLemmas.{Mentions-terms_of}
-use Rattle.esto_term.proofs.ListLemmas.{Contains-nil, Contains-at, Contains-head, Contains-rest, Contains-cases, Contains-map, Contains-map_from, Contains-flat, Contains-flat_from, map_agree, map_itself, map_then, thing_at}
+use Rattle.esto_term.proofs.ListLemmas.{Contains-nil, Contains-at, Contains-head, Contains-rest, Contains-cases, Contains-map, Contains-map_from, Contains-flat}
+use Rattle.esto_term.proofs.ListLemmas.{Contains-flat_from, map_agree, map_itself, map_then, thing_at}
 use Rattle.esto_semantics.proofs.FactLemmas.{decided_fact, image_agree, image_then, image_itself, Mentions-sent}
 use Rattle.esto_semantics.proofs.PlaceLemmas.{Has-from_chosen}
 use Rattle.esto_semantics.proofs.TermLemmas.{same_term-Decides, decided_term}
 use Rattle.esto_plan_laws.specs.Cores.{with_head, Retracts, IsCore, HasNoRetract, IsRenamedTo}
 use Rattle.esto_plan_laws.proofs.MapsToLemmas.{MapsTo-then, retracts-among}
-use Rattle.esto_term.proofs.DistinctLemmas.{Distinct, split, split_cases, split_more, split_thing, outside, length_split, distinct-from_splits, permutation-from_same, no_more, decided_contains, one_to_one, distinct_map}
+use Rattle.esto_term.proofs.DistinctLemmas.{Distinct, split, split_cases, split_more, split_thing, outside, length_split, distinct-from_splits}
+use Rattle.esto_term.proofs.DistinctLemmas.{permutation-from_same, no_more, decided_contains, one_to_one, distinct_map}
 
 -- ---- a core
 

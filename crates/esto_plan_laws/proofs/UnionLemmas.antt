@@ -17,7 +17,8 @@ use Rattle.esto_semantics.proofs.CanonicalLemmas.{canonical_value, canonical_dat
 use Rattle.esto_semantics.proofs.CoverLemmas.{minimal-cover, listed_by_is_one}
 use Rattle.esto_semantics.proofs.PlanLemmas.{plan_is_universal, rows_answer-from_canonical, map-from_rows_answer}
 use Rattle.esto_semantics.proofs.RewritingLemmas.{queries_map_onto}
-use Rattle.esto_plan_laws.specs.UnionLaws.{RowsReceiveUnions, ReceiveUnionsAlike, ReceivingIsUniversal, UnionsMapOntoSets, ListedCoverUnions, UnionListIsOne, UnionRewritingsRise, ChoiceIsExecutable, ChoiceExists, EmptyListExcludes, EmptyListOrChoice}
+use Rattle.esto_plan_laws.specs.UnionLaws.{RowsReceiveUnions, ReceiveUnionsAlike, ReceivingIsUniversal, UnionsMapOntoSets, ListedCoverUnions, UnionListIsOne}
+use Rattle.esto_plan_laws.specs.UnionLaws.{UnionRewritingsRise, ChoiceIsExecutable, ChoiceExists, EmptyListExcludes, EmptyListOrChoice}
 use Rattle.esto_plan_laws.specs.UnionLaws.{UnionAnsweringRises, UnionAnsweringIsTold, UnionListedAreExecutable, UnionListedAreOfParts}
 use Rattle.esto_plan_laws.specs.UnionSets.{AnswersUnion, IsUnionRewriting, IsUnionListed, IsOption, HasOption, IsOfOption, IsAnswered, HasEmptyList, HasList}
 use Rattle.esto_plan_laws.proofs.MapsToLemmas.{MapsTo-then}

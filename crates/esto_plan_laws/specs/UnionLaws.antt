@@ -10,7 +10,8 @@ use Rattle.esto_semantics.specs.Rewritings.{IsPlanFor, MapsOnto}
 use Rattle.esto_semantics.specs.Rules.{Rule, AreRules}
 use Rattle.esto_semantics.specs.Sets.{Within, Covers, IsMinimal, Rises, TellHolds}
 use Rattle.esto_semantics.specs.Unions.{ReceivesUnions}
-use Rattle.esto_plan_laws.specs.UnionSets.{AnswersUnion, IsUnionRewriting, IsUnionListed, AreUnionListed, IsExecutableUnion, IsChoice, IsAnswered, HasEmptyList, HasList}
+use Rattle.esto_plan_laws.specs.UnionSets.{AnswersUnion, IsUnionRewriting, IsUnionListed, AreUnionListed, IsExecutableUnion, IsChoice, IsAnswered, HasEmptyList}
+use Rattle.esto_plan_laws.specs.UnionSets.{HasList}
 
 -- The plan of a finished universal instance, the rows of all views over it under whatever names for the terms, receives unions.
 abbrev pub RowsReceiveUnions : Type 0

@@ -1,5 +1,6 @@
 //! Laws of plans that receive unions, and of the rewritings of unions.
-ghost use Rattle.esto_plan_laws.specs.UnionLaws.{RowsReceiveUnions, ReceiveUnionsAlike, ReceivingIsUniversal, UnionsMapOntoSets, ListedCoverUnions, UnionListIsOne};
+ghost use Rattle.esto_plan_laws.specs.UnionLaws.{RowsReceiveUnions, ReceiveUnionsAlike, ReceivingIsUniversal, UnionsMapOntoSets, ListedCoverUnions};
+ghost use Rattle.esto_plan_laws.specs.UnionLaws.{UnionListIsOne};
 ghost use Rattle.esto_plan_laws.specs.UnionLaws.{UnionRewritingsRise, ChoiceIsExecutable, ChoiceExists, EmptyListExcludes, EmptyListOrChoice};
 ghost use Rattle.esto_plan_laws.specs.UnionLaws.{UnionAnsweringRises, UnionAnsweringIsTold, UnionListedAreExecutable, UnionListedAreOfParts};
 ghost use Rattle.esto_plan_laws.specs.UnionLaws.{OneHasRewritings, OneHasListed};

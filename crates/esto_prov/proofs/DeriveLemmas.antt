@@ -1,5 +1,6 @@
 -- The derivations of derived entries derive their claims.
-use Rattle.std.proofs.Common.{◌≡◌, ◌≢◌, ◌⊎◌, ◌<◌, zero, suc, ℕ, List, [], ◌∷◌, ◌++◌, map, length, take, slice_get, Contains, Some, refl, sym, ap, ◌∙◌, subst, arith, inl, inr}
+use Rattle.std.proofs.Common.{◌≡◌, ◌≢◌, ◌<◌, zero, suc, ℕ, List, [], ◌∷◌, ◌++◌, map, length, take, slice_get, Contains, Some, refl, sym, ap, ◌∙◌, subst, inl}
+use Rattle.std.proofs.Common.{inr}
 use Rattle.std.specs.List.{AllZip}
 use Rattle.esto_term.specs.declared.term.Term.{Term}
 use Rattle.esto_term.proofs.ListLemmas.{Contains-head, Contains-rest, thing_at}
@@ -22,7 +23,7 @@ use Rattle.esto_prov.specs.Derivations.{AreChain, Derives, DerivationsDerive, Fo
 use Rattle.esto_prov.specs.Derivations.Derives.{given, by_rule, by_chain}
 use Rattle.esto_prov.specs.Derivations.IsWhy.{expanded, step, same}
 use Rattle.esto_prov.specs.declared.why.Why.{Why}
-use Rattle.esto_prov.specs.declared.why.Why.TheVariants.{Expanded, Step, Same}
+use Rattle.esto_prov.specs.declared.why.Why.TheVariants.{Expanded, Same}
 
 -- ---- the claims at places
 

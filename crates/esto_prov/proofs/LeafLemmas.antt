@@ -1,8 +1,9 @@
 -- The leaves of a derivation are exactly the atoms of the entry's product.
-use Rattle.std.proofs.Common.{◌≡◌, ◌↔◌, ◌<◌, ℕ, List, [], ◌∷◌, map, length, take, slice_get, Contains, Some, sym, ap, ◌∙◌, subst, arith, inl, inr}
+use Rattle.std.proofs.Common.{◌≡◌, ◌↔◌, ℕ, List, [], ◌∷◌, map, length, take, slice_get, Contains, Some, sym, ap, ◌∙◌, subst, arith, inl, inr}
 use Rattle.std.specs.List.{flat_map}
 use Rattle.std.proofs.lemmas.Option.{slice_get_within}
-use Rattle.esto_term.proofs.ListLemmas.{Contains-nil, Contains-head, Contains-cases, Contains-map, Contains-map_from, Contains-flat, Contains-flat_from, place-from_Contains, thing_at, Contains-at}
+use Rattle.esto_term.proofs.ListLemmas.{Contains-nil, Contains-head, Contains-cases, Contains-map, Contains-map_from, Contains-flat, Contains-flat_from}
+use Rattle.esto_term.proofs.ListLemmas.{place-from_Contains, thing_at, Contains-at}
 use Rattle.esto_term.proofs.PlaceLemmas.{taken_at}
 use Rattle.esto_semantics.specs.Sets.{Has}
 use Rattle.esto_world_laws.specs.Derived.{IsUnion}

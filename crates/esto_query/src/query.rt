@@ -1,5 +1,4 @@
 //! Queries.
-ghost use Rattle.std.specs.Prelude.{◌≡◌};
 ghost use Rattle.esto_query.specs.Soundness.{IsSound};
 
 use esto_semantics::Atoms;

@@ -12,7 +12,8 @@ use Rattle.esto_text.specs.Trees.{ItemTree, HeadTree, Items, Equality, Never as 
 use Rattle.esto_text.specs.declared.fault.TextFault.{TextFault}
 use Rattle.esto_text.specs.declared.token.Token.{Token}
 use Rattle.esto_text.specs.declared.version.Version.{Version}
-use Rattle.esto_read.specs.Constraints.{IsTupleRead, IsEqualityRead, IsUnsafeSide, IsRuleOf, IsConstraintReading, IsRuleHeadFault, IsRuleFault, IsConstraintFault, AreSameRule}
+use Rattle.esto_read.specs.Constraints.{IsTupleRead, IsEqualityRead, IsUnsafeSide, IsRuleOf, IsConstraintReading, IsRuleHeadFault, IsRuleFault}
+use Rattle.esto_read.specs.Constraints.{IsConstraintFault, AreSameRule}
 use Rattle.esto_read.specs.Items.{AreFitting, AreItems}
 use Rattle.esto_read.specs.Terms.{AreTerms}
 use Rattle.esto_read.specs.declared.words.Word.{Word}

@@ -1,5 +1,6 @@
 -- Unions of queries, tree by tree.
-use Rattle.std.proofs.Common.{◌≡◌, ◌≢◌, ◌<◌, ◌≤◌, ◌+◌, ℕ, zero, suc, List, [], ◌∷◌, ◌++◌, length, map, drop, get_or, drop-cons, add-one, Some, inl, inr, refl, sym, ap, subst, ◌∙◌, append_assoc, arith}
+use Rattle.std.proofs.Common.{◌≡◌, ◌≢◌, ◌<◌, ◌≤◌, ◌+◌, ℕ, zero, suc, List, [], ◌∷◌, ◌++◌, length, map, drop, get_or, drop-cons, add-one, Some, inl, inr, refl}
+use Rattle.std.proofs.Common.{sym, ap, subst, ◌∙◌, append_assoc, arith}
 use Rattle.std.specs.Prelude.{Contains, AllPairs, slice_get}
 use Rattle.std.specs.List.{AllByRecursion}
 use Rattle.std.proofs.lemmas.List.{append-nil, drop_all, length-map, get_or-map}
@@ -7,7 +8,8 @@ use Rattle.std.proofs.lemmas.List.Elements.{Contains-push_cases}
 use Rattle.esto_term.proofs.ListLemmas.{Contains-cases, Contains-nil}
 use Rattle.esto_semantics.specs.WellFormed.{IsQueryOver}
 use Rattle.esto_query.specs.Making.{query_of}
-use Rattle.esto_text.specs.Faults.{IsUnionText, UnionOfOneIsQueryText, IsUnionGrammarFault, HaveOneTree, HaveNoFault as HaveNoGrammarFault, HaveOneFault as HaveOneGrammarFault}
+use Rattle.esto_text.specs.Faults.{IsUnionText, UnionOfOneIsQueryText, IsUnionGrammarFault, HaveOneTree, HaveNoFault as HaveNoGrammarFault}
+use Rattle.esto_text.specs.Faults.{HaveOneFault as HaveOneGrammarFault}
 use Rattle.esto_text.specs.Grammar.{IsUnionEnd, IsUnionFrom}
 use Rattle.esto_text.specs.Trees.{QueryTree}
 use Rattle.esto_text.specs.View.{tree_of}
@@ -17,7 +19,8 @@ use Rattle.esto_text.specs.declared.fault.TextFault.{TextFault}
 use Rattle.esto_text.specs.declared.token.Token.{Token}
 use Rattle.esto_text.specs.declared.tree.QuerySyntax.{QuerySyntax}
 use Rattle.esto_read.specs.Readings.{HasParts, IsReading}
-use Rattle.esto_read.specs.Unions.{head_length, IsSaidWith, AreSaid, IsFaultWith, IsErrorWith, IsFirstFaultWith, IsUnionReading, IsFirstUnionFault, IsUnionError, HaveOneLength, AreAllSame}
+use Rattle.esto_read.specs.Unions.{head_length, IsSaidWith, AreSaid, IsFaultWith, IsErrorWith, IsFirstFaultWith, IsUnionReading, IsFirstUnionFault}
+use Rattle.esto_read.specs.Unions.{IsUnionError, HaveOneLength, AreAllSame}
 use Rattle.esto_read.specs.declared.read.Form.TheVariants.{Query}
 use Rattle.esto_read.specs.declared.read.NamedQuery.{NamedQuery}
 use Rattle.esto_read.specs.declared.words.Word.{Word}

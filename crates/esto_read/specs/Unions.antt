@@ -1,6 +1,6 @@
 -- What a text of a union of queries means, and its first fault.
 use Rattle.std.specs.Prelude.{IsUtf8, Contains, ◌≡◌, ◌≢◌, ◌⊎◌, ◌↔◌, ℕ, List, [], ◌∷◌, length}
-use Rattle.esto_text.specs.Faults.{IsQueryText, IsUnionText, IsUnionGrammarFault}
+use Rattle.esto_text.specs.Faults.{IsUnionText, IsUnionGrammarFault}
 use Rattle.esto_text.specs.Trees.{QueryTree}
 use Rattle.esto_text.specs.declared.fault.ReadError.{ReadError}
 use Rattle.esto_text.specs.declared.fault.ReadError.TheVariants.{Fault, OutOfMemory}

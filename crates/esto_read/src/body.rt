@@ -7,7 +7,8 @@ ghost use Rattle.esto_text.specs.Faults.{IsNameIn, IsFieldIn, IsTermIn};
 ghost use Rattle.esto_text.specs.Trees.{EachOfItem};
 ghost use Rattle.esto_text.specs.View.{item_of};
 ghost use Rattle.esto_read.specs.Words.{HasRelations};
-ghost use Rattle.esto_read.specs.Items.{name_of, IsRelationOf, HasArity, item_size, IsMisfit, IsFitting, AreFitting, IsAtomOf, AreAtomsOf, IsItemOf, AreItems, IsItemError, IsBodyError};
+ghost use Rattle.esto_read.specs.Items.{name_of, IsRelationOf, HasArity, item_size, IsMisfit, IsFitting, AreFitting, IsAtomOf, AreAtomsOf, IsItemOf, AreItems};
+ghost use Rattle.esto_read.specs.Items.{IsItemError, IsBodyError};
 
 use crate::constant::bytes_of;
 use crate::pattern::{pattern, room_after_entries};

@@ -3,7 +3,8 @@ ghost use Rattle.std.specs.Prelude.{IfOk, IfErr, IsTrue, ◌↔◌, MatchOption}
 ghost use Rattle.esto_text.specs.Faults.{IsFieldIn, IsTermIn};
 ghost use Rattle.esto_text.specs.Trees.{EachOfEntry, EachOfEntries};
 ghost use Rattle.esto_text.specs.View.{entry_of, entries_of};
-ghost use Rattle.esto_read.specs.Layouts.{AreColumns, entry_terms, terms_of, IsStranger, AreKnown, IsFirstStranger, IsLayoutReading, IsLayoutError, HaveOneLayout, HaveNoLayoutFault, HaveOneLayoutFault};
+ghost use Rattle.esto_read.specs.Layouts.{AreColumns, entry_terms, terms_of, IsStranger, AreKnown, IsFirstStranger, IsLayoutReading, IsLayoutError};
+ghost use Rattle.esto_read.specs.Layouts.{HaveOneLayout, HaveNoLayoutFault, HaveOneLayoutFault};
 
 use crate::constant::bytes_of;
 use crate::pattern::entries;

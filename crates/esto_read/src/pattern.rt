@@ -1,5 +1,5 @@
 //! Groups as patterns, and patterns as atoms.
-ghost use Rattle.std.specs.Prelude.{◌≡◌, [], ◌∷◌, ◌≤◌, ◌+◌, ◌<◌, ◌++◌, ◌-◌, length, replicate, IfOk, OnOk, IsUtf8, MatchOption};
+ghost use Rattle.std.specs.Prelude.{◌≡◌, [], ◌∷◌, ◌+◌, ◌<◌, ◌++◌, ◌-◌, length, replicate, IfOk, OnOk, IsUtf8, MatchOption};
 ghost use Rattle.std.specs.List.{AllZip};
 ghost use Rattle.esto_docmodel.specs.Encodings.{atoms_of, used};
 ghost use Rattle.esto_docmodel.specs.Shapes.{entry_shape, entries_of as pattern_of};

@@ -1,5 +1,5 @@
 //! Queries and views, from their texts.
-ghost use Rattle.std.specs.Prelude.{◌≡◌, ◌<◌, ℕ, [], length, map, All, Contains, MatchOption, IfOk, IfErr, IsUtf8};
+ghost use Rattle.std.specs.Prelude.{◌≡◌, ◌<◌, [], length, MatchOption, IfOk, IfErr, IsUtf8};
 ghost use Rattle.std.specs.List.{AllByRecursion};
 ghost use Rattle.esto_query.specs.Making.{query_of};
 ghost use Rattle.esto_semantics.specs.WellFormed.{IsQueryOver};
@@ -9,7 +9,8 @@ ghost use Rattle.esto_text.specs.View.{tree_of};
 ghost use Rattle.esto_read.specs.declared.read.Form.{Form};
 ghost use Rattle.esto_read.specs.Words.{IsVocabulary};
 ghost use Rattle.esto_read.specs.Naming.{ViewsNameTheirColumns};
-ghost use Rattle.esto_read.specs.Readings.{IsRead, HasVariables, IsAllowed, IsRefused, IsHeadFit, IsHeadFault, IsSaid, IsReading, IsTreeError, HasParts, IsReadError, HaveOneReading, HaveNoFault, HaveOneFault};
+ghost use Rattle.esto_read.specs.Readings.{IsRead, HasVariables, IsAllowed, IsRefused, IsHeadFit, IsHeadFault, IsSaid, IsReading, IsTreeError, HasParts};
+ghost use Rattle.esto_read.specs.Readings.{IsReadError, HaveOneReading, HaveNoFault, HaveOneFault};
 
 use crate::body::{body, fault_at};
 use crate::constant::{bytes_of, plain};

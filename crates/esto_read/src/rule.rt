@@ -11,7 +11,8 @@ ghost use Rattle.esto_text.specs.View.{constraint_of};
 ghost use Rattle.esto_text.specs.declared.version.Version.{Version};
 ghost use Rattle.esto_read.specs.Terms.{AreTerms};
 ghost use Rattle.esto_read.specs.Words.{HasRelations, IsVocabulary};
-ghost use Rattle.esto_read.specs.Constraints.{IsUnsafeSide, IsRuleOf, IsRuleError, IsConstraintReading, IsConstraintError, HaveOneRule, HaveNoRuleFault, HaveOneRuleFault};
+ghost use Rattle.esto_read.specs.Constraints.{IsUnsafeSide, IsRuleOf, IsRuleError, IsConstraintReading, IsConstraintError, HaveOneRule, HaveNoRuleFault};
+ghost use Rattle.esto_read.specs.Constraints.{HaveOneRuleFault};
 
 use crate::body::{body, fault_at};
 use crate::make::{denial, equal_rule, tuple_rule};

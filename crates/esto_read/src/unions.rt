@@ -1,12 +1,13 @@
 //! Unions of queries, from their texts.
-ghost use Rattle.std.specs.Prelude.{◌≡◌, ◌≢◌, ℕ, [], ◌∷◌, ◌++◌, length, map, Contains, IfOk, IfErr, OnOk, IsUtf8};
+ghost use Rattle.std.specs.Prelude.{◌≡◌, [], ◌∷◌, ◌++◌, Contains, IfOk, IfErr, OnOk, IsUtf8};
 ghost use Rattle.esto_query.specs.Making.{query_of};
 ghost use Rattle.esto_query.specs.Schemas.{arities_of};
 ghost use Rattle.esto_semantics.specs.WellFormed.{IsQueryOver};
 ghost use Rattle.esto_text.specs.Faults.{StandsAt};
 ghost use Rattle.esto_text.specs.View.{tree_of};
 ghost use Rattle.esto_read.specs.Readings.{HasParts};
-ghost use Rattle.esto_read.specs.Unions.{IsSaidWith, IsErrorWith, HaveOneLength, IsUnionReading, IsUnionError, HaveOneUnion, HaveNoUnionFault, HaveOneUnionFault, UnionOfOneIsQuery};
+ghost use Rattle.esto_read.specs.Unions.{IsSaidWith, IsErrorWith, HaveOneLength, IsUnionReading, IsUnionError, HaveOneUnion, HaveNoUnionFault};
+ghost use Rattle.esto_read.specs.Unions.{HaveOneUnionFault, UnionOfOneIsQuery};
 ghost use Rattle.esto_read.specs.Words.{IsVocabulary};
 ghost use Rattle.esto_read.specs.declared.read.NamedQuery.{NamedQuery};
 

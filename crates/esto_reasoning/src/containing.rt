@@ -5,7 +5,8 @@ ghost use Rattle.esto_opening.specs.Answers.{Answers};
 ghost use Rattle.esto_opening.specs.Asked.{AsksIn};
 ghost use Rattle.esto_ports.specs.Faults.{Rises};
 ghost use Rattle.esto_query.specs.Schemas.{names_of};
-ghost use Rattle.esto_reasoning.specs.Contains.{IsNoText, SaysTold, compares, compares_both, compares_right, contains_course, have_one_length, prints_told, tells_contained};
+ghost use Rattle.esto_reasoning.specs.Contains.{IsNoText, SaysTold, compares, compares_both, compares_right, contains_course, have_one_length, prints_told};
+ghost use Rattle.esto_reasoning.specs.Contains.{tells_contained};
 
 use crate::printing::no_text;
 use esto_catalog::Catalogue;

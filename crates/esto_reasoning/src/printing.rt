@@ -1,9 +1,10 @@
 //! The texts that `contains` and `minimise` print.
-ghost use Rattle.std.specs.Prelude.{◌≡◌, ◌++◌, List, Bool, [], slice_get, IfOk, OnOk, codes};
+ghost use Rattle.std.specs.Prelude.{◌≡◌, ◌++◌, [], slice_get, IfOk, OnOk};
 ghost use Rattle.esto_list.specs.Names.{met_terms};
 ghost use Rattle.esto_list.specs.Text.{each_from};
 ghost use Rattle.esto_query.specs.Schemas.{names_of};
-ghost use Rattle.esto_reasoning.specs.Texts.{fact_line, fact_text, facts_lines, head_line, met_facts, minimal_text, no_text, numbered_line, relation_name, set_line};
+ghost use Rattle.esto_reasoning.specs.Texts.{fact_line, fact_text, facts_lines, head_line, met_facts, minimal_text, no_text, numbered_line, relation_name};
+ghost use Rattle.esto_reasoning.specs.Texts.{set_line};
 
 use esto_bits::{RowBits, SetList};
 use esto_list::{meet_terms, put_count, put_number, put_numbers, put_terms};

@@ -1,5 +1,6 @@
 -- The run of a set over stored rows.
-use Rattle.std.proofs.Common.{◌≡◌, ◌↔◌, ◌⊎◌, ◌++◌, inl, inr, ℕ, ◌<◌, Bool, List, [], ◌∷◌, map, length, get_or, Some, slice_get, Contains, refl, sym, ap, ◌∙◌, subst, arith}
+use Rattle.std.proofs.Common.{◌≡◌, ◌↔◌, ◌⊎◌, ◌++◌, inl, inr, ℕ, ◌<◌, Bool, List, [], ◌∷◌, map, length, get_or, Some, slice_get, Contains, refl, sym, ap, ◌∙◌}
+use Rattle.std.proofs.Common.{subst, arith}
 use Rattle.std.specs.Prelude.{All, Option, None, option_to_list}
 use Rattle.std.proofs.lemmas.List.{length-append, length-map}
 use Rattle.std.proofs.lemmas.List.Elements.{Contains-get_or, Contains-append_cases, Contains-append_left, Contains-append_right, Contains-push_cases}
@@ -19,7 +20,8 @@ use Rattle.esto_semantics.specs.ListedLaws.{ChosenAreNamed}
 use Rattle.esto_semantics.specs.Queries.{ConjunctiveQuery}
 use Rattle.esto_semantics.specs.declared.fact.Fact.{Fact}
 use Rattle.esto_stores.specs.Rows.{Row}
-use Rattle.esto_term.proofs.ListLemmas.{Contains-nil, Contains-at, Contains-cases, Contains-head, Contains-map_from, at_left, map_agree, map_at, map_then, thing_at}
+use Rattle.esto_term.proofs.ListLemmas.{Contains-nil, Contains-at, Contains-cases, Contains-head, Contains-map_from, at_left, map_agree, map_at, map_then}
+use Rattle.esto_term.proofs.ListLemmas.{thing_at}
 use Rattle.esto_term.proofs.ZipLemmas.{zip_length}
 use Rattle.esto_views.specs.Fragments.{patterns_of}
 use Rattle.esto_views.specs.Plans.{fact_of, plan_query, IsPlanOver}

@@ -1,5 +1,6 @@
 -- The fragments that a set uses.
-use Rattle.std.proofs.Common.{◌≡◌, ◌≢◌, ◌↔◌, inl, inr, ℕ, zero, suc, ◌+◌, ◌<◌, ◌≤◌, Bool, true, false, cond, List, map, take, [], ◌∷◌, ◌++◌, length, get_or, Some, slice_get, Contains, refl, sym, ap, ◌∙◌, subst, arith}
+use Rattle.std.proofs.Common.{◌≡◌, ◌≢◌, ◌↔◌, inl, inr, ℕ, zero, suc, ◌+◌, ◌<◌, ◌≤◌, Bool, true, false, cond, List, map, take, [], ◌∷◌, ◌++◌, length, get_or}
+use Rattle.std.proofs.Common.{Some, slice_get, Contains, refl, sym, ap, ◌∙◌, subst, arith}
 use Rattle.std.specs.Prelude.{AllPairs}
 use Rattle.std.proofs.lemmas.Bool.{cases_order, cases_Bool}
 use Rattle.std.proofs.lemmas.List.{append-nil, append_assoc, map-append}

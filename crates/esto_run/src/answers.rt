@@ -1,5 +1,5 @@
 //! The text of a query's answers.
-ghost use Rattle.std.specs.Prelude.{◌≡◌, length, All, IfOk, slice_get};
+ghost use Rattle.std.specs.Prelude.{◌≡◌, length, All, IfOk};
 ghost use Rattle.esto_term.specs.declared.term.Term.{out-Term};
 ghost use Rattle.esto_columns.specs.Lent.{lent_rows};
 ghost use Rattle.esto_run.specs.Answers.{level_name, head_names, rows_text};

@@ -5,7 +5,6 @@ ghost use Rattle.esto_lines.specs.Faults.{Gives};
 ghost use Rattle.esto_plan.specs.Rows.{held_by};
 ghost use Rattle.esto_run.specs.Opened.{AreRowsFor, AreOpened, rows_held, unopened};
 ghost use Rattle.esto_run.specs.Stores.{first_fault_in};
-ghost use Rattle.esto_run.specs.Stored.{stored_none};
 
 use crate::held::FragmentRows;
 use crate::store::open_store;

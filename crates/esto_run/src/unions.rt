@@ -1,6 +1,5 @@
 //! The run of several sets together.
 ghost use Rattle.std.specs.Prelude.{◌≡◌, ◌++◌, ◌∷◌, [], List, length, map, Contains, IfOk, OnOk};
-ghost use Rattle.esto_columns.specs.CodedRows.{CodedRows};
 ghost use Rattle.esto_columns.specs.Interned.{Grows};
 ghost use Rattle.esto_plan.specs.Rows.{IsRowOf, held_by};
 ghost use Rattle.esto_semantics.specs.Queries.{ConjunctiveQuery};

@@ -12,7 +12,8 @@ use Rattle.esto_term.specs.declared.term.Term.TheVariants.{outs-Const, rolls-Con
 use Rattle.esto_semantics.specs.declared.fact.Fact.{Fact}
 use Rattle.esto_semantics.specs.Maps.{IsConstant}
 use Rattle.esto_semantics.specs.Sets.{Has, Within, united}
-use Rattle.esto_semantics.specs.Access.{Patterns, IsInput, IsBound, MeetsPattern, IsAccessible, IsEarlier, IsOrder, IsExecutable, IsAccessiblePart, IsStatedOrder}
+use Rattle.esto_semantics.specs.Access.{Patterns, IsInput, IsBound, MeetsPattern, IsAccessible, IsEarlier, IsOrder, IsExecutable, IsAccessiblePart}
+use Rattle.esto_semantics.specs.Access.{IsStatedOrder}
 use Rattle.esto_semantics.specs.AccessSteps.{IsReady, IsNext, IsStuck}
 use Rattle.esto_semantics.specs.AccessLaws.{UnionIsExecutable, PartExists, StatedOrderExists}
 use Rattle.esto_semantics.proofs.SetLemmas.{decided_has, within_refl, within_same, has_united, length-united}
@@ -20,7 +21,8 @@ use Rattle.esto_term.proofs.ChoiceLemmas.{Decided, decided_as, decided_below, de
 use Rattle.esto_term.proofs.DistinctLemmas.{decided_contains}
 use Rattle.esto_semantics.proofs.TermLemmas.{decided_term}
 use Rattle.esto_term.proofs.ListLemmas.{at_pushed, thing_at}
-use Rattle.esto_semantics.proofs.AccessLemmas.{earlier_contains, contains_earlier, earlier_push, push_earlier, missing, missing-set, has_set, none_has, accessible_more, order_grows, none_is_order, stuck_has}
+use Rattle.esto_semantics.proofs.AccessLemmas.{earlier_contains, contains_earlier, earlier_push, push_earlier, missing, missing-set, has_set, none_has}
+use Rattle.esto_semantics.proofs.AccessLemmas.{accessible_more, order_grows, none_is_order, stuck_has}
 
 -- ---- the run, where all that is asked is decided
 

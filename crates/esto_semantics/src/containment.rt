@@ -1,5 +1,5 @@
 //! Laws of containment under rules.
-ghost use Rattle.std.specs.Prelude.{List, []};
+ghost use Rattle.std.specs.Prelude.{[]};
 ghost use Rattle.esto_semantics.specs.Containment.{IsSatisfiable};
 ghost use Rattle.esto_semantics.specs.ContainmentLaws.{UnionsAreDecided, QueriesAreDecided, InstanceShows, PartContains, PartIsEquivalent};
 ghost use Rattle.esto_semantics.specs.ContainmentLaws.{ContainedWithoutRules, ContainedIsReflexive, ContainedIsTransitive, AnswersGrow, InstanceSatisfies};

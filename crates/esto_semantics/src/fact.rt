@@ -1,5 +1,4 @@
 //! Facts over terms and over values.
-ghost use Rattle.std.specs.Prelude.{◌≡◌};
 
 use esto_term::{List, OutOfMemory, Replicate, Term, Text};
 use std::alloc::Global;

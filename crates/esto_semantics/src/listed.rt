@@ -1,5 +1,6 @@
 //! Laws of listed sets, of weights and of the pick.
-ghost use Rattle.esto_semantics.specs.ListedLaws.{TestedAreRewritings, ListedAreMinimal, ListedExist, ListedIsOne, ListedCover, NoneIsListed, NoRewritingExists};
+ghost use Rattle.esto_semantics.specs.ListedLaws.{TestedAreRewritings, ListedAreMinimal, ListedExist, ListedIsOne, ListedCover, NoneIsListed};
+ghost use Rattle.esto_semantics.specs.ListedLaws.{NoRewritingExists};
 ghost use Rattle.esto_semantics.specs.ListedLaws.{ListedAreExecutable, ListedAreOfParts, AnsweringRises, AnsweringIsTold};
 ghost use Rattle.esto_semantics.specs.ListedLaws.{EquivalentPartsAreOne, EquivalentPartsCover, NoPartIsListed, EquivalentPartsRise, EquivalentPartsAreTold};
 ghost use Rattle.esto_semantics.specs.ListedLaws.{ChosenAreNamed, WeightExists, WeightRises, WeightIsOne, WeightIsSum};

@@ -1,5 +1,6 @@
 //! Laws of databases that stand for facts over terms.
-ghost use Rattle.esto_semantics.specs.Standing.{StandingExists, StandingFactsExist, RulesStand, FinishedStands, AnswersStand, ViewRowsStand, FragmentAnswersStand};
+ghost use Rattle.esto_semantics.specs.Standing.{StandingExists, StandingFactsExist, RulesStand, FinishedStands, AnswersStand, ViewRowsStand};
+ghost use Rattle.esto_semantics.specs.Standing.{FragmentAnswersStand};
 
 /// A law: each list of facts over terms has a database that stands for it, in which each constant is its text and each
 /// other term an unnamed value of its own; and each database stands for some facts. What rules, queries over constants

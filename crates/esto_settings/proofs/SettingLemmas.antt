@@ -1,10 +1,12 @@
 -- What turns of the loops over TOML's values give.
-use Rattle.std.proofs.Common.{◌≡◌, ◌<◌, ◌+◌, ℕ, ℤ, List, [], ◌∷◌, ◌++◌, Option, Some, None, Bor, false, option_map, String, Global, nat_cmp, length, drop, get_or, string_bytes, refl, sym, ap, ◌∙◌, append_assoc}
+use Rattle.std.proofs.Common.{◌≡◌, ◌<◌, ◌+◌, ℕ, ℤ, List, [], ◌∷◌, ◌++◌, Option, Some, None, Bor, false, option_map, String, Global, nat_cmp, length, drop}
+use Rattle.std.proofs.Common.{get_or, string_bytes, refl, sym, ap, ◌∙◌, append_assoc}
 use Rattle.std.specs.BTreeMap.{is_at}
 use Rattle.std.specs.Cmp.Lexicographic.{slice_cmp}
 use Rattle.std.specs.Map.{lookup}
 use Rattle.toml.proofs.Views.{Entry as Pair, items_view-drop, table_get}
-use Rattle.toml.specs.Data.{Data, Items, item, string, integer, float, boolean, datetime, array, table, Members, get_member, as_str, as_integer, as_bool, as_array, as_table}
+use Rattle.toml.specs.Data.{Data, Items, item, string, integer, float, boolean, datetime, array, table, Members, get_member, as_str, as_integer, as_bool}
+use Rattle.toml.specs.Data.{as_array, as_table}
 use Rattle.toml.specs.View.{view, items_view, members_view}
 use Rattle.toml.specs.declared.value.Value.{Value}
 use Rattle.esto_settings.specs.Settings.{texts_of, array_setting, setting_of, entry_of, switch_of, entries_of, section_of}

@@ -1,8 +1,9 @@
 //! What is written in a catalogue, in plain data: after this file nothing knows TOML.
-ghost use Rattle.std.specs.Prelude.{◌≡◌, ◌↔◌, None, Some, IfOk, IfErr, IsTrue, MatchOption};
+ghost use Rattle.std.specs.Prelude.{◌≡◌, None, Some, IfOk, IfErr, MatchOption};
 ghost use Rattle.toml.specs.Data.{get_member};
 ghost use Rattle.toml.specs.View.{view, items_view, table_view};
-ghost use Rattle.esto_settings.specs.Settings.{is_same, has_key, setting_at, texts_of, array_setting, setting_of, entry_of, switch_of, entries_of, section_of, document_of, IsDocument, IsTomlError};
+ghost use Rattle.esto_settings.specs.Settings.{is_same, has_key, setting_at, texts_of, array_setting, setting_of, entry_of, switch_of, entries_of, section_of};
+ghost use Rattle.esto_settings.specs.Settings.{document_of, IsDocument, IsTomlError};
 
 use esto_term::{List, OutOfMemory, Text, TextRow};
 use std::alloc::Global;

@@ -1,5 +1,6 @@
 -- The text of a key file is read back as the same rows.
-use Rattle.std.proofs.Common.{◌≡◌, ◌<◌, ◌+◌, ◌∙◌, ◌==◌, ◌&&◌, ◌++◌, ℕ, List, [], ◌∷◌, Bool, true, false, None, length, get_or, take, drop, refl, ap, sym, arith, append_assoc, ◌≤◌}
+use Rattle.std.proofs.Common.{◌≡◌, ◌<◌, ◌+◌, ◌∙◌, ◌==◌, ◌&&◌, ◌++◌, ℕ, List, [], ◌∷◌, Bool, true, false, None, length, get_or, take, drop, refl, ap, sym, arith}
+use Rattle.std.proofs.Common.{append_assoc, ◌≤◌}
 use Rattle.std.specs.Prelude.{flat_map, All}
 use Rattle.std.specs.List.{list_any, list_all, slice_split, onto_first, join_with_byte}
 use Rattle.std.specs.Str.{is_utf8}

@@ -1,5 +1,6 @@
 -- A turn of a loop over cells or rows.
-use Rattle.std.proofs.Common.{Bor, eq-eqb, append_assoc, None, ◌≡◌, ◌≢◌, ◌<◌, ◌≤◌, ◌+◌, ◌∙◌, ◌++◌, ℕ, List, [], ◌∷◌, Bool, true, false, Option, Some, get_or, take, drop, length, map, refl, ap, sym}
+use Rattle.std.proofs.Common.{Bor, eq-eqb, append_assoc, None, ◌≡◌, ◌≢◌, ◌<◌, ◌≤◌, ◌+◌, ◌∙◌, ◌++◌, ℕ, List, [], ◌∷◌, Bool, true, false, Option, Some, get_or}
+use Rattle.std.proofs.Common.{take, drop, length, map, refl, ap, sym}
 use Rattle.std.specs.Prelude.{IsUtf8, Result, Ok, Err, MatchResult}
 use Rattle.std.specs.Prelude.{OnOk, is_err}
 use Rattle.std.specs.Result.{is_ok}

@@ -1,5 +1,6 @@
 -- Marks, the header, and the rows under it.
-use Rattle.std.proofs.Common.{◌≡◌, ◌≢◌, ◌<◌, ◌≤◌, ◌+◌, ◌-◌, ◌∙◌, ◌++◌, ℕ, List, [], ◌∷◌, true, false, Some, None, get_or, take, drop, length, map, refl, ap, sym, arith, inl, inr}
+use Rattle.std.proofs.Common.{◌≡◌, ◌≢◌, ◌<◌, ◌≤◌, ◌+◌, ◌-◌, ◌∙◌, ◌++◌, ℕ, List, [], ◌∷◌, true, false, Some, None, get_or, take, drop, length, map, refl, ap}
+use Rattle.std.proofs.Common.{sym, arith, inl, inr}
 use Rattle.std.proofs.lemmas.Bool.{ne_eqb}
 use Rattle.std.proofs.lemmas.List.{at_drop_more, at_drop_all, map_more, take_rest, take_all, length-map, length-take-le}
 use Rattle.std.proofs.lemmas.Bool.{cases_Bool}

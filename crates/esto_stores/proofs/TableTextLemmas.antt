@@ -1,9 +1,11 @@
 -- The text of a CSV file is read back as the same rows.
-use Rattle.std.proofs.Common.{Bor, ◌≡◌, ◌≢◌, ◌<◌, ◌≤◌, ◌+◌, ◌∙◌, ◌==◌, ◌&&◌, ◌++◌, ℕ, zero, suc, List, [], ◌∷◌, cond, Bool, true, false, None, length, map, get_or, take, drop, refl, ap, sym, subst, arith, inl, inr, append_assoc, if◌then◌else◌}
+use Rattle.std.proofs.Common.{Bor, ◌≡◌, ◌≢◌, ◌<◌, ◌≤◌, ◌+◌, ◌∙◌, ◌==◌, ◌&&◌, ◌++◌, ℕ, zero, suc, List, [], ◌∷◌, cond, Bool, true, false, None, length, map}
+use Rattle.std.proofs.Common.{get_or, take, drop, refl, ap, sym, subst, arith, inl, inr, append_assoc, if◌then◌else◌}
 use Rattle.std.specs.Prelude.{All, AllPairs, bytes_eq, Vec}
 use Rattle.std.specs.List.{list_any, list_all}
 use Rattle.std.proofs.lemmas.Bool.{cases_Bool}
-use Rattle.std.proofs.lemmas.List.{append-nil, get_or-map, length-map, same_lists, take_all, take_more, map_push, flat_map_more, at_drop_all, at_drop_more, get_or_default}
+use Rattle.std.proofs.lemmas.List.{append-nil, get_or-map, length-map, same_lists, take_all, take_more, map_push, flat_map_more, at_drop_all, at_drop_more}
+use Rattle.std.proofs.lemmas.List.{get_or_default}
 use Rattle.std.proofs.lemmas.List.Elements.{All-head, All-tail}
 use Rattle.std.proofs.lemmas.List.Sums.{sum_by-cons}
 use Rattle.std.proofs.lemmas.Slice.Eq.{bytes_eq-Decides}

@@ -1,6 +1,6 @@
 //! Records of a CSV text, one after the other.
-ghost use Rattle.std.specs.Prelude.{◌≡◌, OnOk, IfOk, true};
-ghost use Rattle.csv.specs.Reading.{default_config, strip_bom, error_kind};
+ghost use Rattle.std.specs.Prelude.{◌≡◌, IfOk, true};
+ghost use Rattle.csv.specs.Reading.{strip_bom, error_kind};
 ghost use Rattle.csv.specs.Records.{fields_of};
 ghost use Rattle.csv.specs.declared.parser.State.TheVariants as st;
 ghost use Rattle.esto_stores.specs.Left.{Reads, left_of, records_at, IsWant, Takes};

@@ -1,5 +1,5 @@
 //! The rows of CSV files.
-ghost use Rattle.std.specs.Prelude.{◌≡◌, ◌∷◌, map};
+ghost use Rattle.std.specs.Prelude.{◌∷◌, map};
 ghost use Rattle.csv.specs.Records.{fields_of};
 ghost use Rattle.esto_ports.specs.declared.file_fault.FileKind.TheVariants as kinds;
 ghost use Rattle.esto_lines.specs.Faults.{Gives};

@@ -1,6 +1,8 @@
 -- The tokens so far, and that no other tokens cover the text.
-use Rattle.std.proofs.Common.{◌≡◌, ◌≢◌, ℕ, ◌+◌, ◌-◌, ◌<◌, ◌≤◌, ◌⊎◌, inl, inr, List, [], ◌∷◌, ◌++◌, length, take, drop, get_or, Some, None, refl, sym, ap, subst, ◌∙◌, append_assoc, arith}
-use Rattle.std.proofs.lemmas.List.{append-nil, take_at, length-append, length-take-le, length-drop, take-append-drop, drop-drop, drop_all, take_all, append_cancel_left, get_or-drop}
+use Rattle.std.proofs.Common.{◌≡◌, ◌≢◌, ℕ, ◌+◌, ◌-◌, ◌<◌, ◌≤◌, ◌⊎◌, inl, inr, List, [], ◌∷◌, ◌++◌, length, take, drop, get_or, Some, None, refl, sym, ap, subst}
+use Rattle.std.proofs.Common.{◌∙◌, append_assoc, arith}
+use Rattle.std.proofs.lemmas.List.{append-nil, take_at, length-append, length-take-le, length-drop, take-append-drop, drop-drop, drop_all, take_all}
+use Rattle.std.proofs.lemmas.List.{append_cancel_left, get_or-drop}
 use Rattle.esto_text.specs.declared.scan.Class.TheVariants.{Blank}
 use Rattle.esto_text.specs.declared.token.TokenKind.{TokenKind}
 use Rattle.esto_text.specs.declared.token.TokenKind.TheVariants.{Stray}

@@ -1,5 +1,6 @@
 -- Entries: the row of a group, and one entry.
-use Rattle.std.proofs.Common.{◌≡◌, ℕ, suc, ◌≢◌, ◌+◌, ◌<◌, ◌≤◌, Bool, true, false, List, [], ◌∷◌, ◌++◌, length, drop, refl, sym, ap, subst, ◌∙◌, append_assoc, add-one}
+use Rattle.std.proofs.Common.{◌≡◌, ℕ, suc, ◌≢◌, ◌+◌, ◌<◌, ◌≤◌, Bool, true, false, List, [], ◌∷◌, ◌++◌, length, drop, refl, sym, ap, subst, ◌∙◌, append_assoc}
+use Rattle.std.proofs.Common.{add-one}
 use Rattle.esto_text.specs.declared.stop.Stop.{Stop}
 use Rattle.esto_text.specs.declared.stop.Stop.TheVariants.{Syntax}
 use Rattle.esto_text.specs.declared.token.Token.{Token}
@@ -15,7 +16,8 @@ use Rattle.esto_text.specs.Grammar.{class_of, is_term, IsTerm, IsPath, IsEntry, 
 use Rattle.esto_text.specs.Machine.{Symbol, ATerm, AnEntry, PathRest, MoreEntries, class_at, first_fault, FailsAt, Fails, Takes, EndsPath}
 use Rattle.esto_text.specs.View.{entry_step, entry_of, entries_of}
 use Rattle.esto_text.proofs.Runs.{seen, brace_seen, path_runs, entry_runs}
-use Rattle.esto_text.proofs.RowLemmas.{fails_along, fails_here, not_term, too_deep, not_path_rest, not_more_entries, Grows, next, Goes, Ends, Ended, NoEnd, row_more}
+use Rattle.esto_text.proofs.RowLemmas.{fails_along, fails_here, not_term, too_deep, not_path_rest, not_more_entries, Grows, next, Goes, Ends, Ended, NoEnd}
+use Rattle.esto_text.proofs.RowLemmas.{row_more}
 
 -- ---- the trees of the code
 

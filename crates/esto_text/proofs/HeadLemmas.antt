@@ -10,7 +10,8 @@ use Rattle.esto_text.specs.Grammar.{class_of, IsName, IsRow}
 use Rattle.esto_text.specs.Limits.{is_close, is_name, in_room, limited_row, limited}
 use Rattle.esto_text.specs.Machine.{Symbol, AName, MoreNames, class_at, first_fault, Fails, Takes}
 use Rattle.esto_text.proofs.Runs.{seen}
-use Rattle.esto_text.proofs.RowLemmas.{fails_along, fails_here, not_name, not_more_names, Goes, goes_done, row_fails, row_more, row_grows, names_run, Ends, Ended, NoEnd}
+use Rattle.esto_text.proofs.RowLemmas.{fails_along, fails_here, not_name, not_more_names, Goes, goes_done, row_fails, row_more, row_grows, names_run, Ends}
+use Rattle.esto_text.proofs.RowLemmas.{Ended, NoEnd}
 
 -- ---- the next token of a limited row
 

@@ -9,10 +9,12 @@ use Rattle.esto_text.specs.declared.token.TokenKind.TheVariants.{Name, LeftBrace
 use Rattle.esto_text.specs.declared.tree.ItemSyntax.{ItemSyntax}
 use Rattle.esto_text.specs.Trees.{EntryTrees, ItemTree, Atom, Part, Pattern}
 use Rattle.esto_text.specs.Grammar.{class_of, IsName, IsTerm, IsRow, IsGroup, IsItem, IsBody, IsQuery}
-use Rattle.esto_text.specs.Machine.{Symbol, AName, ATerm, AParen, ATurnstile, MoreNames, MoreTerms, AnItem, ItemRest, MoreItems, AnEntry, MoreEntries, start, after_head, class_at, first_fault, FaultLeaves, FailsAt, Fails, Takes}
+use Rattle.esto_text.specs.Machine.{Symbol, AName, ATerm, AParen, ATurnstile, MoreNames, MoreTerms, AnItem, ItemRest, MoreItems, AnEntry, MoreEntries, start}
+use Rattle.esto_text.specs.Machine.{after_head, class_at, first_fault, FaultLeaves, FailsAt, Fails, Takes}
 use Rattle.esto_text.specs.View.{item_of}
 use Rattle.esto_text.proofs.Runs.{after, put, seen, names_runs, item_runs}
-use Rattle.esto_text.proofs.RowLemmas.{fails_along, fails_here, stops_here, not_name, not_item, not_item_rest, not_paren, not_turnstile, not_more_items, Goes, goes_more, goes_fails}
+use Rattle.esto_text.proofs.RowLemmas.{fails_along, fails_here, stops_here, not_name, not_item, not_item_rest, not_paren, not_turnstile, not_more_items, Goes}
+use Rattle.esto_text.proofs.RowLemmas.{goes_more, goes_fails}
 use Rattle.esto_text.proofs.PathLemmas.{next_is}
 
 -- ---- one item

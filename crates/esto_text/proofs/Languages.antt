@@ -1,18 +1,24 @@
 -- The machine's symbols as languages: what may come after a token, with the token before it, may come before. So each prefix
 -- that the machine goes through begins a text of the grammar.
-use Rattle.std.proofs.Common.{◌≡◌, ℕ, suc, inl, inr, Bool, true, false, cond, ltb, List, [], ◌∷◌, ◌++◌, Option, Some, None, refl, sym, ap, subst, ◌∙◌, append_assoc}
+use Rattle.std.proofs.Common.{◌≡◌, ℕ, suc, inl, inr, Bool, true, false, cond, ltb, List, [], ◌∷◌, ◌++◌, Option, Some, None, refl, sym, ap, subst, ◌∙◌}
+use Rattle.std.proofs.Common.{append_assoc}
 use Rattle.std.proofs.lemmas.List.{append-nil}
 use Rattle.std.proofs.lemmas.Bool.{ltb-true}
 use Rattle.std.proofs.lemmas.Option.{none-some, same_Some}
 use Rattle.esto_text.specs.declared.token.Token.{Token}
 use Rattle.esto_text.specs.declared.token.TokenKind.{TokenKind}
-use Rattle.esto_text.specs.declared.token.TokenKind.TheVariants.{Name, Wildcard, Quoted, LeftParen, RightParen, LeftBrace, RightBrace, LeftBracket, RightBracket, Comma, Dot, Colon, Turnstile, Arrow, Equals, Stars}
+use Rattle.esto_text.specs.declared.token.TokenKind.TheVariants.{Name, Wildcard, Quoted, LeftParen, RightParen, LeftBrace, RightBrace, LeftBracket}
+use Rattle.esto_text.specs.declared.token.TokenKind.TheVariants.{RightBracket, Comma, Dot, Colon, Turnstile, Arrow, Equals, Stars}
 use Rattle.esto_text.specs.declared.tree.StepSyntax.{StepSyntax}
 use Rattle.esto_text.specs.declared.tree.StepSyntax.TheVariants.{Field, Item, Below}
-use Rattle.esto_text.specs.Trees.{EntryTree, Value, Nested, EntryTrees, NoEntry, AndEntry, ItemTree, Atom, Part, Pattern, QueryTree, HeadTree, Items, Equality, Never, ConstraintTree}
-use Rattle.esto_text.specs.Grammar.{class_of, step_at, is_term, IsName, IsTerm, IsNext, IsRowEnd, IsLater, IsPathEnd, IsPath, IsEntry, IsGroupEnd, IsGroup, IsLayout, IsItem, IsBodyEnd, IsQuery, IsHead, NoFalse, IsConstraint}
+use Rattle.esto_text.specs.Trees.{EntryTree, Value, Nested, EntryTrees, NoEntry, AndEntry, ItemTree, Atom, Part, Pattern, QueryTree, HeadTree, Items, Equality}
+use Rattle.esto_text.specs.Trees.{Never, ConstraintTree}
+use Rattle.esto_text.specs.Grammar.{class_of, step_at, is_term, IsName, IsTerm, IsNext, IsRowEnd, IsLater, IsPathEnd, IsPath, IsEntry, IsGroupEnd, IsGroup}
+use Rattle.esto_text.specs.Grammar.{IsLayout, IsItem, IsBodyEnd, IsQuery, IsHead, NoFalse, IsConstraint}
 use Rattle.esto_text.specs.Faults.{Leaves, StopsAt}
-use Rattle.esto_text.specs.Machine.{Symbol, AName, ATerm, ANext, AParen, ABracket, ATurnstile, MoreNames, MoreTerms, AnItem, ItemRest, MoreItems, MoreBody, AHead, HeadRest, AGroup, AnEntry, PathRest, MoreEntries, start, constraint_start, layout_start, step, is_done, advance, first_fault}
+use Rattle.esto_text.specs.Machine.{Symbol, AName, ATerm, ANext, AParen, ABracket, ATurnstile, MoreNames, MoreTerms, AnItem, ItemRest, MoreItems, MoreBody}
+use Rattle.esto_text.specs.Machine.{AHead, HeadRest, AGroup, AnEntry, PathRest, MoreEntries, start, constraint_start, layout_start, step, is_done, advance}
+use Rattle.esto_text.specs.Machine.{first_fault}
 use Rattle.esto_text.proofs.Runs.{after, query_fits, constraint_fits, layout_fits}
 
 -- the texts of a symbol

@@ -1,5 +1,6 @@
 -- Each token of a tree is one of the text's tokens, and stands in the text.
-use Rattle.std.proofs.Common.{None, ◌≡◌, ◌≢◌, ℕ, zero, suc, ◌-◌, ◌≤◌, ◌⊎◌, Bool, true, false, cond, inl, inr, List, [], ◌∷◌, ◌++◌, length, drop, take, Some, refl, sym, ap, subst, ◌∙◌, arith}
+use Rattle.std.proofs.Common.{None, ◌≡◌, ◌≢◌, ℕ, zero, suc, ◌-◌, ◌≤◌, ◌⊎◌, Bool, true, false, cond, inl, inr, List, [], ◌∷◌, ◌++◌, length, drop, take, Some}
+use Rattle.std.proofs.Common.{refl, sym, ap, subst, ◌∙◌, arith}
 use Rattle.std.specs.List.{AllByRecursion}
 use Rattle.std.proofs.lemmas.List.{length-append, length-drop, take_at, drop-drop}
 use Rattle.std.proofs.Math.Seq.{drop-append_seam}
@@ -8,11 +9,14 @@ use Rattle.esto_text.specs.declared.token.TokenKind.{TokenKind}
 use Rattle.esto_text.specs.declared.token.TokenKind.TheVariants.{Name, Quoted, Stars, Stray}
 use Rattle.esto_text.specs.declared.tree.StepSyntax.{StepSyntax}
 use Rattle.esto_text.specs.declared.tree.StepSyntax.TheVariants.{Field, Item, Below}
-use Rattle.esto_text.specs.Grammar.{fitting, class_of, is_term, step_at, IsName, IsTerm, IsRowEnd, IsRow, IsFirst, IsLater, IsPathEnd, IsPath, IsEntry, IsGroupEnd, IsGroup, IsLayout, IsItem, IsBodyEnd, IsBody, IsQuery, IsHead, IsConstraint, IsUnionEnd, IsUnionFrom, IsUnion}
+use Rattle.esto_text.specs.Grammar.{fitting, class_of, is_term, step_at, IsName, IsTerm, IsRowEnd, IsRow, IsFirst, IsLater, IsPathEnd, IsPath, IsEntry}
+use Rattle.esto_text.specs.Grammar.{IsGroupEnd, IsGroup, IsLayout, IsItem, IsBodyEnd, IsBody, IsQuery, IsHead, IsConstraint, IsUnionEnd, IsUnionFrom, IsUnion}
 use Rattle.esto_text.specs.Faults.{IsNameIn, IsFieldIn, IsTermIn, StandsAt, ConstraintStandsAt, LayoutStandsAt, UnionStandsAt}
-use Rattle.esto_text.specs.Limits.{is_close, is_name, in_room, limited_row, limited, Reached, Nothing, Part, Head, reached_then, limited_token, limited_after, limited_union}
+use Rattle.esto_text.specs.Limits.{is_close, is_name, in_room, limited_row, limited, Reached, Nothing, Part, Head, reached_then, limited_token, limited_after}
+use Rattle.esto_text.specs.Limits.{limited_union}
 use Rattle.esto_text.specs.Tokens.{IsToken, Places, Covers, text_of, StandsIn}
-use Rattle.esto_text.specs.Trees.{EntryTree, Value, Nested, EntryTrees, NoEntry, AndEntry, ItemTree, Atom, Part, Pattern, QueryTree, HeadTree, Items, Equality, Never, ConstraintTree, EachOfPath, EachOfEntry, EachOfEntries, EachOfItem, EachOfQuery, EachOfHead, EachOfConstraint}
+use Rattle.esto_text.specs.Trees.{EntryTree, Value, Nested, EntryTrees, NoEntry, AndEntry, ItemTree, Atom, Part, Pattern, QueryTree, HeadTree, Items, Equality}
+use Rattle.esto_text.specs.Trees.{Never, ConstraintTree, EachOfPath, EachOfEntry, EachOfEntries, EachOfItem, EachOfQuery, EachOfHead, EachOfConstraint}
 
 -- ---- from the tokens to the tree
 

@@ -1,14 +1,17 @@
 -- What the loops over rows keep, and where a part fails.
-use Rattle.std.proofs.Common.{◌≡◌, ◌≢◌, ℕ, suc, ◌≤◌, Bool, true, false, cond, List, [], ◌∷◌, ◌++◌, length, Option, Some, None, refl, sym, ap, subst, ◌∙◌, append_assoc}
+use Rattle.std.proofs.Common.{◌≡◌, ◌≢◌, ℕ, suc, ◌≤◌, Bool, true, false, cond, List, [], ◌∷◌, ◌++◌, length, Option, Some, None, refl, sym, ap, subst, ◌∙◌}
+use Rattle.std.proofs.Common.{append_assoc}
 use Rattle.std.specs.Prelude.{if◌then◌else◌}
 use Rattle.std.proofs.lemmas.Bool.{le-ltb}
 use Rattle.esto_text.specs.declared.stop.Stop.{Stop}
 use Rattle.esto_text.specs.declared.stop.Stop.TheVariants.{Syntax, OutOfMemory}
 use Rattle.esto_text.specs.declared.token.Token.{Token}
 use Rattle.esto_text.specs.declared.token.TokenKind.{TokenKind}
-use Rattle.esto_text.specs.declared.token.TokenKind.TheVariants.{Name, Quoted, LeftParen, RightParen, LeftBrace, RightBrace, LeftBracket, RightBracket, Comma, Dot, Colon, Turnstile, Arrow, Stars}
+use Rattle.esto_text.specs.declared.token.TokenKind.TheVariants.{Name, Quoted, LeftParen, RightParen, LeftBrace, RightBrace, LeftBracket, RightBracket, Comma}
+use Rattle.esto_text.specs.declared.token.TokenKind.TheVariants.{Dot, Colon, Turnstile, Arrow, Stars}
 use Rattle.esto_text.specs.Grammar.{class_of, step_at, is_term, IsName, IsTerm, IsRow}
-use Rattle.esto_text.specs.Machine.{Symbol, AName, ATerm, ANext, AParen, ABracket, ATurnstile, MoreNames, MoreTerms, AnItem, ItemRest, MoreItems, MoreBody, AGroup, AnEntry, PathRest, MoreEntries, step, is_done, class_at, first_fault, FaultLeaves, FailsAt, Fails, Takes}
+use Rattle.esto_text.specs.Machine.{Symbol, AName, ATerm, ANext, AParen, ABracket, ATurnstile, MoreNames, MoreTerms, AnItem, ItemRest, MoreItems, MoreBody}
+use Rattle.esto_text.specs.Machine.{AGroup, AnEntry, PathRest, MoreEntries, step, is_done, class_at, first_fault, FaultLeaves, FailsAt, Fails, Takes}
 use Rattle.esto_text.proofs.Runs.{after, put, seen, term_seen}
 
 -- ---- failures

@@ -11,7 +11,8 @@ use Rattle.esto_text.specs.declared.token.TokenKind.TheVariants.{Name, Comma, Ar
 use Rattle.esto_text.specs.declared.tree.ItemSyntax.{ItemSyntax}
 use Rattle.esto_text.specs.Trees.{ItemTree, HeadTree, Equality, Never, ConstraintTree}
 use Rattle.esto_text.specs.Grammar.{class_of, IsTerm, IsItem, IsRuleBody, IsHead, IsConstraint, NoFalse}
-use Rattle.esto_text.specs.Machine.{Symbol, ATerm, AnItem, MoreBody, AHead, HeadRest, constraint_start, class_at, first_fault, FailsAt, ConstraintFails, Fails, Takes}
+use Rattle.esto_text.specs.Machine.{Symbol, ATerm, AnItem, MoreBody, AHead, HeadRest, constraint_start, class_at, first_fault, FailsAt, ConstraintFails, Fails}
+use Rattle.esto_text.specs.Machine.{Takes}
 use Rattle.esto_text.specs.View.{item_of}
 use Rattle.esto_text.proofs.Runs.{seen, term_seen, item_runs, rule_body_runs, head_runs, head_through, plain_or_denial}
 use Rattle.esto_text.proofs.Unique.{rule_body_one}

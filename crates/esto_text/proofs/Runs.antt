@@ -4,11 +4,15 @@ use Rattle.std.proofs.lemmas.List.{append-nil}
 use Rattle.std.proofs.lemmas.Bool.{lt-ltb}
 use Rattle.esto_text.specs.declared.token.Token.{Token}
 use Rattle.esto_text.specs.declared.token.TokenKind.{TokenKind}
-use Rattle.esto_text.specs.declared.token.TokenKind.TheVariants.{Name, Quoted, LeftParen, RightParen, LeftBrace, RightBrace, LeftBracket, RightBracket, Comma, Dot, Colon, Turnstile, Arrow, Equals, Stars}
+use Rattle.esto_text.specs.declared.token.TokenKind.TheVariants.{Name, Quoted, LeftParen, RightParen, LeftBrace, RightBrace, LeftBracket, RightBracket, Comma}
+use Rattle.esto_text.specs.declared.token.TokenKind.TheVariants.{Dot, Colon, Turnstile, Arrow, Equals, Stars}
 use Rattle.esto_text.specs.declared.tree.StepSyntax.{StepSyntax}
-use Rattle.esto_text.specs.Trees.{EntryTree, Value, Nested, EntryTrees, NoEntry, AndEntry, ItemTree, Atom, Part, Pattern, QueryTree, HeadTree, Items, Equality, Never, ConstraintTree}
-use Rattle.esto_text.specs.Grammar.{class_of, step_at, IsName, IsTerm, IsRowEnd, IsRow, IsFirst, IsLater, IsPathEnd, IsPath, IsEntry, IsGroupEnd, IsGroup, IsLayout, IsItem, IsBodyEnd, IsBody, IsQuery, IsRuleBody, IsHead, NoFalse, IsConstraint}
-use Rattle.esto_text.specs.Machine.{Symbol, AName, ATerm, ANext, AParen, ABracket, MoreNames, MoreTerms, AnItem, ItemRest, MoreItems, MoreBody, AHead, HeadRest, AnEntry, PathRest, MoreEntries, after_head, start, constraint_start, layout_start, step, class_at, advance, first_fault}
+use Rattle.esto_text.specs.Trees.{EntryTree, Value, Nested, EntryTrees, NoEntry, AndEntry, ItemTree, Atom, Part, Pattern, QueryTree, HeadTree, Items, Equality}
+use Rattle.esto_text.specs.Trees.{Never, ConstraintTree}
+use Rattle.esto_text.specs.Grammar.{class_of, step_at, IsName, IsTerm, IsRowEnd, IsRow, IsFirst, IsLater, IsPathEnd, IsPath, IsEntry, IsGroupEnd, IsGroup}
+use Rattle.esto_text.specs.Grammar.{IsLayout, IsItem, IsBodyEnd, IsBody, IsQuery, IsRuleBody, IsHead, NoFalse, IsConstraint}
+use Rattle.esto_text.specs.Machine.{Symbol, AName, ATerm, ANext, AParen, ABracket, MoreNames, MoreTerms, AnItem, ItemRest, MoreItems, MoreBody, AHead, HeadRest}
+use Rattle.esto_text.specs.Machine.{AnEntry, PathRest, MoreEntries, after_head, start, constraint_start, layout_start, step, class_at, advance, first_fault}
 
 -- ---- one token
 

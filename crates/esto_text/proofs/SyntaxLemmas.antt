@@ -1,5 +1,6 @@
 -- Whole texts: the place of a fault, and what a text has as its tree.
-use Rattle.std.proofs.Common.{inl, ◌≡◌, ℕ, zero, suc, ◌+◌, ◌-◌, ◌≤◌, Bool, true, false, cond, inr, List, [], ◌∷◌, ◌++◌, length, drop, Some, refl, sym, ap, subst, ◌∙◌, append_assoc, arith}
+use Rattle.std.proofs.Common.{inl, ◌≡◌, ℕ, zero, suc, ◌+◌, ◌-◌, ◌≤◌, Bool, true, false, cond, inr, List, [], ◌∷◌, ◌++◌, length, drop, Some, refl, sym, ap}
+use Rattle.std.proofs.Common.{subst, ◌∙◌, append_assoc, arith}
 use Rattle.std.specs.Prelude.{map}
 use Rattle.std.proofs.lemmas.List.{append-nil, length-append, map-append, drop-map}
 use Rattle.std.proofs.Math.Seq.{drop-append_seam}
@@ -8,9 +9,11 @@ use Rattle.esto_text.specs.declared.fault.ReadError.TheVariants.{Fault, OutOfMem
 use Rattle.esto_text.specs.declared.fault.TextKind.TheVariants as kind
 use Rattle.esto_text.specs.declared.stop.Stop.TheVariants.{Syntax}
 use Rattle.esto_text.specs.declared.token.Token.{Token}
-use Rattle.esto_text.specs.Faults.{IsErrorOf, IsViable, Leaves, StopsAt, place_of, IsTextOf, IsFaultOf, IsOnlyTree, IsGrammarFault, IsLayoutGrammarFault, IsUnionGrammarFault, HaveOneTree, HaveNoFault, HaveOneFault}
+use Rattle.esto_text.specs.Faults.{IsErrorOf, IsViable, Leaves, StopsAt, place_of, IsTextOf, IsFaultOf, IsOnlyTree, IsGrammarFault, IsLayoutGrammarFault}
+use Rattle.esto_text.specs.Faults.{IsUnionGrammarFault, HaveOneTree, HaveNoFault, HaveOneFault}
 use Rattle.esto_text.specs.Grammar.{class_of, IsLayout, IsQuery, IsConstraint}
-use Rattle.esto_text.specs.Limits.{is_close, is_name, in_room, limited_row, limited, Reached, Nothing, Part, Head, reached_then, limited_token, limited_after, limited_union}
+use Rattle.esto_text.specs.Limits.{is_close, is_name, in_room, limited_row, limited, Reached, Nothing, Part, Head, reached_then, limited_token, limited_after}
+use Rattle.esto_text.specs.Limits.{limited_union}
 use Rattle.esto_text.specs.Machine.{Symbol, start, constraint_start, layout_start, first_fault, FailsAt, ConstraintFails, UnionFails}
 use Rattle.esto_text.specs.Tokens.{AreTokens, IsTokenError}
 use Rattle.esto_text.proofs.Languages.{fault_is, constraint_fault_is, layout_fault_is}

@@ -1,5 +1,6 @@
 -- Unions: queries that are parted by semicolons, and the place at which their texts leave the grammar.
-use Rattle.std.proofs.Common.{◌≡◌, ◌≢◌, ◌<◌, ◌≤◌, ◌+◌, ◌-◌, ℕ, zero, suc, Bool, true, false, cond, List, [], ◌∷◌, ◌++◌, length, Option, Some, None, refl, sym, ap, subst, ◌∙◌, append_assoc, arith}
+use Rattle.std.proofs.Common.{◌≡◌, ◌≢◌, ◌<◌, ◌≤◌, ◌+◌, ◌-◌, ℕ, zero, suc, Bool, true, false, cond, List, [], ◌∷◌, ◌++◌, length, Option, Some, None, refl, sym}
+use Rattle.std.proofs.Common.{ap, subst, ◌∙◌, append_assoc, arith}
 use Rattle.std.proofs.lemmas.List.{append-nil}
 use Rattle.esto_text.specs.declared.token.Token.{Token}
 use Rattle.esto_text.specs.declared.token.TokenKind.{TokenKind}
@@ -7,8 +8,11 @@ use Rattle.esto_text.specs.declared.token.TokenKind.TheVariants.{Semicolon, Stra
 use Rattle.esto_text.specs.declared.unions.TheConstants.{MAX_QUERIES}
 use Rattle.esto_text.specs.Faults.{Leaves, StopsAt}
 use Rattle.esto_text.specs.Grammar.{class_of, IsQuery, IsUnionEnd, IsUnionFrom, IsUnion}
-use Rattle.esto_text.specs.Limits.{is_close, is_name, is_semicolon, in_room, limited_row, limited, Reached, Nothing, Part, Head, reached_then, limited_token, limited_after, limited_union}
-use Rattle.esto_text.specs.Machine.{Symbol, AName, ATerm, ANext, AParen, ABracket, ATurnstile, MoreNames, MoreTerms, AnItem, ItemRest, MoreItems, MoreBody, AHead, HeadRest, AGroup, AnEntry, PathRest, MoreEntries, start, step, advance, first_fault, HasNoSemicolon, EndsQuery, IsCut}
+use Rattle.esto_text.specs.Limits.{is_close, is_name, is_semicolon, in_room, limited_row, limited, Reached, Nothing, Part, Head, reached_then, limited_token}
+use Rattle.esto_text.specs.Limits.{limited_after, limited_union}
+use Rattle.esto_text.specs.Machine.{Symbol, AName, ATerm, ANext, AParen, ABracket, ATurnstile, MoreNames, MoreTerms, AnItem, ItemRest, MoreItems, MoreBody}
+use Rattle.esto_text.specs.Machine.{AHead, HeadRest, AGroup, AnEntry, PathRest, MoreEntries, start, step, advance, first_fault, HasNoSemicolon, EndsQuery}
+use Rattle.esto_text.specs.Machine.{IsCut}
 use Rattle.esto_text.specs.Trees.{QueryTree}
 use Rattle.esto_text.proofs.Runs.{query_runs}
 use Rattle.esto_text.proofs.Unique.{query_one}

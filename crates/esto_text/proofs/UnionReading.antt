@@ -1,5 +1,6 @@
 -- The queries of a union that were read so far.
-use Rattle.std.proofs.Common.{◌≡◌, ◌≢◌, ◌<◌, ◌≤◌, ◌+◌, ℕ, suc, true, false, List, [], ◌∷◌, ◌++◌, length, map, take, drop, get_or, refl, sym, ap, subst, ◌∙◌, append_assoc, arith}
+use Rattle.std.proofs.Common.{◌≡◌, ◌≢◌, ◌<◌, ◌≤◌, ◌+◌, ℕ, suc, true, false, List, [], ◌∷◌, ◌++◌, length, map, take, drop, get_or, refl, sym, ap, subst, ◌∙◌}
+use Rattle.std.proofs.Common.{append_assoc, arith}
 use Rattle.std.proofs.lemmas.List.{append-nil, length-append, map-append, take_more}
 use Rattle.esto_text.specs.declared.stop.Stop.{Stop}
 use Rattle.esto_text.specs.declared.stop.Stop.TheVariants.{Syntax, OutOfMemory}
@@ -13,7 +14,8 @@ use Rattle.esto_text.specs.Limits.{is_semicolon, limited, limited_union}
 use Rattle.esto_text.specs.Machine.{HasNoSemicolon, EndsQuery, TakesQuery, StopsQuery, QueryFails, UnionFails}
 use Rattle.esto_text.specs.Trees.{QueryTree}
 use Rattle.esto_text.specs.View.{tree_of}
-use Rattle.esto_text.proofs.UnionLemmas.{one_query, more_queries, more_stop, full_stop, part_stop, later, limited_cut, limited_none, later_ends, length_after, length_later}
+use Rattle.esto_text.proofs.UnionLemmas.{one_query, more_queries, more_stop, full_stop, part_stop, later, limited_cut, limited_none, later_ends, length_after}
+use Rattle.esto_text.proofs.UnionLemmas.{length_later}
 
 -- ---- the cut
 

@@ -3,7 +3,8 @@ use Rattle.std.specs.Prelude.{◌≡◌, ℕ, ◌≤◌, ◌⊎◌, List, [], �
 use Rattle.std.specs.List.{AllByRecursion}
 use Rattle.esto_text.specs.declared.scan.Class.TheVariants.{Word}
 use Rattle.esto_text.specs.declared.token.TokenKind.{TokenKind}
-use Rattle.esto_text.specs.declared.token.TokenKind.TheVariants.{Name, Wildcard, Quoted, Number, LeftParen, RightParen, LeftBrace, RightBrace, LeftBracket, RightBracket, Comma, Dot, Colon, Turnstile, Arrow, Equals, Stars, Semicolon, Stray}
+use Rattle.esto_text.specs.declared.token.TokenKind.TheVariants.{Name, Wildcard, Quoted, Number, LeftParen, RightParen, LeftBrace, RightBrace, LeftBracket}
+use Rattle.esto_text.specs.declared.token.TokenKind.TheVariants.{RightBracket, Comma, Dot, Colon, Turnstile, Arrow, Equals, Stars, Semicolon, Stray}
 use Rattle.esto_text.specs.Gaps.{IsLetter, IsDigit, IsIn, BeginsWithout}
 use Rattle.esto_text.specs.Quotes.{IsClosed}
 

@@ -4,7 +4,8 @@ use Rattle.esto_text.specs.declared.stop.Stop.{Stop}
 use Rattle.esto_text.specs.declared.stop.Stop.TheVariants.{Syntax, OutOfMemory}
 use Rattle.esto_text.specs.declared.token.Token.{Token}
 use Rattle.esto_text.specs.declared.token.TokenKind.{TokenKind}
-use Rattle.esto_text.specs.declared.token.TokenKind.TheVariants.{Name, Quoted, LeftParen, RightParen, LeftBrace, RightBrace, LeftBracket, RightBracket, Comma, Dot, Colon, Turnstile, Arrow, Equals, Stars, Semicolon, Stray}
+use Rattle.esto_text.specs.declared.token.TokenKind.TheVariants.{Name, Quoted, LeftParen, RightParen, LeftBrace, RightBrace, LeftBracket, RightBracket, Comma}
+use Rattle.esto_text.specs.declared.token.TokenKind.TheVariants.{Dot, Colon, Turnstile, Arrow, Equals, Stars, Semicolon, Stray}
 use Rattle.esto_text.specs.Faults.{StopsAt}
 use Rattle.esto_text.specs.Grammar.{class_of, is_term, IsConstraint, IsQuery, IsUnion}
 use Rattle.esto_text.specs.Limits.{limited, limited_union}

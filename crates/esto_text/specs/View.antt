@@ -9,7 +9,8 @@ use Rattle.esto_text.specs.declared.tree.QuerySyntax.{QuerySyntax}
 use Rattle.esto_text.specs.declared.tree.HeadSyntax.{HeadSyntax}
 use Rattle.esto_text.specs.declared.tree.HeadSyntax.TheVariants as head
 use Rattle.esto_text.specs.declared.tree.ConstraintSyntax.{ConstraintSyntax}
-use Rattle.esto_text.specs.Trees.{EntryTree, Value, Nested, EntryTrees, NoEntry, AndEntry, ItemTree, Atom, Part, Pattern, QueryTree, HeadTree, Items, Equality, Never, ConstraintTree}
+use Rattle.esto_text.specs.Trees.{EntryTree, Value, Nested, EntryTrees, NoEntry, AndEntry, ItemTree, Atom, Part, Pattern, QueryTree, HeadTree, Items, Equality}
+use Rattle.esto_text.specs.Trees.{Never, ConstraintTree}
 
 -- A list of entries as one tree.
 abbrev pub group_of : List EntryTree → EntryTrees

@@ -1,5 +1,5 @@
 //! Groups and their entries.
-ghost use Rattle.std.specs.Prelude.{◌≡◌, ◌<◌, [], ◌∷◌, length, IfOk, IfErr};
+ghost use Rattle.std.specs.Prelude.{◌<◌, [], ◌∷◌, length, IfOk, IfErr};
 ghost use Rattle.esto_text.specs.Grammar.{IsEntry, IsGroup};
 ghost use Rattle.esto_text.specs.Machine.{AnEntry, MoreEntries, Takes, Fails};
 ghost use Rattle.esto_text.specs.View.{entry_of, entries_of};

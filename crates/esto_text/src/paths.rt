@@ -1,5 +1,5 @@
 //! Paths.
-ghost use Rattle.std.specs.Prelude.{◌≡◌, ◌≢◌, ◌<◌, ℕ, [], ◌∷◌, length, IfOk, IfErr, MatchOption};
+ghost use Rattle.std.specs.Prelude.{◌<◌, ℕ, [], ◌∷◌, length, IfOk, IfErr, MatchOption};
 ghost use Rattle.esto_text.specs.Grammar.{IsFirst, IsLater, IsPath};
 ghost use Rattle.esto_text.specs.Machine.{AnEntry, PathRest, class_at, Takes, Fails, EndsPath};
 

@@ -1,5 +1,5 @@
 //! Rows of names and of terms.
-ghost use Rattle.std.specs.Prelude.{◌≡◌, [], ◌∷◌, IfOk, IfErr};
+ghost use Rattle.std.specs.Prelude.{[], ◌∷◌, IfOk, IfErr};
 ghost use Rattle.esto_text.specs.Grammar.{IsName, IsTerm, IsRow};
 ghost use Rattle.esto_text.specs.Limits.{limited_row};
 ghost use Rattle.esto_text.specs.Machine.{AName, ATerm, MoreNames, MoreTerms, Takes, Fails};

@@ -1,5 +1,5 @@
 //! Runs of bytes: words, gaps and what stands between quotes.
-ghost use Rattle.std.specs.Prelude.{◌≡◌, ◌<◌, ◌≤◌, ◌≢◌, ◌↔◌, ℕ, length, slice_index, take, drop, IsTrue};
+ghost use Rattle.std.specs.Prelude.{◌<◌, ◌≤◌, ◌≢◌, ◌↔◌, ℕ, length, slice_index, take, drop, IsTrue};
 ghost use Rattle.esto_text.specs.Gaps.{IsIn, IsGap};
 ghost use Rattle.esto_text.specs.Quotes.{LongestClosed};
 

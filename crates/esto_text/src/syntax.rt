@@ -1,6 +1,8 @@
 //! Texts as syntax trees.
 ghost use Rattle.std.specs.Prelude.{◌≡◌, ◌≤◌, ◌-◌, length, drop, map, IfOk, IfErr};
-ghost use Rattle.esto_text.specs.Faults.{place_of, IsErrorOf, IsOnlyTree, IsQueryText, IsGrammarFault, StandsAt, IsConstraintText, IsConstraintGrammarFault, ConstraintStandsAt, IsLayoutText, IsLayoutGrammarFault, LayoutStandsAt, IsUnionText, IsUnionGrammarFault, UnionStandsAt, UnionOfOneIsQueryText, HaveOneTree, HaveNoFault, HaveOneFault};
+ghost use Rattle.esto_text.specs.Faults.{place_of, IsErrorOf, IsOnlyTree, IsQueryText, IsGrammarFault, StandsAt, IsConstraintText, IsConstraintGrammarFault};
+ghost use Rattle.esto_text.specs.Faults.{ConstraintStandsAt, IsLayoutText, IsLayoutGrammarFault, LayoutStandsAt, IsUnionText, IsUnionGrammarFault};
+ghost use Rattle.esto_text.specs.Faults.{UnionStandsAt, UnionOfOneIsQueryText, HaveOneTree, HaveNoFault, HaveOneFault};
 ghost use Rattle.esto_text.specs.View.{entries_of, tree_of, constraint_of};
 
 use crate::fault::{ReadError, TextFault, TextKind};

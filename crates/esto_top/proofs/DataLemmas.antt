@@ -10,7 +10,8 @@ use Rattle.esto_data.specs.Laws.{AnswersAreExact, AuditsAreExact, FillsAreExact,
 use Rattle.esto_ports.specs.Files.{Files}
 use Rattle.esto_opening.specs.declared.reply.Reply.{Reply}
 use Rattle.esto_opening.specs.declared.status.Status.{Status}
-use Rattle.esto_top.specs.DataOutcomes.{AnswersWhereTold, AuditsWhereTold, FillsWhereTold, OutcomesAreAnswers, OutcomesAreAudits, OutcomesAreFills, OutcomesAreUnionAnswers, UnionAnswersWhereTold}
+use Rattle.esto_top.specs.DataOutcomes.{AnswersWhereTold, AuditsWhereTold, FillsWhereTold, OutcomesAreAnswers, OutcomesAreAudits, OutcomesAreFills}
+use Rattle.esto_top.specs.DataOutcomes.{OutcomesAreUnionAnswers, UnionAnswersWhereTold}
 use Rattle.esto_top.specs.Grammar.{course_of}
 use Rattle.esto_opening.specs.Replies.{reply_status, reply_text}
 use Rattle.esto_top.specs.Outcome.{CompleteWhereTold, Says}

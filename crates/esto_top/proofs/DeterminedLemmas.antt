@@ -21,7 +21,8 @@ use Rattle.esto_opening.specs.Answers.{IsCaused}
 use Rattle.esto_opening.specs.Asked.{Fetches}
 use Rattle.esto_opening.specs.Asked.Fetches.{to_value, to_refusal, to_lack}
 use Rattle.esto_opening.specs.declared.reply.Reply.{Reply}
-use Rattle.esto_top.specs.Determined.{AskedBeginsFetches, CoursesAreOne, ExactWhereTold, FetchesAreDetermined, OutcomesAreDetermined, AsksCertificate, CountsAs, FixesText, writes_certificate}
+use Rattle.esto_top.specs.Determined.{AskedBeginsFetches, CoursesAreOne, ExactWhereTold, FetchesAreDetermined, OutcomesAreDetermined, AsksCertificate, CountsAs}
+use Rattle.esto_top.specs.Determined.{FixesText, writes_certificate}
 use Rattle.esto_top.specs.Grammar.{Request, request_of, course_of_request, course_of_asked}
 use Rattle.esto_top.specs.Grammar.Request.{CheckOf, ListFor, RunFor, FillFor, AnswerFor, AuditOf, ContainsFor, MinimiseFor, ExplainFor, VerifyFor, BenchOf}
 use Rattle.esto_top.specs.List.{list_course, lists_queries, lists_query, prints_list}

@@ -23,7 +23,8 @@ use Rattle.esto_query.specs.declared.query.Query.{Query}
 use Rattle.esto_semantics.specs.Queries.{ConjunctiveQuery}
 use Rattle.esto_views.specs.declared.plan.Plan.{Plan}
 use Rattle.esto_opening.proofs.UnionLemmas.{itself}
-use Rattle.esto_top.specs.CertificateOutcomes.{ExplainsWhereTold, IsExactExplain, IsNumbered, OutcomesAreExplained, OutcomesAreVerified, OutcomesOfExplainAreAccepted}
+use Rattle.esto_top.specs.CertificateOutcomes.{ExplainsWhereTold, IsExactExplain, IsNumbered, OutcomesAreExplained, OutcomesAreVerified}
+use Rattle.esto_top.specs.CertificateOutcomes.{OutcomesOfExplainAreAccepted}
 use Rattle.esto_top.specs.Headline.{HasAnswers, IsExactRefusal, Rewrites}
 use Rattle.esto_top.specs.Laws.{ListingLaws}
 use Rattle.esto_top.specs.Outcome.{CompleteWhereTold, Says}

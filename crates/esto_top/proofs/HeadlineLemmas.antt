@@ -19,7 +19,8 @@ use Rattle.esto_views.specs.Fragments.{views_of, patterns_of, weights_of}
 use Rattle.esto_views.specs.Plans.{plan_query}
 use Rattle.esto_views.specs.declared.plan.Plan.{Plan}
 use Rattle.esto_course.specs.Course.{and_then, gives, judges}
-use Rattle.esto_top.specs.Headline.{FilesSay, HasAnswers, PrintsExactly, IsExactList, IsExactRefusal, IsEmptyWithoutRewriting, SaidOfLists, OutcomesAreLists, OutcomesAreRefusals, HoldsOfLists}
+use Rattle.esto_top.specs.Headline.{FilesSay, HasAnswers, PrintsExactly, IsExactList, IsExactRefusal, IsEmptyWithoutRewriting, SaidOfLists, OutcomesAreLists}
+use Rattle.esto_top.specs.Headline.{OutcomesAreRefusals, HoldsOfLists}
 use Rattle.esto_opening.specs.Line.{line_of}
 use Rattle.esto_top.specs.List.{list_course, lists_queries, lists_query}
 use Rattle.esto_top.specs.Outcome.{CompleteWhereTold, Says}

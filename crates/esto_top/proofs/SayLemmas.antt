@@ -7,7 +7,8 @@ use Rattle.esto_course.proofs.Steps.{then_goes}
 use Rattle.esto_opening.specs.Alike.{AreSameQueries, IsSameQuery}
 use Rattle.esto_opening.specs.Calm.{AgreeCalmly, Leads}
 use Rattle.esto_opening.specs.Fetch.{fetches}
-use Rattle.esto_opening.specs.Opening.{FilesSayCatalogue, FilesSayQuery, FilesSayUnion, opens_catalogue, opens_query, opens_union, reads_catalogue, reads_query, reads_union}
+use Rattle.esto_opening.specs.Opening.{FilesSayCatalogue, FilesSayQuery, FilesSayUnion, opens_catalogue, opens_query, opens_union, reads_catalogue, reads_query}
+use Rattle.esto_opening.specs.Opening.{reads_union}
 use Rattle.esto_opening.specs.Unions.{UnionsOfOneAreQueries}
 use Rattle.esto_opening.specs.declared.opening.TheConstants.{CATALOGUE_LIMIT, QUERY_LIMIT}
 use Rattle.esto_opening.specs.declared.status.Status.{Status}

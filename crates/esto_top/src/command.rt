@@ -4,7 +4,9 @@ ghost use Rattle.std.specs.List.{list_all};
 ghost use Rattle.esto_ports.specs.Faults.{Rises};
 ghost use Rattle.esto_opening.specs.Answers.{Answers};
 ghost use Rattle.esto_opening.specs.Asked.{AsksIn};
-ghost use Rattle.esto_top.specs.Grammar.{is_word, is_digit, is_leading_digit, is_list_number, is_made_size, value_of, request_of_one, request_of_two, request_of_three, request_of_four, request_of, asked, IsSized, course_of_request, number_above, numbers_above, names_atoms, verifies_named};
+ghost use Rattle.esto_top.specs.Grammar.{is_word, is_digit, is_leading_digit, is_list_number, is_made_size, value_of, request_of_one, request_of_two};
+ghost use Rattle.esto_top.specs.Grammar.{request_of_three, request_of_four, request_of, asked, IsSized, course_of_request, number_above, numbers_above};
+ghost use Rattle.esto_top.specs.Grammar.{names_atoms, verifies_named};
 
 use crate::bench::bench;
 use crate::check::check;

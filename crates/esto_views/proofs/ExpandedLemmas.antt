@@ -1,5 +1,6 @@
 -- What a plan's atoms ask of the datasets is an expansion of the plan.
-use Rattle.std.proofs.Common.{◌≡◌, ◌↔◌, ◌⊎◌, inl, inr, zero, suc, ℕ, ◌<◌, ◌≤◌, ◌+◌, List, [], ◌∷◌, ◌++◌, map, length, drop, get_or, slice_get, Contains, Some, refl, sym, ap, ◌∙◌, subst, arith}
+use Rattle.std.proofs.Common.{◌≡◌, ◌↔◌, ◌⊎◌, inl, inr, zero, suc, ℕ, ◌<◌, ◌≤◌, ◌+◌, List, [], ◌∷◌, ◌++◌, map, length, drop, get_or, slice_get, Contains, Some}
+use Rattle.std.proofs.Common.{refl, sym, ap, ◌∙◌, subst, arith}
 use Rattle.std.proofs.lemmas.Bool.{cases_order}
 use Rattle.std.proofs.lemmas.List.{append-nil, append_assoc, drop_all, length-map}
 use Rattle.std.proofs.lemmas.List.Elements.{Contains-append_cases, Contains-append_left, Contains-append_right}
@@ -25,7 +26,8 @@ use Rattle.esto_views.specs.declared.fragments.FragmentDef.{FragmentDef}
 use Rattle.esto_views.specs.declared.plan.PlanAtom.{PlanAtom}
 use Rattle.esto_views.specs.declared.plan.Plan.{Plan}
 use Rattle.esto_views.proofs.SoundLemmas.{named-Plain}
-use Rattle.esto_term.proofs.ListLemmas.{Contains-at, Contains-cases, Contains-head, Contains-map, Contains-map_from, Contains-nil, Contains-read, Contains-rest, map_at, map_at-from, place-from_Contains}
+use Rattle.esto_term.proofs.ListLemmas.{Contains-at, Contains-cases, Contains-head, Contains-map, Contains-map_from, Contains-nil, Contains-read, Contains-rest}
+use Rattle.esto_term.proofs.ListLemmas.{map_at, map_at-from, place-from_Contains}
 use Rattle.esto_term.proofs.PlaceLemmas.{drop-item}
 
 -- ---- the fragment of an atom

@@ -1,5 +1,4 @@
 //! Plans.
-ghost use Rattle.std.specs.Prelude.{◌≡◌};
 ghost use Rattle.esto_views.specs.Soundness.{IsSoundPlan};
 
 use esto_query::Names;

@@ -3,12 +3,11 @@ use Rattle.std.proofs.Common.{◌≡◌, Bool, List, [], ◌∷◌, map, refl, s
 use Rattle.std.specs.List.{AllZip}
 use Rattle.esto_term.specs.declared.term.Term.{Term}
 use Rattle.esto_term.proofs.ListLemmas.{Contains-map, Contains-map_from, map_agree, map_then}
-use Rattle.esto_semantics.specs.Containment.{IsContained}
 use Rattle.esto_semantics.specs.ContainmentLaws.{QueriesAreDecided}
 use Rattle.esto_semantics.specs.Facts.{image}
 use Rattle.esto_semantics.specs.Followed.{IsFollowedBy, QueryIsFollowed}
 use Rattle.esto_semantics.specs.Instances.{IsFinished, IsUniversalFor, MapsTo}
-use Rattle.esto_semantics.specs.Queries.{ConjunctiveQuery, IsAnswer}
+use Rattle.esto_semantics.specs.Queries.{ConjunctiveQuery}
 use Rattle.esto_semantics.specs.Rules.{Rule, AreRules}
 use Rattle.esto_semantics.specs.declared.fact.Fact.{Fact}
 use Rattle.esto_semantics.proofs.FactLemmas.{image_then}
@@ -18,7 +17,7 @@ use Rattle.esto_world_laws.specs.Worlds.{InWorld, IsBroken, IsClosed, IsDenied, 
 use Rattle.esto_world_laws.specs.declared.entry.Claim.{Claim}
 use Rattle.esto_world_laws.specs.declared.entry.Claim.TheVariants.{Fact as Stated}
 use Rattle.esto_world_laws.specs.declared.entry.Entry.{Entry}
-use Rattle.esto_world_laws.proofs.DatabaseLemmas.{reps, reached, finished, met_by, world_facts, listed_fact, fact_in_world, rep_of, rep_linked, rep_one, rep_const}
+use Rattle.esto_world_laws.proofs.DatabaseLemmas.{reached, finished, met_by, world_facts, listed_fact, fact_in_world, rep_of, rep_linked, rep_one, rep_const}
 use Rattle.esto_world_laws.proofs.LinkLemmas.{facts_one, rows_one}
 
 pub matches_show : MatchesShowContainment

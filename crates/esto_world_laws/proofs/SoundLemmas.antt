@@ -34,7 +34,8 @@ use Rattle.esto_world_laws.specs.declared.entry.Entry.{Entry}
 use Rattle.esto_world_laws.proofs.LinkLemmas.{Linked-respects, facts_one}
 use Rattle.esto_world_laws.proofs.TakenLemmas.{taken-Const}
 use Rattle.esto_world_laws.proofs.InductionLemmas.{all_derived}
-use Rattle.esto_world_laws.proofs.ExtensionLemmas.{frontier_head, chosen_extension, chosen_extension-is, choice_of, choice-tuple, assigned, assigned-Const, assigned-Plain, assigned-Made}
+use Rattle.esto_world_laws.proofs.ExtensionLemmas.{frontier_head, chosen_extension, chosen_extension-is, choice_of, choice-tuple, assigned, assigned-Const}
+use Rattle.esto_world_laws.proofs.ExtensionLemmas.{assigned-Plain, assigned-Made}
 
 -- each atom's fact and its part of the rows
 pub rows_split : (Holds : Claim → Type 0) (R : Term → Term → Type 0) (m : Term → Term) (body chosen : List (Fact Term)) → AreChosen Holds body chosen

@@ -5,7 +5,8 @@ use Rattle.esto_semantics.proofs.SetLemmas.{beyond}
 use Rattle.esto_views.specs.Fragments.{patterns_of}
 use Rattle.esto_views.specs.Plans.{fact_of}
 use Rattle.esto_access.proofs.AtomLemmas.{follows}
-use Rattle.esto_access.proofs.atoms.can_follow.Goals.{then-number-len-via-then-number-len, then-number-len-via-else-number-len+then-number-count, then-number-len-via-else-number-len+else-number-count+then-not-has}
+use Rattle.esto_access.proofs.atoms.can_follow.Goals.{then-number-len-via-then-number-len, then-number-len-via-else-number-len+then-number-count}
+use Rattle.esto_access.proofs.atoms.can_follow.Goals.{then-number-len-via-else-number-len+else-number-count+then-not-has}
 use Rattle.esto_access.proofs.atoms.can_follow.Goals as goal
 
 pub returns : goal.returns

@@ -4,7 +4,8 @@ use Rattle.esto_semantics.specs.Sets.{Covers}
 use Rattle.esto_bits.specs.Kept.{Kept}
 use Rattle.esto_access.proofs.NeedLemmas.{sets_there}
 use Rattle.esto_backchase.proofs.CompleteLemmas.{AreCompletedBelow, completed_start, completed_grows, completed_stays, completed_end}
-use Rattle.esto_backchase.proofs.completion.completions_of.Goals.{then-has+then-not-covered+in_ok-found-2, else-has, else-has-via-then-has+else-not-covered, else-has-via-else-has}
+use Rattle.esto_backchase.proofs.completion.completions_of.Goals.{then-has+then-not-covered+in_ok-found-2, else-has, else-has-via-then-has+else-not-covered}
+use Rattle.esto_backchase.proofs.completion.completions_of.Goals.{else-has-via-else-has}
 use Rattle.esto_backchase.proofs.completion.completions_of.Goals as goal
 
 pub numbers-init : goal.numbers-init

@@ -1,4 +1,4 @@
-use Rattle.std.proofs.Common.{Contains, subst, sym}
+use Rattle.std.proofs.Common.{subst}
 use Rattle.esto_cases.specs.Bodies.{AreFit}
 use Rattle.esto_cases.proofs.making.is_fit_atom.Goals as goal
 

@@ -5,7 +5,8 @@ use Rattle.esto_course.proofs.Steps.{at_exit, gives_goes}
 use Rattle.esto_opening.specs.declared.reply.Reply.TheVariants.{Done}
 use Rattle.esto_opening.specs.declared.status.Status.TheVariants.{OutOfMemory}
 use Rattle.esto_opening.proofs.AskedSteps.{handed_asks}
-use Rattle.esto_data.proofs.StepLemmas.{audit_agrees, audit_agrees_asks, audit_differs, audit_differs_asks, audit_judged, audit_judged_asks, audit_unopened, audit_unopened_asks}
+use Rattle.esto_data.proofs.StepLemmas.{audit_agrees, audit_agrees_asks, audit_differs, audit_differs_asks, audit_judged, audit_judged_asks, audit_unopened}
+use Rattle.esto_data.proofs.StepLemmas.{audit_unopened_asks}
 use Rattle.esto_data.proofs.auditing.audit_facts.Goals as goal
 
 pub returns-in_err-judge_views-clause-answer : goal.returns-in_err-judge_views-clause-answer

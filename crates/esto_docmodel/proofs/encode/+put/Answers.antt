@@ -1,4 +1,5 @@
-use Rattle.esto_docmodel.proofs.EncodeLemmas.{value_inside, nothing_inside, fields_inside, items_inside, leaf_next, leaf_rising, row_next, row_rising, value_put, nothing_put, fields_put, items_put, field_turn, item_turn, field_inside, item_inside}
+use Rattle.esto_docmodel.proofs.EncodeLemmas.{value_inside, nothing_inside, fields_inside, items_inside, leaf_next, leaf_rising, row_next, row_rising}
+use Rattle.esto_docmodel.proofs.EncodeLemmas.{value_put, nothing_put, fields_put, items_put, field_turn, item_turn, field_inside, item_inside}
 use Rattle.std.proofs.Common.{arith}
 use Rattle.std.proofs.lemmas.Result.{on_ok_weaker}
 use Rattle.esto_docmodel.proofs.RisingLemmas.{field_end, item_end}

@@ -1,4 +1,4 @@
-use Rattle.std.proofs.Common.{arith, length}
+use Rattle.std.proofs.Common.{arith}
 use Rattle.esto_fill.proofs.UnionLemmas.{rows_of_all, rows_of_next}
 use Rattle.esto_fill.proofs.answering.union_answers.Goals as goal
 

@@ -1,5 +1,6 @@
 use Rattle.esto_fill.proofs.AuditLemmas.{audits_are_one}
-use Rattle.esto_fill.proofs.LawLemmas.{answers_are_one, facts_are_one, faults_are_one, fills_are_one, judgements_are_one, readable_have_none, union_answers_are_one}
+use Rattle.esto_fill.proofs.LawLemmas.{answers_are_one, facts_are_one, faults_are_one, fills_are_one, judgements_are_one, readable_have_none}
+use Rattle.esto_fill.proofs.LawLemmas.{union_answers_are_one}
 use Rattle.esto_fill.proofs.laws.outcomes_are_one.Goals as goal
 
 pub returns : goal.returns

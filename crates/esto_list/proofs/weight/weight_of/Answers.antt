@@ -2,7 +2,8 @@ use Rattle.std.proofs.Common.{sym, ◌∙◌, arith}
 use Rattle.std.proofs.lemmas.Bool.{false≢true}
 use Rattle.esto_views.specs.Fragments.{weights_of}
 use Rattle.esto_list.proofs.ItemLemmas.{weight_has, weight_lacks, weight_end, not_beyond}
-use Rattle.esto_list.proofs.weight.weight_of.Goals.{then-number-count+then-has, else-number-count, else-number-count-via-then-number-count+else-has, else-number-count-via-else-number-count}
+use Rattle.esto_list.proofs.weight.weight_of.Goals.{then-number-count+then-has, else-number-count, else-number-count-via-then-number-count+else-has}
+use Rattle.esto_list.proofs.weight.weight_of.Goals.{else-number-count-via-else-number-count}
 use Rattle.esto_list.proofs.weight.weight_of.Goals as goal
 
 pub atoms-preserved : goal.atoms-preserved

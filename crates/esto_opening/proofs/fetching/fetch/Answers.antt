@@ -3,7 +3,8 @@ use Rattle.esto_opening.specs.Fetch.{fetches}
 use Rattle.esto_opening.specs.Fetch.FetchStops.{fails, is_longer}
 use Rattle.esto_course.specs.Course.Stops.{refused}
 use Rattle.esto_opening.specs.declared.status.Status.TheVariants.{ReadFault, TooLong}
-use Rattle.esto_opening.proofs.AskedSteps.{fetch_goes, fetch_refuses, fetch_wanting, fetch_wants, handed_asks, told_failed, told_file, told_longer, told_wanting}
+use Rattle.esto_opening.proofs.AskedSteps.{fetch_goes, fetch_refuses, fetch_wanting, fetch_wants, handed_asks, told_failed, told_file, told_longer}
+use Rattle.esto_opening.proofs.AskedSteps.{told_wanting}
 use Rattle.esto_opening.proofs.fetching.fetch.Goals as goal
 
 pub returns-in_ok-bytes-in-Ok-clause-answer : goal.returns-in_ok-bytes-in-Ok-clause-answer

@@ -1,5 +1,4 @@
-use Rattle.std.proofs.Common.{◌∙◌, subst, sym}
-use Rattle.std.proofs.lemmas.List.Elements.{Contains-get_or}
+use Rattle.std.proofs.Common.{◌∙◌}
 use Rattle.esto_term.proofs.ListLemmas.{Contains-read}
 use Rattle.esto_prov.specs.Products.{count_of}
 use Rattle.esto_prov.proofs.ProductLemmas.{product_count, kept_more, kept_all}

@@ -4,7 +4,8 @@ use Rattle.esto_semantics.specs.Maps.{AreFlat}
 use Rattle.esto_query.specs.Trails.{with_trail}
 use Rattle.esto_query.proofs.IndexLemmas.{entry_at, entry_read, entry_inside}
 use Rattle.esto_query.proofs.TrailLemmas.{undone}
-use Rattle.esto_query.proofs.LeastLemmas.{AreLeft-first, AreLeft-next, AreLeft-low, AreLeft-end, NoneAt-back, NoneAt-skip, Searched-nil, Searched-found, Searched-none, flat_first, flat_rest}
+use Rattle.esto_query.proofs.LeastLemmas.{AreLeft-first, AreLeft-next, AreLeft-low, AreLeft-end, NoneAt-back, NoneAt-skip, Searched-nil, Searched-found}
+use Rattle.esto_query.proofs.LeastLemmas.{Searched-none, flat_first, flat_rest}
 use Rattle.esto_query.proofs.search.+search.Goals as goal
 use Rattle.esto_query.proofs.search.+search.Goals.{then-branch+in_ok-push+in_ok-search+else-branch-2, else-branch}
 

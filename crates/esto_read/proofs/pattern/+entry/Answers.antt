@@ -1,7 +1,8 @@
 use Rattle.std.proofs.Common.{arith}
 use Rattle.std.proofs.lemmas.Result.{err_from_is_err_and}
 use Rattle.esto_text.specs.Faults.{IsFieldIn, IsTermIn}
-use Rattle.esto_read.proofs.PatternLemmas.{lighter, nested_weight, entry_stands, value_stands, group_stands, nested_stands, value_is, group_puts, entries_more, entries_end}
+use Rattle.esto_read.proofs.PatternLemmas.{lighter, nested_weight, entry_stands, value_stands, group_stands, nested_stands, value_is, group_puts, entries_more}
+use Rattle.esto_read.proofs.PatternLemmas.{entries_end}
 use Rattle.esto_read.proofs.pattern.+entry.Goals as goal
 
 pub entries-entry-requires : goal.entries-entry-requires

@@ -4,7 +4,8 @@ use Rattle.std.proofs.lemmas.Result.{err_from_is_err_and}
 use Rattle.esto_query.specs.Schemas.{arities_of}
 use Rattle.esto_text.specs.Trees.{Items, Equality}
 use Rattle.esto_text.specs.View.{item_of, head_of, constraint_of}
-use Rattle.esto_read.proofs.RuleLemmas.{name_is_term, head_stands, tuple_parts, equality_parts, denial_parts, tuple_said, equality_said, denial_said, body_error, head_error, sides_error}
+use Rattle.esto_read.proofs.RuleLemmas.{name_is_term, head_stands, tuple_parts, equality_parts, denial_parts, tuple_said, equality_said, denial_said}
+use Rattle.esto_read.proofs.RuleLemmas.{body_error, head_error, sides_error}
 use Rattle.esto_read.proofs.rule.said_rule.Goals as goal
 
 -- ---- where an error is handed on

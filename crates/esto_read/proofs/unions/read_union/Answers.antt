@@ -4,7 +4,8 @@ use Rattle.esto_query.specs.Schemas.{arities_of}
 use Rattle.esto_text.specs.Faults.{StandsAt}
 use Rattle.esto_text.specs.View.{tree_of}
 use Rattle.esto_read.specs.Readings.{HasParts}
-use Rattle.esto_read.proofs.UnionLemmas.{union_parts, some_tree, first_length, all_at, said_start, said_next, said_fault, said_end, one_length, union_error, union_read}
+use Rattle.esto_read.proofs.UnionLemmas.{union_parts, some_tree, first_length, all_at, said_start, said_next, said_fault, said_end, one_length, union_error}
+use Rattle.esto_read.proofs.UnionLemmas.{union_read}
 use Rattle.esto_read.proofs.unions.read_union.Goals as goal
 
 pub item-requires : goal.item-requires

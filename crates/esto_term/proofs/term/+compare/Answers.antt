@@ -2,7 +2,8 @@ use Rattle.std.proofs.Common.{arith, sym, ◌∙◌}
 use Rattle.std.specs.Ordering.{nat_cmp}
 use Rattle.std.specs.Cmp.Lexicographic.{slice_cmp}
 use Rattle.esto_term.specs.Order.{term_cmp}
-use Rattle.esto_term.proofs.CompareLemmas.{kinds_answer, term_cmp-Const-Const, term_cmp-Const-Plain, term_cmp-Const-Made, term_cmp-Plain-Const, term_cmp-Plain-Plain, term_cmp-Plain-Made, term_cmp-Made-Const, term_cmp-Made-Plain, term_cmp-Made-Made}
+use Rattle.esto_term.proofs.CompareLemmas.{kinds_answer, term_cmp-Const-Const, term_cmp-Const-Plain, term_cmp-Const-Made, term_cmp-Plain-Const}
+use Rattle.esto_term.proofs.CompareLemmas.{term_cmp-Plain-Plain, term_cmp-Plain-Made, term_cmp-Made-Const, term_cmp-Made-Plain, term_cmp-Made-Made}
 use Rattle.esto_term.proofs.WalkLemmas.{rests-longer, rests-end, rests-decided, rests-alike}
 use Rattle.esto_term.proofs.term.+compare.Goals as goal
 

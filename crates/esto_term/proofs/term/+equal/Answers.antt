@@ -2,7 +2,8 @@ use Rattle.std.proofs.Common.{◌++◌, ◌∷◌, [], length, refl, sym, ap, �
 use Rattle.std.proofs.lemmas.Bool.{false≢true}
 use Rattle.std.proofs.lemmas.Bool.Decides.{Decides-eqb}
 use Rattle.std.proofs.lemmas.List.{take_all}
-use Rattle.esto_term.proofs.EqualLemmas.{apart_Const_Plain, apart_Const_Made, apart_Plain_Made, apart_turned, tested, same_Const, same_Plain, same_Made, apart_variables, apart_rules}
+use Rattle.esto_term.proofs.EqualLemmas.{apart_Const_Plain, apart_Const_Made, apart_Plain_Made, apart_turned, tested, same_Const, same_Plain, same_Made}
+use Rattle.esto_term.proofs.EqualLemmas.{apart_variables, apart_rules}
 use Rattle.esto_term.proofs.PlaceLemmas.{same_read, take-item}
 use Rattle.esto_term.proofs.term.+equal.Goals as goal
 

@@ -4,7 +4,8 @@ use Rattle.std.proofs.lemmas.List.{length-drop}
 use Rattle.std.proofs.lemmas.Result.{err_from_is_err_and}
 use Rattle.esto_text.specs.Machine.{AnEntry, MoreEntries}
 use Rattle.esto_text.proofs.RowLemmas.{row_fails, goes_begun, goes_done}
-use Rattle.esto_text.proofs.GroupLemmas.{AreGroup, entry_fails, entry_end_fails, entry_more, entry_term, entry_group, entry_group_fails, entry_term_fails, entry_end_stops, entry_too_deep, value_entry, group_entry}
+use Rattle.esto_text.proofs.GroupLemmas.{AreGroup, entry_fails, entry_end_fails, entry_more, entry_term, entry_group, entry_group_fails, entry_term_fails}
+use Rattle.esto_text.proofs.GroupLemmas.{entry_end_stops, entry_too_deep, value_entry, group_entry}
 use Rattle.esto_text.proofs.PathLemmas.{next_is, some_next}
 use Rattle.esto_text.specs.declared.token.TokenKind.TheVariants.{Colon, LeftBrace}
 use Rattle.esto_text.proofs.groups.+group.Goals as goal

@@ -1,7 +1,9 @@
 use Rattle.std.proofs.Common.{inl, inr, arith}
 use Rattle.esto_text.proofs.ScanLemmas.{quote_reopens, quote_closes, quote_inside, quote_ends, quote_stuck}
 use Rattle.esto_text.proofs.scan.quoted_len.Goals as goal
-use Rattle.esto_text.proofs.scan.quoted_len.Goals.{then-byte-eq39+then-closed, then-byte-eq39+else-closed, else-byte-eq39+else-closed-2+else-byte-lt-LEAST_QUOTED, then-closed-2-via-then-closed-2, then-closed-2-via-else-closed-2+then-byte-lt-LEAST_QUOTED}
+use Rattle.esto_text.proofs.scan.quoted_len.Goals.{then-byte-eq39+then-closed, then-byte-eq39+else-closed}
+use Rattle.esto_text.proofs.scan.quoted_len.Goals.{else-byte-eq39+else-closed-2+else-byte-lt-LEAST_QUOTED, then-closed-2-via-then-closed-2}
+use Rattle.esto_text.proofs.scan.quoted_len.Goals.{then-closed-2-via-else-closed-2+then-byte-lt-LEAST_QUOTED}
 
 pub returns-then-closed-2 : goal.returns-then-closed-2
 returns-then-closed-2 c =

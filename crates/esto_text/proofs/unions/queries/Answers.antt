@@ -1,4 +1,4 @@
-use Rattle.std.proofs.Common.{true, false, length, sym, ◌∙◌, true-eqb, false-eqb}
+use Rattle.std.proofs.Common.{length, sym, ◌∙◌, true-eqb, false-eqb}
 use Rattle.std.proofs.lemmas.Result.{err_from_is_err_and}
 use Rattle.esto_text.proofs.UnionReading.{union_start, union_error, union_ends, union_full, union_more}
 use Rattle.esto_text.proofs.unions.queries.Goals as goal

@@ -5,7 +5,9 @@ use Rattle.std.proofs.lemmas.Result.{on_ok_weaker}
 use Rattle.esto_semantics.specs.Sets.{Has}
 use Rattle.esto_backchase.specs.Candidates.{Answers}
 use Rattle.esto_backchase.specs.Searching.{HasOneOf, IsBetween}
-use Rattle.esto_backchase.proofs.VisitLemmas.{AreEarlier, HasOneBelow, between-more, earlier-more, earlier-none, fails-there, fails-within, further-lacks, lacks, lacks-fewer, none-passes, one-all, one-none, one-splits, passing-has, some-fails, visited-added, visited-as, visited-both, visited-covered, visited-none}
+use Rattle.esto_backchase.proofs.VisitLemmas.{AreEarlier, HasOneBelow, between-more, earlier-more, earlier-none, fails-there, fails-within, further-lacks}
+use Rattle.esto_backchase.proofs.VisitLemmas.{lacks, lacks-fewer, none-passes, one-all, one-none, one-splits, passing-has, some-fails, visited-added}
+use Rattle.esto_backchase.proofs.VisitLemmas.{visited-as, visited-both, visited-covered, visited-none}
 use Rattle.esto_backchase.proofs.candidates.Search.+visit.Goals as goal
 
 pub visit-returns-then-covered-clause-visited : goal.visit-returns-then-covered-clause-visited

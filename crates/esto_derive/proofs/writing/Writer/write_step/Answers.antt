@@ -1,4 +1,5 @@
-use Rattle.std.proofs.Common.{◌≡◌, ℕ, List, [], ◌+◌, ◌++◌, ◌≤◌, length, map, take, drop, slice_get, slice_index_or, Some, codes, refl, subst, sym, ap, ◌∙◌, arith}
+use Rattle.std.proofs.Common.{◌≡◌, ℕ, List, [], ◌+◌, ◌++◌, ◌≤◌, length, map, take, drop, slice_get, slice_index_or, Some, codes, refl, subst, sym, ap, ◌∙◌}
+use Rattle.std.proofs.Common.{arith}
 use Rattle.std.proofs.lemmas.Option.{slice_get-get_or}
 use Rattle.esto_term.specs.Nesting.{greatest_u64}
 use Rattle.esto_constraint.specs.Constraints.{rule_of}

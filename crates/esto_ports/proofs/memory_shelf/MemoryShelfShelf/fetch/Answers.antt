@@ -3,7 +3,8 @@ use Rattle.std.specs.FinMap as map
 use Rattle.std.specs.Ordering.{nat_cmp}
 use Rattle.std.specs.Cmp.Lexicographic.{slice_cmp}
 use Rattle.esto_ports.specs.Faults.{next_count}
-use Rattle.esto_ports.proofs.CallLemmas.{asks_any, asks_none, counted, counted_fault, fails_seen, looked_answers, looked_fetches, rose, stays, tells_name, within_after}
+use Rattle.esto_ports.proofs.CallLemmas.{asks_any, asks_none, counted, counted_fault, fails_seen, looked_answers, looked_fetches, rose, stays, tells_name}
+use Rattle.esto_ports.proofs.CallLemmas.{within_after}
 use Rattle.esto_ports.proofs.memory_shelf.MemoryShelfShelf.fetch.Goals as goal
 
 pub returns-in_err-asked-clause-asked : goal.returns-in_err-asked-clause-asked
