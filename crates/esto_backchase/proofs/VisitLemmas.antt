@@ -1,6 +1,6 @@
 -- What a visit of sets leaves, and that at the end the kept sets are the minimal ones of those that pass.
 use Rattle.std.proofs.Common.{◌≡◌, ◌↔◌, ◌⊎◌, inl, inr, ℕ, zero, suc, ◌+◌, ◌<◌, ◌≤◌, Bool, true, false, cond, not, List, [], ◌∷◌, ◌++◌, length, filter, take}
-use Rattle.std.proofs.Common.{get_or, slice_get, Contains, Option, Some, None, IfSome, MatchOption, refl, sym, ap, subst, ◌∙◌, arith}
+use Rattle.std.proofs.Common.{get_or, slice_get, Contains, Option, Some, None, MatchOption, refl, sym, ap, subst, ◌∙◌, arith}
 use Rattle.std.proofs.lemmas.Bool.{cases_order, false≢true}
 use Rattle.std.proofs.lemmas.List.{take_more, take_all}
 use Rattle.std.proofs.lemmas.Option.{same_Some, slice_get_within}
@@ -11,7 +11,7 @@ use Rattle.esto_semantics.specs.Sets.{Has, Within, Covers, IsMinimal, Rises}
 use Rattle.esto_semantics.proofs.SetLemmas.{beyond, decided_has, within_trans, within_same}
 use Rattle.esto_bits.specs.Kept.{IsAntichain, CoversAlso, is_covered, is_within, with_set}
 use Rattle.esto_bits.proofs.FamilyLemmas.{antichain-same}
-use Rattle.esto_backchase.specs.Searching.{AreFailing, FailsAt, FailsWith, HasOneOf, IsBetween, IsWithRange, Visited}
+use Rattle.esto_backchase.specs.Searching.{AreFailing, FailsAt, FailsWith, HasOneOf, IsBetween, IsFirstSuperset, IsSupersetAt, IsWithRange, Visited}
 
 -- ---- how many numbers a set lacks
 
@@ -279,6 +279,12 @@ added sets row set inside = by (is_covered sets row) inside
 
 -- ---- sets that do not pass
 
+-- a set that lacks a number of the set is no superset at its place
+pub not_superset : (sets : List (List Bool)) (set : List Bool) (place : ℕ) (own : List Bool) → slice_get sets place ≡ Some own → ¬ (Within set own)
+    → (at : ℕ) → at ≡ place → ¬ (IsSupersetAt sets set at)
+not_superset sets set place own here lacks at same (other, there, within) =
+    lacks (subst (Within set) (same_Some other own (sym there ∙ ap (slice_get sets) same ∙ here)) within)
+
 module _ (count : ℕ) (Pass : List Bool → Type 0) where
   pub failing-none : AreFailing count Pass []
   failing-none set inside = absurd (Contains-nil set inside)
@@ -293,10 +299,10 @@ module _ (count : ℕ) (Pass : List Bool → Type 0) where
 
   -- the place of a known set, where one is found
   pub fails-known : (failing : List (List Bool)) (set : List Bool) (outcome : Option ℕ) (place : ℕ) → AreFailing count Pass failing
-      → IfSome outcome (λ at. (other : List Bool) × (slice_get failing at ≡ Some other) × Within set other) → outcome ≡ Some place
-      → FailsAt count Pass failing set place
+      → IsFirstSuperset failing set outcome → outcome ≡ Some place → FailsAt count Pass failing set place
   fails-known failing set outcome place are found is =
-      let (other, here, within) = subst (λ it. IfSome it (λ at. (other : List Bool) × (slice_get failing at ≡ Some other) × Within set other)) is found in
+      let first = subst (IsFirstSuperset failing set) is found in
+      let (other, here, within) = first.0 in
       let known = are other (Contains-at failing place other here) in
       (other, here, record { same_length = known.0; within = within; fails = known.1 })
 

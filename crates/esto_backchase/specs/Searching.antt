@@ -1,5 +1,5 @@
 -- What a search among the sets of a plan's atoms looks for, and what it leaves.
-use Rattle.std.specs.Prelude.{◌≡◌, ◌↔◌, ◌⊎◌, ℕ, ◌<◌, ◌≤◌, Bool, List, Some, length, slice_get, Contains}
+use Rattle.std.specs.Prelude.{◌≡◌, ◌↔◌, ◌⊎◌, ℕ, ◌<◌, ◌≤◌, Bool, List, Option, None, Some, length, slice_get, Contains}
 use Rattle.esto_semantics.specs.Sets.{Has, Covers, Within}
 
 -- The other set has each number of the set, and none of those that are left out.
@@ -26,6 +26,15 @@ pub record Visited (Pass Family : List Bool → Type 0) (old new : List (List Bo
 -- These are sets of the count that don't pass.
 abbrev pub AreFailing : ℕ → (List Bool → Type 0) → List (List Bool) → Type 0
 AreFailing count Pass sets = (set : List Bool) → Contains sets set → (length set ≡ count) × ¬ (Pass set)
+
+-- At the place stands a set that has the set's numbers.
+abbrev pub IsSupersetAt : List (List Bool) → List Bool → ℕ → Type 0
+IsSupersetAt sets set place = (other : List Bool) × (slice_get sets place ≡ Some other) × Within set other
+
+-- The place is the first at which such a set stands; there is none where no such set stands at any.
+abbrev pub IsFirstSuperset : List (List Bool) → List Bool → Option ℕ → Type 0
+IsFirstSuperset sets set None = (place : ℕ) → ¬ (IsSupersetAt sets set place)
+IsFirstSuperset sets set (Some place) = IsSupersetAt sets set place × ((earlier : ℕ) → earlier < place → ¬ (IsSupersetAt sets set earlier))
 
 -- A set of the count that has the set's numbers and does not pass.
 pub record FailsWith (count : ℕ) (Pass : List Bool → Type 0) (set failed : List Bool) : Type 0 where

@@ -1,8 +1,8 @@
 //! The search for the minimal sets of a plan's atoms that answer the query.
-ghost use Rattle.std.specs.Prelude.{◌≡◌, ◌↔◌, ◌⊎◌, ◌<◌, ◌≤◌, ◌∷◌, ◌++◌, [], ℕ, List, Bool, Contains, IfOk, IfSome, OnOk, MatchOption, Some, length, slice_get};
+ghost use Rattle.std.specs.Prelude.{◌≡◌, ◌↔◌, ◌⊎◌, ◌<◌, ◌≤◌, ◌∷◌, ◌++◌, [], ℕ, List, Bool, Contains, IfOk, OnOk, MatchOption, length};
 ghost use Rattle.esto_semantics.specs.Sets.{Has, Rises, Within};
 ghost use Rattle.esto_backchase.specs.Candidates.{IsSearch, Answers};
-ghost use Rattle.esto_backchase.specs.Searching.{AreFailing, FailsAt, FailsWith, HasOneOf, IsBetween, IsWithRange, Visited};
+ghost use Rattle.esto_backchase.specs.Searching.{AreFailing, FailsAt, FailsWith, HasOneOf, IsBetween, IsFirstSuperset, IsWithRange, Visited};
 
 use crate::candidates::Search;
 use esto_bits::{Products, RowBits, SetList};
@@ -33,11 +33,11 @@ fn with_range(alloc: Global, set: &RowBits, from: usize, to: usize) -> Result<Ro
     Ok(more)
 }
 
-/// The place of one of the sets that has the set's numbers, if one is found.
+/// The place of the first of the sets that has the set's numbers. None comes exactly where none
+/// has.
 fn superset_in(sets: &SetList, set: &RowBits) -> Option<usize>
     requires { (other : List Bool) → Contains sets.now other → length other ≡ length set.now }
-    ensures { IfSome result (λ place. (other : List Bool) × (slice_get sets.now place ≡ Some other)
-        × Within set.now other) }
+    ensures { IsFirstSuperset sets.now set.now result }
 {
     'sets: for place in 0..sets.len() {
         if set.within(sets.item(place)) {
