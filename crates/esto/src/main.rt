@@ -7,6 +7,7 @@ use esto_term::{List, OutOfMemory, Text, TextError};
 use esto_top::mediate;
 use std::alloc::Global;
 use std::env;
+use std::io::ErrorKind;
 use std::process::ExitCode;
 
 // Puts the word that an argument is at the end.
@@ -21,8 +22,10 @@ fn add_word(alloc: Global, words: &mut List<Text>, argument: &str) -> Result<(),
 // The words after the program's name.
 fn words_of(rt: &HostRuntime, alloc: Global) -> Result<List<Text>, TextError> {
     let mut words = List::new(alloc);
-    let Ok(arguments) = env::args(rt) else {
-        return Err(TextError::OutOfMemory);
+    let arguments = match env::args(rt) {
+        Ok(arguments) => arguments,
+        Err(error) if error.kind() == ErrorKind::InvalidData => return Err(TextError::NotUtf8),
+        Err(_) => return Err(TextError::OutOfMemory),
     };
     'arguments: for argument in arguments.skip(1) {
         add_word(alloc, &mut words, argument.as_str())?;
@@ -47,16 +50,14 @@ fn code_of_words<S: Shelf, O: Sink>(
     code_of(mediate(alloc, words, shelf, out))
 }
 
-// What is not UTF-8 is outside the claims, and is answered as words outside the grammar.
+// Words that are not UTF-8 are outside the claims, and are answered as no words, which are outside the grammar.
 fn main(rt: HostRuntime) -> ExitCode {
     let alloc = rt.alloc();
+    let mut shelf = FolderShelf::new(&rt);
+    let mut out = OutSink::new(&rt);
     let code = match words_of(&rt, alloc) {
-        Ok(words) => {
-            let mut shelf = FolderShelf::new(&rt);
-            let mut out = OutSink::new(&rt);
-            code_of_words(alloc, words.items(), &mut shelf, &mut out)
-        }
-        Err(TextError::NotUtf8) => code_of(Status::Usage),
+        Ok(words) => code_of_words(alloc, words.items(), &mut shelf, &mut out),
+        Err(TextError::NotUtf8) => code_of_words(alloc, &[], &mut shelf, &mut out),
         Err(TextError::OutOfMemory) => code_of(Status::OutOfMemory),
     };
     ExitCode::from(code)

@@ -22,7 +22,7 @@ use Rattle.esto_world_laws.specs.declared.entry.Claim.TheVariants.{Fact as State
 use Rattle.esto_world_laws.specs.declared.entry.Entry.{Entry}
 use Rattle.esto_world_laws.proofs.LinkLemmas.{Touching-more}
 use Rattle.esto_world_laws.proofs.TakenLemmas.{Fits-push, Fits-split}
-use Rattle.esto_condchase.specs.Ways.{AreCounted, met, met_by, begun, IsWay, AreLonger, AreRows, AreThrough, AreMatched, IsFound, AreFound}
+use Rattle.esto_condchase.specs.Ways.{AreCounted, met, met_by, begun, IsWay, AreLonger, AreRows, AreThrough, AreMatched, IsFound, AreFound, CoversWay, CoverAll}
 use Rattle.esto_condchase.specs.declared.ways.Way.{Way}
 use Rattle.esto_term.proofs.PlaceLemmas.{take-item}
 
@@ -636,3 +636,45 @@ pub rows_of_items : (entries : List Entry) (from terms items owns its_owns : Lis
     → AreRows entries from items its_owns start ways → AreRows entries from terms owns start ways
 rows_of_items entries from terms items owns its_owns start ways same same_owns rows = subst (λ it. AreRows entries from it owns start ways) same
     (subst (λ it. AreRows entries from items it start ways) same_owns rows)
+
+-- ---- ways that earlier ones cover
+
+pub covers_none : CoverAll [] []
+covers_none = record { of_given = λ way inside. inside; covers = λ way inside. absurd (Contains-nil way inside) }
+
+module _ (given kept : List Way) (way : Way) (so_far : CoverAll given kept) where
+  pub covers_passed : CoversWay kept way → CoverAll (given ++ way ∷ []) kept
+  covers_passed covered = record {
+    of_given = λ own inside. Contains-append_left given (way ∷ []) own (so_far.of_given own inside);
+    covers = λ own inside. elim (Contains-append_cases given (way ∷ []) own inside) [
+      | inl earlier ↦ so_far.covers own earlier
+      | inr last ↦ one_of (CoversWay kept) way own last covered
+    ];
+  }
+
+  pub covers_kept : (copied : Way) (more : List Way) → copied ≡ way → more ≡ kept ++ copied ∷ [] → CoverAll (given ++ way ∷ []) more
+  covers_kept copied more is grown = rw (grown, is) record {
+    of_given = λ own inside. elim (Contains-append_cases kept (way ∷ []) own inside) [
+      | inl earlier ↦ Contains-append_left given (way ∷ []) own (so_far.of_given own earlier)
+      | inr last ↦ Contains-append_right given (way ∷ []) own last
+    ];
+    covers = λ own inside. elim (Contains-append_cases given (way ∷ []) own inside) [
+      | inl earlier ↦ let it = so_far.covers own earlier in (it.0, Contains-append_left kept (way ∷ []) it.0 it.1, it.2, it.3)
+      | inr last ↦ one_of (CoversWay (kept ++ way ∷ [])) way own last
+          (way, Contains-append_right kept (way ∷ []) way (Contains-head way []), refl, λ number has. has)
+    ];
+  }
+
+module _ (given kept : List Way) (covering : CoverAll given kept) where
+  pub counted_covering : (count : ℕ) → AreCounted count given → AreCounted count kept
+  counted_covering count counted way inside = counted way (covering.of_given way inside)
+
+  pub matched_covering : (entries : List Entry) (from : List Term) (atom : Fact Term) (before : List Way) → AreMatched entries from atom before given
+      → AreMatched entries from atom before kept
+  matched_covering entries from atom before matched = record {
+    come_from = λ way inside. matched.come_from way (covering.of_given way inside);
+    go_on = λ atoms its fact inside lengths within in_world same_relation same_length fits.
+        let it = matched.go_on atoms its fact inside lengths within in_world same_relation same_length fits in
+        let own = covering.covers it.0 it.1 in
+        (own.0, own.1, own.2 ∙ it.2, λ number has. it.3 number (own.3 number has));
+  }

@@ -77,6 +77,15 @@ pub record AreMatched (entries : List Entry) (from : List Term) (atom : Fact Ter
       → AllZip (Touching (InWorld entries atoms)) fact.terms (map (taken (from ++ atom.terms) (before.to ++ fact.terms)) atom.terms)
       → (way : Way) × Contains ways way × (way.to ≡ before.to ++ fact.terms) × Within way.product atoms
 
+-- Some way has met the same terms, with a product within that of the way.
+abbrev pub CoversWay : List Way → Way → Type 0
+CoversWay ways way = (other : Way) × Contains ways other × (other.to ≡ way.to) × Within other.product way.product
+
+-- The kept ways are some of the given ones, and cover each of them.
+pub record CoverAll (given kept : List Way) : Type 0 where
+  pub of_given : (way : Way) → Contains kept way → Contains given way
+  pub covers : (way : Way) → Contains given way → CoversWay kept way
+
 -- The way is a direct match of the body among the entries.
 pub record IsFound (entries : List Entry) (body : List (Fact Term)) (way : Way) : Type 0 where
   pub chosen : List (Fact Term)

@@ -10,7 +10,8 @@ mod values;
 
 pub use list::{List, OutOfMemory, Replicate};
 pub use term::{
-    Term, TermRows, Terms, compare_terms, has_term, terms_are_finite, terms_are_ordered,
+    Term, TermRows, Terms, compare_terms, equal_terms, has_term, terms_are_finite,
+    terms_are_ordered,
 };
 pub use text::{Bytes, Text, TextError, TextRow, TextRows};
 pub use values::{Places, Values};

@@ -135,7 +135,7 @@ impl Term {
 
 /// Whether both are the same terms in the same order.
 #[cycle(equal)]
-fn equal_terms(terms: &[Term], others: &[Term]) -> bool
+pub fn equal_terms(terms: &[Term], others: &[Term]) -> bool
     ensures { IsTrue result ↔ (terms.now ≡ others.now) }
 {
     if terms.len() != others.len() {

@@ -5,7 +5,7 @@ ghost use Rattle.esto_world_laws.specs.Worlds.{SaysOne};
 
 use esto_bits::RowBits;
 use esto_semantics::Atom;
-use esto_term::{OutOfMemory, Places, Replicate, Term};
+use esto_term::{OutOfMemory, Places, Replicate, Term, equal_terms};
 use std::alloc::Global;
 
 /// Places of entries, each counted from 0.
@@ -67,26 +67,11 @@ impl Replicate for Entry {
     }
 }
 
-/// Whether both rows have the same terms.
-fn is_same_row(terms: &[Term], others: &[Term]) -> bool
-    ensures { IsTrue result ↔ (terms.now ≡ others.now) }
-{
-    if terms.len() != others.len() {
-        return false;
-    }
-    'terms: for place in 0..terms.len() {
-        if !terms[place].equal(&others[place]) {
-            return false;
-        }
-    }
-    true
-}
-
 /// Whether both are the same fact.
 fn is_same_fact(fact: &Atom, other: &Atom) -> bool
     ensures { IsTrue result ↔ (fact.now ≡ other.now) }
 {
-    fact.relation == other.relation && is_same_row(fact.terms.items(), other.terms.items())
+    fact.relation == other.relation && equal_terms(fact.terms.items(), other.terms.items())
 }
 
 /// Whether both are the same two terms, in either order.
