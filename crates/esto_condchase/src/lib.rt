@@ -4,6 +4,7 @@
 #![tactic(auto)]
 
 mod chase;
+mod covered;
 mod covering;
 mod matching;
 mod news;

@@ -1,14 +1,15 @@
 //! Ways to match a body among entries, modulo equalities.
-ghost use Rattle.std.specs.Prelude.{◌≡◌, ◌≢◌, ◌↔◌, ◌<◌, ◌∷◌, ◌++◌, [], List, length, Contains, IsTrue, IfOk, OnOk};
+ghost use Rattle.std.specs.Prelude.{◌≡◌, ◌≢◌, ◌<◌, ◌∷◌, ◌++◌, [], List, length, Contains, IfOk, OnOk};
 ghost use Rattle.esto_world_laws.specs.Matches.{taken};
 ghost use Rattle.esto_world_laws.specs.Worlds.{AreOfCount};
-ghost use Rattle.esto_condchase.specs.Ways.{AreCounted, empty_way, met, met_by, begun, AreLonger, AreRows, AreThrough, AreMatched, AreFound, CoversWay, CoverAll};
+ghost use Rattle.esto_condchase.specs.Ways.{AreCounted, empty_way, met, met_by, begun, AreLonger, AreRows, AreThrough, AreMatched, AreFound};
 ghost use Rattle.esto_condchase.specs.declared.ways.Way.{Way};
 
+use crate::covered::without_covered;
 use crate::taking::to_meet;
 use esto_bits::RowBits;
 use esto_semantics::Atom;
-use esto_term::{List, OutOfMemory, Places, Replicate, Term, Terms, Values, equal_terms};
+use esto_term::{List, OutOfMemory, Places, Replicate, Term, Terms, Values};
 use esto_world_laws::{Claim, Entry};
 use std::alloc::Global;
 
@@ -345,34 +346,6 @@ fn all_matched(
     Ok(ways)
 }
 
-/// Whether some way has met the same terms, with a product within that of the way.
-fn covers(ways: &[Way], way: &Way) -> bool
-    requires { AreCounted (length way.now.product) ways.now }
-    ensures { IsTrue result ↔ CoversWay ways.now way.now }
-{
-    'ways: for other in ways {
-        if other.product.within(&way.product) && equal_terms(other.to.items(), way.to.items()) {
-            return true;
-        }
-    }
-    false
-}
-
-/// The ways but for those that earlier ones cover: what follows from such a way follows from the earlier one, with fewer
-/// atoms. Where many entries state one fact, this keeps the ways as few as their least products.
-fn covering(alloc: Global, ways: &[Way], count: usize) -> Result<List<Way>, OutOfMemory>
-    requires { AreCounted count ways.now }
-    ensures { IfOk result (CoverAll ways.now) }
-{
-    let mut kept = List::new(alloc);
-    'ways: for way in ways {
-        if !covers(kept.items(), way) {
-            kept.push(way.copy(alloc)?)?;
-        }
-    }
-    Ok(kept)
-}
-
 /// Goes on by one atom, from the terms of those before it and the ways that match them.
 fn match_next(
     alloc: Global,
@@ -390,7 +363,7 @@ fn match_next(
     ensures from { OnOk result (from.new ≡ from.old ++ atom.now.terms) }
 {
     let matched = all_matched(alloc, entries, from, atom, ways.items(), count)?;
-    *ways = covering(alloc, matched.items(), count)?;
+    *ways = without_covered(alloc, matched.items(), count)?;
     from.append(atom.terms.copy(alloc)?)?;
     Ok(())
 }
