@@ -31,7 +31,7 @@ AreFailing count Pass sets = (set : List Bool) → Contains sets set → (length
 abbrev pub IsSupersetAt : List (List Bool) → List Bool → ℕ → Type 0
 IsSupersetAt sets set place = (other : List Bool) × (slice_get sets place ≡ Some other) × Within set other
 
--- The place is the first at which such a set stands; there is none where no such set stands at any.
+-- The place is the first at which stands a set that has the set's numbers; there is none where no such set stands at any.
 abbrev pub IsFirstSuperset : List (List Bool) → List Bool → Option ℕ → Type 0
 IsFirstSuperset sets set None = (place : ℕ) → ¬ (IsSupersetAt sets set place)
 IsFirstSuperset sets set (Some place) = IsSupersetAt sets set place × ((earlier : ℕ) → earlier < place → ¬ (IsSupersetAt sets set earlier))

@@ -171,6 +171,8 @@ impl Search<'_> {
             (FailsAt (length self.now.plan.now.atoms)
             (Answers self.now.catalogue.now self.now.query.now self.now.plan.now)
             failing.new set.now)) }
+        ensures known { OnOk result ((failing.new ≡ failing.old)
+            ⊎ ((failed : List Bool) × (failing.new ≡ failing.old ++ failed ∷ []))) }
     {
         if let Some(place) = superset_in(failing, set) {
             return Ok(Some(place));

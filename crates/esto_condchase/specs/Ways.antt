@@ -66,7 +66,8 @@ AreThrough entries from atom before place product (Stated fact) ways =
     (IsLike atom fact × AreRows entries from atom.terms fact.terms (begun before place product) ways) ⊎ ((IsLike atom fact → ⊥) × (ways ≡ []))
 AreThrough entries from atom before place product (Same left right) ways = ways ≡ []
 
--- The ways are the given ones with a fact for one atom more.
+-- The ways are given ones with a fact for one atom more: each comes from a given one; and where a given one goes on in a world that has its product, so does
+-- one of these, with the same terms.
 pub record AreMatched (entries : List Entry) (from : List Term) (atom : Fact Term) (given ways : List Way) : Type 0 where
   pub come_from : (way : Way) → Contains ways way → (before : Way) × Contains given before × ((place : ℕ) × (fact : Fact Term)
       × Claims entries place (Stated fact) × (fact.relation ≡ atom.relation) × (length fact.terms ≡ length atom.terms)

@@ -91,8 +91,9 @@ fn keep(
     kept.push(way.copy(alloc)?)
 }
 
-/// The ways without those that earlier ones cover: what follows from such a way follows from the earlier one, with fewer
-/// atoms. So where many entries state one fact, the ways stay as few as their least products.
+/// The ways without those that earlier ones cover, in order: what follows from such a way follows from the earlier one,
+/// with no atom more. So where each of many entries states the same fact, their ways do not multiply from atom to atom.
+// That each way which an earlier one covers is dropped is not claimed: it costs time alone where one stays.
 pub fn without_covered(alloc: Global, ways: &[Way], count: usize) -> Result<List<Way>, OutOfMemory>
     requires { AreCounted count ways.now }
     ensures { IfOk result (CoverAll ways.now) }

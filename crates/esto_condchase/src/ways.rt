@@ -346,7 +346,8 @@ fn all_matched(
     Ok(ways)
 }
 
-/// Goes on by one atom, from the terms of those before it and the ways that match them.
+/// Goes on by one atom, from the terms of those before it and the ways that match them. Ways that earlier ones cover are
+/// dropped.
 fn match_next(
     alloc: Global,
     entries: &[Entry],

@@ -1,4 +1,4 @@
-use Rattle.std.proofs.Common.{length, sym, ◌∙◌}
+use Rattle.std.proofs.Common.{length, inl, inr, refl, sym, ◌∙◌}
 use Rattle.std.proofs.lemmas.Bool.{false≢true}
 use Rattle.esto_backchase.specs.Candidates.{Answers}
 use Rattle.esto_backchase.proofs.VisitLemmas.{fails-known, fails-pushed, failing-pushed}
@@ -32,3 +32,12 @@ returns-clause-failed c =
     let (failed, fails, pushed) = c.in_ok-add_failing.ensures in
     fails-pushed (length c.args.self.now.plan.now.atoms) Pass c.args.failing.now c.add_failing.new.failing c.args.set.now failed c.len-place.result
     fails pushed c.len-place.ensures
+
+pub returns-in-Some-clause-known : goal.returns-in-Some-clause-known
+returns-in-Some-clause-known c = inl refl
+
+pub returns-then-branch-clause-known : goal.returns-then-branch-clause-known
+returns-then-branch-clause-known c = inl refl
+
+pub returns-clause-known : goal.returns-clause-known
+returns-clause-known c = let (failed, fails, pushed) = c.in_ok-add_failing.ensures in inr (failed, pushed)
