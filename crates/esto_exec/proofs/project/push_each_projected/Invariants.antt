@@ -1,7 +1,7 @@
 use Rattle.std.proofs.Common.{◌≡◌, ℕ, List, [], length, take, Contains}
 use Rattle.esto_exec.specs.Joined.{GainsOnly}
 use Rattle.esto_exec.specs.Named.{NamesCodes}
-use Rattle.esto_exec.proofs.run.push_each_projected.Given as goal
+use Rattle.esto_exec.proofs.project.push_each_projected.Given as goal
 
 abbrev pub invariant-rows : goal.invariant-rows
 invariant-rows l = (GainsOnly [] l.into.rows (λ row. (end : List ℕ) × Contains (take l.at l.rows.rows) end × NamesCodes end l.head row))

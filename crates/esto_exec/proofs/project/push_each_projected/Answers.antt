@@ -5,7 +5,7 @@ use Rattle.esto_exec.specs.Joined.{GainsOnly}
 use Rattle.esto_exec.specs.Named.{NamesCodes}
 use Rattle.esto_exec.proofs.JoinLemmas.{gains_none, gains_more, gains_all}
 use Rattle.esto_exec.proofs.RunLemmas.{gains_from_none}
-use Rattle.esto_exec.proofs.run.push_each_projected.Goals as goal
+use Rattle.esto_exec.proofs.project.push_each_projected.Goals as goal
 
 pub rows-init : goal.rows-init
 rows-init c = (

@@ -1,5 +1,5 @@
 use Rattle.esto_exec.proofs.RunLemmas.{join_asked}
-use Rattle.esto_exec.proofs.run.follow.Goals as goal
+use Rattle.esto_exec.proofs.turns.follow.Goals as goal
 
 pub returns : goal.returns
 returns g c = join_asked c.args.get.now c.args.so_far.now.rows

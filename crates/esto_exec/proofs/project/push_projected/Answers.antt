@@ -4,7 +4,7 @@ use Rattle.std.proofs.lemmas.Result.{on_ok_weaker}
 use Rattle.esto_columns.specs.CodedRows.{CodedRows}
 use Rattle.esto_exec.specs.Named.{NamesCodes}
 use Rattle.esto_exec.proofs.RunLemmas.{row_pushed}
-use Rattle.esto_exec.proofs.run.push_projected.Goals as goal
+use Rattle.esto_exec.proofs.project.push_projected.Goals as goal
 
 pub returns-clause-rows : goal.returns-clause-rows
 returns-clause-rows c = on_ok_weaker c.add.result

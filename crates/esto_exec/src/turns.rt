@@ -1,0 +1,385 @@
+//! Turns: one get after another is joined, in an order of our own.
+ghost use Rattle.std.specs.Prelude.{◌≡◌, ◌↔◌, ◌<◌, ◌+◌, ◌++◌, ◌∷◌, [], List, ℕ, length, map, flat_map, take, slice_get, Some, Contains, IfOk, OnOk, IsTrue};
+ghost use Rattle.esto_plan.specs.declared.steps.Get.{Get};
+ghost use Rattle.esto_plan.specs.declared.steps.Link.{Link};
+ghost use Rattle.esto_plan.specs.Rows.{IsRowOf, held_by};
+ghost use Rattle.esto_columns.specs.Asked.{IsAllowed};
+ghost use Rattle.esto_exec.specs.Joined.{IsJoin};
+ghost use Rattle.esto_exec.specs.Named.{NamesCodes};
+ghost use Rattle.esto_exec.specs.declared.slots.Side.TheVariants.{Held};
+ghost use Rattle.esto_exec.specs.Runnable.{AreRunnable};
+ghost use Rattle.esto_exec.specs.Slots.{side_of, IsKnown};
+ghost use Rattle.esto_exec.specs.Turns.{sought, turned, links_of, slots_from, IsReady, AreArities, AreUsed, IsUnderWay, kept_slots};
+
+use crate::asked::asked_rows;
+use crate::join::joined;
+use crate::project::projected;
+use crate::slots::{
+    Equation, Equations, Side, Slot, Slots, first_of, is_in, is_known, kept_slots, side_of, sought,
+};
+use esto_columns::{Fragment, Rows};
+use esto_plan::{Get, Gets, Link, Links, Source, Sources};
+use esto_term::{List, OutOfMemory, Places, Values};
+use std::alloc::Global;
+
+/// The links of a get, after gets with these arities in the stated order, as rows so far have them.
+fn turned_links(
+    alloc: Global,
+    places: &Slots,
+    arities: &[usize],
+    links: &Links,
+) -> Result<Links, OutOfMemory>
+    ensures { IfOk result (λ it. it ≡ map (turned places.now arities.now) links.now) }
+{
+    let mut own = List::new(alloc);
+    'links: for link in links.items() {
+        own.push(Link {
+            column: link.column,
+            source: sought(places, &side_of(arities, &link.source)),
+        })?;
+    }
+    Ok(own)
+}
+
+/// Puts the equation at the end as a link of the get, where both of its sides are known and one is the get's own.
+fn push_link(
+    links: &mut Links,
+    number: usize,
+    done: &Places,
+    places: &Slots,
+    equation: &Equation,
+) -> Result<(), OutOfMemory>
+    ensures { OnOk result (links.new ≡ links.old ++ links_of number done.now places.now equation.now) }
+{
+    if equation.slot.get == number {
+        if !is_known(done, &equation.side) {
+            return Ok(());
+        }
+        return links.push(Link {
+            column: equation.slot.column,
+            source: sought(places, &equation.side),
+        });
+    }
+    match &equation.side {
+        Side::Constant(_) => Ok(()),
+        Side::Nothing => Ok(()),
+        Side::Held(other) => {
+            if !(other.get == number && is_in(done, equation.slot.get)) {
+                return Ok(());
+            }
+            links.push(Link {
+                column: other.column,
+                source: sought(places, &Side::Held(equation.slot)),
+            })
+        }
+    }
+}
+
+/// The equations that the get decides, as its links.
+fn links_at(
+    alloc: Global,
+    number: usize,
+    done: &Places,
+    places: &Slots,
+    equations: &Equations,
+) -> Result<Links, OutOfMemory>
+    ensures { IfOk result (λ it. it
+        ≡ flat_map (links_of number done.now places.now) equations.now) }
+{
+    let mut links = List::new(alloc);
+    'equations: for equation in equations.items() {
+        push_link(&mut links, number, done, places, equation)?;
+    }
+    Ok(links)
+}
+
+/// Puts the slots of the columns of a get's row at the end.
+fn push_slots(places: &mut Slots, number: usize, arity: usize) -> Result<(), OutOfMemory>
+    ensures { OnOk result (places.new ≡ places.old ++ slots_from number 0 arity) }
+{
+    'columns: for column in 0..arity {
+        places.push(Slot {
+            get: number,
+            column,
+        })?;
+    }
+    Ok(())
+}
+
+/// Whether the sides of the links are known.
+fn each_known(done: &Places, arities: &[usize], links: &Links) -> bool
+    ensures { IsTrue result → (link : Link) → Contains links.now link
+        → IsKnown done.now (side_of arities.now link.source) }
+{
+    'links: for link in links.items() {
+        if !is_known(done, &side_of(arities, &link.source)) {
+            return false;
+        }
+    }
+    true
+}
+
+/// The arities of the rows that the gets give.
+pub(crate) fn arities_of<F: Fragment>(
+    alloc: Global,
+    gets: &Gets,
+    fragments: &[F],
+) -> Result<Places, OutOfMemory>
+    requires { AreRunnable (map F.shape fragments.now) gets.now }
+    ensures { IfOk result (AreArities (IsRowOf (held_by (map F.rows fragments.now))) gets.now) }
+{
+    let mut arities = Values::new(alloc);
+    'gets: for get in gets.items() {
+        arities.push(fragments[get.fragment].arity())?;
+    }
+    Ok(arities)
+}
+
+/// What names the codes of the slots in rows whose cells are those of the places.
+fn sought_slots(alloc: Global, places: &Slots, slots: &Slots) -> Result<Sources, OutOfMemory>
+    ensures { IfOk result (λ it. it ≡ map (λ slot. sought places.now (Held slot)) slots.now) }
+{
+    let mut sources = List::new(alloc);
+    'slots: for slot in slots.items() {
+        sources.push(sought(places, &Side::Held(*slot)))?;
+    }
+    Ok(sources)
+}
+
+/// What names the head's codes in rows whose cells are those of the slots.
+pub(crate) fn sought_head(
+    alloc: Global,
+    places: &Slots,
+    arities: &Places,
+    head: &Sources,
+) -> Result<Sources, OutOfMemory>
+    ensures { IfOk result (λ it. it ≡ map (λ source. sought places.now (side_of arities.now source)) head.now) }
+{
+    let mut sources = List::new(alloc);
+    'sources: for source in head.items() {
+        sources.push(sought(places, &side_of(arities.items(), source)))?;
+    }
+    Ok(sources)
+}
+
+/// Goes from the rows so far to these, each with every row of the fragment that follows it after it.
+fn follow<F: Fragment>(
+    alloc: Global,
+    get: &Get,
+    fragment: &F,
+    so_far: &mut Rows,
+) -> Result<(), OutOfMemory>
+    requires { IsAllowed (F.shape fragment.now) (map (λ link. link.column) get.now.inputs) }
+    ensures { OnOk result ((both : List ℕ) → Contains so_far.new.rows both
+        ↔ IsJoin get.now so_far.old.rows (F.rows fragment.now) both) }
+{
+    let asked = asked_rows(alloc, get, fragment, so_far)?;
+    *so_far = joined(alloc, get, so_far, &asked)?;
+    Ok(())
+}
+
+/// Goes from the places and the rows to those of the used slots.
+fn cut(alloc: Global, used: &Slots, places: &mut Slots, rows: &mut Rows) -> Result<(), OutOfMemory>
+    ensures { OnOk result ((places.new ≡ kept_slots used.now places.old)
+        × ((row : List ℕ) → Contains rows.new.rows row
+        ↔ ((end : List ℕ) × Contains rows.old.rows end
+        × NamesCodes end (map (λ slot. sought places.old (Held slot)) places.new) row))) }
+{
+    let kept = kept_slots(alloc, used, places)?;
+    let sources = sought_slots(alloc, places, &kept)?;
+    *rows = projected(alloc, &sources, rows)?;
+    *places = kept;
+    Ok(())
+}
+
+/// Rows so far: the numbers of the gets that are done, the slots of the cells, and the rows.
+#[derive(Drop)]
+pub(crate) struct SoFar {
+    pub done: Places,
+    pub places: Slots,
+    pub rows: Rows,
+}
+
+/// Nothing done: one empty row.
+fn nothing_done(alloc: Global) -> Result<SoFar, OutOfMemory>
+    ensures { IfOk result (λ it. (it.done ≡ []) × (it.places ≡ []) × (it.rows.rows ≡ [] ∷ [])) }
+{
+    let mut rows = Rows::new(alloc, 0)?;
+    rows.add(&[])?;
+    Ok(SoFar {
+        done: Values::new(alloc),
+        places: List::new(alloc),
+        rows,
+    })
+}
+
+/// Joins the get of the number, which is not done and whose inputs are known.
+fn take_turn<F: Fragment>(
+    alloc: Global,
+    gets: &Gets,
+    fragments: &[F],
+    arities: &Places,
+    equations: &Equations,
+    used: &Slots,
+    number: usize,
+    so_far: &mut SoFar,
+) -> Result<(), OutOfMemory>
+    requires runnable { AreRunnable (map F.shape fragments.now) gets.now }
+    requires arities { AreArities (IsRowOf (held_by (map F.rows fragments.now))) gets.now arities.now }
+    requires there { number < length gets.now }
+    requires fresh { ¬ (Contains so_far.old.done number) }
+    requires ready { (get : Get) → slice_get gets.now number ≡ Some get
+        → IsReady arities.now so_far.old.done get number }
+    requires under_way { IsUnderWay (IsRowOf (held_by (map F.rows fragments.now))) arities.now
+        gets.now equations.now used.now so_far.old.done so_far.old.places so_far.old.rows.rows }
+    ensures done { OnOk result (so_far.new.done ≡ so_far.old.done ++ number ∷ []) }
+    ensures under_way { OnOk result (IsUnderWay (IsRowOf (held_by (map F.rows fragments.now)))
+        arities.now gets.now equations.now used.now so_far.new.done so_far.new.places so_far.new.rows.rows) }
+{
+    let get = gets.item(number);
+    let inputs = turned_links(
+        alloc,
+        &so_far.places,
+        first_of(arities, number),
+        &get.inputs,
+    )?;
+    so_far.done.push(number)?;
+    push_slots(&mut so_far.places, number, arities.item(number))?;
+    let filters = links_at(alloc, number, &so_far.done, &so_far.places, equations)?;
+    let own = Get {
+        fragment: get.fragment,
+        inputs,
+        filters,
+    };
+    follow(alloc, &own, &fragments[get.fragment], &mut so_far.rows)?;
+    cut(alloc, used, &mut so_far.places, &mut so_far.rows)
+}
+
+/// Joins the get of the number, if there is one that is not done and whose inputs are known.
+fn take_if_ready<F: Fragment>(
+    alloc: Global,
+    gets: &Gets,
+    fragments: &[F],
+    arities: &Places,
+    equations: &Equations,
+    used: &Slots,
+    number: usize,
+    so_far: &mut SoFar,
+) -> Result<(), OutOfMemory>
+    requires runnable { AreRunnable (map F.shape fragments.now) gets.now }
+    requires arities { AreArities (IsRowOf (held_by (map F.rows fragments.now))) gets.now arities.now }
+    requires under_way { IsUnderWay (IsRowOf (held_by (map F.rows fragments.now))) arities.now
+        gets.now equations.now used.now so_far.old.done so_far.old.places so_far.old.rows.rows }
+    ensures { OnOk result (IsUnderWay (IsRowOf (held_by (map F.rows fragments.now)))
+        arities.now gets.now equations.now used.now so_far.new.done so_far.new.places so_far.new.rows.rows) }
+{
+    if number >= gets.len() || is_in(&so_far.done, number) {
+        return Ok(());
+    }
+    if !each_known(
+        &so_far.done,
+        first_of(arities, number),
+        &gets.item(number).inputs,
+    ) {
+        return Ok(());
+    }
+    take_turn(
+        alloc, gets, fragments, arities, equations, used, number, so_far,
+    )
+}
+
+/// Joins the get of the number, if it is not done, where all before it in the stated order are.
+fn take_next<F: Fragment>(
+    alloc: Global,
+    gets: &Gets,
+    fragments: &[F],
+    arities: &Places,
+    equations: &Equations,
+    used: &Slots,
+    number: usize,
+    so_far: &mut SoFar,
+) -> Result<(), OutOfMemory>
+    requires runnable { AreRunnable (map F.shape fragments.now) gets.now }
+    requires arities { AreArities (IsRowOf (held_by (map F.rows fragments.now))) gets.now arities.now }
+    requires there { number < length gets.now }
+    requires before { (other : ℕ) → other < number → Contains so_far.old.done other }
+    requires under_way { IsUnderWay (IsRowOf (held_by (map F.rows fragments.now))) arities.now
+        gets.now equations.now used.now so_far.old.done so_far.old.places so_far.old.rows.rows }
+    ensures before { OnOk result ((other : ℕ)
+        → other < number + 1 → Contains so_far.new.done other) }
+    ensures under_way { OnOk result (IsUnderWay (IsRowOf (held_by (map F.rows fragments.now)))
+        arities.now gets.now equations.now used.now so_far.new.done so_far.new.places so_far.new.rows.rows) }
+{
+    if is_in(&so_far.done, number) {
+        return Ok(());
+    }
+    take_turn(
+        alloc, gets, fragments, arities, equations, used, number, so_far,
+    )
+}
+
+/// Joins the gets of the numbers, as far as the inputs of each are known, and then all others in the stated order.
+fn take_all<F: Fragment>(
+    alloc: Global,
+    gets: &Gets,
+    fragments: &[F],
+    arities: &Places,
+    equations: &Equations,
+    used: &Slots,
+    order: &Places,
+    so_far: &mut SoFar,
+) -> Result<(), OutOfMemory>
+    requires runnable { AreRunnable (map F.shape fragments.now) gets.now }
+    requires arities { AreArities (IsRowOf (held_by (map F.rows fragments.now))) gets.now arities.now }
+    requires under_way { IsUnderWay (IsRowOf (held_by (map F.rows fragments.now))) arities.now
+        gets.now equations.now used.now so_far.old.done so_far.old.places so_far.old.rows.rows }
+    ensures all { OnOk result ((number : ℕ)
+        → number < length gets.now → Contains so_far.new.done number) }
+    ensures under_way { OnOk result (IsUnderWay (IsRowOf (held_by (map F.rows fragments.now)))
+        arities.now gets.now equations.now used.now so_far.new.done so_far.new.places so_far.new.rows.rows) }
+{
+    'order: for number in order.items() {
+        take_if_ready(
+            alloc, gets, fragments, arities, equations, used, *number, so_far,
+        )?;
+    }
+    'gets: for number in 0..gets.len() {
+        take_next(
+            alloc, gets, fragments, arities, equations, used, number, so_far,
+        )?;
+    }
+    Ok(())
+}
+
+/// The rows that the gets give together, joined in the order of these numbers, as far as the inputs of each are known,
+/// and of all others after them.
+pub(crate) fn joined_rows<F: Fragment>(
+    alloc: Global,
+    gets: &Gets,
+    fragments: &[F],
+    arities: &Places,
+    equations: &Equations,
+    used: &Slots,
+    order: &Places,
+) -> Result<SoFar, OutOfMemory>
+    requires runnable { AreRunnable (map F.shape fragments.now) gets.now }
+    requires arities { AreArities (IsRowOf (held_by (map F.rows fragments.now))) gets.now arities.now }
+    requires uses { AreUsed arities.now gets.now equations.now used.now }
+    ensures all { IfOk result (λ it. (number : ℕ)
+        → number < length gets.now → Contains it.done number) }
+    ensures under_way { IfOk result (λ it. IsUnderWay (IsRowOf (held_by (map F.rows fragments.now)))
+        arities.now gets.now equations.now used.now it.done it.places it.rows.rows) }
+{
+    let mut so_far = nothing_done(alloc)?;
+    take_all(
+        alloc,
+        gets,
+        fragments,
+        arities,
+        equations,
+        used,
+        order,
+        &mut so_far,
+    )?;
+    Ok(so_far)
+}
