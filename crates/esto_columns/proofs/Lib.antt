@@ -1,3 +1,5 @@
+pub mod NumberLemmas
+pub mod CodeLemmas
 pub mod RowLemmas
 pub mod PickLemmas
 pub mod StoredLemmas
@@ -5,4 +7,3 @@ pub mod CodingLemmas
 pub mod SortedLemmas
 pub mod IndexLemmas
 pub mod RowIndexLemmas
-pub mod TextLemmas

@@ -6,4 +6,3 @@ pub mod Indexed
 pub mod Interned
 pub mod RowIndexes
 pub mod Lent
-pub mod TextsInBytes

@@ -1,12 +1,9 @@
 //! Codes of texts.
-ghost use Rattle.std.specs.Prelude.{◌≡◌, ◌≢◌, ◌⊎◌, ◌↔◌, ◌<◌, ℕ, List, [], ◌∷◌, ◌++◌, length, slice_get, Some, Contains, AllPairs, IfOk, IfErr, OnOk, OnErr};
-ghost use Rattle.std.specs.Prelude.{MatchOption, IsUtf8, IsTrue};
-ghost use Rattle.esto_columns.specs.Indexed.{IsIndexOf};
+ghost use Rattle.std.specs.Prelude.{◌≡◌, ◌≢◌, ◌⊎◌, ◌↔◌, ◌<◌, ℕ, List, [], ◌∷◌, ◌++◌, length, slice_get, Some, Contains, AllPairs, IfOk, IfErr, OnErr, MatchOption, IsUtf8, IsTrue};
 ghost use Rattle.esto_columns.specs.Interned.{IsRightFault};
 
-use crate::text_index::TextIndex;
-use crate::texts::Texts;
-use esto_term::{OutOfMemory, TextError};
+use esto_term::TextError;
+use indexmap::IndexSet;
 use std::alloc::Global;
 use std::marker::Model;
 use std::str;
@@ -14,20 +11,18 @@ use std::str;
 /// Codes of texts, which contracts see as the list of the texts in the order of their codes.
 #[derive(Drop)]
 pub struct Codes {
-    texts: Texts,
-    index: TextIndex,
+    texts: IndexSet<Vec<u8>>,
 }
 
 impl Model for Codes {
-    ghost use Rattle.std.specs.Prelude.{List, ℕ};
-    ghost use Rattle.esto_columns.specs.Indexed.{IsIndexOf};
+    ghost use Rattle.std.specs.Prelude.{List, ℕ, map};
     ghost use Rattle.esto_columns.specs.Interned.{AreTexts};
 
     ghost Value = { List (List ℕ) };
 
-    ghost view = { λ it. it.texts };
+    ghost view = { λ it. map (λ text. text.items) it.texts.keys };
 
-    ghost invariant = { λ it. AreTexts it.texts × IsIndexOf it.index it.texts };
+    ghost invariant = { λ it. AreTexts (map (λ text. text.items) it.texts.keys) };
 }
 
 /// Whether the bytes are UTF-8.
@@ -37,62 +32,13 @@ fn is_utf8(bytes: &[u8]) -> bool
     str::from_utf8(bytes).is_ok()
 }
 
-/// Sees to it that the index of the texts has more buckets than there are texts.
-fn widen(alloc: Global, texts: &Texts, index: &mut TextIndex) -> Result<(), OutOfMemory>
-    requires { IsIndexOf index.old texts.now }
-    ensures own { IsIndexOf index.new texts.now }
-    ensures some { OnOk result (0 < length index.new.last) }
-{
-    let count = texts.len();
-    if count < index.buckets() {
-        return Ok(());
-    }
-    *index = TextIndex::of(alloc, texts, count.saturating_mul(2).saturating_add(1))?;
-    Ok(())
-}
-
-/// Puts a text after the others, and into their index.
-fn put(texts: &mut Texts, index: &mut TextIndex, text: &[u8]) -> Result<(), OutOfMemory>
-    requires { IsIndexOf index.old texts.old }
-    ensures ok { OnOk result (texts.new ≡ texts.old ++ text.now ∷ []) }
-    ensures err { OnErr result (texts.new ≡ texts.old) }
-    ensures own { IsIndexOf index.new texts.new }
-{
-    widen(texts.allocator(), texts, index)?;
-    texts.push(text)?;
-    match index.add(text) {
-        Ok(()) => Ok(()),
-        Err(e) => {
-            texts.pop();
-            Err(e)
-        }
-    }
-}
-
 impl Codes {
     /// No codes, which take no memory.
     pub fn new(alloc: Global) -> Codes
         ensures { result ≡ [] }
     {
         Codes {
-            texts: Texts::new(alloc),
-            index: TextIndex::new(alloc),
-        }
-    }
-
-    /// The code of a text that has none yet, which is the next one.
-    fn add(&mut self, text: &[u8]) -> Result<u64, TextError>
-        requires utf8 { IsUtf8 text.now }
-        requires fresh { ¬ (Contains self.old text.now) }
-        ensures ok { IfOk result (λ code. (self.new ≡ self.old ++ text.now ∷ [])
-            × (code ≡ length self.old)) }
-        ensures fault { IfErr result (IsRightFault text.now) }
-        ensures err { OnErr result (self.new ≡ self.old) }
-    {
-        let code = self.texts.len();
-        match put(&mut self.texts, &mut self.index, text) {
-            Ok(()) => Ok(code as u64),
-            Err(_) => Err(TextError::OutOfMemory),
+            texts: IndexSet::new(alloc),
         }
     }
 
@@ -108,10 +54,14 @@ impl Codes {
         if !is_utf8(text) {
             return Err(TextError::NotUtf8);
         }
-        match self.index.find(&self.texts, text) {
-            Some(place) => Ok(place as u64),
-            None => self.add(text),
-        }
+        let alloc = *self.texts.allocator();
+        let Ok(owned) = Vec::from_slice(alloc, text) else {
+            return Err(TextError::OutOfMemory);
+        };
+        let Ok((number, _)) = self.texts.insert_full(owned) else {
+            return Err(TextError::OutOfMemory);
+        };
+        Ok(number as u64)
     }
 
     /// The code of the text, if it has one.
@@ -119,8 +69,8 @@ impl Codes {
         ensures { MatchOption result (¬ (Contains self.now text.now))
             (λ code. slice_get self.now code ≡ Some text.now) }
     {
-        match self.index.find(&self.texts, text) {
-            Some(place) => Some(place as u64),
+        match self.texts.get_index_of(text) {
+            Some(number) => Some(number as u64),
             None => None,
         }
     }
@@ -139,6 +89,6 @@ impl Codes {
         ensures value { slice_get self.now code ≡ Some result.now }
         ensures utf8 { IsUtf8 result.now }
     {
-        self.texts.text(code as usize)
+        self.texts.as_slice()[code as usize].as_slice()
     }
 }

@@ -31,7 +31,7 @@ impl Model for Index {
 }
 
 /// The hash with the code taken into it.
-pub(crate) fn mixed(hash: u64, code: u64) -> u64
+fn mixed(hash: u64, code: u64) -> u64
     ensures { result ≡ mixed hash code }
 {
     hash.wrapping_mul(FACTOR).wrapping_add(code)
@@ -58,7 +58,7 @@ fn bucket_of(key: &[u64], count: usize) -> usize
 }
 
 /// What stands at the place, or 0 past the end.
-pub(crate) fn item_at(places: &Places, at: usize) -> usize
+fn item_at(places: &Places, at: usize) -> usize
     ensures { result ≡ slice_index_or places.now at 0 }
 {
     match places.items().get(at) {
@@ -68,7 +68,7 @@ pub(crate) fn item_at(places: &Places, at: usize) -> usize
 }
 
 /// So many zeros.
-pub(crate) fn zeros(alloc: Global, count: usize) -> Result<Places, OutOfMemory>
+fn zeros(alloc: Global, count: usize) -> Result<Places, OutOfMemory>
     ensures long { IfOk result (λ it. length it ≡ count) }
     ensures zero { IfOk result (λ it. (at : ℕ) → slice_index_or it at 0 ≡ 0) }
 {
@@ -80,7 +80,7 @@ pub(crate) fn zeros(alloc: Global, count: usize) -> Result<Places, OutOfMemory>
 }
 
 /// One more than the place before this one on its chain, or 0.
-pub(crate) fn place_before(before: &Places, place: usize) -> usize
+fn place_before(before: &Places, place: usize) -> usize
     ensures within { result ≤ place }
     ensures value { slice_index_or before.now place 0 ≤ place
         → result ≡ slice_index_or before.now place 0 }
@@ -89,7 +89,7 @@ pub(crate) fn place_before(before: &Places, place: usize) -> usize
 }
 
 /// Puts the next place on the chain of the bucket.
-pub(crate) fn put(last: &mut Places, before: &mut Places, bucket: usize) -> Result<(), OutOfMemory>
+fn put(last: &mut Places, before: &mut Places, bucket: usize) -> Result<(), OutOfMemory>
     requires { bucket < length last.old }
     ensures long { length last.new ≡ length last.old }
     ensures ok { OnOk result (record { last = last.new; before = before.new }

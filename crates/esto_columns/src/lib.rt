@@ -12,8 +12,6 @@ mod rows;
 mod sorted;
 mod stored;
 mod table;
-mod text_index;
-mod texts;
 
 pub use codes::Codes;
 pub use coding::{code_rows, code_taken_rows};
