@@ -164,3 +164,9 @@ module _ (rows : List (List ℕ)) (columns key places given : List ℕ) (among :
 pub some_inputs : (inputs : List Input) → false ≡ eqb (length inputs) 0 → 0 < length inputs
 some_inputs [] e = absurd (cc)
 some_inputs (first ∷ inputs) e = omega arith
+
+-- each row holds no inputs
+pub all_hold : (inputs : List Input) → true ≡ eqb (length inputs) 0 → (rows : List (List ℕ)) → filter (holds_all inputs) rows ≡ rows
+all_hold [] none [] = refl
+all_hold [] none (row ∷ rows) = ap (λ them. row ∷ them) (all_hold [] none rows)
+all_hold (input ∷ inputs) none rows = let is = (Decides-eqb (suc (length inputs)) 0).0 (sym none) in absurd (omega (arith, is))

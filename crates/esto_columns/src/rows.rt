@@ -1,5 +1,5 @@
 //! Rows of codes, with indexes.
-ghost use Rattle.std.specs.Prelude.{◌≡◌, ◌+◌, List, [], ◌∷◌, ◌++◌, ◌<◌, length, map, take, slice_get, slice_index_or, Some, IfOk, OnOk, OnErr, MatchOption};
+ghost use Rattle.std.specs.Prelude.{◌≡◌, ◌+◌, ℕ, List, [], ◌∷◌, ◌++◌, ◌<◌, length, map, take, slice_get, slice_index_or, Some, IfOk, OnOk, OnErr, MatchOption};
 ghost use Rattle.esto_columns.specs.CodedRows.{CodedRows};
 ghost use Rattle.esto_columns.specs.Columns.{HaveLength};
 ghost use Rattle.esto_columns.specs.Indexed.{IsIndexOf, AreAmongPlaces, key_at};
@@ -91,6 +91,17 @@ impl Rows {
         })
     }
 
+    /// The same rows, without indexes.
+    pub fn copy(&self, alloc: Global) -> Result<Rows, OutOfMemory>
+        ensures { IfOk result (λ it. it ≡ self.now) }
+    {
+        let table = self.table.copy(alloc)?;
+        Ok(Rows {
+            table,
+            indexes: List::new(alloc),
+        })
+    }
+
     /// Puts a row at the end. The indexes are dropped.
     pub fn add(&mut self, row: &[u64]) -> Result<(), OutOfMemory>
         requires { length row.now ≡ self.old.arity }
@@ -123,6 +134,15 @@ impl Rows {
         ensures { result.now ≡ map (λ row. slice_index_or row column 0) self.now.rows }
     {
         self.table.column(column)
+    }
+
+    /// Puts the codes of the row at a place at the end of these codes.
+    pub fn push_row(&self, at: usize, into: &mut Values<u64>) -> Result<(), OutOfMemory>
+        requires { at < length self.now.rows }
+        ensures { OnOk result ((row : List ℕ)
+            × (slice_get self.now.rows at ≡ Some row) × (into.new ≡ into.old ++ row)) }
+    {
+        self.table.push_row(at, into)
     }
 
     /// The row at a place.

@@ -64,21 +64,6 @@ fn push_held(
     into.add(row.items())
 }
 
-/// The rows that hold the inputs, by a look at each.
-fn scanned(alloc: Global, rows: &Rows, inputs: &[Input]) -> Result<Rows, OutOfMemory>
-    requires { (input : Input) → Contains inputs.now input → input.column < rows.now.arity }
-    ensures { IfOk result (λ it. it ≡ record {
-      arity = rows.now.arity;
-      rows = filter (holds_all inputs.now) rows.now.rows;
-    }) }
-{
-    let mut held = Rows::new(alloc, rows.arity())?;
-    'rows: for at in 0..rows.len() {
-        push_held(alloc, rows, at, inputs, &mut held)?;
-    }
-    Ok(held)
-}
-
 /// The rows at the places that hold the inputs.
 fn held_among(
     alloc: Global,
@@ -138,8 +123,8 @@ fn codes_of(alloc: Global, inputs: &[Input]) -> Result<Values<u64>, OutOfMemory>
     Ok(codes)
 }
 
-/// The rows that hold the inputs: by an index where there is one by their columns, else by a look at the column of
-/// the first.
+/// The rows that hold the inputs: all where there are none, by an index where there is one by their columns, else by a
+/// look at the column of the first.
 fn found(alloc: Global, rows: &Rows, inputs: &[Input]) -> Result<Rows, OutOfMemory>
     requires { (input : Input) → Contains inputs.now input → input.column < rows.now.arity }
     ensures { IfOk result (λ it. it ≡ record {
@@ -147,13 +132,13 @@ fn found(alloc: Global, rows: &Rows, inputs: &[Input]) -> Result<Rows, OutOfMemo
       rows = filter (holds_all inputs.now) rows.now.rows;
     }) }
 {
+    if inputs.is_empty() {
+        return rows.copy(alloc);
+    }
     let columns = columns_of(alloc, inputs)?;
     let codes = codes_of(alloc, inputs)?;
     if let Some(places) = rows.places(alloc, columns.items(), codes.items())? {
         return held_among(alloc, rows, places.as_slice(), inputs);
-    }
-    if inputs.is_empty() {
-        return scanned(alloc, rows, inputs);
     }
     picked(alloc, rows, &inputs[0], inputs)
 }

@@ -1,9 +1,9 @@
 //! Tables of codes.
-ghost use Rattle.std.specs.Prelude.{◌≡◌, ℕ, [], ◌∷◌, ◌++◌, ◌<◌, length, map, slice_get, slice_index_or, Some, Contains, IfOk, OnOk, OnErr, take};
+ghost use Rattle.std.specs.Prelude.{◌≡◌, ℕ, List, [], ◌∷◌, ◌++◌, ◌<◌, length, map, slice_get, slice_index_or, Some, Contains, IfOk, OnOk, OnErr, take};
 ghost use Rattle.esto_columns.specs.CodedRows.{CodedRows};
 ghost use Rattle.esto_columns.specs.Columns.{pushed, HaveLength};
 
-use esto_term::{List, OutOfMemory, Values};
+use esto_term::{OutOfMemory, Replicate, Values};
 use std::alloc::Global;
 use std::marker::Model;
 
@@ -46,6 +46,20 @@ fn push_codes(columns: &mut Vec<Column>, row: &[u64]) -> Result<(), OutOfMemory>
         column.push(*code)?;
     }
     Ok(())
+}
+
+/// Copies of the columns.
+fn copied(alloc: Global, columns: &[Column]) -> Result<Vec<Column>, OutOfMemory>
+    ensures { IfOk result (λ it. it.items ≡ columns.now) }
+{
+    let mut copies = Vec::new(alloc);
+    'columns: for column in columns {
+        let copy = column.copy(alloc)?;
+        let Ok(()) = copies.push(copy) else {
+            return Err(OutOfMemory);
+        };
+    }
+    Ok(copies)
 }
 
 /// Cuts each column to so many codes.
@@ -116,15 +130,36 @@ impl Table {
         &self.columns[column]
     }
 
+    /// Puts the codes of the row at a place at the end of these codes.
+    pub(crate) fn push_row(&self, at: usize, into: &mut Values<u64>) -> Result<(), OutOfMemory>
+        requires { at < length self.now.rows }
+        ensures { OnOk result ((row : List ℕ)
+            × (slice_get self.now.rows at ≡ Some row) × (into.new ≡ into.old ++ row)) }
+    {
+        'columns: for column in self.columns.as_slice() {
+            into.push(column.item(at))?;
+        }
+        Ok(())
+    }
+
     /// The row at a place.
     pub(crate) fn row(&self, alloc: Global, at: usize) -> Result<Values<u64>, OutOfMemory>
         requires { at < length self.now.rows }
         ensures { IfOk result (λ row. slice_get self.now.rows at ≡ Some row) }
     {
         let mut row = Values::new(alloc);
-        'columns: for column in self.columns.as_slice() {
-            row.push(column.item(at))?;
-        }
+        self.push_row(at, &mut row)?;
         Ok(row)
+    }
+
+    /// The same rows.
+    pub(crate) fn copy(&self, alloc: Global) -> Result<Table, OutOfMemory>
+        ensures { IfOk result (λ it. it ≡ self.now) }
+    {
+        let columns = copied(alloc, self.columns.as_slice())?;
+        Ok(Table {
+            columns,
+            count: self.count,
+        })
     }
 }

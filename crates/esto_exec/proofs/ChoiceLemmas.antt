@@ -12,14 +12,14 @@ use Rattle.esto_plan.specs.Meaning.{code_at, IsMet, Follows}
 use Rattle.esto_plan.proofs.MeaningLemmas.{same_some}
 use Rattle.esto_exec.specs.Joined.{IsJoin}
 use Rattle.esto_exec.specs.Slots.{side_of, slot_at, side_at, AreEqual, IsKnown, IsChoice}
-use Rattle.esto_exec.specs.Turns.{AreUsed, is_in, is_known, sought, turned, turned_back, links_of, slots_from, IsReady, AreSlots, AreParts}
+use Rattle.esto_exec.specs.Turns.{AreNeeded, is_in, is_known, source_in, link_in, link_back, links_of, slots_from, IsReady, AreSlots, AreParts}
 use Rattle.esto_exec.specs.declared.slots.Slot.{Slot}
 use Rattle.esto_exec.specs.declared.slots.Side.{Side}
 use Rattle.esto_exec.specs.declared.slots.Side.TheVariants.{Constant, Held, Nothing}
 use Rattle.esto_exec.specs.declared.slots.Equation.{Equation}
 use Rattle.esto_exec.proofs.SlotLemmas.{put, put-same, put-other}
 use Rattle.esto_exec.proofs.TurnLemmas.{equal_numbers, numbers_equal, other_numbers, both_true, in_is, is_in-from, known_is, is_known-from, known_more, AreDoneLong}
-use Rattle.esto_exec.proofs.TurnLemmas.{sought_reads, slots_read, slots_more, parts_split}
+use Rattle.esto_exec.proofs.TurnLemmas.{source_in_reads, slots_read, slots_more, parts_split}
 
 -- ---- the links that an equation gives
 
@@ -27,14 +27,14 @@ use Rattle.esto_exec.proofs.TurnLemmas.{sought_reads, slots_read, slots_more, pa
 pub record IsOwn (number : ℕ) (done : List ℕ) (places : List Slot) (equation : Equation) (link : Link) : Type 0 where
   pub get : equation.slot.get ≡ number
   pub known : IsKnown done equation.side
-  pub is : link ≡ record { column = equation.slot.column; source = sought places equation.side }
+  pub is : link ≡ record { column = equation.slot.column; source = source_in places equation.side }
 
 pub record IsBack (number : ℕ) (done : List ℕ) (places : List Slot) (equation : Equation) (link : Link) : Type 0 where
   pub other : Slot
   pub side : equation.side ≡ Held other
   pub get : other.get ≡ number
   pub inside : Contains done equation.slot.get
-  pub is : link ≡ record { column = other.column; source = sought places (Held equation.slot) }
+  pub is : link ≡ record { column = other.column; source = source_in places (Held equation.slot) }
 
 pub links_from : (number : ℕ) (done : List ℕ) (places : List Slot) (equation : Equation) (link : Link)
     → Contains (links_of number done places equation) link
@@ -42,7 +42,7 @@ pub links_from : (number : ℕ) (done : List ℕ) (places : List Slot) (equation
 links_from number done places equation link inside = by (equation.slot.get == number) refl inside
   where
     own : Link
-    own = record { column = equation.slot.column; source = sought places equation.side }
+    own = record { column = equation.slot.column; source = source_in places equation.side }
 
     by_known : (answer : Bool) → equation.slot.get ≡ number → is_known done equation.side ≡ answer → Contains (cond answer (own ∷ []) []) link
         → IsOwn number done places equation link
@@ -50,7 +50,7 @@ links_from number done places equation link inside = by (equation.slot.get == nu
     by_known false get known there = absurd (Contains-nil link there)
 
     by_back : (other : Slot) → equation.side ≡ Held other → (answer : Bool) → (other.get == number && is_in done equation.slot.get) ≡ answer
-        → Contains (cond answer (record { column = other.column; source = sought places (Held equation.slot) } ∷ []) []) link
+        → Contains (cond answer (record { column = other.column; source = source_in places (Held equation.slot) } ∷ []) []) link
         → IsBack number done places equation link
     by_back other side true both there =
         let parts = both_true (other.get == number) (is_in done equation.slot.get) both in record {
@@ -58,50 +58,50 @@ links_from number done places equation link inside = by (equation.slot.get == nu
           side = side;
           get = equal_numbers other.get number parts.0;
           inside = in_is done equation.slot.get parts.1;
-          is = sym (Contains-one (record { column = other.column; source = sought places (Held equation.slot) }) link there);
+          is = sym (Contains-one (record { column = other.column; source = source_in places (Held equation.slot) }) link there);
         }
     by_back other side false both there = absurd (Contains-nil link there)
 
-    by_side : (side : Side) → equation.side ≡ side → Contains (turned_back number done places equation.slot side) link → IsBack number done places equation link
+    by_side : (side : Side) → equation.side ≡ side → Contains (link_back number done places equation.slot side) link → IsBack number done places equation link
     by_side (Constant code) is there = absurd (Contains-nil link there)
     by_side Nothing is there = absurd (Contains-nil link there)
     by_side (Held other) is there = by_back other is (other.get == number && is_in done equation.slot.get) refl there
 
     by : (answer : Bool) → (equation.slot.get == number) ≡ answer
-        → Contains (cond answer (cond (is_known done equation.side) (own ∷ []) []) (turned_back number done places equation.slot equation.side)) link
+        → Contains (cond answer (cond (is_known done equation.side) (own ∷ []) []) (link_back number done places equation.slot equation.side)) link
         → IsOwn number done places equation link ⊎ IsBack number done places equation link
     by true get there = inl (by_known (is_known done equation.side) (equal_numbers equation.slot.get number get) refl there)
     by false get there = inr (by_side equation.side refl there)
 
 pub own_link : (number : ℕ) (done : List ℕ) (places : List Slot) (equation : Equation) → equation.slot.get ≡ number → IsKnown done equation.side
-    → Contains (links_of number done places equation) (record { column = equation.slot.column; source = sought places equation.side })
+    → Contains (links_of number done places equation) (record { column = equation.slot.column; source = source_in places equation.side })
 own_link number done places equation get known =
     subst (λ them. Contains them own) (sym is) (Contains-head own [])
   where
     own : Link
-    own = record { column = equation.slot.column; source = sought places equation.side }
+    own = record { column = equation.slot.column; source = source_in places equation.side }
 
     is : links_of number done places equation ≡ own ∷ []
-    is = ap (λ b. cond b (cond (is_known done equation.side) (own ∷ []) []) (turned_back number done places equation.slot equation.side))
+    is = ap (λ b. cond b (cond (is_known done equation.side) (own ∷ []) []) (link_back number done places equation.slot equation.side))
         (numbers_equal equation.slot.get number get)
         ∙ ap (λ b. cond b (own ∷ []) []) (is_known-from done equation.side known)
 
 pub back_link : (number : ℕ) (done : List ℕ) (places : List Slot) (equation : Equation) (other : Slot) → (equation.slot.get == number) ≡ false
     → equation.side ≡ Held other → other.get ≡ number → Contains done equation.slot.get
-    → Contains (links_of number done places equation) (record { column = other.column; source = sought places (Held equation.slot) })
+    → Contains (links_of number done places equation) (record { column = other.column; source = source_in places (Held equation.slot) })
 back_link number done places equation other differs side get inside =
     subst (λ them. Contains them own) (sym is) (Contains-head own [])
   where
     own : Link
-    own = record { column = other.column; source = sought places (Held equation.slot) }
+    own = record { column = other.column; source = source_in places (Held equation.slot) }
 
     both : (other.get == number && is_in done equation.slot.get) ≡ true
     both = let first = numbers_equal other.get number get in let second = is_in-from done equation.slot.get inside in λ i. first i && second i
 
     is : links_of number done places equation ≡ own ∷ []
-    is = ap (λ b. cond b (cond (is_known done equation.side) (record { column = equation.slot.column; source = sought places equation.side } ∷ []) [])
-        (turned_back number done places equation.slot equation.side)) differs
-        ∙ ap (turned_back number done places equation.slot) side ∙ ap (λ b. cond b (own ∷ []) []) both
+    is = ap (λ b. cond b (cond (is_known done equation.side) (record { column = equation.slot.column; source = source_in places equation.side } ∷ []) [])
+        (link_back number done places equation.slot equation.side)) differs
+        ∙ ap (link_back number done places equation.slot) side ∙ ap (λ b. cond b (own ∷ []) []) both
 
 -- ---- choices
 
@@ -112,11 +112,12 @@ side_agrees done choice other (Constant code) agree known = refl
 side_agrees done choice other (Held slot) agree known = ap (λ row. slice_get row slot.column) (agree slot.get known)
 side_agrees done choice other Nothing agree known = refl
 
--- an equation's own slot is used
-uses_slot : {arities : List ℕ} {gets : List Get} {equations : List Equation} {used : List Slot} → AreUsed arities gets equations used → (equation : Equation)
-    → Contains equations equation → (slot : Slot) → Held equation.slot ≡ Held slot → Contains used slot
-uses_slot {arities} {gets} {equations} {used} uses equation among slot is =
-    let same : equation.slot ≡ slot = cc in subst (Contains used) same (uses.slots equation among)
+-- the slot of an equation that is not decided is needed
+needs_slot : {arities : List ℕ} {gets : List Get} {equations : List Equation} {done : List ℕ} {needed : List Slot}
+    → AreNeeded arities gets equations done needed → (equation : Equation) → Contains equations equation
+    → (Contains done equation.slot.get × IsKnown done equation.side → ⊥) → (slot : Slot) → Held equation.slot ≡ Held slot → Contains needed slot
+needs_slot {arities} {gets} {equations} {done} {needed} needs equation among undecided slot is =
+    let same : equation.slot ≡ slot = cc in subst (Contains needed) same (needs.slots equation among undecided)
 
 module _ (Holds : Fact ℕ → Type 0) (arities : List ℕ) (gets : List Get) (equations : List Equation) where
   pub choice_less : (done : List ℕ) (number : ℕ) (choice : ℕ → List ℕ) → IsChoice Holds arities gets equations (done ++ number ∷ []) choice
@@ -136,18 +137,26 @@ module _ (Holds : Fact ℕ → Type 0) (arities : List ℕ) (gets : List Get) (e
     choice_long done choice named is number inside =
         let get = named number inside in fits number get.0 (choice number) get.1 (is.held number get.0 inside get.1)
 
-    module _ (used : List Slot) (uses : AreUsed arities gets equations used) (done : List ℕ) (places : List Slot) (number : ℕ) (get : Get) (arity : ℕ) (own_get : Get) (so_far rows new : List (List ℕ))
+    module _ (done : List ℕ) (needed : List Slot) (needs : AreNeeded arities gets equations done needed) (places : List Slot) (number : ℕ) (get : Get)
+        (arity : ℕ) (own_get : Get) (so_far rows : List (List ℕ))
         (fresh : Contains done number → ⊥) (at : slice_get gets number ≡ Some get) (at_arity : slice_get arities number ≡ Some arity)
         (known_gets : (n : ℕ) → Contains done n → (own : Get) × (slice_get gets n ≡ Some own))
         (settled : (n : ℕ) (own : Get) → Contains done n → slice_get gets n ≡ Some own → IsReady arities done own n)
-        (ready : IsReady arities done get number) (slots : AreSlots used arities done places)
-        (parts : AreParts Holds arities gets equations done places so_far)
+        (ready : IsReady arities done get number) (slots : AreSlots needed arities done places)
+        (parts : AreParts Holds arities gets equations done places (Contains so_far))
         (holds : (row : List ℕ) → Contains rows row ↔ Holds (record { relation = get.fragment; terms = row }))
-        (inputs_are : own_get.inputs ≡ map (turned places (take number arities)) get.inputs)
-        (filters_are : own_get.filters ≡ flat_map (links_of number (done ++ number ∷ []) (places ++ slots_from number 0 arity)) equations)
-        (joins : (both : List ℕ) → Contains new both ↔ IsJoin own_get so_far rows both) where
+        (inputs_are : own_get.inputs ≡ map (link_in places (take number arities)) get.inputs)
+        (filters_are : own_get.filters ≡ flat_map (links_of number (done ++ number ∷ []) (places ++ slots_from number 0 arity)) equations) where
       abbrev all : List ℕ
       all = done ++ number ∷ []
+
+      -- an equation that names the new get is not decided before
+      own_open : (equation : Equation) → equation.slot.get ≡ number → Contains done equation.slot.get × IsKnown done equation.side → ⊥
+      own_open equation own decided = fresh (subst (Contains done) own decided.0)
+
+      other_open : (equation : Equation) (other : Slot) → equation.side ≡ Held other → other.get ≡ number
+          → Contains done equation.slot.get × IsKnown done equation.side → ⊥
+      other_open equation other side own decided = fresh (subst (Contains done) own (subst (IsKnown done) side decided.1))
 
       abbrev wide : List Slot
       wide = places ++ slots_from number 0 arity
@@ -158,8 +167,8 @@ module _ (Holds : Fact ℕ → Type 0) (arities : List ℕ) (gets : List Get) (e
         | inr same ↦ (get, ap (slice_get gets) (sym same) ∙ at)
       ]
 
-      wide_slots : AreSlots used arities all wide
-      wide_slots = slots_more used arities done places number arity at_arity slots
+      wide_slots : AreSlots needed arities all wide
+      wide_slots = slots_more needed arities done places number arity at_arity slots
 
       row_long : (row : List ℕ) → Contains rows row → length row ≡ arity
       row_long row inside =
@@ -215,15 +224,15 @@ module _ (Holds : Fact ℕ → Type 0) (arities : List ℕ) (gets : List Get) (e
             here : Contains get.inputs link → AreEqual next (record { get = number; column = link.column }) (side_of (take number arities) link.source)
             here own_link_in =
                 let side = side_of (take number arities) link.source in
-                let met = follows.inputs (turned places (take number arities) link)
-                (subst (λ them. Contains them (turned places (take number arities) link)) (sym inputs_are)
-                (Contains-map (turned places (take number arities)) get.inputs link own_link_in)) in
+                let met = follows.inputs (link_in places (take number arities) link)
+                (subst (λ them. Contains them (link_in places (take number arities) link)) (sym inputs_are)
+                (Contains-map (link_in places (take number arities)) get.inputs link own_link_in)) in
                 let known = ready link own_link_in in (
                   met.0,
                   ap (λ it. slice_get it link.column) next_own ∙ met.1,
                   side_agrees done choice next side next_old known
-                      ∙ sym (sought_reads choice used arities done places cells side slots (choice_long done choice known_gets is) cells_are known
-                      (λ slot is_slot. uses.inputs number get link slot at own_link_in is_slot)) ∙ met.2,
+                      ∙ sym (source_in_reads choice needed arities done places cells side slots (choice_long done choice known_gets is) cells_are known
+                      (λ slot is_slot. needs.inputs number get link slot at own_link_in fresh is_slot)) ∙ met.2,
                 )
 
         old_filters : (equation : Equation) → Contains equations equation → Contains done equation.slot.get → (side : Side) → equation.side ≡ side
@@ -240,26 +249,26 @@ module _ (Holds : Fact ℕ → Type 0) (arities : List ℕ) (gets : List Get) (e
         met_by equation among_all link there = follows.filters link (subst (λ them. Contains them link) (sym filters_are)
             (Contains-flat (links_of number all wide) equations equation link among_all there))
 
-        sought_is : (side : Side) → IsKnown all side → ((slot : Slot) → side ≡ Held slot → Contains used slot) → code_at (cells ++ row) (sought wide side) ≡ side_at next side
-        sought_is side known needed = sought_reads next used arities all wide (cells ++ row) side wide_slots next_long next_wide known needed
+        source_is : (side : Side) → IsKnown all side → ((slot : Slot) → side ≡ Held slot → Contains needed slot) → code_at (cells ++ row) (source_in wide side) ≡ side_at next side
+        source_is side known is_needed = source_in_reads next needed arities all wide (cells ++ row) side wide_slots next_long next_wide known is_needed
 
         new_filters : (equation : Equation) → Contains equations equation → equation.slot.get ≡ number → IsKnown all equation.side
             → AreEqual next equation.slot equation.side
         new_filters equation among_all own known =
-            let met = met_by equation among_all (record { column = equation.slot.column; source = sought wide equation.side })
+            let met = met_by equation among_all (record { column = equation.slot.column; source = source_in wide equation.side })
             (own_link number all wide equation own known) in (
               met.0,
               ap (λ it. slice_get it equation.slot.column) (ap next own ∙ next_own) ∙ met.1,
-              sym (sought_is equation.side known (λ slot is_slot. uses.sides equation slot among_all is_slot)) ∙ met.2,
+              sym (source_is equation.side known (λ slot is_slot. needs.sides equation slot among_all (own_open equation own) is_slot)) ∙ met.2,
             )
 
         back_filters : (equation : Equation) → Contains equations equation → (equation.slot.get == number) ≡ false → Contains all equation.slot.get
             → (other : Slot) → equation.side ≡ Held other → other.get ≡ number → AreEqual next equation.slot (Held other)
         back_filters equation among_all differs inside other side_is own =
-            let met = met_by equation among_all (record { column = other.column; source = sought wide (Held equation.slot) })
+            let met = met_by equation among_all (record { column = other.column; source = source_in wide (Held equation.slot) })
             (back_link number all wide equation other differs side_is own inside) in (
               met.0,
-              sym (sought_is (Held equation.slot) inside (uses_slot uses equation among_all)) ∙ met.2,
+              sym (source_is (Held equation.slot) inside (needs_slot needs equation among_all (other_open equation other side_is own))) ∙ met.2,
               ap (λ it. slice_get it other.column) (ap next own ∙ next_own) ∙ met.1,
             )
 
@@ -308,20 +317,20 @@ module _ (Holds : Fact ℕ → Type 0) (arities : List ℕ) (gets : List Get) (e
             let row_is = same_some parted.1 (choice number) (sym parted.4 ∙ row_read) in
             (parted.0, parted.3, parted.2 ∙ ap (λ row. parted.0 ++ row) row_is)
 
-        read : (side : Side) → IsKnown all side → ((slot : Slot) → side ≡ Held slot → Contains used slot) → code_at both (sought wide side) ≡ side_at choice side
-        read side known needed = sought_reads choice used arities all wide both side wide_slots long both_are known needed
+        read : (side : Side) → IsKnown all side → ((slot : Slot) → side ≡ Held slot → Contains needed slot) → code_at both (source_in wide side) ≡ side_at choice side
+        read side known is_needed = source_in_reads choice needed arities all wide both side wide_slots long both_are known is_needed
 
         inputs_met : (cells : List ℕ) → map (slot_at choice) places ≡ map Some cells → (link : Link) → Contains own_get.inputs link
             → IsMet cells (choice number) link
         inputs_met cells cells_are link inside =
-            let found = Contains-map_from (turned places (take number arities)) get.inputs link (subst (λ them. Contains them link) inputs_are inside) in
+            let found = Contains-map_from (link_in places (take number arities)) get.inputs link (subst (λ them. Contains them link) inputs_are inside) in
             let side = side_of (take number arities) found.0.source in
             let equal = is.inputs number get found.0 (Contains-push done number) at found.1 in
             subst (IsMet cells (choice number)) found.2 (
               equal.0,
               equal.1,
-              sought_reads choice used arities done places cells side slots (choice_long done choice known_gets (choice_less done number choice is)) cells_are
-                  (ready found.0 found.1) (λ slot is_slot. uses.inputs number get found.0 slot at found.1 is_slot) ∙ equal.2,
+              source_in_reads choice needed arities done places cells side slots (choice_long done choice known_gets (choice_less done number choice is)) cells_are
+                  (ready found.0 found.1) (λ slot is_slot. needs.inputs number get found.0 slot at found.1 fresh is_slot) ∙ equal.2,
             )
 
         filters_met : (link : Link) → Contains own_get.filters link → IsMet both (choice number) link
@@ -333,7 +342,7 @@ module _ (Holds : Fact ℕ → Type 0) (arities : List ℕ) (gets : List Get) (e
                   subst (IsMet both (choice number)) (sym own.is) (
                     equal.0,
                     ap (λ n. slice_get (choice n) (found.0).slot.column) (sym own.get) ∙ equal.1,
-                    read (found.0).side own.known (λ slot is_slot. uses.sides found.0 slot found.1 is_slot) ∙ equal.2,
+                    read (found.0).side own.known (λ slot is_slot. needs.sides found.0 slot found.1 (own_open found.0 own.get) is_slot) ∙ equal.2,
                   )
               | inr back ↦
                   let known : IsKnown all (found.0).side = subst (IsKnown all) (sym back.side) (subst (Contains all) (sym back.get) (Contains-push done number)) in
@@ -341,7 +350,7 @@ module _ (Holds : Fact ℕ → Type 0) (arities : List ℕ) (gets : List Get) (e
                   subst (IsMet both (choice number)) (sym back.is) (
                     equal.0,
                     ap (λ n. slice_get (choice n) (back.other).column) (sym back.get) ∙ ap (side_at choice) (sym back.side) ∙ equal.2,
-                    read (Held (found.0).slot) back.inside (uses_slot uses found.0 found.1) ∙ equal.1,
+                    read (Held (found.0).slot) back.inside (needs_slot needs found.0 found.1 (other_open found.0 back.other back.side back.get)) ∙ equal.1,
                   )
             ]
 
@@ -358,12 +367,12 @@ module _ (Holds : Fact ℕ → Type 0) (arities : List ℕ) (gets : List Get) (e
           cut.2,
         )
 
-      pub parts_more : AreParts Holds arities gets equations all wide new
+      pub parts_more : AreParts Holds arities gets equations all wide (IsJoin own_get so_far rows)
       parts_more both = (
-        λ inside. let join = (joins both).0 inside in let of = (parts join.0).0 join.2 in (
+        λ join. let of = (parts join.0).0 join.2 in (
           put of.0 number join.1,
           next_is of.0 join.0 join.1 of.1 of.2 join.3 join.4,
           subst (λ it. map (slot_at (put of.0 number join.1)) wide ≡ map Some it) (sym join.5) (next_wide of.0 join.0 join.1 of.1 of.2 join.3 join.4),
         ),
-        λ found. (joins both).1 (is_join found.0 both found.1 found.2),
+        λ found. is_join found.0 both found.1 found.2,
       )

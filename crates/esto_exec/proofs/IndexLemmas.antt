@@ -1,5 +1,5 @@
 -- Indexes of rows, row by row.
-use Rattle.std.proofs.Common.{◌≡◌, ◌⊎◌, inl, inr, ℕ, ◌+◌, ◌<◌, ◌≤◌, List, [], ◌∷◌, ◌++◌, map, length, take, Some, slice_get, refl, sym, ap, ◌∙◌, subst, arith}
+use Rattle.std.proofs.Common.{◌≡◌, ◌⊎◌, inl, inr, ℕ, ◌+◌, ◌<◌, ◌≤◌, Bool, true, false, List, [], ◌∷◌, ◌++◌, map, length, take, Some, slice_get, refl, sym, ap, ◌∙◌, subst, arith}
 use Rattle.std.proofs.lemmas.Bool.{cases_order}
 use Rattle.std.proofs.lemmas.List.{length-append, take_all}
 use Rattle.std.proofs.lemmas.Option.{none-some, slice_get_within}
@@ -10,8 +10,8 @@ use Rattle.esto_plan.specs.declared.steps.Get.{Get}
 use Rattle.esto_plan.specs.declared.steps.Source.{Source}
 use Rattle.esto_plan.specs.Meaning.{Follows}
 use Rattle.esto_exec.specs.Indexed.{FindsRows}
-use Rattle.esto_exec.specs.Joined.{IsFollower, IsFollowerAt, GainsOnly}
-use Rattle.esto_exec.specs.Named.{NamesCodes}
+use Rattle.esto_exec.specs.Joined.{IsFollower, IsFollowerAt, IsKept, GainsOnly}
+use Rattle.esto_exec.specs.Named.{NamesCodes, Names}
 use Rattle.esto_exec.proofs.NamedLemmas.{one_key}
 
 pub finds_none : (columns : List Source) (index : Index) → IsIndexOf index [] → FindsRows [] columns index
@@ -36,6 +36,12 @@ finds_more columns rows count row given key own index new below is same named ow
             ];
       },
     )
+
+-- the key is that of the row, where the columns name codes in it
+pub key_told : (row : List ℕ) (columns : List Source) (key : List ℕ) (all : Bool) → Names row columns key all → (codes : List ℕ)
+    → NamesCodes row columns codes → codes ≡ key
+key_told row columns key true named codes also = one_key row columns codes key also named
+key_told row columns key false none codes also = absurd (none (codes, also))
 
 pub finds_all : (columns : List Source) (rows : List (List ℕ)) (count : ℕ) (index : Index) → length rows ≤ count
     → FindsRows (take count rows) columns index → FindsRows rows columns index
@@ -106,27 +112,41 @@ module _ (Gives : ℕ → List ℕ → Type 0) (buckets : List ℕ) (bucket : �
   )
 
 -- the chain of a key's bucket has all followers
-pub followers_found : (get : Get) (cells : List ℕ) (rows old new : List (List ℕ)) (sources columns : List Source) (index : Index) (key : List ℕ)
-    → NamesCodes cells sources key
+pub followers_found : (get : Get) (kept : List Source) (cells : List ℕ) (rows old new : List (List ℕ)) (sources columns : List Source) (index : Index)
+    (key : List ℕ) → NamesCodes cells sources key
     → ((row : List ℕ) → Follows get cells row → (codes : List ℕ) × NamesCodes cells sources codes × NamesCodes row columns codes)
     → FindsRows rows columns index
-    → ((buckets : List ℕ) → AreChains index buckets → GainsOnly old new (λ both. (place : ℕ)
-    × (slice_get buckets place ≡ Some (bucket_of (length index.last) key)) × IsFollowerAt get cells rows place both))
-    → GainsOnly old new (IsFollower get cells rows)
-followers_found get cells rows old new sources columns index key named names (keys, are, of) gains it = (
+    → ((buckets : List ℕ) → AreChains index buckets → GainsOnly old new (λ it. (place : ℕ)
+    × (slice_get buckets place ≡ Some (bucket_of (length index.last) key)) × IsKept kept (IsFollowerAt get cells rows place) it))
+    → GainsOnly old new (IsKept kept (IsFollower get cells rows))
+followers_found get kept cells rows old new sources columns index key named names (keys, are, of) gains it = (
   (λ has. elim ((gains (map (bucket_of (length index.last)) keys) are it).0 has) [
     | inl before ↦ inl before
-    | inr (place, in_bucket, follower) ↦ inr (follower.0, Contains-at rows place follower.0 follower.1, follower.2, follower.3)
+    | inr (place, in_bucket, (both, follower, keeps)) ↦
+        inr (both, (follower.0, Contains-at rows place follower.0 follower.1, follower.2, follower.3), keeps)
   ]),
   (λ has. (gains (map (bucket_of (length index.last)) keys) are it).1 (elim has [
     | inl before ↦ inl before
-    | inr (row, among, follows, is) ↦
+    | inr (both, (row, among, follows, is), keeps) ↦
         let at = place-from_Contains rows row among in let codes = names row follows in
         inr (
           at.0,
           map_at (bucket_of (length index.last)) keys at.0 key
               (of.named at.0 row key at.1 (subst (NamesCodes row columns) (one_key cells sources codes.0 key codes.1 named) codes.2)),
-          (row, at.1, follows, is),
+          (both, (row, at.1, follows, is), keeps),
         )
   ])),
+)
+
+-- no row follows cells in which the sources of its key name no codes
+pub followers_none : (get : Get) (kept : List Source) (cells : List ℕ) (rows old : List (List ℕ)) (sources columns : List Source)
+    → ((codes : List ℕ) × NamesCodes cells sources codes → ⊥)
+    → ((row : List ℕ) → Follows get cells row → (codes : List ℕ) × NamesCodes cells sources codes × NamesCodes row columns codes)
+    → GainsOnly old old (IsKept kept (IsFollower get cells rows))
+followers_none get kept cells rows old sources columns none names it = (
+  λ has. inl has,
+  λ has. elim has [
+    | inl before ↦ before
+    | inr (both, (row, among, follows, is), keeps) ↦ absurd (none (let codes = names row follows in (codes.0, codes.1)))
+  ],
 )

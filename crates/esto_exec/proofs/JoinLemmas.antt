@@ -7,8 +7,11 @@ use Rattle.std.proofs.lemmas.Option.{same_Some}
 use Rattle.esto_term.proofs.ListLemmas.{Contains-nil}
 use Rattle.esto_term.proofs.PlaceLemmas.{take-item}
 use Rattle.esto_plan.specs.declared.steps.Get.{Get}
+use Rattle.esto_plan.specs.declared.steps.Source.{Source}
 use Rattle.esto_plan.specs.Meaning.{Follows}
-use Rattle.esto_exec.specs.Joined.{IsJoin, IsFollower, IsFollowerAt, GainsOnly}
+use Rattle.esto_exec.specs.Joined.{IsJoin, IsFollower, IsFollowerAt, IsKept, GainsOnly}
+use Rattle.esto_exec.specs.Named.{NamesCodes}
+use Rattle.esto_exec.proofs.NamedLemmas.{one_key}
 
 -- ---- one more thing of a list
 
@@ -60,46 +63,70 @@ module _ {X : Type 0} (Has : X → List ℕ → Type 0) (things : List X) where
 
 -- ---- followers
 
-pub follower_pushed : (get : Get) (cells : List ℕ) (rows old new : List (List ℕ)) (place : ℕ) (row both : List ℕ) → slice_get rows place ≡ Some row
-    → Follows get cells row → both ≡ cells ++ row → new ≡ old ++ both ∷ []
-    → GainsOnly old new (IsFollowerAt get cells rows place)
-follower_pushed get cells rows old new place row both at follows is grown it = (
-  λ has. elim (Contains-push_cases old both it (subst (λ xs. Contains xs it) grown has)) [
+pub follower_kept : (get : Get) (kept : List Source) (cells : List ℕ) (rows old new : List (List ℕ)) (place : ℕ) (row both given : List ℕ)
+    → slice_get rows place ≡ Some row → Follows get cells row → both ≡ cells ++ row → NamesCodes both kept given
+    → GainsOnly old new (λ it. given ≡ it) → GainsOnly old new (IsKept kept (IsFollowerAt get cells rows place))
+follower_kept get kept cells rows old new place row both given at follows is named gains it = (
+  λ has. elim ((gains it).0 has) [
     | inl before ↦ inl before
-    | inr same ↦ inr (row, at, follows, sym same ∙ is)
+    | inr same ↦ inr (both, (row, at, follows, is), subst (NamesCodes both kept) same named)
   ],
-  λ has. subst (λ xs. Contains xs it) (sym grown) (elim has [
-    | inl before ↦ Contains-append_left old (both ∷ []) it before
-    | inr (other, at_place, also, it_is) ↦
-        let same : other ≡ row = same_Some other row (sym at_place ∙ at) in
-        subst (Contains (old ++ both ∷ [])) (is ∙ ap (λ xs. cells ++ xs) (sym same) ∙ sym it_is) (Contains-push old both)
+  λ has. (gains it).1 (elim has [
+    | inl before ↦ inl before
+    | inr (other, (other_row, at_place, also, other_is), names) ↦
+        let same : other_row ≡ row = same_Some other_row row (sym at_place ∙ at) in
+        let one : other ≡ both = other_is ∙ ap (λ them. cells ++ them) same ∙ sym is in
+        inr (one_key both kept given it named (subst (λ them. NamesCodes them kept it) one names))
   ]),
+)
+
+-- nothing is gained where no row at the place follows, or what is kept of it is not named
+pub follower_none : (get : Get) (kept : List Source) (cells : List ℕ) (rows old : List (List ℕ)) (place : ℕ)
+    → ((row : List ℕ) → slice_get rows place ≡ Some row → Follows get cells row → (given : List ℕ) × NamesCodes (cells ++ row) kept given → ⊥)
+    → GainsOnly old old (IsKept kept (IsFollowerAt get cells rows place))
+follower_none get kept cells rows old place none it = (
+  λ has. inl has,
+  λ has. elim has [
+    | inl before ↦ before
+    | inr (both, (row, at, follows, is), names) ↦ absurd (none row at follows (it, subst (λ them. NamesCodes them kept it) is names))
+  ],
 )
 
 -- ---- joins
 
-pub joins_more : (get : Get) (so_far rows old new items : List (List ℕ)) (count : ℕ) (cells : List ℕ) → count < length items → cells ≡ get_or items count cells
-    → ((both : List ℕ) → Contains old both ↔ IsJoin get (take count items) rows both) → GainsOnly old new (IsFollower get cells rows) → (both : List ℕ)
-    → Contains new both ↔ IsJoin get (take (count + 1) items) rows both
-joins_more get so_far rows old new items count cells below is before gains both = (
-  λ has. elim ((gains both).0 has) [
-    | inl in_old ↦ let join = (before both).0 in_old in (join.0, join.1, (taken_more items count cells join.0 below is).1 (inl join.2), join.3, join.4, join.5)
-    | inr follower ↦ (cells, follower.0, (taken_more items count cells cells below is).1 (inr refl), follower.1, follower.2, follower.3)
+pub joins_more : (get : Get) (kept : List Source) (rows old new items : List (List ℕ)) (count : ℕ) (cells : List ℕ) → count < length items
+    → cells ≡ get_or items count cells
+    → ((row : List ℕ) → Contains old row ↔ IsKept kept (IsJoin get (take count items) rows) row)
+    → GainsOnly old new (IsKept kept (IsFollower get cells rows)) → (row : List ℕ)
+    → Contains new row ↔ IsKept kept (IsJoin get (take (count + 1) items) rows) row
+joins_more get kept rows old new items count cells below is before gains row = (
+  λ has. elim ((gains row).0 has) [
+    | inl in_old ↦
+        let (both, join, names) = (before row).0 in_old in
+        (both, (join.0, join.1, (taken_more items count cells join.0 below is).1 (inl join.2), join.3, join.4, join.5), names)
+    | inr (both, follower, names) ↦
+        (both, (cells, follower.0, (taken_more items count cells cells below is).1 (inr refl), follower.1, follower.2, follower.3), names)
   ],
-  λ join. (gains both).1 (elim ((taken_more items count cells join.0 below is).0 join.2) [
-    | inl earlier ↦ inl ((before both).1 (join.0, join.1, earlier, join.3, join.4, join.5))
-    | inr same ↦ inr (join.1, join.3, subst (λ it. Follows get it join.1) (sym same) join.4, join.5 ∙ ap (λ it. it ++ join.1) (sym same))
-  ]),
+  λ has. let (both, join, names) = has in
+      (gains row).1 (elim ((taken_more items count cells join.0 below is).0 join.2) [
+        | inl earlier ↦ inl ((before row).1 (both, (join.0, join.1, earlier, join.3, join.4, join.5), names))
+        | inr same ↦ inr (
+          both,
+          (join.1, join.3, subst (λ it. Follows get it join.1) (sym same) join.4, join.5 ∙ ap (λ it. it ++ join.1) (sym same)),
+          names,
+        )
+      ]),
 )
 
-pub joins_all : (get : Get) (so_far rows new : List (List ℕ)) (count : ℕ) → length so_far ≤ count
-    → ((both : List ℕ) → Contains new both ↔ IsJoin get (take count so_far) rows both)
-    → (both : List ℕ) → Contains new both ↔ IsJoin get so_far rows both
-joins_all get so_far rows new count past joins =
-    subst (λ them. (both : List ℕ) → Contains new both ↔ IsJoin get them rows both) (take_all count so_far past) joins
+pub joins_all : (get : Get) (kept : List Source) (so_far rows new : List (List ℕ)) (count : ℕ) → length so_far ≤ count
+    → ((row : List ℕ) → Contains new row ↔ IsKept kept (IsJoin get (take count so_far) rows) row)
+    → (row : List ℕ) → Contains new row ↔ IsKept kept (IsJoin get so_far rows) row
+joins_all get kept so_far rows new count past joins =
+    subst (λ them. (row : List ℕ) → Contains new row ↔ IsKept kept (IsJoin get them rows) row) (take_all count so_far past) joins
 
-pub joins_none : (get : Get) (so_far rows new : List (List ℕ)) → new ≡ [] → (both : List ℕ) → Contains new both ↔ IsJoin get (take 0 so_far) rows both
-joins_none get so_far rows new none both = (
-  (λ has. absurd (Contains-nil both (subst (λ them. Contains them both) none has))),
-  (λ join. absurd (Contains-nil join.0 join.2)),
+pub joins_none : (get : Get) (kept : List Source) (so_far rows new : List (List ℕ)) → new ≡ [] → (row : List ℕ)
+    → Contains new row ↔ IsKept kept (IsJoin get (take 0 so_far) rows) row
+joins_none get kept so_far rows new none row = (
+  (λ has. absurd (Contains-nil row (subst (λ them. Contains them row) none has))),
+  (λ has. absurd (Contains-nil (has.1).0 (has.1).2)),
 )

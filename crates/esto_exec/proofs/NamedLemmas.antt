@@ -1,5 +1,5 @@
 -- Codes that sources name, and links that are met.
-use Rattle.std.proofs.Common.{◌≡◌, ◌⊎◌, inl, inr, ℕ, zero, suc, ◌<◌, ◌≤◌, List, [], ◌∷◌, ◌++◌, map, length, get_or, Some, None, slice_get, Contains, refl, sym}
+use Rattle.std.proofs.Common.{◌≡◌, ◌⊎◌, inl, inr, ℕ, zero, suc, ◌<◌, ◌≤◌, Bool, true, false, List, [], ◌∷◌, ◌++◌, map, length, get_or, Some, None, slice_get, Contains, refl, sym}
 use Rattle.std.proofs.Common.{ap, ◌∙◌, subst, arith}
 use Rattle.std.proofs.lemmas.List.{length-map}
 use Rattle.std.proofs.lemmas.Option.{none-some}
@@ -12,7 +12,17 @@ use Rattle.esto_plan.specs.declared.steps.Source.{Source}
 use Rattle.esto_plan.specs.declared.steps.Source.TheVariants.{Code, Cell}
 use Rattle.esto_plan.specs.Meaning.{code_at, IsMet, Follows}
 use Rattle.esto_plan.proofs.MeaningLemmas.{same_some}
-use Rattle.esto_exec.specs.Named.{NamesCodes, IsEarly}
+use Rattle.esto_exec.specs.Named.{NamesCodes, Names, IsEarly}
+
+pub names_true : (cells : List ℕ) (sources : List Source) (codes : List ℕ) (all : Bool) → Names cells sources codes all → all ≡ true
+    → NamesCodes cells sources codes
+names_true cells sources codes true named is = named
+names_true cells sources codes false none is = absurd (cc)
+
+pub names_false : (cells : List ℕ) (sources : List Source) (codes : List ℕ) (all : Bool) → Names cells sources codes all → all ≡ false
+    → (others : List ℕ) × NamesCodes cells sources others → ⊥
+names_false cells sources codes true named is = absurd (cc)
+names_false cells sources codes false none is = none
 
 pub one_key : (row : List ℕ) (columns : List Source) (key other : List ℕ) → NamesCodes row columns key → NamesCodes row columns other → key ≡ other
 one_key row columns key other named also = same_some key other (sym named ∙ also)

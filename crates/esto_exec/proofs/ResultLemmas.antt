@@ -13,12 +13,12 @@ use Rattle.esto_plan.specs.declared.steps.Source.{Source}
 use Rattle.esto_plan.specs.Meaning.{code_at, IsMet, Follows, Leads}
 use Rattle.esto_exec.specs.Named.{NamesCodes}
 use Rattle.esto_exec.specs.Slots.{side_of, slot_at, side_at, AreEqual, IsKnown, IsChoice, equations_by, equations_from}
-use Rattle.esto_exec.specs.Turns.{sought, AreSlots, AreParts}
+use Rattle.esto_exec.specs.Turns.{source_in, AreSlots, AreParts}
 use Rattle.esto_exec.specs.declared.slots.Slot.{Slot}
 use Rattle.esto_exec.specs.declared.slots.Equation.{Equation}
 use Rattle.esto_exec.specs.declared.slots.Side.TheVariants.{Held}
 use Rattle.esto_exec.proofs.SlotLemmas.{put, put-same, put-other, cells_from, AreLong, source_reads, known_before}
-use Rattle.esto_exec.proofs.TurnLemmas.{AreDoneLong, sought_reads}
+use Rattle.esto_exec.proofs.TurnLemmas.{AreDoneLong, source_in_reads}
 
 -- ---- the rows of a choice one after another
 
@@ -303,16 +303,16 @@ module _ (Holds : Fact ℕ → Type 0) (arities : List ℕ) (gets : List Get) (l
         held n get there = (each n get there).0
 
   -- the head reads in rows so far what it reads at the end
-  heads_read : (used : List Slot) (choice : ℕ → List ℕ) → AreHeld choice → (places : List Slot) (cells : List ℕ) → AreSlots used arities done places
+  heads_read : (needed : List Slot) (choice : ℕ → List ℕ) → AreHeld choice → (places : List Slot) (cells : List ℕ) → AreSlots needed arities done places
       → AreDoneLong arities done choice → map (slot_at choice) places ≡ map Some cells → (head : List Source)
-      → ((source : Source) (slot : Slot) → Contains head source → side_of arities source ≡ Held slot → Contains used slot)
-      → map (code_at cells) (map (λ source. sought places (side_of arities source)) head) ≡ map (code_at (cells_from choice 0 (length gets))) head
-  heads_read used choice held places cells slots done_long cells_are head needed =
-      map_then (λ source. sought places (side_of arities source)) (code_at cells) head
-      ∙ map_agree (λ source. code_at cells (sought places (side_of arities source))) (code_at (cells_from choice 0 (length gets))) head
-      (λ source inside. sought_reads choice used arities done places cells (side_of arities source) slots done_long cells_are
+      → ((source : Source) (slot : Slot) → Contains head source → side_of arities source ≡ Held slot → Contains needed slot)
+      → map (code_at cells) (map (λ source. source_in places (side_of arities source)) head) ≡ map (code_at (cells_from choice 0 (length gets))) head
+  heads_read needed choice held places cells slots done_long cells_are head is_needed =
+      map_then (λ source. source_in places (side_of arities source)) (code_at cells) head
+      ∙ map_agree (λ source. code_at cells (source_in places (side_of arities source))) (code_at (cells_from choice 0 (length gets))) head
+      (λ source inside. source_in_reads choice needed arities done places cells (side_of arities source) slots done_long cells_are
       (known_before arities source done (λ number below. all number (omega (arith, below, long))))
-      (λ slot is_slot. needed source slot inside is_slot)
+      (λ slot is_slot. is_needed source slot inside is_slot)
       ∙ sym (source_reads choice arities source (λ at arity is. own_long choice held at arity is))
       ∙ ap (λ n. code_at (cells_from choice 0 n) source) long)
     where
@@ -323,14 +323,14 @@ module _ (Holds : Fact ℕ → Type 0) (arities : List ℕ) (gets : List Get) (l
           let number : 0 + at ≡ at = omega (arith) in
           ap (λ n. length (chosen n)) number ∙ own.2 ∙ same_Some own.0 arity (sym own.1 ∙ is)
 
-  pub parts_are_results : (used : List Slot) (places : List Slot) (rows results : List (List ℕ)) (steps_head : List Source) (named : (n : ℕ) → Contains done n → n < length gets)
-      → ((source : Source) (slot : Slot) → Contains steps_head source → side_of arities source ≡ Held slot → Contains used slot)
-      → AreSlots used arities done places → AreParts Holds arities gets (equations_from arities 0 gets) done places rows
+  pub parts_are_results : (needed : List Slot) (places : List Slot) (rows results : List (List ℕ)) (steps_head : List Source) (named : (n : ℕ) → Contains done n → n < length gets)
+      → ((source : Source) (slot : Slot) → Contains steps_head source → side_of arities source ≡ Held slot → Contains needed slot)
+      → AreSlots needed arities done places → AreParts Holds arities gets (equations_from arities 0 gets) done places (Contains rows)
       → ((row : List ℕ) → Contains results row
-      ↔ ((end : List ℕ) × Contains rows end × NamesCodes end (map (λ source. sought places (side_of arities source)) steps_head) row))
+      ↔ ((end : List ℕ) × Contains rows end × NamesCodes end (map (λ source. source_in places (side_of arities source)) steps_head) row))
       → (row : List ℕ) → Contains results row
       ↔ ((end : List ℕ) × Leads Holds gets [] end × (map (code_at end) steps_head ≡ map Some row))
-  parts_are_results used places rows results head named needed slots parts projected row = (
+  parts_are_results needed places rows results head named is_needed slots parts projected row = (
     λ inside. let found = (projected row).0 inside in let of = (parts found.0).0 found.1 in by_parts found.0 of.0 of.1 of.2 found.2,
     λ result. by_end result.0 (leads_goes Holds gets 0 (λ n. []) [] result.0 refl result.1) result.2,
   )
@@ -344,14 +344,14 @@ module _ (Holds : Fact ℕ → Type 0) (arities : List ℕ) (gets : List Get) (l
 
       by_parts : (cells : List ℕ) (choice : ℕ → List ℕ) → IsChoice Holds arities gets (equations_from arities 0 gets) done choice
           → map (slot_at choice) places ≡ map Some cells
-          → NamesCodes cells (map (λ source. sought places (side_of arities source)) head) row
+          → NamesCodes cells (map (λ source. source_in places (side_of arities source)) head) row
           → (end : List ℕ) × Leads Holds gets [] end × (map (code_at end) head ≡ map Some row)
       by_parts cells choice is cells_are names =
           let held = choice_held choice is in
           let count : 0 + length gets ≡ length gets = omega (arith) in (
             cells_from choice 0 (length gets),
             subst (λ n. Leads Holds gets [] (cells_from choice 0 n)) count (goes_leads Holds gets 0 choice (choice_goes choice is)),
-            sym (heads_read used choice held places cells slots (done_long choice held) cells_are head needed) ∙ names,
+            sym (heads_read needed choice held places cells slots (done_long choice held) cells_are head is_needed) ∙ names,
           )
 
       by_end : (end : List ℕ) → ((choice : ℕ → List ℕ) × ((n : ℕ) → n < 0 → choice n ≡ []) × Goes Holds gets 0 choice
@@ -365,6 +365,6 @@ module _ (Holds : Fact ℕ → Type 0) (arities : List ℕ) (gets : List Get) (l
           (projected row).1 (
             cells.0,
             (parts cells.0).1 (choice, is, cells.1),
-            heads_read used choice held places cells.0 slots (done_long choice held) cells.1 head needed
+            heads_read needed choice held places cells.0 slots (done_long choice held) cells.1 head is_needed
                 ∙ ap (λ it. map (code_at it) head) (sym (end_is ∙ ap (cells_from choice 0) count)) ∙ head_is,
           )

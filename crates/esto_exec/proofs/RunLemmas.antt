@@ -13,7 +13,7 @@ use Rattle.esto_plan.specs.declared.steps.Source.{Source}
 use Rattle.esto_plan.specs.Meaning.{Follows}
 use Rattle.esto_plan.specs.Rows.{IsRowOf}
 use Rattle.esto_exec.specs.Named.{NamesCodes}
-use Rattle.esto_exec.specs.Joined.{IsJoin, GainsOnly}
+use Rattle.esto_exec.specs.Joined.{IsJoin, IsKept, GainsOnly}
 use Rattle.esto_exec.specs.Runnable.{AreRunnable}
 use Rattle.esto_exec.proofs.NamedLemmas.{one_key}
 
@@ -30,6 +30,15 @@ row_pushed cells head old new row given named same grown it = (
   ]),
 )
 
+pub put_gains : (old new : List (List ℕ)) (row : List ℕ) → new ≡ old ++ row ∷ [] → GainsOnly old new (λ it. row ≡ it)
+put_gains old new row grown it = (
+  λ has. Contains-push_cases old row it (subst (λ them. Contains them it) grown has),
+  λ has. subst (λ them. Contains them it) (sym grown) (elim has [
+    | inl before ↦ Contains-append_left old (row ∷ []) it before
+    | inr same ↦ subst (Contains (old ++ row ∷ [])) same (Contains-push old row)
+  ]),
+)
+
 pub gains_from_none : (new : List (List ℕ)) (Has : List ℕ → Type 0) → GainsOnly [] new Has → (row : List ℕ) → Contains new row ↔ Has row
 gains_from_none new Has gains row = (
   λ there. elim ((gains row).0 there) [ inl none ↦ absurd (Contains-nil row none) | inr has ↦ has ],
@@ -38,12 +47,14 @@ gains_from_none new Has gains row = (
 
 -- ---- rows that are asked for serve as well as all
 
-pub join_asked : (get : Get) (so_far rows asked new : List (List ℕ)) → ((row : List ℕ) → Contains asked row → Contains rows row)
+pub join_asked : (get : Get) (kept : List Source) (so_far rows asked new : List (List ℕ)) → ((row : List ℕ) → Contains asked row → Contains rows row)
     → ((cells row : List ℕ) → Contains so_far cells → Contains rows row → Follows get cells row → Contains asked row)
-    → ((both : List ℕ) → Contains new both ↔ IsJoin get so_far asked both) → (both : List ℕ) → Contains new both ↔ IsJoin get so_far rows both
-join_asked get so_far rows asked new sound complete joins both = (
-  λ there. let join = (joins both).0 there in (join.0, join.1, join.2, sound join.1 join.3, join.4, join.5),
-  λ join. (joins both).1 (join.0, join.1, join.2, complete join.0 join.1 join.2 join.3 join.4, join.4, join.5),
+    → ((row : List ℕ) → Contains new row ↔ IsKept kept (IsJoin get so_far asked) row) → (row : List ℕ)
+    → Contains new row ↔ IsKept kept (IsJoin get so_far rows) row
+join_asked get kept so_far rows asked new sound complete joins row = (
+  λ there. let (both, join, names) = (joins row).0 there in (both, (join.0, join.1, join.2, sound join.1 join.3, join.4, join.5), names),
+  λ has. let (both, join, names) = has in
+      (joins row).1 (both, (join.0, join.1, join.2, complete join.0 join.1 join.2 join.3 join.4, join.4, join.5), names),
 )
 
 -- ---- the fragments

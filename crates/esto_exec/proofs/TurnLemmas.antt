@@ -6,13 +6,14 @@ use Rattle.std.proofs.lemmas.Bool.{cases_order}
 use Rattle.std.proofs.lemmas.List.{append_assoc, length-append, length-map}
 use Rattle.std.proofs.lemmas.List.Elements.{Contains-append_left, Contains-append_right, Contains-append_cases, Contains-push, Contains-push_cases}
 use Rattle.std.proofs.lemmas.Option.{same_Some, none-some, slice_get_past}
-use Rattle.esto_term.proofs.ListLemmas.{Contains-nil, Contains-one, Contains-head, Contains-rest, Contains-cases, Contains-flat}
+use Rattle.esto_term.proofs.ListLemmas.{Contains-nil, Contains-one, Contains-head, Contains-rest, Contains-cases, Contains-flat, Contains-flat_from}
 use Rattle.esto_plan.specs.declared.steps.Get.{Get}
 use Rattle.esto_plan.specs.declared.steps.Link.{Link}
 use Rattle.esto_plan.specs.declared.steps.Source.{Source}
 use Rattle.esto_plan.specs.Meaning.{code_at}
 use Rattle.esto_exec.specs.Slots.{slot_at, side_at, side_of, IsKnown}
-use Rattle.esto_exec.specs.Turns.{same_slot, is_among, kept_slots, side_slots, input_slots, equation_slots, head_slots, AreUsed, place_in, is_in, is_known, sought, slots_from, AreSlots}
+use Rattle.esto_exec.specs.Turns.{same_slot, is_among, kept_slots, side_slots, input_slots, is_decided, equation_slots, head_slots, needed_slots}
+use Rattle.esto_exec.specs.Turns.{AreNeeded, place_in, is_in, is_known, source_in, slots_from, AreSlots}
 use Rattle.esto_exec.specs.declared.slots.Slot.{Slot}
 use Rattle.esto_exec.specs.declared.slots.Equation.{Equation}
 use Rattle.esto_exec.specs.declared.slots.Side.{Side}
@@ -79,7 +80,7 @@ known_more done number (Constant code) known = _
 known_more done number (Held slot) known = Contains-append_left done (number ∷ []) slot.get known
 known_more done number Nothing known = _
 
--- ---- what is sought is read
+-- ---- what is source_in is read
 
 -- the rows of the gets that are done are as long as the arities say
 abbrev pub AreDoneLong : List ℕ → List ℕ → (ℕ → List ℕ) → Type 0
@@ -129,20 +130,20 @@ module _ (choice : ℕ → List ℕ) where
       → slice_get cells (place_in places slot) ≡ slot_at choice slot
   place_found places cells slot is inside = elim (place_reads places cells slot is) [ inl found ↦ found | inr (none, absent) ↦ absurd (absent inside) ]
 
-  pub sought_reads : (used : List Slot) (arities done : List ℕ) (places : List Slot) (cells : List ℕ) (side : Side) → AreSlots used arities done places
+  pub source_in_reads : (needed : List Slot) (arities done : List ℕ) (places : List Slot) (cells : List ℕ) (side : Side) → AreSlots needed arities done places
       → AreDoneLong arities done choice → map (slot_at choice) places ≡ map Some cells → IsKnown done side
-      → ((slot : Slot) → side ≡ Held slot → Contains used slot)
-      → code_at cells (sought places side) ≡ side_at choice side
-  sought_reads used arities done places cells (Constant code) slots long is known needed = refl
-  sought_reads used arities done places cells Nothing slots long is known needed = slice_get_past cells (length places) (let same = parts_long places cells is in omega (arith, same))
-  sought_reads used arities done places cells (Held slot) slots long is known needed = elim (place_reads places cells slot is) [
+      → ((slot : Slot) → side ≡ Held slot → Contains needed slot)
+      → code_at cells (source_in places side) ≡ side_at choice side
+  source_in_reads needed arities done places cells (Constant code) slots long is known is_needed = refl
+  source_in_reads needed arities done places cells Nothing slots long is known is_needed = slice_get_past cells (length places) (let same = parts_long places cells is in omega (arith, same))
+  source_in_reads needed arities done places cells (Held slot) slots long is known is_needed = elim (place_reads places cells slot is) [
     | inl found ↦ found
     | inr (none, absent) ↦ none ∙ sym (by (long slot.get known) absent)
   ]
     where
       by : ((arity : ℕ) × (slice_get arities slot.get ≡ Some arity) × (length (choice slot.get) ≡ arity)) → (Contains places slot → ⊥) → slot_at choice slot ≡ None
       by (arity, is_arity, same) absent = elim (below_or_past slot.column arity) [
-        | inl below ↦ absurd (absent (slots.there slot arity (needed slot refl) known is_arity below))
+        | inl below ↦ absurd (absent (slots.there slot arity (is_needed slot refl) known is_arity below))
         | inr past ↦ slice_get_past (choice slot.get) slot.column (omega (arith, past, same))
       ]
         where
@@ -193,11 +194,11 @@ slots_have number column (suc count) slot is past below = elim (cases_order slot
       (slots_have number (column + 1) count slot is (omega (arith, over)) (omega (arith, below)))
 ]
 
-pub slots_more : (used : List Slot) (arities done : List ℕ) (places : List Slot) (number arity : ℕ) → slice_get arities number ≡ Some arity → AreSlots used arities done places
-    → AreSlots used arities (done ++ number ∷ []) (places ++ slots_from number 0 arity)
-slots_more used arities done places number arity is slots = record {
-  there = λ slot own needed inside own_is below. elim (Contains-push_cases done number slot.get inside) [
-    | inl old ↦ Contains-append_left places (slots_from number 0 arity) slot (slots.there slot own needed old own_is below)
+pub slots_more : (needed : List Slot) (arities done : List ℕ) (places : List Slot) (number arity : ℕ) → slice_get arities number ≡ Some arity → AreSlots needed arities done places
+    → AreSlots needed arities (done ++ number ∷ []) (places ++ slots_from number 0 arity)
+slots_more needed arities done places number arity is slots = record {
+  there = λ slot own is_needed inside own_is below. elim (Contains-push_cases done number slot.get inside) [
+    | inl old ↦ Contains-append_left places (slots_from number 0 arity) slot (slots.there slot own is_needed old own_is below)
     | inr same ↦
         let long : own ≡ arity = same_Some own arity (sym own_is ∙ ap (slice_get arities) (sym same) ∙ is) in
         Contains-append_right places (slots_from number 0 arity) slot (slots_have number 0 arity slot (sym same) (omega (arith)) (omega (arith, below, long)))
@@ -234,7 +235,7 @@ slots_step places new number column arity below is =
     ∙ append_assoc places (record { get = number; column = column } ∷ []) (slots_from number (column + 1) (arity - (column + 1)))
     ∙ ap (λ n. places ++ slots_from number column n) (sym left)
 
--- ---- used slots
+-- ---- slots that are kept
 
 among_is : (slots : List Slot) (slot : Slot) → Contains slots slot → is_among slots slot ≡ true
 among_is [] slot inside = absurd (Contains-nil slot inside)
@@ -247,25 +248,25 @@ among_is (first ∷ rest) slot inside = elim (Contains-cases first rest slot ins
     by true is = refl
     by false is = is
 
-pub kept_among : (used slots : List Slot) (slot : Slot) → Contains (kept_slots used slots) slot → Contains slots slot
-kept_among used [] slot inside = absurd (Contains-nil slot inside)
-kept_among used (first ∷ rest) slot inside =
-    elim (Contains-append_cases (cond (is_among used first) (first ∷ []) []) (kept_slots used rest) slot inside) [
-      | inl here ↦ subst (Contains (first ∷ rest)) (by (is_among used first) here) (Contains-head first rest)
-      | inr later ↦ Contains-rest first rest slot (kept_among used rest slot later)
+pub kept_among : (needed slots : List Slot) (slot : Slot) → Contains (kept_slots needed slots) slot → Contains slots slot
+kept_among needed [] slot inside = absurd (Contains-nil slot inside)
+kept_among needed (first ∷ rest) slot inside =
+    elim (Contains-append_cases (cond (is_among needed first) (first ∷ []) []) (kept_slots needed rest) slot inside) [
+      | inl here ↦ subst (Contains (first ∷ rest)) (by (is_among needed first) here) (Contains-head first rest)
+      | inr later ↦ Contains-rest first rest slot (kept_among needed rest slot later)
     ]
   where
     by : (answer : Bool) → Contains (cond answer (first ∷ []) []) slot → first ≡ slot
     by true here = Contains-one first slot here
     by false here = absurd (Contains-nil slot here)
 
-pub kept_used : (used slots : List Slot) (slot : Slot) → Contains slots slot → Contains used slot → Contains (kept_slots used slots) slot
-kept_used used [] slot inside needed = absurd (Contains-nil slot inside)
-kept_used used (first ∷ rest) slot inside needed = elim (Contains-cases first rest slot inside) [
-  | inl is ↦ Contains-append_left (cond (is_among used first) (first ∷ []) []) (kept_slots used rest) slot
-      (subst (λ b. Contains (cond b (first ∷ []) []) slot) (sym (among_is used first (subst (Contains used) (sym is) needed)))
+pub kept_needed : (needed slots : List Slot) (slot : Slot) → Contains slots slot → Contains needed slot → Contains (kept_slots needed slots) slot
+kept_needed needed [] slot inside is_needed = absurd (Contains-nil slot inside)
+kept_needed needed (first ∷ rest) slot inside is_needed = elim (Contains-cases first rest slot inside) [
+  | inl is ↦ Contains-append_left (cond (is_among needed first) (first ∷ []) []) (kept_slots needed rest) slot
+      (subst (λ b. Contains (cond b (first ∷ []) []) slot) (sym (among_is needed first (subst (Contains needed) (sym is) is_needed)))
       (subst (Contains (first ∷ [])) is (Contains-head first [])))
-  | inr later ↦ Contains-append_right (cond (is_among used first) (first ∷ []) []) (kept_slots used rest) slot (kept_used used rest slot later needed)
+  | inr later ↦ Contains-append_right (cond (is_among needed first) (first ∷ []) []) (kept_slots needed rest) slot (kept_needed needed rest slot later is_needed)
 ]
 
 side_slot : (side : Side) (slot : Slot) → side ≡ Held slot → Contains (side_slots side) slot
@@ -273,43 +274,119 @@ side_slot (Constant code) slot is = absurd (cc)
 side_slot Nothing slot is = absurd (cc)
 side_slot (Held other) slot is = let same : other ≡ slot = cc in subst (Contains (other ∷ [])) same (Contains-head other [])
 
-inputs_used : (arities : List ℕ) (number : ℕ) (gets : List Get) (at : ℕ) (get : Get) (link : Link) (slot : Slot) → slice_get gets at ≡ Some get
-    → Contains get.inputs link → side_of (take (number + at) arities) link.source ≡ Held slot → Contains (input_slots arities number gets) slot
-inputs_used arities number [] at get link slot there linked is = absurd (none-some get there)
-inputs_used arities number (first ∷ rest) zero get link slot there linked is =
+-- ---- needed slots
+
+pub decided_is : (done : List ℕ) (equation : Equation) → is_decided done equation ≡ true → Contains done equation.slot.get × IsKnown done equation.side
+decided_is done equation is =
+    let parts = both_true (is_in done equation.slot.get) (is_known done equation.side) is in
+    (in_is done equation.slot.get parts.0, known_is done equation.side parts.1)
+
+decided-from : (done : List ℕ) (equation : Equation) → Contains done equation.slot.get → IsKnown done equation.side → is_decided done equation ≡ true
+decided-from done equation inside known =
+    let own = is_in-from done equation.slot.get inside in let side = is_known-from done equation.side known in λ i. own i && side i
+
+-- what stands where a test fails
+if_not : {X : Type 0} (answer : Bool) (things : List X) (thing : X) → (answer ≡ true → ⊥) → Contains things thing → Contains (cond answer [] things) thing
+if_not true things thing not inside = absurd (not refl)
+if_not false things thing not inside = inside
+
+not_if : {X : Type 0} (answer : Bool) (things : List X) (thing : X) → Contains (cond answer [] things) thing → (answer ≡ true → ⊥) × Contains things thing
+not_if true things thing inside = absurd (Contains-nil thing inside)
+not_if false things thing inside = ((λ is. cc), inside)
+
+inputs_needed : (arities done : List ℕ) (number : ℕ) (gets : List Get) (at : ℕ) (get : Get) (link : Link) (slot : Slot) → slice_get gets at ≡ Some get
+    → Contains get.inputs link → (Contains done (number + at) → ⊥) → side_of (take (number + at) arities) link.source ≡ Held slot
+    → Contains (input_slots arities done number gets) slot
+inputs_needed arities done number [] at get link slot there linked fresh is = absurd (none-some get there)
+inputs_needed arities done number (first ∷ rest) zero get link slot there linked fresh is =
     let one : first ≡ get = same_Some first get there in
     let same : number + 0 ≡ number = omega (arith) in
-    Contains-append_left (flat_map (λ (it : Link). side_slots (side_of (take number arities) it.source)) first.inputs) (input_slots arities (number + 1) rest) slot
+    Contains-append_left (cond (is_in done number) [] (flat_map (λ (it : Link). side_slots (side_of (take number arities) it.source)) first.inputs))
+    (input_slots arities done (number + 1) rest) slot
+    (if_not (is_in done number) (flat_map (λ (it : Link). side_slots (side_of (take number arities) it.source)) first.inputs) slot
+    (λ old. fresh (subst (Contains done) (sym same) (in_is done number old)))
     (Contains-flat (λ (it : Link). side_slots (side_of (take number arities) it.source)) first.inputs link slot
     (subst (λ (it : Get). Contains it.inputs link) (sym one) linked)
-    (side_slot (side_of (take number arities) link.source) slot (ap (λ n. side_of (take n arities) link.source) (sym same) ∙ is)))
-inputs_used arities number (first ∷ rest) (suc at) get link slot there linked is =
+    (side_slot (side_of (take number arities) link.source) slot (ap (λ n. side_of (take n arities) link.source) (sym same) ∙ is))))
+inputs_needed arities done number (first ∷ rest) (suc at) get link slot there linked fresh is =
     let same : number + 1 + at ≡ number + suc at = omega (arith) in
-    Contains-append_right (flat_map (λ (it : Link). side_slots (side_of (take number arities) it.source)) first.inputs) (input_slots arities (number + 1) rest) slot
-    (inputs_used arities (number + 1) rest at get link slot there linked (ap (λ n. side_of (take n arities) link.source) same ∙ is))
+    Contains-append_right (cond (is_in done number) [] (flat_map (λ (it : Link). side_slots (side_of (take number arities) it.source)) first.inputs))
+    (input_slots arities done (number + 1) rest) slot
+    (inputs_needed arities done (number + 1) rest at get link slot there linked (λ old. fresh (subst (Contains done) same old))
+    (ap (λ n. side_of (take n arities) link.source) same ∙ is))
 
-module _ (arities : List ℕ) (gets : List Get) (equations : List Equation) (head : List Source) (used : List Slot)
-    (is : used ≡ (equation_slots equations ++ input_slots arities 0 gets) ++ head_slots arities head) where
-  in_links : (slot : Slot) → Contains (equation_slots equations ++ input_slots arities 0 gets) slot → Contains used slot
-  in_links slot inside = subst (λ them. Contains them slot) (sym is)
-      (Contains-append_left (equation_slots equations ++ input_slots arities 0 gets) (head_slots arities head) slot inside)
+-- what inputs need after one more get was needed before
+inputs_before : (arities done : List ℕ) (one number : ℕ) (gets : List Get) (slot : Slot) → Contains (input_slots arities (done ++ one ∷ []) number gets) slot
+    → Contains (input_slots arities done number gets) slot
+inputs_before arities done one number [] slot inside = inside
+inputs_before arities done one number (get ∷ gets) slot inside =
+    let own = flat_map (λ (it : Link). side_slots (side_of (take number arities) it.source)) get.inputs in
+    elim (Contains-append_cases (cond (is_in (done ++ one ∷ []) number) [] own) (input_slots arities (done ++ one ∷ []) (number + 1) gets) slot inside) [
+      | inl here ↦
+          let told = not_if (is_in (done ++ one ∷ []) number) own slot here in
+          Contains-append_left (cond (is_in done number) [] own) (input_slots arities done (number + 1) gets) slot
+          (if_not (is_in done number) own slot
+          (λ old. told.0 (is_in-from (done ++ one ∷ []) number (Contains-append_left done (one ∷ []) number (in_is done number old)))) told.1)
+      | inr later ↦ Contains-append_right (cond (is_in done number) [] own) (input_slots arities done (number + 1) gets) slot
+          (inputs_before arities done one (number + 1) gets slot later)
+    ]
 
-  in_equations : (equation : Equation) (slot : Slot) → Contains equations equation → Contains (equation.slot ∷ side_slots equation.side) slot → Contains used slot
-  in_equations equation slot among inside = in_links slot (Contains-append_left (equation_slots equations) (input_slots arities 0 gets) slot
-      (Contains-flat (λ (it : Equation). it.slot ∷ side_slots it.side) equations equation slot among inside))
+-- the slots that one equation names where it is not decided
+abbrev open_slots : List ℕ → Equation → List Slot
+open_slots done equation = cond (is_decided done equation) [] (equation.slot ∷ side_slots equation.side)
 
-  pub used_are : AreUsed arities gets equations used
-  used_are = record {
-    slots = λ equation among. in_equations equation equation.slot among (Contains-head equation.slot (side_slots equation.side));
-    sides = λ equation slot among side. in_equations equation slot among
-        (Contains-rest equation.slot (side_slots equation.side) slot (side_slot equation.side slot side));
-    inputs = λ number get link slot there linked side.
-        let same : 0 + number ≡ number = omega (arith) in
-        in_links slot (Contains-append_right (equation_slots equations) (input_slots arities 0 gets) slot
-        (inputs_used arities 0 gets number get link slot there linked (ap (λ n. side_of (take n arities) link.source) same ∙ side)));
-  }
+equations_before : (done : List ℕ) (one : ℕ) (equations : List Equation) (slot : Slot) → Contains (equation_slots (done ++ one ∷ []) equations) slot
+    → Contains (equation_slots done equations) slot
+equations_before done one equations slot inside =
+    let found = Contains-flat_from (open_slots (done ++ one ∷ [])) equations slot inside in
+    let told = not_if (is_decided (done ++ one ∷ []) found.0) ((found.0).slot ∷ side_slots (found.0).side) slot found.2 in
+    Contains-flat (open_slots done) equations found.0 slot found.1
+    (if_not (is_decided done found.0) ((found.0).slot ∷ side_slots (found.0).side) slot
+    (λ old. let parts = decided_is done found.0 old in
+    told.0 (decided-from (done ++ one ∷ []) found.0 (Contains-append_left done (one ∷ []) (found.0).slot.get parts.0)
+    (known_more done one (found.0).side parts.1))) told.1)
 
-  pub head_used : (source : Source) (slot : Slot) → Contains head source → side_of arities source ≡ Held slot → Contains used slot
-  head_used source slot inside side = subst (λ them. Contains them slot) (sym is)
-      (Contains-append_right (equation_slots equations ++ input_slots arities 0 gets) (head_slots arities head) slot
-      (Contains-flat (λ it. side_slots (side_of arities it)) head source slot inside (side_slot (side_of arities source) slot side)))
+module _ (arities : List ℕ) (gets : List Get) (equations : List Equation) (head : List Source) where
+  -- what is needed after one more get was needed before
+  pub needed_before : (done : List ℕ) (one : ℕ) (slot : Slot) → Contains (needed_slots arities gets equations head (done ++ one ∷ [])) slot
+      → Contains (needed_slots arities gets equations head done) slot
+  needed_before done one slot inside =
+      let new = done ++ one ∷ [] in
+      elim (Contains-append_cases (equation_slots new equations ++ input_slots arities new 0 gets) (head_slots arities head) slot inside) [
+        | inl linked ↦ Contains-append_left (equation_slots done equations ++ input_slots arities done 0 gets) (head_slots arities head) slot
+            (elim (Contains-append_cases (equation_slots new equations) (input_slots arities new 0 gets) slot linked) [
+              | inl here ↦ Contains-append_left (equation_slots done equations) (input_slots arities done 0 gets) slot
+                  (equations_before done one equations slot here)
+              | inr asked ↦ Contains-append_right (equation_slots done equations) (input_slots arities done 0 gets) slot
+                  (inputs_before arities done one 0 gets slot asked)
+            ])
+        | inr named ↦ Contains-append_right (equation_slots done equations ++ input_slots arities done 0 gets) (head_slots arities head) slot named
+      ]
+
+  module _ (done : List ℕ) where
+    in_links : (slot : Slot) → Contains (equation_slots done equations ++ input_slots arities done 0 gets) slot
+        → Contains (needed_slots arities gets equations head done) slot
+    in_links slot inside = Contains-append_left (equation_slots done equations ++ input_slots arities done 0 gets) (head_slots arities head) slot inside
+
+    in_equations : (equation : Equation) (slot : Slot) → Contains equations equation → (Contains done equation.slot.get × IsKnown done equation.side → ⊥)
+        → Contains (equation.slot ∷ side_slots equation.side) slot → Contains (needed_slots arities gets equations head done) slot
+    in_equations equation slot among undecided inside = in_links slot (Contains-append_left (equation_slots done equations) (input_slots arities done 0 gets) slot
+        (Contains-flat (open_slots done) equations equation slot among
+        (if_not (is_decided done equation) (equation.slot ∷ side_slots equation.side) slot (λ is. undecided (decided_is done equation is)) inside)))
+
+    pub needed_are : AreNeeded arities gets equations done (needed_slots arities gets equations head done)
+    needed_are = record {
+      slots = λ equation among undecided. in_equations equation equation.slot among undecided (Contains-head equation.slot (side_slots equation.side));
+      sides = λ equation slot among undecided side. in_equations equation slot among undecided
+          (Contains-rest equation.slot (side_slots equation.side) slot (side_slot equation.side slot side));
+      inputs = λ number get link slot there linked fresh side.
+          let same : 0 + number ≡ number = omega (arith) in
+          in_links slot (Contains-append_right (equation_slots done equations) (input_slots arities done 0 gets) slot
+          (inputs_needed arities done 0 gets number get link slot there linked (λ old. fresh (subst (Contains done) same old))
+          (ap (λ n. side_of (take n arities) link.source) same ∙ side)));
+    }
+
+    pub head_needed : (source : Source) (slot : Slot) → Contains head source → side_of arities source ≡ Held slot
+        → Contains (needed_slots arities gets equations head done) slot
+    head_needed source slot inside side = Contains-append_right (equation_slots done equations ++ input_slots arities done 0 gets) (head_slots arities head) slot
+        (Contains-flat (λ it. side_slots (side_of arities it)) head source slot inside (side_slot (side_of arities source) slot side))

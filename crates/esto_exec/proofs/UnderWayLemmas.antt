@@ -14,15 +14,15 @@ use Rattle.esto_plan.specs.declared.steps.Source.{Source}
 use Rattle.esto_plan.specs.declared.steps.Steps.{Steps}
 use Rattle.esto_plan.specs.Meaning.{code_at, IsResult}
 use Rattle.esto_plan.proofs.MeaningLemmas.{same_some}
-use Rattle.esto_exec.specs.Joined.{IsJoin}
+use Rattle.esto_exec.specs.Joined.{IsJoin, IsKept}
 use Rattle.esto_exec.specs.Named.{NamesCodes}
 use Rattle.esto_exec.specs.Slots.{IsChoice, side_of, IsKnown, equations_from, slot_at}
-use Rattle.esto_exec.specs.Turns.{AreSlots, AreUsed, sought, turned, links_of, slots_from, IsReady, AreArities, IsUnderWay, AreParts}
+use Rattle.esto_exec.specs.Turns.{AreSlots, needed_slots, kept_slots, source_in, link_in, links_of, slots_from, IsReady, AreArities, IsUnderWay, AreParts}
 use Rattle.esto_exec.specs.declared.slots.Slot.{Slot}
 use Rattle.esto_exec.specs.declared.slots.Side.TheVariants.{Held}
 use Rattle.esto_exec.specs.declared.slots.Equation.{Equation}
 use Rattle.esto_exec.proofs.SlotLemmas.{known_before}
-use Rattle.esto_exec.proofs.TurnLemmas.{place_found, known_more, slots_more}
+use Rattle.esto_exec.proofs.TurnLemmas.{place_found, known_more, slots_more, kept_among, kept_needed, needed_before, needed_are, head_needed}
 use Rattle.esto_exec.proofs.ChoiceLemmas.{parts_more, choice_long}
 use Rattle.esto_exec.proofs.ResultLemmas.{parts_are_results, cells_of}
 
@@ -52,10 +52,9 @@ arities_more Holds gets count get arities new arity there before long is =
 
 -- ---- the start
 
-module _ (Holds : Fact ℕ → Type 0) (arities : List ℕ) (gets : List Get) (equations : List Equation) where
-  pub under_way_start : (used : List Slot) → AreUsed arities gets equations used → IsUnderWay Holds arities gets equations used [] [] ([] ∷ [])
-  under_way_start used uses = record {
-    uses = uses;
+module _ (Holds : Fact ℕ → Type 0) (arities : List ℕ) (gets : List Get) (equations : List Equation) (head : List Source) where
+  pub under_way_start : IsUnderWay Holds arities gets equations head [] [] ([] ∷ [])
+  under_way_start = record {
     named = λ number inside. absurd (Contains-nil number inside);
     settled = λ number get inside there. absurd (Contains-nil number inside);
     slots = record {
@@ -79,13 +78,13 @@ module _ (Holds : Fact ℕ → Type 0) (arities : List ℕ) (gets : List Get) (e
 
   -- ---- a turn
 
-  -- cells that are cut to those of some of the slots
-  parts_less : (done : List ℕ) (wide kept : List Slot) (rows new : List (List ℕ)) → ((choice : ℕ → List ℕ) → IsChoice Holds arities gets equations done choice
-      → (cells : List ℕ) × (map (slot_at choice) wide ≡ map Some cells))
-      → ((slot : Slot) → Contains kept slot → Contains wide slot) → AreParts Holds arities gets equations done wide rows
-      → ((row : List ℕ) → Contains new row ↔ ((end : List ℕ) × Contains rows end × NamesCodes end (map (λ slot. sought wide (Held slot)) kept) row))
-      → AreParts Holds arities gets equations done kept new
-  parts_less done wide kept rows new have among parts cut row = (
+  -- cells of which some slots are kept
+  parts_less : (done : List ℕ) (wide kept : List Slot) (Joined : List ℕ → Type 0) (new : List (List ℕ))
+      → ((choice : ℕ → List ℕ) → IsChoice Holds arities gets equations done choice → (cells : List ℕ) × (map (slot_at choice) wide ≡ map Some cells))
+      → ((slot : Slot) → Contains kept slot → Contains wide slot) → AreParts Holds arities gets equations done wide Joined
+      → ((row : List ℕ) → Contains new row ↔ IsKept (map (λ slot. source_in wide (Held slot)) kept) Joined row)
+      → AreParts Holds arities gets equations done kept (Contains new)
+  parts_less done wide kept Joined new have among parts cut row = (
     λ inside.
         let found = (cut row).0 inside in let of = (parts found.0).0 found.1 in
         (of.0, of.1, sym (kept_reads of.0 found.0 of.2) ∙ found.2),
@@ -95,29 +94,26 @@ module _ (Holds : Fact ℕ → Type 0) (arities : List ℕ) (gets : List Get) (e
   )
     where
       kept_reads : (choice : ℕ → List ℕ) (cells : List ℕ) → map (slot_at choice) wide ≡ map Some cells
-          → map (code_at cells) (map (λ slot. sought wide (Held slot)) kept) ≡ map (slot_at choice) kept
-      kept_reads choice cells is = map_then (λ slot. sought wide (Held slot)) (code_at cells) kept
-          ∙ map_agree (λ slot. code_at cells (sought wide (Held slot))) (slot_at choice) kept
+          → map (code_at cells) (map (λ slot. source_in wide (Held slot)) kept) ≡ map (slot_at choice) kept
+      kept_reads choice cells is = map_then (λ slot. source_in wide (Held slot)) (code_at cells) kept
+          ∙ map_agree (λ slot. code_at cells (source_in wide (Held slot))) (slot_at choice) kept
           (λ slot inside. place_found choice wide cells slot is (among slot inside))
 
-  pub under_way_more : (used : List Slot) (done new_done : List ℕ) (places wide kept : List Slot) (number : ℕ) (get own_get : Get)
-      (so_far rows all_cells new : List (List ℕ))
-      → AreArities Holds gets arities → IsUnderWay Holds arities gets equations used done places so_far → (Contains done number → ⊥)
+  pub under_way_more : (done new_done : List ℕ) (places wide kept needed : List Slot) (number : ℕ) (get own_get : Get)
+      (so_far rows new : List (List ℕ))
+      → AreArities Holds gets arities → IsUnderWay Holds arities gets equations head done places so_far → (Contains done number → ⊥)
       → slice_get gets number ≡ Some get → IsReady arities done get number
       → ((row : List ℕ) → Contains rows row ↔ Holds (record { relation = get.fragment; terms = row }))
       → new_done ≡ done ++ number ∷ []
       → (arity : ℕ) → slice_get arities number ≡ Some arity → wide ≡ places ++ slots_from number 0 arity
-      → own_get.inputs ≡ map (turned places (take number arities)) get.inputs
+      → own_get.inputs ≡ map (link_in places (take number arities)) get.inputs
       → own_get.filters ≡ flat_map (links_of number new_done wide) equations
-      → ((both : List ℕ) → Contains all_cells both ↔ IsJoin own_get so_far rows both)
-      → ((slot : Slot) → Contains kept slot → Contains wide slot)
-      → ((slot : Slot) → Contains wide slot → Contains used slot → Contains kept slot)
-      → ((row : List ℕ) → Contains new row ↔ ((end : List ℕ) × Contains all_cells end × NamesCodes end (map (λ slot. sought wide (Held slot)) kept) row))
-      → IsUnderWay Holds arities gets equations used new_done kept new
-  under_way_more used done new_done places wide kept number get own_get so_far rows all_cells new are under fresh there ready holds done_is arity at_arity
-      wide_is inputs_are filters_are joins among keeps cut =
-      subst (λ them. IsUnderWay Holds arities gets equations used them kept new) (sym done_is) (record {
-        uses = under.uses;
+      → needed ≡ needed_slots arities gets equations head new_done → kept ≡ kept_slots needed wide
+      → ((row : List ℕ) → Contains new row ↔ IsKept (map (λ slot. source_in wide (Held slot)) kept) (IsJoin own_get so_far rows) row)
+      → IsUnderWay Holds arities gets equations head new_done kept new
+  under_way_more done new_done places wide kept needed number get own_get so_far rows new are under fresh there ready holds done_is arity at_arity
+      wide_is inputs_are filters_are needed_is kept_is cut =
+      subst (λ them. IsUnderWay Holds arities gets equations head them kept new) (sym done_is) (record {
         named = λ n inside. elim (Contains-push_cases done number n inside) [
           | inl old ↦ under.named n old
           | inr same ↦ subst (λ m. m < length gets) same (slice_get_within gets number get there)
@@ -131,21 +127,31 @@ module _ (Holds : Fact ℕ → Type 0) (arities : List ℕ) (gets : List Get) (e
               (ready link (subst (λ (it : Get). Contains it.inputs link) (sym one) linked)))
         ];
         slots = record {
-          there = λ slot own needed inside at below. keeps slot (wide_slots.there slot own needed inside at below) needed;
+          there = λ slot own is_needed inside at below. keeps slot
+              (wide_slots.there slot own (needed_before arities gets equations head done number slot is_needed) inside at below) is_needed;
           own = λ slot inside. wide_slots.own slot (among slot inside);
           within = λ slot own inside at. wide_slots.within slot own (among slot inside) at;
         };
-        parts = parts_less (done ++ number ∷ []) wide kept all_cells new have among wide_parts cut;
+        parts = parts_less (done ++ number ∷ []) wide kept (IsJoin own_get so_far rows) new have among wide_parts cut;
       })
     where
-      wide_slots : AreSlots used arities (done ++ number ∷ []) wide
-      wide_slots = subst (AreSlots used arities (done ++ number ∷ [])) (sym wide_is) (slots_more used arities done places number arity at_arity under.slots)
+      among : (slot : Slot) → Contains kept slot → Contains wide slot
+      among slot inside = kept_among needed wide slot (subst (λ them. Contains them slot) kept_is inside)
 
-      wide_parts : AreParts Holds arities gets equations (done ++ number ∷ []) wide all_cells
-      wide_parts = subst (λ them. AreParts Holds arities gets equations (done ++ number ∷ []) them all_cells) (sym wide_is)
-          (parts_more Holds arities gets equations are.fit used under.uses done places number get arity own_get so_far rows all_cells fresh there at_arity
+      keeps : (slot : Slot) → Contains wide slot → Contains (needed_slots arities gets equations head (done ++ number ∷ [])) slot → Contains kept slot
+      keeps slot inside is_needed = subst (λ them. Contains them slot) (sym kept_is) (kept_needed needed wide slot inside
+          (subst (λ them. Contains them slot) (sym (needed_is ∙ ap (needed_slots arities gets equations head) done_is)) is_needed))
+
+      wide_slots : AreSlots (needed_slots arities gets equations head done) arities (done ++ number ∷ []) wide
+      wide_slots = subst (AreSlots (needed_slots arities gets equations head done) arities (done ++ number ∷ [])) (sym wide_is)
+          (slots_more (needed_slots arities gets equations head done) arities done places number arity at_arity under.slots)
+
+      wide_parts : AreParts Holds arities gets equations (done ++ number ∷ []) wide (IsJoin own_get so_far rows)
+      wide_parts = subst (λ them. AreParts Holds arities gets equations (done ++ number ∷ []) them (IsJoin own_get so_far rows)) (sym wide_is)
+          (parts_more Holds arities gets equations are.fit done (needed_slots arities gets equations head done)
+          (needed_are arities gets equations head done) places number get arity own_get so_far rows fresh there at_arity
           (λ n inside. thing_at gets n (under.named n inside)) under.settled ready under.slots under.parts holds inputs_are
-          (filters_are ∙ (λ i. flat_map (links_of number (done_is i) (wide_is i)) equations)) joins)
+          (filters_are ∙ (λ i. flat_map (links_of number (done_is i) (wide_is i)) equations)))
 
       all_named : (n : ℕ) → Contains (done ++ number ∷ []) n → (own : Get) × (slice_get gets n ≡ Some own)
       all_named n inside = elim (Contains-push_cases done number n inside) [
@@ -183,22 +189,23 @@ before_more done new number is before other below = subst (λ them. Contains the
 
 -- ---- the end
 
-pub results_told : (used : List Slot) (Holds : Fact ℕ → Type 0) (steps : Steps) (arities done : List ℕ) (places : List Slot) (rows results : List (List ℕ)) (head : List Source)
+pub results_told : (Holds : Fact ℕ → Type 0) (steps : Steps) (arities done : List ℕ) (places : List Slot) (rows results : List (List ℕ)) (head : List Source)
     → AreArities Holds steps.gets arities → ((number : ℕ) → number < length steps.gets → Contains done number)
-    → IsUnderWay Holds arities steps.gets (equations_from arities 0 steps.gets) used done places rows
-    → ((source : Source) (slot : Slot) → Contains steps.head source → side_of arities source ≡ Held slot → Contains used slot)
-    → head ≡ map (λ source. sought places (side_of arities source)) steps.head
+    → IsUnderWay Holds arities steps.gets (equations_from arities 0 steps.gets) steps.head done places rows
+    → head ≡ map (λ source. source_in places (side_of arities source)) steps.head
     → ((row : List ℕ) → Contains results row ↔ ((end : List ℕ) × Contains rows end × NamesCodes end head row))
     → (row : List ℕ) → Contains results row ↔ IsResult Holds steps row
-results_told used Holds steps arities done places rows results head are all under needed head_is projected =
-    parts_are_results Holds arities steps.gets are.long are.fit done all used places rows results steps.head under.named needed under.slots under.parts
+results_told Holds steps arities done places rows results head are all under head_is projected =
+    parts_are_results Holds arities steps.gets are.long are.fit done all
+    (needed_slots arities steps.gets (equations_from arities 0 steps.gets) steps.head done) places rows results steps.head under.named
+    (head_needed arities steps.gets (equations_from arities 0 steps.gets) steps.head done) under.slots under.parts
     (λ row. subst (λ them. Contains results row ↔ ((end : List ℕ) × Contains rows end × NamesCodes end them row)) head_is (projected row))
 
 -- ---- the fragment of a get
 
-pub turned_columns : (places : List Slot) (arities : List ℕ) (links own : List Link) → own ≡ map (turned places arities) links
+pub links_in_columns : (places : List Slot) (arities : List ℕ) (links own : List Link) → own ≡ map (link_in places arities) links
     → map (λ (link : Link). link.column) own ≡ map (λ (link : Link). link.column) links
-turned_columns places arities links own is = ap (map (λ (link : Link). link.column)) is ∙ map_then (turned places arities) (λ (link : Link). link.column) links
+links_in_columns places arities links own is = ap (map (λ (link : Link). link.column)) is ∙ map_then (link_in places arities) (λ (link : Link). link.column) links
 
 pub before_same : (done : List ℕ) (number : ℕ) → Contains done number → ((other : ℕ) → other < number → Contains done other)
     → (other : ℕ) → other < number + 1 → Contains done other
@@ -208,10 +215,10 @@ before_same done number inside before other below = elim (cases_order other numb
   | inr (inr past) ↦ absurd (omega (arith, past, below))
 ]
 
-pub under_way_at : (Holds : Fact ℕ → Type 0) (arities : List ℕ) (gets : List Get) (equations : List Equation) (used : List Slot) (done : List ℕ)
-    (places : List Slot) (rows : List (List ℕ)) → AreUsed arities gets equations used → done ≡ [] → places ≡ [] → rows ≡ [] ∷ []
-    → IsUnderWay Holds arities gets equations used done places rows
-under_way_at Holds arities gets equations used done places rows uses none no_places one =
-    subst (λ them. IsUnderWay Holds arities gets equations used them places rows) (sym none)
-    (subst (λ them. IsUnderWay Holds arities gets equations used [] them rows) (sym no_places)
-    (subst (λ them. IsUnderWay Holds arities gets equations used [] [] them) (sym one) (under_way_start Holds arities gets equations used uses)))
+pub under_way_at : (Holds : Fact ℕ → Type 0) (arities : List ℕ) (gets : List Get) (equations : List Equation) (head : List Source) (done : List ℕ)
+    (places : List Slot) (rows : List (List ℕ)) → done ≡ [] → places ≡ [] → rows ≡ [] ∷ []
+    → IsUnderWay Holds arities gets equations head done places rows
+under_way_at Holds arities gets equations head done places rows none no_places one =
+    subst (λ them. IsUnderWay Holds arities gets equations head them places rows) (sym none)
+    (subst (λ them. IsUnderWay Holds arities gets equations head [] them rows) (sym no_places)
+    (subst (λ them. IsUnderWay Holds arities gets equations head [] [] them) (sym one) (under_way_start Holds arities gets equations head)))

@@ -29,27 +29,27 @@ is_known done (Held slot) = is_in done slot.get
 is_known done Nothing = true
 
 -- What names the side's code in rows whose cells are those of the slots; what is not there is named by a place past the end.
-abbrev pub sought : List Slot → Side → Source
-sought places (Constant code) = Code code
-sought places (Held slot) = Cell (place_in places slot)
-sought places Nothing = Cell (length places)
+abbrev pub source_in : List Slot → Side → Source
+source_in places (Constant code) = Code code
+source_in places (Held slot) = Cell (place_in places slot)
+source_in places Nothing = Cell (length places)
 
 -- The link of a get, after gets with these arities in the stated order, as rows so far have it.
-abbrev pub turned : List Slot → List ℕ → Link → Link
-turned places arities link = record { column = link.column; source = sought places (side_of arities link.source) }
+abbrev pub link_in : List Slot → List ℕ → Link → Link
+link_in places arities link = record { column = link.column; source = source_in places (side_of arities link.source) }
 
 -- The equation as a link of the get, where its side names the get and its own slot is known.
-abbrev pub turned_back : ℕ → List ℕ → List Slot → Slot → Side → List Link
-turned_back number done places slot (Constant code) = []
-turned_back number done places slot Nothing = []
-turned_back number done places slot (Held other) =
-    cond (other.get == number && is_in done slot.get) (record { column = other.column; source = sought places (Held slot) } ∷ []) []
+abbrev pub link_back : ℕ → List ℕ → List Slot → Slot → Side → List Link
+link_back number done places slot (Constant code) = []
+link_back number done places slot Nothing = []
+link_back number done places slot (Held other) =
+    cond (other.get == number && is_in done slot.get) (record { column = other.column; source = source_in places (Held slot) } ∷ []) []
 
 -- The equation as a link of the get, where both of its sides are known and one is the get's own.
 abbrev pub links_of : ℕ → List ℕ → List Slot → Equation → List Link
 links_of number done places equation = cond (equation.slot.get == number)
-    (cond (is_known done equation.side) (record { column = equation.slot.column; source = sought places equation.side } ∷ []) [])
-    (turned_back number done places equation.slot equation.side)
+    (cond (is_known done equation.side) (record { column = equation.slot.column; source = source_in places equation.side } ∷ []) [])
+    (link_back number done places equation.slot equation.side)
 
 -- The slots of the columns of a get's row, so many from a column on.
 abbrev pub slots_from : ℕ → ℕ → ℕ → List Slot
@@ -66,45 +66,58 @@ side_slots (Constant code) = []
 side_slots (Held slot) = slot ∷ []
 side_slots Nothing = []
 
--- The slots that the inputs of the gets name; the first get has the number.
-abbrev pub input_slots : List ℕ → ℕ → List Get → List Slot
-input_slots arities number [] = []
-input_slots arities number (get ∷ gets) =
-    flat_map (λ (link : Link). side_slots (side_of (take number arities) link.source)) get.inputs ++ input_slots arities (number + 1) gets
+-- The slots that the inputs of the gets name which are not done; the first get has the number.
+abbrev pub input_slots : List ℕ → List ℕ → ℕ → List Get → List Slot
+input_slots arities done number [] = []
+input_slots arities done number (get ∷ gets) =
+    cond (is_in done number) [] (flat_map (λ (link : Link). side_slots (side_of (take number arities) link.source)) get.inputs)
+    ++ input_slots arities done (number + 1) gets
 
--- The slots that the equations name.
-abbrev pub equation_slots : List Equation → List Slot
-equation_slots equations = flat_map (λ (equation : Equation). equation.slot ∷ side_slots equation.side) equations
+-- Both sides of the equation are known.
+abbrev pub is_decided : List ℕ → Equation → Bool
+is_decided done equation = is_in done equation.slot.get && is_known done equation.side
+
+-- The slots that the equations name which are not decided.
+abbrev pub equation_slots : List ℕ → List Equation → List Slot
+equation_slots done equations =
+    flat_map (λ (equation : Equation). cond (is_decided done equation) [] (equation.slot ∷ side_slots equation.side)) equations
 
 -- The slots that the head names.
 abbrev pub head_slots : List ℕ → List Source → List Slot
 head_slots arities head = flat_map (λ source. side_slots (side_of arities source)) head
 
+-- The slots that are needed where the gets of the numbers are done: those that inputs, equations or the head still name.
+abbrev pub needed_slots : List ℕ → List Get → List Equation → List Source → List ℕ → List Slot
+needed_slots arities gets equations head done = (equation_slots done equations ++ input_slots arities done 0 gets) ++ head_slots arities head
+
 abbrev pub is_among : List Slot → Slot → Bool
 is_among [] slot = false
 is_among (first ∷ rest) slot = same_slot first slot || is_among rest slot
 
--- Those of the slots that are used.
+-- Those of the slots that are needed.
 abbrev pub kept_slots : List Slot → List Slot → List Slot
-kept_slots used [] = []
-kept_slots used (slot ∷ slots) = cond (is_among used slot) (slot ∷ []) [] ++ kept_slots used slots
+kept_slots needed [] = []
+kept_slots needed (slot ∷ slots) = cond (is_among needed slot) (slot ∷ []) [] ++ kept_slots needed slots
 
--- Each slot that the inputs of the gets or the equations name is used.
-pub record AreUsed (arities : List ℕ) (gets : List Get) (equations : List Equation) (used : List Slot) : Type 0 where
-  pub slots : (equation : Equation) → Contains equations equation → Contains used equation.slot
-  pub sides : (equation : Equation) (slot : Slot) → Contains equations equation → equation.side ≡ Held slot → Contains used slot
-  pub inputs : (number : ℕ) (get : Get) (link : Link) (slot : Slot) → slice_get gets number ≡ Some get → Contains get.inputs link
-      → side_of (take number arities) link.source ≡ Held slot → Contains used slot
+-- Each slot is needed that is named by an input of a get which is not done, or by an equation whose sides are not both known.
+pub record AreNeeded (arities : List ℕ) (gets : List Get) (equations : List Equation) (done : List ℕ) (needed : List Slot) : Type 0 where
+  pub slots : (equation : Equation) → Contains equations equation → ¬ (Contains done equation.slot.get × IsKnown done equation.side)
+      → Contains needed equation.slot
+  pub sides : (equation : Equation) (slot : Slot) → Contains equations equation → ¬ (Contains done equation.slot.get × IsKnown done equation.side)
+      → equation.side ≡ Held slot → Contains needed slot
+  pub inputs : (number : ℕ) (get : Get) (link : Link) (slot : Slot) → slice_get gets number ≡ Some get → Contains get.inputs link → ¬ (Contains done number)
+      → side_of (take number arities) link.source ≡ Held slot → Contains needed slot
 
--- The slots are of rows of the gets that are done, and each used one of these is there.
-pub record AreSlots (used : List Slot) (arities done : List ℕ) (places : List Slot) : Type 0 where
-  pub there : (slot : Slot) (arity : ℕ) → Contains used slot → Contains done slot.get → slice_get arities slot.get ≡ Some arity → slot.column < arity → Contains places slot
+-- The slots are of rows of the gets that are done, and each of these that is needed is there.
+pub record AreSlots (needed : List Slot) (arities done : List ℕ) (places : List Slot) : Type 0 where
+  pub there : (slot : Slot) (arity : ℕ) → Contains needed slot → Contains done slot.get → slice_get arities slot.get ≡ Some arity → slot.column < arity
+      → Contains places slot
   pub own : (slot : Slot) → Contains places slot → Contains done slot.get
   pub within : (slot : Slot) (arity : ℕ) → Contains places slot → slice_get arities slot.get ≡ Some arity → slot.column < arity
 
--- The rows are those of the cells at the places in the choices for the gets that are done.
-abbrev pub AreParts : (Fact ℕ → Type 0) → List ℕ → List Get → List Equation → List ℕ → List Slot → List (List ℕ) → Type 0
-AreParts Holds arities gets equations done places rows = (row : List ℕ) → Contains rows row
+-- The rows with the property are those of the cells at the places in the choices for the gets that are done.
+abbrev pub AreParts : (Fact ℕ → Type 0) → List ℕ → List Get → List Equation → List ℕ → List Slot → (List ℕ → Type 0) → Type 0
+AreParts Holds arities gets equations done places Has = (row : List ℕ) → Has row
     ↔ ((choice : ℕ → List ℕ) × IsChoice Holds arities gets equations done choice × (map (slot_at choice) places ≡ map Some row))
 
 -- The numbers are the arities of the rows that the gets give.
@@ -113,10 +126,10 @@ pub record AreArities (Holds : Fact ℕ → Type 0) (gets : List Get) (arities :
   pub fit : (number : ℕ) (get : Get) (row : List ℕ) → slice_get gets number ≡ Some get → Holds (record { relation = get.fragment; terms = row })
       → (arity : ℕ) × (slice_get arities number ≡ Some arity) × (length row ≡ arity)
 
--- The gets of the numbers are done, and the rows are what they give together.
-pub record IsUnderWay (Holds : Fact ℕ → Type 0) (arities : List ℕ) (gets : List Get) (equations : List Equation) (used : List Slot) (done : List ℕ) (places : List Slot) (rows : List (List ℕ)) : Type 0 where
-  pub uses : AreUsed arities gets equations used
+-- The gets of the numbers are done, and the rows are what they give together, in the slots that are still needed.
+pub record IsUnderWay (Holds : Fact ℕ → Type 0) (arities : List ℕ) (gets : List Get) (equations : List Equation) (head : List Source) (done : List ℕ)
+    (places : List Slot) (rows : List (List ℕ)) : Type 0 where
   pub named : (number : ℕ) → Contains done number → number < length gets
   pub settled : (number : ℕ) (get : Get) → Contains done number → slice_get gets number ≡ Some get → IsReady arities done get number
-  pub slots : AreSlots used arities done places
-  pub parts : AreParts Holds arities gets equations done places rows
+  pub slots : AreSlots (needed_slots arities gets equations head done) arities done places
+  pub parts : AreParts Holds arities gets equations done places (Contains rows)

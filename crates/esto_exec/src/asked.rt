@@ -97,11 +97,11 @@ fn ask<F: Fragment>(
     let Some(key) = codes_at(alloc, cells, sources)? else {
         return Ok(());
     };
-    let known = seen.has(alloc, key.items())?;
+    let known = seen.has(key.items())?;
     if known {
         return Ok(());
     }
-    seen.put(key.items())?;
+    seen.put(alloc, key.items())?;
     push_asked(alloc, get, fragment, key.items(), asked)
 }
 
@@ -149,7 +149,7 @@ fn ask_all<F: Fragment>(
         → Follows get.now cells row → Contains asked.new.rows row) }
 {
     let sources = sources_of(alloc, &get.inputs)?;
-    let mut seen = Seen::new(alloc, get.inputs.len(), so_far.len())?;
+    let mut seen = Seen::new(alloc, get.inputs.len())?;
     ask_each(alloc, get, fragment, so_far, &sources, &mut seen, asked)
 }
 

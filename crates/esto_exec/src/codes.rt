@@ -1,12 +1,22 @@
 //! Codes that sources name, and links that rows meet.
-ghost use Rattle.std.specs.Prelude.{◌≡◌, ◌↔◌, List, ℕ, Contains, IfOk, IsTrue, MatchOption};
+ghost use Rattle.std.specs.Prelude.{◌≡◌, ◌↔◌, ◌<◌, List, ℕ, length, slice_get, Some, Contains, IfOk, OnOk, IsTrue, MatchOption};
 ghost use Rattle.esto_plan.specs.declared.steps.Link.{Link};
 ghost use Rattle.esto_plan.specs.Meaning.{code_at, IsMet};
-ghost use Rattle.esto_exec.specs.Named.{NamesCodes};
+ghost use Rattle.esto_exec.specs.Named.{NamesCodes, Names};
 
+use esto_columns::Rows;
 use esto_plan::{Link, Links, Source, Sources};
 use esto_term::{OutOfMemory, Values};
 use std::alloc::Global;
+
+/// Makes the codes those of the row at the place.
+pub(crate) fn read_row(rows: &Rows, at: usize, codes: &mut Values<u64>) -> Result<(), OutOfMemory>
+    requires { at < length rows.now.rows }
+    ensures { OnOk result (slice_get rows.now.rows at ≡ Some codes.new) }
+{
+    codes.truncate(0);
+    rows.push_row(at, codes)
+}
 
 /// The code that the source names in the cells of a row.
 fn code_at(cells: &[u64], source: &Source) -> Option<u64>
@@ -16,6 +26,25 @@ fn code_at(cells: &[u64], source: &Source) -> Option<u64>
         Source::Code(code) => Some(*code),
         Source::Cell(place) => cells.get(*place).copied(),
     }
+}
+
+/// Makes the codes those that the sources name in the cells, and tells whether each names one. Where one doesn't, the
+/// codes are any.
+pub(crate) fn name_codes(
+    cells: &[u64],
+    sources: &Sources,
+    codes: &mut Values<u64>,
+) -> Result<bool, OutOfMemory>
+    ensures { IfOk result (Names cells.now sources.now codes.new) }
+{
+    codes.truncate(0);
+    'sources: for source in sources.items() {
+        let Some(code) = code_at(cells, source) else {
+            return Ok(false);
+        };
+        codes.push(code)?;
+    }
+    Ok(true)
 }
 
 /// The codes that the sources name in the cells, where each names one.
@@ -29,11 +58,8 @@ pub(crate) fn codes_at(
         (NamesCodes cells.now sources.now)) }
 {
     let mut codes = Values::new(alloc);
-    'sources: for source in sources.items() {
-        let Some(code) = code_at(cells, source) else {
-            return Ok(None);
-        };
-        codes.push(code)?;
+    if !name_codes(cells, sources, &mut codes)? {
+        return Ok(None);
     }
     Ok(Some(codes))
 }

@@ -1,30 +1,78 @@
 //! Rows so far joined with rows of a fragment.
-ghost use Rattle.std.specs.Prelude.{◌≡◌, ◌↔◌, ◌++◌, ◌+◌, [], List, ℕ, Some, slice_get, length, map, Contains, IfOk, OnOk, IsTrue};
+ghost use Rattle.std.specs.Prelude.{◌≡◌, ◌↔◌, ◌++◌, ◌<◌, [], List, ℕ, Some, slice_get, length, drop, map, Contains, IfOk, OnOk, IsTrue};
 ghost use Rattle.esto_plan.specs.Meaning.{Follows};
 ghost use Rattle.esto_plan.specs.declared.steps.Source.{Source};
 ghost use Rattle.esto_plan.specs.declared.steps.Source.TheVariants.{Cell};
 ghost use Rattle.esto_columns.specs.Indexed.{AreChains, bucket_of};
 ghost use Rattle.esto_exec.specs.Indexed.{FindsRows};
-ghost use Rattle.esto_exec.specs.Joined.{IsJoin, IsFollower, IsFollowerAt, GainsOnly};
+ghost use Rattle.esto_exec.specs.Joined.{IsJoin, IsFollower, IsFollowerAt, IsKept, GainsOnly};
 ghost use Rattle.esto_exec.specs.Named.{NamesCodes};
 
-use crate::codes::{codes_at, each_met};
+use crate::codes::{each_met, name_codes, read_row};
 use crate::index::index_of;
 use crate::links::{columns_of, early_links, sources_of};
+use crate::seen::{Seen, put_unseen};
 use esto_columns::{Index, Rows};
 use esto_plan::{Get, Links, Sources};
 use esto_term::{OutOfMemory, Values};
 use std::alloc::Global;
 
-/// The cells with those of the row after them.
-fn appended(alloc: Global, cells: &[u64], row: &[u64]) -> Result<Values<u64>, OutOfMemory>
-    ensures { IfOk result (λ it. it ≡ cells.now ++ row.now) }
+/// A get that is joined, and what names the codes that are kept of its joined rows.
+#[derive(Drop)]
+pub(crate) struct Join {
+    pub get: Get,
+    pub kept: Sources,
+}
+
+/// Lists that are filled anew for each row: the cells of a row so far and its key, the cells with those of a row of the
+/// fragment after them, and what is kept of these.
+#[derive(Drop)]
+struct Buffers {
+    cells: Values<u64>,
+    key: Values<u64>,
+    both: Values<u64>,
+    kept: Values<u64>,
+}
+
+impl Buffers {
+    /// Empty lists, which take no memory.
+    fn new(alloc: Global) -> Buffers {
+        Buffers {
+            cells: Values::new(alloc),
+            key: Values::new(alloc),
+            both: Values::new(alloc),
+            kept: Values::new(alloc),
+        }
+    }
+}
+
+/// Makes the codes the cells with those of the row at the place after them.
+fn append_row(
+    cells: &[u64],
+    rows: &Rows,
+    place: usize,
+    both: &mut Values<u64>,
+) -> Result<(), OutOfMemory>
+    requires { place < length rows.now.rows }
+    ensures { OnOk result ((row : List ℕ)
+        × (slice_get rows.now.rows place ≡ Some row) × (both.new ≡ cells.now ++ row)) }
 {
-    let mut both = Values::from_slice(alloc, cells)?;
-    'codes: for code in row {
+    both.truncate(0);
+    'cells: for code in cells {
         both.push(*code)?;
     }
-    Ok(both)
+    rows.push_row(place, both)
+}
+
+/// The codes of the two that stand past so many.
+fn past(both: &[u64], width: usize) -> &[u64]
+    ensures { result.now ≡ drop width both.now }
+{
+    if width < both.len() {
+        &both[width..]
+    } else {
+        &[]
+    }
 }
 
 /// Whether the row follows the cells; the two are also given one after the other.
@@ -35,110 +83,130 @@ fn follows(get: &Get, cells: &[u64], both: &[u64], row: &[u64]) -> bool
     each_met(cells, row, &get.inputs) && each_met(both, row, &get.filters)
 }
 
-/// Puts the row at the place after the cells, where it is there and follows them.
+/// Puts what is kept of the cells with the row at the place after them at the end, where the row is there and follows
+/// them.
 fn push_follower(
     alloc: Global,
-    get: &Get,
-    cells: &[u64],
+    join: &Join,
     rows: &Rows,
     place: usize,
-    into: &mut Rows,
+    buffers: &mut Buffers,
+    into: &mut Seen,
 ) -> Result<(), OutOfMemory>
-    requires { into.old.arity ≡ length cells.now + rows.now.arity }
+    requires { into.old.arity ≡ length join.now.kept }
+    ensures cells { buffers.new.cells ≡ buffers.old.cells }
     ensures arity { OnOk result (into.new.arity ≡ into.old.arity) }
-    ensures rows { OnOk result (GainsOnly into.old.rows into.new.rows
-        (IsFollowerAt get.now cells.now rows.now.rows place)) }
+    ensures rows { OnOk result (GainsOnly into.old.rows into.new.rows (IsKept join.now.kept
+        (IsFollowerAt join.now.get buffers.old.cells rows.now.rows place))) }
 {
-    let _arity = rows.arity();
     if place >= rows.len() {
         return Ok(());
     }
-    let row = rows.row(alloc, place)?;
-    let both = appended(alloc, cells, row.items())?;
-    if !follows(get, cells, both.items(), row.items()) {
+    append_row(buffers.cells.items(), rows, place, &mut buffers.both)?;
+    let cells = buffers.cells.items();
+    let both = buffers.both.items();
+    if !follows(&join.get, cells, both, past(both, cells.len())) {
         return Ok(());
     }
-    into.add(both.items())
+    if !name_codes(both, &join.kept, &mut buffers.kept)? {
+        return Ok(());
+    }
+    put_unseen(alloc, into, buffers.kept.items())
 }
 
-/// Puts those of the rows that follow the cells after them, of those whose keys are in one bucket with this one.
+/// Puts what is kept of the cells with each of the rows that follows them at the end, of the rows whose keys are in one
+/// bucket with that of the cells.
 fn push_followers(
     alloc: Global,
-    get: &Get,
-    cells: &[u64],
+    join: &Join,
     rows: &Rows,
     index: &Index,
-    key: &[u64],
-    into: &mut Rows,
+    buffers: &mut Buffers,
+    into: &mut Seen,
 ) -> Result<(), OutOfMemory>
-    requires { into.old.arity ≡ length cells.now + rows.now.arity }
+    requires { into.old.arity ≡ length join.now.kept }
     ensures arity { OnOk result (into.new.arity ≡ into.old.arity) }
     ensures rows { OnOk result ((buckets : List ℕ) → AreChains index.now buckets
-        → GainsOnly into.old.rows into.new.rows (λ both. (place : ℕ)
-        × (slice_get buckets place ≡ Some (bucket_of (length index.now.last) key.now))
-        × IsFollowerAt get.now cells.now rows.now.rows place both)) }
+        → GainsOnly into.old.rows into.new.rows (λ it. (place : ℕ)
+        × (slice_get buckets place ≡ Some (bucket_of (length index.now.last) buffers.old.key))
+        × IsKept join.now.kept
+        (IsFollowerAt join.now.get buffers.old.cells rows.now.rows place) it)) }
 {
-    let mut next = index.last_of(key);
+    let mut next = index.last_of(buffers.key.items());
     'places: while next > 0 {
         let place = next - 1;
-        push_follower(alloc, get, cells, rows, place, into)?;
+        push_follower(alloc, join, rows, place, buffers, into)?;
         next = index.before(place);
     }
     Ok(())
 }
 
-/// Puts each of the rows that follows the cells after them.
+/// Puts what is kept of the row so far at the place with each of the rows that follows it at the end.
 fn push_joined(
     alloc: Global,
-    get: &Get,
-    cells: &[u64],
+    join: &Join,
+    so_far: &Rows,
+    at: usize,
     rows: &Rows,
     sources: &Sources,
     index: &Index,
-    into: &mut Rows,
+    buffers: &mut Buffers,
+    into: &mut Seen,
 ) -> Result<(), OutOfMemory>
-    requires arity { into.old.arity ≡ length cells.now + rows.now.arity }
+    requires there { at < length so_far.now.rows }
+    requires arity { into.old.arity ≡ length join.now.kept }
     requires found { (columns : List Source) × FindsRows rows.now.rows columns index.now
-        × ((row : List ℕ) → Follows get.now cells.now row → (codes : List ℕ)
-        × NamesCodes cells.now sources.now codes × NamesCodes row columns codes) }
+        × ((cells row : List ℕ) → Contains so_far.now.rows cells → Follows join.now.get cells row
+        → (codes : List ℕ) × NamesCodes cells sources.now codes × NamesCodes row columns codes) }
     ensures arity { OnOk result (into.new.arity ≡ into.old.arity) }
-    ensures rows { OnOk result (GainsOnly into.old.rows into.new.rows
-        (IsFollower get.now cells.now rows.now.rows)) }
+    ensures rows { OnOk result ((cells : List ℕ) → slice_get so_far.now.rows at ≡ Some cells
+        → GainsOnly into.old.rows into.new.rows
+        (IsKept join.now.kept (IsFollower join.now.get cells rows.now.rows))) }
 {
-    let Some(key) = codes_at(alloc, cells, sources)? else {
+    read_row(so_far, at, &mut buffers.cells)?;
+    if !name_codes(buffers.cells.items(), sources, &mut buffers.key)? {
         return Ok(());
-    };
-    push_followers(alloc, get, cells, rows, index, key.items(), into)
+    }
+    push_followers(alloc, join, rows, index, buffers, into)
 }
 
-/// Puts each of the rows so far, with every one of the rows that follows it after it.
+/// Puts what is kept of each of the rows so far with every one of the rows that follows it at the end.
 fn push_each_joined(
     alloc: Global,
-    get: &Get,
+    join: &Join,
     so_far: &Rows,
     rows: &Rows,
     sources: &Sources,
     index: &Index,
-    into: &mut Rows,
+    into: &mut Seen,
 ) -> Result<(), OutOfMemory>
     requires none { into.old.rows ≡ [] }
-    requires arity { into.old.arity ≡ so_far.now.arity + rows.now.arity }
+    requires arity { into.old.arity ≡ length join.now.kept }
     requires found { (columns : List Source) × FindsRows rows.now.rows columns index.now
-        × ((cells row : List ℕ) → length cells ≡ so_far.now.arity → Follows get.now cells row
+        × ((cells row : List ℕ) → Contains so_far.now.rows cells → Follows join.now.get cells row
         → (codes : List ℕ) × NamesCodes cells sources.now codes × NamesCodes row columns codes) }
-    ensures { OnOk result ((both : List ℕ)
-        → Contains into.new.rows both ↔ IsJoin get.now so_far.now.rows rows.now.rows both) }
+    ensures { OnOk result ((row : List ℕ) → Contains into.new.rows row
+        ↔ IsKept join.now.kept (IsJoin join.now.get so_far.now.rows rows.now.rows) row) }
 {
-    let _width = so_far.arity();
+    let mut buffers = Buffers::new(alloc);
     'rows: for at in 0..so_far.len() {
-        let cells = so_far.row(alloc, at)?;
-        push_joined(alloc, get, cells.items(), rows, sources, index, into)?;
+        push_joined(
+            alloc,
+            join,
+            so_far,
+            at,
+            rows,
+            sources,
+            index,
+            &mut buffers,
+            into,
+        )?;
     }
     Ok(())
 }
 
 /// An index of the rows by the columns of the links.
-fn index_by(alloc: Global, rows: &Rows, links: &Links) -> Result<Index, OutOfMemory>
+pub(crate) fn index_by(alloc: Global, rows: &Rows, links: &Links) -> Result<Index, OutOfMemory>
     ensures { IfOk result
         (FindsRows rows.now.rows (map (λ link. Cell link.column) links.now)) }
 {
@@ -147,41 +215,38 @@ fn index_by(alloc: Global, rows: &Rows, links: &Links) -> Result<Index, OutOfMem
     Ok(index)
 }
 
-/// Puts each of the rows so far, with every one of the rows that follows it after it, by an index of these.
+/// Puts what is kept of each of the rows so far with every one of the rows that follows it at the end, by an index of
+/// these.
 fn push_all_joined(
     alloc: Global,
-    get: &Get,
+    join: &Join,
     so_far: &Rows,
     rows: &Rows,
-    into: &mut Rows,
+    into: &mut Seen,
 ) -> Result<(), OutOfMemory>
     requires none { into.old.rows ≡ [] }
-    requires arity { into.old.arity ≡ so_far.now.arity + rows.now.arity }
-    ensures { OnOk result ((both : List ℕ)
-        → Contains into.new.rows both ↔ IsJoin get.now so_far.now.rows rows.now.rows both) }
+    requires arity { into.old.arity ≡ length join.now.kept }
+    ensures { OnOk result ((row : List ℕ) → Contains into.new.rows row
+        ↔ IsKept join.now.kept (IsJoin join.now.get so_far.now.rows rows.now.rows) row) }
 {
     let width = so_far.arity();
-    let links = early_links(alloc, get, width)?;
+    let links = early_links(alloc, &join.get, width)?;
     let sources = sources_of(alloc, &links)?;
     let index = index_by(alloc, rows, &links)?;
-    push_each_joined(alloc, get, so_far, rows, &sources, &index, into)
+    push_each_joined(alloc, join, so_far, rows, &sources, &index, into)
 }
 
-/// The rows so far, each with every one of the rows that follows it after it.
+/// What is kept of the rows so far, each with every one of the rows that follows it after it.
 pub(crate) fn joined(
     alloc: Global,
-    get: &Get,
+    join: &Join,
     so_far: &Rows,
     rows: &Rows,
 ) -> Result<Rows, OutOfMemory>
-    ensures { IfOk result (λ it. (both : List ℕ)
-        → Contains it.rows both ↔ IsJoin get.now so_far.now.rows rows.now.rows both) }
+    ensures { IfOk result (λ it. (row : List ℕ) → Contains it.rows row
+        ↔ IsKept join.now.kept (IsJoin join.now.get so_far.now.rows rows.now.rows) row) }
 {
-    let width = so_far.arity();
-    let Some(arity) = width.checked_add(rows.arity()) else {
-        return Err(OutOfMemory);
-    };
-    let mut joined = Rows::new(alloc, arity)?;
-    push_all_joined(alloc, get, so_far, rows, &mut joined)?;
-    Ok(joined)
+    let mut joined = Seen::new(alloc, join.kept.len())?;
+    push_all_joined(alloc, join, so_far, rows, &mut joined)?;
+    Ok(joined.into_rows())
 }

@@ -1,30 +1,35 @@
 //! The codes that sources name in rows.
-ghost use Rattle.std.specs.Prelude.{◌≡◌, ◌↔◌, List, ℕ, length, [], Contains, IfOk, OnOk};
+ghost use Rattle.std.specs.Prelude.{◌≡◌, ◌↔◌, ◌<◌, List, ℕ, length, slice_get, Some, [], Contains, IfOk, OnOk};
 ghost use Rattle.esto_exec.specs.Joined.{GainsOnly};
 ghost use Rattle.esto_exec.specs.Named.{NamesCodes};
 
-use crate::codes::codes_at;
+use crate::codes::{name_codes, read_row};
 use esto_columns::Rows;
 use esto_plan::Sources;
-use esto_term::OutOfMemory;
+use esto_term::{OutOfMemory, Values};
 use std::alloc::Global;
 
-/// Puts the codes of the head in the cells at the end, where each is there.
+/// Puts the codes of the head in the row at the place at the end, where each is there. The row and the codes are read
+/// into the two lists.
 fn push_projected(
-    alloc: Global,
     head: &Sources,
-    cells: &[u64],
+    rows: &Rows,
+    at: usize,
+    cells: &mut Values<u64>,
+    codes: &mut Values<u64>,
     into: &mut Rows,
 ) -> Result<(), OutOfMemory>
-    requires { into.old.arity ≡ length head.now }
+    requires there { at < length rows.now.rows }
+    requires arity { into.old.arity ≡ length head.now }
     ensures arity { OnOk result (into.new.arity ≡ into.old.arity) }
-    ensures rows { OnOk result
-        (GainsOnly into.old.rows into.new.rows (NamesCodes cells.now head.now)) }
+    ensures rows { OnOk result ((row : List ℕ) → slice_get rows.now.rows at ≡ Some row
+        → GainsOnly into.old.rows into.new.rows (NamesCodes row head.now)) }
 {
-    let Some(row) = codes_at(alloc, cells, head)? else {
+    read_row(rows, at, cells)?;
+    if !name_codes(cells.items(), head, codes)? {
         return Ok(());
-    };
-    into.add(row.items())
+    }
+    into.add(codes.items())
 }
 
 /// Puts the codes of the head in each of the rows at the end, where each is there.
@@ -39,9 +44,10 @@ fn push_each_projected(
     ensures rows { OnOk result ((row : List ℕ) → Contains into.new.rows row
         ↔ ((end : List ℕ) × Contains rows.now.rows end × NamesCodes end head.now row)) }
 {
+    let mut cells = Values::new(alloc);
+    let mut codes = Values::new(alloc);
     'rows: for at in 0..rows.len() {
-        let cells = rows.row(alloc, at)?;
-        push_projected(alloc, head, cells.items(), into)?;
+        push_projected(head, rows, at, &mut cells, &mut codes, into)?;
     }
     Ok(())
 }

@@ -6,8 +6,8 @@ ghost use Rattle.esto_exec.specs.Runnable.{AreRunnable};
 
 use crate::order::order_of;
 use crate::project::projected;
-use crate::slots::{equations_of, used_slots};
-use crate::turns::{arities_of, joined_rows, sought_head};
+use crate::slots::equations_of;
+use crate::turns::{arities_of, joined_rows, head_in};
 use esto_columns::{Fragment, Rows};
 use esto_plan::Steps;
 use esto_term::OutOfMemory;
@@ -15,7 +15,8 @@ use std::alloc::Global;
 
 /// Runs the steps over the fragments, which a get names by number and asks in one of their ways. The rows, read as a
 /// set, are exactly what the steps mean over the rows of the fragments, so they rest on those fragments alone that the
-/// steps name. The gets are joined in an order of the executor's own, where each link is read either way, and rows by codes, found by an index of the codes that a join compares.
+/// steps name. The gets are joined in an order of the executor's own, in which each link is read either way. Rows are joined
+/// by an index of the codes that the join compares, and of a joined row only those cells are kept that are still needed.
 pub fn run_plan<F: Fragment>(
     alloc: Global,
     steps: &Steps,
@@ -29,16 +30,15 @@ pub fn run_plan<F: Fragment>(
     let arities = arities_of(alloc, &steps.gets, fragments)?;
     let equations = equations_of(alloc, &arities, &steps.gets)?;
     let order = order_of(alloc, &steps.gets, &arities, &equations)?;
-    let used = used_slots(alloc, &arities, &steps.gets, &equations, &steps.head)?;
     let so_far = joined_rows(
         alloc,
         &steps.gets,
         fragments,
         &arities,
         &equations,
-        &used,
+        &steps.head,
         &order,
     )?;
-    let head = sought_head(alloc, &so_far.places, &arities, &steps.head)?;
+    let head = head_in(alloc, &so_far.places, &arities, &steps.head)?;
     projected(alloc, &head, &so_far.rows)
 }

@@ -1,18 +1,22 @@
-//! Keys that were seen.
+//! Rows that were seen.
 ghost use Rattle.std.specs.Prelude.{◌≡◌, ◌++◌, ◌∷◌, [], length, Contains, IfOk, OnOk, IsTrue};
 ghost use Rattle.esto_columns.specs.CodedRows.{CodedRows};
+ghost use Rattle.esto_exec.specs.Joined.{GainsOnly};
 
+use crate::codes::read_row;
 use esto_columns::{Index, Rows};
-use esto_term::OutOfMemory;
+use esto_term::{OutOfMemory, Values};
 use std::alloc::Global;
 use std::marker::Model;
 
-/// Rows of codes that were seen as keys, which contracts see as their arity and their list. They are kept by columns,
-/// and found by an index.
+/// Rows of codes that were seen, which contracts see as their arity and their list. They are kept by columns, and found
+/// by an index, which is made anew when there are as many rows as there was room for.
 #[derive(Drop)]
 pub(crate) struct Seen {
-    keys: Rows,
+    rows: Rows,
     index: Index,
+    room: usize,
+    read: Values<u64>,
 }
 
 impl Model for Seen {
@@ -20,28 +24,38 @@ impl Model for Seen {
 
     ghost Value = { CodedRows };
 
-    ghost view = { λ it. it.keys };
+    ghost view = { λ it. it.rows };
 }
 
-/// Whether the key stands at the place of the keys.
-fn is_at(alloc: Global, keys: &Rows, place: usize, key: &[u64]) -> Result<bool, OutOfMemory>
-    ensures { IfOk result (λ is. IsTrue is → Contains keys.now.rows key.now) }
+/// Whether the row stands at the place of the rows. Rows are read into the list.
+fn is_at(
+    rows: &Rows,
+    place: usize,
+    row: &[u64],
+    read: &mut Values<u64>,
+) -> Result<bool, OutOfMemory>
+    ensures { IfOk result (λ is. IsTrue is → Contains rows.now.rows row.now) }
 {
-    if place >= keys.len() {
+    if place >= rows.len() {
         return Ok(false);
     }
-    let row = keys.row(alloc, place)?;
-    Ok(row.items() == key)
+    read_row(rows, place, read)?;
+    Ok(read.items() == row)
 }
 
-/// Whether the key is one of the keys, as far as a look at those of its bucket tells.
-fn is_among(alloc: Global, keys: &Rows, index: &Index, key: &[u64]) -> Result<bool, OutOfMemory>
-    ensures { IfOk result (λ is. IsTrue is → Contains keys.now.rows key.now) }
+/// Whether the row is one of the rows, as far as a look at those of its bucket tells.
+fn is_among(
+    rows: &Rows,
+    index: &Index,
+    row: &[u64],
+    read: &mut Values<u64>,
+) -> Result<bool, OutOfMemory>
+    ensures { IfOk result (λ is. IsTrue is → Contains rows.now.rows row.now) }
 {
-    let mut next = index.last_of(key);
+    let mut next = index.last_of(row);
     'places: while next > 0 {
         let place = next - 1;
-        if is_at(alloc, keys, place, key)? {
+        if is_at(rows, place, row, read)? {
             return Ok(true);
         }
         next = index.before(place);
@@ -49,30 +63,77 @@ fn is_among(alloc: Global, keys: &Rows, index: &Index, key: &[u64]) -> Result<bo
     Ok(false)
 }
 
+/// Puts each of the rows into the index.
+fn index_rows(rows: &Rows, index: &mut Index, read: &mut Values<u64>) -> Result<(), OutOfMemory> {
+    'rows: for at in 0..rows.len() {
+        read_row(rows, at, read)?;
+        index.add(read.items())?;
+    }
+    Ok(())
+}
+
 impl Seen {
-    /// No keys of the arity. They are found fast as long as there are not many more of them than the count.
-    pub(crate) fn new(alloc: Global, arity: usize, count: usize) -> Result<Seen, OutOfMemory>
+    /// No rows of the arity.
+    pub(crate) fn new(alloc: Global, arity: usize) -> Result<Seen, OutOfMemory>
         ensures { IfOk result (λ it. it ≡ record { arity = arity; rows = [] }) }
     {
-        let keys = Rows::new(alloc, arity)?;
-        let index = Index::new(alloc, count)?;
-        Ok(Seen { keys, index })
+        let rows = Rows::new(alloc, arity)?;
+        let index = Index::new(alloc, 1)?;
+        Ok(Seen {
+            rows,
+            index,
+            room: 1,
+            read: Values::new(alloc),
+        })
     }
 
-    /// Whether the key was seen, as far as a look at those of its bucket tells.
-    pub(crate) fn has(&self, alloc: Global, key: &[u64]) -> Result<bool, OutOfMemory>
-        ensures { IfOk result (λ has. IsTrue has → Contains self.now.rows key.now) }
+    /// Whether the row was seen, as far as a look at those of its bucket tells.
+    pub(crate) fn has(&mut self, row: &[u64]) -> Result<bool, OutOfMemory>
+        ensures same { self.new ≡ self.old }
+        ensures has { IfOk result (λ has. IsTrue has → Contains self.old.rows row.now) }
     {
-        is_among(alloc, &self.keys, &self.index, key)
+        is_among(&self.rows, &self.index, row, &mut self.read)
     }
 
-    /// Puts the key at the end.
-    pub(crate) fn put(&mut self, key: &[u64]) -> Result<(), OutOfMemory>
-        requires { length key.now ≡ self.old.arity }
+    /// Sees to it that there is room for one more row.
+    fn widen(&mut self, alloc: Global) -> Result<(), OutOfMemory>
+        ensures { self.new ≡ self.old }
+    {
+        if self.rows.len() < self.room {
+            return Ok(());
+        }
+        self.room = self.rows.len().saturating_mul(2).saturating_add(1);
+        self.index = Index::new(alloc, self.room)?;
+        index_rows(&self.rows, &mut self.index, &mut self.read)
+    }
+
+    /// Puts the row at the end.
+    pub(crate) fn put(&mut self, alloc: Global, row: &[u64]) -> Result<(), OutOfMemory>
+        requires { length row.now ≡ self.old.arity }
         ensures { OnOk result (self.new
-            ≡ record { arity = self.old.arity; rows = self.old.rows ++ key.now ∷ [] }) }
+            ≡ record { arity = self.old.arity; rows = self.old.rows ++ row.now ∷ [] }) }
     {
-        self.index.add(key)?;
-        self.keys.add(key)
+        self.widen(alloc)?;
+        self.index.add(row)?;
+        self.rows.add(row)
     }
+
+    /// The rows.
+    pub(crate) fn into_rows(self) -> Rows
+        ensures { result ≡ self }
+    {
+        self.rows
+    }
+}
+
+/// Puts the row at the end, unless it was seen.
+pub(crate) fn put_unseen(alloc: Global, seen: &mut Seen, row: &[u64]) -> Result<(), OutOfMemory>
+    requires { length row.now ≡ seen.old.arity }
+    ensures arity { OnOk result (seen.new.arity ≡ seen.old.arity) }
+    ensures rows { OnOk result (GainsOnly seen.old.rows seen.new.rows (λ it. row.now ≡ it)) }
+{
+    if seen.has(row)? {
+        return Ok(());
+    }
+    seen.put(alloc, row)
 }

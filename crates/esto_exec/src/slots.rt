@@ -1,7 +1,8 @@
 //! Cells of the rows that gets give, and what links say of them, whatever order the gets are taken in.
-ghost use Rattle.std.specs.Prelude.{◌≡◌, ◌==◌, ◌++◌, ◌∷◌, [], List, ℕ, length, map, flat_map, take, IfOk, OnOk, IsTrue};
+ghost use Rattle.std.specs.Prelude.{◌≡◌, ◌==◌, ◌++◌, ◌∷◌, [], List, ℕ, length, map, flat_map, take, cond, IfOk, OnOk, IsTrue};
 ghost use Rattle.esto_exec.specs.Slots.{side_from, side_of, equations_by, equations_from};
-ghost use Rattle.esto_exec.specs.Turns.{same_slot, place_in, is_in, is_known, sought, side_slots, input_slots, equation_slots, head_slots, is_among, kept_slots};
+ghost use Rattle.esto_exec.specs.Turns.{same_slot, place_in, is_in, is_known, is_decided, source_in, side_slots, input_slots, equation_slots};
+ghost use Rattle.esto_exec.specs.Turns.{head_slots, needed_slots, is_among, kept_slots};
 
 use esto_plan::{Gets, Links, Source, Sources};
 use esto_term::{List, OutOfMemory, Places};
@@ -138,31 +139,65 @@ fn push_inputs(slots: &mut Slots, arities: &[usize], links: &Links) -> Result<()
     Ok(())
 }
 
-/// Puts the slots that the inputs of the gets name at the end.
-fn push_input_slots(slots: &mut Slots, arities: &Places, gets: &Gets) -> Result<(), OutOfMemory>
-    ensures { OnOk result (slots.new ≡ slots.old ++ input_slots arities.now 0 gets.now) }
+/// Puts the slots that the inputs of the get of the number name at the end, if it is not done.
+fn push_open_inputs(
+    slots: &mut Slots,
+    arities: &Places,
+    done: &Places,
+    number: usize,
+    links: &Links,
+) -> Result<(), OutOfMemory>
+    ensures { OnOk result (slots.new ≡ slots.old ++ cond (is_in done.now number) []
+        (flat_map (λ link. side_slots (side_of (take number arities.now) link.source)) links.now)) }
+{
+    if is_in(done, number) {
+        return Ok(());
+    }
+    push_inputs(slots, first_of(arities, number), links)
+}
+
+/// Puts the slots that the inputs of gets name which are not done at the end.
+fn push_input_slots(
+    slots: &mut Slots,
+    arities: &Places,
+    done: &Places,
+    gets: &Gets,
+) -> Result<(), OutOfMemory>
+    ensures { OnOk result (slots.new
+        ≡ slots.old ++ input_slots arities.now done.now 0 gets.now) }
 {
     'gets: for (number, get) in gets.items().iter().enumerate() {
-        push_inputs(slots, first_of(arities, number), &get.inputs)?;
+        push_open_inputs(slots, arities, done, number, &get.inputs)?;
     }
     Ok(())
 }
 
-/// Puts the slots of the equation at the end.
-fn push_equation(slots: &mut Slots, equation: &Equation) -> Result<(), OutOfMemory>
-    ensures { OnOk result (slots.new
-        ≡ slots.old ++ equation.now.slot ∷ side_slots equation.now.side) }
+/// Puts the slots of the equation at the end, if its sides are not both known.
+fn push_open_equation(
+    slots: &mut Slots,
+    done: &Places,
+    equation: &Equation,
+) -> Result<(), OutOfMemory>
+    ensures { OnOk result (slots.new ≡ slots.old ++ cond (is_decided done.now equation.now) []
+        (equation.now.slot ∷ side_slots equation.now.side)) }
 {
+    if is_in(done, equation.slot.get) && is_known(done, &equation.side) {
+        return Ok(());
+    }
     slots.push(equation.slot)?;
     push_side(slots, &equation.side)
 }
 
-/// Puts the slots that the equations name at the end.
-fn push_equation_slots(slots: &mut Slots, equations: &Equations) -> Result<(), OutOfMemory>
-    ensures { OnOk result (slots.new ≡ slots.old ++ equation_slots equations.now) }
+/// Puts the slots that the equations name whose sides are not both known at the end.
+fn push_equation_slots(
+    slots: &mut Slots,
+    done: &Places,
+    equations: &Equations,
+) -> Result<(), OutOfMemory>
+    ensures { OnOk result (slots.new ≡ slots.old ++ equation_slots done.now equations.now) }
 {
     'equations: for equation in equations.items() {
-        push_equation(slots, equation)?;
+        push_open_equation(slots, done, equation)?;
     }
     Ok(())
 }
@@ -177,20 +212,21 @@ fn push_head_slots(slots: &mut Slots, arities: &Places, head: &Sources) -> Resul
     Ok(())
 }
 
-/// The slots that equations, inputs or the head name.
-pub(crate) fn used_slots(
+/// The slots that are needed where the gets of the numbers are done: those that inputs, equations or the head still name.
+pub(crate) fn needed_slots(
     alloc: Global,
     arities: &Places,
     gets: &Gets,
     equations: &Equations,
     head: &Sources,
+    done: &Places,
 ) -> Result<Slots, OutOfMemory>
-    ensures { IfOk result (λ it. it ≡ (equation_slots equations.now
-        ++ input_slots arities.now 0 gets.now) ++ head_slots arities.now head.now) }
+    ensures { IfOk result (λ it.
+        it ≡ needed_slots arities.now gets.now equations.now head.now done.now) }
 {
     let mut slots = List::new(alloc);
-    push_equation_slots(&mut slots, equations)?;
-    push_input_slots(&mut slots, arities, gets)?;
+    push_equation_slots(&mut slots, done, equations)?;
+    push_input_slots(&mut slots, arities, done, gets)?;
     push_head_slots(&mut slots, arities, head)?;
     Ok(slots)
 }
@@ -207,23 +243,23 @@ fn is_among(slots: &Slots, slot: &Slot) -> bool
     false
 }
 
-/// Puts the slot at the end, if it is one of the used ones.
-fn push_used(kept: &mut Slots, used: &Slots, slot: &Slot) -> Result<(), OutOfMemory>
-    ensures { OnOk result (kept.new ≡ kept.old ++ kept_slots used.now (slot.now ∷ [])) }
+/// Puts the slot at the end, if it is one of the needed ones.
+fn push_if_needed(kept: &mut Slots, needed: &Slots, slot: &Slot) -> Result<(), OutOfMemory>
+    ensures { OnOk result (kept.new ≡ kept.old ++ kept_slots needed.now (slot.now ∷ [])) }
 {
-    if !is_among(used, slot) {
+    if !is_among(needed, slot) {
         return Ok(());
     }
     kept.push(*slot)
 }
 
-/// Those of the slots that are used.
-pub(crate) fn kept_slots(alloc: Global, used: &Slots, slots: &Slots) -> Result<Slots, OutOfMemory>
-    ensures { IfOk result (λ it. it ≡ kept_slots used.now slots.now) }
+/// Those of the slots that are needed.
+pub(crate) fn kept_slots(alloc: Global, needed: &Slots, slots: &Slots) -> Result<Slots, OutOfMemory>
+    ensures { IfOk result (λ it. it ≡ kept_slots needed.now slots.now) }
 {
     let mut kept = List::new(alloc);
     'slots: for slot in slots.items() {
-        push_used(&mut kept, used, slot)?;
+        push_if_needed(&mut kept, needed, slot)?;
     }
     Ok(kept)
 }
@@ -265,8 +301,8 @@ pub(crate) fn is_known(done: &Places, side: &Side) -> bool
 
 /// What names the side's code in rows whose cells are those of the slots; what is not there is named by a place past
 /// the end.
-pub(crate) fn sought(places: &Slots, side: &Side) -> Source
-    ensures { result ≡ sought places.now side.now }
+pub(crate) fn source_in(places: &Slots, side: &Side) -> Source
+    ensures { result ≡ source_in places.now side.now }
 {
     match side {
         Side::Constant(code) => Source::Code(*code),

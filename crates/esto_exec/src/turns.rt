@@ -4,18 +4,16 @@ ghost use Rattle.esto_plan.specs.declared.steps.Get.{Get};
 ghost use Rattle.esto_plan.specs.declared.steps.Link.{Link};
 ghost use Rattle.esto_plan.specs.Rows.{IsRowOf, held_by};
 ghost use Rattle.esto_columns.specs.Asked.{IsAllowed};
-ghost use Rattle.esto_exec.specs.Joined.{IsJoin};
-ghost use Rattle.esto_exec.specs.Named.{NamesCodes};
+ghost use Rattle.esto_exec.specs.Joined.{IsJoin, IsKept};
 ghost use Rattle.esto_exec.specs.declared.slots.Side.TheVariants.{Held};
 ghost use Rattle.esto_exec.specs.Runnable.{AreRunnable};
 ghost use Rattle.esto_exec.specs.Slots.{side_of, IsKnown};
-ghost use Rattle.esto_exec.specs.Turns.{sought, turned, links_of, slots_from, IsReady, AreArities, AreUsed, IsUnderWay, kept_slots};
+ghost use Rattle.esto_exec.specs.Turns.{source_in, link_in, links_of, slots_from, IsReady, AreArities, IsUnderWay, kept_slots};
 
 use crate::asked::asked_rows;
-use crate::join::joined;
-use crate::project::projected;
+use crate::join::{Join, joined};
 use crate::slots::{
-    Equation, Equations, Side, Slot, Slots, first_of, is_in, is_known, kept_slots, side_of, sought,
+    Equation, Equations, Side, Slot, Slots, first_of, is_in, is_known, kept_slots, needed_slots, side_of, source_in,
 };
 use esto_columns::{Fragment, Rows};
 use esto_plan::{Get, Gets, Link, Links, Source, Sources};
@@ -23,19 +21,19 @@ use esto_term::{List, OutOfMemory, Places, Values};
 use std::alloc::Global;
 
 /// The links of a get, after gets with these arities in the stated order, as rows so far have them.
-fn turned_links(
+fn links_in(
     alloc: Global,
     places: &Slots,
     arities: &[usize],
     links: &Links,
 ) -> Result<Links, OutOfMemory>
-    ensures { IfOk result (λ it. it ≡ map (turned places.now arities.now) links.now) }
+    ensures { IfOk result (λ it. it ≡ map (link_in places.now arities.now) links.now) }
 {
     let mut own = List::new(alloc);
     'links: for link in links.items() {
         own.push(Link {
             column: link.column,
-            source: sought(places, &side_of(arities, &link.source)),
+            source: source_in(places, &side_of(arities, &link.source)),
         })?;
     }
     Ok(own)
@@ -57,7 +55,7 @@ fn push_link(
         }
         return links.push(Link {
             column: equation.slot.column,
-            source: sought(places, &equation.side),
+            source: source_in(places, &equation.side),
         });
     }
     match &equation.side {
@@ -69,7 +67,7 @@ fn push_link(
             }
             links.push(Link {
                 column: other.column,
-                source: sought(places, &Side::Held(equation.slot)),
+                source: source_in(places, &Side::Held(equation.slot)),
             })
         }
     }
@@ -136,58 +134,67 @@ pub(crate) fn arities_of<F: Fragment>(
 }
 
 /// What names the codes of the slots in rows whose cells are those of the places.
-fn sought_slots(alloc: Global, places: &Slots, slots: &Slots) -> Result<Sources, OutOfMemory>
-    ensures { IfOk result (λ it. it ≡ map (λ slot. sought places.now (Held slot)) slots.now) }
+fn slot_sources(alloc: Global, places: &Slots, slots: &Slots) -> Result<Sources, OutOfMemory>
+    ensures { IfOk result (λ it. it ≡ map (λ slot. source_in places.now (Held slot)) slots.now) }
 {
     let mut sources = List::new(alloc);
     'slots: for slot in slots.items() {
-        sources.push(sought(places, &Side::Held(*slot)))?;
+        sources.push(source_in(places, &Side::Held(*slot)))?;
     }
     Ok(sources)
 }
 
 /// What names the head's codes in rows whose cells are those of the slots.
-pub(crate) fn sought_head(
+pub(crate) fn head_in(
     alloc: Global,
     places: &Slots,
     arities: &Places,
     head: &Sources,
 ) -> Result<Sources, OutOfMemory>
-    ensures { IfOk result (λ it. it ≡ map (λ source. sought places.now (side_of arities.now source)) head.now) }
+    ensures { IfOk result (λ it. it ≡ map (λ source. source_in places.now (side_of arities.now source)) head.now) }
 {
     let mut sources = List::new(alloc);
     'sources: for source in head.items() {
-        sources.push(sought(places, &side_of(arities.items(), source)))?;
+        sources.push(source_in(places, &side_of(arities.items(), source)))?;
     }
     Ok(sources)
 }
 
-/// Goes from the rows so far to these, each with every row of the fragment that follows it after it.
-fn follow<F: Fragment>(
+/// Joins the rows so far with those of the fragment, and keeps of them what the join says.
+fn join_fragment<F: Fragment>(
     alloc: Global,
-    get: &Get,
+    join: &Join,
     fragment: &F,
     so_far: &mut Rows,
 ) -> Result<(), OutOfMemory>
-    requires { IsAllowed (F.shape fragment.now) (map (λ link. link.column) get.now.inputs) }
-    ensures { OnOk result ((both : List ℕ) → Contains so_far.new.rows both
-        ↔ IsJoin get.now so_far.old.rows (F.rows fragment.now) both) }
+    requires { IsAllowed (F.shape fragment.now) (map (λ link. link.column) join.now.get.inputs) }
+    ensures { OnOk result ((row : List ℕ) → Contains so_far.new.rows row
+        ↔ IsKept join.now.kept (IsJoin join.now.get so_far.old.rows (F.rows fragment.now)) row) }
 {
-    let asked = asked_rows(alloc, get, fragment, so_far)?;
-    *so_far = joined(alloc, get, so_far, &asked)?;
+    let asked = asked_rows(alloc, &join.get, fragment, so_far)?;
+    *so_far = joined(alloc, join, so_far, &asked)?;
     Ok(())
 }
 
-/// Goes from the places and the rows to those of the used slots.
-fn cut(alloc: Global, used: &Slots, places: &mut Slots, rows: &mut Rows) -> Result<(), OutOfMemory>
-    ensures { OnOk result ((places.new ≡ kept_slots used.now places.old)
-        × ((row : List ℕ) → Contains rows.new.rows row
-        ↔ ((end : List ℕ) × Contains rows.old.rows end
-        × NamesCodes end (map (λ slot. sought places.old (Held slot)) places.new) row))) }
+/// Joins the rows so far with those of the fragment, and keeps of their slots those that are needed.
+fn follow<F: Fragment>(
+    alloc: Global,
+    get: Get,
+    fragment: &F,
+    needed: &Slots,
+    places: &mut Slots,
+    so_far: &mut Rows,
+) -> Result<(), OutOfMemory>
+    requires { IsAllowed (F.shape fragment.now) (map (λ link. link.column) get.inputs) }
+    ensures { OnOk result ((places.new ≡ kept_slots needed.now places.old)
+        × ((row : List ℕ) → Contains so_far.new.rows row
+        ↔ IsKept (map (λ slot. source_in places.old (Held slot)) places.new)
+        (IsJoin get so_far.old.rows (F.rows fragment.now)) row)) }
 {
-    let kept = kept_slots(alloc, used, places)?;
-    let sources = sought_slots(alloc, places, &kept)?;
-    *rows = projected(alloc, &sources, rows)?;
+    let kept = kept_slots(alloc, needed, places)?;
+    let sources = slot_sources(alloc, places, &kept)?;
+    let join = Join { get, kept: sources };
+    join_fragment(alloc, &join, fragment, so_far)?;
     *places = kept;
     Ok(())
 }
@@ -220,7 +227,7 @@ fn take_turn<F: Fragment>(
     fragments: &[F],
     arities: &Places,
     equations: &Equations,
-    used: &Slots,
+    head: &Sources,
     number: usize,
     so_far: &mut SoFar,
 ) -> Result<(), OutOfMemory>
@@ -231,13 +238,13 @@ fn take_turn<F: Fragment>(
     requires ready { (get : Get) → slice_get gets.now number ≡ Some get
         → IsReady arities.now so_far.old.done get number }
     requires under_way { IsUnderWay (IsRowOf (held_by (map F.rows fragments.now))) arities.now
-        gets.now equations.now used.now so_far.old.done so_far.old.places so_far.old.rows.rows }
+        gets.now equations.now head.now so_far.old.done so_far.old.places so_far.old.rows.rows }
     ensures done { OnOk result (so_far.new.done ≡ so_far.old.done ++ number ∷ []) }
     ensures under_way { OnOk result (IsUnderWay (IsRowOf (held_by (map F.rows fragments.now)))
-        arities.now gets.now equations.now used.now so_far.new.done so_far.new.places so_far.new.rows.rows) }
+        arities.now gets.now equations.now head.now so_far.new.done so_far.new.places so_far.new.rows.rows) }
 {
     let get = gets.item(number);
-    let inputs = turned_links(
+    let inputs = links_in(
         alloc,
         &so_far.places,
         first_of(arities, number),
@@ -251,8 +258,15 @@ fn take_turn<F: Fragment>(
         inputs,
         filters,
     };
-    follow(alloc, &own, &fragments[get.fragment], &mut so_far.rows)?;
-    cut(alloc, used, &mut so_far.places, &mut so_far.rows)
+    let needed = needed_slots(alloc, arities, gets, equations, head, &so_far.done)?;
+    follow(
+        alloc,
+        own,
+        &fragments[get.fragment],
+        &needed,
+        &mut so_far.places,
+        &mut so_far.rows,
+    )
 }
 
 /// Joins the get of the number, if there is one that is not done and whose inputs are known.
@@ -262,16 +276,16 @@ fn take_if_ready<F: Fragment>(
     fragments: &[F],
     arities: &Places,
     equations: &Equations,
-    used: &Slots,
+    head: &Sources,
     number: usize,
     so_far: &mut SoFar,
 ) -> Result<(), OutOfMemory>
     requires runnable { AreRunnable (map F.shape fragments.now) gets.now }
     requires arities { AreArities (IsRowOf (held_by (map F.rows fragments.now))) gets.now arities.now }
     requires under_way { IsUnderWay (IsRowOf (held_by (map F.rows fragments.now))) arities.now
-        gets.now equations.now used.now so_far.old.done so_far.old.places so_far.old.rows.rows }
+        gets.now equations.now head.now so_far.old.done so_far.old.places so_far.old.rows.rows }
     ensures { OnOk result (IsUnderWay (IsRowOf (held_by (map F.rows fragments.now)))
-        arities.now gets.now equations.now used.now so_far.new.done so_far.new.places so_far.new.rows.rows) }
+        arities.now gets.now equations.now head.now so_far.new.done so_far.new.places so_far.new.rows.rows) }
 {
     if number >= gets.len() || is_in(&so_far.done, number) {
         return Ok(());
@@ -284,7 +298,7 @@ fn take_if_ready<F: Fragment>(
         return Ok(());
     }
     take_turn(
-        alloc, gets, fragments, arities, equations, used, number, so_far,
+        alloc, gets, fragments, arities, equations, head, number, so_far,
     )
 }
 
@@ -295,7 +309,7 @@ fn take_next<F: Fragment>(
     fragments: &[F],
     arities: &Places,
     equations: &Equations,
-    used: &Slots,
+    head: &Sources,
     number: usize,
     so_far: &mut SoFar,
 ) -> Result<(), OutOfMemory>
@@ -304,17 +318,17 @@ fn take_next<F: Fragment>(
     requires there { number < length gets.now }
     requires before { (other : ℕ) → other < number → Contains so_far.old.done other }
     requires under_way { IsUnderWay (IsRowOf (held_by (map F.rows fragments.now))) arities.now
-        gets.now equations.now used.now so_far.old.done so_far.old.places so_far.old.rows.rows }
+        gets.now equations.now head.now so_far.old.done so_far.old.places so_far.old.rows.rows }
     ensures before { OnOk result ((other : ℕ)
         → other < number + 1 → Contains so_far.new.done other) }
     ensures under_way { OnOk result (IsUnderWay (IsRowOf (held_by (map F.rows fragments.now)))
-        arities.now gets.now equations.now used.now so_far.new.done so_far.new.places so_far.new.rows.rows) }
+        arities.now gets.now equations.now head.now so_far.new.done so_far.new.places so_far.new.rows.rows) }
 {
     if is_in(&so_far.done, number) {
         return Ok(());
     }
     take_turn(
-        alloc, gets, fragments, arities, equations, used, number, so_far,
+        alloc, gets, fragments, arities, equations, head, number, so_far,
     )
 }
 
@@ -325,27 +339,27 @@ fn take_all<F: Fragment>(
     fragments: &[F],
     arities: &Places,
     equations: &Equations,
-    used: &Slots,
+    head: &Sources,
     order: &Places,
     so_far: &mut SoFar,
 ) -> Result<(), OutOfMemory>
     requires runnable { AreRunnable (map F.shape fragments.now) gets.now }
     requires arities { AreArities (IsRowOf (held_by (map F.rows fragments.now))) gets.now arities.now }
     requires under_way { IsUnderWay (IsRowOf (held_by (map F.rows fragments.now))) arities.now
-        gets.now equations.now used.now so_far.old.done so_far.old.places so_far.old.rows.rows }
+        gets.now equations.now head.now so_far.old.done so_far.old.places so_far.old.rows.rows }
     ensures all { OnOk result ((number : ℕ)
         → number < length gets.now → Contains so_far.new.done number) }
     ensures under_way { OnOk result (IsUnderWay (IsRowOf (held_by (map F.rows fragments.now)))
-        arities.now gets.now equations.now used.now so_far.new.done so_far.new.places so_far.new.rows.rows) }
+        arities.now gets.now equations.now head.now so_far.new.done so_far.new.places so_far.new.rows.rows) }
 {
     'order: for number in order.items() {
         take_if_ready(
-            alloc, gets, fragments, arities, equations, used, *number, so_far,
+            alloc, gets, fragments, arities, equations, head, *number, so_far,
         )?;
     }
     'gets: for number in 0..gets.len() {
         take_next(
-            alloc, gets, fragments, arities, equations, used, number, so_far,
+            alloc, gets, fragments, arities, equations, head, number, so_far,
         )?;
     }
     Ok(())
@@ -359,16 +373,15 @@ pub(crate) fn joined_rows<F: Fragment>(
     fragments: &[F],
     arities: &Places,
     equations: &Equations,
-    used: &Slots,
+    head: &Sources,
     order: &Places,
 ) -> Result<SoFar, OutOfMemory>
     requires runnable { AreRunnable (map F.shape fragments.now) gets.now }
     requires arities { AreArities (IsRowOf (held_by (map F.rows fragments.now))) gets.now arities.now }
-    requires uses { AreUsed arities.now gets.now equations.now used.now }
     ensures all { IfOk result (λ it. (number : ℕ)
         → number < length gets.now → Contains it.done number) }
     ensures under_way { IfOk result (λ it. IsUnderWay (IsRowOf (held_by (map F.rows fragments.now)))
-        arities.now gets.now equations.now used.now it.done it.places it.rows.rows) }
+        arities.now gets.now equations.now head.now it.done it.places it.rows.rows) }
 {
     let mut so_far = nothing_done(alloc)?;
     take_all(
@@ -377,7 +390,7 @@ pub(crate) fn joined_rows<F: Fragment>(
         fragments,
         arities,
         equations,
-        used,
+        head,
         order,
         &mut so_far,
     )?;

@@ -21,7 +21,7 @@ returns-then-known-clause-complete g c =
     (subst (NamesCodes c.args.cells.now c.args.sources.now) (sym c.items.ensures)
     (MatchOption-at_some (¬ ((codes : List ℕ) × NamesCodes c.args.cells.now c.args.sources.now codes))
     (NamesCodes c.args.cells.now c.args.sources.now) c.in-Some.key c.in-Some.is c.in_ok-key.ensures))
-    c.args.seen.now.rows c.args.asked.now.rows (c.in_ok-known.ensures c.if-known.true)
+    c.args.seen.now.rows c.args.asked.now.rows (c.in_ok-known.ensures.has c.if-known.true)
 
 pub push_asked-requires-clause-key : goal.push_asked-requires-clause-key
 push_asked-requires-clause-key g c =
@@ -58,7 +58,9 @@ returns-clause-answered g c =
     (ap (λ (it : CodedRows). it.rows) grown) (g.F.Fragment.rows c.args.fragment.now) (inputs_with c.args.get.now.inputs c.items-3.result.now)
     refl
     c.args.get.now c.items-3.result.now refl c.args.seen.now.rows c.put.new.self.rows
-    (inr (ap (λ (it : CodedRows). it.rows) c.in_ok-put.ensures ∙ ap (λ it. c.args.seen.now.rows ++ it ∷ []) (c.items-2.ensures ∙ sym c.items-3.ensures))))
+    (inr (ap (λ (it : CodedRows). it.rows) c.in_ok-put.ensures
+    ∙ ap (λ (it : CodedRows). it.rows ++ c.items-2.result.now ∷ []) c.has.ensures.same
+    ∙ ap (λ it. c.args.seen.now.rows ++ it ∷ []) (c.items-2.ensures ∙ sym c.items-3.ensures))))
     c.push_asked.ensures
 
 pub returns-clause-complete : goal.returns-clause-complete

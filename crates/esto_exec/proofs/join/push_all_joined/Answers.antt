@@ -1,4 +1,4 @@
-use Rattle.std.proofs.Common.{◌≡◌, ℕ, List, length, map, refl, arith}
+use Rattle.std.proofs.Common.{◌≡◌, ℕ, List, length, map, refl, Contains, arith}
 use Rattle.esto_plan.specs.declared.steps.Link.{Link}
 use Rattle.esto_plan.specs.declared.steps.Source.TheVariants.{Cell}
 use Rattle.esto_exec.proofs.NamedLemmas.{early_names}
@@ -8,7 +8,8 @@ pub push_each_joined-requires-clause-found : goal.push_each_joined-requires-clau
 push_each_joined-requires-clause-found c = (
   map (λ (link : Link). Cell link.column) c.in_ok-links.links,
   c.in_ok-index.ensures,
-  λ (cells : List ℕ) (row : List ℕ) (long : length cells ≡ c.args.so_far.now.arity). early_names c.args.get.now c.arity-width.result
+  λ (cells : List ℕ) (row : List ℕ) (among : Contains c.args.so_far.now.rows cells). early_names c.args.join.now.get c.arity-width.result
       c.in_ok-links.links c.in_ok-sources.sources _ cells
-      (let width = c.arity-width.ensures.value in omega (arith, long, width)) c.in_ok-links.ensures c.in_ok-sources.ensures refl row,
+      (let width = c.arity-width.ensures.value in let long = c.arity-width.ensures.fits cells among in omega (arith, long, width))
+      c.in_ok-links.ensures c.in_ok-sources.ensures refl row,
 )

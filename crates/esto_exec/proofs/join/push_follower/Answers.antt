@@ -1,52 +1,26 @@
-use Rattle.std.proofs.Common.{◌++◌, inl, inr, Some, length, ap, sym, subst, ◌∙◌, arith}
-use Rattle.std.proofs.lemmas.Bool.{false≢true}
-use Rattle.std.proofs.lemmas.List.{length-append}
-use Rattle.std.proofs.lemmas.Option.{same_Some, slice_get_within}
+use Rattle.std.proofs.Common.{◌≡◌, ◌++◌, drop, length, sym, subst, ap, ◌∙◌}
 use Rattle.std.proofs.lemmas.Result.{on_ok_weaker}
+use Rattle.std.proofs.Math.Seq.{drop-append_seam}
 use Rattle.esto_plan.specs.Meaning.{Follows}
-use Rattle.esto_columns.specs.CodedRows.{CodedRows}
-use Rattle.esto_exec.proofs.AskedLemmas.{row_long}
-use Rattle.esto_exec.proofs.JoinLemmas.{follower_pushed}
+use Rattle.esto_exec.specs.Named.{NamesCodes}
+use Rattle.esto_exec.proofs.NamedLemmas.{names_true}
+use Rattle.esto_exec.proofs.JoinLemmas.{follower_kept}
 use Rattle.esto_exec.proofs.join.push_follower.Goals as goal
 
-pub returns-then-place-len-clause-rows : goal.returns-then-place-len-clause-rows
-returns-then-place-len-clause-rows c = λ it. (
-  λ before. inl before,
-  λ has. elim has [
-    | inl before ↦ before
-    | inr (row, at, follows, is) ↦
-        let within = slice_get_within c.args.rows.now.rows c.args.place row at in
-        let past = c.if-place-len.true in let count = c.len.ensures in absurd (omega (arith, within, past, count))
-  ],
-)
-
-pub returns-then-not-follows-clause-rows : goal.returns-then-not-follows-clause-rows
-returns-then-not-follows-clause-rows c = λ it. (
-  λ before. inl before,
-  λ has. elim has [
-    | inl before ↦ before
-    | inr (row, at, follows, is) ↦ absurd (false≢true (sym c.if-not-follows.true ∙ c.follows.ensures.1
-        (subst (Follows c.args.get.now c.args.cells.now) (same_Some row c.in_ok-row.row (sym at ∙ c.in_ok-row.ensures) ∙ sym c.items-3.ensures) follows)))
-  ],
-)
-
-pub follows-requires : goal.follows-requires
-follows-requires c =
-    c.items-2.ensures ∙ c.in_ok-both.ensures ∙ ap (λ it. c.args.cells.now ++ it) (c.items.ensures ∙ sym c.items-3.ensures)
-
-pub add-requires : goal.add-requires
-add-requires c =
-    let long = row_long c.args.rows.now c.args.place c.in_ok-row.row c.items.result.now c.in_ok-row.ensures c.items.ensures c.arity-arity.ensures.fits in
-    let both = length-append c.args.cells.now c.items.result.now in
-    let given = ap length c.items-4.ensures in
-    let same = ap length c.in_ok-both.ensures in
-    let wide = c.requires in
-    omega (arith, long, both, given, same, wide)
-
 pub returns-clause-rows : goal.returns-clause-rows
-returns-clause-rows c = on_ok_weaker c.add.result
-    (λ grown. follower_pushed c.args.get.now c.args.cells.now c.args.rows.now.rows c.args.into.now.rows c.add.new.self.rows c.args.place
-    c.items-3.result.now c.items-4.result.now (c.in_ok-row.ensures ∙ ap Some (sym c.items-3.ensures)) (c.follows.ensures.0 c.if-not-follows.false)
-    (c.items-4.ensures ∙ c.in_ok-both.ensures ∙ ap (λ it. c.args.cells.now ++ it) (c.items.ensures ∙ sym c.items-3.ensures))
-    (ap (λ (it : CodedRows). it.rows) grown))
-    c.add.ensures.ok
+returns-clause-rows c =
+    let found = c.in_ok-append_row.ensures in
+    let cells_are : c.items-cells.result.now ≡ c.args.buffers.now.cells = c.items-cells.ensures in
+    let both_are : c.items-both.result.now ≡ c.args.buffers.now.cells ++ found.0 =
+    c.items-both.ensures ∙ found.2 ∙ ap (λ it. it ++ found.0) c.items.ensures in
+    let row_is : c.past.result.now ≡ found.0 =
+    c.past.ensures ∙ (λ i. drop (length (cells_are i)) (both_are i)) ∙ drop-append_seam c.args.buffers.now.cells found.0 in
+    on_ok_weaker c.put_unseen.result
+    (follower_kept c.args.join.now.get c.args.join.now.kept c.args.buffers.now.cells c.args.rows.now.rows c.args.into.now.rows c.put_unseen.new.seen.rows
+    c.args.place found.0 c.items-both.result.now c.items-2.result.now found.1
+    (subst (λ cells. Follows c.args.join.now.get cells found.0) cells_are
+    (subst (Follows c.args.join.now.get c.items-cells.result.now) row_is (c.follows.ensures.0 c.if-not-follows.false)))
+    both_are
+    (subst (NamesCodes c.items-both.result.now c.args.join.now.kept) (sym c.items-2.ensures)
+    (names_true c.items-both.result.now c.args.join.now.kept c.name_codes.new.codes c.in_ok-name_codes.field-0 c.in_ok-name_codes.ensures c.if-not-branch.false)))
+    c.put_unseen.ensures.rows

@@ -1,5 +1,6 @@
 use Rattle.std.proofs.Common.{◌<◌, ℕ, List, [], Contains, take, ◌∙◌, ap, sym, subst, arith}
 use Rattle.std.proofs.lemmas.Option.{get_or_from_slice_get}
+use Rattle.esto_term.proofs.ListLemmas.{thing_at}
 use Rattle.esto_columns.specs.CodedRows.{CodedRows}
 use Rattle.esto_exec.specs.Joined.{GainsOnly}
 use Rattle.esto_exec.specs.Named.{NamesCodes}
@@ -14,15 +15,18 @@ rows-init c = (
   ap (λ (it : CodedRows). it.arity) c.requires,
 )
 
+pub push_projected-requires-clause-there : goal.push_projected-requires-clause-there
+push_projected-requires-clause-there c = subst (λ it. c.rows.at < it) c.len-at-end.ensures c.rows-test.true
+
 pub rows-preserved : goal.rows-preserved
-rows-preserved c = (
-  gains_more (λ cells. NamesCodes cells c.args.head.now) c.args.rows.now.rows [] c.rows.into.rows c.push_projected.new.into.rows
-      c.rows.at c.in_ok-cells.cells (subst (λ it. c.rows.at < it) c.len-at-end.ensures c.rows-test.true)
-      (sym (get_or_from_slice_get c.args.rows.now.rows c.rows.at c.in_ok-cells.cells c.in_ok-cells.cells c.in_ok-cells.ensures)) c.rows.invariant.0
-      (subst (λ cells. GainsOnly c.rows.into.rows c.push_projected.new.into.rows (NamesCodes cells c.args.head.now)) c.items.ensures
-      c.in_ok-push_projected.ensures.rows),
-  c.in_ok-push_projected.ensures.arity ∙ c.rows.invariant.1,
-)
+rows-preserved c =
+    let below = subst (λ it. c.rows.at < it) c.len-at-end.ensures c.rows-test.true in
+    let cells = thing_at c.args.rows.now.rows c.rows.at below in (
+      gains_more (λ cells. NamesCodes cells c.args.head.now) c.args.rows.now.rows [] c.rows.into.rows c.push_projected.new.into.rows
+          c.rows.at cells.0 below (sym (get_or_from_slice_get c.args.rows.now.rows c.rows.at cells.0 cells.0 cells.1)) c.rows.invariant.0
+          (c.in_ok-push_projected.ensures.rows cells.0 cells.1),
+      c.in_ok-push_projected.ensures.arity ∙ c.rows.invariant.1,
+    )
 
 pub returns-clause-rows : goal.returns-clause-rows
 returns-clause-rows c =

@@ -4,5 +4,5 @@ use Rattle.esto_term.proofs.ListLemmas.{Contains-at}
 use Rattle.esto_exec.proofs.seen.is_at.Goals as goal
 
 pub returns : goal.returns
-returns c = λ is. Contains-at c.args.keys.now.rows c.args.place c.args.key.now
-    (c.in_ok-row.ensures ∙ ap Some (sym c.items.ensures ∙ (bytes_eq-Decides c.items.result.now c.args.key.now).0 (sym c.eq.ensures ∙ is)))
+returns c = λ is. Contains-at c.args.rows.now.rows c.args.place c.args.row.now
+    (c.in_ok-read_row.ensures ∙ ap Some (sym c.items.ensures ∙ (bytes_eq-Decides c.items.result.now c.args.row.now).0 (sym c.eq.ensures ∙ is)))

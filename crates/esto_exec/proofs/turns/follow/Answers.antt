@@ -1,7 +1,11 @@
-use Rattle.esto_exec.proofs.RunLemmas.{join_asked}
+use Rattle.std.proofs.Common.{◌↔◌, Contains, subst}
+use Rattle.esto_exec.specs.Joined.{IsJoin, IsKept}
 use Rattle.esto_exec.proofs.turns.follow.Goals as goal
 
 pub returns : goal.returns
-returns g c = join_asked c.args.get.now c.args.so_far.now.rows
-    (g.F.Fragment.rows c.args.fragment.now) c.in_ok-asked.asked.rows c.in_ok-so_far.field-0.rows c.in_ok-asked.ensures.sound c.in_ok-asked.ensures.complete
-    c.in_ok-so_far.ensures
+returns g c = (
+  c.in_ok-kept.ensures,
+  λ row. subst (λ sources. Contains c.join_fragment.new.so_far.rows row
+      ↔ IsKept sources (IsJoin c.args.get c.args.so_far.now.rows (g.F.Fragment.rows c.args.fragment.now)) row)
+      c.in_ok-sources.ensures (c.in_ok-join_fragment.ensures row),
+)

@@ -4,9 +4,9 @@ use Rattle.esto_exec.specs.Turns.{IsUnderWay}
 use Rattle.esto_exec.proofs.turns.take_all.Given as goal
 
 abbrev pub invariant-order : goal.invariant-order
-invariant-order g l = IsUnderWay (IsRowOf (λ number. slice_index_or (map g.F.Fragment.rows l.fragments) number [])) l.arities l.gets l.equations l.used
+invariant-order g l = IsUnderWay (IsRowOf (λ number. slice_index_or (map g.F.Fragment.rows l.fragments) number [])) l.arities l.gets l.equations l.head
     l.so_far.done l.so_far.places l.so_far.rows.rows
 
 abbrev pub invariant-gets : goal.invariant-gets
-invariant-gets g l = IsUnderWay (IsRowOf (λ number. slice_index_or (map g.F.Fragment.rows l.fragments) number [])) l.arities l.gets l.equations l.used
+invariant-gets g l = IsUnderWay (IsRowOf (λ number. slice_index_or (map g.F.Fragment.rows l.fragments) number [])) l.arities l.gets l.equations l.head
     l.so_far.done l.so_far.places l.so_far.rows.rows × ((other : ℕ) → other < l.number → Contains l.so_far.done other)

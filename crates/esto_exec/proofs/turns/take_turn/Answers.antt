@@ -1,11 +1,10 @@
-use Rattle.esto_exec.proofs.TurnLemmas.{kept_among, kept_used}
 use Rattle.std.proofs.Common.{◌<◌, Contains, [], map, length, get_or, sym, subst, ap, ◌∙◌, arith}
 use Rattle.std.proofs.lemmas.Result.{on_ok_weaker}
 use Rattle.esto_columns.specs.Asked.{IsAllowed}
 use Rattle.esto_plan.specs.Rows.{IsRowOf}
-use Rattle.esto_exec.specs.Turns.{turned}
+use Rattle.esto_exec.specs.Turns.{link_in}
 use Rattle.esto_exec.proofs.RunLemmas.{fragment_there, fragment_allows, fragment_rows}
-use Rattle.esto_exec.proofs.UnderWayLemmas.{under_way_more, turned_columns}
+use Rattle.esto_exec.proofs.UnderWayLemmas.{under_way_more, links_in_columns}
 use Rattle.esto_exec.proofs.turns.take_turn.Goals as goal
 
 pub bounds-fragments-get : goal.bounds-fragments-get
@@ -20,26 +19,23 @@ offset_bounds-fragments-get g c =
 
 pub follow-requires : goal.follow-requires
 follow-requires g c = subst (IsAllowed (g.F.Fragment.shape c.index-fragments-get.result))
-    (sym (turned_columns c.args.so_far.now.places c.first_of.result.now c.item-get.result.now.inputs c.in_ok-inputs.inputs c.in_ok-inputs.ensures))
+    (sym (links_in_columns c.args.so_far.now.places c.first_of.result.now c.item-get.result.now.inputs c.in_ok-inputs.inputs c.in_ok-inputs.ensures))
     (fragment_allows g.F.Fragment.shape g.F.Fragment.rows c.args.fragments.now c.args.gets.now c.args.number c.item-get.result.now c.index-fragments-get.result
     c.item-get.ensures c.requires.runnable c.index-fragments-get.is)
 
 pub returns-clause-under_way : goal.returns-clause-under_way
-returns-clause-under_way g c = on_ok_weaker c.cut.result
-    (λ cut. under_way_more (IsRowOf (λ number. get_or (map g.F.Fragment.rows c.args.fragments.now) number [])) c.args.arities.now c.args.gets.now
-    c.args.equations.now c.args.used.now c.args.so_far.now.done c.push.new.self c.args.so_far.now.places c.push_slots.new.places c.cut.new.places c.args.number
-    c.item-get.result.now
+returns-clause-under_way g c = on_ok_weaker c.follow.result
+    (λ kept. under_way_more (IsRowOf (λ number. get_or (map g.F.Fragment.rows c.args.fragments.now) number [])) c.args.arities.now c.args.gets.now
+    c.args.equations.now c.args.head.now c.args.so_far.now.done c.push.new.self c.args.so_far.now.places c.push_slots.new.places c.follow.new.places
+    c.in_ok-needed.needed c.args.number c.item-get.result.now
     (record { fragment = c.item-get.result.now.fragment; inputs = c.in_ok-inputs.inputs; filters = c.in_ok-filters.filters })
-    c.args.so_far.now.rows.rows (g.F.Fragment.rows c.index-fragments-get.result) c.follow.new.so_far.rows c.cut.new.rows.rows
+    c.args.so_far.now.rows.rows (g.F.Fragment.rows c.index-fragments-get.result) c.follow.new.so_far.rows
     c.requires.arities c.requires.under_way c.requires.fresh c.item-get.ensures (c.requires.ready c.item-get.result.now c.item-get.ensures)
     (fragment_rows g.F.Fragment.shape g.F.Fragment.rows c.args.fragments.now c.item-get.result.now.fragment c.index-fragments-get.result
     (fragment_there g.F.Fragment.shape g.F.Fragment.rows c.args.fragments.now c.args.gets.now c.args.number c.item-get.result.now c.item-get.ensures
     c.requires.runnable)
     c.index-fragments-get.is)
     c.in_ok-push.ensures.ok c.item.result c.item.ensures c.in_ok-push_slots.ensures
-    (c.in_ok-inputs.ensures ∙ ap (λ them. map (turned c.args.so_far.now.places them) c.item-get.result.now.inputs) c.first_of.ensures)
-    c.in_ok-filters.ensures c.in_ok-follow.ensures
-    (λ slot inside. kept_among c.args.used.now c.push_slots.new.places slot (subst (λ them. Contains them slot) cut.0 inside))
-    (λ slot inside needed. subst (λ them. Contains them slot) (sym cut.0) (kept_used c.args.used.now c.push_slots.new.places slot inside needed))
-    cut.1)
-    c.cut.ensures
+    (c.in_ok-inputs.ensures ∙ ap (λ them. map (link_in c.args.so_far.now.places them) c.item-get.result.now.inputs) c.first_of.ensures)
+    c.in_ok-filters.ensures c.in_ok-needed.ensures kept.0 kept.1)
+    c.follow.ensures

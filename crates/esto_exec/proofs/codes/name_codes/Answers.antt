@@ -2,7 +2,7 @@ use Rattle.std.proofs.Common.{get_or, sym}
 use Rattle.std.proofs.lemmas.List.{get_or_default}
 use Rattle.esto_plan.specs.declared.steps.Source.TheVariants.{Code}
 use Rattle.esto_exec.proofs.NamedLemmas.{none_names}
-use Rattle.esto_exec.proofs.codes.codes_at.Goals as goal
+use Rattle.esto_exec.proofs.codes.name_codes.Goals as goal
 
 pub returns-in_default : goal.returns-in_default
 returns-in_default c =
